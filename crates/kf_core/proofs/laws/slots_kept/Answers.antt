@@ -1,0 +1,13 @@
+-- Each world of a run is safe, and a slot's generation never goes back.
+use Rattle.kf_core.proofs.Runs.{run_safe, linked_once}
+use Rattle.kf_core.proofs.laws.slots_kept.Goals as goal
+
+pub returns-clause-held_last : goal.returns-clause-held_last
+returns-clause-held_last c slots start events w r = (run_safe slots start events w r).held_last
+
+pub returns-clause-unheld : goal.returns-clause-unheld
+returns-clause-unheld c slots start events w w' key parent name node r step = step.bare_step.0.unheld
+
+pub returns-clause-once : goal.returns-clause-once
+returns-clause-once c count start before between u v w key again parent name node r linked later second =
+    linked_once between u v w key again parent name node linked later second

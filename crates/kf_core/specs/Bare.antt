@@ -1,0 +1,48 @@
+-- The world without the shape of the tree: each slot with its last generation and the marks of its linked node,
+-- and each caller with its key and its phase.
+use Rattle.std.specs.Prelude.{◌≡◌, ℕ, ◌+◌, Bool, ◌==◌, List, [], replicate, slice_get, slice_set, is_some, Option, None, Some, if◌then◌else◌}
+use Rattle.kf_core.specs.declared.key.Key.{Key}
+use Rattle.kf_core.specs.declared.caller.Phase.{Phase}
+use Rattle.kf_core.specs.declared.caller.Caller.{Caller}
+use Rattle.kf_core.specs.declared.slot.Marks.{Marks}
+use Rattle.kf_core.specs.declared.slot.SlotState.{SlotState}
+use Rattle.kf_core.specs.Marks.{live_marks, are_live, are_doomed}
+
+pub record BareWorld : Type 0 where
+  pub slots : List SlotState  -- by slot
+  pub callers : List Caller  -- by the number of the caller
+
+-- the marks in a slot whose node has this generation
+abbrev pub marks_in : Option SlotState → ℕ → Option Marks
+marks_in None generation = None
+marks_in (Some slot) generation = if slot.generation == generation then slot.marks else None
+
+-- the marks of a node, where it is linked
+abbrev pub marks : BareWorld → Key → Option Marks
+marks w key = marks_in (slice_get w.slots key.slot) key.generation
+
+abbrev pub is_linked : BareWorld → Key → Bool
+is_linked w key = is_some (marks w key)
+
+-- linked, activated and not doomed
+abbrev pub is_live : BareWorld → Key → Bool
+is_live w key = are_live (marks w key)
+
+-- doomed, or no longer linked
+abbrev pub is_doomed : BareWorld → Key → Bool
+is_doomed w key = are_doomed (marks w key)
+
+-- the caller of this number has this key and this phase
+abbrev pub IsCaller : BareWorld → ℕ → Key → Phase → Type 0
+IsCaller w c key phase = slice_get w.callers c ≡ Some (record { key = key; phase = phase })
+
+-- the last generation of this slot
+abbrev pub IsLast : BareWorld → ℕ → ℕ → Type 0
+IsLast w slot generation = (state : SlotState) × (slice_get w.slots slot ≡ Some state) × (state.generation ≡ generation)
+
+-- every slot has the last generation `start` and no node, but the root is linked and live at the next; nobody is there
+abbrev pub opening : ℕ → ℕ → BareWorld
+opening count start = record {
+  slots = slice_set (replicate count (record { generation = start; marks = None })) 0 (record { generation = start + 1; marks = Some live_marks });
+  callers = [];
+}

@@ -1,0 +1,15 @@
+pub mod Refusals
+pub mod Names
+pub mod Keys
+pub mod Marks
+pub mod Phases
+pub mod Bare
+pub mod Safe
+pub mod Steps
+pub mod Tree
+pub mod Lawful
+pub mod Commands
+pub mod PostOrder
+pub mod Worlds
+pub mod Bounded
+pub mod Calls

@@ -1,0 +1,57 @@
+//! Callers, and the phases that each goes through between its pin and its release.
+
+ghost use Rattle.std.specs.Prelude.{◌≡◌};
+ghost use Rattle.kf_core.specs.Phases.{is_waiting, has_reference, is_spent};
+
+use crate::key::Key;
+
+/// How far a caller is between its pin and its release.
+#[derive(Clone, Copy, Debug, PartialEq, Eq)]
+pub enum Phase {
+    /// Holds the slot, with no reference.
+    Still,
+    /// As still; its last try found the node not live.
+    Turned,
+    /// Has an active reference (`kernfs_get_active` succeeded).
+    Running,
+    /// Gave its reference up inside its callback (`kernfs_break_active_protection`).
+    Broken,
+    /// Took a reference again after breaking (`kernfs_unbreak_active_protection`).
+    Restored,
+    /// Saw that the node is doomed and that nobody has a reference (`kernfs_drain` returned).
+    Drained,
+    /// As drained, and saw that the node is not linked.
+    Parted,
+    /// Holds nothing any more.
+    Spent,
+}
+
+impl Phase {
+    /// Whether a caller may try for a reference, and look for the drain.
+    pub(crate) fn is_waiting(self) -> bool
+        ensures known { result ≡ is_waiting self }
+    {
+        matches!(self, Phase::Still | Phase::Turned)
+    }
+
+    /// Whether a caller has a reference, which a drain waits for.
+    pub(crate) fn has_reference(self) -> bool
+        ensures known { result ≡ has_reference self }
+    {
+        matches!(self, Phase::Running | Phase::Restored)
+    }
+
+    /// Whether a caller holds nothing any more.
+    pub(crate) fn is_spent(self) -> bool
+        ensures known { result ≡ is_spent self }
+    {
+        matches!(self, Phase::Spent)
+    }
+}
+
+/// A caller: the key that it holds, and its phase.
+#[derive(Clone, Copy, Debug, PartialEq, Eq)]
+pub struct Caller {
+    pub key: Key,
+    pub phase: Phase,
+}

@@ -1,0 +1,35 @@
+//! The commands that change a tree, as they are stored.
+
+use crate::key::{Key, Node};
+use crate::name_bytes::NameBytes;
+
+/// A change of the tree that was accepted. Applying a stored one refuses nothing.
+#[derive(Drop)]
+pub enum Command {
+    /// A new record, activated at once where it is to be live.
+    Create {
+        key: Key,
+        parent: Key,
+        name: NameBytes,
+        node: Node,
+        live: bool,
+    },
+    /// Every node of the subtree that is not doomed is activated.
+    Activate {
+        key: Key,
+    },
+    /// Every node of the subtree is doomed.
+    Doom {
+        key: Key,
+    },
+    /// The record leaves the tree.
+    Unlink {
+        key: Key,
+    },
+    /// The record gets another directory and name.
+    Rename {
+        key: Key,
+        dir: Key,
+        name: NameBytes,
+    },
+}

@@ -1,0 +1,71 @@
+//! The atomic steps, as the model sees them.
+
+use crate::key::{Key, Node};
+use crate::name_bytes::NameBytes;
+
+/// One atomic step of a caller, which is named by its number, or of the owner of the tree lock.
+#[derive(Drop)]
+pub enum Event {
+    /// A node is linked, not activated and not doomed.
+    Born {
+        key: Key,
+        parent: Key,
+        name: NameBytes,
+        node: Node,
+    },
+    /// A node is activated.
+    Rise {
+        key: Key,
+    },
+    /// A node is doomed.
+    Mark {
+        key: Key,
+    },
+    /// A node gets another directory and name.
+    Move {
+        key: Key,
+        dir: Key,
+        name: NameBytes,
+    },
+    /// A new caller holds the key.
+    Pin {
+        caller: usize,
+        key: Key,
+    },
+    /// A try for an active reference.
+    Enter {
+        caller: usize,
+    },
+    /// The call ends, and its reference is given up.
+    Leave {
+        caller: usize,
+    },
+    /// The reference is given up inside the callback.
+    Break {
+        caller: usize,
+    },
+    /// A reference is taken again inside the callback.
+    Restore {
+        caller: usize,
+    },
+    /// The caller sees that its node is doomed and that nobody has a reference.
+    Look {
+        caller: usize,
+    },
+    /// The node of the caller leaves the tree.
+    Unlink {
+        caller: usize,
+    },
+    /// The caller sees that its node has left the tree.
+    Part {
+        caller: usize,
+    },
+    /// The caller gives its hold back.
+    Release {
+        caller: usize,
+    },
+    /// The second step of a refused try.
+    Undo {
+        caller: usize,
+    },
+}

@@ -1,0 +1,29 @@
+//! What every layer of the attribute tree speaks of: keys, nodes, records, commands, refusals, limits,
+//! the callers of a node and their phases, the atomic steps, and the laws that hold of every run.
+#![tactic(auto)]
+
+mod caller;
+mod command;
+mod event;
+mod guard;
+mod key;
+mod laws;
+mod limits;
+mod name_bytes;
+mod records;
+mod refusal;
+mod slot;
+mod world;
+
+pub use caller::{Caller, Phase};
+pub use command::Command;
+pub use event::Event;
+pub use guard::{ActiveCall, Guard};
+pub use key::{Key, Node};
+pub use laws::{no_call_after_removal, slots_kept};
+pub use limits::Limits;
+pub use name_bytes::NameBytes;
+pub use records::Record;
+pub use refusal::Refusal;
+pub use slot::{Marks, SlotState};
+pub use world::World;

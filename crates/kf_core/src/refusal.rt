@@ -1,0 +1,109 @@
+//! Why a call is refused.
+
+ghost use Rattle.std.specs.Prelude.{◌≡◌};
+ghost use Rattle.kf_core.specs.declared.refusal.Refusal.TheVariants.{NoMemory};
+ghost use Rattle.kf_core.specs.Refusals.{name_of, number_of};
+
+use std::alloc::{AllocError, AllocFailed};
+use thiserror::Error;
+
+/// Why a call is refused, named and numbered as in Linux.
+#[derive(Clone, Copy, Debug, PartialEq, Eq, Error)]
+pub enum Refusal {
+    /// There is no such node, or it is not live (`ENOENT`).
+    #[error("NoEntry")]
+    NoEntry,
+    /// A growth was refused (`ENOMEM`); it comes last in every order of refusals.
+    #[error("NoMemory")]
+    NoMemory,
+    /// The mode, or how the file was opened, does not allow it (`EACCES`).
+    #[error("Access")]
+    Access,
+    /// It is in use (`EBUSY`).
+    #[error("Busy")]
+    Busy,
+    /// The name is taken (`EEXIST`).
+    #[error("Exists")]
+    Exists,
+    /// The node is not live any more, or there is no such device (`ENODEV`).
+    #[error("NoDevice")]
+    NoDevice,
+    /// The node is no directory (`ENOTDIR`).
+    #[error("NotDir")]
+    NotDir,
+    /// The node is a directory (`EISDIR`).
+    #[error("IsDir")]
+    IsDir,
+    /// The request makes no sense (`EINVAL`).
+    #[error("Invalid")]
+    Invalid,
+    /// The slot has as many holds as the limit allows (`EMFILE`).
+    #[error("TooManyHolds")]
+    TooManyHolds,
+    /// No slot is free (`ENOSPC`).
+    #[error("NoSpace")]
+    NoSpace,
+    /// The name has more than 255 bytes (`ENAMETOOLONG`).
+    #[error("NameTooLong")]
+    NameTooLong,
+}
+
+impl Refusal {
+    /// The name that scripts are told.
+    pub fn name(self) -> &'static str
+        ensures known { result.now ≡ name_of self }
+    {
+        match self {
+            Refusal::NoEntry => "NoEntry",
+            Refusal::NoMemory => "NoMemory",
+            Refusal::Access => "Access",
+            Refusal::Busy => "Busy",
+            Refusal::Exists => "Exists",
+            Refusal::NoDevice => "NoDevice",
+            Refusal::NotDir => "NotDir",
+            Refusal::IsDir => "IsDir",
+            Refusal::Invalid => "Invalid",
+            Refusal::TooManyHolds => "TooManyHolds",
+            Refusal::NoSpace => "NoSpace",
+            Refusal::NameTooLong => "NameTooLong",
+        }
+    }
+
+    /// The error number of Linux.
+    pub fn number(self) -> u16
+        ensures known { result ≡ number_of self }
+    {
+        match self {
+            Refusal::NoEntry => 2,
+            Refusal::NoMemory => 12,
+            Refusal::Access => 13,
+            Refusal::Busy => 16,
+            Refusal::Exists => 17,
+            Refusal::NoDevice => 19,
+            Refusal::NotDir => 20,
+            Refusal::IsDir => 21,
+            Refusal::Invalid => 22,
+            Refusal::TooManyHolds => 24,
+            Refusal::NoSpace => 28,
+            Refusal::NameTooLong => 36,
+        }
+    }
+}
+
+/// A refused growth is want of memory.
+impl From<AllocError> for Refusal {
+    ghost from_gives = { λ _ refusal. refusal ≡ NoMemory };
+
+    fn from(_: AllocError) -> Refusal {
+        Refusal::NoMemory
+    }
+}
+
+/// A refused growth that gives the value back is want of memory; the value is let go.
+impl<T: Drop> From<AllocFailed<T>> for Refusal {
+    ghost from_gives = { λ _ refusal. refusal ≡ NoMemory };
+
+    fn from(_: AllocFailed<T>) -> Refusal {
+        Refusal::NoMemory
+    }
+}
