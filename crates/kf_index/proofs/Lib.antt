@@ -1,0 +1,4 @@
+mod Searched
+mod Found
+mod Edited
+mod Above

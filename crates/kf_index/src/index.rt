@@ -1,0 +1,125 @@
+//! The sibling index of a directory: its entries in byte order of their names, found by binary search.
+
+ghost use Rattle.std.specs.Prelude.{◌≡◌, None, IfOk, IfErr, OnOk, OnErr, IfSome, IfNone, if◌then◌else◌};
+ghost use Rattle.std.specs.Option.{option_copied};
+ghost use Rattle.std.specs.FinMap as map;
+ghost use Rattle.kf_index.specs.Entries.{IsLeastAbove, NoneAbove};
+ghost use Rattle.kf_index.specs.Pairs.{IsRising, IsPlaceOf, IsGapFor, IsFirstAbove};
+
+use crate::name::Name;
+use kf_core::{Key, Refusal};
+use std::alloc::Global;
+use std::marker::Model;
+
+/// The entries of one directory: each name once, with the key of its node, in byte order of names.
+/// Contracts see an ordered map from names to keys. Of its calls `insert` alone takes memory, by the
+/// allocator that `new` was given. The kernel keeps the children of a node so too, in the tree
+/// `kn->dir.children`, but orders them by hashes of their names.
+#[derive(Drop)]
+pub struct Index {
+    entries: Vec<(Name, Key)>,
+}
+
+impl Model for Index {
+    ghost use Rattle.std.specs.FinMap as map;
+    ghost use Rattle.kf_index.specs.Entries.{Entries, entries_code};
+    ghost use Rattle.kf_index.specs.Pairs.{IsRising};
+
+    ghost Value = { Entries };
+
+    ghost coded = { entries_code };
+
+    ghost view = { λ index. map.from_entries index.entries.items };
+
+    ghost invariant = { λ index. IsRising index.entries.items };
+}
+
+/// Where the name is, or else where it would go.
+fn search(entries: &[(Name, Key)], name: &[u8]) -> Result<usize, usize>
+    requires rising { IsRising entries.now }
+    ensures found { IfOk result (λ at. IsPlaceOf entries.now name.now at) }
+    ensures absent { IfErr result (λ at. IsGapFor entries.now name.now at) }
+{
+    entries.binary_search_by(|(other, _)| other.bytes().cmp(&name))
+}
+
+/// The place of the first name above the bound.
+fn first_above(entries: &[(Name, Key)], bound: Option<&[u8]>) -> usize
+    requires rising { IsRising entries.now }
+    ensures first { IsFirstAbove entries.now (option_copied bound.entry) result }
+{
+    match bound {
+        None => 0,
+        Some(name) => match search(entries, name) {
+            Ok(at) => at + 1,
+            Err(at) => at,
+        },
+    }
+}
+
+impl Index {
+    /// An index without entries. It takes no memory yet.
+    pub fn new(alloc: Global) -> Index
+        ensures empty { result ≡ map.empty }
+    {
+        Index {
+            entries: Vec::new(alloc),
+        }
+    }
+
+    /// The key under this name, or None where there is none (`kernfs_find_ns`).
+    pub fn get(&self, name: &[u8]) -> Option<Key>
+        ensures found { result ≡ map.get self.now name.now }
+    {
+        match search(&self.entries, name) {
+            Ok(at) => Some(self.entries[at].1),
+            Err(_) => None,
+        }
+    }
+
+    /// Adds an entry (`kernfs_link_sibling`). Refuses `Exists` where the name is there, then
+    /// `NoMemory` where the growth by one entry wants memory. After a refusal all is as before, and
+    /// the name is dropped. So a caller that makes it the last growth of a command has nothing to undo.
+    pub fn insert(&mut self, name: Name, key: Key) -> Result<(), Refusal>
+        ensures added { OnOk result (self.new ≡ map.insert self.old name key) }
+        ensures absent { OnOk result (map.get self.old name ≡ None) }
+        ensures refused { IfErr result (λ refusal.
+            refusal ≡ (if map.contains_key self.old name then Refusal.Exists else Refusal.NoMemory)) }
+        ensures unchanged { OnErr result (self.new ≡ self.old) }
+    {
+        let Err(at) = search(&self.entries, name.bytes()) else {
+            return Err(Refusal::Exists);
+        };
+        let Ok(()) = self.entries.insert(at, (name, key)) else {
+            return Err(Refusal::NoMemory);
+        };
+        Ok(())
+    }
+
+    /// Takes the entry of this name out and answers its key, or None where there is none
+    /// (`kernfs_unlink_sibling`).
+    pub fn remove(&mut self, name: &[u8]) -> Option<Key>
+        ensures found { result ≡ map.get self.old name.now }
+        ensures removed { self.new ≡ map.remove self.old name.now }
+    {
+        match search(&self.entries, name) {
+            Ok(at) => {
+                let (_, key) = self.entries.remove(at);
+                Some(key)
+            }
+            Err(_) => None,
+        }
+    }
+
+    /// The entry with the least name above the bound, or with the least of all where there is no
+    /// bound. The bound may be any bytes. None where no name is above it (`kernfs_dir_next_pos`).
+    pub fn next_after(&self, bound: Option<&[u8]>) -> Option<(&Name, Key)>
+        ensures found { IfSome result (λ next.
+            IsLeastAbove self.now (option_copied bound.entry) next.0.now next.1) }
+        ensures none { IfNone result (NoneAbove self.now (option_copied bound.entry)) }
+    {
+        let at = first_above(&self.entries, bound);
+        let (name, key) = self.entries.get(at)?;
+        Some((name, *key))
+    }
+}

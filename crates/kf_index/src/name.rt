@@ -1,0 +1,98 @@
+//! Lawful names: the bytes that a node may be called by in its directory.
+
+ghost use Rattle.std.specs.Prelude.{◌≡◌, ℕ, List, IfOk, IfErr};
+ghost use Rattle.std.specs.Option.{unwrap_or};
+ghost use Rattle.kf_core.specs.Names.{IsLawfulName, name_fault};
+
+use kf_core::{NameBytes, Refusal};
+use std::alloc::{AllocError, Global};
+use std::marker::Model;
+
+/// What is wrong with a name, or None where it is lawful. The length is looked at first:
+/// more than 255 bytes is `NameTooLong`, any other fault `Invalid`. It takes no memory.
+pub fn name_fault(bytes: &[u8]) -> Option<Refusal>
+    ensures first { result ≡ name_fault bytes.now }
+{
+    if bytes.len() > 255 {
+        return Some(Refusal::NameTooLong);
+    }
+    if bytes.is_empty()
+        || bytes.contains(&b'/')
+        || bytes.contains(&0)
+        || bytes == b".".as_slice()
+        || bytes == b"..".as_slice()
+    {
+        return Some(Refusal::Invalid);
+    }
+    None
+}
+
+/// A lawful name: 1 to 255 bytes without a slash or a zero byte, and neither `.` nor `..`.
+/// Contracts see the list of its bytes. A clone takes memory for them.
+#[derive(Drop)]
+pub struct Name {
+    bytes: Vec<u8>,
+}
+
+impl Model for Name {
+    ghost Value = { List ℕ };
+
+    ghost view = { λ name. name.bytes.items };
+
+    ghost invariant = { λ name. IsLawfulName name.bytes.items };
+}
+
+impl Name {
+    /// A copy of the bytes, where they are a lawful name. Refuses what `name_fault` finds,
+    /// `NameTooLong` or `Invalid`, then `NoMemory` where the copy wants memory.
+    pub fn new(alloc: Global, bytes: &[u8]) -> Result<Name, Refusal>
+        ensures made { IfOk result (λ name. name ≡ bytes.now) }
+        ensures lawful { IfOk result (λ name. IsLawfulName name) }
+        ensures refused { IfErr result (λ refusal.
+            refusal ≡ unwrap_or (name_fault bytes.now) Refusal.NoMemory) }
+    {
+        if let Some(fault) = name_fault(bytes) {
+            return Err(fault);
+        }
+        match bytes.to_vec(alloc) {
+            Ok(bytes) => Ok(Name { bytes }),
+            Err(_) => Err(Refusal::NoMemory),
+        }
+    }
+
+    /// Bytes that are known to be lawful, as a name. It takes no memory.
+    pub fn from_name_bytes(bytes: NameBytes) -> Name
+        requires lawful { IsLawfulName bytes }
+        ensures same { result ≡ bytes }
+    {
+        Name {
+            bytes: bytes.into_bytes(),
+        }
+    }
+
+    /// The bytes of the name, taken out of it. It takes no memory.
+    pub fn into_name_bytes(self) -> NameBytes
+        ensures same { result ≡ self }
+        ensures lawful { IsLawfulName result }
+    {
+        NameBytes::from_bytes(self.bytes)
+    }
+
+    /// The bytes of the name.
+    pub fn bytes(&self) -> &[u8]
+        ensures same { result.now ≡ self.now }
+        ensures lawful { IsLawfulName result.now }
+    {
+        self.bytes.as_slice()
+    }
+}
+
+impl Clone for Name {
+    ghost is_clone = { λ name copy. copy ≡ name };
+
+    fn clone(&self) -> Result<Name, AllocError> {
+        Ok(Name {
+            bytes: self.bytes.clone()?,
+        })
+    }
+}

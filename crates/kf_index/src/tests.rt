@@ -1,0 +1,133 @@
+//! The limits of names, the order of an index, listings by a loop over `next_after`, and each public
+//! call where memory is there.
+
+use crate::{Index, Name, name_fault};
+use kf_core::{Key, Refusal};
+use std::alloc::Global;
+use std::test::Fail;
+
+fn key(slot: u32) -> Key {
+    Key {
+        slot,
+        generation: 1,
+    }
+}
+
+fn insert(alloc: Global, index: &mut Index, bytes: &[u8], slot: u32) -> Result<(), Refusal> {
+    index.insert(Name::new(alloc, bytes)?, key(slot))
+}
+
+/// An index of `b`, `a`, `ab` and `B`, entered in this order in the slots from 1 up.
+fn four_names(alloc: Global) -> Result<Index, Refusal> {
+    let mut index = Index::new(alloc);
+    insert(alloc, &mut index, b"b", 1)?;
+    insert(alloc, &mut index, b"a", 2)?;
+    insert(alloc, &mut index, b"ab", 3)?;
+    insert(alloc, &mut index, b"B", 4)?;
+    Ok(index)
+}
+
+/// The first names above the bound, at most so many, a space after each.
+fn listing(
+    alloc: Global,
+    index: &Index,
+    after: Option<&[u8]>,
+    limit: usize,
+) -> Result<Vec<u8>, Refusal> {
+    let mut text = Vec::new(alloc);
+    let mut bound = after;
+    for _ in 0..limit {
+        let Some((name, _)) = index.next_after(bound) else {
+            return Ok(text);
+        };
+        text.extend_from_slice(name.bytes())?;
+        text.push(b' ')?;
+        bound = Some(name.bytes());
+    }
+    Ok(text)
+}
+
+#[test]
+fn lists_names_in_byte_order(rt: HostRuntime) -> Result<(), Fail> {
+    let alloc = rt.alloc();
+    let index = four_names(alloc)?;
+    let rows: [(Option<&[u8]>, usize, &[u8]); 8] = [
+        (None, 9, b"B a ab b "),
+        (None, 0, b""),
+        (Some(b"a"), 1, b"ab "),
+        (Some(b"aa"), 2, b"ab b "),
+        (Some(b"b"), 5, b""),
+        (Some(b""), 1, b"B "),
+        (Some(b"C"), 1, b"a "),
+        (Some(b"a/b\0"), 1, b"ab "),
+    ];
+    for (after, limit, expected) in rows {
+        let text = listing(alloc, &index, after, limit)?;
+        assert_eq!(rt; text.as_slice(), expected);
+    }
+    Ok(())
+}
+
+#[test]
+fn leads_from_names_to_keys(rt: HostRuntime) -> Result<(), Fail> {
+    let alloc = rt.alloc();
+    let mut index = Index::new(alloc);
+    assert_eq!(rt; index.get(b"a"), None);
+    assert!(rt; index.next_after(None).is_none());
+    assert_eq!(rt; insert(alloc, &mut index, b"ab", 3), Ok(()));
+    assert_eq!(rt; insert(alloc, &mut index, b"a", 2), Ok(()));
+    assert_eq!(rt; insert(alloc, &mut index, b"ab", 5), Err(Refusal::Exists));
+    assert_eq!(rt; index.get(b"ab"), Some(key(3)));
+    assert!(rt;
+        index
+            .next_after(None)
+            .is_some_and(|(_, found)| found == key(2))
+    );
+    assert!(rt;
+        index
+            .next_after(Some(b"a"))
+            .is_some_and(|(_, found)| found == key(3))
+    );
+    assert_eq!(rt; index.remove(b"ab"), Some(key(3)));
+    assert_eq!(rt; index.remove(b"ab"), None);
+    assert_eq!(rt; index.get(b"ab"), None);
+    assert_eq!(rt; index.get(b"a"), Some(key(2)));
+    assert_eq!(rt; insert(alloc, &mut index, b"ab", 5), Ok(()));
+    assert_eq!(rt; index.get(b"ab"), Some(key(5)));
+    Ok(())
+}
+
+#[test]
+fn takes_lawful_names_alone(rt: HostRuntime) -> Result<(), Fail> {
+    let alloc = rt.alloc();
+    let long = [b'n'; 256];
+    assert_eq!(rt; Name::new(alloc, &long).err(), Some(Refusal::NameTooLong));
+    assert_eq!(rt; Name::new(alloc, &long[1..])?.bytes(), &long[1..]);
+    let long_and_faulty = [b'/'; 256];
+    assert_eq!(rt;
+        Name::new(alloc, &long_and_faulty).err(),
+        Some(Refusal::NameTooLong)
+    );
+    let faulty: [&[u8]; 8] = [b"", b".", b"..", b"/", b"a/b", b"\0", b"a\0", b"/."];
+    for bytes in faulty {
+        assert_eq!(rt; name_fault(bytes), Some(Refusal::Invalid));
+        assert_eq!(rt; Name::new(alloc, bytes).err(), Some(Refusal::Invalid));
+    }
+    let lawful: [&[u8]; 6] = [b"a", b"...", b".a", b"a.", b" ", b"\r\xff"];
+    for bytes in lawful {
+        assert_eq!(rt; name_fault(bytes), None);
+        assert_eq!(rt; Name::new(alloc, bytes)?.bytes(), bytes);
+    }
+    Ok(())
+}
+
+#[test]
+fn gives_bytes_back(rt: HostRuntime) -> Result<(), Fail> {
+    let name = Name::new(rt.alloc(), b"cpu0")?;
+    let copy = name.clone()?;
+    assert_eq!(rt; copy.bytes(), b"cpu0".as_slice());
+    let bytes = name.into_name_bytes();
+    assert_eq!(rt; bytes.bytes(), b"cpu0".as_slice());
+    assert_eq!(rt; Name::from_name_bytes(bytes).bytes(), b"cpu0".as_slice());
+    Ok(())
+}
