@@ -142,7 +142,7 @@ born_keeps w key safe may = slots_keep w (with_marks w key (Some fresh_marks)).s
 ])
 
 -- phases, told apart
-waiting_holds : (p : Phase) → is_waiting p ≡ true → p ≢ Spent
+pub waiting_holds : (p : Phase) → is_waiting p ≡ true → p ≢ Spent
 waiting_holds p h e = let x : is_waiting Spent ≡ true = subst (λ q. is_waiting q ≡ true) e h in cc
 
 counted_holds : (p : Phase) → has_reference p ≡ true → p ≢ Spent
@@ -180,13 +180,14 @@ past_now w c key from to safe was held not_running doomed alone gone = caller_ke
 pub none_running : (w : BareWorld) (key : Key) → NoReference w key → NoneRunning w key
 none_running w key none c h = let x : has_reference Running ≡ false = none c Running h in cc
 
-entered : (w : BareWorld) (c : ℕ) (key : Key) (from : Phase) → Safe w → IsCaller w c key from → from ≢ Spent → Safe (with_phase w c key (cond (is_live w key) Running Turned))
-entered w c key from safe was held = caller_keeps w (with_phase w c key (cond (is_live w key) Running Turned)).callers key (cond (is_live w key) Running Turned) safe
-    (λ d y h. after_set w.callers c d (caller key (cond (is_live w key) Running Turned)) y h)
-    (entered_runs (is_live w key))
-    (λ past. absurd (entered_not_past (is_live w key) past))
-    (λ past. absurd (entered_not_past (is_live w key) past))
-    (λ e. absurd (entered_not_past (is_live w key) (subst (λ q. saw_drain q ≡ true) (sym e) refl)))
+-- a try that gives a reference only where the node is live
+entered : (w : BareWorld) (c : ℕ) (key : Key) (from : Phase) (given : Bool) → (given ≡ true → is_live w key ≡ true) → Safe w → IsCaller w c key from → from ≢ Spent → Safe (with_phase w c key (cond given Running Turned))
+entered w c key from given live safe was held = caller_keeps w (with_phase w c key (cond given Running Turned)).callers key (cond given Running Turned) safe
+    (λ d y h. after_set w.callers c d (caller key (cond given Running Turned)) y h)
+    (λ e. live (entered_runs given e))
+    (λ past. absurd (entered_not_past given past))
+    (λ past. absurd (entered_not_past given past))
+    (λ e. absurd (entered_not_past given (subst (λ q. saw_drain q ≡ true) (sym e) refl)))
     (λ _. safe.held_last c key from was held)
 
 -- a linked node is in its slot, with its generation
@@ -218,7 +219,7 @@ step_keeps w (Rise key) w' safe s = subst Safe (sym s.1) (marks_keep w key fresh
 step_keeps w (Mark key) w' safe s = subst Safe (sym s.3) (marks_keep w key s.0 (Some (record { activated = s.0.activated; doomed = true })) safe s.1 (λ _. refl) (inr refl))
 step_keeps w (Move key dir name) w' safe s = subst Safe (sym s) safe
 step_keeps w (Pin c key) w' safe s = subst Safe (sym s.2) (pin_keeps w key safe s.1)
-step_keeps w (Enter c) w' safe s = subst Safe (sym s.4) (entered w c s.0 s.1 safe s.2 (waiting_holds s.1 s.3))
+step_keeps w (Enter c) w' safe s = subst Safe (sym s.4) (entered w c s.0 s.1 _ (λ live. live) safe s.2 (waiting_holds s.1 s.3))
 step_keeps w (Leave c) w' safe s = subst Safe (sym s.4) (plainly w c s.0 s.1 Still safe s.2 (counted_holds s.1 s.3) (λ e. cc) refl)
 step_keeps w (Break c) w' safe s = subst Safe (sym s.2) (plainly w c s.0 _ _ safe s.1 (λ e. cc) (λ e. cc) refl)
 step_keeps w (Restore c) w' safe s = subst Safe (sym s.2) (plainly w c s.0 _ _ safe s.1 (λ e. cc) (λ e. cc) refl)

@@ -5,3 +5,7 @@ pub mod Keeping
 pub mod Passing
 pub mod Runs
 pub mod Looks
+pub mod Tallies
+pub mod Kept
+pub mod Events
+pub mod WorldVisits

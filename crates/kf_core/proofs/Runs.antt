@@ -1,7 +1,7 @@
 -- Runs of the world: what each step keeps holds at the end.
 use Rattle.std.proofs.Common.{◌≡◌, ◌≢◌, ℕ, ◌+◌, ◌≤◌, List, [], ◌∷◌, refl, ap, arith, sym, ◌∙◌, subst}
-use Rattle.std.specs.Prelude.{slice_get, None, Some, IsTrue}
-use Rattle.std.proofs.lemmas.Option.{same_Some, none-some}
+use Rattle.std.specs.Prelude.{slice_get, Option, None, Some, is_some, IsTrue}
+use Rattle.std.proofs.lemmas.Option.{same_Some, none-some, slice_get_within}
 use Rattle.kf_core.specs.declared.key.Key.{Key}
 use Rattle.kf_core.specs.declared.key.Node.{Node}
 use Rattle.kf_core.specs.declared.caller.Phase.TheVariants.{Drained}
@@ -10,11 +10,13 @@ use Rattle.kf_core.specs.declared.event.Event.{Event}
 use Rattle.kf_core.specs.declared.event.Event.TheVariants.{Born, Look}
 use Rattle.std.specs.Prelude.{replicate, map, zero, suc}
 use Rattle.kf_core.specs.Bare.{opening as bare_opening}
-use Rattle.kf_core.specs.Bare.{BareWorld, IsCaller, IsLast, is_linked, marks}
-use Rattle.kf_core.specs.Marks.{live_marks}
+use Rattle.kf_core.specs.Bare.{BareWorld, IsCaller, IsLast, is_linked, marks, marks_in}
+use Rattle.kf_core.specs.Marks.{fresh_marks, live_marks}
 use Rattle.kf_core.specs.Safe.{Safe, NoneRunning}
-use Rattle.kf_core.specs.Steps.{BareStep, MayBeBorn}
+use Rattle.kf_core.specs.Steps.{BareStep, with_marks, MayBeBorn}
 use Rattle.kf_core.specs.Worlds.{World, bare_slot, bare, opening, Step, Run}
+use Rattle.kf_core.proofs.Lists.{slice_get-set_same}
+use Rattle.kf_core.proofs.SlotStates.{shown}
 use Rattle.kf_core.proofs.Keeping.{step_keeps, slot_state, linked_last}
 use Rattle.kf_core.proofs.Passing.{HasCome, Finished, step_come, step_finished}
 
@@ -72,6 +74,17 @@ linked_once between u v w key again parent name node linked r second =
     not_again (bare v) key again
     (run_keeps (λ x. HasCome x key) (λ x e y s h. step_come x e y key s h) between u v r (linked_has_come (bare u) key linked))
     second.bare_step.0
+
+-- a node that was just born is linked
+born_linked : (t u : BareWorld) (key : Key) → MayBeBorn t key → u ≡ with_marks t key (Some fresh_marks) → IsTrue (is_linked u key)
+born_linked t u key may is =
+    let there : slice_get (with_marks t key (Some fresh_marks)).slots key.slot ≡ Some (slot_state key.generation (Some fresh_marks)) =
+    slice_get-set_same t.slots key.slot (slot_state key.generation (Some fresh_marks)) (slice_get_within t.slots key.slot _ may.unlinked) in
+    ap (λ (x : BareWorld). is_linked x key) is ∙ ap (λ (o : Option SlotState). is_some (marks_in o key.generation)) there ∙ ap is_some (shown key.generation (Some fresh_marks))
+
+pub never_twice : (between : List Event) (t u v w : World) (key again parent next_parent : Key) (name next_name : List ℕ) (node next_node : Node) → Step t (Born key parent name node) u → Run u between v → Step v (Born again next_parent next_name next_node) w → key ≢ again
+never_twice between t u v w key again parent next_parent name next_name node next_node first r second =
+    linked_once between u v w key again next_parent next_name next_node (born_linked (bare t) (bare u) key first.bare_step.0 first.bare_step.1) r second
 
 -- slots without records
 bare_empty : (n g : ℕ) → map bare_slot (replicate n (record { last = g; linked = None })) ≡ replicate n (record { generation = g; marks = None })

@@ -13,6 +13,11 @@ pub live_or_doomed : (m : Option Marks) → are_live m ≡ true → are_doomed m
 live_or_doomed None l d = absurd (let e : false ≡ true = l in cc)
 live_or_doomed (Some m) l d = elim (m.doomed) as (λ b. (m.activated && not b) ≡ true → b ≡ true → ⊥) [ true ↦ λ x y. grind arith | false ↦ λ x y. cc ] l d
 
+-- what a live node's marks are
+pub live_undoomed : (o : Option Marks) → are_live o ≡ true → (m : Marks) × (o ≡ Some m) × (m.doomed ≡ false)
+live_undoomed None l = cc
+live_undoomed (Some m) l = (m, refl, elim (m.doomed) as (λ b. (m.activated && not b) ≡ true → b ≡ false) [ true ↦ λ x. grind arith | false ↦ λ x. refl ] l)
+
 pub live_linked : (m : Option Marks) → are_live m ≡ true → is_some m ≡ true
 live_linked None l = l
 live_linked (Some m) l = refl

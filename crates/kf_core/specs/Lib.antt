@@ -13,3 +13,5 @@ pub mod PostOrder
 pub mod Worlds
 pub mod Bounded
 pub mod Calls
+pub mod WorldGuard
+pub mod Counts

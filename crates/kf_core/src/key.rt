@@ -6,7 +6,7 @@
 pub struct Key {
     /// The place in the table, from 0, which is the root's.
     pub slot: u32,
-    /// From 1 for the first node of a slot in a new tree.
+    /// One above the last of its slot; a tree made without a start begins at 1.
     pub generation: u32,
 }
 
@@ -15,8 +15,8 @@ pub struct Key {
 pub enum Node {
     /// A directory (`KERNFS_DIR`).
     Dir,
-    /// An attribute file (`KERNFS_FILE`): its permission bits, at most 0o777, and a tag that tells its
-    /// callbacks apart.
+    /// An attribute file (`KERNFS_FILE`): its permission bits (scripts make at most 0o777), and a tag
+    /// that tells its callbacks apart.
     File { mode: u16, tag: u64 },
     /// A symbolic link (`KERNFS_LINK`) to a node.
     Link { target: Key },

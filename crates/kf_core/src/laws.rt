@@ -12,7 +12,8 @@ ghost use Rattle.kf_core.specs.Bare.{IsCaller, IsLast, is_doomed, is_linked};
 ghost use Rattle.kf_core.specs.Safe.{NoneRunning};
 ghost use Rattle.kf_core.specs.Worlds.{World, bare, opening, Step, Run};
 
-/// Once a caller saw the drain of a node, no call on that node runs or starts.
+/// Once a caller saw the drain of a node, nobody is ever running on it again. Who gave up its reference
+/// inside its callback may take one again there, but starts no callback under it.
 pub fn no_call_after_removal()
     // Nobody is running on a key on which a caller is drained or parted.
     ensures none_running { (count start : ℕ) (events : List Event) (w : World) → Run (opening count start) events w →
@@ -43,4 +44,7 @@ pub fn slots_kept()
     // What is once linked, born in the run or at its opening, is not born again.
     ensures once { (count start : ℕ) (before between : List Event) (u v w : World) (key again parent : Key) (name : List ℕ) (node : Node) →
         Run (opening count start) before u → IsTrue (is_linked (bare u) key) → Run u between v → Step v (Born again parent name node) w → key ≢ again }
+    // No key is born twice.
+    ensures never_twice { (count start : ℕ) (before between : List Event) (t u v w : World) (key again parent next_parent : Key) (name next_name : List ℕ) (node next_node : Node) →
+        Run (opening count start) before t → Step t (Born key parent name node) u → Run u between v → Step v (Born again next_parent next_name next_node) w → key ≢ again }
 {}

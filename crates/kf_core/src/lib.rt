@@ -4,6 +4,7 @@
 
 mod caller;
 mod command;
+mod counts;
 mod event;
 mod guard;
 mod key;
@@ -13,7 +14,10 @@ mod name_bytes;
 mod records;
 mod refusal;
 mod slot;
+#[cfg(test)]
+mod tests;
 mod world;
+mod world_guard;
 
 pub use caller::{Caller, Phase};
 pub use command::Command;
@@ -27,3 +31,4 @@ pub use records::Record;
 pub use refusal::Refusal;
 pub use slot::{Marks, SlotState};
 pub use world::World;
+pub use world_guard::WorldCall;

@@ -1,5 +1,5 @@
 -- Each world of a run is safe, and a slot's generation never goes back.
-use Rattle.kf_core.proofs.Runs.{run_safe, linked_once}
+use Rattle.kf_core.proofs.Runs.{run_safe, linked_once, never_twice}
 use Rattle.kf_core.proofs.laws.slots_kept.Goals as goal
 
 pub returns-clause-held_last : goal.returns-clause-held_last
@@ -11,3 +11,7 @@ returns-clause-unheld c slots start events w w' key parent name node r step = st
 pub returns-clause-once : goal.returns-clause-once
 returns-clause-once c count start before between u v w key again parent name node r linked later second =
     linked_once between u v w key again parent name node linked later second
+
+pub returns-clause-never_twice : goal.returns-clause-never_twice
+returns-clause-never_twice c count start before between t u v w key again parent next_parent name next_name node next_node r first later second =
+    never_twice between t u v w key again parent next_parent name next_name node next_node first later second

@@ -1,26 +1,15 @@
--- The test of the list of callers says whether somebody has a reference.
-use Rattle.std.proofs.Common.{ap, sym, ◌∙◌, ◌≡◌, true, false, not, ◌&&◌, subst}
-use Rattle.std.specs.List.{list_any}
-use Rattle.kf_core.specs.Phases.{has_reference}
-use Rattle.kf_core.specs.Keys.{same_key}
-use Rattle.kf_core.specs.declared.caller.Caller.{Caller}
-use Rattle.kf_core.specs.Bounded.{BoundedWorld}
-use Rattle.kf_core.proofs.Looks.{reference_exact}
+-- The count of references of the slot of its last key says whether somebody has one to the node.
+use Rattle.std.proofs.Common.{sym, ◌∙◌}
+use Rattle.std.proofs.lemmas.Bool.Decides.{Decides-eqb}
+use Rattle.kf_core.proofs.Tallies.{unused_exact}
+use Rattle.kf_core.proofs.Keeping.{waiting_holds}
 use Rattle.kf_core.proofs.world.World.sees_drain.Goals as goal
 
-pub returns-then-is_referenced : goal.returns-then-is_referenced
-returns-then-is_referenced c =
-    let e : c.is_referenced.result ≡ list_any (λ (x : Caller). same_key x.key c.args.key && has_reference x.phase) c.args.self.now.world.callers =
-    c.is_referenced.ensures ∙ ap (list_any (λ (x : Caller). same_key x.key c.args.key && has_reference x.phase)) (c.as_slice.ensures.value ∙ ap (λ (b : BoundedWorld). b.world.callers) c.self.view_is) in (
-      (λ f. absurd (let x : false ≡ true = f in cc)),
-      (λ p. absurd (let n : not c.is_referenced.result ≡ true = (reference_exact c.args.self.now.world.callers c.args.key c.is_referenced.result e).1 p.2 in
-          let x : not true ≡ true = subst (λ b. not b ≡ true) c.if-is_referenced.true n in cc)),
-    )
-
-pub returns-then-is_waiting : goal.returns-then-is_waiting
-returns-then-is_waiting c =
-    let e : c.is_referenced.result ≡ list_any (λ (x : Caller). same_key x.key c.args.key && has_reference x.phase) c.args.self.now.world.callers =
-    c.is_referenced.ensures ∙ ap (list_any (λ (x : Caller). same_key x.key c.args.key && has_reference x.phase)) (c.as_slice.ensures.value ∙ ap (λ (b : BoundedWorld). b.world.callers) c.self.view_is) in (
-      (λ d. (sym c.is_waiting.ensures.known ∙ c.if-is_waiting.true, sym c.is_doomed.ensures ∙ d, (reference_exact c.args.self.now.world.callers c.args.key c.is_referenced.result e).0 (ap not c.if-is_referenced.false))),
-      (λ p. c.is_doomed.ensures ∙ p.1),
+pub returns-then-is_doomed : goal.returns-then-is_doomed
+returns-then-is_doomed c =
+    let waits = sym c.is_waiting.ensures.known ∙ c.if-not-is_waiting.false in
+    let last = c.counts_of.ensures.safe.held_last c.requires.there.0 c.args.key c.args.phase c.requires.there.1 (waiting_holds c.args.phase waits) in
+    let exact = unused_exact c.args.self.now.world c.args.key c.counts_of.ensures.safe last in (
+      (λ told. (waits, sym c.is_doomed.ensures ∙ c.if-is_doomed.true, exact.0 (sym c.counts_of.ensures.references ∙ (Decides-eqb c.counts_of.result.references 0).0 told))),
+      (λ p. (Decides-eqb c.counts_of.result.references 0).1 (c.counts_of.ensures.references ∙ exact.1 p.2)),
     )

@@ -1,0 +1,169 @@
+-- What the plain list keeps beside its world, after each kind of change.
+use Rattle.std.proofs.Common.{◌≡◌, ◌≢◌, inl, inr, ℕ, zero, suc, ◌+◌, ◌<◌, ◌≤◌, ◌-◌, ◌^◌, List, [], ◌∷◌, ◌++◌, length, get_or, refl, ap, arith, slice_set, sym, ◌∙◌, subst, ◌↔◌}
+use Rattle.std.specs.Prelude.{slice_get, Option, Some, None, not}
+use Rattle.std.proofs.lemmas.Option.{same_Some, none-some, slice_get_within, slice_get_read}
+use Rattle.std.proofs.lemmas.List.Sums.{count_by-le-length}
+use Rattle.std.proofs.lemmas.List.{length-set}
+use Rattle.std.proofs.lemmas.Bool.Decides.{eqb_tells}
+use Rattle.kf_core.specs.declared.key.Key.{Key}
+use Rattle.kf_core.specs.declared.caller.Phase.{Phase}
+use Rattle.kf_core.specs.declared.caller.Phase.TheVariants.{Still, Spent}
+use Rattle.kf_core.specs.declared.caller.Caller.{Caller}
+use Rattle.kf_core.specs.declared.counts.Counts.{Counts}
+use Rattle.kf_core.specs.declared.event.Event.{Event}
+use Rattle.kf_core.specs.declared.slot.Marks.{Marks}
+use Rattle.kf_core.specs.declared.slot.SlotState.{SlotState}
+use Rattle.kf_core.specs.Bare.{BareWorld, IsCaller, IsLast}
+use Rattle.kf_core.specs.Phases.{has_reference, is_spent}
+use Rattle.kf_core.specs.Safe.{Safe}
+use Rattle.kf_core.specs.Steps.{BareStep, with_phase, with_marks, with_caller, IsHeld}
+use Rattle.kf_core.specs.Bounded.{IsFree, holds}
+use Rattle.kf_core.specs.Counts.{tally, references, IsKept}
+use Rattle.kf_core.proofs.Lists.{slice_get-set_same, slice_get-set_other}
+use Rattle.kf_core.proofs.Keeping.{caller, slot_state, step_keeps}
+use Rattle.kf_core.proofs.Looks.{one_key}
+use Rattle.kf_core.proofs.Tallies.{phase_counted, pinned_counted, unheld_spent, spent_unheld, share, past_none}
+
+-- whether a slot of this state is free
+pub free_exact : (w : BareWorld) (slot : ℕ) (state : SlotState) → slice_get w.slots slot ≡ Some state → (((state.marks ≡ None) × (state.generation < 2 ^ 32 - 1) × (holds w slot ≡ 0)) ↔ IsFree w slot)
+free_exact w slot state is = (
+  (λ p. record { last = state.generation; unlinked = is ∙ ap (λ (m : Option Marks). Some (slot_state state.generation m)) p.0; more = p.1; unheld = unheld_spent w slot p.2 }),
+  (λ f. let e : state ≡ slot_state f.last None = same_Some _ _ (sym is ∙ f.unlinked) in
+      (ap (λ (s : SlotState). s.marks) e, subst (λ n. n < 2 ^ 32 - 1) (sym (ap (λ (s : SlotState). s.generation) e)) f.more, spent_unheld w slot f.unheld)),
+)
+
+-- a step of a caller leaves the other slots as they are
+free_elsewhere : (w : BareWorld) (c : ℕ) (key : Key) (from to : Phase) (slot : ℕ) → IsCaller w c key from → slot ≢ key.slot → IsFree (with_phase w c key to) slot → IsFree w slot
+free_elsewhere w c key from to slot was ne f = record {
+  last = f.last;
+  unlinked = f.unlinked;
+  more = f.more;
+  unheld = λ d k p h s. elim (eqb_tells d c) [
+    | inl e ↦ absurd (ne (sym s ∙ ap (λ (x : Key). x.slot) (one_key w c k key p from (subst (λ x. IsCaller w x k p) e.1 h) was).0))
+    | inr e ↦ f.unheld d k p (slice_get-set_other w.callers c d (caller key to) e.1 ∙ h) s
+  ];
+}
+
+free_beside : (w : BareWorld) (key : Key) (m : Option Marks) (slot : ℕ) → slot ≢ key.slot → IsFree (with_marks w key m) slot → IsFree w slot
+free_beside w key m slot ne f = record {
+  last = f.last;
+  unlinked = sym (slice_get-set_other w.slots key.slot slot (slot_state key.generation m) ne) ∙ f.unlinked;
+  more = f.more;
+  unheld = f.unheld;
+}
+
+still_there : (xs : List Caller) (i : ℕ) (v y : Caller) → slice_get xs i ≡ Some y → slice_get (xs ++ v ∷ []) i ≡ Some y
+still_there [] i v y h = absurd (none-some y h)
+still_there (x ∷ xs) zero v y h = h
+still_there (x ∷ xs) (suc i) v y h = still_there xs i v y h
+
+free_before : (w : BareWorld) (key : Key) (slot : ℕ) → IsFree (with_caller w key) slot → IsFree w slot
+free_before w key slot f = record {
+  last = f.last;
+  unlinked = f.unlinked;
+  more = f.more;
+  unheld = λ d k p h s. f.unheld d k p (still_there w.callers d (caller key Still) (caller k p) h) s;
+}
+
+-- the slot of a caller that is not spent is in the list
+pub slot_within : (w : BareWorld) (counts : List Counts) (lowest : ℕ) (c : ℕ) (key : Key) (p : Phase) → IsKept w counts lowest → IsCaller w c key p → p ≢ Spent → key.slot < length w.slots
+slot_within w counts lowest c key p kept was ne = let l : IsLast w key.slot key.generation = kept.safe.held_last c key p was ne in slice_get_within w.slots key.slot l.0 l.1
+
+-- what stands at a slot of the counts
+pub counts_there : (w : BareWorld) (counts : List Counts) (lowest slot : ℕ) (n : Counts) → IsKept w counts lowest → slot < length w.slots → n ≡ get_or counts slot n → slice_get counts slot ≡ Some n
+counts_there w counts lowest slot n kept i is = slice_get_read counts (length counts) slot n refl (let e : length counts ≡ length w.slots = kept.as_long in omega arith) is
+
+-- it has at least the share of each caller of the slot
+pub own_share : (w : BareWorld) (counts : List Counts) (lowest c : ℕ) (key : Key) (p : Phase) (n : Counts) → IsKept w counts lowest → IsCaller w c key p → slice_get counts key.slot ≡ Some n → (tally (not (is_spent p)) ≤ n.holds) × (tally (has_reference p) ≤ n.references)
+own_share w counts lowest c key p n kept was is = (
+  subst (λ x. tally (not (is_spent p)) ≤ x) (sym (kept.counted key.slot n is).0) (share w.callers c key p (λ p. not (is_spent p)) was),
+  subst (λ x. tally (has_reference p) ≤ x) (sym (kept.counted key.slot n is).1) (share w.callers c key p has_reference was),
+)
+
+-- and no more than there are callers
+pub few_counts : (w : BareWorld) (counts : List Counts) (lowest slot : ℕ) (n : Counts) → IsKept w counts lowest → slice_get counts slot ≡ Some n → (n.holds ≤ length w.callers) × (n.references ≤ length w.callers)
+few_counts w counts lowest slot n kept is = (
+  subst (λ x. x ≤ length w.callers) (sym (kept.counted slot n is).0) (count_by-le-length _ w.callers),
+  subst (λ x. x ≤ length w.callers) (sym (kept.counted slot n is).1) (count_by-le-length _ w.callers),
+)
+
+-- after a step of a caller on the key
+pub phase_kept : (w : BareWorld) (c : ℕ) (key : Key) (from to : Phase) (counts : List Counts) (old new : Counts) (state : SlotState) (lowest lowest' : ℕ) →
+    IsKept w counts lowest → (e : Event) → BareStep w e (with_phase w c key to) → IsCaller w c key from → slice_get counts key.slot ≡ Some old → slice_get w.slots key.slot ≡ Some state →
+    new.holds + tally (not (is_spent from)) ≡ old.holds + tally (not (is_spent to)) → new.references + tally (has_reference from) ≡ old.references + tally (has_reference to) →
+    1 ≤ lowest' → lowest' ≤ lowest → ((state.marks ≡ None) × (state.generation < 2 ^ 32 - 1) × (new.holds ≡ 0) → 1 ≤ key.slot → lowest' ≤ key.slot) →
+    IsKept (with_phase w c key to) (slice_set counts key.slot new) lowest'
+phase_kept w c key from to counts old new state lowest lowest' kept e step was is has h r one lower passed =
+    let counted = phase_counted w c key from to counts old new was is h r kept.counted in
+    let told : new.holds ≡ holds (with_phase w c key to) key.slot = (counted key.slot new (slice_get-set_same counts key.slot new (slice_get_within counts key.slot old is))).0 in
+    record {
+      safe = step_keeps w e (with_phase w c key to) kept.safe step;
+      few = kept.few;
+      as_long = length-set counts key.slot new ∙ kept.as_long;
+      counted = counted;
+      from_one = one;
+      passed = λ slot a b f. elim (eqb_tells slot key.slot) [
+        | inl s ↦ absurd (let free : (state.marks ≡ None) × (state.generation < 2 ^ 32 - 1) × (holds (with_phase w c key to) key.slot ≡ 0) = (free_exact (with_phase w c key to) key.slot state has).1 (subst (IsFree (with_phase w c key to)) s.1 f) in
+            let l : lowest' ≤ key.slot = passed (free.0, free.1, told ∙ free.2) (subst (λ x. 1 ≤ x) s.1 a) in
+            let t : slot ≡ key.slot = s.1 in omega arith)
+        | inr n ↦ kept.passed slot a (omega arith) (free_elsewhere w c key from to slot was n.1 f)
+      ];
+    }
+
+-- after a change of the marks of the key
+pub marks_kept : (w : BareWorld) (key : Key) (m : Option Marks) (counts : List Counts) (lowest : ℕ) → IsKept w counts lowest → (e : Event) → BareStep w e (with_marks w key m) → ¬ IsFree (with_marks w key m) key.slot → IsKept (with_marks w key m) counts lowest
+marks_kept w key m counts lowest kept e step taken = record {
+  safe = step_keeps w e (with_marks w key m) kept.safe step;
+  few = (let l : length (slice_set w.slots key.slot (slot_state key.generation m)) ≡ length w.slots = length-set w.slots key.slot (slot_state key.generation m) in let f : length w.slots ≤ 4096 = kept.few in omega arith);
+  as_long = kept.as_long ∙ sym (length-set w.slots key.slot (slot_state key.generation m));
+  counted = kept.counted;
+  from_one = kept.from_one;
+  passed = λ slot a b f. elim (eqb_tells slot key.slot) [
+    | inl s ↦ taken (subst (IsFree (with_marks w key m)) s.1 f)
+    | inr n ↦ kept.passed slot a b (free_beside w key m slot n.1 f)
+  ];
+}
+
+-- after a pin of the key
+pub pinned_kept : (w : BareWorld) (key : Key) (counts : List Counts) (old new : Counts) (lowest : ℕ) → IsKept w counts lowest → (e : Event) → BareStep w e (with_caller w key) → slice_get counts key.slot ≡ Some old → new.holds ≡ old.holds + 1 → new.references ≡ old.references + 0 → IsKept (with_caller w key) (slice_set counts key.slot new) lowest
+pinned_kept w key counts old new lowest kept e step is h r = record {
+  safe = step_keeps w e (with_caller w key) kept.safe step;
+  few = kept.few;
+  as_long = length-set counts key.slot new ∙ kept.as_long;
+  counted = pinned_counted w key counts old new is h r kept.counted;
+  from_one = kept.from_one;
+  passed = λ slot a b f. kept.passed slot a b (free_before w key slot f);
+}
+
+-- past the last slot nobody is on the slot
+pub past_kept : (w : BareWorld) (counts : List Counts) (lowest slot : ℕ) → IsKept w counts lowest → length counts ≤ slot → (0 ≡ holds w slot) × (0 ≡ references w slot)
+past_kept w counts lowest slot kept past =
+    let out : length w.slots ≤ slot = (let e : length counts ≡ length w.slots = kept.as_long in omega arith) in
+    (sym (past_none w slot (λ p. not (is_spent p)) kept.safe out refl), sym (past_none w slot has_reference kept.safe out refl))
+
+-- a slot that is not in the list is not free
+pub none_free : (w : BareWorld) (slot : ℕ) → length w.slots ≤ slot → ¬ IsFree w slot
+none_free w slot past f = let i : slot < length w.slots = slice_get_within w.slots slot _ f.unlinked in omega arith
+
+-- nobody holds a key whose slot is not in the list, or has another last generation
+pub none_holds : (w : BareWorld) (key : Key) → Safe w → length w.slots ≤ key.slot → ¬ IsHeld w key
+none_holds w key safe past h =
+    let l : IsLast w key.slot key.generation = safe.held_last h.caller key h.phase h.there h.holds in
+    let i : key.slot < length w.slots = slice_get_within w.slots key.slot l.0 l.1 in omega arith
+
+pub other_holds : (w : BareWorld) (key : Key) (state : SlotState) → Safe w → slice_get w.slots key.slot ≡ Some state → state.generation ≢ key.generation → ¬ IsHeld w key
+other_holds w key state safe is ne h =
+    let l : IsLast w key.slot key.generation = safe.held_last h.caller key h.phase h.there h.holds in
+    ne (ap (λ (s : SlotState). s.generation) (same_Some _ _ (sym is ∙ l.1)) ∙ l.2)
+
+-- a slot with a linked node, or a holder, is not free
+pub linked_taken : (w : BareWorld) (slot : ℕ) (state : SlotState) (m : Marks) → slice_get w.slots slot ≡ Some state → state.marks ≡ Some m → ¬ IsFree w slot
+linked_taken w slot state m is linked f = none-some m (ap (λ (s : SlotState). s.marks) (same_Some _ _ (sym f.unlinked ∙ is)) ∙ linked)
+
+pub held_taken : (w : BareWorld) (slot c : ℕ) (key : Key) (p : Phase) → IsCaller w c key p → key.slot ≡ slot → p ≢ Spent → ¬ IsFree w slot
+held_taken w slot c key p was s ne f = ne (f.unheld c key p was s)
+
+-- the state of a free slot
+pub free_state : (w : BareWorld) (slot : ℕ) (state : SlotState) (free : IsFree w slot) → slice_get w.slots slot ≡ Some state → (state.generation ≡ free.last) × (state.generation < 2 ^ 32 - 1)
+free_state w slot state free is =
+    let e : state.generation ≡ free.last = ap (λ (s : SlotState). s.generation) (same_Some _ _ (sym is ∙ free.unlinked)) in (e, subst (λ n. n < 2 ^ 32 - 1) (sym e) free.more)

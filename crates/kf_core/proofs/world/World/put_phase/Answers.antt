@@ -1,0 +1,62 @@
+-- The change is a step, and the counts of the slot follow.
+use Rattle.std.proofs.Common.{◌≡◌, ◌+◌, length, sym, subst, arith, not, refl}
+use Rattle.std.proofs.lemmas.Option.{slice_get_within, slice_get_read}
+use Rattle.kf_core.specs.Phases.{is_spent, has_reference}
+use Rattle.kf_core.specs.Bare.{IsCaller}
+use Rattle.kf_core.specs.Steps.{BareStep, with_phase}
+use Rattle.kf_core.specs.Bounded.{BoundedWorld}
+use Rattle.kf_core.specs.Counts.{tally}
+use Rattle.kf_core.proofs.Kept.{slot_within, counts_there, own_share, few_counts, phase_kept}
+use Rattle.kf_core.proofs.world.World.put_phase.Goals as goal
+
+pub without-requires-clause-holds : goal.without-requires-clause-holds
+without-requires-clause-holds c =
+    let was = subst (λ (b : BoundedWorld). IsCaller b.world c.args.id c.args.caller.key c.args.caller.phase) (sym c.self.view_is) c.requires.there in
+    let is = counts_there _ _ _ c.args.caller.key.slot c.index.result.now c.self.invariant (slot_within _ _ _ _ _ _ c.self.invariant was c.requires.holds) c.index.ensures in
+    (own_share _ _ _ _ _ _ _ c.self.invariant was is).0
+
+pub without-requires-clause-references : goal.without-requires-clause-references
+without-requires-clause-references c =
+    let was = subst (λ (b : BoundedWorld). IsCaller b.world c.args.id c.args.caller.key c.args.caller.phase) (sym c.self.view_is) c.requires.there in
+    let is = counts_there _ _ _ c.args.caller.key.slot c.index.result.now c.self.invariant (slot_within _ _ _ _ _ _ c.self.invariant was c.requires.holds) c.index.ensures in
+    (own_share _ _ _ _ _ _ _ c.self.invariant was is).1
+
+pub with-counts-requires-clause-few_holds : goal.with-counts-requires-clause-few_holds
+with-counts-requires-clause-few_holds c =
+    let was = subst (λ (b : BoundedWorld). IsCaller b.world c.args.id c.args.caller.key c.args.caller.phase) (sym c.self.view_is) c.requires.there in
+    let is = counts_there _ _ _ c.args.caller.key.slot c.index.result.now c.self.invariant (slot_within _ _ _ _ _ _ c.self.invariant was c.requires.holds) c.index.ensures in
+    omega (arith, (few_counts _ _ _ _ _ c.self.invariant is).0, c.self.inside.callers.ok.0, c.without.ensures.holds)
+
+pub with-counts-requires-clause-few_references : goal.with-counts-requires-clause-few_references
+with-counts-requires-clause-few_references c =
+    let was = subst (λ (b : BoundedWorld). IsCaller b.world c.args.id c.args.caller.key c.args.caller.phase) (sym c.self.view_is) c.requires.there in
+    let is = counts_there _ _ _ c.args.caller.key.slot c.index.result.now c.self.invariant (slot_within _ _ _ _ _ _ c.self.invariant was c.requires.holds) c.index.ensures in
+    omega (arith, (few_counts _ _ _ _ _ c.self.invariant is).1, c.self.inside.callers.ok.0, c.without.ensures.references)
+
+pub index-requires-2 : goal.index-requires-2
+index-requires-2 c =
+    let was = subst (λ (b : BoundedWorld). IsCaller b.world c.args.id c.args.caller.key c.args.caller.phase) (sym c.self.view_is) c.requires.there in
+    omega (arith, slot_within _ _ _ _ _ _ c.self.invariant was c.requires.holds, c.self.inside.slots.ok.0)
+
+pub index_mut-requires : goal.index_mut-requires
+index_mut-requires c =
+    let was = subst (λ (b : BoundedWorld). IsCaller b.world c.args.id c.args.caller.key c.args.caller.phase) (sym c.self.view_is) c.requires.there in
+    omega (arith, slice_get_within c.self.inside.callers.items c.args.id _ was, c.self.inside.callers.ok.0)
+
+pub index_mut-requires-2 : goal.index_mut-requires-2
+index_mut-requires-2 c =
+    let was = subst (λ (b : BoundedWorld). IsCaller b.world c.args.id c.args.caller.key c.args.caller.phase) (sym c.self.view_is) c.requires.there in
+    omega (arith, slot_within _ _ _ _ _ _ c.self.invariant was c.requires.holds, c.self.invariant.as_long, c.self.inside.counts.ok.0)
+
+pub invariant_of-self : goal.invariant_of-self
+invariant_of-self c =
+    let was = subst (λ (b : BoundedWorld). IsCaller b.world c.args.id c.args.caller.key c.args.caller.phase) (sym c.self.view_is) c.requires.there in
+    let step = subst (λ (b : BoundedWorld). BareStep b.world c.requires.step.0 (with_phase b.world c.args.id c.args.caller.key c.args.phase)) (sym c.self.view_is) c.requires.step.1 in
+    let within = slot_within _ _ _ _ _ _ c.self.invariant was c.requires.holds in
+    let is = counts_there _ _ _ c.args.caller.key.slot c.index.result.now c.self.invariant within c.index.ensures in
+    let state = slice_get_read c.self.inside.slots.items (length c.self.inside.slots.items) c.args.caller.key.slot c.index-2.result.now refl within c.index-2.ensures in
+    let h : c.with-counts.result.holds + tally (not (is_spent c.args.caller.phase)) ≡ c.index.result.now.holds + tally (not (is_spent c.args.phase)) = omega (arith, c.with-counts.ensures.holds, c.without.ensures.holds) in
+    let r : c.with-counts.result.references + tally (has_reference c.args.caller.phase) ≡ c.index.result.now.references + tally (has_reference c.args.phase) = omega (arith, c.with-counts.ensures.references, c.without.ensures.references) in
+    phase_kept _ c.args.id c.args.caller.key c.args.caller.phase c.args.phase _ c.index.result.now c.with-counts.result c.index-2.result.now c.self.inside.lowest c.lowered-self-inside.result
+    c.self.invariant c.requires.step.0 step was is state h r c.lowered-self-inside.ensures.from_one c.lowered-self-inside.ensures.lower
+    (λ free one. c.lowered-self-inside.ensures.passed (c.may_be_given-free.ensures.1 free) one)

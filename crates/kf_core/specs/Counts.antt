@@ -1,0 +1,32 @@
+-- What the plain list keeps beside its slots and callers, so that no question has to walk the callers.
+use Rattle.std.specs.Prelude.{◌≡◌, ℕ, ◌<◌, ◌≤◌, Bool, ◌&&◌, ◌==◌, List, length, count_by, slice_get, Some, if◌then◌else◌}
+use Rattle.kf_core.specs.declared.counts.Counts.{Counts}
+use Rattle.kf_core.specs.Phases.{has_reference}
+use Rattle.kf_core.specs.Bare.{BareWorld}
+use Rattle.kf_core.specs.Safe.{Safe}
+use Rattle.kf_core.specs.Bounded.{IsFree, holds}
+
+-- one where it is true
+abbrev pub tally : Bool → ℕ
+tally b = if b then 1 else 0
+
+-- how many callers on the slot have a reference
+abbrev pub references : BareWorld → ℕ → ℕ
+references w slot = count_by (λ c. (c.key.slot == slot) && has_reference c.phase) w.callers
+
+-- the counts are those of their slots
+abbrev pub IsCounted : BareWorld → List Counts → Type 0
+IsCounted w counts = (slot : ℕ) (c : Counts) → slice_get counts slot ≡ Some c → (c.holds ≡ holds w slot) × (c.references ≡ references w slot)
+
+-- from slot 1 up, no slot below this one is free
+abbrev pub NoneFree : BareWorld → ℕ → Type 0
+NoneFree w below = (slot : ℕ) → 1 ≤ slot → slot < below → ¬ IsFree w slot
+
+-- the world is safe, the counts of its slots are exact, and the search for a free slot may begin at `lowest`
+pub record IsKept (w : BareWorld) (counts : List Counts) (lowest : ℕ) : Type 0 where
+  pub safe : Safe w
+  pub few : length w.slots ≤ 4096
+  pub as_long : length counts ≡ length w.slots
+  pub counted : IsCounted w counts
+  pub from_one : 1 ≤ lowest
+  pub passed : NoneFree w lowest

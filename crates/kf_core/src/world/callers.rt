@@ -1,0 +1,199 @@
+//! The steps of callers, from the pin to the release.
+
+ghost use Rattle.std.specs.Prelude.{ℕ, ◌≡◌, ◌≢◌, ◌<◌, ◌↔◌, IsTrue, IfOk, IfErr, OnOk, OnErr};
+ghost use Rattle.std.specs.Bool.{OnTrue, OnFalse};
+ghost use Rattle.kf_core.specs.declared.key.Key.{Key};
+ghost use Rattle.kf_core.specs.declared.caller.Phase.{Phase};
+ghost use Rattle.kf_core.specs.declared.caller.Phase.TheVariants.{Spent};
+ghost use Rattle.kf_core.specs.declared.event.Event.{Event};
+ghost use Rattle.kf_core.specs.declared.event.Event.TheVariants.{Pin, Enter, Leave, Break, Restore, Look, Part, Release};
+ghost use Rattle.kf_core.specs.Bare.{IsCaller, is_doomed, is_live};
+ghost use Rattle.kf_core.specs.Phases.{is_waiting};
+ghost use Rattle.kf_core.specs.Safe.{Safe};
+ghost use Rattle.kf_core.specs.Steps.{with_caller, with_phase, BareStep, IsHeld, MayLook, MayPart, MayPin, NoReference};
+ghost use Rattle.kf_core.specs.Bounded.{Happens, May, PinRefused, bounded, holds};
+
+use super::World;
+use super::search::{lowered, may_be_given};
+use crate::caller::{Caller, Phase};
+use crate::key::Key;
+use crate::refusal::Refusal;
+use std::alloc::AllocError;
+
+impl World {
+    // The caller's phase becomes this one.
+    fn put_phase(&mut self, id: usize, caller: Caller, phase: Phase)
+        requires there { IsCaller self.old.world id caller.key caller.phase }
+        requires holds { caller.phase ≢ Spent }
+        requires step { (event : Event) × BareStep self.old.world event (with_phase self.old.world id caller.key phase) }
+        ensures { self.new ≡ bounded (with_phase self.old.world id caller.key phase) self.old.limit }
+    {
+        let slot = caller.key.slot as usize;
+        let counts = self.counts[slot].without(caller.phase).with(phase);
+        let free = may_be_given(self.slots[slot], counts.holds);
+        self.callers[id] = Caller {
+            key: caller.key,
+            phase,
+        };
+        self.counts[slot] = counts;
+        self.lowest = lowered(self.lowest, caller.key.slot, free);
+    }
+
+    /// Whether the slot of the key has fewer holds than the limit.
+    pub fn room(&self, key: Key) -> bool
+        ensures told { IsTrue result ↔ (holds self.now.world key.slot < self.now.limit) }
+        ensures safe { Safe self.now.world }
+    {
+        self.counts_of(key.slot).holds < self.limit as usize
+    }
+
+    // Whether somebody holds the node.
+    fn is_held(&self, key: Key) -> bool
+        ensures { IsTrue result ↔ IsHeld self.now.world key }
+    {
+        match self.slots.get(key.slot as usize) {
+            Some(state) => {
+                state.generation == key.generation && self.counts_of(key.slot).holds > 0
+            }
+            None => false,
+        }
+    }
+
+    // Whether the node is linked, or somebody holds it.
+    fn may_pin(&self, key: Key) -> bool
+        ensures { IsTrue result ↔ MayPin self.now.world key }
+    {
+        self.is_linked(key) || self.is_held(key)
+    }
+
+    // One caller more, which holds the key.
+    fn add_caller(&mut self, key: Key) -> Result<(), AllocError>
+        requires may { MayPin self.old.world key }
+        ensures added { OnOk result (self.new ≡ bounded (with_caller self.old.world key) self.old.limit) }
+        ensures err { OnErr result (self.new ≡ self.old) }
+    {
+        self.callers.push(Caller {
+            key,
+            phase: Phase::Still,
+        })?;
+        let slot = key.slot as usize;
+        self.counts[slot] = self.counts[slot].with(Phase::Still);
+        Ok(())
+    }
+
+    /// A new caller, which holds the key. Answers its number, which is its place in the list. NoEntry where
+    /// the node is not linked and nobody holds it, then TooManyHolds where its slot has as many holds as the
+    /// limit allows, then NoMemory where a growth was refused; the world is then as before.
+    pub fn pin(&mut self, key: Key) -> Result<usize, Refusal>
+        ensures step { IfOk result (λ id. Happens self.old (Pin id key) self.new) }
+        ensures room { OnOk result (holds self.old.world key.slot < self.old.limit) }
+        ensures refused { IfErr result (λ refusal. PinRefused self.old key refusal) }
+        ensures err { OnErr result (self.new ≡ self.old) }
+    {
+        if !self.may_pin(key) {
+            return Err(Refusal::NoEntry);
+        }
+        if !self.room(key) {
+            return Err(Refusal::TooManyHolds);
+        }
+        let id = self.callers.len();
+        self.add_caller(key).map_err(|_| Refusal::NoMemory)?;
+        Ok(id)
+    }
+
+    /// A try for an active reference (`kernfs_get_active`). It succeeds exactly where the node is live: the
+    /// caller is then Running, else Turned.
+    pub fn enter(&mut self, id: usize) -> bool
+        requires may { May self.old (Enter id) }
+        ensures step { Happens self.old (Enter id) self.new }
+        ensures told { (key : Key) (phase : Phase) → IsCaller self.old.world id key phase → result ≡ is_live self.old.world key }
+    {
+        let caller = self.callers[id];
+        let live = self.is_live(caller.key);
+        let phase = if live { Phase::Running } else { Phase::Turned };
+        self.put_phase(id, caller, phase);
+        live
+    }
+
+    /// The end of a call (`kernfs_put_active`).
+    pub fn leave(&mut self, id: usize)
+        requires may { May self.old (Leave id) }
+        ensures step { Happens self.old (Leave id) self.new }
+    {
+        let caller = self.callers[id];
+        self.put_phase(id, caller, Phase::Still);
+    }
+
+    /// Gives the reference up inside the call (`kernfs_break_active_protection`).
+    pub fn break_at(&mut self, id: usize)
+        requires may { May self.old (Break id) }
+        ensures step { Happens self.old (Break id) self.new }
+    {
+        let caller = self.callers[id];
+        self.put_phase(id, caller, Phase::Broken);
+    }
+
+    /// Takes a reference again inside the call (`kernfs_unbreak_active_protection`).
+    pub fn restore(&mut self, id: usize)
+        requires may { May self.old (Restore id) }
+        ensures step { Happens self.old (Restore id) self.new }
+    {
+        let caller = self.callers[id];
+        self.put_phase(id, caller, Phase::Restored);
+    }
+
+    /// Whether the caller waits, its node is doomed, and nobody has a reference to it. The caller is then
+    /// Drained (`kernfs_drain` returned); else nothing changes.
+    pub fn look(&mut self, id: usize) -> bool
+        ensures step { OnTrue result (Happens self.old (Look id) self.new) }
+        ensures same { OnFalse result (self.new ≡ self.old) }
+        ensures told { IsTrue result ↔ MayLook self.old.world id }
+    {
+        let Some((key, phase)) = self.caller(id) else {
+            return false;
+        };
+        if !self.sees_drain(key, phase) {
+            return false;
+        }
+        self.put_phase(id, Caller { key, phase }, Phase::Drained);
+        true
+    }
+
+    // Whether a caller of this key and phase may see the drain.
+    fn sees_drain(&self, key: Key, phase: Phase) -> bool
+        requires there { (id : ℕ) × IsCaller self.now.world id key phase }
+        ensures { IsTrue result ↔ (IsTrue (is_waiting phase) × IsTrue (is_doomed self.now.world key) × NoReference self.now.world key) }
+    {
+        if !phase.is_waiting() {
+            return false;
+        }
+        self.is_doomed(key) && self.counts_of(key.slot).references == 0
+    }
+
+    /// Whether the caller is Drained and its node is not linked. The caller is then Parted; else nothing
+    /// changes.
+    pub fn part(&mut self, id: usize) -> bool
+        ensures step { OnTrue result (Happens self.old (Part id) self.new) }
+        ensures same { OnFalse result (self.new ≡ self.old) }
+        ensures told { IsTrue result ↔ MayPart self.old.world id }
+    {
+        let Some((key, Phase::Drained)) = self.caller(id) else {
+            return false;
+        };
+        if self.is_linked(key) {
+            return false;
+        }
+        let phase = Phase::Drained;
+        self.put_phase(id, Caller { key, phase }, Phase::Parted);
+        true
+    }
+
+    /// Gives the hold back. The caller stays in the list, Spent.
+    pub fn release(&mut self, id: usize)
+        requires may { May self.old (Release id) }
+        ensures step { Happens self.old (Release id) self.new }
+    {
+        let caller = self.callers[id];
+        self.put_phase(id, caller, Phase::Spent);
+    }
+}

@@ -1,0 +1,82 @@
+//! The steps of nodes: births, activations, dooms and unlinks.
+
+ghost use Rattle.std.specs.Prelude.{List, ℕ, ◌≡◌, ◌<◌, length};
+ghost use Rattle.kf_core.specs.declared.key.Key.{Key};
+ghost use Rattle.kf_core.specs.declared.key.Node.{Node};
+ghost use Rattle.kf_core.specs.declared.event.Event.{Event};
+ghost use Rattle.kf_core.specs.declared.event.Event.TheVariants.{Born, Rise, Mark, Unlink};
+ghost use Rattle.kf_core.specs.Steps.{with_marks, BareStep, MayBeBorn};
+ghost use Rattle.kf_core.specs.Bounded.{Happens, IsFree, May, bounded};
+
+use super::{World, marks_at};
+use crate::key::Key;
+use crate::slot::{Marks, SlotState};
+
+impl World {
+    // The slot of the key gets its generation, and these marks.
+    fn put_marks(&mut self, key: Key, marks: Option<Marks>)
+        requires within { key.slot < length self.old.world.slots }
+        requires step { (event : Event) × BareStep self.old.world event (with_marks self.old.world key marks) }
+        requires taken { ¬ IsFree (with_marks self.old.world key marks) key.slot }
+        ensures { self.new ≡ bounded (with_marks self.old.world key marks) self.old.limit }
+    {
+        self.slots[key.slot as usize] = SlotState {
+            generation: key.generation,
+            marks,
+        };
+    }
+
+    /// Links a node, not activated and not doomed, in a slot that nobody holds.
+    pub fn born(&mut self, key: Key)
+        requires may { MayBeBorn self.old.world key }
+        ensures step { (parent : Key) (name : List ℕ) (node : Node) → Happens self.old (Born key parent name node) self.new }
+    {
+        self.put_marks(
+            key,
+            Some(Marks {
+                activated: false,
+                doomed: false,
+            }),
+        );
+        self.raise_lowest();
+    }
+
+    /// Activates a linked node that is neither activated nor doomed (`kernfs_activate`).
+    pub fn activate(&mut self, key: Key)
+        requires may { May self.old (Rise key) }
+        ensures step { Happens self.old (Rise key) self.new }
+    {
+        self.put_marks(
+            key,
+            Some(Marks {
+                activated: true,
+                doomed: false,
+            }),
+        );
+    }
+
+    /// Dooms a linked node: no try for a reference succeeds any more.
+    pub fn doom(&mut self, key: Key)
+        requires may { May self.old (Mark key) }
+        ensures step { Happens self.old (Mark key) self.new }
+    {
+        if let Some(marks) = marks_at(self.slots.as_slice(), key) {
+            self.put_marks(
+                key,
+                Some(Marks {
+                    activated: marks.activated,
+                    doomed: true,
+                }),
+            );
+        }
+    }
+
+    /// Takes the node of a drained caller out. The slot stays held.
+    pub fn unlink(&mut self, id: usize)
+        requires may { May self.old (Unlink id) }
+        ensures step { Happens self.old (Unlink id) self.new }
+    {
+        let key = self.callers[id].key;
+        self.put_marks(key, None);
+    }
+}
