@@ -17,11 +17,10 @@ use Rattle.kf_core.specs.Phases.{has_reference, is_waiting, may_release}
 use Rattle.kf_core.specs.Safe.{Safe}
 use Rattle.kf_core.specs.Steps.{BareStep, MayBeBorn, MayPart, MayPin, with_phase, with_marks}
 use Rattle.kf_core.specs.Bounded.{BoundedWorld, Happens, IsFree, bounded}
-use Rattle.kf_core.proofs.Keeping.{slot_state, linked_last}
+use Rattle.kf_core.proofs.Keeping.{slot_state, linked_last, one_key}
 use Rattle.kf_core.proofs.Lists.{slice_get-set_same}
 use Rattle.kf_core.proofs.SlotStates.{in_place, shown}
 use Rattle.kf_core.proofs.Kept.{linked_taken, held_taken}
-use Rattle.kf_core.proofs.Looks.{one_key}
 
 -- what was read at a place of a list that has an item there
 pub found : {X : Type 0} (xs ys : List X) (i : ℕ) (x y : X) → xs ≡ ys → x ≡ get_or xs i x → slice_get ys i ≡ Some y → slice_get ys i ≡ Some x

@@ -22,6 +22,12 @@ use Rattle.kf_core.proofs.SlotStates.{live_or_doomed, live_linked, doomed_if_gon
 abbrev pub caller : Key → Phase → Caller
 caller key phase = record { key = key; phase = phase }
 
+-- a caller has one key and one phase
+pub one_key : (w : BareWorld) (c : ℕ) (k l : Key) (p q : Phase) → IsCaller w c k p → IsCaller w c l q → (k ≡ l) × (p ≡ q)
+one_key w c k l p q h g =
+    let e : ◌≡◌ {A = Caller} (record { key = k; phase = p }) (record { key = l; phase = q }) = same_Some _ _ (sym h ∙ g) in
+    (ap (λ (x : Caller). x.key) e, ap (λ (x : Caller). x.phase) e)
+
 -- what holds of each caller's key and phase
 abbrev pub Each : List Caller → (Key → Phase → Type 0) → Type 0
 Each cs R = (c : ℕ) (key : Key) (phase : Phase) → slice_get cs c ≡ Some (record { key = key; phase = phase }) → R key phase

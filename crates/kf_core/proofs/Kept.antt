@@ -20,8 +20,7 @@ use Rattle.kf_core.specs.Steps.{BareStep, with_phase, with_marks, with_caller, I
 use Rattle.kf_core.specs.Bounded.{IsFree, holds}
 use Rattle.kf_core.specs.Counts.{tally, references, IsKept}
 use Rattle.kf_core.proofs.Lists.{slice_get-set_same, slice_get-set_other}
-use Rattle.kf_core.proofs.Keeping.{caller, slot_state, step_keeps}
-use Rattle.kf_core.proofs.Looks.{one_key}
+use Rattle.kf_core.proofs.Keeping.{caller, slot_state, step_keeps, one_key}
 use Rattle.kf_core.proofs.Tallies.{phase_counted, pinned_counted, unheld_spent, spent_unheld, share, past_none}
 
 -- whether a slot of this state is free

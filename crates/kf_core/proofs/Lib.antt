@@ -4,8 +4,9 @@ pub mod Names
 pub mod Keeping
 pub mod Passing
 pub mod Runs
-pub mod Looks
 pub mod Tallies
 pub mod Kept
 pub mod Events
 pub mod WorldVisits
+pub mod Agreeing
+pub mod Ancestors

@@ -2,6 +2,7 @@
 use Rattle.std.specs.Prelude.{◌≡◌, IsTrue, Option, None, Some}
 use Rattle.kf_core.specs.declared.key.Key.{Key}
 use Rattle.kf_core.specs.declared.caller.Phase.{Phase}
+use Rattle.kf_core.specs.declared.caller.Phase.TheVariants.{Running}
 use Rattle.kf_core.specs.Phases.{has_reference}
 
 -- whose call it is, on which key, and in which phase
@@ -23,12 +24,13 @@ pub data Visit (Done : Type 0) : Type 0 where
   tried : Option Done → Visit Done
 
 module _ {Guard Hold Call CallerId : Type 0} where
-  -- one call from its start to its end, with what was done in between
+  -- one call from its start, where it is running, to its end, with what was done in between
   pub record Called (enters : Guard → Hold → Call → Guard → Type 0) (leaves : Guard → Call → Hold → Guard → Type 0) (view : Call → CallView CallerId) (does : Type 0) (guard : Guard) (hold : Hold) (guard' : Guard) (hold' : Hold) : Type 0 where
     pub call : Call
     pub ended : Call
     pub inside : Guard
     pub entered : enters guard hold call inside
+    pub running : (view call).phase ≡ Running
     pub did : does
     pub given_back : GivenBack (view call) (view ended)
     pub left : leaves inside ended hold' guard'

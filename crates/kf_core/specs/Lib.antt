@@ -15,3 +15,4 @@ pub mod Bounded
 pub mod Calls
 pub mod WorldGuard
 pub mod Counts
+pub mod Agrees

@@ -54,6 +54,6 @@ meets up n top None = false
 meets up zero top (Some key) = same_key key top
 meets up (suc n) top (Some key) = if same_key key top then true else meets up n top (up key)
 
--- whether following parents from the key meets the top
+-- whether following parents from the key meets the top (a key meets itself, linked or not)
 abbrev pub in_subtree : Tree → Key → Key → Bool
 in_subtree t top key = meets (parent_of t) (length t) top (Some key)

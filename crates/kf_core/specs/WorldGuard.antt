@@ -1,10 +1,12 @@
 -- What a try for a reference, and its end, make of the plain list of slots and callers.
-use Rattle.std.specs.Prelude.{ℕ, IsTrue, IsFalse}
+use Rattle.std.specs.Prelude.{◌≡◌, ℕ, None, Some, IsTrue, IsFalse}
 use Rattle.kf_core.specs.declared.key.Key.{Key}
-use Rattle.kf_core.specs.declared.caller.Phase.TheVariants.{Turned, Running}
+use Rattle.kf_core.specs.declared.caller.Phase.TheVariants.{Still, Turned, Running}
 use Rattle.kf_core.specs.declared.event.Event.TheVariants.{Enter}
 use Rattle.kf_core.specs.Bare.{IsCaller, is_live}
-use Rattle.kf_core.specs.Bounded.{BoundedWorld, Happens}
+use Rattle.kf_core.specs.Steps.{with_phase}
+use Rattle.kf_core.specs.Bounded.{BoundedWorld, bounded, Happens}
+use Rattle.kf_core.specs.Calls.{Visit, unvisited, tried}
 
 -- the caller of this number tried for a reference to the node, which is live, and has it
 pub record HasEntered (w : BoundedWorld) (id : ℕ) (key : Key) (w' : BoundedWorld) : Type 0 where
@@ -18,3 +20,10 @@ pub record HasTurned (w : BoundedWorld) (id : ℕ) (w' : BoundedWorld) : Type 0 
   pub key : Key
   pub not_live : IsFalse (is_live w.world key)
   pub turned : IsCaller w'.world id key Turned
+
+module _ {Done : Type 0} where
+  -- a visit by the caller of this number on this key, with no step but its own: it was not made; or the node is not live, and the caller is Turned; or it is live, this was done, and the caller is Still
+  abbrev pub VisitsAlone : BoundedWorld → ℕ → Key → BoundedWorld → Type 0 → (Done → Type 0) → Visit Done → Type 0
+  VisitsAlone w id key w' idle does unvisited = (w' ≡ w) × idle
+  VisitsAlone w id key w' idle does (tried None) = IsFalse (is_live w.world key) × (w' ≡ bounded (with_phase w.world id key Turned) w.limit) × idle
+  VisitsAlone w id key w' idle does (tried (Some d)) = IsTrue (is_live w.world key) × (w' ≡ bounded (with_phase w.world id key Still) w.limit) × does d

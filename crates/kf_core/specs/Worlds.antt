@@ -1,5 +1,5 @@
 -- The world: each slot with its last generation and the record of its linked node, and the callers.
--- One atomic step of it, and runs of steps.
+-- One atomic step of it, and runs of steps. The struct `World` keeps the bare half of this, and the limit of holds.
 use Rattle.std.specs.Prelude.{◌≡◌, ◌≢◌, ℕ, ◌+◌, false, List, [], ◌∷◌, map, replicate, slice_get, slice_set, Option, None, Some, IsFalse}
 use Rattle.std.specs.Option.{option_map}
 use Rattle.kf_core.specs.declared.key.Key.{Key}

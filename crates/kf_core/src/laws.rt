@@ -10,7 +10,8 @@ ghost use Rattle.kf_core.specs.declared.event.Event.TheVariants.{Born, Look};
 ghost use Rattle.kf_core.specs.Phases.{saw_drain};
 ghost use Rattle.kf_core.specs.Bare.{IsCaller, IsLast, is_doomed, is_linked};
 ghost use Rattle.kf_core.specs.Safe.{NoneRunning};
-ghost use Rattle.kf_core.specs.Worlds.{World, bare, opening, Step, Run};
+ghost use Rattle.kf_core.specs.Agrees.{Agrees};
+ghost use Rattle.kf_core.specs.Worlds.{World, bare, opening, tree, Step, Run};
 
 /// Once a caller saw the drain of a node, nobody is ever running on it again. Who gave up its reference
 /// inside its callback may take one again there, but starts no callback under it.
@@ -47,4 +48,6 @@ pub fn slots_kept()
     // No key is born twice.
     ensures never_twice { (count start : ℕ) (before between : List Event) (t u v w : World) (key again parent next_parent : Key) (name next_name : List ℕ) (node next_node : Node) →
         Run (opening count start) before t → Step t (Born key parent name node) u → Run u between v → Step v (Born again next_parent next_name next_node) w → key ≢ again }
+    // The tree and the list of slots tell the same of every key: whether it is linked, activated, doomed.
+    ensures agree { (count start : ℕ) (events : List Event) (w : World) → Run (opening count start) events w → Agrees (tree w) (bare w) }
 {}

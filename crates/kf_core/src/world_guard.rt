@@ -12,7 +12,9 @@ use crate::guard::{ActiveCall, Guard};
 use crate::key::Key;
 use crate::world::World;
 
-/// The call of a caller in a `World`. It is running from its start to its end: its callback is lent no world in which it could break it.
+/// The call of a caller in a `World`. It is running from its start to its end, since its callback is lent no
+/// world in which it could break it. The condition on its owner: between `enter` and `leave` no `break_at`,
+/// `restore` or `leave` is called with the caller's number.
 pub struct WorldCall {
     caller: usize,
     key: Key,

@@ -1,4 +1,5 @@
 -- Each world of a run is safe, and a slot's generation never goes back.
+use Rattle.kf_core.proofs.Agreeing.{run_agrees}
 use Rattle.kf_core.proofs.Runs.{run_safe, linked_once, never_twice}
 use Rattle.kf_core.proofs.laws.slots_kept.Goals as goal
 
@@ -15,3 +16,6 @@ returns-clause-once c count start before between u v w key again parent name nod
 pub returns-clause-never_twice : goal.returns-clause-never_twice
 returns-clause-never_twice c count start before between t u v w key again parent next_parent name next_name node next_node r first later second =
     never_twice between t u v w key again parent next_parent name next_name node next_node first later second
+
+pub returns-clause-agree : goal.returns-clause-agree
+returns-clause-agree c = run_agrees

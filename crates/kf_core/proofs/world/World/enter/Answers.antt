@@ -5,8 +5,8 @@ use Rattle.kf_core.specs.declared.caller.Phase.TheVariants.{Running, Turned}
 use Rattle.kf_core.specs.Bare.{is_live}
 use Rattle.kf_core.specs.Steps.{BareStep, with_phase}
 use Rattle.kf_core.specs.Bounded.{BoundedWorld}
+use Rattle.kf_core.proofs.Keeping.{one_key}
 use Rattle.kf_core.proofs.Events.{found, enter_step, happens}
-use Rattle.kf_core.proofs.Looks.{one_key}
 use Rattle.kf_core.proofs.world.World.enter.Goals.{then-live, else-live}
 use Rattle.kf_core.proofs.world.World.enter.Goals as goal
 

@@ -1,0 +1,197 @@
+-- Following parents in a tree: no way to a key is longer than there are records.
+use Rattle.std.proofs.Common.{◌≡◌, ◌≢◌, ◌⊎◌, inl, inr, ℕ, zero, suc, ◌+◌, ◌<◌, ◌≤◌, List, [], ◌∷◌, length, refl, ap, arith, sym, ◌∙◌, subst, Bool, true, false, cond, slice_set, ◌↔◌}
+use Rattle.std.specs.Prelude.{slice_get, Option, None, Some, nat_eq, ◌&&◌, IsTrue, is_some, count_by}
+use Rattle.std.specs.Option.{option_and_then}
+use Rattle.std.proofs.lemmas.Option.{same_Some, none-some, slice_get_within, cond_some}
+use Rattle.std.proofs.lemmas.List.Sums.{count_by-le-length}
+use Rattle.std.proofs.lemmas.List.Recursion.{is_count_by}
+use Rattle.std.proofs.lemmas.Bool.{eq-eqb, eqb-true}
+use Rattle.std.proofs.lemmas.Bool.Decides.{eqb_tells}
+use Rattle.kf_core.specs.declared.key.Key.{Key}
+use Rattle.kf_core.specs.declared.records.Record.{Record}
+use Rattle.kf_core.specs.Keys.{same_key}
+use Rattle.kf_core.specs.Tree.{Tree, with_key, record_at, parent_of, ancestor, meets, in_subtree, IsIn}
+use Rattle.kf_core.proofs.Lists.{slice_get-set_same, slice_get-set_other}
+
+pub same_key-refl : (k : Key) → same_key k k ≡ true
+same_key-refl k = ap (λ b. b && nat_eq k.generation k.generation) (eq-eqb k.slot k.slot refl) ∙ eq-eqb k.generation k.generation refl
+
+and_both : (a b : Bool) → (a && b) ≡ true → (a ≡ true) × (b ≡ true)
+and_both true b h = (refl, h)
+and_both false b h = cc
+
+pub same_key-same : (a b : Key) → same_key a b ≡ true → a ≡ b
+same_key-same a b h =
+    let p : (nat_eq a.slot b.slot ≡ true) × (nat_eq a.generation b.generation ≡ true) = and_both _ _ h in
+    ap (λ (x : ℕ). record { slot = x; generation = a.generation }) (eqb-true a.slot b.slot p.0) ∙ ap (λ (x : ℕ). record { slot = b.slot; generation = x }) (eqb-true a.generation b.generation p.1)
+
+-- what a chain of options found
+pub chained : {A B : Type 0} (f : A → Option B) (o : Option A) (y : B) → option_and_then f o ≡ Some y → (x : A) × (o ≡ Some x) × (f x ≡ Some y)
+chained f None y h = absurd (none-some y h)
+chained f (Some x) y h = (x, refl, h)
+
+has_key : (key : Key) (o : Option Record) (r : Record) → with_key key o ≡ Some r → (o ≡ Some r) × (r.key ≡ key)
+has_key key None r h = absurd (none-some r h)
+has_key key (Some s) r h =
+    let p : (same_key s.key key ≡ true) × (s ≡ r) = cond_some (same_key s.key key) s r h in
+    (ap (λ (x : Record). Some x) p.1, subst (λ (x : Record). x.key ≡ key) p.1 (same_key-same s.key key p.0))
+
+-- what is found is there, under its key
+pub found_in : (t : Tree) (key : Key) (r : Record) → record_at t key ≡ Some r → IsIn t r × (r.key ≡ key)
+found_in t key r h =
+    let c : (o : Option Record) × (slice_get t key.slot ≡ Some o) × (with_key key o ≡ Some r) = chained (with_key key) (slice_get t key.slot) r h in
+    let k : (c.0 ≡ Some r) × (r.key ≡ key) = has_key key c.0 r c.2 in
+    (ap (λ (x : Key). slice_get t x.slot) k.1 ∙ c.1 ∙ ap (λ (x : Option Record). Some x) k.0, k.1)
+
+-- a write elsewhere leaves a key as it is
+pub record_other : (t : Tree) (slot : ℕ) (o : Option Record) (key : Key) → key.slot ≢ slot → record_at (slice_set t slot o) key ≡ record_at t key
+record_other t slot o key ne = ap (option_and_then (with_key key)) (slice_get-set_other t slot key.slot o ne)
+
+-- where parents stay, ancestors do
+pub ancestor_keeps : (t u : Tree) → ((k p : Key) → parent_of t k ≡ Some p → parent_of u k ≡ Some p) → (n : ℕ) (k a : Key) → ancestor t n k ≡ Some a → ancestor u n k ≡ Some a
+ancestor_keeps t u same zero k a h = h
+ancestor_keeps t u same (suc n) k a h =
+    let c : (p : Key) × (parent_of t k ≡ Some p) × (ancestor t n p ≡ Some a) = chained (ancestor t n) (parent_of t k) a h in
+    ap (option_and_then (ancestor u n)) (same k c.0 c.1) ∙ ancestor_keeps t u same n c.0 a c.2
+
+-- one step more
+pub ancestor_more : (t : Tree) (n : ℕ) (k p a : Key) → parent_of t k ≡ Some p → ancestor t n p ≡ Some a → ancestor t (suc n) k ≡ Some a
+ancestor_more t n k p a e h = ap (option_and_then (ancestor t n)) e ∙ h
+
+-- the place of a record is emptied
+abbrev pub without : Tree → Key → Tree
+without t key = slice_set t key.slot None
+
+pub parent_parts : (t : Tree) (k p : Key) → parent_of t k ≡ Some p → (r : Record) × (record_at t k ≡ Some r) × (r.parent ≡ Some p)
+parent_parts t k p h = chained (λ (r : Record). r.parent) (record_at t k) p h
+
+-- two keys of linked nodes in one slot are one
+pub one_slot : (t : Tree) (a b : Key) (r s : Record) → record_at t a ≡ Some r → record_at t b ≡ Some s → a.slot ≡ b.slot → a ≡ b
+one_slot t a b r s f g e =
+    let i : IsIn t r × (r.key ≡ a) = found_in t a r f in
+    let j : IsIn t s × (s.key ≡ b) = found_in t b s g in
+    let same : r ≡ s = same_Some r s (same_Some _ _ (sym i.0 ∙ (ap (slice_get t) (ap (λ (x : Key). x.slot) i.1 ∙ (e ∙ sym (ap (λ (x : Key). x.slot) j.1))) ∙ j.0))) in
+    sym i.1 ∙ (ap (λ (x : Record). x.key) same ∙ j.1)
+
+-- an emptied place shows no record, and the others show theirs
+pub record_without : (t : Tree) (key k : Key) (r : Record) → record_at (without t key) k ≡ Some r → (record_at t k ≡ Some r) × (k.slot ≢ key.slot)
+record_without t key k r h = elim (eqb_tells k.slot key.slot) [
+  | inl e ↦ absurd (
+      let c : (o : Option Record) × (slice_get (slice_set t key.slot None) k.slot ≡ Some o) × (with_key k o ≡ Some r) = chained (with_key k) (slice_get (slice_set t key.slot None) k.slot) r h in
+      let at : slice_get (slice_set t key.slot None) key.slot ≡ Some c.0 = ap (slice_get (slice_set t key.slot None)) (sym e.1) ∙ c.1 in
+      let empty : c.0 ≡ None = same_Some _ _ (sym at ∙ slice_get-set_same t key.slot None (within t key.slot None c.0 at)) in
+      none-some r (ap (with_key k) (sym empty) ∙ c.2))
+  | inr e ↦ (sym (record_other t key.slot None k e.1) ∙ h, e.1)
+]
+  where
+    within : (t : Tree) (i : ℕ) (o o' : Option Record) → slice_get (slice_set t i o) i ≡ Some o' → i < length t
+    within [] i o o' h = absurd (none-some _ h)
+    within (x ∷ xs) zero o o' h = omega arith
+    within (x ∷ xs) (suc i) o o' h = let r : i < length xs = within xs i o o' h in omega arith
+
+-- parents in a tree with one record less are parents in the tree
+pub without_parent : (t : Tree) (key k p : Key) → parent_of (without t key) k ≡ Some p → parent_of t k ≡ Some p
+without_parent t key k p h =
+    let r : (r : Record) × (record_at (without t key) k ≡ Some r) × (r.parent ≡ Some p) = parent_parts (without t key) k p h in
+    ap (option_and_then (λ (x : Record). x.parent)) (record_without t key k r.0 r.1).0 ∙ r.2
+
+pub parent_without : (t : Tree) (key k p : Key) → k.slot ≢ key.slot → parent_of t k ≡ Some p → parent_of (without t key) k ≡ Some p
+parent_without t key k p ne h = ap (option_and_then (λ (x : Record). x.parent)) (record_other t key.slot None k ne) ∙ h
+
+-- a way up avoids a linked key, or meets it
+pub avoids : (t : Tree) (key : Key) (x : Record) → record_at t key ≡ Some x → (n : ℕ) (k a : Key) → ancestor t n k ≡ Some a → (ancestor (without t key) n k ≡ Some a) ⊎ ((j : ℕ) × (j ≤ n) × (ancestor t j key ≡ Some a))
+avoids t key x there zero k a h = inl h
+avoids t key x there (suc n) k a h =
+    let c : (p : Key) × (parent_of t k ≡ Some p) × (ancestor t n p ≡ Some a) = chained (ancestor t n) (parent_of t k) a h in
+    let r : (r : Record) × (record_at t k ≡ Some r) × (r.parent ≡ Some c.0) = parent_parts t k c.0 c.1 in
+    elim (eqb_tells k.slot key.slot) [
+      | inl e ↦ inr (suc n, omega arith, subst (λ y. ancestor t (suc n) y ≡ Some a) (one_slot t k key r.0 x r.1 there e.1) h)
+      | inr e ↦ elim (avoids t key x there n c.0 a c.2) [
+        | inl g ↦ inl (ancestor_more (without t key) n k c.0 a (parent_without t key k c.0 e.1 c.1) g)
+        | inr g ↦ inr (g.0, (let l : g.0 ≤ n = g.1 in omega arith), g.2)
+      ]
+    ]
+
+-- how many records there are
+count : Tree → ℕ
+count [] = 0
+count (x ∷ xs) = cond (is_some x) (1 + count xs) (count xs)
+
+count_is : (t : Tree) → count t ≡ count_by is_some t
+unfolding count
+count_is t = is_count_by count is_some refl (λ x xs. refl) t
+
+-- a place that was filled or emptied
+count_set : (t : Tree) (slot : ℕ) (r : Record) (o : Option Record) → is_some o ≡ false → slice_get t slot ≡ Some (Some r) → suc (count (slice_set t slot o)) ≡ count t
+unfolding count
+count_set [] slot r o n h = absurd (none-some _ h)
+count_set (x ∷ xs) zero r o n h = ap (λ b. suc (cond b (1 + count xs) (count xs))) n ∙ (let e : suc (count xs) ≡ 1 + count xs = omega arith in e) ∙ ap (λ (y : Option Record). cond (is_some y) (1 + count xs) (count xs)) (sym (same_Some _ _ h))
+count_set (x ∷ xs) (suc slot) r o n h =
+    let e : suc (count (slice_set xs slot o)) ≡ count xs = count_set xs slot r o n h in
+    elim (is_some x) as (λ b. suc (cond b (1 + count (slice_set xs slot o)) (count (slice_set xs slot o))) ≡ cond b (1 + count xs) (count xs)) [ true ↦ omega arith | false ↦ e ]
+
+pub count_without : (t : Tree) (slot : ℕ) (r : Record) → slice_get t slot ≡ Some (Some r) → suc (count_by is_some (slice_set t slot None)) ≡ count_by is_some t
+count_without t slot r h = ap suc (sym (count_is (slice_set t slot None))) ∙ (count_set t slot r None refl h ∙ count_is t)
+
+pub count_less : (t : Tree) (key : Key) (x : Record) → record_at t key ≡ Some x → suc (count_by is_some (without t key)) ≡ count_by is_some t
+count_less t key x h =
+    let i : IsIn t x × (x.key ≡ key) = found_in t key x h in
+    count_without t key.slot x (ap (slice_get t) (sym (ap (λ (y : Key). y.slot) i.1)) ∙ i.0)
+
+-- no way needs more steps than there are records
+pub shorten : (bound n : ℕ) (t : Tree) (key top : Key) → n ≤ bound → ancestor t n key ≡ Some top → (m : ℕ) × (m ≤ count_by is_some t) × (ancestor t m key ≡ Some top)
+shorten bound zero t key top le h = (0, omega arith, h)
+shorten zero (suc n) t key top le h = absurd (omega arith)
+shorten (suc bound) (suc n) t key top le h =
+    let c : (p : Key) × (parent_of t key ≡ Some p) × (ancestor t n p ≡ Some top) = chained (ancestor t n) (parent_of t key) top h in
+    let r : (r : Record) × (record_at t key ≡ Some r) × (r.parent ≡ Some c.0) = parent_parts t key c.0 c.1 in
+    elim (avoids t key r.0 r.1 n c.0 top c.2) [
+      | inl g ↦ (let s : (m : ℕ) × (m ≤ count_by is_some (without t key)) × (ancestor (without t key) m c.0 ≡ Some top) = shorten bound n (without t key) c.0 top (omega arith) g in
+          let less : suc (count_by is_some (without t key)) ≡ count_by is_some t = count_less t key r.0 r.1 in
+          let fits : s.0 ≤ count_by is_some (without t key) = s.1 in
+          (suc s.0, omega arith, ancestor_more t s.0 key c.0 top c.1 (ancestor_keeps (without t key) t (without_parent t key) s.0 c.0 top s.2)))
+      | inr g ↦ (let l : g.0 ≤ n = g.1 in shorten bound g.0 t key top (omega arith) g.2)
+    ]
+
+either_true : (b c : Bool) → c ≡ true → cond b true c ≡ true
+either_true true c h = refl
+either_true false c h = h
+
+-- following parents meets what is met after so many steps
+pub meets_from : (t : Tree) (top : Key) (bound n : ℕ) (k : Key) → n ≤ bound → ancestor t n k ≡ Some top → meets (parent_of t) bound top (Some k) ≡ true
+meets_from t top zero zero k le h = ap (λ x. same_key x top) (same_Some k top h) ∙ same_key-refl top
+meets_from t top (suc bound) zero k le h = ap (λ b. cond b true (meets (parent_of t) bound top (parent_of t k))) (ap (λ x. same_key x top) (same_Some k top h) ∙ same_key-refl top)
+meets_from t top zero (suc n) k le h = absurd (omega arith)
+meets_from t top (suc bound) (suc n) k le h =
+    let c : (p : Key) × (parent_of t k ≡ Some p) × (ancestor t n p ≡ Some top) = chained (ancestor t n) (parent_of t k) top h in
+    either_true (same_key k top) (meets (parent_of t) bound top (parent_of t k)) (ap (meets (parent_of t) bound top) c.1 ∙ meets_from t top bound n c.0 (omega arith) c.2)
+
+true_either : (b c : Bool) → cond b true c ≡ true → (b ≡ true) ⊎ (c ≡ true)
+true_either true c h = inl refl
+true_either false c h = inr h
+
+pub meets_to : (t : Tree) (top : Key) (bound : ℕ) (o : Option Key) → meets (parent_of t) bound top o ≡ true → (k : Key) × (o ≡ Some k) × ((n : ℕ) × (ancestor t n k ≡ Some top))
+meets_to t top zero None h = absurd (let x : false ≡ true = h in cc)
+meets_to t top (suc bound) None h = absurd (let x : false ≡ true = h in cc)
+meets_to t top zero (Some k) h = (k, refl, (0, ap (λ (x : Key). Some x) (same_key-same k top h)))
+meets_to t top (suc bound) (Some k) h = elim (true_either (same_key k top) (meets (parent_of t) bound top (parent_of t k)) h) [
+  | inl e ↦ (k, refl, (0, ap (λ (x : Key). Some x) (same_key-same k top e)))
+  | inr e ↦ (let r : (p : Key) × (parent_of t k ≡ Some p) × ((n : ℕ) × (ancestor t n p ≡ Some top)) = meets_to t top bound (parent_of t k) e in
+      (k, refl, (suc r.2.0, ancestor_more t r.2.0 k r.0 top r.1 r.2.1)))
+]
+
+in_subtree_from : (t : Tree) (top k : Key) (n : ℕ) → ancestor t n k ≡ Some top → in_subtree t top k ≡ true
+in_subtree_from t top k n h =
+    let s : (m : ℕ) × (m ≤ count_by is_some t) × (ancestor t m k ≡ Some top) = shorten n n t k top (omega arith) h in
+    let few : count_by is_some t ≤ length t = count_by-le-length is_some t in
+    let le : s.0 ≤ count_by is_some t = s.1 in
+    meets_from t top (length t) s.0 k (omega arith) s.2
+
+in_subtree_to : (t : Tree) (top k : Key) → in_subtree t top k ≡ true → (n : ℕ) × (ancestor t n k ≡ Some top)
+in_subtree_to t top k h =
+    let r : (x : Key) × (Some k ≡ Some x) × ((n : ℕ) × (ancestor t n x ≡ Some top)) = meets_to t top (length t) (Some k) h in
+    (r.2.0, subst (λ x. ancestor t r.2.0 x ≡ Some top) (sym (same_Some k r.0 r.1)) r.2.1)
+
+-- a key is in the subtree exactly where some number of steps from it leads to the top
+pub in_subtree_is_below : (t : Tree) (top key : Key) → IsTrue (in_subtree t top key) ↔ ((n : ℕ) × (ancestor t n key ≡ Some top))
+in_subtree_is_below t top key = (in_subtree_to t top key, λ way. in_subtree_from t top key way.0 way.1)

@@ -1,0 +1,32 @@
+-- What contracts see of an open file.
+use Rattle.std.specs.Prelude.{ℕ, Bool, true, false, List, Option, Some, None, IsSome, Result, Ok, Err}
+use Rattle.std.proofs.lemmas.Bool.{false≢true}
+use Rattle.kf_core.specs.declared.refusal.Refusal.{Refusal}
+use Rattle.kf_files.specs.Files.{FileState}
+
+-- the hold that it was opened with, its post, the tag of its node, and what it keeps
+pub record Opened (Hold : Type 0) : Type 0 where
+  pub hold : Hold
+  pub post : ℕ
+  pub tag : ℕ
+  pub state : FileState
+
+-- the hold that stands in its place
+abbrev pub hold_in : {Hold : Type 0} (place : Option Hold) → IsSome place → Hold
+hold_in (Some hold) there = hold
+hold_in None there = absurd (false≢true there)
+
+-- the page's bytes, where they are a text
+abbrev pub text_in : Bool → List ℕ → Option (List ℕ)
+text_in true bytes = Some bytes
+text_in false bytes = None
+
+-- why an open was refused. None: it was not
+abbrev pub refusal_of : {Hold : Type 0} → Result (Opened Hold) (Hold × ℕ × Refusal) → Option Refusal
+refusal_of (Ok file) = None
+refusal_of (Err back) = Some back.2
+
+-- the hold after an open, in the file or given back
+abbrev pub hold_after : {Hold : Type 0} → Result (Opened Hold) (Hold × ℕ × Refusal) → Hold
+hold_after (Ok file) = file.hold
+hold_after (Err back) = back.0

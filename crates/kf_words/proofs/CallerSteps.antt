@@ -1,0 +1,356 @@
+-- Each step of a caller keeps the rule: its word changes with its view, and the world makes the event of the step.
+use Rattle.std.proofs.Common.{◌&&◌, ◌||◌, ◌≡◌, ◌≢◌, ℕ, zero, suc, ◌+◌, ◌-◌, ◌%◌, ◌^◌, ◌<◌, ◌≤◌, eqb, length, Bool, true, false, not, List, [], ◌∷◌, map, set, get_or, if◌then◌else◌, refl, sym, ap, ◌∙◌, subst, ⊎_elim, arith, length-set, get_or-set_same, get_or-set_other, eq-eqb, ne_eqb}
+use Rattle.std.specs.Prelude.{slice_get, Some, None, is_some}
+use Rattle.std.proofs.lemmas.Option.{slice_get_within}
+use mathlib.Core.Logic.{dite}
+use mathlib.Core.Option.{some}
+use native.Mathlib.Decide.{ℕ_discrete}
+use lib.ListN.{get_elem?}
+use lib.Seq.{map-set}
+use Rattle.kf_core.specs.declared.key.Key.{Key}
+use Rattle.kf_core.specs.declared.caller.Caller.{Caller}
+use Rattle.kf_core.specs.declared.slot.SlotState.{SlotState}
+use Rattle.kf_core.specs.declared.caller.Phase.{Phase}
+use Rattle.kf_core.specs.declared.caller.Phase.TheVariants.{Still, Turned, Running, Broken, Restored, Drained, Parted, Spent}
+use Rattle.kf_core.specs.declared.event.Event.{Event}
+use Rattle.kf_core.specs.declared.event.Event.TheVariants.{Enter, Leave, Break, Restore, Look, Undo, Part, Release}
+use Rattle.kf_core.specs.Bare.{BareWorld, IsLast, marks, marks_in}
+use Rattle.kf_core.specs.Marks.{are_live, are_doomed}
+use Rattle.kf_core.specs.Phases.{has_reference, is_waiting, may_release, is_spent}
+use Rattle.kf_core.specs.Safe.{Safe}
+use Rattle.kf_core.specs.Steps.{BareStep, with_phase, NoReference}
+use Rattle.kf_core.proofs.Keeping.{step_keeps}
+use Rattle.kf_core.proofs.Lists.{after_set}
+use Rattle.kf_core.proofs.SlotStates.{live_or_doomed}
+use Rattle.atomic_table.proofs.Lists.{at_set}
+use Rattle.kf_words.specs.declared.view.CallerView.{CallerView}
+use Rattle.kf_words.specs.declared.view.MasterView.{MasterView}
+use Rattle.kf_words.specs.Layout.{bit, keeps_out, is_drained, has_linked, holds_in, IsFree}
+use Rattle.kf_words.specs.Rule.{tally, uses, holds, users, holders, pins_in, ShowsMarks, ShowsHolds, StillHolds, hold_index, hold_word, last_key, caller, bare, Shows}
+use Rattle.kf_words.specs.Steps.{after_step, after_try, after_undo, after_leave, after_look, after_release, after_part, after_break, after_restore}
+use Rattle.kf_words.proofs.Bits.{bool_cases, live_shows, drained_shows, one_more, one_less, waiting_is, counted_unspent, not_spent, held_not_free, hold_less, linked_shows, count_shows}
+use Rattle.kf_words.proofs.Seating.{caller_at, at_caller, tally-set, tally≤, tally-one}
+use Rattle.kf_words.proofs.Answered.{try_enters, try_refused, look_hits, look_misses, part_gone, part_linked}
+
+module _ (words : List ℕ) (m : MasterView) (cs : List CallerView) (j : ℕ) (c : CallerView) (shows : Shows words m cs) (at : get_elem? cs j ≡ some c) (holding : c.phase ≢ Spent) where
+  abbrev slot : ℕ
+  slot = c.key.slot
+
+  abbrev word : ℕ
+  word = get_or words slot 0
+
+  abbrev hold : ℕ
+  hold = hold_word words m slot
+
+  abbrev world : BareWorld
+  world = bare m cs
+
+  there : slice_get world.callers j ≡ Some (caller c)
+  there = caller_at cs j c at
+
+  -- the slot of a caller that is not spent has the caller's node
+  last : IsLast world c.key.slot c.key.generation
+  last = shows.safe.held_last j c.key c.phase there holding
+
+  near : slot < length m.slots
+  near = slice_get_within m.slots slot last.0 last.1
+
+  known : marks world c.key ≡ last.0.marks
+  known = ap (λ o. marks_in o c.key.generation) last.1 ∙ ap (λ (b : Bool). if b then last.0.marks else None) (eq-eqb last.0.generation c.key.generation last.2)
+
+  in_its_slot : (x : CallerView) → x.key ≡ c.key → (eqb x.key.slot slot) ≡ true
+  in_its_slot x same = eq-eqb x.key.slot slot (ap (λ (y : Key). y.slot) same)
+
+  -- its hold is counted, so the slot is not free
+  held : 1 ≤ holders slot cs
+  held = tally-one (holds slot) cs j c at (ap (λ (b : Bool). b && not (is_spent c.phase)) (in_its_slot c refl) ∙ ap not (not_spent c.phase holding))
+
+  not_free : IsFree hold → ⊥
+  not_free free = held_not_free m.limit hold last.0 (holders slot cs + pins_in m.pinning slot) shows.few (shows.holds slot last.0 last.1) (let h = held in omega arith) free
+
+  users_few : users slot cs ≤ 65535
+  users_few =
+      let a = tally≤ (uses slot) (holds slot) cs (λ i x e u. and_not_spent (eqb x.key.slot slot) (has_reference x.phase) x.undo_due x.phase u refl (shows.tries i x e)) in
+      let b = (shows.holds slot last.0 last.1).1 in
+      let d = shows.few in
+      omega arith
+    where
+      and_not_spent : (s p t : Bool) (phase : Phase) → (s && (p || t)) ≡ true → has_reference phase ≡ p → (t ≡ true → phase ≡ Turned) → (s && not (is_spent phase)) ≡ true
+      and_not_spent false p t phase u e tries = absurd (let x : false ≡ true = u in cc)
+      and_not_spent true true t phase u e tries = ap not (counted_unspent phase e)
+      and_not_spent true false true phase u e tries = ap (λ (q : Phase). not (is_spent q)) (tries refl)
+      and_not_spent true false false phase u e tries = absurd (let x : false ≡ true = u in cc)
+
+  -- in another slot no_caller comes or goes
+  off : (k : ℕ) (x : CallerView) (b : Bool) → x.key.slot ≢ k → ((eqb x.key.slot k) && b) ≡ false
+  off k x b ne = ap (λ (a : Bool). a && b) (ne_eqb x.key.slot k ne)
+
+  module _ (c' : CallerView) (same : c'.key ≡ c.key) where
+    in_other : (p : ℕ → CallerView → Bool) (k : ℕ) → k ≢ slot → ((x : CallerView) → x.key.slot ≢ k → p k x ≡ false) → tally (p k) (set cs j c') ≡ tally (p k) cs
+    in_other p k apart none_there =
+        let r = tally-set (p k) cs j c c' at in
+        let a : bit (p k c) 1 ≡ 0 = ap (λ (b : Bool). bit b 1) (none_there c (λ e. apart (sym e))) in
+        let b : bit (p k c') 1 ≡ 0 = ap (λ (b : Bool). bit b 1) (none_there c' (λ e. apart (sym (sym (ap (λ (y : Key). y.slot) same) ∙ e)))) in
+        omega arith
+
+    in_this : (p : ℕ → CallerView → Bool) (b b' : Bool) → p slot c ≡ b → p slot c' ≡ b' → tally (p slot) (set cs j c') + bit b 1 ≡ tally (p slot) cs + bit b' 1
+    in_this p b b' was now =
+        let r = tally-set (p slot) cs j c c' at in
+        let x : bit (p slot c) 1 ≡ bit b 1 = ap (λ (y : Bool). bit y 1) was in
+        let y : bit (p slot c') 1 ≡ bit b' 1 = ap (λ (y : Bool). bit y 1) now in
+        omega arith
+
+    same_world : with_phase world j c.key c'.phase ≡ bare m (set cs j c')
+    same_world =
+        ap (λ (key : Key). with_phase world j key c'.phase) (sym same)
+        ∙ ap (λ (l : List Caller). let w : BareWorld = record { slots = m.slots; callers = l } in w) (sym (map-set caller cs j c'))
+
+    -- the caller's view changes with one word
+    moves : (words' : List ℕ) → length words' ≡ length words
+        → ((k : ℕ) (state : SlotState) → slice_get m.slots k ≡ Some state → ShowsMarks (get_or words' k 0) state.marks (users k (set cs j c')))
+        → ((k : ℕ) (state : SlotState) → slice_get m.slots k ≡ Some state → ShowsHolds m.limit (hold_word words' m k) state (holders k (set cs j c') + pins_in m.pinning k))
+        → (c'.undo_due ≡ true → c'.phase ≡ Turned)
+        → ((k found : ℕ) → StillHolds m.limit found (hold_word words m k) → StillHolds m.limit found (hold_word words' m k))
+        → ((k : ℕ) → k ≢ slot → k < length m.slots → (get_or words' k 0 ≡ get_or words k 0) × (hold_word words' m k ≡ hold_word words m k))
+        → (c'.phase ≡ Running → are_live last.0.marks ≡ true)
+        → (e : Event) → BareStep world e (with_phase world j c.key c'.phase) → Shows words' m (set cs j c')
+    moves words' wide marks' holds' undo_due still apart runs e event = record {
+      wide = wide ∙ shows.wide;
+      few = shows.few;
+      pinned = length-set cs j c' ∙ shows.pinned;
+      marks = marks';
+      holds = holds';
+      tries = λ i x e. ⊎_elim
+          (λ (h : (i ≡ j) × (c' ≡ x)). subst (λ (y : CallerView). y.undo_due ≡ true → y.phase ≡ Turned) h.1 undo_due)
+          (λ (h : (i ≢ j) × (get_elem? cs i ≡ some x)). shows.tries i x h.1)
+          (at_set cs j i c' x e);
+      loads = λ i load e. still load.slot load.word (shows.loads i load e);
+      fresh = λ k e. let f = shows.fresh k e in dite (ℕ_discrete k slot)
+          (λ its. absurd (not_free (subst (λ (x : ℕ). IsFree (hold_word words m x)) its f.2)))
+          (λ ne. let p = apart k ne f.0 in (f.0, p.0 ∙ f.1, subst IsFree (sym p.1) f.2));
+      looked = λ load state e hit its. let d = shows.looked load state e hit its in let k : ℕ = load.slot in (
+        d.0,
+        λ i there'. ⊎_elim
+            (λ (h : caller c' ≡ record { key = last_key k state; phase = Running }).
+            let key : c.key ≡ last_key k state = sym same ∙ ap (λ (x : Caller). x.key) h in
+            let lives = runs (ap (λ (x : Caller). x.phase) h) in
+            let both : Some last.0 ≡ Some state = sym last.1 ∙ ap (λ (x : Key). slice_get m.slots x.slot) key ∙ its in
+            let one : last.0 ≡ state = cc in
+            live_or_doomed state.marks (subst (λ (x : SlotState). are_live x.marks ≡ true) one lives) d.0)
+            (λ h. d.1 i h)
+            (after_set (map caller cs) j i (caller c') (record { key = last_key k state; phase = Running }) (subst (λ (l : List Caller). slice_get l i ≡ Some (record { key = last_key k state; phase = Running })) (map-set caller cs j c') there')),
+      );
+      safe = subst Safe same_world (step_keeps world e (with_phase world j c.key c'.phase) shows.safe event);
+    }
+
+    -- a step on the slot's active word
+    on_active_word : (new : ℕ) → ShowsMarks new last.0.marks (users slot (set cs j c')) → c'.phase ≢ Spent → (c'.undo_due ≡ true → c'.phase ≡ Turned) → (c'.phase ≡ Running → are_live last.0.marks ≡ true)
+        → (e : Event) → BareStep world e (with_phase world j c.key c'.phase) → Shows (set words slot new) m (set cs j c')
+    on_active_word new is holds' undo_due runs = moves (set words slot new) (length-set words slot new)
+        (λ k state its. dite (ℕ_discrete k slot)
+        (λ e.
+        let here : slice_get m.slots slot ≡ Some state = subst (λ (x : ℕ). slice_get m.slots x ≡ Some state) e its in
+        let both : Some last.0 ≡ Some state = sym last.1 ∙ here in
+        let one : last.0 ≡ state = cc in
+        let n = near in let wide = shows.wide in
+        subst (λ (x : ℕ). ShowsMarks (get_or (set words slot new) x 0) state.marks (users x (set cs j c'))) (sym e)
+        (subst (λ (x : ℕ). ShowsMarks x state.marks (users slot (set cs j c'))) (sym (get_or-set_same words slot new 0 (omega arith)))
+        (subst (λ (x : SlotState). ShowsMarks new x.marks (users slot (set cs j c'))) one is)))
+        (λ ne. subst (λ (n : ℕ). ShowsMarks n state.marks (users k (set cs j c'))) (sym (get_or-set_other words slot k new 0 ne))
+        (subst (λ (n : ℕ). ShowsMarks (get_or words k 0) state.marks n) (sym (in_other uses k ne (λ x. off k x (has_reference x.phase || x.undo_due)))) (shows.marks k state its))))
+        (λ k state its.
+        let n = near in
+        subst (λ (x : ℕ). ShowsHolds m.limit x state (holders k (set cs j c') + pins_in m.pinning k)) (sym (get_or-set_other words slot (hold_index m k) new 0 (λ e. omega arith)))
+        (subst (λ (x : ℕ). ShowsHolds m.limit (hold_word words m k) state (x + pins_in m.pinning k)) (sym (stays k)) (shows.holds k state its)))
+        undo_due
+        (λ k found s. let n = near in subst (λ (x : ℕ). StillHolds m.limit found x) (sym (get_or-set_other words slot (hold_index m k) new 0 (λ e. omega arith))) s)
+        (λ k ne short. let n = near in (get_or-set_other words slot k new 0 ne, get_or-set_other words slot (hold_index m k) new 0 (λ e. omega arith)))
+        runs
+      where
+        stays : (k : ℕ) → holders k (set cs j c') ≡ holders k cs
+        stays k = dite (ℕ_discrete k slot)
+            (λ e. subst (λ (x : ℕ). holders x (set cs j c') ≡ holders x cs) (sym e)
+            (let r = in_this holds true true (ap (λ (b : Bool). b && not (is_spent c.phase)) (in_its_slot c refl) ∙ ap not (not_spent c.phase holding)) (ap (λ (b : Bool). b && not (is_spent c'.phase)) (in_its_slot c' same) ∙ ap not (not_spent c'.phase holds')) in omega arith))
+            (λ ne. in_other holds k ne (λ x. off k x (not (is_spent x.phase))))
+
+    users_now : (b b' : Bool) → (has_reference c.phase || c.undo_due) ≡ b → (has_reference c'.phase || c'.undo_due) ≡ b' → users slot (set cs j c') + bit b 1 ≡ users slot cs + bit b' 1
+    users_now b b' was now = in_this uses b b' (ap (λ (s : Bool). s && (has_reference c.phase || c.undo_due)) (in_its_slot c refl) ∙ was) (ap (λ (s : Bool). s && (has_reference c'.phase || c'.undo_due)) (in_its_slot c' same) ∙ now)
+
+    adds : (has_reference c.phase || c.undo_due) ≡ false → (has_reference c'.phase || c'.undo_due) ≡ true → c'.phase ≢ Spent → (c'.undo_due ≡ true → c'.phase ≡ Turned) → (c'.phase ≡ Running → are_live last.0.marks ≡ true)
+        → (e : Event) → BareStep world e (with_phase world j c.key c'.phase) → Shows (set words slot ((word + 1) % 2 ^ 64)) m (set cs j c')
+    adds was now = let u = users_now false true was now in
+        on_active_word ((word + 1) % 2 ^ 64) (one_more word last.0.marks (users slot cs) (users slot (set cs j c')) users_few (omega arith) (shows.marks slot last.0 last.1))
+
+    drops : (has_reference c.phase || c.undo_due) ≡ true → (has_reference c'.phase || c'.undo_due) ≡ false → c'.phase ≢ Spent → (c'.undo_due ≡ true → c'.phase ≡ Turned) → (c'.phase ≡ Running → are_live last.0.marks ≡ true)
+        → (e : Event) → BareStep world e (with_phase world j c.key c'.phase) → Shows (set words slot ((word + (2 ^ 64 - 1)) % 2 ^ 64)) m (set cs j c')
+    drops was now = let u = users_now true false was now in
+        on_active_word ((word + (2 ^ 64 - 1)) % 2 ^ 64) (one_less word last.0.marks (users slot cs) (users slot (set cs j c')) users_few (omega arith) (shows.marks slot last.0 last.1))
+
+    sees : (has_reference c'.phase || c'.undo_due) ≡ (has_reference c.phase || c.undo_due) → c'.phase ≢ Spent → (c'.undo_due ≡ true → c'.phase ≡ Turned) → (c'.phase ≡ Running → are_live last.0.marks ≡ true)
+        → (e : Event) → BareStep world e (with_phase world j c.key c'.phase) → Shows (set words slot word) m (set cs j c')
+    sees as_was = let u = users_now (has_reference c.phase || c.undo_due) (has_reference c.phase || c.undo_due) refl as_was in
+        let even : users slot (set cs j c') ≡ users slot cs = omega arith in
+        on_active_word word (subst (λ (n : ℕ). ShowsMarks word last.0.marks n) (sym even) (shows.marks slot last.0 last.1))
+
+  -- the world stays where the caller's phase does
+  unmoved : with_phase world j c.key c.phase ≡ world
+  unmoved = ap (λ (l : List Caller). let w : BareWorld = record { slots = m.slots; callers = l } in w) (stays (map caller cs) j (caller c) there)
+    where
+      stays : (l : List Caller) (i : ℕ) (x : Caller) → slice_get l i ≡ Some x → set l i x ≡ l
+      stays [] i x e = refl
+      stays (y ∷ ys) zero x e = let is : Some y ≡ Some x = e in let same : x ≡ y = cc in ap (λ z. z ∷ ys) same
+      stays (y ∷ ys) (suc i) x e = ap (λ l. y ∷ l) (stays ys i x e)
+
+  not_running : (p : Phase) → is_waiting p ≡ true → p ≢ Running
+  not_running p e r = let x : is_waiting Running ≡ true = subst (λ (q : Phase). is_waiting q ≡ true) r e in cc
+
+  own_word : ShowsMarks word last.0.marks (users slot cs)
+  own_word = shows.marks slot last.0 last.1
+
+  pub try_owes : is_waiting c.phase ≡ true → c.undo_due ≡ false → Shows (set words slot ((word + 1) % 2 ^ 64)) m (set cs j (after_try word c))
+  try_owes waits settled =
+      let p = waiting_is c.phase waits in
+      let idle : (has_reference c.phase || c.undo_due) ≡ false = ap (λ (b : Bool). b || c.undo_due) p.1 ∙ settled in
+      let lives : are_live last.0.marks ≡ not (keeps_out word) = live_shows word last.0.marks (users slot cs) users_few own_word in
+      let lives' : are_live (marks world c.key) ≡ not (keeps_out word) = ap are_live known ∙ lives in
+      ⊎_elim
+      (λ (biased : keeps_out word ≡ true). subst (λ (x : CallerView). Shows (set words slot ((word + 1) % 2 ^ 64)) m (set cs j x)) (sym (try_refused word c biased))
+      (adds (after_step Turned true word c) refl idle refl (λ e. cc) (λ _. refl) (λ e. absurd (let x : Turned ≡ Running = e in cc)) (Enter j)
+      (c.key, c.phase, there, waits, ap (with_phase world j c.key) (sym (ap (λ (b : Bool). if b then Running else Turned) (lives' ∙ ap not biased))))))
+      (λ (free : keeps_out word ≡ false). subst (λ (x : CallerView). Shows (set words slot ((word + 1) % 2 ^ 64)) m (set cs j x)) (sym (try_enters word c free))
+      (adds (after_step Running false word c) refl idle refl (λ e. cc) (λ e. absurd (let x : false ≡ true = e in cc)) (λ _. lives ∙ ap not free) (Enter j)
+      (c.key, c.phase, there, waits, ap (with_phase world j c.key) (sym (ap (λ (b : Bool). if b then Running else Turned) (lives' ∙ ap not free))))))
+      (bool_cases (keeps_out word))
+
+  pub undo_owes : c.phase ≡ Turned → c.undo_due ≡ true → Shows (set words slot ((word + (2 ^ 64 - 1)) % 2 ^ 64)) m (set cs j (after_undo c))
+  undo_owes turned undo_due =
+      drops (after_undo c) refl (ap (λ (p : Phase). has_reference p || c.undo_due) turned ∙ undo_due) (ap (λ (p : Phase). has_reference p || false) turned) holding
+      (λ e. absurd (let x : false ≡ true = e in cc)) (λ e. absurd (let x : Turned ≡ Running = sym turned ∙ e in cc)) (Undo j) unmoved
+
+  pub leave_owes : has_reference c.phase ≡ true → Shows (set words slot ((word + (2 ^ 64 - 1)) % 2 ^ 64)) m (set cs j (after_leave word c))
+  leave_owes counted =
+      drops (after_leave word c) refl (ap (λ (b : Bool). b || c.undo_due) counted) refl (λ e. cc) (λ e. absurd (let x : false ≡ true = e in cc)) (λ e. absurd (let x : Still ≡ Running = e in cc))
+      (Leave j) (c.key, c.phase, there, counted, refl)
+
+  pub break_owes : c.phase ≡ Running → c.undo_due ≡ false → Shows (set words slot ((word + (2 ^ 64 - 1)) % 2 ^ 64)) m (set cs j (after_break word c))
+  break_owes runs settled =
+      drops (after_break word c) refl (ap (λ (p : Phase). has_reference p || c.undo_due) runs) refl (λ e. cc) (λ e. absurd (let x : false ≡ true = e in cc)) (λ e. absurd (let x : Broken ≡ Running = e in cc))
+      (Break j) (c.key, subst (λ (p : Phase). slice_get world.callers j ≡ Some (record { key = c.key; phase = p })) runs there, refl)
+
+  pub restore_owes : c.phase ≡ Broken → c.undo_due ≡ false → Shows (set words slot ((word + 1) % 2 ^ 64)) m (set cs j (after_restore word c))
+  restore_owes broke settled =
+      adds (after_restore word c) refl (ap (λ (p : Phase). has_reference p || c.undo_due) broke ∙ settled) refl (λ e. cc) (λ e. absurd (let x : false ≡ true = e in cc)) (λ e. absurd (let x : Restored ≡ Running = e in cc))
+      (Restore j) (c.key, subst (λ (p : Phase). slice_get world.callers j ≡ Some (record { key = c.key; phase = p })) broke there, refl)
+
+  none_counted : users slot cs ≡ 0 → NoReference world c.key
+  none_counted empty i phase is = no (has_reference phase) (λ counted.
+      let x = at_caller cs i (record { key = c.key; phase = phase }) is in
+      let y : CallerView = x.0 in
+      let key : y.key ≡ c.key = ap (λ (h : Caller). h.key) x.2 in
+      let its : y.phase ≡ phase = ap (λ (h : Caller). h.phase) x.2 in
+      let one = tally-one (uses slot) cs i y x.1 (ap (λ (b : Bool). b && (has_reference y.phase || y.undo_due)) (in_its_slot y key) ∙ ap (λ (p : Phase). has_reference p || y.undo_due) its ∙ ap (λ (b : Bool). b || y.undo_due) counted) in
+      omega arith)
+    where
+      no : (b : Bool) → (b ≡ true → ⊥) → b ≡ false
+      no true h = absurd (h refl)
+      no false h = refl
+
+  pub look_owes : is_waiting c.phase ≡ true → c.undo_due ≡ false → Shows (set words slot word) m (set cs j (after_look word c))
+  look_owes waits settled =
+      let p = waiting_is c.phase waits in
+      let idle : (has_reference c.phase || c.undo_due) ≡ false = ap (λ (b : Bool). b || c.undo_due) p.1 ∙ settled in
+      ⊎_elim
+      (λ (hit : is_drained word ≡ true).
+      let is = drained_shows word last.0.marks (users slot cs) users_few own_word hit in
+      subst (λ (x : CallerView). Shows (set words slot word) m (set cs j x)) (sym (look_hits word c hit))
+      (sees (after_step Drained false word c) refl (sym idle) (λ e. cc) (λ e. absurd (let x : false ≡ true = e in cc)) (λ e. absurd (let x : Drained ≡ Running = e in cc))
+      (Look j) (record { key = c.key; phase = c.phase; there = there; waits = waits; doomed = ap are_doomed known ∙ is.1; unused = none_counted is.0 }, refl)))
+      (λ (miss : is_drained word ≡ false). subst (λ (x : CallerView). Shows (set words slot word) m (set cs j x)) (sym (look_misses word c miss))
+      (sees (after_step c.phase c.undo_due word c) refl refl holding (λ e. absurd (let x : true ≡ false = sym e ∙ settled in cc)) (λ e. absurd (not_running c.phase waits e)) (Undo j) unmoved))
+      (bool_cases (is_drained word))
+
+  -- a step on the slot's hold word, of a caller that uses nothing
+  module _ (c' : CallerView) (same : c'.key ≡ c.key) (idle : (has_reference c.phase || c.undo_due) ≡ false) (idle' : (has_reference c'.phase || c'.undo_due) ≡ false) (settled' : c'.undo_due ≡ false) (runs' : c'.phase ≢ Running) where
+    uses_stay : (k : ℕ) → users k (set cs j c') ≡ users k cs
+    uses_stay k = dite (ℕ_discrete k slot)
+        (λ e. subst (λ (x : ℕ). users x (set cs j c') ≡ users x cs) (sym e) (let r = users_now c' same false false idle idle' in omega arith))
+        (λ ne. in_other c' same uses k ne (λ x. off k x (has_reference x.phase || x.undo_due)))
+
+    on_hold_word : (new : ℕ) → ShowsHolds m.limit new last.0 (holders slot (set cs j c') + pins_in m.pinning slot) → ((found : ℕ) → StillHolds m.limit found hold → StillHolds m.limit found new)
+        → (e : Event) → BareStep world e (with_phase world j c.key c'.phase) → Shows (set words (hold_index m slot) new) m (set cs j c')
+    on_hold_word new is still = moves c' same (set words (hold_index m slot) new) (length-set words (hold_index m slot) new)
+        (λ k state its.
+        let short = slice_get_within m.slots k state its in
+        subst (λ (n : ℕ). ShowsMarks n state.marks (users k (set cs j c'))) (sym (get_or-set_other words (hold_index m slot) k new 0 (λ e. omega arith)))
+        (subst (λ (n : ℕ). ShowsMarks (get_or words k 0) state.marks n) (sym (uses_stay k)) (shows.marks k state its)))
+        (λ k state its. dite (ℕ_discrete k slot)
+        (λ e.
+        let here : slice_get m.slots slot ≡ Some state = subst (λ (x : ℕ). slice_get m.slots x ≡ Some state) e its in
+        let both : Some last.0 ≡ Some state = sym last.1 ∙ here in
+        let one : last.0 ≡ state = cc in
+        subst (λ (x : ℕ). ShowsHolds m.limit (hold_word (set words (hold_index m slot) new) m x) state (holders x (set cs j c') + pins_in m.pinning x)) (sym e)
+        (subst (λ (x : ℕ). ShowsHolds m.limit x state (holders slot (set cs j c') + pins_in m.pinning slot)) (sym here_now)
+        (subst (λ (x : SlotState). ShowsHolds m.limit new x (holders slot (set cs j c') + pins_in m.pinning slot)) one is)))
+        (λ ne.
+        subst (λ (x : ℕ). ShowsHolds m.limit x state (holders k (set cs j c') + pins_in m.pinning k)) (sym (elsewhere k ne))
+        (subst (λ (x : ℕ). ShowsHolds m.limit (hold_word words m k) state (x + pins_in m.pinning k)) (sym (in_other c' same holds k ne (λ x. off k x (not (is_spent x.phase))))) (shows.holds k state its))))
+        (λ e. absurd (let x : true ≡ false = sym e ∙ settled' in cc))
+        (λ k found s. dite (ℕ_discrete k slot)
+        (λ e. subst (λ (x : ℕ). StillHolds m.limit found (hold_word (set words (hold_index m slot) new) m x)) (sym e)
+        (subst (λ (x : ℕ). StillHolds m.limit found x) (sym here_now) (still found (subst (λ (x : ℕ). StillHolds m.limit found (hold_word words m x)) e s))))
+        (λ ne. subst (λ (x : ℕ). StillHolds m.limit found x) (sym (elsewhere k ne)) s))
+        (λ k ne short. (get_or-set_other words (hold_index m slot) k new 0 (λ e. omega arith), elsewhere k ne))
+        (λ e. absurd (runs' e))
+      where
+        here_now : hold_word (set words (hold_index m slot) new) m slot ≡ new
+        here_now = let n = near in let wide = shows.wide in get_or-set_same words (hold_index m slot) new 0 (omega arith)
+
+        elsewhere : (k : ℕ) → k ≢ slot → hold_word (set words (hold_index m slot) new) m k ≡ hold_word words m k
+        elsewhere k ne = get_or-set_other words (hold_index m slot) (hold_index m k) new 0 (λ e. ne (omega arith))
+
+  in_holds : (p : Phase) → p ≢ Spent → (holds slot (after_step p false 0 c)) ≡ true
+  in_holds p unspent = ap (λ (b : Bool). b && not (is_spent p)) (in_its_slot c refl) ∙ ap not (not_spent p unspent)
+
+  pub release_owes : may_release c.phase ≡ true → c.undo_due ≡ false → hold < 18446744073709551616 → Shows (set words (hold_index m slot) ((hold + (2 ^ 64 - 1)) % 2 ^ 64)) m (set cs j (after_release hold c))
+  release_owes idles settled small =
+      let c' : CallerView = after_release hold c in
+      let r = in_this c' refl holds true false (in_holds c.phase holding) (ap (λ (b : Bool). b && false) (in_its_slot c refl)) in
+      let n : ℕ = holders slot cs + pins_in m.pinning slot in
+      let n' : ℕ = holders slot (set cs j c') + pins_in m.pinning slot in
+      let less : n ≡ n' + 1 = omega arith in
+      let is = hold_less m.limit hold last.0 n n' small less (shows.holds slot last.0 last.1) in
+      let now = count_shows m.limit ((hold + (2 ^ 64 - 1)) % 2 ^ 64) last.0 n' shows.few is in
+      let was = count_shows m.limit hold last.0 n shows.few (shows.holds slot last.0 last.1) in
+      on_hold_word c' refl (ap (λ (b : Bool). b || c.undo_due) (idle_uncounted c.phase idles) ∙ settled) refl refl (λ e. absurd (let x : Spent ≡ Running = e in cc))
+      ((hold + (2 ^ 64 - 1)) % 2 ^ 64) is
+      (λ found s. ((λ f. absurd (not_free (s.0 f))), (λ room. let q = s.1 room in let most : holds_in hold < m.limit = q in omega arith)))
+      (Release j) (c.key, c.phase, there, idles, refl)
+    where
+      idle_uncounted : (p : Phase) → may_release p ≡ true → has_reference p ≡ false
+      idle_uncounted Still e = refl
+      idle_uncounted Turned e = refl
+      idle_uncounted Running e = absurd (let x : false ≡ true = e in cc)
+      idle_uncounted Broken e = refl
+      idle_uncounted Restored e = absurd (let x : false ≡ true = e in cc)
+      idle_uncounted Drained e = refl
+      idle_uncounted Parted e = refl
+      idle_uncounted Spent e = refl
+
+  pub part_owes : c.phase ≡ Drained → c.undo_due ≡ false → Shows (set words (hold_index m slot) hold) m (set cs j (after_part hold c))
+  part_owes drains settled =
+      let idle : (has_reference c.phase || c.undo_due) ≡ false = ap (λ (p : Phase). has_reference p || c.undo_due) drains ∙ settled in
+      let linked_is = linked_shows m.limit hold last.0 (holders slot cs + pins_in m.pinning slot) shows.few (shows.holds slot last.0 last.1) in
+      ⊎_elim
+      (λ (yes : has_linked hold ≡ true). subst (λ (x : CallerView). Shows (set words (hold_index m slot) hold) m (set cs j x)) (sym (part_linked hold c yes))
+      (stays (after_step c.phase c.undo_due hold c) refl idle idle settled (λ e. absurd (let x : Drained ≡ Running = sym drains ∙ e in cc)) (in_holds c.phase holding) (Undo j) unmoved))
+      (λ (no : has_linked hold ≡ false). subst (λ (x : CallerView). Shows (set words (hold_index m slot) hold) m (set cs j x)) (sym (part_gone hold c no))
+      (stays (after_step Parted false hold c) refl idle refl refl (λ e. absurd (let x : Parted ≡ Running = e in cc)) (in_holds Parted (λ e. cc)) (Part j)
+      (record { key = c.key; there = subst (λ (p : Phase). slice_get world.callers j ≡ Some (record { key = c.key; phase = p })) drains there; gone = ap is_some known ∙ sym linked_is ∙ no }, refl)))
+      (bool_cases (has_linked hold))
+    where
+      stays : (c' : CallerView) (same : c'.key ≡ c.key) → (has_reference c.phase || c.undo_due) ≡ false → (has_reference c'.phase || c'.undo_due) ≡ false → c'.undo_due ≡ false → c'.phase ≢ Running → holds slot c' ≡ true
+          → (e : Event) → BareStep world e (with_phase world j c.key c'.phase) → Shows (set words (hold_index m slot) hold) m (set cs j c')
+      stays c' same idle idle' settled' runs' now =
+          let r = in_this c' same holds true true (in_holds c.phase holding) now in
+          let even : holders slot (set cs j c') ≡ holders slot cs = omega arith in
+          on_hold_word c' same idle idle' settled' runs' hold (subst (λ (n : ℕ). ShowsHolds m.limit hold last.0 (n + pins_in m.pinning slot)) (sym even) (shows.holds slot last.0 last.1)) (λ found s. s)

@@ -1,0 +1,10 @@
+pub mod Bits
+pub mod Seating
+pub mod Answered
+pub mod CallerSteps
+pub mod CallerAllowed
+pub mod MasterSteps
+pub mod MasterViews
+pub mod MasterAllowed
+pub mod Keys
+pub mod Opening

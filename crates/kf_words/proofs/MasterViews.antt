@@ -1,0 +1,123 @@
+-- The Master's steps that change no word keep the rule: a split, and loads.
+use Rattle.std.proofs.Common.{◌&&◌, ◌||◌, ◌≡◌, ℕ, ◌+◌, Bool, true, false, eqb, List, [], ◌∷◌, ◌++◌, map, get_or, refl, sym, ap, ◌∙◌, subst, ⊎_elim, arith, length-append, eq-eqb}
+use Rattle.std.specs.Prelude.{slice_get, Some, None}
+use Rattle.std.proofs.lemmas.Option.{same_Some, none-some}
+use mathlib.Core.List.{map-append}
+use Rattle.atomic_table.proofs.Lists.{at_snoc}
+use Rattle.kf_core.specs.declared.caller.Caller.{Caller}
+use Rattle.kf_core.specs.declared.slot.SlotState.{SlotState}
+use Rattle.kf_core.specs.declared.caller.Phase.{Phase}
+use Rattle.kf_core.specs.declared.caller.Phase.TheVariants.{Still, Running, Parted}
+use Rattle.kf_core.specs.Bare.{BareWorld}
+use Rattle.kf_core.specs.Marks.{are_doomed}
+use Rattle.kf_core.specs.Phases.{has_reference, saw_drain}
+use Rattle.kf_core.specs.Safe.{Safe, NoneRunning}
+use Rattle.kf_core.specs.Steps as core
+use Rattle.kf_core.proofs.Lists.{after_push}
+use Rattle.kf_core.proofs.Keeping.{caller_keeps}
+use Rattle.kf_words.specs.declared.view.CallerView.{CallerView}
+use Rattle.kf_words.specs.declared.view.MasterView.{MasterView}
+use Rattle.kf_words.specs.declared.view.Load.{Load}
+use Rattle.kf_words.specs.Layout.{bit, is_drained}
+use Rattle.kf_words.specs.Rule.{uses, holds, users, holders, pins_in, ShowsMarks, ShowsHolds, StillHolds, hold_word, last_key, caller, bare, Shows}
+use Rattle.kf_words.specs.Steps.{on_active, after_split, new_hold, with_look}
+use Rattle.kf_words.proofs.Bits.{drained_shows}
+use Rattle.kf_words.proofs.Seating.{at_caller, tally-push, tally-one}
+use Rattle.kf_words.proofs.MasterSteps.{users_few}
+
+module _ (words : List ℕ) (m : MasterView) (cs : List CallerView) (shows : Shows words m cs) where
+  -- the pin goes to a new seat
+  pub give : (slot : ℕ) (state : SlotState) → slice_get m.slots slot ≡ Some state → m.pinning ≡ Some slot → Shows words (after_split m) (cs ++ new_hold (last_key slot state) ∷ [])
+  give slot state its pins = record {
+    wide = shows.wide;
+    few = shows.few;
+    pinned = (let a = length-append cs (new_hold (last_key slot state) ∷ []) in let b = shows.pinned in omega arith);
+    marks = λ k y at. subst (λ (n : ℕ). ShowsMarks (get_or words k 0) y.marks n) (sym (no_user k)) (shows.marks k y at);
+    holds = λ k y at. subst (λ (n : ℕ). ShowsHolds m.limit (hold_word words m k) y n) (sym (same_holds k)) (shows.holds k y at);
+    tries = λ i y e. ⊎_elim (λ old. shows.tries i y old) (λ (new : new_hold (last_key slot state) ≡ y). λ t. absurd (let a : false ≡ true = ap (λ (z : CallerView). z.undo_due) new ∙ t in cc)) (at_snoc cs (new_hold (last_key slot state)) y i e);
+    loads = shows.loads;
+    fresh = shows.fresh;
+    looked = λ load y e hit at. let d = shows.looked load y e hit at in (d.0, λ c is. still_none load.slot y d.1 c is);
+    safe = subst Safe (ap (λ (l : List Caller). let w : BareWorld = record { slots = m.slots; callers = l } in w) (sym (map-append caller cs (new_hold (last_key slot state) ∷ []))))
+        (caller_keeps (bare m cs) (core.with_caller (bare m cs) (last_key slot state)).callers (last_key slot state) Still shows.safe
+        (λ d y h. after_push (map caller cs) d (caller (new_hold (last_key slot state))) y h)
+        (λ e. absurd (let x : Still ≡ Running = e in cc))
+        (λ e. absurd (let x : saw_drain Still ≡ true = e in cc))
+        (λ e. absurd (let x : saw_drain Still ≡ true = e in cc))
+        (λ e. absurd (let x : Still ≡ Parted = e in cc))
+        (λ _. (state, its, refl)));
+  }
+    where
+      c : CallerView
+      c = new_hold (last_key slot state)
+
+      off : (b : Bool) → bit (b && false) 1 ≡ 0
+      off true = refl
+      off false = refl
+
+      no_user : (k : ℕ) → users k (cs ++ new_hold (last_key slot state) ∷ []) ≡ users k cs
+      no_user k = let a = tally-push (uses k) cs (new_hold (last_key slot state)) in let b : bit (uses k (new_hold (last_key slot state))) 1 ≡ 0 = off (eqb slot k) in omega arith
+
+      one_of : (b : Bool) → bit (b && true) 1 ≡ bit b 1
+      one_of true = refl
+      one_of false = refl
+
+      same_holds : (k : ℕ) → holders k (cs ++ new_hold (last_key slot state) ∷ []) + pins_in None k ≡ holders k cs + pins_in m.pinning k
+      same_holds k =
+          let a = tally-push (holds k) cs (new_hold (last_key slot state)) in
+          let b : bit (holds k (new_hold (last_key slot state))) 1 ≡ bit (eqb slot k) 1 = one_of (eqb slot k) in
+          let d : pins_in m.pinning k ≡ bit (eqb slot k) 1 = ap (λ o. pins_in o k) pins in
+          omega arith
+
+      still_none : (k : ℕ) (y : SlotState) → NoneRunning (bare m cs) (last_key k y) → NoneRunning (bare (after_split m) (cs ++ new_hold (last_key slot state) ∷ [])) (last_key k y)
+      still_none k y was i is =
+          ⊎_elim
+          (λ (new : caller (new_hold (last_key slot state)) ≡ record { key = last_key k y; phase = Running }). absurd (let a : Still ≡ Running = ap (λ (z : Caller). z.phase) new in cc))
+          (λ old. was i old)
+          (after_push (map caller cs) i (caller (new_hold (last_key slot state))) (record { key = last_key k y; phase = Running })
+          (subst (λ (l : List Caller). slice_get l i ≡ Some (record { key = last_key k y; phase = Running })) (map-append caller cs (new_hold (last_key slot state) ∷ [])) is))
+
+  -- a load of a hold word, and one of an active word
+  pub load_kept : (k : ℕ) → Shows words (record (on_active m) { loads = m.loads ++ record { slot = k; word = hold_word words m k } ∷ [] }) cs
+  load_kept k = record {
+    wide = shows.wide;
+    few = shows.few;
+    pinned = shows.pinned;
+    marks = shows.marks;
+    holds = shows.holds;
+    tries = shows.tries;
+    loads = λ i load e. ⊎_elim
+        (λ (new : (record { slot = k; word = hold_word words m k }) ≡ load). subst (λ (x : Load). StillHolds m.limit x.word (hold_word words m x.slot)) new ((λ f. f), (λ r. r)))
+        (λ old. shows.loads i load old)
+        (after_push m.loads i (record { slot = k; word = hold_word words m k }) load e);
+    fresh = λ i e. absurd (none-some i e);
+    looked = λ load x e hit at. absurd (none-some load e);
+    safe = shows.safe;
+  }
+
+  pub look_kept : (slot : ℕ) → Shows words (with_look slot (get_or words slot 0) m) cs
+  look_kept slot = record {
+    wide = shows.wide;
+    few = shows.few;
+    pinned = shows.pinned;
+    marks = shows.marks;
+    holds = shows.holds;
+    tries = shows.tries;
+    loads = shows.loads;
+    fresh = λ i e. absurd (none-some i e);
+    looked = λ load x e hit at. subst
+        (λ (y : Load). is_drained y.word ≡ true → slice_get m.slots y.slot ≡ Some x → (are_doomed x.marks ≡ true) × NoneRunning (bare m cs) (last_key y.slot x))
+        (same_Some _ _ e)
+        (λ found here. let s = drained_shows (get_or words slot 0) x.marks (users slot cs) (users_few words m cs shows slot x here) (shows.marks slot x here) found in (s.1, nobody_runs slot x s.0))
+        hit at;
+    safe = shows.safe;
+  }
+    where
+      nobody_runs : (i : ℕ) (x : SlotState) → users i cs ≡ 0 → NoneRunning (bare m cs) (last_key i x)
+      nobody_runs i x empty c there =
+          let y = at_caller cs c (record { key = last_key i x; phase = Running }) there in
+          let z : CallerView = y.0 in
+          let its_slot : z.key.slot ≡ i = ap (λ (h : Caller). h.key.slot) y.2 in
+          let its_phase : z.phase ≡ Running = ap (λ (h : Caller). h.phase) y.2 in
+          let one = tally-one (uses i) cs c z y.1 (ap (λ (b : Bool). b && (has_reference z.phase || z.undo_due)) (eq-eqb z.key.slot i its_slot) ∙ ap (λ (p : Phase). has_reference p || z.undo_due) its_phase) in
+          omega arith

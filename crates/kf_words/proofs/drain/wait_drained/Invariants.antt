@@ -1,0 +1,5 @@
+use Rattle.kf_words.specs.Callers.{IsSameSeat, IsAtRest, handle_of, view_of}
+use Rattle.kf_words.proofs.drain.wait_drained.Given as goal
+
+abbrev pub invariant-loop : goal.invariant-loop
+invariant-loop g l = record { same : IsSameSeat (handle_of l.initial.seat) (handle_of l.seat); waits : IsAtRest (view_of l.seat) }

@@ -1,0 +1,55 @@
+use Rattle.std.proofs.Common.{◌≡◌, List, length, length-set, true, refl, arith, sym, ap, ◌∙◌, subst}
+use Rattle.std.specs.Prelude.{slice_get, Some, None, is_some}
+use Rattle.kf_core.specs.declared.key.Key.{Key}
+use Rattle.kf_core.specs.declared.slot.SlotState.{SlotState}
+use Rattle.kf_words.specs.declared.view.MasterView.{MasterView}
+use Rattle.kf_words.specs.Nodes.{MasterState, master_view, marks_of, slots_with, IsLastKey}
+use Rattle.kf_words.proofs.Keys.{linked_state, last_of_linked, last_within, slots_unlinked}
+use Rattle.kf_words.proofs.master.Master.unlink.Goals as goal
+
+pub unlink-requires-clause-marks : goal.unlink-requires-clause-marks
+unlink-requires-clause-marks c =
+    let key : Key = c.key-key.result in
+    let m : MasterView = c.args.self.now.view in
+    let linked : is_some (marks_of m key) ≡ true = subst (λ (k : Key). is_some (marks_of m k) ≡ true) (sym c.key-key.ensures) c.requires.linked in
+    let x = linked_state m key linked in
+    let same : (master_view c.look_over.new.self).slots ≡ m.slots = ap (λ (y : MasterView). y.slots) c.look_over.ensures.view ∙ ap (λ (s : MasterState). s.view.slots) c.self.view_is in
+    (x.0, (record { generation = key.generation; marks = Some x.0 }, ap (λ (l : List SlotState). slice_get l key.slot) same ∙ x.1, refl))
+
+pub index_mut-requires : goal.index_mut-requires
+index_mut-requires c =
+    let key : Key = c.key-key.result in
+    let m : MasterView = c.args.self.now.view in
+    let linked : is_some (marks_of m key) ≡ true = subst (λ (k : Key). is_some (marks_of m k) ≡ true) (sym c.key-key.ensures) c.requires.linked in
+    let near = last_within m (master_view c.self.inside.steps) key (last_of_linked m key linked) (ap (λ (s : MasterState). s.view.slots) c.self.view_is) in
+    let long = ap (λ (l : List SlotState). length l) c.self.invariant.same_slots in
+    omega (arith, c.self.inside.slots.ok.0)
+
+pub invariant_of-self-2 : goal.invariant_of-self-2
+invariant_of-self-2 c =
+    let key : Key = c.key-key.result in
+    let m : MasterView = c.args.self.now.view in
+    let own : MasterView = master_view c.self.inside.steps in
+    let linked : is_some (marks_of m key) ≡ true = subst (λ (k : Key). is_some (marks_of m k) ≡ true) (sym c.key-key.ensures) c.requires.linked in
+    let last : IsLastKey own key = subst (λ (y : MasterView). IsLastKey y key) (sym (ap (λ (s : MasterState). s.view) c.self.view_is)) (last_of_linked m key linked) in
+    let same : (master_view c.look_over.new.self).slots ≡ own.slots = ap (λ (y : MasterView). y.slots) c.look_over.ensures.view in
+    let long = length-set c.self.inside.slots.items key.slot (record { generation = key.generation; marks = None }) in
+    let root = c.self.invariant.root in
+    let few = c.self.invariant.few in
+    let all = c.self.invariant.all_nodes in
+    record {
+      root = omega arith;
+      few = omega arith;
+      same_slots = ap (λ (y : MasterView). y.slots) c.unlink.ensures.view ∙ slots_unlinked own (master_view c.look_over.new.self) key last same ∙ ap (λ (l : List SlotState). slots_with l key None) c.self.invariant.same_slots;
+      same_limit = ap (λ (y : MasterView). y.limit) c.unlink.ensures.view ∙ ap (λ (y : MasterView). y.limit) c.look_over.ensures.view ∙ c.self.invariant.same_limit;
+      no_pin = ap (λ (y : MasterView). y.pinning) c.unlink.ensures.view ∙ ap (λ (y : MasterView). y.pinning) c.look_over.ensures.view ∙ c.self.invariant.no_pin;
+      all_nodes = all ∙ sym long;
+    }
+
+pub returns-clause-slots : goal.returns-clause-slots
+returns-clause-slots c =
+    let key : Key = c.key-key.result in
+    let m : MasterView = c.args.self.now.view in
+    let linked : is_some (marks_of m key) ≡ true = subst (λ (k : Key). is_some (marks_of m k) ≡ true) (sym c.key-key.ensures) c.requires.linked in
+    let same : (master_view c.look_over.new.self).slots ≡ m.slots = ap (λ (y : MasterView). y.slots) c.look_over.ensures.view ∙ ap (λ (s : MasterState). s.view.slots) c.self.view_is in
+    ap (λ (y : MasterView). y.slots) c.unlink.ensures.view ∙ slots_unlinked m (master_view c.look_over.new.self) key (last_of_linked m key linked) same ∙ ap (λ (k : Key). slots_with m.slots k None) c.key-key.ensures

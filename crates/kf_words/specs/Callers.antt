@@ -1,0 +1,115 @@
+-- What contracts see of a caller's seat, and what each call tells of it.
+use Rattle.std.specs.Prelude.{◌≡◌, ℕ, ◌+◌, Bool, true, false}
+use Rattle.atomic_table.specs.Seated.{TableId}
+use Rattle.kf_core.specs.declared.key.Key.{Key}
+use Rattle.kf_core.specs.declared.key.Node.{Node}
+use Rattle.kf_core.specs.declared.caller.Phase.{Phase}
+use Rattle.kf_core.specs.declared.caller.Phase.TheVariants.{Still, Turned, Running, Broken, Restored, Drained, Parted, Spent}
+use Rattle.kf_core.specs.Phases.{has_reference, is_waiting}
+use Rattle.kf_words.specs.declared.seat.CallerSeat.{CallerSeat}
+use Rattle.kf_words.specs.declared.view.CallerView.{CallerView}
+use Rattle.kf_words.specs.Layout.{keeps_out, is_drained, has_linked}
+use Rattle.kf_words.specs.Steps.{caller_of}
+
+pub record Handle : Type 0 where
+  pub table : TableId  -- which table of words
+  pub seat : ℕ  -- which seat there
+  pub key : Key
+  pub node : Node  -- what was born with the key
+  pub phase : Phase
+  pub steps : ℕ  -- how many word steps it has made
+  pub found : ℕ  -- the word that its last step found, the second step of a refused try left out
+  pub undo_due : Bool  -- it is between the two steps of a refused try, as no hold, call or receipt is
+
+-- what tells one caller from all others
+pub record SeatId : Type 0 where
+  pub table : TableId
+  pub seat : ℕ
+  pub node : Node
+
+abbrev pub id_of : Handle → SeatId
+id_of h = record { table = h.table; seat = h.seat; node = h.node }
+
+abbrev pub view_of : CallerSeat → CallerView
+view_of s = caller_of s.token.me.0
+
+abbrev pub handle_of : CallerSeat → Handle
+handle_of s = record {
+  table = s.token.table_id;
+  seat = s.token.id;
+  key = (view_of s).key;
+  node = s.node;
+  phase = (view_of s).phase;
+  steps = (view_of s).steps;
+  found = (view_of s).found;
+  undo_due = (view_of s).undo_due;
+}
+
+pub record IsSameSeat (old new : Handle) : Type 0 where
+  pub table : new.table ≡ old.table
+  pub seat : new.seat ≡ old.seat
+  pub key : new.key ≡ old.key
+  pub node : new.node ≡ old.node
+
+-- the phases of a call
+abbrev pub is_in_call : Phase → Bool
+is_in_call Still = false
+is_in_call Turned = false
+is_in_call Running = true
+is_in_call Broken = true
+is_in_call Restored = true
+is_in_call Drained = false
+is_in_call Parted = false
+is_in_call Spent = false
+
+-- no reference, and no try to undo
+abbrev pub IsAtRest : CallerView → Type 0
+IsAtRest c = (is_waiting c.phase ≡ true) × (c.undo_due ≡ false)
+
+-- a reference, and no try to undo
+abbrev pub HasReference : CallerView → Type 0
+HasReference c = (has_reference c.phase ≡ true) × (c.undo_due ≡ false)
+
+-- the seat is in this phase, and has no try to undo
+abbrev pub IsIn : Phase → CallerView → Type 0
+IsIn phase c = (c.phase ≡ phase) × (c.undo_due ≡ false)
+
+-- its one step found a word that lets it in
+abbrev pub Entered : Handle → Handle → Type 0
+Entered before after = (after.phase ≡ Running) × (after.steps ≡ before.steps + 1) × (keeps_out after.found ≡ false)
+
+-- its try found a word that keeps it out, and a second step undid the try
+abbrev pub WasTurned : Handle → Handle → Type 0
+WasTurned before after = (after.phase ≡ Turned) × (after.steps ≡ before.steps + 2) × (keeps_out after.found ≡ true)
+
+-- its one step found the word drained
+abbrev pub SawDrained : Handle → Handle → Type 0
+SawDrained before after = (after.phase ≡ Drained) × (after.steps ≡ before.steps + 1) × (is_drained after.found ≡ true)
+
+-- its one step found another word
+abbrev pub SawUse : Handle → Handle → Type 0
+SawUse before after = (after.phase ≡ before.phase) × (after.steps ≡ before.steps + 1) × (is_drained after.found ≡ false)
+
+-- one step ended the call
+abbrev pub WasLeft : Handle → Handle → Type 0
+WasLeft before after = (after.phase ≡ Still) × (after.steps ≡ before.steps + 1)
+
+-- one step gave the reference up inside the call
+abbrev pub WasBroken : Handle → Handle → Type 0
+WasBroken before after = (after.phase ≡ Broken) × (after.steps ≡ before.steps + 1)
+
+-- one step took a reference again
+abbrev pub WasRestored : Handle → Handle → Type 0
+WasRestored before after = (after.phase ≡ Restored) × (after.steps ≡ before.steps + 1)
+
+-- its one step found no node linked
+abbrev pub SawParted : Handle → Handle → Type 0
+SawParted before after = (after.phase ≡ Parted) × (after.steps ≡ before.steps + 1) × (has_linked after.found ≡ false)
+
+-- its one step found the node linked
+abbrev pub SawLinked : Handle → Handle → Type 0
+SawLinked before after = (after.phase ≡ before.phase) × (after.steps ≡ before.steps + 1) × (has_linked after.found ≡ true)
+
+-- one step gave the slot back
+abbrev pub WasReleased : Handle → Handle → Type 0
+WasReleased before after = (after.phase ≡ Spent) × (after.steps ≡ before.steps + 1)

@@ -1,0 +1,5 @@
+pub mod Layout
+pub mod Rule
+pub mod Steps
+pub mod Callers
+pub mod Nodes

@@ -1,0 +1,178 @@
+-- What contracts see of the Master, and what each of its calls tells.
+use Rattle.std.specs.Prelude.{◌≡◌, ◌≤◌, ◌<◌, ◌↔◌, ℕ, ◌+◌, Bool, true, false, List, [], ◌∷◌, length, Option, None, Some, slice_get, slice_set, IsTrue}
+use Rattle.std.specs.Option.{option_map}
+use Rattle.atomic_table.specs.Seated.{TableId}
+use Rattle.kf_core.specs.declared.key.Key.{Key}
+use Rattle.kf_core.specs.declared.key.Node.{Node}
+use Rattle.kf_core.specs.declared.caller.Phase.TheVariants.{Still}
+use Rattle.kf_core.specs.declared.refusal.Refusal.{Refusal}
+use Rattle.kf_core.specs.declared.refusal.Refusal.TheVariants.{NoEntry, NoMemory, Access, Busy, Exists, NoDevice, NotDir, IsDir, Invalid, TooManyHolds, NoSpace, NameTooLong}
+use Rattle.kf_core.specs.declared.slot.Marks.{Marks}
+use Rattle.kf_core.specs.declared.slot.SlotState.{SlotState}
+use Rattle.kf_core.specs.Bare.{marks_in}
+use Rattle.kf_words.specs.declared.master_seat.MasterSeat.{MasterSeat}
+use Rattle.kf_words.specs.declared.view.Load.{Load}
+use Rattle.kf_words.specs.declared.view.MasterView.{MasterView}
+use Rattle.kf_words.specs.Layout.{is_drained, holds_in, IsFree, HasRoom}
+use Rattle.kf_words.specs.Steps.{master_of, with_load, with_pin, without_pin, after_split, with_look, without_node}
+use Rattle.kf_words.specs.Callers.{Handle}
+
+-- the Master's table, its view, and by slot the node that was born there last
+pub record MasterState : Type 0 where
+  pub table : TableId
+  pub view : MasterView
+  pub nodes : List Node
+
+abbrev pub master_view : MasterSeat → MasterView
+master_view s = master_of s.token.me.0
+
+-- the marks of a node, where it is linked
+abbrev pub marks_of : MasterView → Key → Option Marks
+marks_of m key = marks_in (slice_get m.slots key.slot) key.generation
+
+-- the slots, where that of the key has its generation and these marks
+abbrev pub slots_with : List SlotState → Key → Option Marks → List SlotState
+slots_with slots key marks = slice_set slots key.slot (record { generation = key.generation; marks = marks })
+
+-- the same table, and nothing about nodes changed
+pub record KeepsNodes (old new : MasterState) : Type 0 where
+  pub table : new.table ≡ old.table
+  pub nodes : new.nodes ≡ old.nodes
+  pub slots : new.view.slots ≡ old.view.slots
+
+-- a load of the slot's hold word, since the Master's last other step on a hold word, found such a word
+abbrev pub Found : (ℕ → Type 0) → MasterView → ℕ → Type 0
+Found Such m slot = (i : ℕ) × (load : Load) × (slice_get m.loads i ≡ Some load) × (load.slot ≡ slot) × Such load.word
+
+abbrev pub FoundFree : MasterView → ℕ → Type 0
+FoundFree m slot = Found IsFree m slot
+
+abbrev pub FoundRoom : MasterView → ℕ → Type 0
+FoundRoom m slot = Found (HasRoom m.limit) m slot
+
+abbrev pub FoundFull : MasterView → ℕ → Type 0
+FoundFull m slot = Found (λ word. m.limit ≤ holds_in word) m slot
+
+-- no node is linked in the slot, and the key is its next
+pub record IsVacant (m : MasterView) (key : Key) : Type 0 where
+  pub last : ℕ
+  pub vacant : slice_get m.slots key.slot ≡ Some (record { generation = last; marks = None })
+  pub next : key.generation ≡ last + 1
+
+-- no node is linked in the slot, and a generation is left
+abbrev pub HasNext : MasterView → ℕ → Type 0
+HasNext m slot = (last : ℕ) × (slice_get m.slots slot ≡ Some (record { generation = last; marks = None })) × (last < 4294967295)
+
+-- a node may be born with this key: its slot is vacant, and was found free
+pub record MayBear (m : MasterView) (key : Key) : Type 0 where
+  pub vacant : IsVacant m key
+  pub free : FoundFree m key.slot
+
+-- loads of the slots from this one up, none of which found a free slot
+abbrev pub NoneFree : ℕ → List Load → Type 0
+NoneFree slot [] = Unit {0}
+NoneFree slot (load ∷ loads) = (load.slot ≡ slot) × (¬ IsFree load.word) × NoneFree (slot + 1) loads
+
+abbrev pub with_loads : List Load → MasterView → MasterView
+with_loads [] m = m
+with_loads (load ∷ loads) m = with_loads loads (with_load load.slot load.word m)
+
+-- the slots from 1 up were loaded, and this one is the first that was found free
+pub record FoundFirst (m : MasterView) (slot : ℕ) (m' : MasterView) : Type 0 where
+  pub before : List Load
+  pub word : ℕ
+  pub none_before : NoneFree 1 before
+  pub here : slot ≡ length before + 1
+  pub free : IsFree word
+  pub view : m' ≡ with_load slot word (with_loads before m)
+
+-- the slots from 1 up were loaded, and none was found free
+pub record FoundNone (m : MasterView) (m' : MasterView) : Type 0 where
+  pub loads : List Load
+  pub none_free : NoneFree 1 loads
+  pub all : length loads + 1 ≡ length m.slots
+  pub view : m' ≡ with_loads loads m
+
+-- what a search for a free slot answers
+abbrev pub Searched : MasterView → Option ℕ → MasterView → Type 0
+Searched m None m' = FoundNone m m'
+Searched m (Some slot) m' = FoundFirst m slot m'
+
+-- one load told whether the slot has room
+abbrev pub RoomFound : MasterView → ℕ → Bool → MasterView → Type 0
+RoomFound m slot answer m' = (found : ℕ) × (m' ≡ with_load slot found m) × (IsTrue answer ↔ HasRoom m.limit found)
+
+-- one load found room, and the hold that was then counted went to a new seat
+abbrev pub WasPinned : MasterView → ℕ → MasterView → Type 0
+WasPinned m slot m' = (found : ℕ) × HasRoom m.limit found × (m' ≡ after_split (with_pin slot (with_load slot found m)))
+
+-- one load found as many holds as there may be
+abbrev pub WasFull : MasterView → ℕ → MasterView → Type 0
+WasFull m slot m' = (found : ℕ) × (m.limit ≤ holds_in found) × (m' ≡ with_load slot found m)
+
+-- one load found room, and the hold that was then counted was taken back
+abbrev pub WasUnpinned : MasterView → ℕ → MasterView → Type 0
+WasUnpinned m slot m' = (found : ℕ) × HasRoom m.limit found × (m' ≡ without_pin slot (with_pin slot (with_load slot found m)))
+
+abbrev pub PinRefused : MasterView → ℕ → Refusal → MasterView → Type 0
+PinRefused m slot TooManyHolds m' = WasFull m slot m'
+PinRefused m slot NoMemory m' = WasUnpinned m slot m'
+PinRefused m slot NoEntry m' = ⊥
+PinRefused m slot Access m' = ⊥
+PinRefused m slot Busy m' = ⊥
+PinRefused m slot Exists m' = ⊥
+PinRefused m slot NoDevice m' = ⊥
+PinRefused m slot NotDir m' = ⊥
+PinRefused m slot IsDir m' = ⊥
+PinRefused m slot Invalid m' = ⊥
+PinRefused m slot NoSpace m' = ⊥
+PinRefused m slot NameTooLong m' = ⊥
+
+-- the key has the last generation of its slot
+abbrev pub IsLastKey : MasterView → Key → Type 0
+IsLastKey m key = option_map (λ (state : SlotState). state.generation) (slice_get m.slots key.slot) ≡ Some key.generation
+
+-- before any step where the key is not the last of its slot, and else as a pin is
+abbrev pub HeldPinRefused : MasterView → Key → Refusal → MasterView → Type 0
+HeldPinRefused m key NoEntry m' = (¬ IsLastKey m key) × (m' ≡ m)
+HeldPinRefused m key TooManyHolds m' = IsLastKey m key × WasFull m key.slot m'
+HeldPinRefused m key NoMemory m' = IsLastKey m key × WasUnpinned m key.slot m'
+HeldPinRefused m key Access m' = ⊥
+HeldPinRefused m key Busy m' = ⊥
+HeldPinRefused m key Exists m' = ⊥
+HeldPinRefused m key NoDevice m' = ⊥
+HeldPinRefused m key NotDir m' = ⊥
+HeldPinRefused m key IsDir m' = ⊥
+HeldPinRefused m key Invalid m' = ⊥
+HeldPinRefused m key NoSpace m' = ⊥
+HeldPinRefused m key NameTooLong m' = ⊥
+
+-- a new hold of this key, which has made no step
+pub record IsNewHold (m : MasterState) (key : Key) (hold : Handle) : Type 0 where
+  pub table : hold.table ≡ m.table
+  pub key_is : hold.key ≡ key
+  pub node : slice_get m.nodes key.slot ≡ Some hold.node
+  pub still : hold.phase ≡ Still
+  pub steps : hold.steps ≡ 0
+
+-- true exactly where one load of the active word found it drained; a second step then took the node out
+abbrev pub UnlinkAnswer : MasterView → ℕ → Bool → MasterView → Type 0
+UnlinkAnswer m slot true m' = (found : ℕ) × (is_drained found ≡ true) × (m' ≡ without_node slot (with_look slot found m))
+UnlinkAnswer m slot false m' = (found : ℕ) × (is_drained found ≡ false) × (m' ≡ with_look slot found m)
+
+-- the slot has a node with these marks
+abbrev pub HasMarks : MasterView → ℕ → Marks → Type 0
+HasMarks m slot x = (state : SlotState) × (slice_get m.slots slot ≡ Some state) × (state.marks ≡ Some x)
+
+-- the last step found the slot's active word drained
+abbrev pub HasLooked : MasterView → ℕ → Type 0
+HasLooked m slot = (found : ℕ) × (m.looked ≡ Some (record { slot = slot; word = found })) × (is_drained found ≡ true)
+
+-- what the Master keeps at run time is what its view says, between any two calls
+pub record IsMirrored (m : MasterView) (slots : List SlotState) (nodes : List Node) (holds : ℕ) : Type 0 where
+  pub root : 1 ≤ length slots
+  pub few : length slots ≤ 4096
+  pub same_slots : m.slots ≡ slots
+  pub same_limit : m.limit ≡ holds
+  pub no_pin : m.pinning ≡ None
+  pub all_nodes : length nodes ≡ length slots

@@ -1,0 +1,108 @@
+-- The rule of the table: what its words show of the views of all seats.
+use Rattle.std.specs.Prelude.{◌≡◌, ℕ, ◌+◌, ◌*◌, ◌≤◌, ◌<◌, Bool, true, List, [], ◌∷◌, map, length, not, ◌&&◌, ◌||◌, ◌==◌, slice_index, slice_get, Option, Some, None, is_some, IsTrue}
+use mathlib.Core.Option.{some}
+use lib.ListN.{get_elem?}
+use Rattle.atomic_table.specs.Table.{State}
+use Rattle.kf_core.specs.declared.key.Key.{Key}
+use Rattle.kf_core.specs.declared.caller.Caller.{Caller}
+use Rattle.kf_core.specs.declared.caller.Phase.TheVariants.{Turned}
+use Rattle.kf_core.specs.declared.slot.Marks.{Marks}
+use Rattle.kf_core.specs.declared.slot.SlotState.{SlotState}
+use Rattle.kf_core.specs.Bare.{BareWorld}
+use Rattle.kf_core.specs.Marks.{are_live, are_doomed}
+use Rattle.kf_core.specs.Phases.{has_reference, is_spent}
+use Rattle.kf_core.specs.Safe.{Safe, NoneRunning}
+use Rattle.kf_words.specs.declared.view.CallerView.{CallerView}
+use Rattle.kf_words.specs.declared.view.MasterView.{MasterView}
+use Rattle.kf_words.specs.declared.view.Load.{Load}
+use Rattle.kf_words.specs.declared.view.View.{View}
+use Rattle.kf_words.specs.declared.view.View.TheVariants as seat
+use Rattle.kf_words.specs.Layout.{bit, bias, doom, linked, one_generation, is_drained, IsFree, HasRoom}
+
+-- how many callers pass a test
+abbrev pub tally : (CallerView → Bool) → List CallerView → ℕ
+tally p [] = 0
+tally p (c ∷ cs) = bit (p c) 1 + tally p cs
+
+-- the caller counts in the active word of this slot: it has a reference, or a refused try of it is not yet undone
+abbrev pub uses : ℕ → CallerView → Bool
+uses slot c = (c.key.slot == slot) && (has_reference c.phase || c.undo_due)
+
+-- the caller counts in the hold word of this slot
+abbrev pub holds : ℕ → CallerView → Bool
+holds slot c = (c.key.slot == slot) && not (is_spent c.phase)
+
+abbrev pub users : ℕ → List CallerView → ℕ
+users slot cs = tally (uses slot) cs
+
+abbrev pub holders : ℕ → List CallerView → ℕ
+holders slot cs = tally (holds slot) cs
+
+-- a pin of this slot that no seat has yet
+abbrev pub pins_in : Option ℕ → ℕ → ℕ
+pins_in None slot = 0
+pins_in (Some s) slot = bit (s == slot) 1
+
+-- the active word has so many users, bias unless the node is live, and doom where a linked node is doomed
+abbrev pub ShowsMarks : ℕ → Option Marks → ℕ → Type 0
+ShowsMarks word marks n = (d : Bool) × (word ≡ n + bit (not (are_live marks)) bias + bit d doom) × (IsTrue (is_some marks) → d ≡ are_doomed marks)
+
+-- the hold word has the last generation, the bit of a linked node, and so many holds, which are not too many
+abbrev pub ShowsHolds : ℕ → ℕ → SlotState → ℕ → Type 0
+ShowsHolds limit word state n = (word ≡ state.generation * one_generation + bit (is_some state.marks) linked + n) × (n ≤ limit)
+
+-- where the hold word of a slot stands: behind the active words of all slots
+abbrev pub hold_index : MasterView → ℕ → ℕ
+hold_index m slot = length m.slots + slot
+
+abbrev pub hold_word : List ℕ → MasterView → ℕ → ℕ
+hold_word words m slot = slice_index words (hold_index m slot)
+
+-- a slot found free is free, and one found with room has room
+abbrev pub StillHolds : ℕ → ℕ → ℕ → Type 0
+StillHolds limit found word = (IsFree found → IsFree word) × (HasRoom limit found → HasRoom limit word)
+
+abbrev pub caller : CallerView → Caller
+caller c = record { key = c.key; phase = c.phase }
+
+-- the world that the views name
+abbrev pub bare : MasterView → List CallerView → BareWorld
+bare m cs = record { slots = m.slots; callers = map caller cs }
+
+abbrev pub last_key : ℕ → SlotState → Key
+last_key slot state = record { slot = slot; generation = state.generation }
+
+-- what the words show of the Master's view and of those of the callers
+module _ (words : List ℕ) (m : MasterView) (cs : List CallerView) where
+  pub record Shows : Type 0 where
+    -- for each slot an active word and, behind all of these, a hold word
+    pub wide : length words ≡ length m.slots + length m.slots
+    -- a count of holds stays below the bits above it
+    pub few : m.limit ≤ 65535
+    -- each pin has its seat
+    pub pinned : length cs ≡ m.pins
+    pub marks : (slot : ℕ) (state : SlotState) → slice_get m.slots slot ≡ Some state → ShowsMarks (slice_index words slot) state.marks (users slot cs)
+    pub holds : (slot : ℕ) (state : SlotState) → slice_get m.slots slot ≡ Some state → ShowsHolds m.limit (hold_word words m slot) state (holders slot cs + pins_in m.pinning slot)
+    -- who has a try to undo was turned away
+    pub tries : (j : ℕ) (c : CallerView) → get_elem? cs j ≡ some c → c.undo_due ≡ true → c.phase ≡ Turned
+    -- what the Master found still holds
+    pub loads : (i : ℕ) (load : Load) → slice_get m.loads i ≡ Some load → StillHolds m.limit load.word (hold_word words m load.slot)
+    -- the active word that the Master's last step stored is still as stored, in a free slot
+    pub fresh : (slot : ℕ) → m.fresh ≡ Some slot → (slot < length m.slots) × (slice_index words slot ≡ bias) × IsFree (hold_word words m slot)
+    -- where the Master's last step found a drained word, the node is doomed, and nobody is running on it
+    pub looked : (load : Load) (state : SlotState) → m.looked ≡ Some load → IsTrue (is_drained load.word) → slice_get m.slots load.slot ≡ Some state
+        → (are_doomed state.marks ≡ true) × NoneRunning (bare m cs) (last_key load.slot state)
+    pub safe : Safe (bare m cs)
+
+-- the Master has the first seat, and callers have the others
+abbrev pub seats : MasterView → List CallerView → List View
+seats m cs = seat.Master m ∷ map seat.Caller cs
+
+-- the rule of a table of so many slots, each with at most so many holds
+pub record Shown (slots limit : ℕ) (t : State (Unit {0}) View) : Type 0 where
+  pub master : MasterView
+  pub callers : List CallerView
+  pub views : t.views ≡ seats master callers
+  pub all_slots : length master.slots ≡ slots
+  pub most_holds : master.limit ≡ limit
+  pub shows : Shows t.words master callers

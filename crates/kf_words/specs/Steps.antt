@@ -1,0 +1,165 @@
+-- What each step makes of the view of its own seat.
+use Rattle.std.specs.Prelude.{◌≡◌, ℕ, ◌+◌, ◌-◌, ◌/◌, Bool, true, false, [], ◌∷◌, ◌++◌, length, replicate, slice_set, slice_index_or, Option, None, Some, is_some, if◌then◌else◌}
+use Rattle.std.specs.Option.{option_map}
+use Rattle.atomic_table.specs.Table.{Me, Step}
+use Rattle.kf_core.specs.declared.key.Key.{Key}
+use Rattle.kf_core.specs.declared.caller.Phase.{Phase}
+use Rattle.kf_core.specs.declared.caller.Phase.TheVariants.{Still, Turned, Running, Broken, Restored, Drained, Parted, Spent}
+use Rattle.kf_core.specs.declared.slot.Marks.{Marks}
+use Rattle.kf_core.specs.declared.slot.SlotState.{SlotState}
+use Rattle.kf_core.specs.Marks.{fresh_marks, live_marks}
+use Rattle.kf_words.specs.declared.view.CallerView.{CallerView}
+use Rattle.kf_words.specs.declared.view.MasterView.{MasterView}
+use Rattle.kf_words.specs.declared.view.View.{View}
+use Rattle.kf_words.specs.declared.view.View.TheVariants as seat
+use Rattle.kf_words.specs.Layout.{keeps_out, is_drained, has_linked, one_generation}
+use Rattle.kf_words.specs.Rule.{last_key}
+
+abbrev pub Seated : Type 0
+Seated = Me (Unit {0}) View
+
+abbrev pub no_caller : CallerView
+no_caller = record { key = record { slot = 0; generation = 0 }; phase = Spent; steps = 0; found = 0; undo_due = false }
+
+abbrev pub caller_of : View → CallerView
+caller_of (seat.Caller c) = c
+caller_of (seat.Master m) = no_caller
+
+abbrev pub no_master : MasterView
+no_master = record { limit = 0; slots = []; pins = 0; pinning = None; fresh = None; loads = []; at_birth = []; looked = None }
+
+abbrev pub master_of : View → MasterView
+master_of (seat.Master m) = m
+master_of (seat.Caller c) = no_master
+
+-- one word step more, which found this word
+abbrev pub after_step : Phase → Bool → ℕ → CallerView → CallerView
+after_step phase undo_due found c = record { key = c.key; phase = phase; steps = c.steps + 1; found = found; undo_due = undo_due }
+
+-- a try: the caller runs where the word lets it in, and else has to undo the try
+abbrev pub after_try : ℕ → CallerView → CallerView
+after_try found c = if keeps_out found then after_step Turned true found c else after_step Running false found c
+
+-- the second step of a refused try, which leaves what the first found
+abbrev pub after_undo : CallerView → CallerView
+after_undo c = after_step c.phase false c.found c
+
+-- the end of a call
+abbrev pub after_leave : ℕ → CallerView → CallerView
+after_leave found c = after_step Still false found c
+
+-- a reference given up inside its call, and one taken again
+abbrev pub after_break : ℕ → CallerView → CallerView
+after_break found c = after_step Broken false found c
+
+abbrev pub after_restore : ℕ → CallerView → CallerView
+after_restore found c = after_step Restored false found c
+
+abbrev pub after_look : ℕ → CallerView → CallerView
+after_look found c = if is_drained found then after_step Drained false found c else after_step c.phase c.undo_due found c
+
+-- the slot is given back
+abbrev pub after_release : ℕ → CallerView → CallerView
+after_release found c = after_step Spent false found c
+
+abbrev pub after_part : ℕ → CallerView → CallerView
+after_part found c = if has_linked found then after_step c.phase c.undo_due found c else after_step Parted false found c
+
+abbrev pub no_state : SlotState
+no_state = record { generation = 0; marks = None }
+
+abbrev pub state_at : MasterView → ℕ → SlotState
+state_at m slot = slice_index_or m.slots slot no_state
+
+-- the slot of a hold word
+abbrev pub hold_slot : MasterView → ℕ → ℕ
+hold_slot m word = word - length m.slots
+
+-- a step of the Master on an active word, and one on a hold word that is no load
+abbrev pub on_active : MasterView → MasterView
+on_active m = record m { fresh = None; looked = None }
+
+abbrev pub on_hold : MasterView → MasterView
+on_hold m = record m { fresh = None; loads = []; looked = None }
+
+abbrev pub remarked : (Marks → Marks) → SlotState → SlotState
+remarked change state = record { generation = state.generation; marks = option_map change state.marks }
+
+-- the node of one slot got other marks
+abbrev pub with_marks : (Marks → Marks) → ℕ → MasterView → MasterView
+with_marks change slot m = record (on_active m) { slots = slice_set m.slots slot (remarked change (state_at m slot)) }
+
+abbrev pub activated_marks : Marks → Marks
+activated_marks m = record { activated = true; doomed = m.doomed }
+
+abbrev pub doomed_marks : Marks → Marks
+doomed_marks m = record { activated = m.activated; doomed = true }
+
+-- a load of a hold word
+abbrev pub with_load : ℕ → ℕ → MasterView → MasterView
+with_load slot found m = record (on_active m) { loads = m.loads ++ record { slot = slot; word = found } ∷ [] }
+
+-- one hold more, which no seat has yet; and the same taken back
+abbrev pub with_pin : ℕ → MasterView → MasterView
+with_pin slot m = record (on_hold m) { pinning = Some slot }
+
+abbrev pub without_pin : ℕ → MasterView → MasterView
+without_pin slot m = record (on_hold m) { pinning = None }
+
+-- the hold goes to a new seat
+abbrev pub after_split : MasterView → MasterView
+after_split m = record m { pins = m.pins + 1; pinning = None }
+
+abbrev pub new_hold : Key → CallerView
+new_hold key = record { key = key; phase = Still; steps = 0; found = 0; undo_due = false }
+
+-- the view of the seat that a split makes
+abbrev pub hold_for : MasterView → Option ℕ → CallerView
+hold_for m None = no_caller
+hold_for m (Some slot) = new_hold (last_key slot (state_at m slot))
+
+-- the active word of a slot that is to be given is as new
+abbrev pub after_store : ℕ → MasterView → MasterView
+after_store slot m = record (on_active m) { fresh = Some slot }
+
+abbrev pub with_birth : ℕ → MasterView → MasterView
+with_birth slot m = record (on_hold m) {
+  slots = slice_set m.slots slot (record { generation = (state_at m slot).generation + 1; marks = Some fresh_marks });
+  at_birth = m.loads;
+}
+
+-- the load of an active word before an unlink
+abbrev pub with_look : ℕ → ℕ → MasterView → MasterView
+with_look slot found m = record (on_active m) { looked = Some (record { slot = slot; word = found }) }
+
+abbrev pub without_node : ℕ → MasterView → MasterView
+without_node slot m = record (on_hold m) { slots = slice_set m.slots slot (record { generation = (state_at m slot).generation; marks = None }) }
+
+-- a step that does not read what it finds
+abbrev pub unread : (ℕ → MasterView → MasterView) → ℕ → ℕ → MasterView → MasterView
+unread after slot found m = after slot m
+
+-- a step on a hold word, by its slot
+abbrev pub by_slot : (ℕ → ℕ → MasterView → MasterView) → ℕ → ℕ → MasterView → MasterView
+by_slot after word found m = after (hold_slot m word) found m
+
+-- what a step tells its caller: the view is that of before, changed in this way
+abbrev pub CallerBecomes : (ℕ → CallerView → CallerView) → Step (Unit {0}) → Seated → ℕ → Seated → Type 0
+CallerBecomes after st me found me' = me' ≡ (seat.Caller (after found (caller_of me.0)), me.1)
+
+abbrev pub MasterBecomes : (ℕ → ℕ → MasterView → MasterView) → Step (Unit {0}) → Seated → ℕ → Seated → Type 0
+MasterBecomes after st me found me' = me' ≡ (seat.Master (after st.word found (master_of me.0)), me.1)
+
+-- a load of a hold word tells the last generation, and whether a node is linked
+abbrev pub TellsSlot : MasterView → ℕ → ℕ → Type 0
+TellsSlot m slot found = (found / one_generation ≡ (state_at m slot).generation) × (has_linked found ≡ is_some (state_at m slot).marks)
+
+abbrev pub LoadsHold : Step (Unit {0}) → Seated → ℕ → Seated → Type 0
+LoadsHold st me found me' = MasterBecomes (by_slot with_load) st me found me' × TellsSlot (master_of me.0) (hold_slot (master_of me.0) st.word) found
+
+-- the Master's view at the opening: only the root has a node
+abbrev pub opened : ℕ → ℕ → ℕ → MasterView
+opened limit slots start = record no_master {
+  limit = limit;
+  slots = slice_set (replicate slots (record { generation = start; marks = None })) 0 (record { generation = start + 1; marks = Some live_marks });
+}

@@ -1,0 +1,84 @@
+//! A call: a hold that has an active reference, or gave it up inside its callback.
+ghost use Rattle.std.specs.Prelude.{◌≡◌, true};
+ghost use Rattle.kf_core.specs.Phases.{has_reference};
+ghost use Rattle.kf_core.specs.declared.caller.Phase.TheVariants as phase_of;
+ghost use Rattle.kf_words.specs.Callers.{IsSameSeat, WasLeft, WasBroken, WasRestored, is_in_call};
+
+use crate::hold::Hold;
+use crate::seat::CallerSeat;
+use kf_core::{Key, Node, Phase};
+use std::marker::Model;
+
+/// Has an active reference, or gave it up inside its callback. It must be spent, by `leave`.
+pub struct Call {
+    pub(crate) seat: CallerSeat,
+    pub(crate) phase: Phase,
+}
+
+impl Model for Call {
+    ghost use Rattle.std.specs.Prelude.{◌≡◌, true, false};
+    ghost use Rattle.kf_words.specs.Callers.{Handle, handle_of, view_of, is_in_call};
+
+    ghost Value = { Handle };
+
+    ghost view = { λ c. handle_of c.seat };
+
+    ghost invariant = { λ c. ((view_of c.seat).phase ≡ c.phase) × (is_in_call c.phase ≡ true) × ((view_of c.seat).undo_due ≡ false) };
+}
+
+impl Call {
+    /// The key whose slot it holds.
+    pub fn key(&self) -> Key
+        ensures { result ≡ self.now.key }
+    {
+        self.seat.key
+    }
+
+    /// The node that was born with the key.
+    pub fn node(&self) -> Node
+        ensures { result ≡ self.now.node }
+    {
+        self.seat.node
+    }
+
+    /// Running, Broken or Restored.
+    pub fn phase(&self) -> Phase
+        ensures value { result ≡ self.now.phase }
+        ensures in_call { is_in_call result ≡ true }
+    {
+        self.phase
+    }
+
+    /// Gives the reference back (`kernfs_put_active`), in one word step.
+    pub fn leave(self) -> Hold
+        requires { has_reference self.phase ≡ true }
+        ensures same { IsSameSeat self result }
+        ensures hold { WasLeft self result }
+    {
+        let Call { mut seat, phase: _ } = self;
+        let found = seat.drop_reference();
+        seat.wake_if_drained(found);
+        Hold { seat }
+    }
+
+    /// Gives the reference up inside the callback (`kernfs_break_active_protection`), in one word step.
+    pub fn break_protection(&mut self)
+        requires { self.old.phase ≡ phase_of.Running }
+        ensures same { IsSameSeat self.old self.new }
+        ensures call { WasBroken self.old self.new }
+    {
+        let found = self.seat.break_off();
+        self.phase = Phase::Broken;
+        self.seat.wake_if_drained(found);
+    }
+
+    /// Takes a reference again, whatever became of the node (`kernfs_unbreak_active_protection`), in one word step.
+    pub fn restore(&mut self)
+        requires { self.old.phase ≡ phase_of.Broken }
+        ensures same { IsSameSeat self.old self.new }
+        ensures call { WasRestored self.old self.new }
+    {
+        self.seat.take_again();
+        self.phase = Phase::Restored;
+    }
+}

@@ -1,0 +1,166 @@
+//! The steps of a caller's seat, one by one.
+ghost use Rattle.std.specs.Prelude.{◌≡◌, ◌+◌, ◌<◌, [], true, false};
+ghost use Rattle.std.specs.Arc.{arc_value};
+ghost use Rattle.kf_core.specs.Phases.{may_release};
+ghost use Rattle.kf_core.specs.declared.caller.Phase.TheVariants as phase_of;
+ghost use Rattle.kf_words.specs.Steps.{caller_of, after_try, after_undo, after_leave, after_break, after_restore, after_look, after_part, after_release};
+ghost use Rattle.kf_words.specs.Callers.{IsSameSeat, IsAtRest, HasReference, IsIn, WasReleased, handle_of, view_of};
+ghost use Rattle.kf_words.specs.declared.view.View.TheVariants as seat_of;
+
+use crate::layout::is_drained;
+use crate::plays::{Breaks, Leaves, Looks, Parts, Releases, Restores, Tries, Undoes};
+use crate::seat::CallerSeat;
+use crate::table::WordTable;
+use crate::view::View;
+use atomic_table::Seat;
+use kf_core::{Key, Node};
+use std::sync::Arc;
+
+impl CallerSeat {
+    pub(crate) fn new(
+        table: Arc<WordTable>,
+        key: Key,
+        node: Node,
+        token: Seat<(), View>,
+    ) -> CallerSeat
+        requires table { token.table_id ≡ (arc_value table).shared.table_id }
+        requires caller { token.me ≡ (seat_of.Caller (caller_of token.me.0), []) }
+        requires key { (caller_of token.me.0).key ≡ key }
+        requires words { (arc_value table).shared.table_id.words ≡ (arc_value table).shared.key.slots + (arc_value table).shared.key.slots }
+        requires slot { key.slot < (arc_value table).shared.key.slots }
+        ensures token { result.token ≡ token }
+        ensures node { result.node ≡ node }
+    {
+        CallerSeat {
+            table,
+            key,
+            node,
+            token,
+        }
+    }
+
+    // The one place that lets a seat go.
+    pub(crate) fn end(self)
+        requires { (view_of self).phase ≡ phase_of.Spent }
+    {
+        let CallerSeat {
+            table: _,
+            key: _,
+            node: _,
+            token: _,
+        } = self;
+    }
+
+    // Counts one user more, and answers the word as it was.
+    pub(crate) fn try_reference(&mut self) -> u64
+        requires { IsAtRest (view_of self.old) }
+        ensures same { IsSameSeat (handle_of self.old) (handle_of self.new) }
+        ensures view { view_of self.new ≡ after_try result (view_of self.old) }
+    {
+        let word = self.key.slot as usize;
+        self.table
+            .shared
+            .fetch_add::<Tries>(&mut self.token, word, 1)
+    }
+
+    // Takes back the count of a refused try.
+    pub(crate) fn undo(&mut self) -> u64
+        requires turned { (view_of self.old).phase ≡ phase_of.Turned }
+        requires due { (view_of self.old).undo_due ≡ true }
+        ensures same { IsSameSeat (handle_of self.old) (handle_of self.new) }
+        ensures view { view_of self.new ≡ after_undo (view_of self.old) }
+    {
+        let word = self.key.slot as usize;
+        self.table
+            .shared
+            .fetch_sub::<Undoes>(&mut self.token, word, 1)
+    }
+
+    // Counts one user less at the end of a call, and answers the word as it was.
+    pub(crate) fn drop_reference(&mut self) -> u64
+        requires { HasReference (view_of self.old) }
+        ensures same { IsSameSeat (handle_of self.old) (handle_of self.new) }
+        ensures view { view_of self.new ≡ after_leave result (view_of self.old) }
+    {
+        let word = self.key.slot as usize;
+        self.table
+            .shared
+            .fetch_sub::<Leaves>(&mut self.token, word, 1)
+    }
+
+    // Counts one user less inside the call.
+    pub(crate) fn break_off(&mut self) -> u64
+        requires { IsIn phase_of.Running (view_of self.old) }
+        ensures same { IsSameSeat (handle_of self.old) (handle_of self.new) }
+        ensures view { view_of self.new ≡ after_break result (view_of self.old) }
+    {
+        let word = self.key.slot as usize;
+        self.table
+            .shared
+            .fetch_sub::<Breaks>(&mut self.token, word, 1)
+    }
+
+    // Counts one user more inside the call, whatever the word holds.
+    pub(crate) fn take_again(&mut self) -> u64
+        requires { IsIn phase_of.Broken (view_of self.old) }
+        ensures same { IsSameSeat (handle_of self.old) (handle_of self.new) }
+        ensures view { view_of self.new ≡ after_restore result (view_of self.old) }
+    {
+        let word = self.key.slot as usize;
+        self.table
+            .shared
+            .fetch_add::<Restores>(&mut self.token, word, 1)
+    }
+
+    // Loads the active word.
+    pub(crate) fn load(&mut self) -> u64
+        requires { IsAtRest (view_of self.old) }
+        ensures same { IsSameSeat (handle_of self.old) (handle_of self.new) }
+        ensures view { view_of self.new ≡ after_look result (view_of self.old) }
+    {
+        let word = self.key.slot as usize;
+        self.table.shared.load::<Looks>(&mut self.token, word)
+    }
+
+    pub(crate) fn hold_word(&self) -> usize
+        ensures here { result ≡ (arc_value self.now.table).shared.key.slots + self.now.key.slot }
+        ensures within { result < (arc_value self.now.table).shared.table_id.words }
+    {
+        self.table.word_count() / 2 + self.key.slot as usize
+    }
+
+    // Loads the hold word.
+    pub(crate) fn load_hold(&mut self) -> u64
+        requires { IsIn phase_of.Drained (view_of self.old) }
+        ensures same { IsSameSeat (handle_of self.old) (handle_of self.new) }
+        ensures view { view_of self.new ≡ after_part result (view_of self.old) }
+    {
+        let word = self.hold_word();
+        self.table.shared.load::<Parts>(&mut self.token, word)
+    }
+
+    // Wakes one sleeper on the active word.
+    pub(crate) fn wake_one(&self) {
+        self.table.shared.wake_one(self.key.slot as usize);
+    }
+
+    // Wakes one sleeper where the caller's own step, which took one user off this word, left it drained.
+    pub(crate) fn wake_if_drained(&self, found: u64) {
+        if is_drained(found.wrapping_sub(1)) {
+            self.wake_one();
+        }
+    }
+}
+
+/// Gives a slot back, which is one word step. The `release` of each value that holds a slot calls it.
+pub fn release_seat(seat: &mut CallerSeat)
+    requires idle { may_release (handle_of seat.old).phase ≡ true }
+    requires settled { (handle_of seat.old).undo_due ≡ false }
+    ensures same { IsSameSeat (handle_of seat.old) (handle_of seat.new) }
+    ensures released { WasReleased (handle_of seat.old) (handle_of seat.new) }
+{
+    let word = seat.hold_word();
+    seat.table
+        .shared
+        .fetch_sub::<Releases>(&mut seat.token, word, 1);
+}

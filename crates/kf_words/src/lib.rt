@@ -1,0 +1,33 @@
+//! Two words for each node of the tree, which any number of threads change in single atomic steps: an active word, whose count is that of the active references, and a hold word, whose count is that of the holds that keep the slot.
+#![tactic(auto)]
+
+mod call;
+mod caller_steps;
+mod drain;
+mod hold;
+mod layout;
+mod master;
+mod master_seat;
+mod master_steps;
+mod nodes;
+mod plays;
+mod receipt;
+mod seat;
+mod seats;
+mod table;
+#[cfg(test)]
+mod tests;
+#[cfg(test)]
+mod thread_tests;
+mod view;
+mod words;
+
+pub use call::Call;
+pub use caller_steps::release_seat;
+pub use drain::wait_drained;
+pub use hold::Hold;
+pub use master::Master;
+pub use receipt::{Drained, Parted};
+pub use seat::CallerSeat;
+pub use seats::Seats;
+pub use words::Words;

@@ -1,0 +1,108 @@
+//! The Master: the one seat that makes and unmakes nodes. Whoever owns it, as the tree lock does, gives the tree's commands.
+ghost use Rattle.std.specs.Prelude.{◌≡◌, ◌<◌, true, length, is_some, IfOk, IfErr, OnOk};
+ghost use Rattle.kf_words.specs.Nodes.{KeepsNodes, IsNewHold, IsLastKey, WasPinned, PinRefused, HeldPinRefused, RoomFound, marks_of};
+
+use crate::call::Call;
+use crate::hold::Hold;
+use crate::layout::has_room;
+use crate::master_seat::MasterSeat;
+use crate::seat::CallerSeat;
+use kf_core::{Key, Marks, Node, Refusal, SlotState};
+use std::marker::Model;
+use std::sync::Arc;
+
+/// The Master of a table of words, with the state of each slot and the node that was born there last.
+#[derive(Drop)]
+pub struct Master {
+    pub(crate) steps: MasterSeat,
+    pub(crate) slots: Vec<SlotState>,
+    pub(crate) nodes: Vec<Node>,
+    pub(crate) holds: u32,
+}
+
+impl Model for Master {
+    ghost use Rattle.kf_words.specs.Nodes.{MasterState, IsMirrored, master_view};
+
+    ghost Value = { MasterState };
+
+    ghost view = { λ m. record { table = m.steps.token.table_id; view = master_view m.steps; nodes = m.nodes.items } };
+
+    ghost invariant = { λ m. IsMirrored (master_view m.steps) m.slots.items m.nodes.items m.holds };
+}
+
+impl Master {
+    /// The marks of a node, where it is linked. It makes no word step.
+    pub fn marks(&self, key: Key) -> Option<Marks>
+        ensures { result ≡ marks_of self.now.view key }
+    {
+        match self.slots.get(key.slot as usize) {
+            Some(state) if state.generation == key.generation => state.marks,
+            _ => None,
+        }
+    }
+
+    /// Whether the slot of a key may have one hold more. It takes one word step.
+    pub fn room(&mut self, key: Key) -> bool
+        requires { key.slot < length self.old.view.slots }
+        ensures kept { KeepsNodes self.old self.new }
+        ensures found { RoomFound self.old.view key.slot result self.new.view }
+    {
+        let found = self.steps.load_hold(key.slot);
+        has_room(found, self.holds)
+    }
+
+    /// A new hold of a linked node (`kernfs_get`).
+    ///
+    /// Refusals, in order: TooManyHolds where the slot has as many holds as there may be; NoMemory.
+    /// After each the slot has the holds that it had.
+    pub fn pin(&mut self, key: Key) -> Result<Hold, Refusal>
+        requires { is_some (marks_of self.old.view key) ≡ true }
+        ensures kept { KeepsNodes self.old self.new }
+        ensures hold { IfOk result (λ hold. IsNewHold self.old key hold) }
+        ensures pinned { OnOk result (WasPinned self.old.view key.slot self.new.view) }
+        ensures refused { IfErr result (λ why. PinRefused self.old.view key.slot why self.new.view) }
+    {
+        self.pin_last(key)
+    }
+
+    /// A new hold of the key of a call, whether or not its node is still linked.
+    ///
+    /// Refusals, in order: NoEntry where the slot has had a later node, before any word step; TooManyHolds and NoMemory as of `pin`.
+    pub fn pin_held(&mut self, call: &Call) -> Result<Hold, Refusal>
+        requires { call.now.table ≡ self.old.table }
+        ensures kept { KeepsNodes self.old self.new }
+        ensures hold { IfOk result (λ hold. IsNewHold self.old call.now.key hold) }
+        ensures pinned { OnOk result (IsLastKey self.old.view call.now.key × WasPinned self.old.view call.now.key.slot self.new.view) }
+        ensures refused { IfErr result (λ why. HeldPinRefused self.old.view call.now.key why self.new.view) }
+    {
+        let key = call.key();
+        match self.slots.get(key.slot as usize) {
+            Some(state) if state.generation == key.generation => self.pin_last(key),
+            _ => Err(Refusal::NoEntry),
+        }
+    }
+
+    // A new hold of the last key of a slot.
+    fn pin_last(&mut self, key: Key) -> Result<Hold, Refusal>
+        requires { IsLastKey self.old.view key }
+        ensures kept { KeepsNodes self.old self.new }
+        ensures hold { IfOk result (λ hold. IsNewHold self.old key hold) }
+        ensures pinned { OnOk result (WasPinned self.old.view key.slot self.new.view) }
+        ensures refused { IfErr result (λ why. PinRefused self.old.view key.slot why self.new.view) }
+    {
+        let found = self.steps.load_hold(key.slot);
+        if !has_room(found, self.holds) {
+            return Err(Refusal::TooManyHolds);
+        }
+        self.steps.pin_hold(key.slot);
+        let Ok(table) = Arc::try_clone(&self.steps.table) else {
+            self.steps.unpin_hold(key.slot);
+            return Err(Refusal::NoMemory);
+        };
+        let token = self.steps.give_hold(key.slot);
+        let node = self.nodes[key.slot as usize];
+        Ok(Hold {
+            seat: CallerSeat::new(table, key, node, token),
+        })
+    }
+}

@@ -1,0 +1,21 @@
+//! The Master's seat at the table of words.
+ghost use Rattle.std.specs.Prelude.{◌≡◌, ◌+◌, [], length};
+ghost use Rattle.std.specs.Arc.{arc_value};
+ghost use Rattle.kf_words.specs.Steps.{master_of};
+ghost use Rattle.kf_words.specs.declared.view.View.TheVariants as seat_of;
+
+use crate::table::WordTable;
+use crate::view::View;
+use atomic_table::Seat;
+use std::sync::Arc;
+
+/// The seat of the Master at the table of words.
+#[derive(Drop)]
+pub(crate) struct MasterSeat {
+    pub(crate) table: Arc<WordTable>,
+    pub(crate) token: Seat<(), View>,
+    ghost of_table: { token.table_id ≡ (arc_value table).shared.table_id },
+    ghost a_master: { token.me ≡ (seat_of.Master (master_of token.me.0), []) },
+    ghost two_words: { (arc_value table).shared.table_id.words ≡ (arc_value table).shared.key.slots + (arc_value table).shared.key.slots },
+    ghost all_slots: { length (master_of token.me.0).slots ≡ (arc_value table).shared.key.slots },
+}

@@ -1,0 +1,108 @@
+//! What the Master does to nodes: they are born, activated, doomed and unlinked.
+ghost use Rattle.std.specs.Prelude.{◌≡◌, true, false, Some, None, is_some, slice_set, IfSome, if◌then◌else◌};
+ghost use Rattle.std.specs.Option.{option_map};
+ghost use Rattle.kf_core.specs.declared.slot.Marks.{Marks};
+ghost use Rattle.kf_core.specs.Marks.{fresh_marks, live_marks, are_doomed};
+ghost use Rattle.kf_words.specs.Steps.{with_birth, after_store, with_marks, activated_marks, doomed_marks};
+ghost use Rattle.kf_words.specs.Nodes.{KeepsNodes, MayBear, Searched, UnlinkAnswer, marks_of, slots_with};
+
+use crate::layout::is_drained;
+use crate::master::Master;
+use crate::receipt::Drained;
+use kf_core::{Key, Marks, Node, SlotState};
+
+impl Master {
+    /// The lowest slot from 1 up that is found free, with its next generation. None where no slot was found free.
+    /// It takes one word step for each slot that it looks at.
+    pub fn free_key(&mut self) -> Option<Key>
+        ensures kept { KeepsNodes self.old self.new }
+        ensures searched { Searched self.old.view (option_map (λ key. key.slot) result) self.new.view }
+        ensures may_bear { IfSome result (λ key. MayBear self.new.view key) }
+    {
+        let slot = self.steps.find_free(self.slots.len() as u32)?;
+        Some(Key {
+            slot,
+            generation: self.slots[slot as usize].generation + 1,
+        })
+    }
+
+    /// A node is born in a slot that was found free: linked, not activated, not doomed (`kernfs_add_one`).
+    pub fn born(&mut self, key: Key, node: Node)
+        requires { MayBear self.old.view key }
+        ensures table { self.new.table ≡ self.old.table }
+        ensures nodes { self.new.nodes ≡ slice_set self.old.nodes key.slot node }
+        ensures view { self.new.view ≡ with_birth key.slot (after_store key.slot self.old.view) }
+        ensures slots { self.new.view.slots ≡ slots_with self.old.view.slots key (Some fresh_marks) }
+    {
+        self.steps.store_fresh(key.slot);
+        self.steps.birth(key.slot);
+        self.nodes[key.slot as usize] = node;
+        self.slots[key.slot as usize] = SlotState {
+            generation: key.generation,
+            marks: Some(Marks {
+                activated: false,
+                doomed: false,
+            }),
+        };
+    }
+
+    /// Lets callers have references to a node that was not yet activated (`kernfs_activate`).
+    pub fn activate(&mut self, key: Key)
+        requires { marks_of self.old.view key ≡ Some fresh_marks }
+        ensures table { self.new.table ≡ self.old.table }
+        ensures nodes { self.new.nodes ≡ self.old.nodes }
+        ensures view { self.new.view ≡ with_marks activated_marks key.slot self.old.view }
+        ensures slots { self.new.view.slots ≡ slots_with self.old.view.slots key (Some live_marks) }
+    {
+        self.steps.take_bias(key.slot);
+        self.slots[key.slot as usize] = SlotState {
+            generation: key.generation,
+            marks: Some(Marks {
+                activated: true,
+                doomed: false,
+            }),
+        };
+    }
+
+    /// Marks a linked node as doomed: from now on each try for a reference fails (the first half of `__kernfs_remove`).
+    pub fn doom(&mut self, key: Key)
+        requires { are_doomed (marks_of self.old.view key) ≡ false }
+        ensures table { self.new.table ≡ self.old.table }
+        ensures nodes { self.new.nodes ≡ self.old.nodes }
+        ensures view { self.new.view ≡ with_marks doomed_marks key.slot self.old.view }
+        ensures slots { (x : Marks) → marks_of self.old.view key ≡ Some x → self.new.view.slots ≡ slots_with self.old.view.slots key (Some (doomed_marks x)) }
+    {
+        if let Some(marks) = self.marks(key) {
+            self.steps.mark_node(key.slot, marks);
+            self.slots[key.slot as usize] = SlotState {
+                generation: key.generation,
+                marks: Some(Marks {
+                    activated: marks.activated,
+                    doomed: true,
+                }),
+            };
+        }
+    }
+
+    /// Takes a node out of the tree, where its active word is found drained (`kernfs_unlink_sibling`).
+    /// False where it was not: a refused try may be in flight there, or a caller that broke its protection has a reference again.
+    pub fn unlink(&mut self, drained: &Drained) -> bool
+        requires table { drained.now.table ≡ self.old.table }
+        requires linked { is_some (marks_of self.old.view drained.now.key) ≡ true }
+        ensures table { self.new.table ≡ self.old.table }
+        ensures nodes { self.new.nodes ≡ self.old.nodes }
+        ensures answer { UnlinkAnswer self.old.view drained.now.key.slot result self.new.view }
+        ensures slots { self.new.view.slots ≡ (if result then slots_with self.old.view.slots drained.now.key None else self.old.view.slots) }
+    {
+        let key = drained.key();
+        if !is_drained(self.steps.look_over(key.slot)) {
+            return false;
+        }
+        self.steps.unlink(key.slot);
+        self.slots[key.slot as usize] = SlotState {
+            generation: key.generation,
+            marks: None,
+        };
+        true
+    }
+}

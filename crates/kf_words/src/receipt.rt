@@ -1,0 +1,88 @@
+//! Receipts: a caller that saw its node drained, and one that saw it gone as well.
+ghost use Rattle.std.specs.Prelude.{◌≡◌, IfOk, IfErr, MatchResult};
+ghost use Rattle.kf_words.specs.Callers.{IsSameSeat, SawParted, SawLinked};
+
+use crate::caller_steps::release_seat;
+use crate::layout::has_linked;
+use crate::seat::CallerSeat;
+use kf_core::Key;
+use std::marker::Model;
+
+/// Saw that the node is doomed and that nobody had a reference to it. While it is out, no callback runs under an
+/// active reference of the node. It must be spent, by `parted` or `release`.
+pub struct Drained {
+    pub(crate) seat: CallerSeat,
+}
+
+impl Model for Drained {
+    ghost use Rattle.kf_core.specs.declared.caller.Phase.TheVariants as phase_of;
+    ghost use Rattle.kf_words.specs.Callers.{Handle, handle_of, view_of, IsIn};
+
+    ghost Value = { Handle };
+
+    ghost view = { λ d. handle_of d.seat };
+
+    ghost invariant = { λ d. IsIn phase_of.Drained (view_of d.seat) };
+}
+
+/// As `Drained`, and saw that the node has left the tree. It must be spent, by `release`.
+pub struct Parted {
+    pub(crate) seat: CallerSeat,
+}
+
+impl Model for Parted {
+    ghost use Rattle.kf_core.specs.declared.caller.Phase.TheVariants as phase_of;
+    ghost use Rattle.kf_words.specs.Callers.{Handle, handle_of, view_of, IsIn};
+
+    ghost Value = { Handle };
+
+    ghost view = { λ p. handle_of p.seat };
+
+    ghost invariant = { λ p. IsIn phase_of.Parted (view_of p.seat) };
+}
+
+impl Drained {
+    /// The key whose slot it holds.
+    pub fn key(&self) -> Key
+        ensures { result ≡ self.now.key }
+    {
+        self.seat.key
+    }
+
+    /// Looks, in one word step, whether the node has left the tree. Err while it is linked.
+    pub fn parted(self) -> Result<Parted, Drained>
+        ensures same { MatchResult result (λ gone. IsSameSeat self gone) (λ back. IsSameSeat self back) }
+        ensures gone { IfOk result (λ gone. SawParted self gone) }
+        ensures linked { IfErr result (λ back. SawLinked self back) }
+    {
+        let Drained { mut seat } = self;
+        if has_linked(seat.load_hold()) {
+            Err(Drained { seat })
+        } else {
+            Ok(Parted { seat })
+        }
+    }
+
+    /// Gives the slot back (`kernfs_put`).
+    pub fn release(self) {
+        let Drained { mut seat } = self;
+        release_seat(&mut seat);
+        seat.end();
+    }
+}
+
+impl Parted {
+    /// The key whose slot it holds.
+    pub fn key(&self) -> Key
+        ensures { result ≡ self.now.key }
+    {
+        self.seat.key
+    }
+
+    /// Gives the slot back (`kernfs_put`).
+    pub fn release(self) {
+        let Parted { mut seat } = self;
+        release_seat(&mut seat);
+        seat.end();
+    }
+}

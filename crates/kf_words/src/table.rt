@@ -1,0 +1,33 @@
+//! The table of words and its rule.
+ghost use Rattle.std.specs.Prelude.{◌≤◌};
+
+use crate::view::View;
+use atomic_table::{Table, TableRule};
+use std::alloc::Global;
+
+/// How the table begins: so many slots, each with the last generation `start` and no node,
+/// but for the root's, which has a live node of the next generation.
+#[derive(Clone, Copy)]
+pub struct Opening {
+    pub holds: u32,
+    pub slots: u32,
+    pub start: u32,
+    ghost some_slot: { 1 ≤ slots },
+    ghost few_holds: { holds ≤ 65535 },
+    ghost generations: { start ≤ 4294967294 },
+}
+
+/// The rule of the table: what the words show of all views, between any two steps.
+pub struct Rule;
+
+impl TableRule<(), View, Opening> for Rule {
+    ghost use Rattle.kf_words.specs.Rule.{Shown};
+    ghost use Rattle.kf_words.specs.Steps.{opened};
+    ghost use Rattle.kf_words.specs.declared.view.View.TheVariants.{Master};
+
+    ghost holds = { λ o. Shown o.slots o.holds };
+
+    ghost first = { λ o. Master (opened o.holds o.slots o.start) };
+}
+
+pub(crate) type WordTable = Table<(), View, Opening, Rule, Global>;

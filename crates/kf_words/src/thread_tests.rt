@@ -1,0 +1,232 @@
+//! The words under many threads.
+use crate::tests::{activate, born, doom, enter, look, made, pin};
+use crate::{Call, Hold, Master, Seats, wait_drained};
+use kf_core::{Guard, Key, Phase};
+use std::alloc::Global;
+use std::process::Abort;
+use std::rt::Clock;
+use std::sync::Wait;
+use std::sync::atomic::{AtomicU64, Ordering};
+use std::thread::{self, Threads, for_each_mut, join};
+use std::time::Duration;
+
+// Enters and leaves until refused, at most 10,000 times, through the guard; counts the thread once it has entered.
+fn turns(mut hold: Hold, entered: &AtomicU64) -> Hold {
+    let mut guard = Seats;
+    for turn in 0..10_000 {
+        match guard.enter(hold) {
+            Ok(call) => {
+                hold = guard.leave(call);
+                if turn == 0 {
+                    entered.fetch_add(1, Ordering::SeqCst);
+                }
+            }
+            Err(back) => return back,
+        }
+    }
+    hold
+}
+
+// The same with a hold in its place.
+fn turns_in(place: &mut Option<Hold>, entered: &AtomicU64) {
+    if let Some(hold) = place.take() {
+        let back = turns(hold, entered);
+        if let Some(other) = place.replace(back) {
+            other.release();
+        }
+    }
+}
+
+// Each hold in a thread of its own.
+fn all_turns<R: Threads + Sync>(rt: &R, holds: &mut Vec<Option<Hold>>, entered: &AtomicU64) {
+    for_each_mut(
+        rt,
+        holds.as_mut_slice(),
+        8,
+        &|_, place| turns_in(place, entered),
+    );
+}
+
+// Waits until so many threads have counted themselves.
+fn wait_for(count: u64, counter: &AtomicU64) {
+    for _ in 0..1_000_000_000u64 {
+        if counter.load(Ordering::SeqCst) >= count {
+            return;
+        }
+    }
+}
+
+// Holds of a key, each in its place.
+fn pins<R: Abort>(
+    rt: &R,
+    alloc: Global,
+    master: &mut Master,
+    key: Key,
+    count: u32,
+) -> Vec<Option<Hold>> {
+    let mut holds = Vec::new(alloc);
+    for _ in 0..count {
+        let hold = pin(rt, master, key);
+        if let Err(full) = holds.push(Some(hold)) {
+            if let Some(hold) = full.value {
+                hold.release();
+            }
+            panic!(rt; "no memory");
+        }
+    }
+    holds
+}
+
+fn see_drained<R: Abort>(rt: &R, mut holds: Vec<Option<Hold>>) {
+    while let Some(place) = holds.pop() {
+        match place {
+            Some(hold) => look(rt, hold).release(),
+            None => panic!(rt; "a hold is lost"),
+        }
+    }
+    holds.destroy_empty();
+}
+
+#[test]
+fn eight_threads_are_turned_away_by_the_mark(rt: HostRuntime) {
+    let mut master = made(&rt, rt.alloc(), 2, 8, 0);
+    let key = born(&rt, &mut master, 1, 1);
+    activate(&rt, &mut master, key);
+    let mut holds = pins(&rt, rt.alloc(), &mut master, key, 8);
+    let entered = AtomicU64::new(0);
+    join(
+        &rt,
+        || all_turns(&rt, &mut holds, &entered),
+        || {
+            wait_for(8, &entered);
+            doom(&rt, &mut master, key);
+        },
+    );
+    assert_eq!(rt; entered.load(Ordering::SeqCst), 8);
+    see_drained(&rt, holds);
+}
+
+// Waits for the drain with the hold in its place, and counts the thread when it is through.
+fn drain_in<R: Wait>(rt: &R, place: &mut Option<Hold>, through: &AtomicU64) {
+    if let Some(hold) = place.take() {
+        wait_drained(rt, hold).release();
+        through.fetch_add(1, Ordering::SeqCst);
+    }
+}
+
+fn all_drain<R: Threads + Wait + Sync>(rt: &R, holds: &mut Vec<Option<Hold>>, through: &AtomicU64) {
+    for_each_mut(
+        rt,
+        holds.as_mut_slice(),
+        4,
+        &|_, place| drain_in(rt, place, through),
+    );
+}
+
+// Ends the call, or breaks its protection first and ends it when so many are through.
+fn let_through(mut call: Call, breaks: bool, count: u64, through: &AtomicU64) {
+    match call.phase() {
+        Phase::Running => {
+            if breaks {
+                call.break_protection();
+                wait_for(count, through);
+                call.restore();
+            }
+            call.leave().release();
+        }
+        Phase::Broken => {
+            call.restore();
+            call.leave().release();
+        }
+        Phase::Restored => call.leave().release(),
+        _ => unreachable!(),
+    }
+}
+
+// Frees waiters by refused tries, each of which wakes one as it is undone.
+fn free_the_rest(place: &mut Option<Hold>, count: u64, through: &AtomicU64) {
+    for _ in 0..1_000_000u32 {
+        if through.load(Ordering::SeqCst) >= count {
+            return;
+        }
+        if let Some(hold) = place.take() {
+            let back = match hold.enter() {
+                Ok(call) => call.leave(),
+                Err(back) => back,
+            };
+            if let Some(other) = place.replace(back) {
+                other.release();
+            }
+        }
+    }
+}
+
+// Four holds wait for a drain while a call is running. The mark comes before they wait, or after.
+fn four_wait<R: Abort + Threads + Wait + Clock + Sync>(
+    rt: &R,
+    alloc: Global,
+    marked_before: bool,
+    breaks: bool,
+) {
+    let mut master = made(rt, alloc, 2, 8, 0);
+    let key = born(rt, &mut master, 1, 1);
+    activate(rt, &mut master, key);
+    let mut running = Some(enter(rt, pin(rt, &mut master, key)));
+    let mut holds = pins(rt, alloc, &mut master, key, 4);
+    let mut fifth = Some(pin(rt, &mut master, key));
+    if marked_before {
+        doom(rt, &mut master, key);
+    }
+    let through = AtomicU64::new(0);
+    let ((), woken) = join(
+        rt,
+        || all_drain(rt, &mut holds, &through),
+        || {
+            thread::sleep(rt, Duration::from_millis(20));
+            if !marked_before {
+                doom(rt, &mut master, key);
+            }
+            if let Some(call) = running.take() {
+                let_through(call, breaks, 4, &through);
+            }
+            wait_for(4, &through);
+            let woken = through.load(Ordering::SeqCst);
+            free_the_rest(&mut fifth, 4, &through);
+            woken
+        },
+    );
+    assert_eq!(rt; woken, 4);
+    if let Some(hold) = fifth {
+        look(rt, hold).release();
+    }
+    no_hold_left(rt, running, holds);
+}
+
+fn no_hold_left<R: Abort>(rt: &R, running: Option<Call>, mut holds: Vec<Option<Hold>>) {
+    if let Some(call) = running {
+        let_through(call, false, 0, &AtomicU64::new(0));
+        panic!(rt; "the call was not ended");
+    }
+    while let Some(place) = holds.pop() {
+        if let Some(hold) = place {
+            hold.release();
+            panic!(rt; "a hold was not drained");
+        }
+    }
+    holds.destroy_empty();
+}
+
+#[test]
+fn four_waiters_are_woken_one_by_another(rt: HostRuntime) {
+    four_wait(&rt, rt.alloc(), true, false);
+}
+
+#[test]
+fn waiters_that_came_before_the_mark_are_woken(rt: HostRuntime) {
+    four_wait(&rt, rt.alloc(), false, false);
+}
+
+#[test]
+fn waiters_are_woken_where_the_last_call_breaks_its_protection(rt: HostRuntime) {
+    four_wait(&rt, rt.alloc(), true, true);
+}

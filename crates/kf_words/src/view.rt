@@ -1,0 +1,44 @@
+//! What each seat at the table of words knows. The rule of the table speaks of these types, so they are types of the code, but no value of them is ever made.
+use kf_core::{Key, Phase, SlotState};
+use std::collections::LinkedList;
+
+/// A caller's seat: its key and phase, how many word steps it has made, the word that the last of them found
+/// (the second step of a refused try left out), and whether that second step is still due.
+pub struct CallerView {
+    pub key: Key,
+    pub phase: Phase,
+    pub steps: u64,
+    pub found: u64,
+    pub undo_due: bool,
+}
+
+/// A load of a word of a slot, and what it found.
+pub struct Load {
+    pub slot: u32,
+    pub word: u64,
+}
+
+/// The Master's seat.
+pub struct MasterView {
+    /// The most holds of one slot.
+    pub limit: u64,
+    /// By slot, the last generation, and the marks of its node where one is linked.
+    pub slots: LinkedList<SlotState>,
+    /// How many holds have got a seat.
+    pub pins: u64,
+    /// The slot of a hold that is counted and has no seat yet.
+    pub pinning: Option<u32>,
+    /// The slot in which its last step stored a new active word.
+    pub fresh: Option<u32>,
+    /// Its loads of hold words since its last other step on one.
+    pub loads: LinkedList<Load>,
+    /// Those that stood at the last birth.
+    pub at_birth: LinkedList<Load>,
+    /// The load of an active word, where that was its last step.
+    pub looked: Option<Load>,
+}
+
+pub enum View {
+    Master(MasterView),
+    Caller(CallerView),
+}

@@ -1,0 +1,114 @@
+//! Making a table of words with its Master.
+ghost use Rattle.std.specs.Prelude.{◌≡◌, ◌≤◌, IfOk, IfErr, replicate};
+ghost use Rattle.std.specs.Arc.{arc_value};
+ghost use Rattle.kf_core.specs.declared.key.Node.TheVariants as node_of;
+ghost use Rattle.kf_core.specs.declared.refusal.Refusal.TheVariants as refusal_of;
+ghost use Rattle.kf_words.specs.Layout.{opening_words};
+ghost use Rattle.kf_words.specs.Steps.{opened};
+
+use crate::layout::{BIAS, GENERATION, LINKED};
+use crate::master::Master;
+use crate::master_seat::MasterSeat;
+use crate::table::{Opening, WordTable};
+use kf_core::{Limits, Marks, Node, Refusal, SlotState};
+use std::alloc::{AllocError, Global};
+use std::marker::Model;
+use std::sync::Arc;
+
+/// A table of words: for each slot an active word and a hold word. Contracts see which table it is.
+#[derive(Drop)]
+pub struct Words {
+    table: Arc<WordTable>,
+}
+
+impl Model for Words {
+    ghost use Rattle.atomic_table.specs.Seated.{TableId};
+    ghost use Rattle.std.specs.Arc.{arc_value};
+
+    ghost Value = { TableId };
+
+    ghost view = { λ w. (arc_value w.table).shared.table_id };
+}
+
+// The words at the opening: the active words, then the hold words.
+fn first_words(alloc: Global, slots: u32, start: u32) -> Result<Vec<u64>, AllocError>
+    requires some { 1 ≤ slots }
+    requires generations { start ≤ 4294967294 }
+    ensures { IfOk result (λ words. words.items ≡ opening_words slots start) }
+{
+    let slots = slots as usize;
+    let mut words = vec![in alloc; BIAS; slots]?;
+    words.resize(2 * slots, start as u64 * GENERATION)?;
+    words[0] = 0;
+    words[slots] = (start as u64 + 1) * GENERATION + LINKED;
+    Ok(words)
+}
+
+// The slots at the opening.
+fn first_slots(alloc: Global, slots: u32, start: u32) -> Result<Vec<SlotState>, AllocError>
+    requires some { 1 ≤ slots }
+    requires generations { start ≤ 4294967294 }
+    ensures { IfOk result (λ states. states.items ≡ (opened 0 slots start).slots) }
+{
+    let mut states = vec![in alloc; SlotState {
+        generation: start,
+        marks: None
+    }; slots as usize]?;
+    states[0] = SlotState {
+        generation: start + 1,
+        marks: Some(Marks {
+            activated: true,
+            doomed: false,
+        }),
+    };
+    Ok(states)
+}
+
+impl Words {
+    /// A table of words with its Master: only the root has a node, a live directory of generation 1.
+    ///
+    /// Refusal: NoMemory.
+    pub fn new(alloc: Global, limits: Limits) -> Result<(Words, Master), Refusal>
+        ensures table { IfOk result (λ r. r.0 ≡ r.1.table) }
+        ensures view { IfOk result (λ r. r.1.view ≡ opened limits.holds limits.slots 0) }
+        ensures nodes { IfOk result (λ r. r.1.nodes ≡ replicate limits.slots node_of.Dir) }
+        ensures refused { IfErr result (λ why. why ≡ refusal_of.NoMemory) }
+    {
+        Words::new_at(alloc, limits, 0)
+    }
+
+    /// The same, where each slot has already had `start` generations. The root has the next.
+    ///
+    /// Refusal: NoMemory.
+    pub fn new_at(alloc: Global, limits: Limits, start: u32) -> Result<(Words, Master), Refusal>
+        requires { start ≤ 4294967294 }
+        ensures table { IfOk result (λ r. r.0 ≡ r.1.table) }
+        ensures view { IfOk result (λ r. r.1.view ≡ opened limits.holds limits.slots start) }
+        ensures nodes { IfOk result (λ r. r.1.nodes ≡ replicate limits.slots node_of.Dir) }
+        ensures refused { IfErr result (λ why. why ≡ refusal_of.NoMemory) }
+    {
+        let count = limits.slots();
+        let holds = limits.holds();
+        let words = first_words(alloc, count, start)?;
+        let slots = first_slots(alloc, count, start)?;
+        let nodes = vec![in alloc; Node::Dir; count as usize]?;
+        let opening = Opening {
+            holds,
+            slots: count,
+            start,
+        };
+        let (table, token) = WordTable::of_words(alloc, words.as_slice(), &opening)?;
+        let table = Arc::new(alloc, table)?;
+        let shared = Arc::try_clone(&table)?;
+        let master = Master {
+            steps: MasterSeat {
+                table: shared,
+                token,
+            },
+            slots,
+            nodes,
+            holds,
+        };
+        Ok((Words { table }, master))
+    }
+}
