@@ -28,9 +28,9 @@ pub struct World {
     slots: Vec<SlotState>,
     callers: Vec<Caller>,
     limit: u32,
-    // By slot.
+    // By slot, so that no question walks the callers.
     counts: Vec<Counts>,
-    // Where the search for a free slot begins.
+    // From slot 1 up, no slot below this one is free.
     lowest: u32,
 }
 

@@ -31,7 +31,7 @@ has_bias_of true false n h = eq-eqb _ _ (omega arith)
 has_bias_of false true n h = ne_eqb _ _ (λ e. omega arith)
 has_bias_of false false n h = ne_eqb _ _ (λ e. omega arith)
 
-not_not : (b : Bool) → not (not b) ≡ b
+pub not_not : (b : Bool) → not (not b) ≡ b
 not_not true = refl
 not_not false = refl
 

@@ -26,7 +26,7 @@ use Rattle.atomic_table.proofs.Lists.{at_set}
 use Rattle.kf_words.specs.declared.view.CallerView.{CallerView}
 use Rattle.kf_words.specs.declared.view.MasterView.{MasterView}
 use Rattle.kf_words.specs.Layout.{bit, keeps_out, is_drained, has_linked, holds_in, IsFree}
-use Rattle.kf_words.specs.Rule.{tally, uses, holds, users, holders, pins_in, ShowsMarks, ShowsHolds, StillHolds, hold_index, hold_word, last_key, caller, bare, Shows}
+use Rattle.kf_words.specs.Rule.{tally, is_user, is_holder, users, holders, pins_in, ShowsMarks, ShowsHolds, StillHolds, hold_index, hold_word, last_key, caller, bare, Shows}
 use Rattle.kf_words.specs.Steps.{after_step, after_try, after_undo, after_leave, after_look, after_release, after_part, after_break, after_restore}
 use Rattle.kf_words.proofs.Bits.{bool_cases, live_shows, drained_shows, one_more, one_less, waiting_is, counted_unspent, not_spent, held_not_free, hold_less, linked_shows, count_shows}
 use Rattle.kf_words.proofs.Seating.{caller_at, at_caller, tally-set, tally≤, tally-one}
@@ -63,14 +63,14 @@ module _ (words : List ℕ) (m : MasterView) (cs : List CallerView) (j : ℕ) (c
 
   -- its hold is counted, so the slot is not free
   held : 1 ≤ holders slot cs
-  held = tally-one (holds slot) cs j c at (ap (λ (b : Bool). b && not (is_spent c.phase)) (in_its_slot c refl) ∙ ap not (not_spent c.phase holding))
+  held = tally-one (is_holder slot) cs j c at (ap (λ (b : Bool). b && not (is_spent c.phase)) (in_its_slot c refl) ∙ ap not (not_spent c.phase holding))
 
   not_free : IsFree hold → ⊥
   not_free free = held_not_free m.limit hold last.0 (holders slot cs + pins_in m.pinning slot) shows.few (shows.holds slot last.0 last.1) (let h = held in omega arith) free
 
   users_few : users slot cs ≤ 65535
   users_few =
-      let a = tally≤ (uses slot) (holds slot) cs (λ i x e u. and_not_spent (eqb x.key.slot slot) (has_reference x.phase) x.undo_due x.phase u refl (shows.tries i x e)) in
+      let a = tally≤ (is_user slot) (is_holder slot) cs (λ i x e u. and_not_spent (eqb x.key.slot slot) (has_reference x.phase) x.undo_due x.phase u refl (shows.tries i x e)) in
       let b = (shows.holds slot last.0 last.1).1 in
       let d = shows.few in
       omega arith
@@ -81,7 +81,7 @@ module _ (words : List ℕ) (m : MasterView) (cs : List CallerView) (j : ℕ) (c
       and_not_spent true false true phase u e tries = ap (λ (q : Phase). not (is_spent q)) (tries refl)
       and_not_spent true false false phase u e tries = absurd (let x : false ≡ true = u in cc)
 
-  -- in another slot no_caller comes or goes
+  -- in another slot nobody comes or goes
   off : (k : ℕ) (x : CallerView) (b : Bool) → x.key.slot ≢ k → ((eqb x.key.slot k) && b) ≡ false
   off k x b ne = ap (λ (a : Bool). a && b) (ne_eqb x.key.slot k ne)
 
@@ -157,7 +157,7 @@ module _ (words : List ℕ) (m : MasterView) (cs : List CallerView) (j : ℕ) (c
         (subst (λ (x : ℕ). ShowsMarks x state.marks (users slot (set cs j c'))) (sym (get_or-set_same words slot new 0 (omega arith)))
         (subst (λ (x : SlotState). ShowsMarks new x.marks (users slot (set cs j c'))) one is)))
         (λ ne. subst (λ (n : ℕ). ShowsMarks n state.marks (users k (set cs j c'))) (sym (get_or-set_other words slot k new 0 ne))
-        (subst (λ (n : ℕ). ShowsMarks (get_or words k 0) state.marks n) (sym (in_other uses k ne (λ x. off k x (has_reference x.phase || x.undo_due)))) (shows.marks k state its))))
+        (subst (λ (n : ℕ). ShowsMarks (get_or words k 0) state.marks n) (sym (in_other is_user k ne (λ x. off k x (has_reference x.phase || x.undo_due)))) (shows.marks k state its))))
         (λ k state its.
         let n = near in
         subst (λ (x : ℕ). ShowsHolds m.limit x state (holders k (set cs j c') + pins_in m.pinning k)) (sym (get_or-set_other words slot (hold_index m k) new 0 (λ e. omega arith)))
@@ -170,11 +170,11 @@ module _ (words : List ℕ) (m : MasterView) (cs : List CallerView) (j : ℕ) (c
         stays : (k : ℕ) → holders k (set cs j c') ≡ holders k cs
         stays k = dite (ℕ_discrete k slot)
             (λ e. subst (λ (x : ℕ). holders x (set cs j c') ≡ holders x cs) (sym e)
-            (let r = in_this holds true true (ap (λ (b : Bool). b && not (is_spent c.phase)) (in_its_slot c refl) ∙ ap not (not_spent c.phase holding)) (ap (λ (b : Bool). b && not (is_spent c'.phase)) (in_its_slot c' same) ∙ ap not (not_spent c'.phase holds')) in omega arith))
-            (λ ne. in_other holds k ne (λ x. off k x (not (is_spent x.phase))))
+            (let r = in_this is_holder true true (ap (λ (b : Bool). b && not (is_spent c.phase)) (in_its_slot c refl) ∙ ap not (not_spent c.phase holding)) (ap (λ (b : Bool). b && not (is_spent c'.phase)) (in_its_slot c' same) ∙ ap not (not_spent c'.phase holds')) in omega arith))
+            (λ ne. in_other is_holder k ne (λ x. off k x (not (is_spent x.phase))))
 
     users_now : (b b' : Bool) → (has_reference c.phase || c.undo_due) ≡ b → (has_reference c'.phase || c'.undo_due) ≡ b' → users slot (set cs j c') + bit b 1 ≡ users slot cs + bit b' 1
-    users_now b b' was now = in_this uses b b' (ap (λ (s : Bool). s && (has_reference c.phase || c.undo_due)) (in_its_slot c refl) ∙ was) (ap (λ (s : Bool). s && (has_reference c'.phase || c'.undo_due)) (in_its_slot c' same) ∙ now)
+    users_now b b' was now = in_this is_user b b' (ap (λ (s : Bool). s && (has_reference c.phase || c.undo_due)) (in_its_slot c refl) ∙ was) (ap (λ (s : Bool). s && (has_reference c'.phase || c'.undo_due)) (in_its_slot c' same) ∙ now)
 
     adds : (has_reference c.phase || c.undo_due) ≡ false → (has_reference c'.phase || c'.undo_due) ≡ true → c'.phase ≢ Spent → (c'.undo_due ≡ true → c'.phase ≡ Turned) → (c'.phase ≡ Running → are_live last.0.marks ≡ true)
         → (e : Event) → BareStep world e (with_phase world j c.key c'.phase) → Shows (set words slot ((word + 1) % 2 ^ 64)) m (set cs j c')
@@ -248,7 +248,7 @@ module _ (words : List ℕ) (m : MasterView) (cs : List CallerView) (j : ℕ) (c
       let y : CallerView = x.0 in
       let key : y.key ≡ c.key = ap (λ (h : Caller). h.key) x.2 in
       let its : y.phase ≡ phase = ap (λ (h : Caller). h.phase) x.2 in
-      let one = tally-one (uses slot) cs i y x.1 (ap (λ (b : Bool). b && (has_reference y.phase || y.undo_due)) (in_its_slot y key) ∙ ap (λ (p : Phase). has_reference p || y.undo_due) its ∙ ap (λ (b : Bool). b || y.undo_due) counted) in
+      let one = tally-one (is_user slot) cs i y x.1 (ap (λ (b : Bool). b && (has_reference y.phase || y.undo_due)) (in_its_slot y key) ∙ ap (λ (p : Phase). has_reference p || y.undo_due) its ∙ ap (λ (b : Bool). b || y.undo_due) counted) in
       omega arith)
     where
       no : (b : Bool) → (b ≡ true → ⊥) → b ≡ false
@@ -274,7 +274,7 @@ module _ (words : List ℕ) (m : MasterView) (cs : List CallerView) (j : ℕ) (c
     uses_stay : (k : ℕ) → users k (set cs j c') ≡ users k cs
     uses_stay k = dite (ℕ_discrete k slot)
         (λ e. subst (λ (x : ℕ). users x (set cs j c') ≡ users x cs) (sym e) (let r = users_now c' same false false idle idle' in omega arith))
-        (λ ne. in_other c' same uses k ne (λ x. off k x (has_reference x.phase || x.undo_due)))
+        (λ ne. in_other c' same is_user k ne (λ x. off k x (has_reference x.phase || x.undo_due)))
 
     on_hold_word : (new : ℕ) → ShowsHolds m.limit new last.0 (holders slot (set cs j c') + pins_in m.pinning slot) → ((found : ℕ) → StillHolds m.limit found hold → StillHolds m.limit found new)
         → (e : Event) → BareStep world e (with_phase world j c.key c'.phase) → Shows (set words (hold_index m slot) new) m (set cs j c')
@@ -293,7 +293,7 @@ module _ (words : List ℕ) (m : MasterView) (cs : List CallerView) (j : ℕ) (c
         (subst (λ (x : SlotState). ShowsHolds m.limit new x (holders slot (set cs j c') + pins_in m.pinning slot)) one is)))
         (λ ne.
         subst (λ (x : ℕ). ShowsHolds m.limit x state (holders k (set cs j c') + pins_in m.pinning k)) (sym (elsewhere k ne))
-        (subst (λ (x : ℕ). ShowsHolds m.limit (hold_word words m k) state (x + pins_in m.pinning k)) (sym (in_other c' same holds k ne (λ x. off k x (not (is_spent x.phase))))) (shows.holds k state its))))
+        (subst (λ (x : ℕ). ShowsHolds m.limit (hold_word words m k) state (x + pins_in m.pinning k)) (sym (in_other c' same is_holder k ne (λ x. off k x (not (is_spent x.phase))))) (shows.holds k state its))))
         (λ e. absurd (let x : true ≡ false = sym e ∙ settled' in cc))
         (λ k found s. dite (ℕ_discrete k slot)
         (λ e. subst (λ (x : ℕ). StillHolds m.limit found (hold_word (set words (hold_index m slot) new) m x)) (sym e)
@@ -308,13 +308,13 @@ module _ (words : List ℕ) (m : MasterView) (cs : List CallerView) (j : ℕ) (c
         elsewhere : (k : ℕ) → k ≢ slot → hold_word (set words (hold_index m slot) new) m k ≡ hold_word words m k
         elsewhere k ne = get_or-set_other words (hold_index m slot) (hold_index m k) new 0 (λ e. ne (omega arith))
 
-  in_holds : (p : Phase) → p ≢ Spent → (holds slot (after_step p false 0 c)) ≡ true
+  in_holds : (p : Phase) → p ≢ Spent → (is_holder slot (after_step p false 0 c)) ≡ true
   in_holds p unspent = ap (λ (b : Bool). b && not (is_spent p)) (in_its_slot c refl) ∙ ap not (not_spent p unspent)
 
   pub release_owes : may_release c.phase ≡ true → c.undo_due ≡ false → hold < 18446744073709551616 → Shows (set words (hold_index m slot) ((hold + (2 ^ 64 - 1)) % 2 ^ 64)) m (set cs j (after_release hold c))
   release_owes idles settled small =
       let c' : CallerView = after_release hold c in
-      let r = in_this c' refl holds true false (in_holds c.phase holding) (ap (λ (b : Bool). b && false) (in_its_slot c refl)) in
+      let r = in_this c' refl is_holder true false (in_holds c.phase holding) (ap (λ (b : Bool). b && false) (in_its_slot c refl)) in
       let n : ℕ = holders slot cs + pins_in m.pinning slot in
       let n' : ℕ = holders slot (set cs j c') + pins_in m.pinning slot in
       let less : n ≡ n' + 1 = omega arith in
@@ -348,9 +348,9 @@ module _ (words : List ℕ) (m : MasterView) (cs : List CallerView) (j : ℕ) (c
       (record { key = c.key; there = subst (λ (p : Phase). slice_get world.callers j ≡ Some (record { key = c.key; phase = p })) drains there; gone = ap is_some known ∙ sym linked_is ∙ no }, refl)))
       (bool_cases (has_linked hold))
     where
-      stays : (c' : CallerView) (same : c'.key ≡ c.key) → (has_reference c.phase || c.undo_due) ≡ false → (has_reference c'.phase || c'.undo_due) ≡ false → c'.undo_due ≡ false → c'.phase ≢ Running → holds slot c' ≡ true
+      stays : (c' : CallerView) (same : c'.key ≡ c.key) → (has_reference c.phase || c.undo_due) ≡ false → (has_reference c'.phase || c'.undo_due) ≡ false → c'.undo_due ≡ false → c'.phase ≢ Running → is_holder slot c' ≡ true
           → (e : Event) → BareStep world e (with_phase world j c.key c'.phase) → Shows (set words (hold_index m slot) hold) m (set cs j c')
       stays c' same idle idle' settled' runs' now =
-          let r = in_this c' same holds true true (in_holds c.phase holding) now in
+          let r = in_this c' same is_holder true true (in_holds c.phase holding) now in
           let even : holders slot (set cs j c') ≡ holders slot cs = omega arith in
           on_hold_word c' same idle idle' settled' runs' hold (subst (λ (n : ℕ). ShowsHolds m.limit hold last.0 (n + pins_in m.pinning slot)) (sym even) (shows.holds slot last.0 last.1)) (λ found s. s)

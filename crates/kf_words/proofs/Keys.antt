@@ -1,5 +1,5 @@
 -- What the Master knows of a slot and of its keys, and a search load by load.
-use Rattle.std.proofs.Common.{◌≡◌, ℕ, zero, suc, get_or, slice_set, ◌+◌, ◌<◌, ◌/◌, true, false, List, [], ◌∷◌, ◌++◌, length, refl, sym, ap, ◌∙◌, arith}
+use Rattle.std.proofs.Common.{◌≡◌, ℕ, zero, suc, get_or, slice_set, ◌+◌, ◌<◌, ◌≤◌, ◌/◌, true, false, List, [], ◌∷◌, ◌++◌, length, refl, sym, ap, ◌∙◌, arith}
 use Rattle.std.specs.Prelude.{slice_get, Option, Some, None, is_some}
 use Rattle.std.specs.Option.{option_map}
 use Rattle.std.proofs.lemmas.Option.{slice_get_within, get_or_from_slice_get, none-some, same_Some}
@@ -41,6 +41,11 @@ with_loads_limit (l ∷ ls) m = with_loads_limit ls (with_load l.slot l.word m)
 pub with_loads_pinning : (loads : List Load) (m : MasterView) → (with_loads loads m).pinning ≡ m.pinning
 with_loads_pinning [] m = refl
 with_loads_pinning (l ∷ ls) m = with_loads_pinning ls (with_load l.slot l.word m)
+
+pub not_below : (a b : ℕ) → (a < b → ⊥) → b ≤ a
+not_below a zero h = omega arith
+not_below zero (suc b) h = absurd (h (omega arith))
+not_below (suc a) (suc b) h = let r = not_below a b (λ l. h (omega arith)) in omega arith
 
 -- a linked key is the last of its slot
 pub linked_state : (m : MasterView) (key : Key) → is_some (marks_of m key) ≡ true → (x : Marks) × (slice_get m.slots key.slot ≡ Some (record { generation = key.generation; marks = Some x }))

@@ -8,3 +8,4 @@ pub mod MasterViews
 pub mod MasterAllowed
 pub mod Keys
 pub mod Opening
+pub mod Tells

@@ -24,14 +24,14 @@ use Rattle.kf_words.specs.declared.view.CallerView.{CallerView}
 use Rattle.kf_words.specs.declared.view.MasterView.{MasterView}
 use Rattle.kf_words.specs.declared.view.Load.{Load}
 use Rattle.kf_words.specs.Layout.{bit, bias, doom, linked, one_generation, is_drained, holds_in, HasRoom, IsFree}
-use Rattle.kf_words.specs.Rule.{uses, holds, users, holders, pins_in, ShowsMarks, ShowsHolds, StillHolds, hold_index, hold_word, last_key, caller, bare, Shows}
+use Rattle.kf_words.specs.Rule.{is_user, is_holder, users, holders, pins_in, ShowsMarks, ShowsHolds, StillHolds, hold_index, hold_word, last_key, caller, bare, Shows}
 use Rattle.kf_words.specs.Steps.{on_active, on_hold, activated_marks, doomed_marks}
 use Rattle.kf_words.proofs.Bits.{counted_unspent, free_shows, count_shows, hold_less, hold_more}
 use Rattle.kf_words.proofs.Seating.{at_caller, tally≤, tally-one}
 
 module _ (words : List ℕ) (m : MasterView) (cs : List CallerView) (shows : Shows words m cs) where
   pub users≤holders : (slot : ℕ) → users slot cs ≤ holders slot cs
-  users≤holders slot = tally≤ (uses slot) (holds slot) cs (λ i x e u. and_not_spent (eqb x.key.slot slot) (has_reference x.phase) x.undo_due x.phase u refl (shows.tries i x e))
+  users≤holders slot = tally≤ (is_user slot) (is_holder slot) cs (λ i x e u. and_not_spent (eqb x.key.slot slot) (has_reference x.phase) x.undo_due x.phase u refl (shows.tries i x e))
     where
       and_not_spent : (s p t : Bool) (phase : Phase) → (s && (p || t)) ≡ true → has_reference phase ≡ p → (t ≡ true → phase ≡ Turned) → (s && not (is_spent phase)) ≡ true
       and_not_spent false p t phase u e tries = absurd (let x : false ≡ true = u in cc)
@@ -175,15 +175,15 @@ module _ (words : List ℕ) (m : MasterView) (cs : List CallerView) (shows : Sho
         (nothing_loaded _) (nothing_fresh _) (no_look _)
         (subst Safe (sym same_world) shows.safe))
 
-    -- no_caller holds a free slot
-    unheld : IsFree hold → (holders slot cs ≡ 0) × (pins_in m.pinning slot ≡ 0) × (is_some state.marks ≡ false) × (state.generation < 4294967295) × (users slot cs ≡ 0)
+    -- nobody holds a free slot
+    pub unheld : IsFree hold → (holders slot cs ≡ 0) × (pins_in m.pinning slot ≡ 0) × (is_some state.marks ≡ false) × (state.generation < 4294967295) × (users slot cs ≡ 0)
     unheld free =
         let f = free_shows m.limit hold state (holders slot cs + pins_in m.pinning slot) shows.few shown_holds free in
         let none = f.0 in
         let u = users≤holders slot in
         (omega arith, omega arith, f.1, f.2, omega arith)
 
-    unlinked_state : (o : Option Marks) → is_some o ≡ false → o ≡ None
+    pub unlinked_state : (o : Option Marks) → is_some o ≡ false → o ≡ None
     unlinked_state None e = refl
     unlinked_state (Some x) e = absurd (let y : true ≡ false = e in cc)
 
@@ -208,6 +208,27 @@ module _ (words : List ℕ) (m : MasterView) (cs : List CallerView) (shows : Sho
         (no_look _)
         (subst Safe (sym same_world) shows.safe))
 
+    -- who is on a slot without holders is spent
+    spent_if : (p : Phase) → (is_spent p ≡ false → ⊥) → p ≡ Spent
+    spent_if Spent h = refl
+    spent_if Still h = absurd (h refl)
+    spent_if Turned h = absurd (h refl)
+    spent_if Running h = absurd (h refl)
+    spent_if Broken h = absurd (h refl)
+    spent_if Restored h = absurd (h refl)
+    spent_if Drained h = absurd (h refl)
+    spent_if Parted h = absurd (h refl)
+
+    pub only_spent : (c : ℕ) (k : Key) (phase : Phase) → IsCaller (bare m cs) c k phase → k.slot ≡ slot → holders slot cs ≡ 0 → phase ≡ Spent
+    only_spent c k phase there same nobody =
+        let x = at_caller cs c (record { key = k; phase = phase }) there in
+        let y : CallerView = x.0 in
+        let its_slot : y.key.slot ≡ slot = ap (λ (h : Caller). h.key.slot) x.2 ∙ same in
+        let its_phase : y.phase ≡ phase = ap (λ (h : Caller). h.phase) x.2 in
+        spent_if phase (λ unspent.
+        let one = tally-one (is_holder slot) cs c y x.1 (ap (λ (b : Bool). b && not (is_spent y.phase)) (eq-eqb y.key.slot slot its_slot) ∙ ap (λ (p : Phase). not (is_spent p)) its_phase ∙ ap not unspent) in
+        omega arith)
+
     -- a node is born where the active word is fresh
     pub birth : m.fresh ≡ Some slot → hold < 18446744073709551616
         → Shows (set words (hold_index m slot) ((hold + (one_generation + linked)) % 2 ^ 64))
@@ -215,7 +236,7 @@ module _ (words : List ℕ) (m : MasterView) (cs : List CallerView) (shows : Sho
     birth is_fresh small =
         let f = shows.fresh slot is_fresh in
         let u = unheld f.2 in
-        let no_caller = u.0 in let no_pins = u.1 in let gone = u.2 in let after_leave = u.3 in
+        let nobody = u.0 in let no_pins = u.1 in let gone = u.2 in let spare = u.3 in
         let new : ℕ = (hold + (one_generation + linked)) % 2 ^ 64 in
         let node : SlotState = record { generation = state.generation + 1; marks = Some fresh_marks } in
         let g : ℕ = state.generation in
@@ -234,28 +255,8 @@ module _ (words : List ℕ) (m : MasterView) (cs : List CallerView) (shows : Sho
           last = g;
           unlinked = its ∙ ap (λ (o : Option Marks). let x : SlotState = record { generation = g; marks = o } in Some x) (unlinked_state state.marks gone);
           next = refl;
-          unheld = λ c k phase there same. only_spent c k phase there same no_caller;
+          unheld = λ c k phase there same. only_spent c k phase there same nobody;
         }))
-      where
-        spent_if : (p : Phase) → (is_spent p ≡ false → ⊥) → p ≡ Spent
-        spent_if Spent h = refl
-        spent_if Still h = absurd (h refl)
-        spent_if Turned h = absurd (h refl)
-        spent_if Running h = absurd (h refl)
-        spent_if Broken h = absurd (h refl)
-        spent_if Restored h = absurd (h refl)
-        spent_if Drained h = absurd (h refl)
-        spent_if Parted h = absurd (h refl)
-
-        only_spent : (c : ℕ) (k : Key) (phase : Phase) → IsCaller (bare m cs) c k phase → k.slot ≡ slot → holders slot cs ≡ 0 → phase ≡ Spent
-        only_spent c k phase there same no_caller =
-            let x = at_caller cs c (record { key = k; phase = phase }) there in
-            let y : CallerView = x.0 in
-            let its_slot : y.key.slot ≡ slot = ap (λ (h : Caller). h.key.slot) x.2 ∙ same in
-            let its_phase : y.phase ≡ phase = ap (λ (h : Caller). h.phase) x.2 in
-            spent_if phase (λ unspent.
-            let one = tally-one (holds slot) cs c y x.1 (ap (λ (b : Bool). b && not (is_spent y.phase)) (eq-eqb y.key.slot slot its_slot) ∙ ap (λ (p : Phase). not (is_spent p)) its_phase ∙ ap not unspent) in
-            omega arith)
 
     -- a node leaves the tree, after its word was found drained
     pub unlink : (x : Marks) (found : ℕ) → state.marks ≡ Some x → m.looked ≡ Some (record { slot = slot; word = found }) → is_drained found ≡ true → hold < 18446744073709551616

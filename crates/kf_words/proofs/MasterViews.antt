@@ -19,7 +19,7 @@ use Rattle.kf_words.specs.declared.view.CallerView.{CallerView}
 use Rattle.kf_words.specs.declared.view.MasterView.{MasterView}
 use Rattle.kf_words.specs.declared.view.Load.{Load}
 use Rattle.kf_words.specs.Layout.{bit, is_drained}
-use Rattle.kf_words.specs.Rule.{uses, holds, users, holders, pins_in, ShowsMarks, ShowsHolds, StillHolds, hold_word, last_key, caller, bare, Shows}
+use Rattle.kf_words.specs.Rule.{is_user, is_holder, users, holders, pins_in, ShowsMarks, ShowsHolds, StillHolds, hold_word, last_key, caller, bare, Shows}
 use Rattle.kf_words.specs.Steps.{on_active, after_split, new_hold, with_look}
 use Rattle.kf_words.proofs.Bits.{drained_shows}
 use Rattle.kf_words.proofs.Seating.{at_caller, tally-push, tally-one}
@@ -56,7 +56,7 @@ module _ (words : List ℕ) (m : MasterView) (cs : List CallerView) (shows : Sho
       off false = refl
 
       no_user : (k : ℕ) → users k (cs ++ new_hold (last_key slot state) ∷ []) ≡ users k cs
-      no_user k = let a = tally-push (uses k) cs (new_hold (last_key slot state)) in let b : bit (uses k (new_hold (last_key slot state))) 1 ≡ 0 = off (eqb slot k) in omega arith
+      no_user k = let a = tally-push (is_user k) cs (new_hold (last_key slot state)) in let b : bit (is_user k (new_hold (last_key slot state))) 1 ≡ 0 = off (eqb slot k) in omega arith
 
       one_of : (b : Bool) → bit (b && true) 1 ≡ bit b 1
       one_of true = refl
@@ -64,8 +64,8 @@ module _ (words : List ℕ) (m : MasterView) (cs : List CallerView) (shows : Sho
 
       same_holds : (k : ℕ) → holders k (cs ++ new_hold (last_key slot state) ∷ []) + pins_in None k ≡ holders k cs + pins_in m.pinning k
       same_holds k =
-          let a = tally-push (holds k) cs (new_hold (last_key slot state)) in
-          let b : bit (holds k (new_hold (last_key slot state))) 1 ≡ bit (eqb slot k) 1 = one_of (eqb slot k) in
+          let a = tally-push (is_holder k) cs (new_hold (last_key slot state)) in
+          let b : bit (is_holder k (new_hold (last_key slot state))) 1 ≡ bit (eqb slot k) 1 = one_of (eqb slot k) in
           let d : pins_in m.pinning k ≡ bit (eqb slot k) 1 = ap (λ o. pins_in o k) pins in
           omega arith
 
@@ -119,5 +119,5 @@ module _ (words : List ℕ) (m : MasterView) (cs : List CallerView) (shows : Sho
           let z : CallerView = y.0 in
           let its_slot : z.key.slot ≡ i = ap (λ (h : Caller). h.key.slot) y.2 in
           let its_phase : z.phase ≡ Running = ap (λ (h : Caller). h.phase) y.2 in
-          let one = tally-one (uses i) cs c z y.1 (ap (λ (b : Bool). b && (has_reference z.phase || z.undo_due)) (eq-eqb z.key.slot i its_slot) ∙ ap (λ (p : Phase). has_reference p || z.undo_due) its_phase) in
+          let one = tally-one (is_user i) cs c z y.1 (ap (λ (b : Bool). b && (has_reference z.phase || z.undo_due)) (eq-eqb z.key.slot i its_slot) ∙ ap (λ (p : Phase). has_reference p || z.undo_due) its_phase) in
           omega arith

@@ -3,3 +3,4 @@ pub mod Rule
 pub mod Steps
 pub mod Callers
 pub mod Nodes
+pub mod Laws

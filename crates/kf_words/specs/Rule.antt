@@ -25,18 +25,18 @@ tally p [] = 0
 tally p (c ∷ cs) = bit (p c) 1 + tally p cs
 
 -- the caller counts in the active word of this slot: it has a reference, or a refused try of it is not yet undone
-abbrev pub uses : ℕ → CallerView → Bool
-uses slot c = (c.key.slot == slot) && (has_reference c.phase || c.undo_due)
+abbrev pub is_user : ℕ → CallerView → Bool
+is_user slot c = (c.key.slot == slot) && (has_reference c.phase || c.undo_due)
 
 -- the caller counts in the hold word of this slot
-abbrev pub holds : ℕ → CallerView → Bool
-holds slot c = (c.key.slot == slot) && not (is_spent c.phase)
+abbrev pub is_holder : ℕ → CallerView → Bool
+is_holder slot c = (c.key.slot == slot) && not (is_spent c.phase)
 
 abbrev pub users : ℕ → List CallerView → ℕ
-users slot cs = tally (uses slot) cs
+users slot cs = tally (is_user slot) cs
 
 abbrev pub holders : ℕ → List CallerView → ℕ
-holders slot cs = tally (holds slot) cs
+holders slot cs = tally (is_holder slot) cs
 
 -- a pin of this slot that no seat has yet
 abbrev pub pins_in : Option ℕ → ℕ → ℕ

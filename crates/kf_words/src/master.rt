@@ -1,6 +1,7 @@
 //! The Master: the one seat that makes and unmakes nodes. Whoever owns it, as the tree lock does, gives the tree's commands.
 ghost use Rattle.std.specs.Prelude.{◌≡◌, ◌<◌, true, length, is_some, IfOk, IfErr, OnOk};
-ghost use Rattle.kf_words.specs.Nodes.{KeepsNodes, IsNewHold, IsLastKey, WasPinned, PinRefused, HeldPinRefused, RoomFound, marks_of};
+ghost use Rattle.kf_core.specs.declared.refusal.Refusal.TheVariants as refusal_of;
+ghost use Rattle.kf_words.specs.Nodes.{KeepsNodes, IsNewHold, IsLastKey, WasPinned, PinRefused, HeldPinRefused, RoomFound, FoundFull, marks_of};
 
 use crate::call::Call;
 use crate::hold::Hold;
@@ -61,6 +62,7 @@ impl Master {
         ensures hold { IfOk result (λ hold. IsNewHold self.old key hold) }
         ensures pinned { OnOk result (WasPinned self.old.view key.slot self.new.view) }
         ensures refused { IfErr result (λ why. PinRefused self.old.view key.slot why self.new.view) }
+        ensures full { IfErr result (λ why. why ≡ refusal_of.TooManyHolds → FoundFull self.new.view key.slot) }
     {
         self.pin_last(key)
     }
@@ -74,6 +76,7 @@ impl Master {
         ensures hold { IfOk result (λ hold. IsNewHold self.old call.now.key hold) }
         ensures pinned { OnOk result (IsLastKey self.old.view call.now.key × WasPinned self.old.view call.now.key.slot self.new.view) }
         ensures refused { IfErr result (λ why. HeldPinRefused self.old.view call.now.key why self.new.view) }
+        ensures full { IfErr result (λ why. why ≡ refusal_of.TooManyHolds → FoundFull self.new.view call.now.key.slot) }
     {
         let key = call.key();
         match self.slots.get(key.slot as usize) {
@@ -89,6 +92,7 @@ impl Master {
         ensures hold { IfOk result (λ hold. IsNewHold self.old key hold) }
         ensures pinned { OnOk result (WasPinned self.old.view key.slot self.new.view) }
         ensures refused { IfErr result (λ why. PinRefused self.old.view key.slot why self.new.view) }
+        ensures full { IfErr result (λ why. why ≡ refusal_of.TooManyHolds → FoundFull self.new.view key.slot) }
     {
         let found = self.steps.load_hold(key.slot);
         if !has_room(found, self.holds) {

@@ -1,6 +1,4 @@
 //! The table of words and its rule.
-ghost use Rattle.std.specs.Prelude.{◌≤◌};
-
 use crate::view::View;
 use atomic_table::{Table, TableRule};
 use std::alloc::Global;
@@ -12,9 +10,6 @@ pub struct Opening {
     pub holds: u32,
     pub slots: u32,
     pub start: u32,
-    ghost some_slot: { 1 ≤ slots },
-    ghost few_holds: { holds ≤ 65535 },
-    ghost generations: { start ≤ 4294967294 },
 }
 
 /// The rule of the table: what the words show of all views, between any two steps.

@@ -228,3 +228,55 @@ fn a_slot_is_given_again_when_nobody_holds_it(rt: HostRuntime) {
     slot_is_given_again(&rt, rt.alloc(), true);
     slot_is_given_again(&rt, rt.alloc(), false);
 }
+
+#[test]
+fn a_call_is_pinned_after_its_node_has_left(rt: HostRuntime) {
+    let limits = Limits::new(2, 4).expect(&rt, "limits");
+    let (_words, mut master) = Words::new(rt.alloc(), limits).expect(&rt, "memory");
+    let key = born(&rt, &mut master, 1, 1);
+    activate(&rt, &mut master, key);
+    let first = pin(&rt, &mut master, key);
+    let mut call = enter(&rt, first);
+    let second = match master.pin_held(&call) {
+        Ok(hold) => hold,
+        Err(_) => panic!(rt; "no hold of the key of a call"),
+    };
+    assert_eq!(rt; second.node(), FILE);
+    doom(&rt, &mut master, key);
+    call.break_protection();
+    let drained = look(&rt, second);
+    assert!(rt; unlink(&rt, &mut master, &drained));
+    let third = match master.pin_held(&call) {
+        Ok(hold) => hold,
+        Err(_) => panic!(rt; "no hold of the key of a call whose node has left"),
+    };
+    assert_eq!(rt; third.key(), key);
+    call.restore();
+    let third = looks_used(&rt, third);
+    part(&rt, drained).release();
+    third.release();
+    assert_eq!(rt; master.free_key(), None);
+    call.leave().release();
+    assert_eq!(rt;
+        master.free_key(),
+        Some(Key {
+            slot: 1,
+            generation: 2
+        })
+    );
+}
+
+#[test]
+fn the_root_is_a_live_directory(rt: HostRuntime) {
+    let mut master = made(&rt, rt.alloc(), 2, 2, 0);
+    let hold = pin(
+        &rt,
+        &mut master,
+        Key {
+            slot: 0,
+            generation: 1,
+        },
+    );
+    assert_eq!(rt; hold.node(), Node::Dir);
+    enter(&rt, hold).leave().release();
+}

@@ -123,13 +123,15 @@ fn all_drain<R: Threads + Wait + Sync>(rt: &R, holds: &mut Vec<Option<Hold>>, th
     );
 }
 
-// Ends the call, or breaks its protection first and ends it when so many are through.
-fn let_through(mut call: Call, breaks: bool, count: u64, through: &AtomicU64) {
+// Ends the call. Where `breaks` says so it breaks its protection first, and answers whether so many came through before it ends.
+fn let_through(mut call: Call, breaks: bool, count: u64, through: &AtomicU64) -> bool {
+    let mut enough = true;
     match call.phase() {
         Phase::Running => {
             if breaks {
                 call.break_protection();
                 wait_for(count, through);
+                enough = through.load(Ordering::SeqCst) >= count;
                 call.restore();
             }
             call.leave().release();
@@ -141,6 +143,7 @@ fn let_through(mut call: Call, breaks: bool, count: u64, through: &AtomicU64) {
         Phase::Restored => call.leave().release(),
         _ => unreachable!(),
     }
+    enough
 }
 
 // Frees waiters by refused tries, each of which wakes one as it is undone.
@@ -161,20 +164,24 @@ fn free_the_rest(place: &mut Option<Hold>, count: u64, through: &AtomicU64) {
     }
 }
 
-// Four holds wait for a drain while a call is running. The mark comes before they wait, or after.
-fn four_wait<R: Abort + Threads + Wait + Clock + Sync>(
-    rt: &R,
-    alloc: Global,
-    marked_before: bool,
-    breaks: bool,
-) {
+// In which order the node is marked, four holds begin to wait, and the last call gives its reference up.
+#[derive(Clone, Copy, PartialEq, Eq)]
+enum Course {
+    MarkWaitLeave,
+    MarkWaitBreak,
+    WaitMarkLeave,
+    WaitLeaveMark,
+}
+
+// Four holds wait for a drain, and all are woken.
+fn four_wait<R: Abort + Threads + Wait + Clock + Sync>(rt: &R, alloc: Global, course: Course) {
     let mut master = made(rt, alloc, 2, 8, 0);
     let key = born(rt, &mut master, 1, 1);
     activate(rt, &mut master, key);
     let mut running = Some(enter(rt, pin(rt, &mut master, key)));
     let mut holds = pins(rt, alloc, &mut master, key, 4);
     let mut fifth = Some(pin(rt, &mut master, key));
-    if marked_before {
+    if course == Course::MarkWaitLeave || course == Course::MarkWaitBreak {
         doom(rt, &mut master, key);
     }
     let through = AtomicU64::new(0);
@@ -183,19 +190,23 @@ fn four_wait<R: Abort + Threads + Wait + Clock + Sync>(
         || all_drain(rt, &mut holds, &through),
         || {
             thread::sleep(rt, Duration::from_millis(20));
-            if !marked_before {
+            if course == Course::WaitMarkLeave {
                 doom(rt, &mut master, key);
             }
+            let mut enough = true;
             if let Some(call) = running.take() {
-                let_through(call, breaks, 4, &through);
+                enough = let_through(call, course == Course::MarkWaitBreak, 4, &through);
+            }
+            if course == Course::WaitLeaveMark {
+                doom(rt, &mut master, key);
             }
             wait_for(4, &through);
-            let woken = through.load(Ordering::SeqCst);
+            let woken = enough && through.load(Ordering::SeqCst) == 4;
             free_the_rest(&mut fifth, 4, &through);
             woken
         },
     );
-    assert_eq!(rt; woken, 4);
+    assert!(rt; woken);
     if let Some(hold) = fifth {
         look(rt, hold).release();
     }
@@ -218,15 +229,20 @@ fn no_hold_left<R: Abort>(rt: &R, running: Option<Call>, mut holds: Vec<Option<H
 
 #[test]
 fn four_waiters_are_woken_one_by_another(rt: HostRuntime) {
-    four_wait(&rt, rt.alloc(), true, false);
-}
-
-#[test]
-fn waiters_that_came_before_the_mark_are_woken(rt: HostRuntime) {
-    four_wait(&rt, rt.alloc(), false, false);
+    four_wait(&rt, rt.alloc(), Course::MarkWaitLeave);
 }
 
 #[test]
 fn waiters_are_woken_where_the_last_call_breaks_its_protection(rt: HostRuntime) {
-    four_wait(&rt, rt.alloc(), true, true);
+    four_wait(&rt, rt.alloc(), Course::MarkWaitBreak);
+}
+
+#[test]
+fn waiters_that_came_before_the_mark_are_woken_by_the_last_call(rt: HostRuntime) {
+    four_wait(&rt, rt.alloc(), Course::WaitMarkLeave);
+}
+
+#[test]
+fn waiters_that_came_before_the_mark_are_woken_by_the_mark(rt: HostRuntime) {
+    four_wait(&rt, rt.alloc(), Course::WaitLeaveMark);
 }

@@ -1,14 +1,14 @@
-use Rattle.std.proofs.Common.{◌≡◌, ◌<◌, ℕ, List, length, arith, sym, ap, ◌∙◌, subst}
+use Rattle.std.proofs.Common.{◌≡◌, ◌<◌, ◌≤◌, true, false, ℕ, List, length, arith, sym, ap, ◌∙◌, subst}
 use Rattle.std.specs.Arc.{arc_value}
 use Rattle.std.specs.Prelude.{slice_get, Some}
 use Rattle.kf_core.specs.declared.key.Node.{Node}
 use Rattle.kf_core.specs.declared.slot.SlotState.{SlotState}
 use Rattle.kf_words.specs.declared.view.MasterView.{MasterView}
-use Rattle.kf_words.specs.Layout.{HasRoom}
+use Rattle.kf_words.specs.Layout.{HasRoom, holds_in}
 use Rattle.kf_words.specs.Steps.{Seated, caller_of}
 use Rattle.kf_words.specs.Nodes.{MasterState, master_view, Found}
 use Rattle.kf_words.proofs.MasterAllowed.{found_by}
-use Rattle.kf_words.proofs.Keys.{last_within, last_is, get_there}
+use Rattle.kf_words.proofs.Keys.{not_below, last_within, last_is, get_there}
 use Rattle.kf_words.proofs.master.Master.pin_last.Goals as goal
 
 pub pin_hold-requires-clause-room : goal.pin_hold-requires-clause-room
@@ -65,3 +65,16 @@ returns-clause-hold c =
       still = ap (λ t. (caller_of t.me.0).phase) own ∙ ap (λ (y : Seated). (caller_of y.0).phase) c.give_hold-token.ensures.hold;
       steps = ap (λ t. (caller_of t.me.0).steps) own ∙ ap (λ (y : Seated). (caller_of y.0).steps) c.give_hold-token.ensures.hold;
     }
+
+pub pin_hold-requires-clause-slot : goal.pin_hold-requires-clause-slot
+pin_hold-requires-clause-slot c =
+    let same = ap (λ (x : MasterView). x.slots) c.load_hold-found.ensures.view ∙ ap (λ (s : MasterState). s.view.slots) c.self.view_is in
+    last_within c.args.self.now.view (master_view c.load_hold-found.new.self) c.args.key c.requires same
+
+pub returns-then-not-has_room-clause-full : goal.returns-then-not-has_room-clause-full
+returns-then-not-has_room-clause-full c _ =
+    let m : MasterView = master_view c.self.inside.steps in
+    let full : c.self.inside.holds ≤ holds_in c.load_hold-found.result = not_below (holds_in c.load_hold-found.result) c.self.inside.holds (λ room. let y : true ≡ false = sym (c.has_room.ensures.1 room) ∙ c.if-not-has_room.true in cc) in
+    subst (λ (n : ℕ). Found (λ (word : ℕ). n ≤ holds_in word) (master_view c.load_hold-found.new.self) c.args.key.slot)
+    (sym (ap (λ (x : MasterView). x.limit) c.load_hold-found.ensures.view ∙ c.self.invariant.same_limit))
+    (found_by (λ (word : ℕ). c.self.inside.holds ≤ holds_in word) m _ c.args.key.slot c.load_hold-found.result c.load_hold-found.ensures.view full)

@@ -1,0 +1,33 @@
+-- How a script is cut into lines.
+use Rattle.std.specs.Prelude.{ℕ, Bool, true, false, List, [], ◌∷◌, nat_le, ◌==◌, filter, length, Option, Some, None, if◌then◌else◌}
+use Rattle.std.specs.List.{slice_split}
+
+abbrev pub is_newline : ℕ → Bool
+is_newline byte = byte == 10
+
+-- a line without bytes gets no reply
+abbrev pub has_bytes : List ℕ → Bool
+has_bytes [] = false
+has_bytes (byte ∷ line) = true
+
+-- the lines of a script: what stands between its newlines, where that is not empty
+abbrev pub lines_of : List ℕ → List (List ℕ)
+lines_of script = filter has_bytes (slice_split is_newline script)
+
+-- all but the last
+abbrev pub front : List (List ℕ) → List (List ℕ)
+front [] = []
+front (line ∷ []) = []
+front (line ∷ next ∷ lines) = line ∷ front (next ∷ lines)
+
+-- the lines that have ended: what stands before each newline, where that is not empty
+abbrev pub ended_lines_of : List ℕ → List (List ℕ)
+ended_lines_of script = filter has_bytes (front (slice_split is_newline script))
+
+-- the longest line that is read as a command, in bytes and without its newline
+abbrev pub line_limit : ℕ
+line_limit = 8192
+
+-- what the line buffer keeps of a line: its bytes, or nothing where they are more than the limit
+abbrev pub kept_line : List ℕ → Option (List ℕ)
+kept_line line = if nat_le (length line) line_limit then Some line else None

@@ -1,0 +1,127 @@
+-- The tree beside the callers of its nodes.
+use Rattle.std.specs.Prelude.{◌≡◌, ◌⊎◌, ℕ, ◌+◌, ◌-◌, ◌^◌, ◌<◌, ◌≤◌, Bool, true, false, not, ◌&&◌, ◌==◌, nat_lt, List, [], ◌++◌, length, map, replicate, count_by, slice_get, slice_set, slice_index, Option, Some, None, IsTrue, IsFalse}
+use Rattle.std.specs.List.{list_any}
+use Rattle.kf_core.specs.declared.key.Key.{Key}
+use Rattle.kf_core.specs.declared.slot.SlotState.{SlotState}
+use Rattle.kf_core.specs.declared.slot.Marks.{Marks}
+use Rattle.kf_core.specs.declared.caller.Phase.{Phase}
+use Rattle.kf_core.specs.declared.caller.Phase.TheVariants.{Spent}
+use Rattle.kf_core.specs.declared.caller.Caller.{Caller}
+use Rattle.kf_core.specs.declared.records.Record.{Record}
+use Rattle.kf_core.specs.declared.command.Command.{Command}
+use Rattle.kf_core.specs.Phases.{is_waiting, has_reference, is_spent}
+use Rattle.kf_core.specs.Bare.{BareWorld, marks}
+use Rattle.kf_core.specs.Bounded.{BoundedWorld}
+use Rattle.kf_core.specs.Tree.{Tree, marks_of, in_subtree}
+use Rattle.kf_core.specs.declared.refusal.Refusal.{Refusal}
+use Rattle.kf_core.specs.declared.refusal.Refusal.TheVariants.{TooManyHolds, NoMemory}
+use Rattle.kf_core.specs.Commands.{replay, root_alone}
+use Rattle.kf_tree.specs.TreeLogs.{TreeLog, IsKept}
+
+-- the tree with its stored commands, by slot its last generation, the limit of holds, and the callers by their number
+pub record Nodes : Type 0 where
+  pub log : TreeLog
+  pub last : List ℕ
+  pub limit : ℕ
+  pub callers : List Caller
+
+abbrev pub last_of : List SlotState → List ℕ
+last_of slots = map (λ (s : SlotState). s.generation) slots
+
+abbrev pub nodes_of : TreeLog → BoundedWorld → Nodes
+nodes_of log w = record { log = log; last = last_of w.world.slots; limit = w.limit; callers = w.world.callers }
+
+-- both name the same linked, activated and doomed keys
+pub record AreTied (log : TreeLog) (w : BareWorld) : Type 0 where
+  pub kept : IsKept log
+  -- between two commands no linked node is doomed: a removal takes out what it dooms
+  pub undoomed : (key : Key) (m : Marks) → marks w key ≡ Some m → m.doomed ≡ false
+  pub marks : (key : Key) → marks w key ≡ marks_of log.tree key
+  pub slots : length w.slots ≡ length log.tree
+
+-- the world has the last generations, the limit and the callers that it had
+pub record OnlyMarks (old new : BoundedWorld) : Type 0 where
+  pub last : last_of new.world.slots ≡ last_of old.world.slots
+  pub limit : new.limit ≡ old.limit
+  pub callers : new.world.callers ≡ old.world.callers
+
+-- the log after these commands
+abbrev pub logged : TreeLog → List Command → TreeLog
+logged log cs = record { root = log.root; tree = replay log.tree cs; commands = log.commands ++ cs }
+
+-- the root alone, and each slot's last generation is `start`
+abbrev pub root_key : ℕ → Key
+root_key start = record { slot = 0; generation = start + 1 }
+
+abbrev pub new_nodes : ℕ → ℕ → ℕ → Nodes
+new_nodes slots holds start = record {
+  log = record { root = root_key start; tree = root_alone slots (root_key start); commands = [] };
+  last = slice_set (replicate slots start) 0 (start + 1);
+  limit = holds;
+  callers = [];
+}
+
+-- ---- callers
+
+-- the caller of this number holds the key, and may try for a reference
+pub record Waits (callers : List Caller) (id : ℕ) (key : Key) : Type 0 where
+  pub phase : Phase
+  pub there : slice_get callers id ≡ Some (record { key = key; phase = phase })
+  pub waits : IsTrue (is_waiting phase)
+
+abbrev pub holds_slot : ℕ → Caller → Bool
+holds_slot slot c = (c.key.slot == slot) && not (is_spent c.phase)
+
+-- how many callers hold the slot
+abbrev pub hold_count : List Caller → ℕ → ℕ
+hold_count callers slot = count_by (λ c. (c.key.slot == slot) && not (is_spent c.phase)) callers
+
+-- nobody has a reference
+abbrev pub AllIdle : List Caller → Type 0
+AllIdle callers = (id : ℕ) (key : Key) (phase : Phase) → slice_get callers id ≡ Some (record { key = key; phase = phase }) → IsFalse (has_reference phase)
+
+-- the caller may have another phase, in which it waits too
+abbrev pub StillWaits : List Caller → ℕ → Key → List Caller → Type 0
+StillWaits callers id key callers' = (callers' ≡ callers) ⊎ ((phase : Phase) × IsTrue (is_waiting phase) × (callers' ≡ slice_set callers id (record { key = key; phase = phase })))
+
+-- a hold of a linked node is refused: its slot has as many as there may be; or there was no memory
+abbrev pub PinRefused : Nodes → Key → Refusal → Type 0
+PinRefused n key TooManyHolds = n.limit ≤ hold_count n.callers key.slot
+PinRefused n key NoMemory = hold_count n.callers key.slot < n.limit
+PinRefused n key _ = ⊥
+
+-- a caller that has released the key
+abbrev pub spent_on : Key → Caller
+spent_on key = record { key = key; phase = Spent }
+
+-- callers came, and have released these keys; all else is as before
+abbrev pub with_spent : Nodes → List Key → Nodes
+with_spent n keys = record n { callers = n.callers ++ map spent_on keys }
+
+-- ---- free slots
+
+abbrev pub is_vacant : Option (Option Record) → Bool
+is_vacant None = false
+is_vacant (Some None) = true
+is_vacant (Some (Some r)) = false
+
+-- no linked node, no hold, and a generation left
+abbrev pub is_free : Tree → List ℕ → (ℕ → ℕ) → ℕ → Bool
+is_free tree last count slot = is_vacant (slice_get tree slot) && count slot == 0 && nat_lt (slice_index last slot) (2 ^ 32 - 1)
+
+-- the next key of the lowest free slot, the root's left out; none where no slot is free
+abbrev pub IsNext : Tree → List ℕ → (ℕ → ℕ) → Option Key → Type 0
+IsNext tree last count None = (slot : ℕ) → 1 ≤ slot → IsFalse (is_free tree last count slot)
+IsNext tree last count (Some key) =
+    (1 ≤ key.slot) × IsTrue (is_free tree last count key.slot) × (key.generation ≡ slice_index last key.slot + 1)
+    × ((slot : ℕ) → 1 ≤ slot → slot < key.slot → IsFalse (is_free tree last count slot))
+
+-- ---- removals
+
+-- the slot has a node of the subtree that has as many holds as there may be
+abbrev pub is_full_in : Nodes → Key → Option Record → Bool
+is_full_in n top None = false
+is_full_in n top (Some r) = in_subtree n.log.tree top r.key && not (nat_lt (hold_count n.callers r.key.slot) n.limit)
+
+abbrev pub is_full_below : Nodes → Key → Bool
+is_full_below n top = list_any (is_full_in n top) n.log.tree

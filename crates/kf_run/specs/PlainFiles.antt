@@ -1,0 +1,92 @@
+-- What the commands on files do: by the open file that a letter names, and by the texts and event numbers of the slots.
+use Rattle.std.specs.Prelude.{◌≡◌, ◌⊎◌, ℕ, ◌+◌, ◌-◌, ◌^◌, not, List, [], ◌∷◌, length, take, decimal, nat_lt, slice_set, slice_index, slice_index_or, is_some, Option, Some, None, Result, Ok, Err}
+use Rattle.std.specs.Option.{ok_or}
+use Rattle.kf_core.specs.declared.key.Key.{Key}
+use Rattle.kf_core.specs.declared.records.Record.{Record}
+use Rattle.kf_core.specs.declared.refusal.Refusal.{Refusal}
+use Rattle.kf_core.specs.declared.refusal.Refusal.TheVariants.{NoEntry, Busy, Invalid, TooManyHolds, NoSpace}
+use Rattle.kf_core.specs.Refusals.{unless, first_cause}
+use Rattle.kf_core.specs.Tree.{record_at}
+use Rattle.kf_core.specs.Calls.{Visit}
+use Rattle.kf_tree.specs.Paths.{and_then, walked, seen}
+use Rattle.kf_tree.specs.Causes.{live_in, linked_cause}
+use Rattle.kf_files.specs.declared.contents.Want.{Want}
+use Rattle.kf_files.specs.declared.ops.Fault.{Fault}
+use Rattle.kf_files.specs.declared.ops.FileError.{FileError}
+use Rattle.kf_files.specs.declared.ops.FileError.TheVariants.{Refused, Callback}
+use Rattle.kf_files.specs.Files.{Shown, open_cause, new_file}
+use Rattle.kf_run.specs.ReplyText.{refusal_text, fault_text}
+use Rattle.kf_tree.specs.TreeLogs.{TreeLog}
+use Rattle.kf_run.specs.Plain.{Plain, OpenPlainFile, file_at, open_count, with_text}
+use Rattle.kf_run.specs.Visits.{VisitsLive, kind_cause}
+use Rattle.kf_run.specs.Settled.{ok_unless}
+
+-- ---- open
+
+abbrev pub record_cause : (ℕ → Option Refusal) → Option Record → Option Refusal
+record_cause cause None = Some NoEntry
+record_cause cause (Some r) = kind_cause cause r.node
+
+-- why the open of a node is refused; the hold is taken before the node's kind is looked at
+abbrev pub open_cause_at : TreeLog → (ℕ → ℕ) → ℕ → Want → Key → Option Refusal
+open_cause_at log holds limit want key = first_cause (
+    linked_cause log.tree key
+    ∷ unless (nat_lt (holds key.slot) limit) TooManyHolds
+    ∷ record_cause (λ mode. open_cause mode want (live_in log.tree key)) (record_at log.tree key)
+    ∷ [])
+
+-- the live node at a path, where it may be opened
+abbrev pub opened_node : TreeLog → (ℕ → ℕ) → ℕ → List ℕ → Want → Result Key Refusal
+opened_node log holds limit path want = and_then (seen log.tree log.root path) (λ key. ok_unless (open_cause_at log holds limit want key) key)
+
+-- the node that is opened under a letter, which is looked at first
+abbrev pub opened_key : Plain → ℕ → List ℕ → Want → Result Key Refusal
+opened_key b file path want = and_then (ok_unless (unless (not (is_some (file_at b file))) Busy) file) (λ _. opened_node b.log (open_count b) b.limit path want)
+
+abbrev pub new_open : Key → Want → OpenPlainFile
+new_open key want = record { key = key; kept = new_file want }
+
+-- the open file of a letter
+abbrev pub known_file : Plain → ℕ → Result OpenPlainFile Refusal
+known_file b file = ok_or (file_at b file) Invalid
+
+-- ---- notify
+
+-- the file that is notified; its slot's event number may be at its last
+abbrev pub notified_key : Plain → List ℕ → Result Key Refusal
+notified_key b path = and_then (walked b.log.tree b.log.root path) (λ key.
+    ok_unless (record_cause (λ mode. unless (nat_lt (slice_index b.events key.slot) (2 ^ 64 - 1)) NoSpace) (record_at b.log.tree key)) key)
+
+abbrev pub with_event : Plain → ℕ → Plain
+with_event b slot = record b { events = slice_set b.events slot (slice_index b.events slot + 1) }
+
+-- ---- visits
+
+abbrev pub VisitsNode : {Done : Type 0} → Plain → Key → Type 0 → (Done → Type 0) → Visit Done → Type 0
+VisitsNode b key idle does visit = VisitsLive (live_in b.log.tree key) idle does visit
+
+-- a show fills the page with the first 4,096 bytes of the slot's text, and the slot's event number was taken for it
+abbrev pub ShowsText : Plain → ℕ → Shown → Type 0
+ShowsText b slot shown = (shown.number ≡ slice_index b.events slot) × (shown.filled ≡ Ok (take 4096 (slice_index_or b.texts slot [])))
+
+-- a store puts these bytes in place of the slot's whole text, and answers their number
+abbrev pub StoresText : Plain → ℕ → List ℕ → Result ℕ Fault → Plain → Type 0
+StoresText b slot bytes answer now = (answer ≡ Ok (length bytes)) × (now ≡ with_text b slot bytes)
+
+-- the same, or the fault for want of memory, which changes nothing
+abbrev pub StoresOnBoard : Plain → ℕ → List ℕ → Result ℕ Fault → Plain → Type 0
+StoresOnBoard b slot bytes answer now = StoresText b slot bytes answer now ⊎ ((answer ≡ Err (record { number = 12 })) × (now ≡ b))
+
+-- ---- replies
+
+abbrev pub error_text : FileError → List ℕ
+error_text (Refused refusal) = refusal_text refusal
+error_text (Callback fault) = fault_text fault.number
+
+abbrev pub bytes_text : Result (List ℕ) FileError → List ℕ
+bytes_text (Ok bytes) = bytes
+bytes_text (Err error) = error_text error
+
+abbrev pub count_text : Result ℕ FileError → List ℕ
+count_text (Ok count) = decimal count
+count_text (Err error) = error_text error

@@ -1,0 +1,86 @@
+//! The board of one caller.
+
+ghost use Rattle.std.specs.Prelude.{◌≡◌, ◌≤◌, ◌-◌, ◌^◌, replicate, None, IfOk, IfErr};
+ghost use Rattle.kf_core.specs.declared.refusal.Refusal.TheVariants.{NoMemory};
+ghost use Rattle.kf_run.specs.Plain.{new_board};
+
+use crate::nodes::{BoardFile, Nodes};
+use crate::text_table::TextTable;
+use kf_core::{Limits, Refusal};
+use kf_notify::Posts;
+use std::alloc::Global;
+use std::marker::Model;
+
+mod answering;
+mod files;
+mod looking;
+mod making;
+mod removing;
+
+/// How many files may be open: one for each letter.
+const FILES: usize = 26;
+
+/// The board of one caller: a tree, the open files on its nodes by letter, and by slot the text of its
+/// last file and its event number.
+///
+/// Contracts see no callers: between two lines whoever holds a slot is an open file on it.
+#[derive(Drop)]
+pub struct PlainBoard {
+    nodes: Nodes,
+    posts: Posts,
+    texts: TextTable,
+    files: Vec<Option<BoardFile>>,
+}
+
+impl Model for PlainBoard {
+    ghost use Rattle.kf_run.specs.Plain.{Plain};
+
+    ghost Value = { Plain };
+
+    ghost use Rattle.kf_run.specs.PlainInside.{plain_of, IsWhole};
+
+    ghost view = { λ b. plain_of b.nodes b.posts b.texts b.files.items };
+
+    ghost invariant = { λ b. IsWhole b.nodes b.posts b.texts b.files.items };
+}
+
+// No file under any of the 26 letters.
+fn no_files(alloc: Global) -> Result<Vec<Option<BoardFile>>, Refusal>
+    ensures none { IfOk result (λ files. files.items ≡ replicate 26 None) }
+    ensures refused { IfErr result (λ refusal. refusal ≡ NoMemory) }
+{
+    let mut files = Vec::new(alloc);
+    for made in 0..FILES {
+        prove!(made < FILES);
+        files.push(None).map_err(|_| Refusal::NoMemory)?;
+    }
+    Ok(files)
+}
+
+impl PlainBoard {
+    /// A board with the root alone. `NoMemory` where it could not be had.
+    pub fn new(alloc: Global, limits: Limits) -> Result<PlainBoard, Refusal>
+        ensures made { IfOk result (λ board. board ≡ new_board limits.slots limits.holds 0) }
+        ensures refused { IfErr result (λ refusal. refusal ≡ NoMemory) }
+    {
+        PlainBoard::new_at(alloc, limits, 0)
+    }
+
+    /// A board with the root alone, whose slots have had `start` generations. `NoMemory` where it could not be had.
+    pub fn new_at(alloc: Global, limits: Limits, start: u32) -> Result<PlainBoard, Refusal>
+        requires start { start ≤ 2 ^ 32 - 2 }
+        ensures made { IfOk result (λ board. board ≡ new_board limits.slots limits.holds start) }
+        ensures refused { IfErr result (λ refusal. refusal ≡ NoMemory) }
+    {
+        let nodes = Nodes::new_at(alloc, limits, start)?;
+        let posts = Posts::new(alloc, limits.slots())?;
+        let texts = TextTable::new(alloc, limits.slots())?;
+        let files = no_files(alloc)?;
+        Ok(PlainBoard {
+            nodes,
+            posts,
+            texts,
+            files,
+        })
+    }
+}

@@ -1,0 +1,128 @@
+-- Why each call is refused: the first cause in order. Want of memory comes after all of these.
+use Rattle.std.specs.Prelude.{◌≡◌, ◌⊎◌, ℕ, Bool, true, false, not, ◌&&◌, List, [], ◌∷◌, Option, None, Some, is_some, if◌then◌else◌}
+use Rattle.std.specs.List.{list_any}
+use Rattle.std.specs.Option.{option_map_or, option_and_then}
+use Rattle.std.specs.Str.{bytes_eq}
+use Rattle.kf_core.specs.declared.key.Key.{Key}
+use Rattle.kf_core.specs.declared.key.Node.{Node}
+use Rattle.kf_core.specs.declared.key.Node.TheVariants.{Dir, File, Link}
+use Rattle.kf_core.specs.declared.refusal.Refusal.{Refusal}
+use Rattle.kf_core.specs.declared.refusal.Refusal.TheVariants.{NoEntry, NoMemory, Busy, Exists, NotDir, Invalid, NoSpace}
+use Rattle.kf_core.specs.Refusals.{unless, first_cause}
+use Rattle.kf_core.specs.Names.{name_fault}
+use Rattle.kf_core.specs.Keys.{same_key}
+use Rattle.kf_core.specs.Marks.{are_live, are_doomed}
+use Rattle.kf_core.specs.Tree.{Tree, record_at, marks_of, is_linked, is_dir, in_subtree}
+use Rattle.kf_tree.specs.Paths.{is_key, is_under, child}
+
+-- there was this cause, or none but want of memory
+abbrev pub Refuses : Option Refusal → Refusal → Type 0
+Refuses cause refusal = (cause ≡ Some refusal) ⊎ ((cause ≡ None) × (refusal ≡ NoMemory))
+
+-- ---- what the causes ask
+
+abbrev pub live_in : Tree → Key → Bool
+live_in t key = are_live (marks_of t key)
+
+-- a key that is not linked counts as doomed
+abbrev pub doomed_in : Tree → Key → Bool
+doomed_in t key = are_doomed (marks_of t key)
+
+abbrev pub is_directory : Tree → Key → Bool
+is_directory t key = option_map_or (λ r. is_dir r.node) (record_at t key) false
+
+abbrev pub has_entry : Tree → Key → List ℕ → Bool
+has_entry t dir name = is_some (child t dir name)
+
+abbrev pub has_child : Tree → Key → Bool
+has_child t dir = list_any (is_under dir (λ r. true)) t
+
+-- whether the key's record is in this directory under this name
+abbrev pub is_there_already : Tree → Key → Key → List ℕ → Bool
+is_there_already t key dir name = option_map_or (λ r. is_key dir r.parent && bytes_eq r.name name) (record_at t key) false
+
+abbrev pub target_of : Node → Option Key
+target_of Dir = None
+target_of (File mode tag) = None
+target_of (Link target) = Some target
+
+-- the target of a key's record, where that is a link
+abbrev pub link_target : Tree → Key → Option Key
+link_target t key = option_and_then (λ r. target_of r.node) (record_at t key)
+
+-- ---- the causes, in order
+
+-- a link's target is not linked, or is the root
+abbrev pub target_fault : Tree → Key → Option Key → Option Refusal
+target_fault t root None = None
+target_fault t root (Some target) = first_cause (
+    unless (is_linked t target) NoEntry
+    ∷ unless (not (same_key target root)) Invalid
+    ∷ [])
+
+abbrev pub create_cause : Tree → Key → Key → List ℕ → Node → Option Key → Option Refusal
+create_cause t root parent name node next = first_cause (
+    unless (is_linked t parent) NoEntry
+    ∷ name_fault name
+    ∷ unless (is_directory t parent) NotDir
+    ∷ unless (not (doomed_in t parent)) NoEntry
+    ∷ target_fault t root (target_of node)
+    ∷ unless (not (has_entry t parent name)) Exists
+    ∷ unless (is_some next) NoSpace
+    ∷ [])
+
+-- of an activation, and of a post-order
+abbrev pub linked_cause : Tree → Key → Option Refusal
+linked_cause t key = unless (is_linked t key) NoEntry
+
+abbrev pub doom_cause : Tree → Key → Key → Option Refusal
+doom_cause t root key = first_cause (
+    unless (is_linked t key) NoEntry
+    ∷ unless (not (same_key key root)) Invalid
+    ∷ [])
+
+-- of a key that is linked; the unlink of another is no refusal
+abbrev pub unlink_cause : Tree → Key → Option Refusal
+unlink_cause t key = first_cause (
+    unless (doomed_in t key) Invalid
+    ∷ unless (not (has_child t key)) Busy
+    ∷ [])
+
+-- the causes that come before the question whether the record is there already
+abbrev pub early_rename_cause : Tree → Key → Key → Key → List ℕ → Option Refusal
+early_rename_cause t root key dir name = first_cause (
+    unless (not (same_key key root)) Invalid
+    ∷ unless (is_linked t key) NoEntry
+    ∷ unless (is_linked t dir) NoEntry
+    ∷ name_fault name
+    ∷ unless (is_directory t dir) NotDir
+    ∷ unless (live_in t key) NoEntry
+    ∷ unless (live_in t dir) NoEntry
+    ∷ [])
+
+-- those that come after it
+abbrev pub late_rename_cause : Tree → Key → Key → List ℕ → Option Refusal
+late_rename_cause t key dir name = first_cause (
+    unless (not (in_subtree t key dir)) Invalid
+    ∷ unless (not (has_entry t dir name)) Exists
+    ∷ [])
+
+-- a record that is there already stays, and that is no refusal
+abbrev pub rename_cause : Tree → Key → Key → Key → List ℕ → Option Refusal
+rename_cause t root key dir name = first_cause (
+    early_rename_cause t root key dir name
+    ∷ (if is_there_already t key dir name then None else late_rename_cause t key dir name)
+    ∷ [])
+
+abbrev pub list_cause : Tree → Key → Option Refusal
+list_cause t dir = first_cause (
+    unless (is_linked t dir) NoEntry
+    ∷ unless (is_directory t dir) NotDir
+    ∷ [])
+
+abbrev pub text_cause : Tree → Key → Option Refusal
+text_cause t key = first_cause (
+    unless (is_linked t key) NoEntry
+    ∷ unless (is_some (link_target t key)) Invalid
+    ∷ unless (option_map_or (is_linked t) (link_target t key) false) NoEntry
+    ∷ [])

@@ -1,0 +1,13 @@
+pub mod Paths
+pub mod Causes
+pub mod Listing
+pub mod Links
+pub mod Stat
+pub mod Ends
+pub mod TreeLogs
+pub mod Next
+pub mod Subtrees
+pub mod Sound
+pub mod Shown
+pub mod Ways
+pub mod Directories

@@ -1,0 +1,21 @@
+-- What a directory shows.
+use Rattle.std.specs.Prelude.{◌≡◌, ◌⊎◌, ℕ, ◌≤◌, List, length, Option, Some, All, AllPairs, Contains, IsSomeAnd, IsTrue}
+use Rattle.kf_core.specs.declared.key.Key.{Key}
+use Rattle.kf_core.specs.Names.{IsBefore}
+use Rattle.kf_core.specs.Marks.{are_live}
+use Rattle.kf_core.specs.Tree.{Tree}
+use Rattle.kf_index.specs.Entries.{IsAbove}
+use Rattle.kf_tree.specs.Paths.{child}
+
+-- the directory has a live child of this name, above the bound
+pub record IsListed (t : Tree) (dir : Key) (bound : Option (List ℕ)) (name : List ℕ) : Type 0 where
+  pub live_child : IsSomeAnd (child t dir name) (λ r. IsTrue (are_live (Some r.marks)))
+  pub above : IsAbove bound name
+
+-- the first names of live children above the bound, in byte order
+pub record IsListing (t : Tree) (dir : Key) (bound : Option (List ℕ)) (limit : ℕ) (names : List (List ℕ)) : Type 0 where
+  pub listed : All (IsListed t dir bound) names
+  pub in_order : AllPairs IsBefore names
+  pub few : length names ≤ limit
+  -- one is left out only where the limit is reached by names before it
+  pub first : (name : List ℕ) → IsListed t dir bound name → Contains names name ⊎ ((length names ≡ limit) × All (λ shown. IsBefore shown name) names)

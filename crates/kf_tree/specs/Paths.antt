@@ -1,0 +1,109 @@
+-- What a name in a directory leads to, and what a path does.
+use Rattle.std.specs.Prelude.{ℕ, Bool, true, false, ◌&&◌, ◌==◌, List, [], ◌∷◌, map, Option, None, Some, Result, Ok, Err, if◌then◌else◌}
+use Rattle.std.specs.List.{find as first, list_any, slice_split}
+use Rattle.std.specs.Option.{option_and_then, ok_or}
+use Rattle.std.specs.Str.{bytes_eq}
+use Rattle.kf_core.specs.declared.key.Key.{Key}
+use Rattle.kf_core.specs.declared.records.Record.{Record}
+use Rattle.kf_core.specs.declared.refusal.Refusal.{Refusal}
+use Rattle.kf_core.specs.declared.refusal.Refusal.TheVariants.{NoEntry, NotDir, Invalid}
+use Rattle.kf_core.specs.Keys.{same_key}
+use Rattle.kf_core.specs.Marks.{are_live}
+use Rattle.kf_core.specs.Tree.{Tree, record_at, is_dir}
+
+-- what follows, where nothing was refused before
+abbrev pub and_then : {X Y : Type 0} → Result X Refusal → (X → Result Y Refusal) → Result Y Refusal
+and_then (Ok x) next = next x
+and_then (Err refusal) next = Err refusal
+
+-- ---- names
+
+abbrev pub is_key : Key → Option Key → Bool
+is_key dir None = false
+is_key dir (Some parent) = same_key parent dir
+
+-- whether the slot has a record in this directory that passes the test
+abbrev pub is_under : Key → (Record → Bool) → Option Record → Bool
+is_under dir test None = false
+is_under dir test (Some r) = is_key dir r.parent && test r
+
+-- the record with this name in this directory
+abbrev pub child : Tree → Key → List ℕ → Option Record
+child t dir name = option_and_then (λ slot. slot) (first (is_under dir (λ r. bytes_eq r.name name)) t)
+
+abbrev pub entry_key : Option Record → Option Record → Result Key Refusal
+entry_key None entry = Err NoEntry
+entry_key (Some dir) entry = if is_dir dir.node then ok_or (option_and_then (λ r. Some r.key) entry) NoEntry else Err NotDir
+
+-- what a name in a directory leads to
+abbrev pub found : Tree → Key → List ℕ → Result Key Refusal
+found t dir name = entry_key (record_at t dir) (child t dir name)
+
+-- what the names lead to one after another, from a key on
+abbrev pub walk : Tree → Key → List (List ℕ) → Result Key Refusal
+walk t key [] = Ok key
+walk t key (name ∷ names) = and_then (found t key name) (λ next. walk t next names)
+
+-- ---- paths
+
+abbrev pub is_slash : ℕ → Bool
+is_slash byte = byte == 47
+
+abbrev pub is_empty : List ℕ → Bool
+is_empty [] = true
+is_empty (byte ∷ bytes) = false
+
+-- what stands between the slashes; nothing has no parts
+abbrev pub parts : List ℕ → List (List ℕ)
+parts [] = []
+parts (byte ∷ bytes) = slice_split is_slash (byte ∷ bytes)
+
+-- the bytes after the slash with which a path begins
+abbrev pub after_slash : List ℕ → Option (List ℕ)
+after_slash [] = None
+after_slash (byte ∷ bytes) = if is_slash byte then Some bytes else None
+
+-- the names, where none is empty
+abbrev pub all_named : List (List ℕ) → Option (List (List ℕ))
+all_named names = if list_any is_empty names then None else Some names
+
+-- the names of a path, where it has the right form
+abbrev pub names_of : List ℕ → Option (List (List ℕ))
+names_of path = option_and_then (λ bytes. all_named (parts bytes)) (after_slash path)
+
+-- the node that a path names, live or not
+abbrev pub walked : Tree → Key → List ℕ → Result Key Refusal
+walked t root path = and_then (ok_or (names_of path) Invalid) (walk t root)
+
+abbrev pub only_live : Option Record → Option Record
+only_live None = None
+only_live (Some r) = if are_live (Some r.marks) then Some r else None
+
+-- the live node that a path names, where every record that is not live counts as not there
+abbrev pub seen : Tree → Key → List ℕ → Result Key Refusal
+seen t root path = walked (map only_live t) root path
+
+-- ---- all names of a path but the last, and the last
+
+abbrev pub front : List (List ℕ) → List (List ℕ)
+front [] = []
+front (name ∷ []) = []
+front (name ∷ next ∷ names) = name ∷ front (next ∷ names)
+
+abbrev pub final : List (List ℕ) → List ℕ
+final [] = []
+final (name ∷ []) = name
+final (name ∷ next ∷ names) = final (next ∷ names)
+
+-- the names before the last, where none of them is empty, and the last, which may be
+abbrev pub but_last : List (List ℕ) → Option (List (List ℕ) × List ℕ)
+but_last [] = None
+but_last (name ∷ names) = if list_any is_empty (front (name ∷ names)) then None else Some (front (name ∷ names), final (name ∷ names))
+
+-- those of a path; `/` has no last name
+abbrev pub parent_names : List ℕ → Option (List (List ℕ) × List ℕ)
+parent_names path = option_and_then (λ bytes. but_last (parts bytes)) (after_slash path)
+
+-- the node of all names but the last, and the last
+abbrev pub walked_parent : Tree → Key → List ℕ → Result (Key × List ℕ) Refusal
+walked_parent t root path = and_then (ok_or (parent_names path) Invalid) (λ p. and_then (walk t root p.0) (λ dir. Ok (dir, p.1)))

@@ -1,0 +1,13 @@
+-- A tree of which only the live records are shown.
+use Rattle.std.specs.Prelude.{Bool, true, false, map, Option}
+use Rattle.kf_core.specs.declared.records.Record.{Record}
+use Rattle.kf_core.specs.Tree.{Tree}
+use Rattle.kf_tree.specs.Paths.{only_live}
+
+abbrev pub shown : Bool → Tree → Tree
+shown true t = map only_live t
+shown false t = t
+
+abbrev pub shown_record : Bool → Option Record → Option Record
+shown_record true entry = only_live entry
+shown_record false entry = entry

@@ -1,0 +1,21 @@
+-- What is told of a node.
+use Rattle.std.specs.Prelude.{ℕ, ◌+◌, count_by, if◌then◌else◌}
+use Rattle.kf_core.specs.declared.key.Key.{Key}
+use Rattle.kf_core.specs.declared.records.Record.{Record}
+use Rattle.kf_core.specs.Tree.{Tree, is_dir}
+use Rattle.kf_tree.specs.declared.stat.Stat.{Stat}
+use Rattle.kf_tree.specs.Paths.{is_under}
+
+-- the number of child directories, live or not
+abbrev pub subdirs : Tree → Key → ℕ
+subdirs t dir = count_by (is_under dir (λ r. is_dir r.node)) t
+
+-- a file or link has no child directories, and one link
+abbrev pub stat_of : Tree → Record → Stat
+stat_of t r = record {
+  node = r.node;
+  subdirs = if is_dir r.node then subdirs t r.key else 0;
+  links = if is_dir r.node then subdirs t r.key + 2 else 1;
+  activated = r.marks.activated;
+  doomed = r.marks.doomed;
+}

@@ -1,0 +1,58 @@
+-- A subtree's keys one after another, and changes of its records slot by slot.
+use Rattle.std.specs.Prelude.{◌≡◌, ℕ, Bool, false, not, List, ◌++◌, Option, None, Some, slice_get, slice_set, fold, count_by, if◌then◌else◌}
+use Rattle.std.specs.Option.{option_map, option_and_then, option_map_or}
+use Rattle.kf_core.specs.declared.key.Key.{Key}
+use Rattle.kf_core.specs.declared.records.Record.{Record}
+use Rattle.kf_core.specs.Tree.{Tree, in_subtree}
+use Rattle.kf_core.specs.Commands.{activated_record}
+use Rattle.kf_core.specs.PostOrder.{IsPostOrder}
+use Rattle.kf_tree.specs.Next.{above}
+use Rattle.kf_tree.specs.Paths.{is_under}
+use Rattle.kf_tree.specs.Ends.{EndsWith}
+
+-- the new list is the old one and then the subtree in post-order, with the top at its end
+pub record HasPushed (t : Tree) (top : Key) (old new : List Key) : Type 0 where
+  pub added : List Key
+  pub appended : new ≡ old ++ added
+  pub post_order : IsPostOrder t top added
+  pub last : EndsWith added top
+
+-- whether the slot has a child above the bound
+abbrev pub is_left : Key → Option (List ℕ) → Option Record → Bool
+is_left dir bound slot = is_under dir (λ r. above bound r.name) slot
+
+-- whether the slot has the key itself, or a record above it
+abbrev pub is_over_key : Tree → Key → Option Record → Bool
+is_over_key t key slot = option_map_or (λ r. in_subtree t r.key key) slot false
+
+-- ---- changes slot by slot
+
+-- the tree with the record of one slot changed
+abbrev pub with_changed_slot : (Record → Record) → Tree → ℕ → Tree
+with_changed_slot f t slot = slice_set t slot (option_and_then (option_map f) (slice_get t slot))
+
+-- the tree with the record of each key changed, one after another
+abbrev pub with_changed_slots : (Record → Record) → Tree → List Key → Tree
+with_changed_slots f t keys = fold (λ x key. with_changed_slot f x key.slot) t keys
+
+abbrev pub activated_unless_doomed : Record → Record
+activated_unless_doomed r = if r.marks.doomed then r else activated_record r
+
+-- ---- doomed records
+
+abbrev pub is_doomed_record : Option Record → Bool
+is_doomed_record None = false
+is_doomed_record (Some r) = r.marks.doomed
+
+abbrev pub doomed_count : Tree → ℕ
+doomed_count t = count_by is_doomed_record t
+
+-- whether the slot has a record that is not doomed
+abbrev pub is_undoomed : Option (Option Record) → Bool
+is_undoomed None = false
+is_undoomed (Some None) = false
+is_undoomed (Some (Some r)) = not r.marks.doomed
+
+-- how many of the keys have a record that is not doomed
+abbrev pub undoomed_count : Tree → List Key → ℕ
+undoomed_count t keys = count_by (λ key. is_undoomed (slice_get t key.slot)) keys

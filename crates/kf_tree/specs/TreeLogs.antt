@@ -1,0 +1,39 @@
+-- The tree with its stored commands, and what a call makes of them.
+use Rattle.std.specs.Prelude.{◌≡◌, ℕ, List, [], ◌∷◌, ◌++◌, length, Option, None}
+use Rattle.kf_core.specs.declared.key.Key.{Key}
+use Rattle.kf_core.specs.declared.records.Record.{Record}
+use Rattle.kf_core.specs.declared.command.Command.{Command}
+use Rattle.kf_core.specs.declared.refusal.Refusal.{Refusal}
+use Rattle.kf_core.specs.Lawful.{Lawful}
+use Rattle.kf_core.specs.Commands.{after, replay, root_alone}
+use Rattle.kf_tree.specs.Causes.{Refuses}
+
+pub record TreeLog : Type 0 where
+  pub root : Key
+  pub tree : List (Option Record)  -- by slot
+  pub commands : List Command  -- in the order in which they were accepted
+
+-- the tree is lawful, and the replay of its commands
+pub record IsKept (s : TreeLog) : Type 0 where
+  pub lawful : Lawful s.tree s.root
+  pub replayed : s.tree ≡ replay (root_alone (length s.tree) s.root) s.commands
+
+-- the root alone, and no command
+pub record IsNew (slots : ℕ) (key : Key) (s : TreeLog) : Type 0 where
+  pub root : s.root ≡ key
+  pub tree : s.tree ≡ root_alone slots key
+  pub commands : s.commands ≡ []
+  pub kept : IsKept s
+
+-- there was no cause against the command: it changed the tree, and it is stored
+pub record IsAccepted (old new : TreeLog) (cause : Option Refusal) (command : Command) : Type 0 where
+  pub no_cause : cause ≡ None
+  pub same_root : new.root ≡ old.root
+  pub changed : new.tree ≡ after old.tree command
+  pub stored : new.commands ≡ old.commands ++ command ∷ []
+  pub kept : IsKept new
+
+-- there was this cause, or none but want of memory; and nothing changed
+pub record IsRefused (old new : TreeLog) (cause : Option Refusal) (refusal : Refusal) : Type 0 where
+  pub named : Refuses cause refusal
+  pub unchanged : new ≡ old

@@ -1,0 +1,25 @@
+-- Parts of a path, and names along a way up or down.
+use Rattle.std.specs.Prelude.{◌≡◌, ℕ, ◌<◌, List, [], ◌++◌, Option, None, Some}
+use Rattle.std.specs.List.{slice_split}
+use Rattle.std.specs.Option.{option_map_or}
+use Rattle.kf_core.specs.declared.key.Key.{Key}
+use Rattle.kf_core.specs.Tree.{Tree, record_at, ancestor}
+use Rattle.kf_tree.specs.Paths.{is_slash}
+use Rattle.kf_tree.specs.Links.{IsOver, ups}
+
+-- the parts that are left, where a slash came before
+abbrev pub later_parts : Option (List ℕ) → List (List ℕ)
+later_parts None = []
+later_parts (Some text) = slice_split is_slash text
+
+-- the name of a key's record
+abbrev pub name_at : Tree → Key → List ℕ
+name_at t key = option_map_or (λ r. r.name) (record_at t key) []
+
+-- the base is the first over the target on the way up from the directory, and the text grew by `../` for each step
+pub record HasUps (t : Tree) (root dir target base : Key) (old new : List ℕ) : Type 0 where
+  pub up : ℕ
+  pub is_base : ancestor t up dir ≡ Some base
+  pub over : IsOver t root target base
+  pub first : (n : ℕ) (lower : Key) → n < up → ancestor t n dir ≡ Some lower → ¬ IsOver t root target lower
+  pub pushed : new ≡ old ++ ups up

@@ -1,0 +1,54 @@
+//! What takes memory.
+
+ghost use Rattle.std.specs.Prelude.{◌≡◌, ◌≤◌, ◌<◌, ◌+◌, ◌^◌, ◌++◌, ◌∷◌, [], replicate, vec_len, vec_capacity, length, None, IfOk, IfErr, OnOk};
+
+use kf_core::{Command, NameBytes, Record, Refusal};
+use std::alloc::Global;
+
+/// So many slots without a record.
+pub(crate) fn empty_slots(alloc: Global, slots: u32) -> Result<Vec<Option<Record>>, Refusal>
+    ensures made { IfOk result (λ records. records.items ≡ replicate slots None) }
+    ensures refused { IfErr result (λ refusal. refusal ≡ Refusal.NoMemory) }
+{
+    let mut records = Vec::new(alloc);
+    for _ in 0..slots {
+        if records.push(None).is_err() {
+            return Err(Refusal::NoMemory);
+        }
+    }
+    Ok(records)
+}
+
+/// A name of its own.
+pub(crate) fn copy_name(alloc: Global, name: &[u8]) -> Result<NameBytes, Refusal>
+    ensures made { IfOk result (λ copy. copy ≡ name.now) }
+    ensures refused { IfErr result (λ refusal. refusal ≡ Refusal.NoMemory) }
+{
+    match name.to_vec(alloc) {
+        Ok(bytes) => Ok(NameBytes::from_bytes(bytes)),
+        Err(_) => Err(Refusal::NoMemory),
+    }
+}
+
+/// Takes room for one command, and for so many after it.
+pub(crate) fn make_room(commands: &mut Vec<Command>, later: usize) -> Result<(), Refusal>
+    requires fits { later + 1 < 2 ^ 64 }
+    ensures items { commands.new.items ≡ commands.old.items }
+    ensures kept { vec_capacity commands.old ≤ vec_capacity commands.new }
+    ensures room { OnOk result (length commands.old.items + 1 + later ≤ vec_capacity commands.new) }
+    ensures refused { IfErr result (λ refusal. refusal ≡ Refusal.NoMemory) }
+{
+    match commands.reserve(1 + later) {
+        Ok(()) => Ok(()),
+        Err(_) => Err(Refusal::NoMemory),
+    }
+}
+
+/// Stores a command for which there is room.
+pub(crate) fn store(commands: &mut Vec<Command>, command: Command)
+    requires room { length commands.old.items < vec_capacity commands.old }
+    ensures items { commands.new.items ≡ commands.old.items ++ command ∷ [] }
+    ensures kept { vec_capacity commands.old ≤ vec_capacity commands.new }
+{
+    let _ = commands.push(command);
+}

@@ -1,0 +1,48 @@
+//! Changes of the records of a list of keys, one after another.
+
+ghost use Rattle.std.specs.Prelude.{◌≡◌, ◌+◌, ◌≤◌, length, slice_get};
+ghost use Rattle.kf_core.specs.Commands.{doomed_record};
+ghost use Rattle.kf_tree.specs.Subtrees.{with_changed_slots, activated_unless_doomed, doomed_count, is_undoomed, undoomed_count};
+
+use crate::table::Table;
+use kf_core::Key;
+
+pub(crate) fn is_undoomed(table: &Table, key: Key) -> bool
+    ensures known { result ≡ is_undoomed (slice_get table.now key.slot) }
+{
+    match table.in_slot(key.slot) {
+        Some(found) => !found.marks.doomed,
+        None => false,
+    }
+}
+
+/// How many of the keys have a record that is not doomed.
+pub(crate) fn count_undoomed(table: &Table, keys: &[Key]) -> usize
+    ensures value { result ≡ undoomed_count table.now keys.now }
+    ensures few { result ≤ length keys.now }
+{
+    keys.iter().filter(|key| is_undoomed(table, **key)).count()
+}
+
+/// Dooms the record of each key, and tells how many were not doomed before.
+pub(crate) fn doom_each(table: &mut Table, keys: &[Key]) -> usize
+    ensures changed { table.new ≡ with_changed_slots doomed_record table.old keys.now }
+    ensures counted { doomed_count table.new ≡ doomed_count table.old + result }
+{
+    let mut newly = 0;
+    for key in keys {
+        if table.doom(*key) {
+            newly += 1;
+        }
+    }
+    newly
+}
+
+/// Activates the record of each key, where it is not doomed.
+pub(crate) fn activate_each(table: &mut Table, keys: &[Key])
+    ensures changed { table.new ≡ with_changed_slots activated_unless_doomed table.old keys.now }
+{
+    for key in keys {
+        table.activate(*key);
+    }
+}

@@ -1,0 +1,137 @@
+//! Walks along paths, name by name, without memory.
+
+ghost use Rattle.std.specs.Prelude.{◌≡◌, ◌∷◌, ◌<◌, position, IfSome, Some, None, Ok, Err, length, MatchResult};
+ghost use Rattle.std.specs.Option.{option_map, option_copied};
+ghost use Rattle.std.specs.List.{list_any, slice_split};
+ghost use Rattle.kf_core.specs.declared.key.Key.{Key};
+ghost use Rattle.kf_core.specs.Lawful.{Lawful};
+ghost use Rattle.kf_tree.specs.Paths.{is_slash, is_empty, walk, walked, walked_parent, front, final};
+ghost use Rattle.kf_tree.specs.Shown.{shown};
+ghost use Rattle.kf_tree.specs.Ways.{later_parts};
+
+use crate::shown::find_in;
+use crate::table::Table;
+use kf_core::{Key, Refusal};
+
+fn find_slash(text: &[u8]) -> Option<usize>
+    ensures first { result ≡ position is_slash text.now }
+{
+    text.iter().position(|byte| *byte == b'/')
+}
+
+/// The first part of the text, and what follows its slash.
+fn first_part(text: &[u8]) -> (&[u8], Option<&[u8]>)
+    ensures parts { slice_split is_slash text.now ≡ result.0.now ∷ later_parts (option_map (λ rest. rest.now) result.1) }
+    ensures shorter { IfSome result.1 (λ rest. length rest.now < length text.now) }
+{
+    match find_slash(text) {
+        Some(at) => (&text[..at], Some(&text[at + 1..])),
+        None => (text, None),
+    }
+}
+
+/// Whether a part is empty.
+fn has_empty_part(parts: &[u8]) -> bool
+    ensures known { result ≡ list_any is_empty (slice_split is_slash parts.now) }
+{
+    let mut rest = Some(parts);
+    while let Some(text) = rest {
+        let (name, more) = first_part(text);
+        if name.is_empty() {
+            return true;
+        }
+        rest = more;
+    }
+    false
+}
+
+/// What the parts lead to one after another, from a key on.
+fn walk_parts(table: &Table, start: Key, parts: &[u8], live_only: bool) -> Result<Key, Refusal>
+    requires lawful { (root : Key) × Lawful table.now root }
+    ensures walked { result ≡ walk (shown live_only table.now) start (slice_split is_slash parts.now) }
+{
+    let mut dir = start;
+    let mut rest = Some(parts);
+    while let Some(text) = rest {
+        let (name, more) = first_part(text);
+        match find_in(table, dir, name, live_only) {
+            Ok(key) => dir = key,
+            Err(refusal) => return Err(refusal),
+        }
+        rest = more;
+    }
+    Ok(dir)
+}
+
+/// The node that a path names.
+pub(crate) fn walk(table: &Table, root: Key, path: &[u8], live_only: bool) -> Result<Key, Refusal>
+    requires lawful { (root : Key) × Lawful table.now root }
+    ensures walked { result ≡ walked (shown live_only table.now) root path.now }
+{
+    let [b'/', parts @ ..] = path else {
+        return Err(Refusal::Invalid);
+    };
+    if parts.is_empty() {
+        return Ok(root);
+    }
+    if has_empty_part(parts) {
+        return Err(Refusal::Invalid);
+    }
+    walk_parts(table, root, parts, live_only)
+}
+
+/// Whether a part but the last is empty.
+fn has_empty_front(parts: &[u8]) -> bool
+    ensures known { result ≡ list_any is_empty (front (slice_split is_slash parts.now)) }
+{
+    let mut text = parts;
+    while let (name, Some(rest)) = first_part(text) {
+        if name.is_empty() {
+            return true;
+        }
+        text = rest;
+    }
+    false
+}
+
+/// What the parts but the last lead to, and the last.
+fn walk_front<'a>(table: &Table, start: Key, parts: &'a [u8]) -> Result<(Key, &'a [u8]), Refusal>
+    requires lawful { (root : Key) × Lawful table.now root }
+    ensures walked { MatchResult result
+        (λ found. (walk table.now start (front (slice_split is_slash parts.now)) ≡ Ok found.0) × (final (slice_split is_slash parts.now) ≡ found.1.now))
+        (λ refusal. walk table.now start (front (slice_split is_slash parts.now)) ≡ Err refusal) }
+{
+    let mut dir = start;
+    let mut text = parts;
+    loop {
+        let (name, more) = first_part(text);
+        let Some(rest) = more else {
+            return Ok((dir, name));
+        };
+        match find_in(table, dir, name, false) {
+            Ok(key) => dir = key,
+            Err(refusal) => return Err(refusal),
+        }
+        text = rest;
+    }
+}
+
+/// The node of all names of a path but the last, and the last.
+pub(crate) fn walk_parent<'a>(
+    table: &Table,
+    root: Key,
+    path: &'a [u8],
+) -> Result<(Key, &'a [u8]), Refusal>
+    requires lawful { (root : Key) × Lawful table.now root }
+    ensures walked { MatchResult result
+        (λ found. walked_parent table.now root path.now ≡ Ok (found.0, found.1.now))
+        (λ refusal. walked_parent table.now root path.now ≡ Err refusal) }
+{
+    let [b'/', parts @ ..] = path else {
+        return Err(Refusal::Invalid);
+    };
+    if parts.is_empty() || has_empty_front(parts) {
+        return Err(Refusal::Invalid);
+    }
+    walk_front(table, root, parts)
+}

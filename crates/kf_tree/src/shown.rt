@@ -1,0 +1,46 @@
+//! Names in a tree of which all records are shown, or only the live ones.
+
+ghost use Rattle.std.specs.Prelude.{◌≡◌};
+ghost use Rattle.std.specs.Option.{option_copied};
+ghost use Rattle.kf_core.specs.declared.key.Key.{Key};
+ghost use Rattle.kf_core.specs.Lawful.{Lawful};
+ghost use Rattle.kf_tree.specs.Paths.{found};
+ghost use Rattle.kf_tree.specs.Shown.{shown, shown_record};
+
+use crate::causes::is_live;
+use crate::children::is_directory;
+use crate::table::Table;
+use kf_core::{Key, Record, Refusal};
+
+/// The record, where it is shown.
+fn only_shown(entry: Option<&Record>, live_only: bool) -> Option<&Record>
+    ensures shown { option_copied result ≡ shown_record live_only (option_copied entry.entry) }
+{
+    match entry {
+        Some(found) => {
+            if live_only && !is_live(found) {
+                None
+            } else {
+                Some(found)
+            }
+        }
+        None => None,
+    }
+}
+
+/// What a name in a directory leads to.
+pub(crate) fn find_in(table: &Table, dir: Key, name: &[u8], live_only: bool) -> Result<Key, Refusal>
+    requires lawful { (root : Key) × Lawful table.now root }
+    ensures found { result ≡ found (shown live_only table.now) dir name.now }
+{
+    let Some(entry) = only_shown(table.record(dir), live_only) else {
+        return Err(Refusal::NoEntry);
+    };
+    if !is_directory(&entry.node) {
+        return Err(Refusal::NotDir);
+    }
+    match only_shown(table.child(dir, name), live_only) {
+        Some(child) => Ok(child.key),
+        None => Err(Refusal::NoEntry),
+    }
+}

@@ -1,0 +1,80 @@
+//! Changes of the record in one slot.
+
+ghost use Rattle.std.specs.Prelude.{◌≡◌};
+ghost use Rattle.std.specs.Option.{option_map};
+ghost use Rattle.kf_core.specs.Commands.{doomed_record, moved_record};
+ghost use Rattle.kf_tree.specs.Subtrees.{with_changed_slot, activated_unless_doomed};
+
+use kf_core::{Key, NameBytes, Record};
+
+fn doomed(slot: Option<Record>) -> Option<Record>
+    ensures changed { result ≡ option_map doomed_record slot }
+{
+    match slot {
+        Some(mut found) => {
+            found.marks.doomed = true;
+            Some(found)
+        }
+        None => None,
+    }
+}
+
+/// Dooms the record in a slot.
+pub(crate) fn doom_slot(records: &mut Vec<Option<Record>>, slot: u32)
+    ensures changed { records.new.items ≡ with_changed_slot doomed_record records.old.items slot }
+{
+    let at = slot as usize;
+    if at < records.len() {
+        let entry = records[at].take();
+        records[at] = doomed(entry);
+    }
+}
+
+fn activated(slot: Option<Record>) -> Option<Record>
+    ensures changed { result ≡ option_map activated_unless_doomed slot }
+{
+    match slot {
+        Some(mut found) => {
+            if !found.marks.doomed {
+                found.marks.activated = true;
+            }
+            Some(found)
+        }
+        None => None,
+    }
+}
+
+/// Activates the record in a slot, unless it is doomed.
+pub(crate) fn activate_slot(records: &mut Vec<Option<Record>>, slot: u32)
+    ensures changed { records.new.items ≡ with_changed_slot activated_unless_doomed records.old.items slot }
+{
+    let at = slot as usize;
+    if at < records.len() {
+        let entry = records[at].take();
+        records[at] = activated(entry);
+    }
+}
+
+fn moved(slot: Option<Record>, dir: Key, name: NameBytes) -> Option<Record>
+    ensures changed { result ≡ option_map (moved_record dir name) slot }
+{
+    match slot {
+        Some(mut found) => {
+            found.parent = Some(dir);
+            found.name = name;
+            Some(found)
+        }
+        None => None,
+    }
+}
+
+/// Puts the record in a slot into a directory, under a name.
+pub(crate) fn move_slot(records: &mut Vec<Option<Record>>, slot: u32, dir: Key, name: NameBytes)
+    ensures changed { records.new.items ≡ with_changed_slot (moved_record dir name) records.old.items slot }
+{
+    let at = slot as usize;
+    if at < records.len() {
+        let entry = records[at].take();
+        records[at] = moved(entry, dir, name);
+    }
+}

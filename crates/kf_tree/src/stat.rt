@@ -1,0 +1,43 @@
+//! What is told of a node.
+
+ghost use Rattle.std.specs.Prelude.{◌≡◌, ◌≤◌, length};
+ghost use Rattle.kf_core.specs.declared.key.Key.{Key};
+ghost use Rattle.kf_core.specs.Lawful.{Lawful};
+ghost use Rattle.kf_tree.specs.Stat.{stat_of};
+
+use crate::table::Table;
+use kf_core::{Node, Record};
+
+/// A node's kind and marks, its number of child directories, and its number of links.
+#[derive(Clone, Copy, Debug, PartialEq, Eq)]
+pub struct Stat {
+    pub node: Node,
+    /// The child directories, live or not. None for a file or link.
+    pub subdirs: u32,
+    /// Two more than that; one for a file or link.
+    pub links: u32,
+    pub activated: bool,
+    pub doomed: bool,
+}
+
+/// What is told of a record.
+pub(crate) fn stat_of(table: &Table, entry: &Record) -> Stat
+    requires lawful { (root : Key) × Lawful table.now root }
+    requires few { length table.now ≤ 4096 }
+    ensures told { result ≡ stat_of table.now entry.now }
+{
+    let (subdirs, links) = match entry.node {
+        Node::Dir => {
+            let count = table.subdirs(entry.key);
+            (count, count + 2)
+        }
+        Node::File { .. } | Node::Link { .. } => (0, 1),
+    };
+    Stat {
+        node: entry.node,
+        subdirs,
+        links,
+        activated: entry.marks.activated,
+        doomed: entry.marks.doomed,
+    }
+}

@@ -1,0 +1,327 @@
+//! Each public call on its happy path, with answers known from outside, and walks of long paths.
+
+ghost use Rattle.std.specs.Prelude.{◌≡◌, slice_get, IfSome, Some, None};
+
+use super::State;
+use crate::Stat;
+use kf_core::{Command, Key, Limits, Node, Refusal};
+use std::alloc::Global;
+use std::test::Fail;
+
+const ROOT: Key = Key {
+    slot: 0,
+    generation: 1,
+};
+
+fn key(slot: u32) -> Key
+    ensures same_slot { result.slot ≡ slot }
+{
+    Key {
+        slot,
+        generation: 1,
+    }
+}
+
+fn new_state(alloc: Global, slots: u32) -> Result<State, Refusal> {
+    match Limits::new(slots, 1) {
+        Some(limits) => State::new(alloc, limits, ROOT),
+        None => Err(Refusal::Invalid),
+    }
+}
+
+/// The slot's first key, where the slot is vacant.
+fn vacant(state: &State, slot: u32) -> Option<Key>
+    ensures vacant { IfSome result (λ key. slice_get state.now.tree key.slot ≡ Some None) }
+{
+    if state.table.has_vacant(slot) {
+        Some(key(slot))
+    } else {
+        None
+    }
+}
+
+/// A node at a path, in this slot where it is vacant.
+fn add(state: &mut State, path: &[u8], node: Node, live: bool, slot: u32) -> Result<Key, Refusal> {
+    let (parent, name) = state.walk_parent(path)?;
+    let next = vacant(state, slot);
+    state.create(parent, name, node, live, next)
+}
+
+fn remove(state: &mut State, path: &[u8]) -> Result<(), Refusal> {
+    let top = state.walk(path)?;
+    let keys = state.doom(top)?;
+    for key in &keys {
+        state.unlink(*key)?;
+    }
+    Ok(())
+}
+
+fn move_to(state: &mut State, from: &[u8], dir: &[u8], name: &[u8]) -> Result<(), Refusal> {
+    let key = state.walk(from)?;
+    let dir = state.walk(dir)?;
+    state.rename(key, dir, name)
+}
+
+fn shows(state: &State, dir: Key, after: Option<&[u8]>, limit: usize, names: &[&[u8]]) -> bool {
+    match state.list(dir, after, limit) {
+        Ok(list) => list.len() == names.len()
+            && list
+                .iter()
+                .zip(names)
+                .all(|(shown, name)| shown.bytes() == *name),
+        Err(_) => false,
+    }
+}
+
+fn directory(subdirs: u32, links: u32, activated: bool) -> Stat {
+    Stat {
+        node: Node::Dir,
+        subdirs,
+        links,
+        activated,
+        doomed: false,
+    }
+}
+
+#[test]
+fn lists_and_tells_of_what_was_created(rt: HostRuntime) -> Result<(), Fail> {
+    let mut state = new_state(rt.alloc(), 1024)?;
+    let file = Node::File {
+        mode: 0o644,
+        tag: 3,
+    };
+    assert_eq!(rt; add(&mut state, b"/a", Node::Dir, true, 1), Ok(key(1)));
+    assert_eq!(rt; add(&mut state, b"/a/b", Node::Dir, true, 2), Ok(key(2)));
+    assert_eq!(rt; add(&mut state, b"/a/x", file, true, 3), Ok(key(3)));
+    assert!(rt; shows(&state, key(1), None, 10, &[b"b", b"x"]));
+    assert_eq!(rt; state.stat(key(1)), Ok(directory(1, 3, true)));
+    assert_eq!(rt; state.root(), ROOT);
+    assert_eq!(rt; state.find(key(1), b"x"), Ok(key(3)));
+    assert_eq!(rt; state.find(key(3), b"x"), Err(Refusal::NotDir));
+    assert_eq!(rt; state.walk(b"/a/x"), Ok(key(3)));
+    assert_eq!(rt; state.walk(b"/"), Ok(ROOT));
+    assert_eq!(rt; state.lookup(b"/a/b"), Ok(key(2)));
+    let told = Stat {
+        node: file,
+        subdirs: 0,
+        links: 1,
+        activated: true,
+        doomed: false,
+    };
+    assert_eq!(rt; state.stat(key(3)), Ok(told));
+    assert_eq!(rt;
+        add(&mut state, b"/b", Node::Dir, true, 3),
+        Err(Refusal::NoSpace)
+    );
+    Ok(())
+}
+
+#[test]
+fn removes_a_directory(rt: HostRuntime) -> Result<(), Fail> {
+    let mut state = new_state(rt.alloc(), 1024)?;
+    assert_eq!(rt; add(&mut state, b"/a", Node::Dir, true, 1), Ok(key(1)));
+    assert_eq!(rt;
+        add(&mut state, b"/a", Node::Dir, true, 2),
+        Err(Refusal::Exists)
+    );
+    assert_eq!(rt; add(&mut state, b"/a/c", Node::Dir, true, 2), Ok(key(2)));
+    assert_eq!(rt; add(&mut state, b"/a/b", Node::Dir, false, 3), Ok(key(3)));
+    assert!(rt;
+        state.post_order(key(1)).is_ok_and(|keys| keys.as_slice()
+            == [key(3), key(2), key(1)].as_slice())
+    );
+    assert_eq!(rt; state.unlink(key(2)), Err(Refusal::Invalid));
+    assert!(rt;
+        state.doom(key(1)).is_ok_and(|keys| keys.as_slice() == [key(3), key(2), key(1)].as_slice())
+    );
+    assert_eq!(rt; state.lookup(b"/a/c"), Err(Refusal::NoEntry));
+    assert_eq!(rt; state.may_unlink(key(1)), Err(Refusal::Busy));
+    assert_eq!(rt; remove(&mut state, b"/a"), Ok(()));
+    assert!(rt; shows(&state, ROOT, None, 10, &[]));
+    assert_eq!(rt; remove(&mut state, b"/a"), Err(Refusal::NoEntry));
+    assert_eq!(rt; state.unlink(key(1)), Ok(false));
+    assert_eq!(rt; state.commands().len(), 8);
+    assert_eq!(rt; state.doom(ROOT).err(), Some(Refusal::Invalid));
+    Ok(())
+}
+
+#[test]
+fn activates_what_was_created_off(rt: HostRuntime) -> Result<(), Fail> {
+    let mut state = new_state(rt.alloc(), 1024)?;
+    assert_eq!(rt; add(&mut state, b"/a", Node::Dir, false, 1), Ok(key(1)));
+    assert!(rt; shows(&state, ROOT, None, 10, &[]));
+    assert_eq!(rt;
+        add(&mut state, b"/a", Node::Dir, true, 2),
+        Err(Refusal::Exists)
+    );
+    assert_eq!(rt; state.stat(key(1)), Ok(directory(0, 2, false)));
+    assert_eq!(rt; state.activate(key(1)), Ok(()));
+    assert!(rt; shows(&state, ROOT, None, 10, &[b"a"]));
+    assert!(rt; matches!(state.commands().last(), Some(Command::Activate { .. })));
+    Ok(())
+}
+
+#[test]
+fn takes_lawful_names_alone(rt: HostRuntime) -> Result<(), Fail> {
+    let mut state = new_state(rt.alloc(), 1024)?;
+    let mut path = [b'n'; 257];
+    path[0] = b'/';
+    assert_eq!(rt;
+        add(&mut state, &path[..256], Node::Dir, true, 1),
+        Ok(key(1))
+    );
+    assert_eq!(rt;
+        add(&mut state, &path, Node::Dir, true, 2),
+        Err(Refusal::NameTooLong)
+    );
+    assert_eq!(rt;
+        add(&mut state, b"/.", Node::Dir, true, 2),
+        Err(Refusal::Invalid)
+    );
+    assert_eq!(rt;
+        add(&mut state, b"/", Node::Dir, true, 2),
+        Err(Refusal::Invalid)
+    );
+    Ok(())
+}
+
+#[test]
+fn lists_in_byte_order_above_a_bound(rt: HostRuntime) -> Result<(), Fail> {
+    let mut state = new_state(rt.alloc(), 1024)?;
+    assert_eq!(rt; add(&mut state, b"/b", Node::Dir, true, 1), Ok(key(1)));
+    assert_eq!(rt; add(&mut state, b"/a", Node::Dir, true, 2), Ok(key(2)));
+    assert_eq!(rt; add(&mut state, b"/ab", Node::Dir, true, 3), Ok(key(3)));
+    assert_eq!(rt;
+        add(
+            &mut state,
+            b"/B",
+            Node::File {
+                mode: 0o444,
+                tag: 4
+            },
+            true,
+            4
+        ),
+        Ok(key(4))
+    );
+    assert!(rt; shows(&state, ROOT, None, 10, &[b"B", b"a", b"ab", b"b"]));
+    assert!(rt; shows(&state, ROOT, Some(b"a"), 1, &[b"ab"]));
+    assert!(rt; shows(&state, ROOT, Some(b"aa"), 2, &[b"ab", b"b"]));
+    assert!(rt; shows(&state, ROOT, Some(b"b"), 5, &[]));
+    assert!(rt; shows(&state, ROOT, None, 0, &[]));
+    Ok(())
+}
+
+#[test]
+fn moves_and_counts_directories(rt: HostRuntime) -> Result<(), Fail> {
+    let mut state = new_state(rt.alloc(), 1024)?;
+    assert_eq!(rt; add(&mut state, b"/a", Node::Dir, true, 1), Ok(key(1)));
+    assert_eq!(rt; add(&mut state, b"/b", Node::Dir, true, 2), Ok(key(2)));
+    assert_eq!(rt; add(&mut state, b"/a/c", Node::Dir, true, 3), Ok(key(3)));
+    assert_eq!(rt; move_to(&mut state, b"/a", b"/", b"a"), Ok(()));
+    assert_eq!(rt; state.commands().len(), 3);
+    assert_eq!(rt;
+        move_to(&mut state, b"/a", b"/", b"b"),
+        Err(Refusal::Exists)
+    );
+    assert_eq!(rt;
+        move_to(&mut state, b"/a", b"/a/c", b"z"),
+        Err(Refusal::Invalid)
+    );
+    assert_eq!(rt;
+        move_to(&mut state, b"/", b"/a", b"r"),
+        Err(Refusal::Invalid)
+    );
+    assert_eq!(rt; move_to(&mut state, b"/a/c", b"/b", b"d"), Ok(()));
+    assert_eq!(rt; state.stat(key(1)), Ok(directory(0, 2, true)));
+    assert_eq!(rt; state.stat(key(2)), Ok(directory(1, 3, true)));
+    assert_eq!(rt; state.commands().len(), 4);
+    Ok(())
+}
+
+fn has_text(state: &State, path: &[u8], expected: &[u8]) -> bool {
+    match state.walk(path) {
+        Ok(key) => state
+            .target_text(key)
+            .is_ok_and(|text| text.as_slice() == expected),
+        Err(_) => false,
+    }
+}
+
+#[test]
+fn spells_links(rt: HostRuntime) -> Result<(), Fail> {
+    let mut state = new_state(rt.alloc(), 1024)?;
+    let paths: [(&[u8], u32); 4] = [
+        (b"/devices", 1),
+        (b"/devices/d0", 2),
+        (b"/bus", 3),
+        (b"/bus/devices", 4),
+    ];
+    for (path, slot) in paths {
+        assert_eq!(rt; add(&mut state, path, Node::Dir, true, slot), Ok(key(slot)));
+    }
+    assert_eq!(rt;
+        add(
+            &mut state,
+            b"/bus/devices/d0",
+            Node::Link { target: key(2) },
+            true,
+            5
+        ),
+        Ok(key(5))
+    );
+    assert!(rt; has_text(&state, b"/bus/devices/d0", b"../../devices/d0"));
+    assert_eq!(rt;
+        add(
+            &mut state,
+            b"/devices/e",
+            Node::Link { target: key(2) },
+            true,
+            6
+        ),
+        Ok(key(6))
+    );
+    assert!(rt; has_text(&state, b"/devices/e", b"d0"));
+    assert_eq!(rt;
+        add(
+            &mut state,
+            b"/devices/d0/up",
+            Node::Link { target: key(1) },
+            true,
+            7
+        ),
+        Ok(key(7))
+    );
+    assert!(rt; has_text(&state, b"/devices/d0/up", b"../../devices"));
+    assert_eq!(rt; remove(&mut state, b"/devices/d0"), Ok(()));
+    assert_eq!(rt; state.target_text(key(6)).err(), Some(Refusal::NoEntry));
+    assert_eq!(rt; state.target_text(key(1)).err(), Some(Refusal::Invalid));
+    assert!(rt;
+        state
+            .stat(key(6))
+            .is_ok_and(|told| told.activated && told.links == 1)
+    );
+    assert_eq!(rt;
+        add(&mut state, b"/r", Node::Link { target: ROOT }, true, 8),
+        Err(Refusal::Invalid)
+    );
+    Ok(())
+}
+
+#[test]
+fn walks_long_paths_without_stack(rt: HostRuntime) -> Result<(), Fail> {
+    let alloc = rt.alloc();
+    let mut state = new_state(alloc, 1024)?;
+    let mut path = Vec::new(alloc);
+    for _ in 0..400_000 {
+        path.extend_from_slice(b"/a")?;
+    }
+    assert_eq!(rt; state.walk(&path), Err(Refusal::NoEntry));
+    assert_eq!(rt; add(&mut state, b"/a", Node::Dir, true, 1), Ok(key(1)));
+    assert_eq!(rt; state.lookup(&path), Err(Refusal::NoEntry));
+    assert_eq!(rt; state.walk_parent(&path).err(), Some(Refusal::NoEntry));
+    path.push(b'/')?;
+    assert_eq!(rt; state.walk(&path), Err(Refusal::Invalid));
+    assert_eq!(rt; state.walk(b"a"), Err(Refusal::Invalid));
+    Ok(())
+}

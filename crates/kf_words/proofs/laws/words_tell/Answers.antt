@@ -1,0 +1,14 @@
+use Rattle.kf_words.proofs.Tells.{always_safe, lets_in_the_live, drained_is_unused, free_is_unheld}
+use Rattle.kf_words.proofs.laws.words_tell.Goals as goal
+
+pub returns-clause-always_safe : goal.returns-clause-always_safe
+returns-clause-always_safe c = always_safe
+
+pub returns-clause-lets_in_the_live : goal.returns-clause-lets_in_the_live
+returns-clause-lets_in_the_live c = lets_in_the_live
+
+pub returns-clause-drained_is_unused : goal.returns-clause-drained_is_unused
+returns-clause-drained_is_unused c = drained_is_unused
+
+pub returns-clause-free_is_unheld : goal.returns-clause-free_is_unheld
+returns-clause-free_is_unheld c = free_is_unheld
