@@ -10,3 +10,7 @@ pub mod Events
 pub mod WorldVisits
 pub mod Agreeing
 pub mod Ancestors
+pub mod TreeLists
+pub mod Climbs
+pub mod FoundRecords
+pub mod Mapped

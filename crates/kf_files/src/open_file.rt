@@ -40,7 +40,7 @@ impl<G: Guard> Model for OpenFile<G> {
 
 // Whether the mode lets the file be read and written as wanted.
 fn allows(mode: u16, want: Want) -> bool
-    ensures { result ≡ allows mode want }
+    ensures told { result ≡ allows mode want }
 {
     (!want.read || mode & 0o444 != 0) && (!want.write || mode & 0o222 != 0)
 }

@@ -7,7 +7,7 @@ use Rattle.kf_core.specs.declared.slot.Marks.{Marks}
 use Rattle.kf_core.specs.Bare.{BareWorld, marks}
 use Rattle.kf_core.specs.Keys.{same_key}
 use Rattle.kf_core.specs.Steps.{with_marks}
-use Rattle.kf_run.proofs.Climbs.{keys_tell}
+use Rattle.kf_core.proofs.Climbs.{keys_tell}
 use Rattle.kf_run.specs.Agreement.{contains_key, doomed_if, risen_if, Changed}
 use Rattle.kf_run.proofs.Places.{marks_written, alone_linked}
 

@@ -13,10 +13,10 @@ use Rattle.kf_core.specs.Commands.{after, doomed_record}
 use Rattle.kf_run.specs.Agreement.{contains_key}
 use Rattle.kf_run.specs.Removals.{AreChildrenFirst}
 use Rattle.kf_run.proofs.Agreement.{is_listed}
-use Rattle.kf_run.proofs.Climbs.{after_step, no_return}
+use Rattle.kf_core.proofs.Climbs.{after_step, no_return}
 use Rattle.kf_run.proofs.Different.{no_apart}
-use Rattle.kf_run.proofs.Mapped.{mapped_from}
-use Rattle.kf_run.proofs.Records.{parent_known, in_found, root_parent, root_met, subtree_to, subtree_from}
+use Rattle.kf_core.proofs.Mapped.{mapped_from}
+use Rattle.kf_core.proofs.FoundRecords.{parent_known, in_found, root_parent, root_met, subtree_to, subtree_from}
 
 module _ (t : Tree) (root : Key) (l : Lawful t root) (top : Key) (keys : List Key) (p : IsPostOrder t top keys) where
   listed_place : (i : ℕ) (d : Key) → i < length keys → Contains keys (slice_index_or keys i d)

@@ -12,8 +12,8 @@ use Rattle.kf_core.specs.declared.records.Record.{Record}
 use Rattle.kf_core.specs.Tree.{Tree, parent_of, ancestor, IsIn}
 use Rattle.kf_core.specs.Lawful.{Lawful}
 use Rattle.kf_core.specs.PostOrder.{AreApart, IsPostOrder}
-use Rattle.kf_run.proofs.Climbs.{first_step, after_step, climb_rest, no_return}
-use Rattle.kf_run.proofs.Records.{parent_known, found_in, root_parent, root_met, subtree_to, same_record}
+use Rattle.kf_core.proofs.Climbs.{first_step, after_step, climb_rest, no_return}
+use Rattle.kf_core.proofs.FoundRecords.{parent_known, found_in, root_parent, root_met, subtree_to, same_record}
 
 no_less : (a : List ℕ) → slice_cmp nat_cmp a a ≡ Less → ⊥
 no_less a h = (let e : is_eq (slice_cmp nat_cmp a a) ≡ true = is_eq-slice_cmp a a ∙ (bytes_eq-Decides a a).1 refl in (let f : false ≡ true = sym (ap is_eq h) ∙ e in cc))

@@ -16,7 +16,7 @@ use Rattle.kf_run.specs.declared.nodes.visits.BoardFile.{BoardFile}
 use Rattle.kf_run.specs.Nodes.{Waits, StillWaits, AllIdle, hold_count, spent_on}
 use Rattle.kf_run.specs.Plain.{is_on}
 use Rattle.kf_run.specs.PlainInside.{plain_file, plain_files, IsHeldFile, IsShort}
-use Rattle.kf_run.proofs.Lists.{after_set, after_push}
+use Rattle.kf_core.proofs.TreeLists.{after_set, after_push}
 use Rattle.kf_run.proofs.Counts.{none_counted, count_push, count_set}
 use Rattle.kf_run.proofs.BoardVisits.{last_there}
 

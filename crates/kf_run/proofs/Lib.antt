@@ -1,8 +1,4 @@
 pub mod Names
-pub mod Lists
-pub mod Climbs
-pub mod Records
-pub mod Mapped
 pub mod Places
 pub mod Agreement
 pub mod Changes

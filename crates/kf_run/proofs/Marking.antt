@@ -12,7 +12,7 @@ use Rattle.kf_core.specs.Bounded.{BoundedWorld}
 use Rattle.kf_core.specs.Steps.{with_marks}
 use Rattle.kf_run.specs.Agreement.{contains_key, Changed}
 use Rattle.kf_run.specs.Nodes.{OnlyMarks, last_of}
-use Rattle.kf_run.proofs.Climbs.{keys_tell}
+use Rattle.kf_core.proofs.Climbs.{keys_tell}
 use Rattle.kf_run.proofs.Changes.{IsMarking}
 use Rattle.kf_run.proofs.Places.{linked_place}
 

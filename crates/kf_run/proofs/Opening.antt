@@ -18,7 +18,7 @@ use Rattle.kf_core.specs.Lawful.{root_record}
 use Rattle.kf_core.specs.Commands.{root_alone}
 use Rattle.kf_tree.specs.TreeLogs.{TreeLog, IsNew}
 use Rattle.kf_run.specs.Nodes.{Nodes, nodes_of, last_of, AreTied, new_nodes, root_key}
-use Rattle.kf_run.proofs.Lists.{length_set}
+use Rattle.kf_core.proofs.TreeLists.{length_set}
 
 -- a slot of the two: empty in both, or the root's
 empty_slot : (start slot : ℕ) (n : ℕ) (key : Key) → marks_in (slice_get (replicate n (let s : SlotState = record { generation = start; marks = None } in s)) slot) key.generation ≡ option_map (λ (r : Record). r.marks) (option_and_then (with_key key) (slice_get (replicate n (let o : Option Record = None in o)) slot))

@@ -33,7 +33,7 @@ use Rattle.kf_run.proofs.Agreement.{same_doomed, is_listed}
 use Rattle.kf_run.proofs.ChildrenFirst.{children_first_doomed}
 use Rattle.kf_run.proofs.Different.{different}
 use Rattle.kf_run.proofs.Pins.{released_callers}
-use Rattle.kf_run.proofs.Records.{in_found, linked_here}
+use Rattle.kf_core.proofs.FoundRecords.{in_found, linked_here}
 use Rattle.kf_run.proofs.Ties.{Logs, length_after, log_after}
 
 -- ---- why it is refused

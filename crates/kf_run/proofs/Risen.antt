@@ -19,7 +19,7 @@ use Rattle.kf_core.specs.PostOrder.{IsPostOrder}
 use Rattle.kf_tree.specs.TreeLogs.{TreeLog}
 use Rattle.kf_run.specs.Agreement.{SameMarks, Changed, contains_key, risen_if, is_fresh_key, is_fresh_marked}
 use Rattle.kf_run.specs.Nodes.{AreTied, OnlyMarks}
-use Rattle.kf_run.proofs.Climbs.{keys_tell}
+use Rattle.kf_core.proofs.Climbs.{keys_tell}
 use Rattle.kf_run.proofs.Agreement.{same_risen}
 use Rattle.kf_run.proofs.Different.{different}
 use Rattle.kf_run.proofs.Ties.{Logs, IsUndoomed, tied_after}

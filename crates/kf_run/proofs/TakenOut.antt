@@ -31,12 +31,12 @@ use Rattle.kf_run.specs.Agreement.{SameMarks, contains_key}
 use Rattle.kf_run.specs.Nodes.{AllIdle, last_of, logged, spent_on}
 use Rattle.kf_run.specs.Removals.{AreChildrenFirst, Cleared, IsMarkedDoomed, released, still_on, taken_out}
 use Rattle.kf_run.proofs.Agreement.{same_unlinked}
-use Rattle.kf_run.proofs.Climbs.{keys_tell, same_key_self}
-use Rattle.kf_run.proofs.Lists.{slice_get-set_same, after_set}
+use Rattle.kf_core.proofs.Climbs.{keys_tell, same_key_self}
+use Rattle.kf_core.proofs.TreeLists.{slice_get-set_same, after_set}
 use Rattle.kf_run.proofs.Marking.{last_marked, not_before}
 use Rattle.kf_run.proofs.Places.{marks_written, alone_linked}
 use Rattle.kf_run.proofs.Rows.{partly, partly_at, partly_more}
-use Rattle.kf_run.proofs.Records.{in_found, found_in, find_at, find_cleared, linked_here}
+use Rattle.kf_core.proofs.FoundRecords.{in_found, found_in, find_at, find_cleared, linked_here}
 use Rattle.kf_run.proofs.Ties.{logs, log_after}
 
 -- what of each record is left once these are taken out

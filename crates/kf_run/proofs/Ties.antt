@@ -28,8 +28,8 @@ use Rattle.kf_core.specs.Commands.{after}
 use Rattle.kf_tree.specs.TreeLogs.{TreeLog, IsKept, IsAccepted, IsRefused}
 use Rattle.kf_tree.specs.Causes.{is_there_already}
 use Rattle.kf_run.specs.Nodes.{Nodes, nodes_of, AreTied, IsNext, is_free, is_vacant, hold_count, last_of, logged}
-use Rattle.kf_run.proofs.Lists.{length_set}
-use Rattle.kf_run.proofs.Climbs.{same_key_self}
+use Rattle.kf_core.proofs.TreeLists.{length_set}
+use Rattle.kf_core.proofs.Climbs.{same_key_self}
 use Rattle.kf_run.proofs.Counts.{none_passes, none_counted}
 use Rattle.kf_run.proofs.Places.{IsVacant, IsAlone, length_written, marks_written, alone_vacant, alone_linked}
 use Rattle.kf_run.proofs.Agreement.{vacant_in_tree, same_born, same_born_live, same_renamed}

@@ -39,11 +39,11 @@ use Rattle.kf_run.specs.PlainRemove.{removed_key, without}
 use Rattle.kf_run.specs.PlainFiles.{opened_node, opened_key, new_open, known_file, ShowsText, StoresOnBoard}
 use Rattle.kf_run.specs.Settled.{ok_unless, IsWhy, IsRefused}
 use Rattle.kf_run.proofs.Holding.{AreHeld, held_spent, held_opened, held_closed, held_visited}
-use Rattle.kf_run.proofs.Records.{found_in}
+use Rattle.kf_core.proofs.FoundRecords.{found_in}
 use Rattle.std.proofs.lemmas.List.{map-set, length-replicate}
 use Rattle.kf_core.specs.Lawful.{root_record}
 use Rattle.kf_run.proofs.Counts.{none_counted}
-use Rattle.kf_run.proofs.Lists.{after_set, length_set}
+use Rattle.kf_core.proofs.TreeLists.{after_set, length_set}
 use Rattle.kf_run.proofs.Ties.{length_after, free_tells}
 
 -- ---- tags

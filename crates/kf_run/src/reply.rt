@@ -79,7 +79,7 @@ impl Reply {
         self.push_number(usize::from(refusal.number()));
     }
 
-    /// `err Callback NUMBER`, the number of a callback's fault.
+    /// What a read or a write of a file met: a refusal, or the fault of a callback.
     pub fn set_error(&mut self, error: FileError)
         ensures { self.new ≡ error_text error }
     {
@@ -89,7 +89,7 @@ impl Reply {
         }
     }
 
-    /// The fault of a callback.
+    /// `err Callback NUMBER`, the number of a callback's fault.
     pub fn set_fault(&mut self, number: u16)
         ensures { self.new ≡ fault_text number }
     {

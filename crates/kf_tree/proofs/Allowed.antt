@@ -18,7 +18,7 @@ use Rattle.kf_core.specs.Marks.{are_doomed}
 use Rattle.kf_core.specs.Tree.{Tree, record_at, IsIn, is_dir, is_linked}
 use Rattle.kf_tree.specs.Paths.{is_key, is_under}
 use Rattle.kf_tree.specs.Causes.{create_cause, doom_cause, unlink_cause, target_fault, doomed_in, has_entry, has_child, target_of}
-use Rattle.kf_tree.proofs.Climbs.{same_key_self}
+use Rattle.kf_core.proofs.Climbs.{same_key_self}
 use Rattle.kf_core.proofs.Names.{lawful_without_fault}
 use Rattle.kf_tree.proofs.Created.{MayCreate}
 

@@ -9,7 +9,7 @@ use Rattle.kf_core.specs.declared.key.Key.{Key}
 use Rattle.kf_core.specs.declared.records.Record.{Record}
 use Rattle.kf_core.specs.Tree.{Tree}
 use Rattle.kf_core.specs.Commands.{doomed_record}
-use Rattle.kf_tree.proofs.Lists.{count_at_most}
+use Rattle.kf_core.proofs.TreeLists.{count_at_most}
 use Rattle.kf_tree.proofs.Each.{altered_at, altered_other}
 use Rattle.kf_tree.specs.Subtrees.{with_changed_slot, with_changed_slots, is_doomed_record, doomed_count, is_undoomed, undoomed_count}
 

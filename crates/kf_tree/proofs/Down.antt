@@ -13,8 +13,8 @@ use Rattle.kf_tree.specs.Causes.{link_target}
 use Rattle.kf_tree.specs.Links.{IsLinkText, HasLinkText}
 use Rattle.kf_tree.specs.Paths.{and_then, entry_key, child, found, walk}
 use Rattle.kf_tree.specs.Ways.{name_at}
-use Rattle.kf_tree.proofs.Climbs.{first_step}
-use Rattle.kf_tree.proofs.Records.{in_found, known_parent}
+use Rattle.kf_core.proofs.Climbs.{first_step}
+use Rattle.kf_core.proofs.FoundRecords.{in_found, known_parent}
 use Rattle.kf_tree.proofs.Listed.{child_known}
 
 -- a record is found in its directory under its name

@@ -14,9 +14,9 @@ use Rattle.kf_core.specs.Lawful.{Lawful}
 use Rattle.kf_core.specs.Commands.{after, activated_record, doomed_record, moved_record}
 use Rattle.kf_core.specs.PostOrder.{IsPostOrder}
 use Rattle.kf_tree.specs.Subtrees.{with_changed_slot, with_changed_slots, activated_unless_doomed}
-use Rattle.kf_tree.proofs.Climbs.{keys_tell, same_key_self}
-use Rattle.kf_tree.proofs.Lists.{length_set, slice_get-set_same, slice_get-set_other}
-use Rattle.kf_tree.proofs.Records.{linked_here, found_in, in_found}
+use Rattle.kf_core.proofs.Climbs.{keys_tell, same_key_self}
+use Rattle.kf_core.proofs.TreeLists.{length_set, slice_get-set_same, slice_get-set_other}
+use Rattle.kf_core.proofs.FoundRecords.{linked_here, found_in, in_found}
 
 list_same : {X : Type 0} (xs ys : List X) → ((j : ℕ) → slice_get xs j ≡ slice_get ys j) → xs ≡ ys
 list_same [] [] h = refl

@@ -16,7 +16,7 @@ use Rattle.kf_core.specs.Commands.{root_alone, doomed_record, activated_record}
 use Rattle.kf_tree.specs.declared.directories.Directory.{Directory}
 use Rattle.kf_tree.specs.Subtrees.{with_changed_slot, activated_unless_doomed}
 use Rattle.kf_tree.specs.Directories.{empty_directory, entry_at, subdirs_at, is_slot_of, is_subdir_in, IsEntry, AreKept}
-use Rattle.kf_tree.proofs.Lists.{slice_get-set_same, slice_get-set_other}
+use Rattle.kf_core.proofs.TreeLists.{slice_get-set_same, slice_get-set_other}
 use Rattle.kf_tree.proofs.Kept.{counted, count_written}
 
 -- the two say the same of where they stand

@@ -14,7 +14,7 @@ use Rattle.kf_tree.specs.declared.directories.Directory.{Directory}
 use Rattle.kf_tree.specs.Causes.{is_there_already}
 use Rattle.kf_tree.specs.Subtrees.{with_changed_slot}
 use Rattle.kf_tree.specs.Directories.{empty_directory, with_child, with_entry, without_entry, without_record, HasRoom, MayLeave, entry_at, subdirs_at, AreKept}
-use Rattle.kf_tree.proofs.Records.{in_found}
+use Rattle.kf_core.proofs.FoundRecords.{in_found}
 use Rattle.kf_tree.proofs.Entries.{entered_counted, left_elsewhere, subdirs_elsewhere}
 use Rattle.kf_tree.proofs.Kept.{kept_with, kept_without, none_there, own_entry, dir_within, dir_counts}
 use Rattle.kf_tree.proofs.Rooms.{few_subdirs, move_is, move_low, move_named, move_absent}

@@ -9,7 +9,7 @@ use Rattle.kf_core.specs.Tree.{Tree, IsIn, is_dir, record_at}
 use Rattle.kf_core.specs.Lawful.{Lawful}
 use Rattle.kf_tree.specs.declared.directories.Directory.{Directory}
 use Rattle.kf_tree.specs.Directories.{with_entry, with_record, without_record, MayEnter, MayLeave, AreKept}
-use Rattle.kf_tree.proofs.Records.{linked_here}
+use Rattle.kf_core.proofs.FoundRecords.{linked_here}
 use Rattle.kf_tree.proofs.Kept.{counted, count_written, in_none, stays, new_or_old, kept_with, kept_without, may_leave}
 use Rattle.kf_tree.proofs.Rooms.{few_subdirs, add_low, add_named, add_absent}
 

@@ -1,7 +1,3 @@
-pub mod Climbs
-pub mod Lists
-pub mod Records
-pub mod Mapped
 pub mod Created
 pub mod Unlinked
 pub mod Marked

@@ -17,7 +17,7 @@ use Rattle.kf_core.specs.Names.{IsBefore, IsLawfulName}
 use Rattle.kf_index.specs.Entries.{IsAbove}
 use Rattle.kf_tree.specs.Listing.{IsListed, IsListing}
 use Rattle.kf_tree.specs.Next.{before, above, IsNext, NoneAbove}
-use Rattle.kf_tree.proofs.Records.{same_record}
+use Rattle.kf_core.proofs.FoundRecords.{same_record}
 use Rattle.kf_tree.proofs.Allowed.{some_first, is_key_self}
 use Rattle.kf_tree.proofs.Next.{before_less, less_before, before_not_self, before_trans, before_ties, both, key_is}
 use Rattle.kf_tree.proofs.PostOrder.{pairs_append, still_not, is_before}

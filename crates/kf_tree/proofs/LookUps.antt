@@ -28,10 +28,10 @@ use Rattle.kf_tree.specs.Next.{before, above, IsNext, NoneAbove}
 use Rattle.kf_tree.specs.Paths.{is_key, is_under, child}
 use Rattle.kf_tree.specs.Stat.{subdirs}
 use Rattle.kf_tree.specs.Directories.{entry_at, is_slot_of, is_subdir_in, AreKept}
-use Rattle.kf_tree.proofs.Climbs.{same_key_self}
+use Rattle.kf_core.proofs.Climbs.{same_key_self}
 use Rattle.kf_tree.proofs.Next.{both, key_is}
 use Rattle.kf_tree.proofs.Allowed.{some_first, some_any, is_key_self}
-use Rattle.kf_tree.proofs.Records.{found_in, same_record}
+use Rattle.kf_core.proofs.FoundRecords.{found_in, same_record}
 use Rattle.kf_tree.proofs.Entries.{entry_read, subdirs_read}
 
 -- ---- lists

@@ -10,10 +10,10 @@ use Rattle.kf_core.specs.Names.{IsLawfulName}
 use Rattle.kf_core.specs.Tree.{Tree, record_at, parent_of, ancestor, IsIn, in_subtree}
 use Rattle.kf_core.specs.Lawful.{root_record, Lawful}
 use Rattle.kf_core.specs.Commands.{after, activated_record, doomed_record}
-use Rattle.kf_tree.proofs.Climbs.{climb_same, after_step, first_step}
-use Rattle.kf_tree.proofs.Lists.{count_mapped}
-use Rattle.kf_tree.proofs.Records.{found_in, parent_known, subtree_to, subtree_from}
-use Rattle.kf_tree.proofs.Mapped.{mapped, from_slot, mapped_from, mapped_to, find_mapped}
+use Rattle.kf_core.proofs.Climbs.{climb_same, after_step, first_step}
+use Rattle.kf_core.proofs.TreeLists.{count_mapped}
+use Rattle.kf_core.proofs.FoundRecords.{found_in, parent_known, subtree_to, subtree_from}
+use Rattle.kf_core.proofs.Mapped.{mapped, from_slot, mapped_from, mapped_to, find_mapped}
 
 -- a change of a record that leaves all but its marks
 pub record KeepsPlace (g : Record → Record) : Type 0 where

@@ -13,7 +13,7 @@ use Rattle.kf_core.specs.Keys.{same_key}
 use Rattle.kf_core.specs.Marks.{are_live}
 use Rattle.kf_core.specs.Tree.{Tree, is_linked, is_dir, in_subtree}
 use Rattle.kf_tree.specs.Causes.{is_directory, live_in, is_there_already, has_entry, early_rename_cause, late_rename_cause, rename_cause}
-use Rattle.kf_tree.proofs.Climbs.{same_key_self}
+use Rattle.kf_core.proofs.Climbs.{same_key_self}
 use Rattle.kf_core.proofs.Names.{lawful_without_fault}
 use Rattle.kf_tree.proofs.Renamed.{MayMove}
 use Rattle.kf_tree.proofs.Allowed.{no_first, passed, not_passed, linked_record, dir_node, name_free}

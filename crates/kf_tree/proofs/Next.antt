@@ -11,7 +11,7 @@ use Rattle.std.proofs.lemmas.Slice.Eq.{bytes_eq-Decides}
 use Rattle.kf_core.specs.declared.key.Key.{Key}
 use Rattle.kf_tree.specs.Paths.{is_key}
 use Rattle.kf_tree.specs.Next.{before}
-use Rattle.kf_tree.proofs.Climbs.{same_key_is}
+use Rattle.kf_core.proofs.Climbs.{same_key_is}
 
 pub before_less : (a b : List ℕ) → before a b ≡ true → slice_cmp nat_cmp a b ≡ Less
 before_less a b h = elim (slice_cmp nat_cmp a b) as (λ o. is_lt o ≡ true → o ≡ Less) [

@@ -15,7 +15,7 @@ use Rattle.kf_tree.specs.Paths.{and_then, entry_key, child, found, walk}
 use Rattle.kf_tree.proofs.Listed.{child_is}
 use Rattle.kf_tree.proofs.Over.{one_more}
 use Rattle.kf_tree.proofs.PostOrder.{child_below}
-use Rattle.kf_tree.proofs.Records.{found_in, parent_known, same_record, subtree_from}
+use Rattle.kf_core.proofs.FoundRecords.{found_in, parent_known, same_record, subtree_from}
 use Rattle.kf_tree.proofs.Unique.{compared, siblings_meet}
 
 same_Ok : (a b : Key) → ◌≡◌ {A = Result Key Refusal} (Ok a) (Ok b) → a ≡ b

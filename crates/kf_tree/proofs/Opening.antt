@@ -14,7 +14,7 @@ use Rattle.kf_core.specs.Commands.{after, replay, root_alone}
 use Rattle.kf_tree.specs.TreeLogs.{TreeLog, IsKept}
 use Rattle.kf_tree.specs.Subtrees.{doomed_count}
 use Rattle.kf_tree.specs.Sound.{IsSound}
-use Rattle.kf_tree.proofs.Lists.{length_set, slice_get-set_same, slice_get-set_other}
+use Rattle.kf_core.proofs.TreeLists.{length_set, slice_get-set_same, slice_get-set_other}
 use Rattle.kf_tree.proofs.Doomed.{doomed_written, empty_undoomed}
 
 abbrev empty_slots : ℕ → Tree

@@ -11,10 +11,10 @@ use Rattle.kf_core.specs.Lawful.{Lawful}
 use Rattle.kf_tree.specs.Links.{IsOver, ups}
 use Rattle.kf_tree.specs.Subtrees.{is_over_key}
 use Rattle.kf_tree.specs.Ways.{HasUps}
-use Rattle.kf_tree.proofs.Climbs.{same_key_is, same_key_self, after_step, climb_rest, no_return}
-use Rattle.kf_tree.proofs.Lists.{count_less}
+use Rattle.kf_core.proofs.Climbs.{same_key_is, same_key_self, after_step, climb_rest, no_return}
+use Rattle.kf_core.proofs.TreeLists.{count_less}
 use Rattle.kf_tree.proofs.PostOrder.{child_below}
-use Rattle.kf_tree.proofs.Records.{linked_here, known_parent, root_parent, root_met, subtree_to, subtree_from}
+use Rattle.kf_core.proofs.FoundRecords.{linked_here, known_parent, root_parent, root_met, subtree_to, subtree_from}
 
 -- a test that fails on two keys tells that they differ
 differ : (a b : Key) → same_key a b ≡ false → a ≢ b

@@ -12,10 +12,10 @@ use Rattle.kf_core.specs.PostOrder.{StandsBefore, IsPostOrder}
 use Rattle.kf_tree.specs.Paths.{is_key}
 use Rattle.kf_tree.specs.Subtrees.{HasPushed, is_left}
 use Rattle.kf_tree.specs.Ends.{EndsWith}
-use Rattle.kf_tree.proofs.Lists.{count_less}
+use Rattle.kf_core.proofs.TreeLists.{count_less}
 use Rattle.kf_tree.specs.Next.{before, above, IsNext, NoneAbove}
-use Rattle.kf_tree.proofs.Climbs.{same_key_self, after_step, climb_rest, no_return}
-use Rattle.kf_tree.proofs.Records.{in_found, parent_known, linked_here, met_parent, root_parent, root_met, subtree_to, subtree_from, way_shorter}
+use Rattle.kf_core.proofs.Climbs.{same_key_self, after_step, climb_rest, no_return}
+use Rattle.kf_core.proofs.FoundRecords.{in_found, parent_known, linked_here, met_parent, root_parent, root_met, subtree_to, subtree_from, way_shorter}
 use Rattle.kf_tree.proofs.Next.{before_less, before_not_self, before_trans, before_ties, before_skip, both}
 
 lt_or_le : (a b : ℕ) → (a < b) ⊎ (b ≤ a)

@@ -20,8 +20,8 @@ use Rattle.kf_core.specs.Worlds.{MayMove}
 use Rattle.kf_core.proofs.Names.{lawful_without_fault, no_fault_of_lawful}
 use Rattle.kf_tree.specs.Causes.{is_directory, live_in, is_there_already, has_entry, early_rename_cause, late_rename_cause, rename_cause}
 use Rattle.kf_tree.specs.Paths.{is_key, child}
-use Rattle.kf_tree.proofs.Climbs.{keys_tell, same_key_self}
-use Rattle.kf_tree.proofs.Records.{found_in, root_found}
+use Rattle.kf_core.proofs.Climbs.{keys_tell, same_key_self}
+use Rattle.kf_core.proofs.FoundRecords.{found_in, root_found}
 use Rattle.kf_tree.proofs.Next.{both, key_is}
 use Rattle.kf_tree.proofs.Allowed.{no_first, passed, not_passed, linked_record, dir_node, name_free}
 use Rattle.kf_tree.proofs.Listed.{child_is}

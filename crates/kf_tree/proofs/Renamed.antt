@@ -13,9 +13,9 @@ use Rattle.kf_core.specs.Keys.{same_key}
 use Rattle.kf_core.specs.Tree.{Tree, record_at, parent_of, ancestor, IsIn, in_subtree}
 use Rattle.kf_core.specs.Lawful.{root_record, Lawful}
 use Rattle.kf_core.specs.Commands.{after}
-use Rattle.kf_tree.proofs.Climbs.{keys_tell, climb_rest, climb_same, after_step, no_return}
-use Rattle.kf_tree.proofs.Records.{found_in, root_found, root_parent, root_met, subtree_to, subtree_from, way_short}
-use Rattle.kf_tree.proofs.Mapped.{mapped, from_slot, mapped_from, find_mapped}
+use Rattle.kf_core.proofs.Climbs.{keys_tell, climb_rest, climb_same, after_step, no_return}
+use Rattle.kf_core.proofs.FoundRecords.{found_in, root_found, root_parent, root_met, subtree_to, subtree_from, way_short}
+use Rattle.kf_core.proofs.Mapped.{mapped, from_slot, mapped_from, find_mapped}
 
 pub record MayMove (t : Tree) (root key dir : Key) (name : List ℕ) : Type 0 where
   pub not_root : key ≢ root

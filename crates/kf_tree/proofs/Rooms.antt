@@ -18,9 +18,9 @@ use Rattle.kf_tree.specs.Causes.{is_there_already}
 use Rattle.kf_tree.specs.Paths.{is_key}
 use Rattle.kf_tree.specs.Subtrees.{with_changed_slot}
 use Rattle.kf_tree.specs.Directories.{entry_at, subdirs_at, is_subdir_in, IsEntry, AreKept}
-use Rattle.kf_tree.proofs.Climbs.{same_key_self}
-use Rattle.kf_tree.proofs.Lists.{slice_get-set_same, slice_get-set_other}
-use Rattle.kf_tree.proofs.Records.{found_in}
+use Rattle.kf_core.proofs.Climbs.{same_key_self}
+use Rattle.kf_core.proofs.TreeLists.{slice_get-set_same, slice_get-set_other}
+use Rattle.kf_core.proofs.FoundRecords.{found_in}
 
 module _ (t : Tree) (root : Key) (lawful : Lawful t root) where
   -- records whose parents are in one slot have one parent

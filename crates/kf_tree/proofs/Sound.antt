@@ -25,7 +25,7 @@ use Rattle.kf_tree.proofs.Each.{each_doomed, each_risen, slot_moved}
 use Rattle.kf_tree.proofs.Marked.{lawful_activated, lawful_doomed}
 use Rattle.kf_tree.proofs.Moving.{may_move}
 use Rattle.kf_tree.proofs.Opening.{kept_after, length_after}
-use Rattle.kf_tree.proofs.Records.{found_in, root_found}
+use Rattle.kf_core.proofs.FoundRecords.{found_in, root_found}
 use Rattle.kf_tree.proofs.Renamed.{lawful_renamed}
 use Rattle.kf_tree.proofs.Unlinked.{lawful_unlinked}
 

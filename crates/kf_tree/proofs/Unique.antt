@@ -11,10 +11,10 @@ use Rattle.kf_core.specs.Lawful.{Lawful}
 use Rattle.kf_core.specs.PostOrder.{StandsBefore, IsPostOrder}
 use Rattle.kf_index.specs.Entries.{IsAbove}
 use Rattle.kf_tree.specs.Listing.{IsListing}
-use Rattle.kf_tree.proofs.Climbs.{first_step, after_step, climb_rest, climb_cut, climb_unique, no_return}
+use Rattle.kf_core.proofs.Climbs.{first_step, after_step, climb_rest, climb_cut, climb_unique, no_return}
 use Rattle.kf_tree.proofs.Next.{less_before, before_not_self, before_not_back}
 use Rattle.kf_tree.proofs.Over.{one_more}
-use Rattle.kf_tree.proofs.Records.{linked_here, found_in, parent_known, root_parent, root_met, same_record, subtree_to}
+use Rattle.kf_core.proofs.FoundRecords.{linked_here, found_in, parent_known, root_parent, root_met, same_record, subtree_to}
 
 -- ---- lists in order
 

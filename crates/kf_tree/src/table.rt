@@ -115,7 +115,7 @@ impl Table {
     }
 
     /// Whether following parents from the key meets the top.
-    #[tactic(auto, using(crate::proofs::Climbs::meets_more, crate::proofs::Climbs::meets_none, crate::proofs::Climbs::meets_here))]
+    #[tactic(auto, using(kf_core::proofs::Climbs::meets_more, kf_core::proofs::Climbs::meets_none, kf_core::proofs::Climbs::meets_here))]
     pub(crate) fn is_below(&self, top: Key, key: Key) -> bool
         ensures known { result ≡ in_subtree self.now top key }
     {

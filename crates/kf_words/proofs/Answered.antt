@@ -3,13 +3,13 @@ use Rattle.std.proofs.Common.{◌≡◌, ℕ, true, false, if◌then◌else◌, 
 use Rattle.kf_core.specs.declared.caller.Phase.TheVariants.{Turned, Running, Drained, Parted}
 use Rattle.kf_words.specs.declared.view.CallerView.{CallerView}
 use Rattle.kf_words.specs.Layout.{keeps_out, is_drained, has_linked}
-use Rattle.kf_words.specs.Steps.{after_step, after_try, after_look, after_part}
+use Rattle.kf_words.specs.Steps.{after_step, with_try, after_try, after_look, after_part}
 
-pub try_enters : (n : ℕ) (c : CallerView) → keeps_out n ≡ false → after_try n c ≡ after_step Running false n c
-try_enters n c free = ap (λ (b : Bool). if b then after_step Turned true n c else after_step Running false n c) free
+pub try_enters : (n : ℕ) (c : CallerView) → keeps_out n ≡ false → after_try n c ≡ after_step Running false n (with_try c)
+try_enters n c free = ap (λ (b : Bool). if b then after_step Turned true n (with_try c) else after_step Running false n (with_try c)) free
 
-pub try_refused : (n : ℕ) (c : CallerView) → keeps_out n ≡ true → after_try n c ≡ after_step Turned true n c
-try_refused n c kept = ap (λ (b : Bool). if b then after_step Turned true n c else after_step Running false n c) kept
+pub try_refused : (n : ℕ) (c : CallerView) → keeps_out n ≡ true → after_try n c ≡ after_step Turned true n (with_try c)
+try_refused n c kept = ap (λ (b : Bool). if b then after_step Turned true n (with_try c) else after_step Running false n (with_try c)) kept
 
 pub look_hits : (n : ℕ) (c : CallerView) → is_drained n ≡ true → after_look n c ≡ after_step Drained false n c
 look_hits n c hit = ap (λ (b : Bool). if b then after_step Drained false n c else after_step c.phase c.undo_due n c) hit

@@ -27,7 +27,7 @@ use Rattle.kf_words.specs.declared.view.CallerView.{CallerView}
 use Rattle.kf_words.specs.declared.view.MasterView.{MasterView}
 use Rattle.kf_words.specs.Layout.{bit, keeps_out, is_drained, has_linked, holds_in, IsFree}
 use Rattle.kf_words.specs.Rule.{tally, is_user, is_holder, users, holders, pins_in, ShowsMarks, ShowsHolds, StillHolds, hold_index, hold_word, last_key, caller, bare, Shows}
-use Rattle.kf_words.specs.Steps.{after_step, after_try, after_undo, after_leave, after_look, after_release, after_part, after_break, after_restore}
+use Rattle.kf_words.specs.Steps.{after_step, with_try, after_try, after_undo, after_leave, after_look, after_release, after_part, after_break, after_restore}
 use Rattle.kf_words.proofs.Bits.{bool_cases, live_shows, drained_shows, one_more, one_less, waiting_is, counted_unspent, not_spent, held_not_free, hold_less, linked_shows, count_shows}
 use Rattle.kf_words.proofs.Seating.{caller_at, at_caller, tally-set, tally≤, tally-one}
 use Rattle.kf_words.proofs.Answered.{try_enters, try_refused, look_hits, look_misses, part_gone, part_linked}
@@ -215,10 +215,10 @@ module _ (words : List ℕ) (m : MasterView) (cs : List CallerView) (j : ℕ) (c
       let lives' : are_live (marks world c.key) ≡ not (keeps_out word) = ap are_live known ∙ lives in
       ⊎_elim
       (λ (biased : keeps_out word ≡ true). subst (λ (x : CallerView). Shows (set words slot ((word + 1) % 2 ^ 64)) m (set cs j x)) (sym (try_refused word c biased))
-      (adds (after_step Turned true word c) refl idle refl (λ e. cc) (λ _. refl) (λ e. absurd (let x : Turned ≡ Running = e in cc)) (Enter j)
+      (adds (after_step Turned true word (with_try c)) refl idle refl (λ e. cc) (λ _. refl) (λ e. absurd (let x : Turned ≡ Running = e in cc)) (Enter j)
       (c.key, c.phase, there, waits, ap (with_phase world j c.key) (sym (ap (λ (b : Bool). if b then Running else Turned) (lives' ∙ ap not biased))))))
       (λ (free : keeps_out word ≡ false). subst (λ (x : CallerView). Shows (set words slot ((word + 1) % 2 ^ 64)) m (set cs j x)) (sym (try_enters word c free))
-      (adds (after_step Running false word c) refl idle refl (λ e. cc) (λ e. absurd (let x : false ≡ true = e in cc)) (λ _. lives ∙ ap not free) (Enter j)
+      (adds (after_step Running false word (with_try c)) refl idle refl (λ e. cc) (λ e. absurd (let x : false ≡ true = e in cc)) (λ _. lives ∙ ap not free) (Enter j)
       (c.key, c.phase, there, waits, ap (with_phase world j c.key) (sym (ap (λ (b : Bool). if b then Running else Turned) (lives' ∙ ap not free))))))
       (bool_cases (keeps_out word))
 

@@ -9,3 +9,4 @@ pub mod MasterAllowed
 pub mod Keys
 pub mod Opening
 pub mod Tells
+pub mod Events

@@ -36,8 +36,8 @@ module _ (words : List ℕ) (m : MasterView) (cs : List CallerView) (shows : Sho
     holds = λ k y at. subst (λ (n : ℕ). ShowsHolds m.limit (hold_word words m k) y n) (sym (same_holds k)) (shows.holds k y at);
     tries = λ i y e. ⊎_elim (λ old. shows.tries i y old) (λ (new : new_hold (last_key slot state) ≡ y). λ t. absurd (let a : false ≡ true = ap (λ (z : CallerView). z.undo_due) new ∙ t in cc)) (at_snoc cs (new_hold (last_key slot state)) y i e);
     loads = shows.loads;
-    fresh = shows.fresh;
-    looked = λ load y e hit at. let d = shows.looked load y e hit at in (d.0, λ c is. still_none load.slot y d.1 c is);
+    fresh = λ i e. absurd (none-some i e);
+    looked = λ load y e hit at. absurd (none-some load e);
     safe = subst Safe (ap (λ (l : List Caller). let w : BareWorld = record { slots = m.slots; callers = l } in w) (sym (map-append caller cs (new_hold (last_key slot state) ∷ []))))
         (caller_keeps (bare m cs) (core.with_caller (bare m cs) (last_key slot state)).callers (last_key slot state) Still shows.safe
         (λ d y h. after_push (map caller cs) d (caller (new_hold (last_key slot state))) y h)
@@ -68,14 +68,6 @@ module _ (words : List ℕ) (m : MasterView) (cs : List CallerView) (shows : Sho
           let b : bit (is_holder k (new_hold (last_key slot state))) 1 ≡ bit (eqb slot k) 1 = one_of (eqb slot k) in
           let d : pins_in m.pinning k ≡ bit (eqb slot k) 1 = ap (λ o. pins_in o k) pins in
           omega arith
-
-      still_none : (k : ℕ) (y : SlotState) → NoneRunning (bare m cs) (last_key k y) → NoneRunning (bare (after_split m) (cs ++ new_hold (last_key slot state) ∷ [])) (last_key k y)
-      still_none k y was i is =
-          ⊎_elim
-          (λ (new : caller (new_hold (last_key slot state)) ≡ record { key = last_key k y; phase = Running }). absurd (let a : Still ≡ Running = ap (λ (z : Caller). z.phase) new in cc))
-          (λ old. was i old)
-          (after_push (map caller cs) i (caller (new_hold (last_key slot state))) (record { key = last_key k y; phase = Running })
-          (subst (λ (l : List Caller). slice_get l i ≡ Some (record { key = last_key k y; phase = Running })) (map-append caller cs (new_hold (last_key slot state) ∷ [])) is))
 
   -- a load of a hold word, and one of an active word
   pub load_kept : (k : ℕ) → Shows words (record (on_active m) { loads = m.loads ++ record { slot = k; word = hold_word words m k } ∷ [] }) cs

@@ -1,5 +1,5 @@
 -- What follows from the rule at every moment.
-use Rattle.std.proofs.Common.{◌≡◌, ◌&&◌, ◌||◌, ℕ, Bool, true, false, not, List, refl, sym, ap, ◌∙◌, arith, eq-eqb}
+use Rattle.std.proofs.Common.{◌≡◌, ◌&&◌, ◌||◌, ℕ, ◌+◌, Bool, true, false, not, List, refl, sym, ap, ◌∙◌, arith, eq-eqb}
 use Rattle.std.specs.Prelude.{slice_index}
 use Rattle.kf_core.specs.declared.caller.Caller.{Caller}
 use Rattle.kf_core.specs.declared.caller.Phase.{Phase}
@@ -9,9 +9,9 @@ use Rattle.kf_core.specs.Steps.{NoReference}
 use Rattle.kf_words.specs.declared.view.CallerView.{CallerView}
 use Rattle.kf_words.specs.declared.view.MasterView.{MasterView}
 use Rattle.kf_words.specs.Layout.{keeps_out}
-use Rattle.kf_words.specs.Rule.{is_user, users, bare, last_key}
-use Rattle.kf_words.specs.Laws.{AlwaysSafe, LetsInTheLive, DrainedIsUnused, FreeIsUnheld}
-use Rattle.kf_words.proofs.Bits.{live_shows, drained_shows, not_not}
+use Rattle.kf_words.specs.Rule.{is_user, users, holders, pins_in, hold_word, bare, last_key}
+use Rattle.kf_words.specs.Laws.{AlwaysSafe, LetsInTheLive, DrainedIsUnused, FreeIsUnheld, TellsTheLinked}
+use Rattle.kf_words.proofs.Bits.{live_shows, drained_shows, linked_shows, not_not}
 use Rattle.kf_words.proofs.Seating.{at_caller, tally-one}
 use Rattle.kf_words.proofs.MasterSteps.{users_few, unheld, unlinked_state, only_spent}
 
@@ -48,3 +48,7 @@ pub free_is_unheld : FreeIsUnheld
 free_is_unheld slots limit t shown slot state its free =
     let u = unheld t.words shown.master shown.callers shown.shows slot state its free in
     (unlinked_state t.words shown.master shown.callers shown.shows slot state its state.marks u.2, λ c key phase there same. only_spent t.words shown.master shown.callers shown.shows slot state its c key phase there same u.0)
+
+pub tells_the_linked : TellsTheLinked
+tells_the_linked slots limit t shown slot state its =
+    linked_shows shown.master.limit (hold_word t.words shown.master slot) state (holders slot shown.callers + pins_in shown.master.pinning slot) shown.shows.few (shown.shows.holds slot state its)

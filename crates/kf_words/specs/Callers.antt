@@ -1,6 +1,6 @@
 -- What contracts see of a caller's seat, and what each call tells of it.
 use Rattle.std.specs.Prelude.{◌≡◌, ℕ, ◌+◌, Bool, true, false}
-use Rattle.atomic_table.specs.Seated.{TableId}
+pub use Rattle.atomic_table.specs.Seated.{TableId}
 use Rattle.kf_core.specs.declared.key.Key.{Key}
 use Rattle.kf_core.specs.declared.key.Node.{Node}
 use Rattle.kf_core.specs.declared.caller.Phase.{Phase}
@@ -18,10 +18,11 @@ pub record Handle : Type 0 where
   pub node : Node  -- what was born with the key
   pub phase : Phase
   pub steps : ℕ  -- how many word steps it has made
+  pub tries : ℕ  -- how many of them were tries
   pub found : ℕ  -- the word that its last step found, the second step of a refused try left out
   pub undo_due : Bool  -- it is between the two steps of a refused try, as no hold, call or receipt is
 
--- what tells one caller from all others
+-- which seat of which table, and the node that was born with its key
 pub record SeatId : Type 0 where
   pub table : TableId
   pub seat : ℕ
@@ -41,6 +42,7 @@ handle_of s = record {
   node = s.node;
   phase = (view_of s).phase;
   steps = (view_of s).steps;
+  tries = (view_of s).tries;
   found = (view_of s).found;
   undo_due = (view_of s).undo_due;
 }
@@ -74,13 +76,13 @@ HasReference c = (has_reference c.phase ≡ true) × (c.undo_due ≡ false)
 abbrev pub IsIn : Phase → CallerView → Type 0
 IsIn phase c = (c.phase ≡ phase) × (c.undo_due ≡ false)
 
--- its one step found a word that lets it in
+-- its one step was a try, which found a word that lets it in
 abbrev pub Entered : Handle → Handle → Type 0
-Entered before after = (after.phase ≡ Running) × (after.steps ≡ before.steps + 1) × (keeps_out after.found ≡ false)
+Entered before after = (after.phase ≡ Running) × (after.steps ≡ before.steps + 1) × (keeps_out after.found ≡ false) × (after.tries ≡ before.tries + 1)
 
 -- its try found a word that keeps it out, and a second step undid the try
 abbrev pub WasTurned : Handle → Handle → Type 0
-WasTurned before after = (after.phase ≡ Turned) × (after.steps ≡ before.steps + 2) × (keeps_out after.found ≡ true)
+WasTurned before after = (after.phase ≡ Turned) × (after.steps ≡ before.steps + 2) × (keeps_out after.found ≡ true) × (after.tries ≡ before.tries + 1)
 
 -- its one step found the word drained
 abbrev pub SawDrained : Handle → Handle → Type 0
@@ -110,6 +112,6 @@ SawParted before after = (after.phase ≡ Parted) × (after.steps ≡ before.ste
 abbrev pub SawLinked : Handle → Handle → Type 0
 SawLinked before after = (after.phase ≡ before.phase) × (after.steps ≡ before.steps + 1) × (has_linked after.found ≡ true)
 
--- one step gave the slot back
+-- one step gave the hold of the slot back
 abbrev pub WasReleased : Handle → Handle → Type 0
 WasReleased before after = (after.phase ≡ Spent) × (after.steps ≡ before.steps + 1)

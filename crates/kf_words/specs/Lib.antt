@@ -4,3 +4,4 @@ pub mod Steps
 pub mod Callers
 pub mod Nodes
 pub mod Laws
+pub mod Events

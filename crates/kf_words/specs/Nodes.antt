@@ -1,7 +1,6 @@
 -- What contracts see of the Master, and what each of its calls tells.
 use Rattle.std.specs.Prelude.{◌≡◌, ◌≤◌, ◌<◌, ◌↔◌, ℕ, ◌+◌, Bool, true, false, List, [], ◌∷◌, length, Option, None, Some, slice_get, slice_set, IsTrue}
 use Rattle.std.specs.Option.{option_map}
-use Rattle.atomic_table.specs.Seated.{TableId}
 use Rattle.kf_core.specs.declared.key.Key.{Key}
 use Rattle.kf_core.specs.declared.key.Node.{Node}
 use Rattle.kf_core.specs.declared.caller.Phase.TheVariants.{Still}
@@ -15,7 +14,7 @@ use Rattle.kf_words.specs.declared.view.Load.{Load}
 use Rattle.kf_words.specs.declared.view.MasterView.{MasterView}
 use Rattle.kf_words.specs.Layout.{is_drained, holds_in, IsFree, HasRoom}
 use Rattle.kf_words.specs.Steps.{master_of, with_load, with_pin, without_pin, after_split, with_look, without_node}
-use Rattle.kf_words.specs.Callers.{Handle}
+use Rattle.kf_words.specs.Callers.{TableId, Handle}
 
 -- the Master's table, its view, and by slot the node that was born there last
 pub record MasterState : Type 0 where

@@ -19,7 +19,7 @@ abbrev pub Seated : Type 0
 Seated = Me (Unit {0}) View
 
 abbrev pub no_caller : CallerView
-no_caller = record { key = record { slot = 0; generation = 0 }; phase = Spent; steps = 0; found = 0; undo_due = false }
+no_caller = record { key = record { slot = 0; generation = 0 }; phase = Spent; steps = 0; tries = 0; found = 0; undo_due = false }
 
 abbrev pub caller_of : View → CallerView
 caller_of (seat.Caller c) = c
@@ -34,11 +34,14 @@ master_of (seat.Caller c) = no_master
 
 -- one word step more, which found this word
 abbrev pub after_step : Phase → Bool → ℕ → CallerView → CallerView
-after_step phase undo_due found c = record { key = c.key; phase = phase; steps = c.steps + 1; found = found; undo_due = undo_due }
+after_step phase undo_due found c = record { key = c.key; phase = phase; steps = c.steps + 1; tries = c.tries; found = found; undo_due = undo_due }
+
+abbrev pub with_try : CallerView → CallerView
+with_try c = record c { tries = c.tries + 1 }
 
 -- a try: the caller runs where the word lets it in, and else has to undo the try
 abbrev pub after_try : ℕ → CallerView → CallerView
-after_try found c = if keeps_out found then after_step Turned true found c else after_step Running false found c
+after_try found c = if keeps_out found then after_step Turned true found (with_try c) else after_step Running false found (with_try c)
 
 -- the second step of a refused try, which leaves what the first found
 abbrev pub after_undo : CallerView → CallerView
@@ -58,7 +61,7 @@ after_restore found c = after_step Restored false found c
 abbrev pub after_look : ℕ → CallerView → CallerView
 after_look found c = if is_drained found then after_step Drained false found c else after_step c.phase c.undo_due found c
 
--- the slot is given back
+-- the hold of the slot is given back
 abbrev pub after_release : ℕ → CallerView → CallerView
 after_release found c = after_step Spent false found c
 
@@ -108,10 +111,10 @@ without_pin slot m = record (on_hold m) { pinning = None }
 
 -- the hold goes to a new seat
 abbrev pub after_split : MasterView → MasterView
-after_split m = record m { pins = m.pins + 1; pinning = None }
+after_split m = record (on_active m) { pins = m.pins + 1; pinning = None }
 
 abbrev pub new_hold : Key → CallerView
-new_hold key = record { key = key; phase = Still; steps = 0; found = 0; undo_due = false }
+new_hold key = record { key = key; phase = Still; steps = 0; tries = 0; found = 0; undo_due = false }
 
 -- the view of the seat that a split makes
 abbrev pub hold_for : MasterView → Option ℕ → CallerView

@@ -152,7 +152,7 @@ impl CallerSeat {
     }
 }
 
-/// Gives a slot back, which is one word step. The `release` of each value that holds a slot calls it.
+/// Gives a seat's hold of its slot back, which is one word step. The `release` of each value that holds a slot calls it.
 pub fn release_seat(seat: &mut CallerSeat)
     requires idle { may_release (handle_of seat.old).phase ≡ true }
     requires settled { (handle_of seat.old).undo_due ≡ false }

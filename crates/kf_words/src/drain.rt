@@ -12,13 +12,15 @@ use std::sync::Wait;
 use std::time::Duration;
 
 impl CallerSeat {
-    // Sleeps while the word has as many users as `seen`, or for no reason. Who takes the last one off a doomed node wakes.
+    // Sleeps until a wake if the word has as many users as `seen`, and may return for no reason.
+    // Each step that leaves the word drained wakes one sleeper: that of the last user of a doomed node, or the mark where no user is left.
     fn park<R: Wait>(&self, rt: &R, seen: u64) {
         let word = self.key.slot as usize;
         self.table.shared.park(rt, word, (seen & USERS) as u32);
     }
 
-    // Sleeps for a millisecond at most. The mark changes no bit that a sleeper is woken by, so where nobody is there a sleep must end by itself.
+    // Sleeps for a millisecond at most. The mark changes none of the bits that a sleep compares when it begins.
+    // So with no user there, where a sleep may begin just after the mark's wake, it must end by itself.
     fn nap<R: Wait>(&self, rt: &R) {
         let word = self.key.slot as usize;
         self.table

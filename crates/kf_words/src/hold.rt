@@ -1,5 +1,6 @@
 //! A hold: it keeps the slot of its node, and has no reference to the node.
-ghost use Rattle.std.specs.Prelude.{◌≡◌, IfOk, IfErr, MatchResult};
+ghost use Rattle.std.specs.Prelude.{◌≡◌, true, IfOk, IfErr, MatchResult};
+ghost use Rattle.kf_core.specs.Phases.{is_waiting};
 ghost use Rattle.kf_words.specs.Callers.{IsSameSeat, Entered, WasTurned, SawDrained, SawUse};
 
 use crate::call::Call;
@@ -29,7 +30,8 @@ impl Model for Hold {
 impl Hold {
     /// The key whose slot it holds.
     pub fn key(&self) -> Key
-        ensures { result ≡ self.now.key }
+        ensures value { result ≡ self.now.key }
+        ensures waits { is_waiting self.now.phase ≡ true }
     {
         self.seat.key
     }
@@ -75,7 +77,7 @@ impl Hold {
         }
     }
 
-    /// Gives the slot back (`kernfs_put`).
+    /// Gives its hold of the slot back (`kernfs_put`), in one word step.
     pub fn release(self) {
         let Hold { mut seat } = self;
         release_seat(&mut seat);

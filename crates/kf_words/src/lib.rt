@@ -1,4 +1,4 @@
-//! Two words for each node of the tree, which any number of threads change in single atomic steps: an active word, whose count is that of the active references, and a hold word, whose count is that of the holds that keep the slot.
+//! Two words for each node of the tree, which any number of threads change in single atomic steps: an active word, whose count is that of the active references and of tries not yet undone, and a hold word, whose count is that of the holds that keep the slot.
 #![tactic(auto)]
 
 mod call;
@@ -27,7 +27,7 @@ pub use call::Call;
 pub use caller_steps::release_seat;
 pub use drain::wait_drained;
 pub use hold::Hold;
-pub use laws::words_tell;
+pub use laws::{words_step, words_tell};
 pub use master::Master;
 pub use receipt::{Drained, Parted};
 pub use seat::CallerSeat;

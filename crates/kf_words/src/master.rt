@@ -1,5 +1,5 @@
 //! The Master: the one seat that makes and unmakes nodes. Whoever owns it, as the tree lock does, gives the tree's commands.
-ghost use Rattle.std.specs.Prelude.{◌≡◌, ◌<◌, true, length, is_some, IfOk, IfErr, OnOk};
+ghost use Rattle.std.specs.Prelude.{◌≡◌, ◌<◌, ◌≤◌, true, false, length, is_some, IfOk, IfErr, OnOk};
 ghost use Rattle.kf_core.specs.declared.refusal.Refusal.TheVariants as refusal_of;
 ghost use Rattle.kf_words.specs.Nodes.{KeepsNodes, IsNewHold, IsLastKey, WasPinned, PinRefused, HeldPinRefused, RoomFound, FoundFull, marks_of};
 
@@ -42,17 +42,22 @@ impl Master {
         }
     }
 
-    /// Whether the slot of a key may have one hold more. It takes one word step.
+    /// Whether the slot of a key may have one hold more, in one word step. False, with no step, where the table has no such slot.
     pub fn room(&mut self, key: Key) -> bool
-        requires { key.slot < length self.old.view.slots }
         ensures kept { KeepsNodes self.old self.new }
-        ensures found { RoomFound self.old.view key.slot result self.new.view }
+        ensures found { key.slot < length self.old.view.slots → RoomFound self.old.view key.slot result self.new.view }
+        ensures beyond { length self.old.view.slots ≤ key.slot → (result ≡ false) × (self.new.view ≡ self.old.view) }
     {
+        if key.slot as usize >= self.slots.len() {
+            return false;
+        }
         let found = self.steps.load_hold(key.slot);
         has_room(found, self.holds)
     }
 
     /// A new hold of a linked node (`kernfs_get`).
+    ///
+    /// Condition: the node is linked.
     ///
     /// Refusals, in order: TooManyHolds where the slot has as many holds as there may be; NoMemory.
     /// After each the slot has the holds that it had.
@@ -68,6 +73,8 @@ impl Master {
     }
 
     /// A new hold of the key of a call, whether or not its node is still linked.
+    ///
+    /// Condition: the call is of this table.
     ///
     /// Refusals, in order: NoEntry where the slot has had a later node, before any word step; TooManyHolds and NoMemory as of `pin`.
     pub fn pin_held(&mut self, call: &Call) -> Result<Hold, Refusal>

@@ -27,6 +27,8 @@ impl Master {
     }
 
     /// A node is born in a slot that was found free: linked, not activated, not doomed (`kernfs_add_one`).
+    ///
+    /// Condition: the last `free_key` answered this key, with no birth, pin or unlink since.
     pub fn born(&mut self, key: Key, node: Node)
         requires { MayBear self.old.view key }
         ensures table { self.new.table ≡ self.old.table }
@@ -47,6 +49,8 @@ impl Master {
     }
 
     /// Lets callers have references to a node that was not yet activated (`kernfs_activate`).
+    ///
+    /// Condition: the node is linked, not activated and not doomed.
     pub fn activate(&mut self, key: Key)
         requires { marks_of self.old.view key ≡ Some fresh_marks }
         ensures table { self.new.table ≡ self.old.table }
@@ -65,6 +69,8 @@ impl Master {
     }
 
     /// Marks a linked node as doomed: from now on each try for a reference fails (the first half of `__kernfs_remove`).
+    ///
+    /// Condition: the node is linked and not doomed.
     pub fn doom(&mut self, key: Key)
         requires { are_doomed (marks_of self.old.view key) ≡ false }
         ensures table { self.new.table ≡ self.old.table }
@@ -86,6 +92,8 @@ impl Master {
 
     /// Takes a node out of the tree, where its active word is found drained (`kernfs_unlink_sibling`).
     /// False where it was not: a refused try may be in flight there, or a caller that broke its protection has a reference again.
+    ///
+    /// Condition: the receipt is of this table, and its node is linked.
     pub fn unlink(&mut self, drained: &Drained) -> bool
         requires table { drained.now.table ≡ self.old.table }
         requires linked { is_some (marks_of self.old.view drained.now.key) ≡ true }

@@ -1,5 +1,6 @@
 //! Receipts: a caller that saw its node drained, and one that saw it gone as well.
 ghost use Rattle.std.specs.Prelude.{◌≡◌, IfOk, IfErr, MatchResult};
+ghost use Rattle.kf_core.specs.declared.caller.Phase.TheVariants as phase_of;
 ghost use Rattle.kf_words.specs.Callers.{IsSameSeat, SawParted, SawLinked};
 
 use crate::caller_steps::release_seat;
@@ -8,8 +9,9 @@ use crate::seat::CallerSeat;
 use kf_core::Key;
 use std::marker::Model;
 
-/// Saw that the node is doomed and that nobody had a reference to it. While it is out, no callback runs under an
-/// active reference of the node. It must be spent, by `parted` or `release`.
+/// Saw that the node is doomed and that nobody had a reference to it. While it is out, no call of the node is Running:
+/// a callback that still runs there gave its protection up before the drain was seen, even if it has a reference again.
+/// It must be spent, by `parted` or `release`.
 pub struct Drained {
     pub(crate) seat: CallerSeat,
 }
@@ -44,7 +46,8 @@ impl Model for Parted {
 impl Drained {
     /// The key whose slot it holds.
     pub fn key(&self) -> Key
-        ensures { result ≡ self.now.key }
+        ensures value { result ≡ self.now.key }
+        ensures phase { self.now.phase ≡ phase_of.Drained }
     {
         self.seat.key
     }
@@ -63,7 +66,7 @@ impl Drained {
         }
     }
 
-    /// Gives the slot back (`kernfs_put`).
+    /// Gives its hold of the slot back (`kernfs_put`), in one word step.
     pub fn release(self) {
         let Drained { mut seat } = self;
         release_seat(&mut seat);
@@ -74,12 +77,13 @@ impl Drained {
 impl Parted {
     /// The key whose slot it holds.
     pub fn key(&self) -> Key
-        ensures { result ≡ self.now.key }
+        ensures value { result ≡ self.now.key }
+        ensures phase { self.now.phase ≡ phase_of.Parted }
     {
         self.seat.key
     }
 
-    /// Gives the slot back (`kernfs_put`).
+    /// Gives its hold of the slot back (`kernfs_put`), in one word step.
     pub fn release(self) {
         let Parted { mut seat } = self;
         release_seat(&mut seat);

@@ -192,6 +192,11 @@ fn slot_is_given_again<R: Abort>(rt: &R, alloc: Global, parts: bool) {
     let second = pin(rt, &mut master, key);
     assert!(rt; master.marks(key).is_some());
     assert!(rt; !master.room(key));
+    let beyond = Key {
+        slot: 2,
+        generation: 1,
+    };
+    assert!(rt; !master.room(beyond), "a slot that the table has not");
     match master.pin(key) {
         Ok(third) => {
             third.release();

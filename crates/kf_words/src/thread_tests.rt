@@ -246,3 +246,83 @@ fn waiters_that_came_before_the_mark_are_woken_by_the_last_call(rt: HostRuntime)
 fn waiters_that_came_before_the_mark_are_woken_by_the_mark(rt: HostRuntime) {
     four_wait(&rt, rt.alloc(), Course::WaitLeaveMark);
 }
+
+// Makes tries until told to end, and counts them.
+fn keep_trying(place: &mut Option<Hold>, tries: &AtomicU64, end: &AtomicU64) {
+    for _ in 0..1_000_000_000u64 {
+        if end.load(Ordering::SeqCst) != 0 {
+            return;
+        }
+        if let Some(hold) = place.take() {
+            let back = match hold.enter() {
+                Ok(call) => call.leave(),
+                Err(back) => back,
+            };
+            if let Some(other) = place.replace(back) {
+                other.release();
+            }
+            tries.fetch_add(1, Ordering::SeqCst);
+        }
+    }
+}
+
+// Leaves the call while refused tries come and go, and ends them when some thousands more were made.
+fn leave_among_tries<R: Threads + Sync>(
+    rt: &R,
+    running: &mut Option<Call>,
+    place: &mut Option<Hold>,
+) {
+    let tries = AtomicU64::new(0);
+    let end = AtomicU64::new(0);
+    join(
+        rt,
+        || keep_trying(place, &tries, &end),
+        || {
+            wait_for(1_000, &tries);
+            if let Some(call) = running.take() {
+                let_through(call, false, 0, &tries);
+            }
+            wait_for(4_000, &tries);
+            end.store(1, Ordering::SeqCst);
+        },
+    );
+}
+
+// A hold waits for the drain, and the call is left among refused tries. If a try is not yet undone when the call is left,
+// the waiter is woken by an undo or by nobody.
+fn one_waits_among_tries<R: Abort + Threads + Wait + Sync>(rt: &R, alloc: Global) {
+    let mut master = made(rt, alloc, 2, 8, 0);
+    let key = born(rt, &mut master, 1, 1);
+    activate(rt, &mut master, key);
+    let mut running = Some(enter(rt, pin(rt, &mut master, key)));
+    let mut holds = pins(rt, alloc, &mut master, key, 1);
+    let mut other = Some(pin(rt, &mut master, key));
+    doom(rt, &mut master, key);
+    let through = AtomicU64::new(0);
+    let ((), woken) = join(
+        rt,
+        || all_drain(rt, &mut holds, &through),
+        || {
+            leave_among_tries(rt, &mut running, &mut other);
+            wait_for(1, &through);
+            let woken = through.load(Ordering::SeqCst) == 1;
+            if let Some(hold) = other.take() {
+                look(rt, hold).release();
+            }
+            woken
+        },
+    );
+    assert!(rt; woken);
+    if let Some(hold) = other {
+        hold.release();
+        panic!(rt; "a hold was not drained");
+    }
+    no_hold_left(rt, running, holds);
+}
+
+#[test]
+fn a_waiter_is_woken_by_the_undo_of_a_refused_try(rt: HostRuntime) {
+    for _ in 0..100 {
+        one_waits_among_tries(&rt, rt.alloc());
+    }
+}

@@ -2,12 +2,13 @@
 use kf_core::{Key, Phase, SlotState};
 use std::collections::LinkedList;
 
-/// A caller's seat: its key and phase, how many word steps it has made, the word that the last of them found
-/// (the second step of a refused try left out), and whether that second step is still due.
+/// A caller's seat: its key and phase, how many word steps it has made and how many of them were tries, the word that the last
+/// of them found (the second step of a refused try left out), and whether that second step is still due.
 pub struct CallerView {
     pub key: Key,
     pub phase: Phase,
     pub steps: u64,
+    pub tries: u64,
     pub found: u64,
     pub undo_due: bool,
 }

@@ -22,7 +22,7 @@ pub struct Words {
 }
 
 impl Model for Words {
-    ghost use Rattle.atomic_table.specs.Seated.{TableId};
+    ghost use Rattle.kf_words.specs.Callers.{TableId};
     ghost use Rattle.std.specs.Arc.{arc_value};
 
     ghost Value = { TableId };
@@ -78,6 +78,8 @@ impl Words {
     }
 
     /// The same, where each slot has already had `start` generations. The root has the next.
+    ///
+    /// Condition: `start` is at most 4294967294.
     ///
     /// Refusal: NoMemory.
     pub fn new_at(alloc: Global, limits: Limits, start: u32) -> Result<(Words, Master), Refusal>

@@ -1,4 +1,4 @@
-use Rattle.kf_words.proofs.Tells.{always_safe, lets_in_the_live, drained_is_unused, free_is_unheld}
+use Rattle.kf_words.proofs.Tells.{always_safe, lets_in_the_live, drained_is_unused, free_is_unheld, tells_the_linked}
 use Rattle.kf_words.proofs.laws.words_tell.Goals as goal
 
 pub returns-clause-always_safe : goal.returns-clause-always_safe
@@ -12,3 +12,6 @@ returns-clause-drained_is_unused c = drained_is_unused
 
 pub returns-clause-free_is_unheld : goal.returns-clause-free_is_unheld
 returns-clause-free_is_unheld c = free_is_unheld
+
+pub returns-clause-tells_the_linked : goal.returns-clause-tells_the_linked
+returns-clause-tells_the_linked c = tells_the_linked

@@ -10,6 +10,6 @@ returns-in-Ok-clause-polls g c = (
       (rw (← c.self.view_is, same_hold _ c.self.inside.held _ (sym c.in-Some.ensures.value)) c.in-Ok.ensures.tried)
       c.in-Ok.ensures.running
       (rw (← c.self.view_is) c.now-now.ensures.number)
-      (rw (same_hold _ _ _ c.put_back.ensures) c.leave-hold.ensures.left),
-  rw (← c.self.view_is) (ap (λ n. not (c.now-now.result == n)) c.number.ensures),
+      (rw (same_hold _ _ _ c.put_back.ensures.there) c.leave-hold.ensures.left),
+  rw (← c.self.view_is) (ap (λ n. not (c.now-now.result == n)) c.number.ensures.known),
 )

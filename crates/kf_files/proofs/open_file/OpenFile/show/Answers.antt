@@ -10,7 +10,7 @@ returns-clause-shows g c = record {
       c.in-Ok.ensures.running
       (rw (← c.self.view_is) (c.now-number.ensures.number, c.show-shown.ensures.shown.1))
       c.show-shown.ensures.call
-      (rw (same_hold _ _ _ c.put_back-2.ensures) c.leave-hold.ensures.left);
+      (rw (same_hold _ _ _ c.put_back-2.ensures.there) c.leave-hold.ensures.left);
   answer = c.show-shown.ensures.shown.3;
   keeps = rw (← c.self.view_is) c.show-shown.ensures.shown.2;
 }

@@ -1,5 +1,5 @@
 use Rattle.std.proofs.Common.{◌<◌, arith, length}
-use Rattle.kf_tree.proofs.Records.{linked_here}
+use Rattle.kf_core.proofs.FoundRecords.{linked_here}
 use Rattle.kf_tree.proofs.KeptRecords.{linked_low}
 use Rattle.kf_tree.proofs.KeptMoves.{MayMoveTo, has_room, may_move_out, kept_by_move}
 use Rattle.kf_tree.proofs.table.Table.move_to.Goals as goal

@@ -11,7 +11,7 @@ pub unlink-requires-clause-marks : goal.unlink-requires-clause-marks
 unlink-requires-clause-marks c =
     let key : Key = c.key-key.result in
     let m : MasterView = c.args.self.now.view in
-    let linked : is_some (marks_of m key) ≡ true = subst (λ (k : Key). is_some (marks_of m k) ≡ true) (sym c.key-key.ensures) c.requires.linked in
+    let linked : is_some (marks_of m key) ≡ true = subst (λ (k : Key). is_some (marks_of m k) ≡ true) (sym c.key-key.ensures.value) c.requires.linked in
     let x = linked_state m key linked in
     let same : (master_view c.look_over.new.self).slots ≡ m.slots = ap (λ (y : MasterView). y.slots) c.look_over.ensures.view ∙ ap (λ (s : MasterState). s.view.slots) c.self.view_is in
     (x.0, (record { generation = key.generation; marks = Some x.0 }, ap (λ (l : List SlotState). slice_get l key.slot) same ∙ x.1, refl))
@@ -20,7 +20,7 @@ pub index_mut-requires : goal.index_mut-requires
 index_mut-requires c =
     let key : Key = c.key-key.result in
     let m : MasterView = c.args.self.now.view in
-    let linked : is_some (marks_of m key) ≡ true = subst (λ (k : Key). is_some (marks_of m k) ≡ true) (sym c.key-key.ensures) c.requires.linked in
+    let linked : is_some (marks_of m key) ≡ true = subst (λ (k : Key). is_some (marks_of m k) ≡ true) (sym c.key-key.ensures.value) c.requires.linked in
     let near = last_within m (master_view c.self.inside.steps) key (last_of_linked m key linked) (ap (λ (s : MasterState). s.view.slots) c.self.view_is) in
     let long = ap (λ (l : List SlotState). length l) c.self.invariant.same_slots in
     omega (arith, c.self.inside.slots.ok.0)
@@ -30,7 +30,7 @@ invariant_of-self-2 c =
     let key : Key = c.key-key.result in
     let m : MasterView = c.args.self.now.view in
     let own : MasterView = master_view c.self.inside.steps in
-    let linked : is_some (marks_of m key) ≡ true = subst (λ (k : Key). is_some (marks_of m k) ≡ true) (sym c.key-key.ensures) c.requires.linked in
+    let linked : is_some (marks_of m key) ≡ true = subst (λ (k : Key). is_some (marks_of m k) ≡ true) (sym c.key-key.ensures.value) c.requires.linked in
     let last : IsLastKey own key = subst (λ (y : MasterView). IsLastKey y key) (sym (ap (λ (s : MasterState). s.view) c.self.view_is)) (last_of_linked m key linked) in
     let same : (master_view c.look_over.new.self).slots ≡ own.slots = ap (λ (y : MasterView). y.slots) c.look_over.ensures.view in
     let long = length-set c.self.inside.slots.items key.slot (record { generation = key.generation; marks = None }) in
@@ -50,6 +50,6 @@ pub returns-clause-slots : goal.returns-clause-slots
 returns-clause-slots c =
     let key : Key = c.key-key.result in
     let m : MasterView = c.args.self.now.view in
-    let linked : is_some (marks_of m key) ≡ true = subst (λ (k : Key). is_some (marks_of m k) ≡ true) (sym c.key-key.ensures) c.requires.linked in
+    let linked : is_some (marks_of m key) ≡ true = subst (λ (k : Key). is_some (marks_of m k) ≡ true) (sym c.key-key.ensures.value) c.requires.linked in
     let same : (master_view c.look_over.new.self).slots ≡ m.slots = ap (λ (y : MasterView). y.slots) c.look_over.ensures.view ∙ ap (λ (s : MasterState). s.view.slots) c.self.view_is in
-    ap (λ (y : MasterView). y.slots) c.unlink.ensures.view ∙ slots_unlinked m (master_view c.look_over.new.self) key (last_of_linked m key linked) same ∙ ap (λ (k : Key). slots_with m.slots k None) c.key-key.ensures
+    ap (λ (y : MasterView). y.slots) c.unlink.ensures.view ∙ slots_unlinked m (master_view c.look_over.new.self) key (last_of_linked m key linked) same ∙ ap (λ (k : Key). slots_with m.slots k None) c.key-key.ensures.value

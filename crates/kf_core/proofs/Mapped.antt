@@ -7,7 +7,7 @@ use Rattle.kf_core.specs.declared.key.Key.{Key}
 use Rattle.kf_core.specs.declared.records.Record.{Record}
 use Rattle.kf_core.specs.Keys.{same_key}
 use Rattle.kf_core.specs.Tree.{Tree, with_key, record_at, IsIn}
-use Rattle.kf_tree.proofs.Climbs.{keys_tell}
+use Rattle.kf_core.proofs.Climbs.{keys_tell}
 
 module _ (t : Tree) (g : Record → Record) (same : (r : Record) → (g r).key ≡ r.key) where
   abbrev pub mapped : Tree
