@@ -1,16 +1,17 @@
 -- What the plain list keeps beside its world, after each kind of change.
-use Rattle.std.proofs.Common.{◌≡◌, ◌≢◌, inl, inr, ℕ, zero, suc, ◌+◌, ◌<◌, ◌≤◌, ◌-◌, ◌^◌, List, [], ◌∷◌, ◌++◌, length, get_or, refl, ap, arith, slice_set, sym, ◌∙◌, subst, ◌↔◌}
+use Rattle.std.proofs.Common.{◌≡◌, ◌≢◌, inl, inr, ℕ, zero, suc, ◌+◌, ◌<◌, ◌≤◌, ◌-◌, ◌/◌, ◌^◌, List, [], ◌∷◌, ◌++◌, length, get_or, refl, ap, arith, slice_set, sym, ◌∙◌, subst, ◌↔◌}
 use Rattle.std.specs.Prelude.{slice_get, Option, Some, None, not}
 use Rattle.std.proofs.lemmas.Option.{same_Some, none-some, slice_get_within, slice_get_read}
 use Rattle.std.proofs.lemmas.List.Sums.{count_by-le-length}
 use Rattle.std.proofs.lemmas.List.{length-set}
-use Rattle.std.proofs.lemmas.Bool.Decides.{eqb_tells}
+use Rattle.std.proofs.lemmas.Bool.Decides.{eqb_tells, leb_tells}
 use Rattle.kf_core.specs.declared.key.Key.{Key}
 use Rattle.kf_core.specs.declared.caller.Phase.{Phase}
 use Rattle.kf_core.specs.declared.caller.Phase.TheVariants.{Still, Spent}
 use Rattle.kf_core.specs.declared.caller.Caller.{Caller}
 use Rattle.kf_core.specs.declared.counts.Counts.{Counts}
 use Rattle.kf_core.specs.declared.event.Event.{Event}
+use Rattle.kf_core.specs.declared.world.hint.Hint.{Hint}
 use Rattle.kf_core.specs.declared.slot.Marks.{Marks}
 use Rattle.kf_core.specs.declared.slot.SlotState.{SlotState}
 use Rattle.kf_core.specs.Bare.{BareWorld, IsCaller, IsLast}
@@ -18,7 +19,8 @@ use Rattle.kf_core.specs.Phases.{has_reference, is_spent}
 use Rattle.kf_core.specs.Safe.{Safe}
 use Rattle.kf_core.specs.Steps.{BareStep, with_phase, with_marks, with_caller, IsHeld}
 use Rattle.kf_core.specs.Bounded.{IsFree, holds}
-use Rattle.kf_core.specs.Counts.{tally, references, IsKept}
+use Rattle.kf_core.specs.Hints.{Skips}
+use Rattle.kf_core.specs.Counts.{tally, references, IsKept, NoneFree}
 use Rattle.kf_core.proofs.Lists.{slice_get-set_same, slice_get-set_other}
 use Rattle.kf_core.proofs.Keeping.{caller, slot_state, step_keeps, one_key}
 use Rattle.kf_core.proofs.Tallies.{phase_counted, pinned_counted, unheld_spent, spent_unheld, share, past_none}
@@ -65,34 +67,43 @@ free_before w key slot f = record {
 }
 
 -- the slot of a caller that is not spent is in the list
-pub slot_within : (w : BareWorld) (counts : List Counts) (lowest : ℕ) (c : ℕ) (key : Key) (p : Phase) → IsKept w counts lowest → IsCaller w c key p → p ≢ Spent → key.slot < length w.slots
-slot_within w counts lowest c key p kept was ne = let l : IsLast w key.slot key.generation = kept.safe.held_last c key p was ne in slice_get_within w.slots key.slot l.0 l.1
+pub slot_within : (w : BareWorld) (counts : List Counts) (hint : Hint) (c : ℕ) (key : Key) (p : Phase) → IsKept w counts hint → IsCaller w c key p → p ≢ Spent → key.slot < length w.slots
+slot_within w counts hint c key p kept was ne = let l : IsLast w key.slot key.generation = kept.safe.held_last c key p was ne in slice_get_within w.slots key.slot l.0 l.1
+
+-- its block has a mark
+pub block_within : (w : BareWorld) (counts : List Counts) (hint : Hint) (slot : ℕ) → IsKept w counts hint → slot < length w.slots → slot / 64 < length hint.full.items
+block_within w counts hint slot kept within = let b : length w.slots / 64 < length hint.full.items = kept.covered in omega arith
 
 -- what stands at a slot of the counts
-pub counts_there : (w : BareWorld) (counts : List Counts) (lowest slot : ℕ) (n : Counts) → IsKept w counts lowest → slot < length w.slots → n ≡ get_or counts slot n → slice_get counts slot ≡ Some n
-counts_there w counts lowest slot n kept i is = slice_get_read counts (length counts) slot n refl (let e : length counts ≡ length w.slots = kept.as_long in omega arith) is
+pub counts_there : (w : BareWorld) (counts : List Counts) (hint : Hint) (slot : ℕ) (n : Counts) → IsKept w counts hint → slot < length w.slots → n ≡ get_or counts slot n → slice_get counts slot ≡ Some n
+counts_there w counts hint slot n kept i is = slice_get_read counts (length counts) slot n refl (let e : length counts ≡ length w.slots = kept.as_long in omega arith) is
 
 -- it has at least the share of each caller of the slot
-pub own_share : (w : BareWorld) (counts : List Counts) (lowest c : ℕ) (key : Key) (p : Phase) (n : Counts) → IsKept w counts lowest → IsCaller w c key p → slice_get counts key.slot ≡ Some n → (tally (not (is_spent p)) ≤ n.holds) × (tally (has_reference p) ≤ n.references)
-own_share w counts lowest c key p n kept was is = (
+pub own_share : (w : BareWorld) (counts : List Counts) (hint : Hint) (c : ℕ) (key : Key) (p : Phase) (n : Counts) → IsKept w counts hint → IsCaller w c key p → slice_get counts key.slot ≡ Some n → (tally (not (is_spent p)) ≤ n.holds) × (tally (has_reference p) ≤ n.references)
+own_share w counts hint c key p n kept was is = (
   subst (λ x. tally (not (is_spent p)) ≤ x) (sym (kept.counted key.slot n is).0) (share w.callers c key p (λ p. not (is_spent p)) was),
   subst (λ x. tally (has_reference p) ≤ x) (sym (kept.counted key.slot n is).1) (share w.callers c key p has_reference was),
 )
 
 -- and no more than there are callers
-pub few_counts : (w : BareWorld) (counts : List Counts) (lowest slot : ℕ) (n : Counts) → IsKept w counts lowest → slice_get counts slot ≡ Some n → (n.holds ≤ length w.callers) × (n.references ≤ length w.callers)
-few_counts w counts lowest slot n kept is = (
+pub few_counts : (w : BareWorld) (counts : List Counts) (hint : Hint) (slot : ℕ) (n : Counts) → IsKept w counts hint → slice_get counts slot ≡ Some n → (n.holds ≤ length w.callers) × (n.references ≤ length w.callers)
+few_counts w counts hint slot n kept is = (
   subst (λ x. x ≤ length w.callers) (sym (kept.counted slot n is).0) (count_by-le-length _ w.callers),
   subst (λ x. x ≤ length w.callers) (sym (kept.counted slot n is).1) (count_by-le-length _ w.callers),
 )
 
+-- only slots are skipped that were before
+pub record Fewer (now before : Hint) : Type 0 where
+  pub skips : (slot : ℕ) → Skips now.lowest now.full.items slot → Skips before.lowest before.full.items slot
+  pub as_many : length now.full.items ≡ length before.full.items
+
 -- after a step of a caller on the key
-pub phase_kept : (w : BareWorld) (c : ℕ) (key : Key) (from to : Phase) (counts : List Counts) (old new : Counts) (state : SlotState) (lowest lowest' : ℕ) →
-    IsKept w counts lowest → (e : Event) → BareStep w e (with_phase w c key to) → IsCaller w c key from → slice_get counts key.slot ≡ Some old → slice_get w.slots key.slot ≡ Some state →
+pub phase_kept : (w : BareWorld) (c : ℕ) (key : Key) (from to : Phase) (counts : List Counts) (old new : Counts) (state : SlotState) (hint hint' : Hint) →
+    IsKept w counts hint → (e : Event) → BareStep w e (with_phase w c key to) → IsCaller w c key from → slice_get counts key.slot ≡ Some old → slice_get w.slots key.slot ≡ Some state →
     new.holds + tally (not (is_spent from)) ≡ old.holds + tally (not (is_spent to)) → new.references + tally (has_reference from) ≡ old.references + tally (has_reference to) →
-    1 ≤ lowest' → lowest' ≤ lowest → ((state.marks ≡ None) × (state.generation < 2 ^ 32 - 1) × (new.holds ≡ 0) → 1 ≤ key.slot → lowest' ≤ key.slot) →
-    IsKept (with_phase w c key to) (slice_set counts key.slot new) lowest'
-phase_kept w c key from to counts old new state lowest lowest' kept e step was is has h r one lower passed =
+    Fewer hint' hint → ((state.marks ≡ None) × (state.generation < 2 ^ 32 - 1) × (new.holds ≡ 0) → 1 ≤ key.slot → ¬ Skips hint'.lowest hint'.full.items key.slot) →
+    IsKept (with_phase w c key to) (slice_set counts key.slot new) hint'
+phase_kept w c key from to counts old new state hint hint' kept e step was is has h r fewer looks =
     let counted = phase_counted w c key from to counts old new was is h r kept.counted in
     let told : new.holds ≡ holds (with_phase w c key to) key.slot = (counted key.slot new (slice_get-set_same counts key.slot new (slice_get_within counts key.slot old is))).0 in
     record {
@@ -100,45 +111,53 @@ phase_kept w c key from to counts old new state lowest lowest' kept e step was i
       few = kept.few;
       as_long = length-set counts key.slot new ∙ kept.as_long;
       counted = counted;
-      from_one = one;
-      passed = λ slot a b f. elim (eqb_tells slot key.slot) [
-        | inl s ↦ absurd (let free : (state.marks ≡ None) × (state.generation < 2 ^ 32 - 1) × (holds (with_phase w c key to) key.slot ≡ 0) = (free_exact (with_phase w c key to) key.slot state has).1 (subst (IsFree (with_phase w c key to)) s.1 f) in
-            let l : lowest' ≤ key.slot = passed (free.0, free.1, told ∙ free.2) (subst (λ x. 1 ≤ x) s.1 a) in
-            let t : slot ≡ key.slot = s.1 in omega arith)
-        | inr n ↦ kept.passed slot a (omega arith) (free_elsewhere w c key from to slot was n.1 f)
+      covered = subst (λ n. length w.slots / 64 < n) (sym fewer.as_many) kept.covered;
+      skipped = λ slot one s f. elim (eqb_tells slot key.slot) [
+        | inl e ↦ (let free = (free_exact (with_phase w c key to) key.slot state has).1 (subst (IsFree (with_phase w c key to)) e.1 f) in
+            looks (free.0, free.1, told ∙ free.2) (subst (λ x. 1 ≤ x) e.1 one) (subst (Skips hint'.lowest hint'.full.items) e.1 s))
+        | inr n ↦ kept.skipped slot one (fewer.skips slot s) (free_elsewhere w c key from to slot was n.1 f)
       ];
     }
 
 -- after a change of the marks of the key
-pub marks_kept : (w : BareWorld) (key : Key) (m : Option Marks) (counts : List Counts) (lowest : ℕ) → IsKept w counts lowest → (e : Event) → BareStep w e (with_marks w key m) → ¬ IsFree (with_marks w key m) key.slot → IsKept (with_marks w key m) counts lowest
-marks_kept w key m counts lowest kept e step taken = record {
-  safe = step_keeps w e (with_marks w key m) kept.safe step;
-  few = (let l : length (slice_set w.slots key.slot (slot_state key.generation m)) ≡ length w.slots = length-set w.slots key.slot (slot_state key.generation m) in let f : length w.slots ≤ 4096 = kept.few in omega arith);
-  as_long = kept.as_long ∙ sym (length-set w.slots key.slot (slot_state key.generation m));
-  counted = kept.counted;
-  from_one = kept.from_one;
-  passed = λ slot a b f. elim (eqb_tells slot key.slot) [
-    | inl s ↦ taken (subst (IsFree (with_marks w key m)) s.1 f)
-    | inr n ↦ kept.passed slot a b (free_beside w key m slot n.1 f)
-  ];
-}
+pub marks_kept : (w : BareWorld) (key : Key) (m : Option Marks) (counts : List Counts) (hint : Hint) → IsKept w counts hint → (e : Event) → BareStep w e (with_marks w key m) → ¬ IsFree (with_marks w key m) key.slot → IsKept (with_marks w key m) counts hint
+marks_kept w key m counts hint kept e step taken =
+    let l : length (with_marks w key m).slots ≡ length w.slots = length-set w.slots key.slot (slot_state key.generation m) in
+    record {
+      safe = step_keeps w e (with_marks w key m) kept.safe step;
+      few = subst (λ n. n ≤ 4096) (sym l) kept.few;
+      as_long = kept.as_long ∙ sym l;
+      counted = kept.counted;
+      covered = subst (λ n. n / 64 < length hint.full.items) (sym l) kept.covered;
+      skipped = λ slot one s f. elim (eqb_tells slot key.slot) [
+        | inl e ↦ taken (subst (IsFree (with_marks w key m)) e.1 f)
+        | inr n ↦ kept.skipped slot one s (free_beside w key m slot n.1 f)
+      ];
+    }
 
 -- after a pin of the key
-pub pinned_kept : (w : BareWorld) (key : Key) (counts : List Counts) (old new : Counts) (lowest : ℕ) → IsKept w counts lowest → (e : Event) → BareStep w e (with_caller w key) → slice_get counts key.slot ≡ Some old → new.holds ≡ old.holds + 1 → new.references ≡ old.references + 0 → IsKept (with_caller w key) (slice_set counts key.slot new) lowest
-pinned_kept w key counts old new lowest kept e step is h r = record {
+pub pinned_kept : (w : BareWorld) (key : Key) (counts : List Counts) (old new : Counts) (hint : Hint) → IsKept w counts hint → (e : Event) → BareStep w e (with_caller w key) → slice_get counts key.slot ≡ Some old → new.holds ≡ old.holds + 1 → new.references ≡ old.references + 0 → IsKept (with_caller w key) (slice_set counts key.slot new) hint
+pinned_kept w key counts old new hint kept e step is h r = record {
   safe = step_keeps w e (with_caller w key) kept.safe step;
   few = kept.few;
   as_long = length-set counts key.slot new ∙ kept.as_long;
   counted = pinned_counted w key counts old new is h r kept.counted;
-  from_one = kept.from_one;
-  passed = λ slot a b f. kept.passed slot a b (free_before w key slot f);
+  covered = kept.covered;
+  skipped = λ slot one s f. kept.skipped slot one s (free_before w key slot f);
 }
 
 -- past the last slot nobody is on the slot
-pub past_kept : (w : BareWorld) (counts : List Counts) (lowest slot : ℕ) → IsKept w counts lowest → length counts ≤ slot → (0 ≡ holds w slot) × (0 ≡ references w slot)
-past_kept w counts lowest slot kept past =
+pub past_kept : (w : BareWorld) (counts : List Counts) (hint : Hint) (slot : ℕ) → IsKept w counts hint → length counts ≤ slot → (0 ≡ holds w slot) × (0 ≡ references w slot)
+past_kept w counts hint slot kept past =
     let out : length w.slots ≤ slot = (let e : length counts ≡ length w.slots = kept.as_long in omega arith) in
     (sym (past_none w slot (λ p. not (is_spent p)) kept.safe out refl), sym (past_none w slot has_reference kept.safe out refl))
+
+-- past slots that are skipped none is free
+pub none_skipped : (w : BareWorld) (counts : List Counts) (hint : Hint) (low high : ℕ) → IsKept w counts hint → NoneFree w low → ((slot : ℕ) → low ≤ slot → slot < high → Skips hint.lowest hint.full.items slot) → NoneFree w high
+none_skipped w counts hint low high kept passed skips slot one below free = elim (leb_tells low slot) [
+  | inl m ↦ kept.skipped slot one (skips slot m.1 below) free
+  | inr l ↦ passed slot one (omega (arith, l.1)) free
+]
 
 -- a slot that is not in the list is not free
 pub none_free : (w : BareWorld) (slot : ℕ) → length w.slots ≤ slot → ¬ IsFree w slot

@@ -1,10 +1,12 @@
 -- What the plain list keeps beside its slots and callers, so that no question has to walk the callers.
-use Rattle.std.specs.Prelude.{◌≡◌, ℕ, ◌<◌, ◌≤◌, Bool, ◌&&◌, ◌==◌, List, length, count_by, slice_get, Some, if◌then◌else◌}
+use Rattle.std.specs.Prelude.{◌≡◌, ℕ, ◌<◌, ◌≤◌, ◌/◌, Bool, ◌&&◌, ◌==◌, List, length, count_by, slice_get, Some, if◌then◌else◌}
 use Rattle.kf_core.specs.declared.counts.Counts.{Counts}
+use Rattle.kf_core.specs.declared.world.hint.Hint.{Hint}
 use Rattle.kf_core.specs.Phases.{has_reference}
 use Rattle.kf_core.specs.Bare.{BareWorld}
 use Rattle.kf_core.specs.Safe.{Safe}
 use Rattle.kf_core.specs.Bounded.{IsFree, holds}
+use Rattle.kf_core.specs.Hints.{Skips}
 
 -- one where it is true
 abbrev pub tally : Bool → ℕ
@@ -22,11 +24,11 @@ IsCounted w counts = (slot : ℕ) (c : Counts) → slice_get counts slot ≡ Som
 abbrev pub NoneFree : BareWorld → ℕ → Type 0
 NoneFree w below = (slot : ℕ) → 1 ≤ slot → slot < below → ¬ IsFree w slot
 
--- the world is safe, the counts of its slots are exact, and the search for a free slot may begin at `lowest`
-pub record IsKept (w : BareWorld) (counts : List Counts) (lowest : ℕ) : Type 0 where
+-- the world is safe, the counts of its slots are exact, and the search for a free slot skips none that is free
+pub record IsKept (w : BareWorld) (counts : List Counts) (hint : Hint) : Type 0 where
   pub safe : Safe w
   pub few : length w.slots ≤ 4096
   pub as_long : length counts ≡ length w.slots
   pub counted : IsCounted w counts
-  pub from_one : 1 ≤ lowest
-  pub passed : NoneFree w lowest
+  pub covered : length w.slots / 64 < length hint.full.items
+  pub skipped : (slot : ℕ) → 1 ≤ slot → Skips hint.lowest hint.full.items slot → ¬ IsFree w slot

@@ -14,5 +14,6 @@ pub mod Worlds
 pub mod Bounded
 pub mod Calls
 pub mod WorldGuard
+pub mod Hints
 pub mod Counts
 pub mod Agrees

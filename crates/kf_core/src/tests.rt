@@ -175,6 +175,41 @@ fn a_broken_call_is_not_waited_for(rt: HostRuntime) -> Result<(), Fail> {
     Ok(())
 }
 
+/// Dooms the node, waits for its calls, takes it out and gives its slot back.
+fn remove(world: &mut World, key: Key) -> Option<()> {
+    let id = world.pin(key).ok()?;
+    if !enter_and_doom(world, id)? {
+        return None;
+    }
+    leave(world, id)?;
+    if !world.look(id) {
+        return None;
+    }
+    take_out(world, id)?;
+    release(world, id)
+}
+
+#[test]
+fn the_lowest_slot_comes_back_first_out_of_many_blocks(rt: HostRuntime) -> Result<(), Fail> {
+    let mut world = world_of(rt.alloc(), 200, 1, 0)?;
+    for slot in 1..200u32 {
+        assert_eq!(rt; make(&mut world), Some(key(slot, 1)));
+    }
+    assert_eq!(rt; world.free_key(), None, "all are taken");
+    for slot in [130, 70, 199, 64, 63, 131, 1, 127] {
+        assert_eq!(rt; remove(&mut world, key(slot, 1)), Some(()), "{slot}");
+    }
+    for slot in [1, 63, 64] {
+        assert_eq!(rt; make(&mut world), Some(key(slot, 2)));
+    }
+    assert_eq!(rt; remove(&mut world, key(2, 1)), Some(()), "lower again");
+    for slot in [2, 70, 127, 130, 131, 199] {
+        assert_eq!(rt; make(&mut world), Some(key(slot, 2)));
+    }
+    assert_eq!(rt; world.free_key(), None, "all are taken again");
+    Ok(())
+}
+
 #[test]
 fn a_guard_gives_calls_on_live_nodes_alone(rt: HostRuntime) -> Result<(), Fail> {
     let mut world = world_of(rt.alloc(), 2, 2, 0)?;

@@ -15,10 +15,12 @@ use crate::key::Key;
 use crate::limits::Limits;
 use crate::refusal::Refusal;
 use crate::slot::{Marks, SlotState};
+use crate::world::hint::Hint;
 use std::alloc::Global;
 use std::marker::Model;
 
 mod callers;
+mod hint;
 mod search;
 mod slots;
 
@@ -30,8 +32,8 @@ pub struct World {
     limit: u32,
     // By slot, so that no question walks the callers.
     counts: Vec<Counts>,
-    // From slot 1 up, no slot below this one is free.
-    lowest: u32,
+    // Where the search for a free slot need not look.
+    hint: Hint,
 }
 
 impl Model for World {
@@ -39,7 +41,7 @@ impl Model for World {
 
     ghost view = { λ w. bounded (record { slots = w.slots.items; callers = w.callers.items }) w.limit };
 
-    ghost invariant = { λ w. IsKept (record { slots = w.slots.items; callers = w.callers.items }) w.counts.items w.lowest };
+    ghost invariant = { λ w. IsKept (record { slots = w.slots.items; callers = w.callers.items }) w.counts.items w.hint };
 }
 
 // The marks of the node that a key names, where it is linked.
@@ -110,7 +112,7 @@ impl World {
             callers: Vec::new(alloc),
             limit: limits.holds(),
             counts: no_counts(alloc, count)?,
-            lowest: 1,
+            hint: Hint::new(alloc, limits.slots())?,
         })
     }
 

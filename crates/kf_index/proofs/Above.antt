@@ -1,12 +1,12 @@
--- The least name above a bound, among pairs whose names rise.
-use Rattle.std.proofs.Common.{◌≡◌, ◌⊎◌, ℕ, ◌+◌, ◌<◌, ◌≤◌, Option, List, length, get_or, Some, None, IsSome, sym, ap, ◌∙◌, subst, arith, inl, inr}
-use Rattle.std.proofs.lemmas.Bool.{cases_order}
+-- The names above a bound, least first, among pairs whose names rise.
+use Rattle.std.proofs.Common.{◌≡◌, ◌⊎◌, ℕ, ◌+◌, ◌<◌, ◌≤◌, zero, suc, Option, List, [], ◌∷◌, length, get_or, drop, Some, None, IsSome, sym, ap, ◌∙◌, subst, arith, inl, inr}
+use Rattle.std.proofs.lemmas.Bool.{cases_order, cases_lt}
 use Rattle.std.specs.FinMap.{get-from_entries}
 use Rattle.std.proofs.lemmas.Cmp.{nat_list_cmp_total}
-use Rattle.std.proofs.lemmas.List.{get_or_default}
+use Rattle.std.proofs.lemmas.List.{get_or_default, drop_all, drop_more}
 use Rattle.kf_core.specs.declared.key.Key.{Key}
 use Rattle.kf_core.specs.Names.{IsBefore}
-use Rattle.kf_index.specs.Entries.{IsAbove, IsLeastAbove, NoneAbove}
+use Rattle.kf_index.specs.Entries.{Entries, IsAbove, IsLeastAbove, NoneAbove, AreAbove}
 use Rattle.kf_index.specs.Pairs.{Pairs, IsRising, IsPlaceOf, IsGapFor, IsFirstAbove}
 use Rattle.kf_index.proofs.Searched.{not_before_itself, before_more}
 use Rattle.kf_index.proofs.Found.{entries_of, find_none, found_place, get_at_place, differs_unless}
@@ -57,3 +57,37 @@ module _ (pairs : Pairs) (rising : IsRising pairs) (bound : Option (List ℕ)) (
 
   pub none_above : length pairs ≤ at → NoneAbove (entries_of pairs) bound
   none_above past name above = get-from_entries nat_list_cmp_total pairs name ∙ find_none pairs name (λ i d low. differs_unless name (get_or pairs i d).0 (λ is. first.not_above i d (omega arith) (subst (λ (n : List ℕ). IsAbove bound n) is above)))
+
+module _ (pairs : Pairs) (rising : IsRising pairs) where
+  nothing : List ℕ × Key
+  nothing = ([], record { slot = 0; generation = 0 })
+
+  place_at : (at : ℕ) → at < length pairs → IsPlaceOf pairs (get_or pairs at nothing).0 at
+  place_at at within = record { within = within; named = λ d. ap (λ (pair : List ℕ × Key). pair.0) (get_or_default pairs at d nothing within) }
+
+  past_the_last : (bound : Option (List ℕ)) (at : ℕ) → length pairs ≤ at → IsFirstAbove pairs bound at → AreAbove (entries_of pairs) bound (drop at pairs)
+  unfolding AreAbove
+  past_the_last bound at past first = subst (AreAbove (entries_of pairs) bound) (sym (drop_all at pairs past)) (none_above pairs rising bound at first past)
+
+  -- all from the first above the bound on, of which no more are left than so many
+  pub all_above : (left : ℕ) (bound : Option (List ℕ)) (at : ℕ) → length pairs ≤ at + left → IsFirstAbove pairs bound at → AreAbove (entries_of pairs) bound (drop at pairs)
+  unfolding AreAbove
+  all_above zero bound at few first = past_the_last bound at (omega arith) first
+  all_above (suc left) bound at few first = elim (cases_lt at (length pairs)) [
+    | inl within ↦ subst (AreAbove (entries_of pairs) bound) (sym (drop_more pairs at nothing within)) (
+      least_above pairs rising bound at first nothing within,
+      all_above left (Some (get_or pairs at nothing).0) (at + 1) (omega arith) (first_past_place pairs rising (get_or pairs at nothing).0 at (place_at at within)),
+    )
+    | inr past ↦ past_the_last bound at past first
+  ]
+
+-- the first of those above the bound is the next
+pub first_is_next : (entries : Entries) (bound : Option (List ℕ)) (all : Pairs) (d e : List ℕ × Key) → 1 ≤ length all → AreAbove entries bound all → IsLeastAbove entries bound (get_or all 0 d).0 (get_or all 0 e).1
+unfolding AreAbove
+first_is_next entries bound [] d e some above = absurd (omega (arith, some))
+first_is_next entries bound (first ∷ later) d e some above = above.0
+
+pub none_is_next : (entries : Entries) (bound : Option (List ℕ)) (all : Pairs) → length all < 1 → AreAbove entries bound all → NoneAbove entries bound
+unfolding AreAbove
+none_is_next entries bound [] none above = above
+none_is_next entries bound (first ∷ later) none above = absurd (omega (arith, none))

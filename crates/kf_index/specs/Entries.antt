@@ -1,5 +1,5 @@
 -- An index as a map from names to keys, its names in byte order.
-use Rattle.std.specs.Prelude.{◌≡◌, ◌⊎◌, ℕ, List, Option, None, Some, IsSome, refl}
+use Rattle.std.specs.Prelude.{◌≡◌, ◌⊎◌, ℕ, List, [], ◌∷◌, Option, None, Some, IsSome, refl}
 use Rattle.std.specs.Ordering.{nat_cmp}
 use Rattle.std.specs.Cmp.Lexicographic.{slice_cmp}
 use Rattle.std.specs.Coded.{Coded, code_by, coded×, coded_ℕ, coded_list}
@@ -34,3 +34,9 @@ pub record IsLeastAbove (entries : Entries) (bound : Option (List ℕ)) (name : 
 -- no name is above the bound
 abbrev pub NoneAbove : Entries → Option (List ℕ) → Type 0
 NoneAbove entries bound = (name : List ℕ) → IsAbove bound name → map_of.get entries name ≡ None
+
+-- the entries above the bound, one after another: each has the least name above the one before it, the first above
+-- the bound, and no name is above the last
+unfoldable pub AreAbove : Entries → Option (List ℕ) → List (List ℕ × Key) → Type 0
+AreAbove entries bound [] = NoneAbove entries bound
+AreAbove entries bound (entry ∷ later) = IsLeastAbove entries bound entry.0 entry.1 × AreAbove entries (Some entry.0) later

@@ -3,7 +3,7 @@
 ghost use Rattle.std.specs.Prelude.{◌≡◌, None, IfOk, IfErr, OnOk, OnErr, IfSome, IfNone, if◌then◌else◌};
 ghost use Rattle.std.specs.Option.{option_copied};
 ghost use Rattle.std.specs.FinMap as map;
-ghost use Rattle.kf_index.specs.Entries.{IsLeastAbove, NoneAbove};
+ghost use Rattle.kf_index.specs.Entries.{IsLeastAbove, NoneAbove, AreAbove};
 ghost use Rattle.kf_index.specs.Pairs.{IsRising, IsPlaceOf, IsGapFor, IsFirstAbove};
 
 use crate::name::Name;
@@ -111,6 +111,16 @@ impl Index {
         }
     }
 
+    /// The entries with names above the bound, or all where there is no bound, in byte order of names: what
+    /// `next_after` gives when it is asked again and again, each time above the name before. The bound
+    /// may be any bytes.
+    pub fn above(&self, bound: Option<&[u8]>) -> &[(Name, Key)]
+        ensures listed { AreAbove self.now (option_copied bound.entry) result.now }
+    {
+        let at = first_above(&self.entries, bound);
+        &self.entries[at..]
+    }
+
     /// The entry with the least name above the bound, or with the least of all where there is no
     /// bound. The bound may be any bytes. None where no name is above it (`kernfs_dir_next_pos`).
     pub fn next_after(&self, bound: Option<&[u8]>) -> Option<(&Name, Key)>
@@ -118,8 +128,9 @@ impl Index {
             IsLeastAbove self.now (option_copied bound.entry) next.0.now next.1) }
         ensures none { IfNone result (NoneAbove self.now (option_copied bound.entry)) }
     {
-        let at = first_above(&self.entries, bound);
-        let (name, key) = self.entries.get(at)?;
+        let [(name, key), ..] = self.above(bound) else {
+            return None;
+        };
         Some((name, *key))
     }
 }

@@ -47,6 +47,16 @@ fn listing(
     Ok(text)
 }
 
+/// All names above the bound, a space after each.
+fn rest(alloc: Global, index: &Index, after: Option<&[u8]>) -> Result<Vec<u8>, Refusal> {
+    let mut text = Vec::new(alloc);
+    for (name, _) in index.above(after) {
+        text.extend_from_slice(name.bytes())?;
+        text.push(b' ')?;
+    }
+    Ok(text)
+}
+
 #[test]
 fn lists_names_in_byte_order(rt: HostRuntime) -> Result<(), Fail> {
     let alloc = rt.alloc();
@@ -65,6 +75,26 @@ fn lists_names_in_byte_order(rt: HostRuntime) -> Result<(), Fail> {
         let text = listing(alloc, &index, after, limit)?;
         assert_eq!(rt; text.as_slice(), expected);
     }
+    Ok(())
+}
+
+#[test]
+fn lists_all_above_a_bound_at_once(rt: HostRuntime) -> Result<(), Fail> {
+    let alloc = rt.alloc();
+    let index = four_names(alloc)?;
+    let rows: [(Option<&[u8]>, &[u8]); 6] = [
+        (None, b"B a ab b "),
+        (Some(b""), b"B a ab b "),
+        (Some(b"B"), b"a ab b "),
+        (Some(b"aa"), b"ab b "),
+        (Some(b"ab"), b"b "),
+        (Some(b"b"), b""),
+    ];
+    for (after, expected) in rows {
+        let text = rest(alloc, &index, after)?;
+        assert_eq!(rt; text.as_slice(), expected);
+    }
+    assert!(rt; Index::new(alloc).above(None).is_empty());
     Ok(())
 }
 

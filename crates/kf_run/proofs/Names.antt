@@ -1,6 +1,8 @@
 -- Names joined by one space.
-use Rattle.std.proofs.Common.{◌≡◌, ℕ, ◌+◌, ◌<◌, List, [], ◌∷◌, ◌++◌, take, get_or, length, ap, sym, ◌∙◌, append_assoc, add-one}
+use Rattle.std.proofs.Common.{◌≡◌, ℕ, ◌+◌, ◌<◌, List, [], ◌∷◌, ◌++◌, take, get_or, length, ap, sym, ◌∙◌, append_assoc, add-one, Bor, map}
+use Rattle.std.proofs.Math.ListN.{get_or-map}
 use Rattle.std.proofs.Math.Seq.{take-suc}
+use Rattle.std.proofs.lemmas.List.{length-map}
 use Rattle.kf_run.specs.ReplyText.{names_text}
 
 -- one more name at the end
@@ -16,3 +18,10 @@ pub names_text-more : (first : List ℕ) (names : List (List ℕ)) (i : ℕ) (d 
     → (names_text (first ∷ take i names) ++ 32 ∷ []) ++ get_or names i d ≡ names_text (first ∷ take (i + 1) names)
 names_text-more first names i d h =
     sym (names_text-push first (take i names) (get_or names i d)) ∙ ap (λ l. names_text (first ∷ l)) (sym (rw add-one (take-suc names i d h)))
+
+-- one more of names that are borrowed
+pub names_text-next : (first : List ℕ) (names : List (Bor (List ℕ))) (i : ℕ) (d : Bor (List ℕ)) → i < length names
+    → (names_text (first ∷ take i (map (λ n. n.now) names)) ++ 32 ∷ []) ++ (get_or names i d).now ≡ names_text (first ∷ take (i + 1) (map (λ n. n.now) names))
+names_text-next first names i d h =
+    ap (λ l. (names_text (first ∷ take i (map (λ n. n.now) names)) ++ 32 ∷ []) ++ l) (sym (get_or-map (λ (n : Bor (List ℕ)). n.now) names i d))
+    ∙ names_text-more first (map (λ n. n.now) names) i d.now (rw (length-map names (λ n. n.now)) h)

@@ -12,7 +12,7 @@ use Rattle.std.proofs.lemmas.List.Elements.{All-push}
 use Rattle.std.proofs.lemmas.Bool.Decides.{leb_tells, eqb_tells}
 use Rattle.std.proofs.Common.{length-append}
 use Rattle.kf_run.specs.Lines.{is_newline, has_bytes, lines_of, front, ended_lines_of, kept_line}
-use Rattle.kf_run.specs.Requests.{RequestWords, request_of}
+use Rattle.kf_run.specs.Requests.{request_of}
 use Rattle.kf_run.specs.ReplyText.{bad_line_text}
 use Rattle.kf_run.specs.Answers.{Step, Turn, line_of, AnswersRequest, Answers, reply_line, text}
 use Rattle.kf_run.specs.Progress.{Writes, Answered, CutShort}

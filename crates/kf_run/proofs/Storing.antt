@@ -1,9 +1,9 @@
 -- A write on the board: what its store answered settles the request.
-use Rattle.std.proofs.Common.{◌≡◌, ℕ, ◌⊎◌, Bool, true, false, List, [], ◌∷◌, length, Option, None, Some, Result, Ok, Err, IsTrue, IsFalse, inl, inr, refl, sym, ap, subst, ◌∙◌, rules}
-use Rattle.kf_core.specs.Calls.{Visit, unvisited, tried}
+use Rattle.std.proofs.Common.{◌≡◌, ℕ, Bool, true, false, List, [], ◌∷◌, Option, None, Some, Result, Ok, IsTrue, inl, inr, refl, sym, ap, subst, ◌∙◌, rules}
+use Rattle.kf_core.specs.Calls.{Visit, tried}
 use Rattle.kf_files.specs.declared.ops.Fault.{Fault}
 use Rattle.kf_files.specs.declared.ops.FileError.{FileError}
-use Rattle.kf_files.specs.Files.{FileState, Writes, Stored, told_of}
+use Rattle.kf_files.specs.Files.{Writes, Stored, told_of}
 use Rattle.kf_run.specs.Requests.{write_file}
 use Rattle.kf_run.specs.Plain.{Plain, OpenPlainFile}
 use Rattle.kf_run.specs.PlainFiles.{known_file, VisitsNode, StoresText, StoresOnBoard, count_text}

@@ -1,5 +1,5 @@
 -- What the program did with its script.
-use Rattle.std.specs.Prelude.{ℕ, ◌≤◌, List, Option}
+use Rattle.std.specs.Prelude.{ℕ, List, Option}
 use Rattle.std.specs.Io.KnownBytes.{Consumes, IsAtEnd}
 use Rattle.kf_run.specs.Lines.{lines_of}
 use Rattle.kf_run.specs.Plain.{Plain, new_board}

@@ -1,7 +1,6 @@
 -- How far a run of a script has come.
-use Rattle.std.specs.Prelude.{ℕ, Bool, List, ◌++◌, ◌≡◌, map, Option, Result, MatchResult}
+use Rattle.std.specs.Prelude.{ℕ, List, ◌++◌, ◌≡◌, map, Option, Result, MatchResult}
 use Rattle.std.specs.Io.KnownBytes.{Appends}
-use Rattle.kf_run.specs.Requests.{RequestWords}
 use Rattle.kf_run.specs.Answers.{Step, Turn, line_of, Answers, text}
 
 -- the part stands at the front of the whole

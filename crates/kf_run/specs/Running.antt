@@ -1,8 +1,7 @@
 -- How far a run has come between two bytes of its script.
-use Rattle.std.specs.Prelude.{ℕ, Bool, false, List, [], ◌∷◌, ◌++◌, ◌≡◌, filter, All, Option, Result, MatchResult}
+use Rattle.std.specs.Prelude.{ℕ, false, List, [], ◌∷◌, ◌++◌, ◌≡◌, filter, All, Option, Result, MatchResult}
 use Rattle.std.specs.List.{slice_split}
 use Rattle.kf_run.specs.Lines.{is_newline, has_bytes, lines_of, kept_line}
-use Rattle.kf_run.specs.Requests.{RequestWords}
 use Rattle.kf_run.specs.Answers.{Step}
 use Rattle.kf_run.specs.Progress.{Answered, CutShort}
 

@@ -1,6 +1,6 @@
 //! The text of a reply.
 
-ghost use Rattle.std.specs.Prelude.{◌≡◌, ◌≤◌, ◌<◌, ◌+◌, ◌++◌, ◌∷◌, ℕ, List, [], length, decimal, vec_len, vec_capacity, IfOk, IfErr, OnOk};
+ghost use Rattle.std.specs.Prelude.{◌≡◌, ◌≤◌, ◌<◌, ◌+◌, ◌++◌, ◌∷◌, ℕ, List, map, [], length, decimal, vec_len, vec_capacity, IfOk, IfErr, OnOk};
 ghost use Rattle.kf_core.specs.Refusals.{name_of};
 ghost use Rattle.kf_run.specs.Progress.{Writes};
 ghost use Rattle.kf_run.specs.PlainFiles.{error_text};
@@ -157,8 +157,8 @@ impl Reply {
     }
 
     /// Names, with one space between two. Refuses `NoMemory` alone; the text is then unknown.
-    pub fn set_names(&mut self, names: &[Name]) -> Result<(), Refusal>
-        ensures text { OnOk result (self.new ≡ names_text names.now) }
+    pub fn set_names(&mut self, names: &[&Name]) -> Result<(), Refusal>
+        ensures text { OnOk result (self.new ≡ names_text (map (λ n. n.now) names.now)) }
         ensures refused { IfErr result (λ refusal. refusal ≡ Refusal.NoMemory) }
     {
         self.clear();

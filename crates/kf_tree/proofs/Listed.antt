@@ -1,11 +1,12 @@
 -- The names of live children, child by child.
-use Rattle.std.proofs.Common.{◌≡◌, ◌⊎◌, inl, inr, ℕ, zero, suc, ◌+◌, ◌<◌, ◌≤◌, refl, ap, arith, sym, ◌∙◌, subst, Bool, true, false, cond, List, [], ◌∷◌, ◌++◌, length, length-append, lit<}
+use Rattle.std.proofs.Common.{◌≡◌, ◌⊎◌, inl, inr, ℕ, zero, suc, ◌+◌, ◌<◌, ◌≤◌, refl, ap, arith, sym, ◌∙◌, subst, Bool, true, false, cond, List, [], ◌∷◌, ◌++◌, ◌-◌, take, drop, get_or, length, length-append, lit<}
 use Rattle.std.specs.Prelude.{Option, None, Some, slice_get, All, AllPairs, Contains, ◌&&◌, IsTrue, IsSomeAnd}
 use Rattle.std.specs.List.{find as first}
 use Rattle.std.specs.Str.{bytes_eq}
-use Rattle.std.specs.Option.{option_and_then}
+use Rattle.std.specs.Option.{option_and_then, option_map}
 use Rattle.std.proofs.lemmas.Option.{same_Some, none-some}
 use Rattle.std.proofs.lemmas.Slice.Eq.{bytes_eq-Decides}
+use Rattle.std.proofs.lemmas.List.{take_rest}
 use Rattle.std.proofs.lemmas.List.Elements.{Contains-append_left, Contains-append_right, All-append}
 use Rattle.kf_core.specs.declared.key.Key.{Key}
 use Rattle.kf_core.specs.declared.records.Record.{Record}
@@ -13,11 +14,12 @@ use Rattle.kf_core.specs.Marks.{are_live}
 use Rattle.kf_core.specs.Tree.{Tree, IsIn}
 use Rattle.kf_core.specs.Lawful.{Lawful}
 use Rattle.kf_tree.specs.Paths.{is_key, is_under, child}
-use Rattle.kf_core.specs.Names.{IsBefore, IsLawfulName}
+use Rattle.kf_core.specs.Names.{IsBefore}
 use Rattle.kf_index.specs.Entries.{IsAbove}
 use Rattle.kf_tree.specs.Listing.{IsListed, IsListing}
-use Rattle.kf_tree.specs.Next.{before, above, IsNext, NoneAbove}
-use Rattle.kf_core.proofs.FoundRecords.{same_record}
+use Rattle.kf_tree.specs.Causes.{live_in}
+use Rattle.kf_tree.specs.Next.{before, above, IsNext, NoneAbove, AreNext}
+use Rattle.kf_core.proofs.FoundRecords.{same_record, in_found}
 use Rattle.kf_tree.proofs.Allowed.{some_first, is_key_self}
 use Rattle.kf_tree.proofs.Next.{before_less, less_before, before_not_self, before_trans, before_ties, both, key_is}
 use Rattle.kf_tree.proofs.PostOrder.{pairs_append, still_not, is_before}
@@ -100,7 +102,7 @@ one : {X : Type 0} (P : X → Type 0) (y : X) → P y → All P (y ∷ [])
 one P y p zero d h = p
 one P y p (suc k) d h = absurd (omega arith)
 
-pub listed_next : (t : Tree) (root dir : Key) (l : Lawful t root) (after bound : Option (List ℕ)) (limit : ℕ) (names new : List (List ℕ)) (c : Record) (name : List ℕ) → name ≡ c.name → IsNext t dir bound c →
+listed_next : (t : Tree) (root dir : Key) (l : Lawful t root) (after bound : Option (List ℕ)) (limit : ℕ) (names new : List (List ℕ)) (c : Record) (name : List ℕ) → name ≡ c.name → IsNext t dir bound c →
     length names < limit → IsListedTo t dir after bound limit names → new ≡ cond (are_live (Some c.marks)) (names ++ c.name ∷ []) names → IsListedTo t dir after (Some name) limit new
 listed_next t root dir l after bound limit names new c name same n room f pushed =
     subst (λ x. IsListedTo t dir after (Some x) limit new) (sym same) (subst (IsListedTo t dir after (Some c.name) limit) (sym pushed)
@@ -151,7 +153,7 @@ listed_next t root dir l after bound limit names new c name same n room f pushed
     is_c x h a u = (let r = listed_child t root dir after x l h in
         before_ties x c.name (ap (λ y. before y c.name) (sym r.4) ∙ n.least r.0 r.2 r.3 (ap (above bound) r.4 ∙ u)) a)
 
-pub listing_full : (t : Tree) (dir : Key) (after bound : Option (List ℕ)) (limit : ℕ) (names : List (List ℕ)) → limit ≤ length names → IsListedTo t dir after bound limit names → IsListing t dir after limit names
+listing_full : (t : Tree) (dir : Key) (after bound : Option (List ℕ)) (limit : ℕ) (names : List (List ℕ)) → limit ≤ length names → IsListedTo t dir after bound limit names → IsListing t dir after limit names
 listing_full t dir after bound limit names full f = record {
   listed = f.listed;
   in_order = f.in_order;
@@ -162,7 +164,7 @@ listing_full t dir after bound limit names full f = record {
   ] refl;
 }
 
-pub listing_whole : (t : Tree) (root dir : Key) (l : Lawful t root) (after bound : Option (List ℕ)) (limit : ℕ) (names : List (List ℕ)) → NoneAbove t dir bound → IsListedTo t dir after bound limit names → IsListing t dir after limit names
+listing_whole : (t : Tree) (root dir : Key) (l : Lawful t root) (after bound : Option (List ℕ)) (limit : ℕ) (names : List (List ℕ)) → NoneAbove t dir bound → IsListedTo t dir after bound limit names → IsListing t dir after limit names
 listing_whole t root dir l after bound limit names none f = record {
   listed = f.listed;
   in_order = f.in_order;
@@ -171,6 +173,30 @@ listing_whole t root dir l after bound limit names none f = record {
       inl (f.all name h (ap (above bound) (sym r.4) ∙ none r.0 r.2 r.3)));
 }
 
--- a child has a lawful name
-pub child_named : (t : Tree) (root : Key) → Lawful t root → (dir : Key) (bound : Option (List ℕ)) (c : Record) → IsNext t dir bound c → IsLawfulName c.name
-child_named t root l dir bound c n = (let d = l.in_directory c dir n.is_in n.parent in d.lawful_name)
+-- what is listed when so many children are left
+pub record IsListedSoFar (t : Tree) (dir : Key) (after : Option (List ℕ)) (limit : ℕ) (names : List (List ℕ)) (later : List (List ℕ × Key)) : Type 0 where
+  pub bound : Option (List ℕ)
+  pub so_far : IsListedTo t dir after bound limit names
+  pub left : AreNext t dir bound later
+
+pub listed_more : (t : Tree) (root dir : Key) → Lawful t root → (after : Option (List ℕ)) (limit : ℕ) (names new : List (List ℕ)) (later : List (List ℕ × Key)) (d e : List ℕ × Key) → 1 ≤ length later → length names < limit →
+    IsListedSoFar t dir after limit names later → new ≡ cond (live_in t (get_or later 0 e).1) (names ++ (get_or later 0 d).0 ∷ []) names → IsListedSoFar t dir after limit new (take (length later - 1) (drop 1 later))
+unfolding AreNext
+listed_more t root dir l after limit names new [] d e some room f pushed = absurd (omega (arith, some))
+listed_more t root dir l after limit names new (entry ∷ later) d e some room f pushed =
+    (let n = f.left.0 in
+    let live : live_in t entry.1 ≡ are_live (Some n.0.marks) = ap (live_in t) (sym n.3) ∙ ap (λ o. are_live (option_map (λ (r : Record). r.marks) o)) (in_found t n.0 n.1.is_in) in
+    let pushed' : new ≡ cond (are_live (Some n.0.marks)) (names ++ n.0.name ∷ []) names = pushed ∙ ap (λ b. cond b (names ++ entry.0 ∷ []) names) live ∙ ap (λ x. cond (are_live (Some n.0.marks)) (names ++ x ∷ []) names) (sym n.2) in
+    record {
+      bound = Some entry.0;
+      so_far = listed_next t root dir l after f.bound limit names new n.0 entry.0 (sym n.2) n.1 room f.so_far pushed';
+      left = subst (AreNext t dir (Some entry.0)) (sym (take_rest (entry ∷ later) 1)) f.left.1;
+    })
+
+pub listed_up_to : (t : Tree) (dir : Key) (after : Option (List ℕ)) (limit : ℕ) (names : List (List ℕ)) (later : List (List ℕ × Key)) → limit ≤ length names → IsListedSoFar t dir after limit names later → IsListing t dir after limit names
+listed_up_to t dir after limit names later full f = listing_full t dir after f.bound limit names full f.so_far
+
+pub listed_all : (t : Tree) (root dir : Key) → Lawful t root → (after : Option (List ℕ)) (limit : ℕ) (names : List (List ℕ)) (later : List (List ℕ × Key)) → length later < 1 → IsListedSoFar t dir after limit names later → IsListing t dir after limit names
+unfolding AreNext
+listed_all t root dir l after limit names [] none f = listing_whole t root dir l after f.bound limit names f.left f.so_far
+listed_all t root dir l after limit names (entry ∷ later) none f = absurd (omega (arith, none))

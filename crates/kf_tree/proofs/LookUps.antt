@@ -1,6 +1,6 @@
 -- What the indexes tell is what the tree has.
 use Rattle.std.proofs.Common.{◌≡◌, ◌⊎◌, inl, inr, ℕ, suc, ◌+◌, ◌<◌, ◌≤◌, refl, ap, arith, sym, ◌∙◌, subst, Bool, true, false, cond, List, [], ◌∷◌, length, get_or, Bor}
-use Rattle.std.specs.Prelude.{Option, None, Some, IfSome, IfNone, slice_get, count_by, fold, is_some, ◌&&◌, ◌==◌}
+use Rattle.std.specs.Prelude.{Option, None, Some, IfSome, IfNone, slice_get, count_by, fold, is_some, not, ◌&&◌, ◌==◌}
 use Rattle.std.specs.List.{find as first, list_any}
 use Rattle.std.specs.Option.{option_and_then, option_copied}
 use Rattle.std.specs.Str.{bytes_eq}
@@ -24,7 +24,7 @@ use Rattle.kf_index.specs.Entries.{Entries, IsAbove, IsLeastAbove}
 use Rattle.kf_index.specs.Entries as index
 use Rattle.kf_tree.specs.declared.directories.Directory.{Directory}
 use Rattle.kf_tree.specs.Causes.{has_child}
-use Rattle.kf_tree.specs.Next.{before, above, IsNext, NoneAbove}
+use Rattle.kf_tree.specs.Next.{before, above, IsNext, NoneAbove, AreNext}
 use Rattle.kf_tree.specs.Paths.{is_key, is_under, child}
 use Rattle.kf_tree.specs.Stat.{subdirs}
 use Rattle.kf_tree.specs.Directories.{entry_at, is_slot_of, is_subdir_in, AreKept}
@@ -112,10 +112,14 @@ module _ (t : Tree) (root : Key) (lawful : Lawful t root) where
         | false ↦ λ e. refl
       ] refl
 
-  pub has_child_tells : (dir : Key) (o : Option (Bor Record)) → IfSome o (λ c. IsNext t dir None c.now) → IfNone o (NoneAbove t dir None) → is_some o ≡ has_child t dir
-  has_child_tells dir (Some c) next none = sym (some_any (λ x. is_under dir (λ r. true) x) t c.now.key.slot (Some c.now) next.is_in
-      (ap (λ b. b && true) (is_key_self dir c.now.parent next.parent)))
-  has_child_tells dir None next none = sym (any_none (λ x. is_under dir (λ r. true) x) t nobody)
+  pub has_child_tells : (dir : Key) (all : List (List ℕ × Key)) → AreNext t dir None all → not (length all == 0) ≡ has_child t dir
+  unfolding AreNext
+  has_child_tells dir (entry ∷ later) next = ap not not_empty ∙ sym (some_any (λ x. is_under dir (λ r. true) x) t next.0.0.key.slot (Some next.0.0) next.0.1.is_in
+      (ap (λ b. b && true) (is_key_self dir next.0.0.parent next.0.1.parent)))
+    where
+      not_empty : (length (entry ∷ later) == 0) ≡ false
+      not_empty = elim (eqb_tells (length (entry ∷ later)) 0) [ inl some ↦ absurd (omega (arith, some.1)) | inr some ↦ some.0 ]
+  has_child_tells dir [] none = sym (any_none (λ x. is_under dir (λ r. true) x) t nobody)
     where
       nobody : (i : ℕ) (x : Option Record) → slice_get t i ≡ Some x → is_under dir (λ r. true) x ≡ false
       nobody i None h = refl
@@ -161,7 +165,7 @@ module _ (t : Tree) (root : Key) (lawful : Lawful t root) where
       no_child name none = child_none dir name (λ r is parent named. none-some r.key (none ∙ sym (entry_is name) ∙ entry_of name r is parent named))
 
       -- the child that the index leads to
-      led_child : (name : List ℕ) (key : Key) → get kept_dir.index name ≡ Some key → (r : Record) × (slice_get t key.slot ≡ Some (Some r)) × (r.parent ≡ Some dir) × (r.name ≡ name) × IsIn t r
+      led_child : (name : List ℕ) (key : Key) → get kept_dir.index name ≡ Some key → (r : Record) × (slice_get t key.slot ≡ Some (Some r)) × (r.parent ≡ Some dir) × (r.name ≡ name) × (IsIn t r) × (r.key ≡ key)
       led_child name key found =
           let i = (kept.entries dir.slot name key).0 (entry_is name ∙ found) in (
             i.child,
@@ -169,6 +173,7 @@ module _ (t : Tree) (root : Key) (lawful : Lawful t root) where
             i.parent ∙ ap Some (this_dir i.child i.dir i.is_in i.parent i.in_slot),
             i.named,
             i.is_in,
+            i.has_key,
           )
 
       pub child_read : (name : List ℕ) (key : Key) → Some key ≡ get kept_dir.index name → option_and_then (λ place. place) (slice_get t key.slot) ≡ child t dir name
@@ -193,12 +198,11 @@ module _ (t : Tree) (root : Key) (lawful : Lawful t root) where
       not_before a b (inl e) = ap (λ x. before x a) e ∙ ap is_lt (tied_itself nat_list_cmp_total a)
       not_before a b (inr h) = ap is_lt (nat_list_cmp_total.antisymm b a ∙ ap ordering_reverse h)
 
-      pub next_read : (bound : Option (List ℕ)) (name : List ℕ) (key : Key) → IsLeastAbove kept_dir.index bound name key
-          → (r : Record) × (slice_get t key.slot ≡ Some (Some r)) × IsNext t dir bound r
+      next_read : (bound : Option (List ℕ)) (name : List ℕ) (key : Key) → IsLeastAbove kept_dir.index bound name key
+          → (c : Record) × IsNext t dir bound c × (c.name ≡ name) × (c.key ≡ key)
       next_read bound name key least =
           let c = led_child name key least.found in (
             c.0,
-            c.1,
             record {
               is_in = c.4;
               parent = c.2;
@@ -207,13 +211,21 @@ module _ (t : Tree) (root : Key) (lawful : Lawful t root) where
                   let entry = sym (entry_is s.name) ∙ entry_of s.name s is parent refl in
                   ap (before s.name) c.3 ∙ not_before name s.name (least.least s.name (ap is_some entry) (is_above bound s.name high));
             },
+            c.3,
+            c.5,
           )
 
-      pub none_read : (bound : Option (List ℕ)) → index.NoneAbove kept_dir.index bound → NoneAbove t dir bound
+      none_read : (bound : Option (List ℕ)) → index.NoneAbove kept_dir.index bound → NoneAbove t dir bound
       none_read bound none s is parent = elim (above bound s.name) as (λ b. above bound s.name ≡ b → b ≡ false) [
         | true ↦ λ high. absurd (none-some s.key (sym (none s.name (is_above bound s.name high)) ∙ sym (entry_is s.name) ∙ entry_of s.name s is parent refl))
         | false ↦ λ low. refl
       ] refl
+
+      -- what the index lists above a bound
+      pub all_read : (bound : Option (List ℕ)) (all : List (List ℕ × Key)) → index.AreAbove kept_dir.index bound all → AreNext t dir bound all
+      unfolding index.AreAbove AreNext
+      all_read bound [] none = none_read bound none
+      all_read bound (entry ∷ later) listed = (next_read bound entry.0 entry.1 listed.0, all_read (Some entry.0) later listed.1)
 
       same_subdir : (i : ℕ) (o : Option Record) → slice_get t i ≡ Some o → is_subdir_in dir.slot o ≡ is_under dir (λ r. is_dir r.node) o
       same_subdir i None h = refl

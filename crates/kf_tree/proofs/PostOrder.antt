@@ -1,22 +1,20 @@
 -- The keys of a subtree, child by child, and then the top.
-use Rattle.std.proofs.Common.{◌≡◌, ◌⊎◌, inl, inr, ℕ, zero, suc, ◌+◌, ◌-◌, ◌<◌, ◌≤◌, refl, ap, arith, sym, ◌∙◌, subst, true, false, List, [], ◌∷◌, ◌++◌, length, length-append, get_or, lit<, append_assoc}
-use Rattle.std.specs.Prelude.{Option, None, Some, is_some, AllPairs, Contains, ◌&&◌, count_by, IsTrue}
+use Rattle.std.proofs.Common.{◌≡◌, ◌⊎◌, inl, inr, ℕ, zero, suc, ◌+◌, ◌-◌, ◌<◌, ◌≤◌, refl, ap, arith, sym, ◌∙◌, subst, true, false, List, [], ◌∷◌, ◌++◌, length, length-append, take, drop, get_or, lit<, append_assoc}
+use Rattle.std.specs.Prelude.{Option, None, Some, is_some, AllPairs, Contains, IsTrue}
 use Rattle.std.proofs.lemmas.Option.{same_Some}
-use Rattle.std.proofs.lemmas.List.{get_or_default, get_or_append_left, get_or-append_right}
+use Rattle.std.proofs.lemmas.List.{get_or_default, get_or_append_left, get_or-append_right, take_rest}
 use Rattle.std.proofs.lemmas.List.Elements.{Contains-append_left, Contains-append_right, Contains-append_cases}
 use Rattle.kf_core.specs.declared.key.Key.{Key}
 use Rattle.kf_core.specs.declared.records.Record.{Record}
 use Rattle.kf_core.specs.Tree.{Tree, is_linked, parent_of, ancestor, in_subtree, IsIn}
 use Rattle.kf_core.specs.Lawful.{Lawful}
 use Rattle.kf_core.specs.PostOrder.{StandsBefore, IsPostOrder}
-use Rattle.kf_tree.specs.Paths.{is_key}
-use Rattle.kf_tree.specs.Subtrees.{HasPushed, is_left}
+use Rattle.kf_tree.specs.Subtrees.{HasPushed}
 use Rattle.kf_tree.specs.Ends.{EndsWith}
-use Rattle.kf_core.proofs.TreeLists.{count_less}
-use Rattle.kf_tree.specs.Next.{before, above, IsNext, NoneAbove}
-use Rattle.kf_core.proofs.Climbs.{same_key_self, after_step, climb_rest, no_return}
+use Rattle.kf_tree.specs.Next.{before, above, IsNext, AreNext}
+use Rattle.kf_core.proofs.Climbs.{after_step, climb_rest, no_return}
 use Rattle.kf_core.proofs.FoundRecords.{in_found, parent_known, linked_here, met_parent, root_parent, root_met, subtree_to, subtree_from, way_shorter}
-use Rattle.kf_tree.proofs.Next.{before_less, before_not_self, before_trans, before_ties, before_skip, both}
+use Rattle.kf_tree.proofs.Next.{before_less, before_not_self, before_trans, before_ties, before_skip}
 
 lt_or_le : (a b : ℕ) → (a < b) ⊎ (b ≤ a)
 lt_or_le a zero = inr (omega arith)
@@ -154,50 +152,53 @@ pub depth_less : (t : Tree) (dir : Key) (c : Record) (depth : ℕ) → IsIn t c 
 depth_less t dir c depth i p h n k e =
     (let far = h (n + 1) k (climb_rest (parent_of t) n 1 k c.key e ∙ after_step (parent_of t) 0 c.key dir (parent_known t c i ∙ p)) in omega arith)
 
--- fewer children are above the name of the next one
-pub fewer_left : (t : Tree) (top : Key) (bound : Option (List ℕ)) (c : Record) (name : List ℕ) → name ≡ c.name → IsNext t top bound c → count_by (is_left top (Some name)) t < count_by (is_left top bound) t
-fewer_left t top bound c name same n = count_less (is_left top bound) (is_left top (Some name)) weaker t c.key.slot (Some c) n.is_in here gone
-  where
-    this : is_key top c.parent ≡ true
-    this = ap (is_key top) n.parent ∙ same_key_self top
+-- what has been pushed when so many children are left
+pub record IsPushedSoFar (t : Tree) (top : Key) (start keys : List Key) (later : List (List ℕ × Key)) : Type 0 where
+  pub added : List Key
+  pub appended : keys ≡ start ++ added
+  pub bound : Option (List ℕ)
+  pub forest : IsForest t top bound added
+  pub left : AreNext t top bound later
 
-    here : is_left top bound (Some c) ≡ true
-    here = ap (λ b. b && above bound c.name) this ∙ n.is_above
+-- the next child
+first_left : (t : Tree) (top : Key) (bound : Option (List ℕ)) (later : List (List ℕ × Key)) (d : List ℕ × Key) → 1 ≤ length later → AreNext t top bound later → (c : Record) × IsNext t top bound c × (c.key ≡ (get_or later 0 d).1)
+unfolding AreNext
+first_left t top bound [] d some left = absurd (omega (arith, some))
+first_left t top bound (entry ∷ later) d some left = (left.0.0, left.0.1, left.0.3)
 
-    gone : is_left top (Some name) (Some c) ≡ false
-    gone = ap (λ b. b && before name c.name) this ∙ ap (λ x. before x c.name) same ∙ before_not_self c.name
+pub next_linked : (t : Tree) (top : Key) (bound : Option (List ℕ)) (later : List (List ℕ × Key)) (d : List ℕ × Key) → 1 ≤ length later → AreNext t top bound later → IsTrue (is_linked t (get_or later 0 d).1)
+next_linked t top bound later d some left = (let n = first_left t top bound later d some left in ap (is_linked t) (sym n.2) ∙ ap is_some (in_found t n.0 n.1.is_in))
 
-    weaker_above : (bound : Option (List ℕ)) (x : List ℕ) → above bound c.name ≡ true → before name x ≡ true → above bound x ≡ true
-    weaker_above None x a b = refl
-    weaker_above (Some low) x a b = before_trans low c.name x a (ap (λ y. before y x) (sym same) ∙ b)
+pub next_shallow : (t : Tree) (top : Key) (bound : Option (List ℕ)) (later : List (List ℕ × Key)) (d : List ℕ × Key) (depth : ℕ) → 1 ≤ length later → AreNext t top bound later →
+    ((n : ℕ) (k : Key) → ancestor t n k ≡ Some top → n < depth) → (n : ℕ) (k : Key) → ancestor t n k ≡ Some (get_or later 0 d).1 → n < depth - 1
+next_shallow t top bound later d depth some left h n k e = (let x = first_left t top bound later d some left in depth_less t top x.0 depth x.1.is_in x.1.parent h n k (e ∙ ap Some (sym x.2)))
 
-    weaker : (place : Option Record) → is_left top (Some name) place ≡ true → is_left top bound place ≡ true
-    weaker None e = absurd (let x : false ≡ true = e in cc)
-    weaker (Some r) e = (let parts = both (is_key top r.parent) (before name r.name) e in
-        ap (λ b. b && above bound r.name) parts.0 ∙ weaker_above bound r.name n.is_above parts.1)
-
-pub next_linked : (t : Tree) (top : Key) (bound : Option (List ℕ)) (c : Record) → IsNext t top bound c → IsTrue (is_linked t c.key)
-next_linked t top bound c n = ap is_some (in_found t c n.is_in)
-
--- one child more
-pub forest_pushed : (t : Tree) (root : Key) (l : Lawful t root) (top : Key) (bound : Option (List ℕ)) (c : Record) (name : List ℕ) (start old new : List Key) → name ≡ c.name → IsNext t top bound c →
-    (added : List Key) × (old ≡ start ++ added) × IsForest t top bound added → HasPushed t c.key old new → (added : List Key) × (new ≡ start ++ added) × IsForest t top (Some name) added
-forest_pushed t root l top bound c name start old new same n f p = (
-  f.0 ++ p.added,
-  p.appended ∙ ap (λ xs. xs ++ p.added) f.1 ∙ append_assoc start f.0 p.added,
-  subst (λ x. IsForest t top (Some x) (f.0 ++ p.added)) (sym same) (forest_next t root l top bound c f.0 p.added n f.2 p.post_order),
-)
+-- the subtree of one child more
+pub pushed_more : (t : Tree) (root : Key) (l : Lawful t root) (top : Key) (start old new : List Key) (later : List (List ℕ × Key)) (d : List ℕ × Key) → 1 ≤ length later →
+    IsPushedSoFar t top start old later → HasPushed t (get_or later 0 d).1 old new → IsPushedSoFar t top start new (take (length later - 1) (drop 1 later))
+unfolding AreNext
+pushed_more t root l top start old new [] d some f p = absurd (omega (arith, some))
+pushed_more t root l top start old new (entry ∷ later) d some f p =
+    (let n = f.left.0 in record {
+      added = f.added ++ p.added;
+      appended = p.appended ∙ ap (λ xs. xs ++ p.added) f.appended ∙ append_assoc start f.added p.added;
+      bound = Some entry.0;
+      forest = subst (λ x. IsForest t top (Some x) (f.added ++ p.added)) n.2 (forest_next t root l top f.bound n.0 f.added p.added n.1 f.forest (subst (λ k. IsPostOrder t k p.added) (sym n.3) p.post_order));
+      left = subst (AreNext t top (Some entry.0)) (sym (take_rest (entry ∷ later) 1)) f.left.1;
+    })
 
 -- the top at the end
-pub all_pushed : (t : Tree) (root : Key) (l : Lawful t root) (top : Key) (bound : Option (List ℕ)) (start old new : List Key) → IsTrue (is_linked t top) → NoneAbove t top bound →
-    (added : List Key) × (old ≡ start ++ added) × IsForest t top bound added → new ≡ old ++ top ∷ [] → HasPushed t top start new
-all_pushed t root l top bound start old new linked none f pushed =
+pub all_pushed : (t : Tree) (root : Key) (l : Lawful t root) (top : Key) (start old new : List Key) (later : List (List ℕ × Key)) → IsTrue (is_linked t top) → length later < 1 →
+    IsPushedSoFar t top start old later → new ≡ old ++ top ∷ [] → HasPushed t top start new
+unfolding AreNext
+all_pushed t root l top start old new (entry ∷ later) linked none f pushed = absurd (omega (arith, none))
+all_pushed t root l top start old new [] linked none f pushed =
     (let r = linked_here t top linked in record {
-      added = f.0 ++ top ∷ [];
-      appended = pushed ∙ ap (λ xs. xs ++ top ∷ []) f.1 ∙ append_assoc start f.0 (top ∷ []);
-      post_order = subst (λ k. IsForest t k bound f.0 → IsPostOrder t k (f.0 ++ k ∷ [])) r.2
-          (λ g. forest_end t root l r.0 bound f.0 r.1 (λ s i p. none s i (p ∙ ap Some r.2)) g) f.2;
-      last = (f.0, refl);
+      added = f.added ++ top ∷ [];
+      appended = pushed ∙ ap (λ xs. xs ++ top ∷ []) f.appended ∙ append_assoc start f.added (top ∷ []);
+      post_order = subst (λ k. IsForest t k f.bound f.added → IsPostOrder t k (f.added ++ k ∷ [])) r.2
+          (λ g. forest_end t root l r.0 f.bound f.added r.1 (λ s i p. f.left s i (p ∙ ap Some r.2)) g) f.forest;
+      last = (f.added, refl);
     })
 
 pub linked_shallow : (t : Tree) (root : Key) (l : Lawful t root) (top : Key) → IsTrue (is_linked t top) → (n : ℕ) (k : Key) → ancestor t n k ≡ Some top → n < length t

@@ -6,8 +6,6 @@ use Rattle.kf_core.specs.declared.records.Record.{Record}
 use Rattle.kf_core.specs.Tree.{Tree, in_subtree}
 use Rattle.kf_core.specs.Commands.{activated_record}
 use Rattle.kf_core.specs.PostOrder.{IsPostOrder}
-use Rattle.kf_tree.specs.Next.{above}
-use Rattle.kf_tree.specs.Paths.{is_under}
 use Rattle.kf_tree.specs.Ends.{EndsWith}
 
 -- the new list is the old one and then the subtree in post-order, with the top at its end
@@ -16,10 +14,6 @@ pub record HasPushed (t : Tree) (top : Key) (old new : List Key) : Type 0 where
   pub appended : new ≡ old ++ added
   pub post_order : IsPostOrder t top added
   pub last : EndsWith added top
-
--- whether the slot has a child above the bound
-abbrev pub is_left : Key → Option (List ℕ) → Option Record → Bool
-is_left dir bound slot = is_under dir (λ r. above bound r.name) slot
 
 -- whether the slot has the key itself, or a record above it
 abbrev pub is_over_key : Tree → Key → Option Record → Bool

@@ -1,9 +1,9 @@
 //! What is kept of a directory beside its record, so that no look-up walks all records.
 
-ghost use Rattle.std.specs.Prelude.{◌≡◌, ◌+◌, ◌^◌, ◌<◌, replicate, IsTrue, IfOk, IfErr, OnOk, OnErr, IfSome, IfNone, if◌then◌else◌};
+ghost use Rattle.std.specs.Prelude.{◌≡◌, ◌+◌, ◌^◌, ◌<◌, replicate, IsTrue, IfOk, IfErr, OnOk, OnErr, if◌then◌else◌};
 ghost use Rattle.std.specs.Option.{option_copied};
 ghost use Rattle.std.specs.FinMap as map_of;
-ghost use Rattle.kf_index.specs.Entries.{IsLeastAbove, NoneAbove};
+ghost use Rattle.kf_index.specs.Entries.{AreAbove};
 ghost use Rattle.kf_tree.specs.Directories.{empty_directory, with_child, without_child, with_entry, with_record, without_record, HasRoom, MayEnter, MayLeave};
 
 use crate::children::is_directory;
@@ -36,13 +36,11 @@ impl Directory {
         self.index.get(name)
     }
 
-    /// The key of the child with the least name above the bound.
-    pub(crate) fn next_after(&self, bound: Option<&[u8]>) -> Option<(&Name, Key)>
-        ensures found { IfSome result (λ next.
-            IsLeastAbove self.now.index (option_copied bound.entry) next.0.now next.1) }
-        ensures none { IfNone result (NoneAbove self.now.index (option_copied bound.entry)) }
+    /// The names and keys of the children above the bound, in byte order of names.
+    pub(crate) fn above(&self, bound: Option<&[u8]>) -> &[(Name, Key)]
+        ensures listed { AreAbove self.now.index (option_copied bound.entry) result.now }
     {
-        self.index.next_after(bound)
+        self.index.above(bound)
     }
 
     /// The number of child directories.

@@ -24,10 +24,10 @@ fn push_subtree(
     requires shallow { (n : ℕ) (k : Key) → ancestor table.now n k ≡ Some top → n < depth }
     ensures pushed { OnOk result (HasPushed table.now top keys.old.items keys.new.items) }
 {
-    let mut bound: Option<&[u8]> = None;
-    'children: while let Some(child) = table.next_child(top, bound) {
-        push_subtree(table, child.key, depth - 1, keys)?;
-        bound = Some(child.name.bytes());
+    let mut later = table.children_above(top, None);
+    'children: while let [(_, key), rest @ ..] = later {
+        push_subtree(table, *key, depth - 1, keys)?;
+        later = rest;
     }
     keys.push(top)?;
     Ok(())

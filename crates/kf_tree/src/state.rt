@@ -1,6 +1,6 @@
 //! The plain tree with its stored commands.
 
-ghost use Rattle.std.specs.Prelude.{◌≡◌, ◌<◌, IfOk, IfErr, IfSome, IsTrue, slice_get, MatchResult, MatchBool, Option, None, Some, Ok, Err, true, false};
+ghost use Rattle.std.specs.Prelude.{◌≡◌, ◌<◌, map, IfOk, IfErr, IfSome, IsTrue, slice_get, MatchResult, MatchBool, Option, None, Some, Ok, Err, true, false};
 ghost use Rattle.std.specs.Option.{option_copied, option_map, ok_or};
 ghost use Rattle.kf_core.specs.declared.command.Command.TheVariants.{Create, Activate, Doom, Unlink, Rename};
 ghost use Rattle.kf_core.specs.Tree.{record_at, is_linked};
@@ -18,7 +18,7 @@ use crate::causes::{
 };
 use crate::growth::{copy_name, make_room, store};
 use crate::links::link_text;
-use crate::listing::list_names;
+use crate::listing::{copy_names, list_names};
 use crate::marks::{activate_each, count_undoomed, doom_each};
 use crate::paths::{walk, walk_parent};
 use crate::post::post_order;
@@ -280,6 +280,16 @@ impl State {
     pub fn list(&self, dir: Key, after: Option<&[u8]>, limit: usize) -> Result<Vec<Name>, Refusal>
         ensures no_cause { IfOk result (λ _. list_cause self.now.tree dir ≡ None) }
         ensures listed { IfOk result (λ names. IsListing self.now.tree dir (option_copied after.entry) limit names.items) }
+        ensures refused { IfErr result (λ refusal. Refuses (list_cause self.now.tree dir) refusal) }
+    {
+        let names = self.names(dir, after, limit)?;
+        copy_names(self.alloc, &names)
+    }
+
+    /// The names that [`State::list`] copies, as they stand in the tree. Refused as it is.
+    pub fn names(&self, dir: Key, after: Option<&[u8]>, limit: usize) -> Result<Vec<&Name>, Refusal>
+        ensures no_cause { IfOk result (λ _. list_cause self.now.tree dir ≡ None) }
+        ensures listed { IfOk result (λ names. IsListing self.now.tree dir (option_copied after.entry) limit (map (λ n. n.now) names.items)) }
         ensures refused { IfErr result (λ refusal. Refuses (list_cause self.now.tree dir) refusal) }
     {
         check_list(&self.table, dir)?;

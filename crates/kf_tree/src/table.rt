@@ -7,7 +7,7 @@ ghost use Rattle.kf_core.specs.Tree.{record_at, parent_of, is_linked, in_subtree
 ghost use Rattle.kf_core.specs.Lawful.{Lawful};
 ghost use Rattle.kf_core.specs.Commands.{root_alone, doomed_record, moved_record};
 ghost use Rattle.kf_tree.specs.Causes.{has_child, is_there_already};
-ghost use Rattle.kf_tree.specs.Next.{IsNext, NoneAbove};
+ghost use Rattle.kf_tree.specs.Next.{AreNext};
 ghost use Rattle.kf_tree.specs.Paths.{child};
 ghost use Rattle.kf_tree.specs.Stat.{subdirs};
 ghost use Rattle.kf_tree.specs.Subtrees.{with_changed_slot, activated_unless_doomed, is_undoomed};
@@ -18,6 +18,7 @@ use crate::growth::empty_slots;
 use crate::marks::is_undoomed;
 use crate::slots::{activate_slot, doom_slot, move_slot};
 use kf_core::{Key, Marks, NameBytes, Node, Record, Refusal};
+use kf_index::Name;
 use std::alloc::Global;
 use std::marker::Model;
 
@@ -142,15 +143,15 @@ impl Table {
         self.in_slot(key.slot)
     }
 
-    /// The child with the least name above the bound.
-    pub(crate) fn next_child(&self, dir: Key, bound: Option<&[u8]>) -> Option<&Record>
+    /// The names and keys of the children above the bound, or of all where there is no bound, in byte order of names.
+    pub(crate) fn children_above(&self, dir: Key, bound: Option<&[u8]>) -> &[(Name, Key)]
         requires lawful { (root : Key) × Lawful self.now root }
-        ensures next { IfSome result (λ child. IsNext self.now dir (option_copied bound.entry) child.now) }
-        ensures none { IfNone result (NoneAbove self.now dir (option_copied bound.entry)) }
+        ensures listed { AreNext self.now dir (option_copied bound.entry) result.now }
     {
-        self.record(dir)?;
-        let (_, key) = self.directories[dir.slot as usize].next_after(bound)?;
-        self.in_slot(key.slot)
+        match self.record(dir) {
+            Some(_) => self.directories[dir.slot as usize].above(bound),
+            None => &[],
+        }
     }
 
     /// Whether a directory has a linked child.
@@ -158,7 +159,7 @@ impl Table {
         requires lawful { (root : Key) × Lawful self.now root }
         ensures known { result ≡ has_child self.now dir }
     {
-        self.next_child(dir, None).is_some()
+        !self.children_above(dir, None).is_empty()
     }
 
     /// How many child directories a directory has.

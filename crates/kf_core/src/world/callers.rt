@@ -14,7 +14,7 @@ ghost use Rattle.kf_core.specs.Steps.{with_caller, with_phase, BareStep, IsHeld,
 ghost use Rattle.kf_core.specs.Bounded.{Happens, May, PinRefused, bounded, holds};
 
 use super::World;
-use super::search::{lowered, may_be_given};
+use super::search::may_be_given;
 use crate::caller::{Caller, Phase};
 use crate::key::Key;
 use crate::refusal::Refusal;
@@ -36,7 +36,7 @@ impl World {
             phase,
         };
         self.counts[slot] = counts;
-        self.lowest = lowered(self.lowest, caller.key.slot, free);
+        self.hint.note(caller.key.slot, free);
     }
 
     /// Whether the slot of the key has fewer holds than the limit.

@@ -1,11 +1,12 @@
 //! The search for a free slot.
 
-ghost use Rattle.std.specs.Prelude.{ℕ, ◌≡◌, ◌↔◌, ◌<◌, ◌≤◌, ◌^◌, ◌-◌, IfSome, IfNone, IsTrue, None};
+ghost use Rattle.std.specs.Prelude.{ℕ, ◌≡◌, ◌↔◌, ◌<◌, ◌≤◌, ◌^◌, ◌-◌, ◌+◌, ◌*◌, ◌/◌, length, IfSome, IfNone, IsTrue, None};
 ghost use Rattle.kf_core.specs.Safe.{Safe};
 ghost use Rattle.kf_core.specs.Bounded.{IsFree, IsNextKey};
 ghost use Rattle.kf_core.specs.Counts.{NoneFree};
 
 use super::World;
+use super::hint::{BLOCK, block_of};
 use crate::key::Key;
 use crate::slot::SlotState;
 
@@ -14,20 +15,6 @@ pub(super) fn may_be_given(state: SlotState, holds: usize) -> bool
     ensures { IsTrue result ↔ ((state.marks ≡ None) × (state.generation < 2 ^ 32 - 1) × (holds ≡ 0)) }
 {
     state.marks.is_none() && state.generation < u32::MAX && holds == 0
-}
-
-// Where the search may begin after a change of one slot: at that slot where it is free now, the root's left out.
-pub(super) fn lowered(lowest: u32, slot: u32, free: bool) -> u32
-    requires from_one { 1 ≤ lowest }
-    ensures from_one { 1 ≤ result }
-    ensures lower { result ≤ lowest }
-    ensures passed { IsTrue free → 1 ≤ slot → result ≤ slot }
-{
-    if free && 1 <= slot && slot < lowest {
-        slot
-    } else {
-        lowest
-    }
 }
 
 impl World {
@@ -41,6 +28,27 @@ impl World {
         }
     }
 
+    // The lowest free slot of a block, where no slot below the block is free.
+    fn free_in(&self, block: usize) -> Option<u32>
+        requires within { block ≤ length self.now.world.slots / 64 }
+        requires passed { NoneFree self.now.world (64 * block) }
+        ensures free { IfSome result (λ slot. IsFree self.now.world slot) }
+        ensures from_one { IfSome result (λ slot. 1 ≤ slot) }
+        ensures lowest { IfSome result (λ slot. NoneFree self.now.world slot) }
+        ensures none { IfNone result (NoneFree self.now.world (64 * block + 64)) }
+    {
+        if self.hint.full[block] {
+            return None;
+        }
+        let start = block as u32 * BLOCK;
+        for slot in self.hint.lowest.max(start)..start + BLOCK {
+            if self.is_free(slot) {
+                return Some(slot);
+            }
+        }
+        None
+    }
+
     // The lowest free slot, the root's left out.
     pub(super) fn lowest_free(&self) -> Option<u32>
         ensures free { IfSome result (λ slot. IsFree self.now.world slot) }
@@ -49,22 +57,20 @@ impl World {
         ensures none { IfNone result ((slot : ℕ) → 1 ≤ slot → ¬ IsFree self.now.world slot) }
         ensures safe { Safe self.now.world }
     {
-        for slot in self.lowest..self.slots.len() as u32 {
-            if self.is_free(slot) {
+        for block in block_of(self.hint.lowest)..block_of(self.slots.len() as u32) + 1 {
+            if let Some(slot) = self.free_in(block) {
                 return Some(slot);
             }
         }
         None
     }
 
-    // The search may begin at the lowest free slot, and past every slot where none is free.
+    // The search begins at the lowest free slot, and past every slot where none is free.
     pub(super) fn raise_lowest(&mut self)
         ensures { self.new ≡ self.old }
     {
-        match self.lowest_free() {
-            Some(slot) => self.lowest = slot,
-            None => self.lowest = u32::MAX,
-        }
+        let lowest = self.lowest_free().unwrap_or(u32::MAX);
+        self.hint.raise(lowest);
     }
 
     /// The next key of the lowest free slot, the root's left out. None where no slot is free: each has a

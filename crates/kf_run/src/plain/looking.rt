@@ -31,7 +31,7 @@ impl PlainBoard {
     {
         let state = self.nodes.state();
         let dir = state.lookup(path)?;
-        let names = state.list(dir, None, 4096)?;
+        let names = state.names(dir, None, 4096)?;
         reply.set_names(names.as_slice())
     }
 

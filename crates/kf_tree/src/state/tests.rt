@@ -62,15 +62,24 @@ fn move_to(state: &mut State, from: &[u8], dir: &[u8], name: &[u8]) -> Result<()
     state.rename(key, dir, name)
 }
 
+/// Whether both the list and the names that it copies are these.
 fn shows(state: &State, dir: Key, after: Option<&[u8]>, limit: usize, names: &[&[u8]]) -> bool {
-    match state.list(dir, after, limit) {
-        Ok(list) => list.len() == names.len()
-            && list
-                .iter()
-                .zip(names)
-                .all(|(shown, name)| shown.bytes() == *name),
-        Err(_) => false,
-    }
+    let (Ok(list), Ok(lent)) = (
+        state.list(dir, after, limit),
+        state.names(dir, after, limit),
+    ) else {
+        return false;
+    };
+    list.len() == names.len()
+        && lent.len() == names.len()
+        && list
+            .iter()
+            .zip(names)
+            .all(|(shown, name)| shown.bytes() == *name)
+        && lent
+            .iter()
+            .zip(names)
+            .all(|(shown, name)| shown.bytes() == *name)
 }
 
 fn directory(subdirs: u32, links: u32, activated: bool) -> Stat {

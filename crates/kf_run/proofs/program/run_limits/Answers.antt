@@ -1,4 +1,4 @@
-use Rattle.std.proofs.Common.{◌≡◌, ◌∙◌, ap}
+use Rattle.std.proofs.Common.{◌∙◌, ap}
 use Rattle.kf_run.specs.Plain.{new_board}
 use Rattle.kf_run.proofs.ProgramRuns.{ran_on}
 use Rattle.kf_run.proofs.program.run_limits.Goals as goal

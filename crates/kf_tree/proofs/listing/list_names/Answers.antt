@@ -1,25 +1,23 @@
-use Rattle.std.proofs.Common.{arith}
-use Rattle.kf_tree.proofs.PostOrder.{fewer_left}
-use Rattle.kf_tree.proofs.Listed.{child_named, listed_none, listed_next, listing_full, listing_whole}
+use Rattle.std.proofs.Common.{arith, ap}
+use Rattle.std.specs.Prelude.{map}
+use Rattle.std.proofs.lemmas.List.{length-map}
+use Rattle.kf_tree.proofs.Listed.{listed_none, listed_more, listed_up_to, listed_all}
 use Rattle.kf_tree.proofs.listing.list_names.Goals as goal
 
 pub children-init : goal.children-init
-children-init c = listed_none c.args.table.now c.args.dir _ c.args.limit _ c.new-names.ensures.items
-
-pub children-smaller : goal.children-smaller
-children-smaller c = fewer_left c.args.table.now c.args.dir _ c.in-Some.child.now c.bytes.result.now c.bytes.ensures.same
-    c.in-Some.ensures.next
-
-pub children-preserved : goal.children-preserved
-children-preserved c = listed_next c.args.table.now c.requires.lawful.0 c.args.dir c.requires.lawful.1 _ _ c.args.limit c.children.names.items _ c.in-Some.child.now c.bytes.result.now c.bytes.ensures.same
-    c.in-Some.ensures.next
-    (omega (arith, c.children-test.true, c.len.ensures)) c.children.invariant c.in_ok-push_live.ensures.pushed
+children-init c = record {
+  bound = _;
+  so_far = listed_none c.args.table.now c.args.dir _ c.args.limit _ (ap (map (λ n. n.now)) c.new-names.ensures.items);
+  left = c.children_above-later.ensures.listed;
+}
 
 pub returns-in_default-clause-listed : goal.returns-in_default-clause-listed
-returns-in_default-clause-listed c = listing_whole c.args.table.now c.requires.lawful.0 c.args.dir c.requires.lawful.1 _ _ c.args.limit c.children.names.items c.in_default.ensures.none c.children.invariant
+returns-in_default-clause-listed c = listed_all c.args.table.now c.requires.lawful.0 c.args.dir c.requires.lawful.1 _ c.args.limit _ _ c.in_default.len_below c.children.invariant
 
 pub returns-clause-listed : goal.returns-clause-listed
-returns-clause-listed c = listing_full c.args.table.now c.args.dir _ _ c.args.limit c.children.names.items (omega (arith, c.children-test.false, c.len.ensures)) c.children.invariant
+returns-clause-listed c = listed_up_to c.args.table.now c.args.dir _ c.args.limit _ _
+    (let many = length-map c.children.names.items (λ n. n.now) in omega (arith, c.children-test.false, c.len.ensures)) c.children.invariant
 
-pub push_live-requires : goal.push_live-requires
-push_live-requires c = record { lawful_name = child_named c.args.table.now c.requires.lawful.0 c.requires.lawful.1 c.args.dir _ c.in-Some.child.now c.in-Some.ensures.next }
+pub children-preserved : goal.children-preserved
+children-preserved c = listed_more c.args.table.now c.requires.lawful.0 c.args.dir c.requires.lawful.1 _ c.args.limit _ _ _ c.index-later-0.result c.index-later-0-in-children.result c.in-len1-up.len_at_least
+    (let many = length-map c.children.names.items (λ n. n.now) in omega (arith, c.children-test.true, c.len.ensures)) c.children.invariant c.in_ok-push_live.ensures.pushed

@@ -1,6 +1,7 @@
--- No slot that the search has passed is free.
+-- No slot below the block is free.
+use Rattle.std.proofs.Common.{◌*◌}
 use Rattle.kf_core.specs.Counts.{NoneFree}
 use Rattle.kf_core.proofs.world.World.lowest_free.Given as goal
 
-abbrev pub invariant-loop-slot : goal.invariant-loop-slot
-invariant-loop-slot l = NoneFree l.self.world l.slot
+abbrev pub invariant-loop-block : goal.invariant-loop-block
+invariant-loop-block l = NoneFree l.self.world (64 * l.block)

@@ -6,7 +6,7 @@ use Rattle.kf_core.specs.Bare.{IsCaller}
 use Rattle.kf_core.specs.Steps.{BareStep, with_phase}
 use Rattle.kf_core.specs.Bounded.{BoundedWorld}
 use Rattle.kf_core.specs.Counts.{tally}
-use Rattle.kf_core.proofs.Kept.{slot_within, counts_there, own_share, few_counts, phase_kept}
+use Rattle.kf_core.proofs.Kept.{slot_within, block_within, counts_there, own_share, few_counts, phase_kept}
 use Rattle.kf_core.proofs.world.World.put_phase.Goals as goal
 
 pub without-requires-clause-holds : goal.without-requires-clause-holds
@@ -48,6 +48,11 @@ index_mut-requires-2 c =
     let was = subst (λ (b : BoundedWorld). IsCaller b.world c.args.id c.args.caller.key c.args.caller.phase) (sym c.self.view_is) c.requires.there in
     omega (arith, slot_within _ _ _ _ _ _ c.self.invariant was c.requires.holds, c.self.invariant.as_long, c.self.inside.counts.ok.0)
 
+pub note-requires : goal.note-requires
+note-requires c =
+    let was = subst (λ (b : BoundedWorld). IsCaller b.world c.args.id c.args.caller.key c.args.caller.phase) (sym c.self.view_is) c.requires.there in
+    record { within = block_within _ _ _ c.args.caller.key.slot c.self.invariant (slot_within _ _ _ _ _ _ c.self.invariant was c.requires.holds) }
+
 pub invariant_of-self : goal.invariant_of-self
 invariant_of-self c =
     let was = subst (λ (b : BoundedWorld). IsCaller b.world c.args.id c.args.caller.key c.args.caller.phase) (sym c.self.view_is) c.requires.there in
@@ -57,6 +62,6 @@ invariant_of-self c =
     let state = slice_get_read c.self.inside.slots.items (length c.self.inside.slots.items) c.args.caller.key.slot c.index-2.result.now refl within c.index-2.ensures in
     let h : c.with-counts.result.holds + tally (not (is_spent c.args.caller.phase)) ≡ c.index.result.now.holds + tally (not (is_spent c.args.phase)) = omega (arith, c.with-counts.ensures.holds, c.without.ensures.holds) in
     let r : c.with-counts.result.references + tally (has_reference c.args.caller.phase) ≡ c.index.result.now.references + tally (has_reference c.args.phase) = omega (arith, c.with-counts.ensures.references, c.without.ensures.references) in
-    phase_kept _ c.args.id c.args.caller.key c.args.caller.phase c.args.phase _ c.index.result.now c.with-counts.result c.index-2.result.now c.self.inside.lowest c.lowered-self-inside.result
-    c.self.invariant c.requires.step.0 step was is state h r c.lowered-self-inside.ensures.from_one c.lowered-self-inside.ensures.lower
-    (λ free one. c.lowered-self-inside.ensures.passed (c.may_be_given-free.ensures.1 free) one)
+    phase_kept _ c.args.id c.args.caller.key c.args.caller.phase c.args.phase _ c.index.result.now c.with-counts.result c.index-2.result.now c.self.inside.hint _
+    c.self.invariant c.requires.step.0 step was is state h r (record { skips = c.note.ensures.skips; as_many = c.note.ensures.as_many })
+    (λ free one. c.note.ensures.looks (c.may_be_given-free.ensures.1 free) one)

@@ -1,4 +1,4 @@
-use Rattle.std.proofs.Common.{◌≡◌, true, false, Some, refl, ap, ◌∙◌, rules, inl, inr}
+use Rattle.std.proofs.Common.{true, false, Some, refl, ap, ◌∙◌, rules, inl, inr}
 use Rattle.kf_run.specs.ReplyText.{refusal_text}
 use Rattle.kf_run.proofs.plain.PlainBoard.answer_make_directory.Goals as goal
 
