@@ -9,13 +9,13 @@ use Rattle.kf_core.specs.declared.slot.Marks.{Marks}
 use Rattle.kf_core.specs.declared.slot.SlotState.{SlotState}
 use Rattle.kf_core.specs.declared.records.Record.{Record}
 use Rattle.kf_core.specs.declared.event.Event.{Event}
-use Rattle.kf_core.specs.declared.event.Event.TheVariants.{Born, Rise, Mark, Move, Pin, Enter, Leave, Break, Restore, Look, Unlink, Part, Release, Undo}
+use Rattle.kf_core.specs.declared.event.Event.TheVariants.{Born, Rise, Mark, Move, Pin, Enter, Leave, Break, Restore, Look, Unlink, Part, Hide, LookHidden, Show, Release, Undo}
 use Rattle.kf_core.specs.Keys.{same_key as is_same_key}
 use Rattle.kf_core.specs.Agrees.{Agrees}
 use Rattle.kf_core.specs.Bare.{BareWorld, marks, marks_in}
 use Rattle.kf_core.specs.Marks.{fresh_marks, live_marks}
 use Rattle.kf_core.specs.Tree.{Tree, is_linked, with_key}
-use Rattle.kf_core.specs.Commands.{change, activated_record, doomed_record, moved_record, new_record}
+use Rattle.kf_core.specs.Commands.{change, activated_record, doomed_record, hidden_record, moved_record, new_record}
 use Rattle.kf_core.specs.Steps.{with_marks}
 use Rattle.kf_core.specs.Worlds.{World, Slot, bare_slot, bare, tree, opening, Step, Run}
 use Rattle.kf_core.proofs.Lists.{after_set, after_write}
@@ -98,6 +98,9 @@ step_keyed w (Unlink c) w' s k =
     let m = linked_marks (marks (bare w) s.bare_step.0) s.bare_step.2 in
     shown_keyed w' _ _ s.bare_step.3 s.tree_step.4 (taken_keyed _ (tree w) s.tree_step.0 (is_linked (tree w) s.tree_step.0) (marks_keyed (bare w) (tree w) s.bare_step.0 m.0 None m.1 k))
 step_keyed w (Part c) w' s k = shown_keyed w' _ _ s.bare_step.1 s.tree_step k
+step_keyed w (Hide c) w' s k = shown_keyed w' _ _ s.bare_step.1 s.tree_step.3 (change_keyed _ (tree w) _ (hidden_record true) (λ _. refl) k)
+step_keyed w (LookHidden c) w' s k = shown_keyed w' _ _ s.bare_step.1 s.tree_step k
+step_keyed w (Show c) w' s k = shown_keyed w' _ _ s.bare_step.2 s.tree_step.3 (change_keyed _ (tree w) _ (hidden_record false) (λ _. refl) k)
 step_keyed w (Release c) w' s k = shown_keyed w' _ _ s.bare_step.4 s.tree_step k
 step_keyed w (Undo c) w' s k = shown_keyed w' _ _ s.bare_step s.tree_step k
 
@@ -105,7 +108,7 @@ run_keyed : (events : List Event) (w w' : World) → Run w events w' → Keyed w
 run_keyed [] w w' r k = subst Keyed (sym r) k
 run_keyed (e ∷ es) w w' r k = run_keyed es r.0 w' r.2 (step_keyed w e r.0 r.1 k)
 
-no_record : (n start slot : ℕ) (r : Record) → slice_get (map (λ (s : Slot). s.linked) (replicate n (record { last = start; linked = None }))) slot ≡ Some (Some r) → ⊥
+pub no_record : (n start slot : ℕ) (r : Record) → slice_get (map (λ (s : Slot). s.linked) (replicate n (record { last = start; linked = None }))) slot ≡ Some (Some r) → ⊥
 no_record zero start slot r h = none-some _ h
 no_record (suc n) start zero r h = none-some r (same_Some _ _ h)
 no_record (suc n) start (suc slot) r h = no_record n start slot r h

@@ -5,25 +5,13 @@ use Rattle.std.specs.Option.{option_and_then}
 use Rattle.std.proofs.lemmas.Option.{same_Some, none-some, cond_some}
 use Rattle.std.proofs.lemmas.List.Sums.{count_by-le-length}
 use Rattle.std.proofs.lemmas.List.Recursion.{is_count_by}
-use Rattle.std.proofs.lemmas.Bool.{eq-eqb, eqb-true}
 use Rattle.std.proofs.lemmas.Bool.Decides.{eqb_tells}
 use Rattle.kf_core.specs.declared.key.Key.{Key}
 use Rattle.kf_core.specs.declared.records.Record.{Record}
 use Rattle.kf_core.specs.Keys.{same_key}
 use Rattle.kf_core.specs.Tree.{Tree, with_key, record_at, parent_of, ancestor, meets, in_subtree, IsIn}
 use Rattle.kf_core.proofs.Lists.{slice_get-set_same, slice_get-set_other}
-
-pub same_key-refl : (k : Key) → same_key k k ≡ true
-same_key-refl k = ap (λ b. b && nat_eq k.generation k.generation) (eq-eqb k.slot k.slot refl) ∙ eq-eqb k.generation k.generation refl
-
-and_both : (a b : Bool) → (a && b) ≡ true → (a ≡ true) × (b ≡ true)
-and_both true b h = (refl, h)
-and_both false b h = cc
-
-pub same_key-same : (a b : Key) → same_key a b ≡ true → a ≡ b
-same_key-same a b h =
-    let p : (nat_eq a.slot b.slot ≡ true) × (nat_eq a.generation b.generation ≡ true) = and_both _ _ h in
-    ap (λ (x : ℕ). record { slot = x; generation = a.generation }) (eqb-true a.slot b.slot p.0) ∙ ap (λ (x : ℕ). record { slot = b.slot; generation = x }) (eqb-true a.generation b.generation p.1)
+use Rattle.kf_core.proofs.Climbs.{same_key_is, meets_to, meets_from}
 
 -- what a chain of options found
 pub chained : {A B : Type 0} (f : A → Option B) (o : Option A) (y : B) → option_and_then f o ≡ Some y → (x : A) × (o ≡ Some x) × (f x ≡ Some y)
@@ -34,7 +22,7 @@ has_key : (key : Key) (o : Option Record) (r : Record) → with_key key o ≡ So
 has_key key None r h = absurd (none-some r h)
 has_key key (Some s) r h =
     let p : (same_key s.key key ≡ true) × (s ≡ r) = cond_some (same_key s.key key) s r h in
-    (ap (λ (x : Record). Some x) p.1, subst (λ (x : Record). x.key ≡ key) p.1 (same_key-same s.key key p.0))
+    (ap (λ (x : Record). Some x) p.1, subst (λ (x : Record). x.key ≡ key) p.1 (same_key_is s.key key p.0))
 
 -- what is found is there, under its key
 pub found_in : (t : Tree) (key : Key) (r : Record) → record_at t key ≡ Some r → IsIn t r × (r.key ≡ key)
@@ -153,44 +141,15 @@ shorten (suc bound) (suc n) t key top le h =
       | inr g ↦ (let l : g.0 ≤ n = g.1 in shorten bound g.0 t key top (omega arith) g.2)
     ]
 
-either_true : (b c : Bool) → c ≡ true → cond b true c ≡ true
-either_true true c h = refl
-either_true false c h = h
-
--- following parents meets what is met after so many steps
-pub meets_from : (t : Tree) (top : Key) (bound n : ℕ) (k : Key) → n ≤ bound → ancestor t n k ≡ Some top → meets (parent_of t) bound top (Some k) ≡ true
-meets_from t top zero zero k le h = ap (λ x. same_key x top) (same_Some k top h) ∙ same_key-refl top
-meets_from t top (suc bound) zero k le h = ap (λ b. cond b true (meets (parent_of t) bound top (parent_of t k))) (ap (λ x. same_key x top) (same_Some k top h) ∙ same_key-refl top)
-meets_from t top zero (suc n) k le h = absurd (omega arith)
-meets_from t top (suc bound) (suc n) k le h =
-    let c : (p : Key) × (parent_of t k ≡ Some p) × (ancestor t n p ≡ Some top) = chained (ancestor t n) (parent_of t k) top h in
-    either_true (same_key k top) (meets (parent_of t) bound top (parent_of t k)) (ap (meets (parent_of t) bound top) c.1 ∙ meets_from t top bound n c.0 (omega arith) c.2)
-
-true_either : (b c : Bool) → cond b true c ≡ true → (b ≡ true) ⊎ (c ≡ true)
-true_either true c h = inl refl
-true_either false c h = inr h
-
-pub meets_to : (t : Tree) (top : Key) (bound : ℕ) (o : Option Key) → meets (parent_of t) bound top o ≡ true → (k : Key) × (o ≡ Some k) × ((n : ℕ) × (ancestor t n k ≡ Some top))
-meets_to t top zero None h = absurd (let x : false ≡ true = h in cc)
-meets_to t top (suc bound) None h = absurd (let x : false ≡ true = h in cc)
-meets_to t top zero (Some k) h = (k, refl, (0, ap (λ (x : Key). Some x) (same_key-same k top h)))
-meets_to t top (suc bound) (Some k) h = elim (true_either (same_key k top) (meets (parent_of t) bound top (parent_of t k)) h) [
-  | inl e ↦ (k, refl, (0, ap (λ (x : Key). Some x) (same_key-same k top e)))
-  | inr e ↦ (let r : (p : Key) × (parent_of t k ≡ Some p) × ((n : ℕ) × (ancestor t n p ≡ Some top)) = meets_to t top bound (parent_of t k) e in
-      (k, refl, (suc r.2.0, ancestor_more t r.2.0 k r.0 top r.1 r.2.1)))
-]
-
 in_subtree_from : (t : Tree) (top k : Key) (n : ℕ) → ancestor t n k ≡ Some top → in_subtree t top k ≡ true
 in_subtree_from t top k n h =
     let s : (m : ℕ) × (m ≤ count_by is_some t) × (ancestor t m k ≡ Some top) = shorten n n t k top (omega arith) h in
     let few : count_by is_some t ≤ length t = count_by-le-length is_some t in
     let le : s.0 ≤ count_by is_some t = s.1 in
-    meets_from t top (length t) s.0 k (omega arith) s.2
+    meets_from (parent_of t) (length t) s.0 top k (omega arith) s.2
 
 in_subtree_to : (t : Tree) (top k : Key) → in_subtree t top k ≡ true → (n : ℕ) × (ancestor t n k ≡ Some top)
-in_subtree_to t top k h =
-    let r : (x : Key) × (Some k ≡ Some x) × ((n : ℕ) × (ancestor t n x ≡ Some top)) = meets_to t top (length t) (Some k) h in
-    (r.2.0, subst (λ x. ancestor t r.2.0 x ≡ Some top) (sym (same_Some k r.0 r.1)) r.2.1)
+in_subtree_to t top k h = (let r = meets_to (parent_of t) (length t) top k h in (r.0, r.2))
 
 -- a key is in the subtree exactly where some number of steps from it leads to the top
 pub in_subtree_is_below : (t : Tree) (top key : Key) → IsTrue (in_subtree t top key) ↔ ((n : ℕ) × (ancestor t n key ≡ Some top))

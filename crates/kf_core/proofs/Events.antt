@@ -5,12 +5,12 @@ use Rattle.std.specs.Option.{option_map}
 use Rattle.std.proofs.lemmas.Option.{same_Some, none-some, get_or_from_slice_get, slice_get_read, slice_get_within}
 use Rattle.kf_core.specs.declared.key.Key.{Key}
 use Rattle.kf_core.specs.declared.caller.Phase.{Phase}
-use Rattle.kf_core.specs.declared.caller.Phase.TheVariants.{Still, Turned, Running, Broken, Restored, Drained, Spent}
+use Rattle.kf_core.specs.declared.caller.Phase.TheVariants.{Still, Turned, Running, Broken, Restored, Drained, Hidden, Spent}
 use Rattle.kf_core.specs.declared.caller.Caller.{Caller}
 use Rattle.kf_core.specs.declared.slot.Marks.{Marks}
 use Rattle.kf_core.specs.declared.slot.SlotState.{SlotState}
 use Rattle.kf_core.specs.declared.event.Event.{Event}
-use Rattle.kf_core.specs.declared.event.Event.TheVariants.{Mark, Enter, Leave, Break, Restore, Unlink, Release}
+use Rattle.kf_core.specs.declared.event.Event.TheVariants.{Mark, Enter, Leave, Break, Restore, Unlink, Show, Release}
 use Rattle.kf_core.specs.Bare.{BareWorld, IsCaller, IsLast, marks, marks_in, is_live, is_linked}
 use Rattle.kf_core.specs.Marks.{fresh_marks}
 use Rattle.kf_core.specs.Phases.{has_reference, is_waiting, may_release}
@@ -52,6 +52,9 @@ module _ (w w' : BareWorld) (c : ℕ) (key : Key) (phase : Phase) (there : IsCal
 
   pub restore_step : BareStep w (Restore c) w' → BareStep w (Restore c) (with_phase w c key Restored)
   restore_step s = let e = one_key w c s.0 key Broken phase s.1 there in (key, subst (λ k. IsCaller w c k Broken) e.0 s.1, refl)
+
+  pub show_step : BareStep w (Show c) w' → BareStep w (Show c) (with_phase w c key Still)
+  show_step s = let e = one_key w c s.0 key Hidden phase s.1 there in (key, subst (λ k. IsCaller w c k Hidden) e.0 s.1, refl)
 
   pub unlink_step : BareStep w (Unlink c) w' → BareStep w (Unlink c) (with_marks w key None)
   unlink_step s = let e = one_key w c s.0 key Drained phase s.1 there in (key, subst (λ k. IsCaller w c k Drained) e.0 s.1, subst (λ k. is_linked w k ≡ true) e.0 s.2, refl)

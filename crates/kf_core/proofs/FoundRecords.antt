@@ -10,7 +10,7 @@ use Rattle.kf_core.specs.declared.records.Record.{Record}
 use Rattle.kf_core.specs.Tree.{Tree, with_key, record_at, parent_of, climb, ancestor, in_subtree, IsIn}
 use Rattle.kf_core.specs.Lawful.{root_record, Lawful}
 use Rattle.kf_core.proofs.Climbs.{keys_tell, same_key_self, first_step, after_step, climb_rest, climb_cut, climb_same, no_return, meets_to, meets_from}
-use Rattle.kf_core.proofs.TreeLists.{slice_get-set_same, slice_get-set_other, count_cleared, count_some}
+use Rattle.kf_core.proofs.Lists.{slice_get-set_same, slice_get-set_other, count_cleared, count_some}
 
 pub in_found : (t : Tree) (r : Record) → IsIn t r → record_at t r.key ≡ Some r
 in_found t r h = rw h (rw (same_key_self r.key) refl)

@@ -5,19 +5,20 @@ use Rattle.std.proofs.lemmas.Option.{same_Some, slice_get_within}
 use Rattle.std.proofs.lemmas.Bool.Decides.{eqb_tells}
 use Rattle.kf_core.specs.declared.key.Key.{Key}
 use Rattle.kf_core.specs.declared.caller.Phase.{Phase}
-use Rattle.kf_core.specs.declared.caller.Phase.TheVariants.{Still, Turned, Running, Drained, Parted, Spent}
+use Rattle.kf_core.specs.declared.caller.Phase.TheVariants.{Still, Turned, Running, Drained, Parted, Hiding, Hidden, Spent}
 use Rattle.kf_core.specs.declared.caller.Caller.{Caller}
 use Rattle.kf_core.specs.declared.slot.Marks.{Marks}
 use Rattle.kf_core.specs.declared.slot.SlotState.{SlotState}
 use Rattle.kf_core.specs.declared.event.Event.{Event}
-use Rattle.kf_core.specs.declared.event.Event.TheVariants.{Born, Rise, Mark, Move, Pin, Enter, Leave, Break, Restore, Look, Unlink, Part, Release, Undo}
-use Rattle.kf_core.specs.Bare.{BareWorld, marks_in, marks, is_linked, is_live, is_doomed, IsCaller, IsLast}
+use Rattle.kf_core.specs.declared.event.Event.TheVariants.{Born, Rise, Mark, Move, Pin, Enter, Leave, Break, Restore, Look, Unlink, Part, Hide, LookHidden, Show, Release, Undo}
+use Rattle.kf_core.specs.Bare.{BareWorld, marks_in, marks, is_linked, is_live, is_doomed, is_hidden, IsCaller, IsLast}
 use Rattle.kf_core.specs.Marks.{fresh_marks, live_marks, are_doomed}
-use Rattle.kf_core.specs.Phases.{saw_drain, is_waiting, has_reference, may_release}
+use Rattle.kf_core.specs.Phases.{saw_drain, saw_unused, is_waiting, has_reference, is_hiding, may_release}
 use Rattle.kf_core.specs.Safe.{Safe, NoneRunning}
 use Rattle.kf_core.specs.Steps.{with_phase, with_marks, with_caller, BareStep, NoReference, MayBeBorn, IsHeld}
 use Rattle.kf_core.proofs.Lists.{slice_get-set_same, slice_get-set_other, after_set, after_push}
 use Rattle.kf_core.proofs.SlotStates.{live_or_doomed, live_linked, doomed_if_gone, in_place, shown}
+use Rattle.kf_core.proofs.Hiding.{OneHides, hider_hidden, live_has_marks, live_is_shown, drain_unused, unused_why, hiding_holds, not_both, one_after_set, one_after_push}
 
 abbrev pub caller : Key → Phase → Caller
 caller key phase = record { key = key; phase = phase }
@@ -42,32 +43,41 @@ each_new cs cs' key phase new R r old c k p h = elim (new c (record { key = k; p
   | inr e ↦ old c k p e
 ]
 
-pub running_not_past : (p : Phase) → p ≡ Running → saw_drain p ≡ true → ⊥
-running_not_past p e h = let x : saw_drain Running ≡ true = subst (λ q. saw_drain q ≡ true) e h in cc
+pub running_not_past : (p : Phase) → p ≡ Running → saw_unused p ≡ true → ⊥
+running_not_past p e h = let x : saw_unused Running ≡ true = subst (λ q. saw_unused q ≡ true) e h in cc
+
+-- a node is not live where somebody saw that it is not used
+pub live_not_past : (w : BareWorld) (c : ℕ) (key : Key) (p : Phase) → Safe w → IsCaller w c key p → saw_unused p ≡ true → is_live w key ≡ true → ⊥
+live_not_past w c key p safe there past live = elim (unused_why p past) [
+  | inl drained ↦ live_or_doomed (marks w key) (live_has_marks w key live) (safe.drain_doomed c key p there drained)
+  | inr hiding ↦ not_both (is_hidden w key) (hider_hidden w c key p there hiding) (live_is_shown w key live)
+]
 
 module _ (w : BareWorld) (cs : List Caller) (key : Key) (phase : Phase)
     (safe : Safe w) (new : OneNew w.callers key phase cs)
     (runs : phase ≡ Running → IsTrue (is_live w key))
     (doomed : IsTrue (saw_drain phase) → IsTrue (is_doomed w key))
-    (alone : IsTrue (saw_drain phase) → NoneRunning w key)
+    (alone : IsTrue (saw_unused phase) → NoneRunning w key)
     (gone : phase ≡ Parted → IsFalse (is_linked w key))
-    (held : phase ≢ Spent → IsLast w key.slot key.generation) where
+    (held : phase ≢ Spent → IsLast w key.slot key.generation)
+    (one : OneHides cs) where
   -- one caller moves or comes, and is where the rule lets it be
   pub caller_keeps : Safe (record { slots = w.slots; callers = cs })
   caller_keeps = record {
     none_running = λ c k p h past d run.
-        each_new w.callers cs key phase new (λ k p. IsTrue (saw_drain p) → Each cs (λ k' p'. k' ≡ k → p' ≡ Running → ⊥))
+        each_new w.callers cs key phase new (λ k p. IsTrue (saw_unused p) → Each cs (λ k' p'. k' ≡ k → p' ≡ Running → ⊥))
         (λ past. each_new w.callers cs key phase new (λ k' p'. k' ≡ key → p' ≡ Running → ⊥)
         (λ _ e. running_not_past phase e past)
         (λ d k' p' h' ek ep. alone past d (subst (λ x. IsCaller w d x Running) ek (subst (λ x. IsCaller w d k' x) ep h'))))
         (λ c k p h past. each_new w.callers cs key phase new (λ k' p'. k' ≡ k → p' ≡ Running → ⊥)
-        (λ ek ep. live_or_doomed (marks w k) (subst (λ x. is_live w x ≡ true) ek (runs ep)) (safe.drain_doomed c k p h past))
+        (λ ek ep. live_not_past w c k p safe h past (subst (λ x. is_live w x ≡ true) ek (runs ep)))
         (λ d k' p' h' ek ep. safe.none_running c k p h past d (subst (λ x. IsCaller w d x Running) ek (subst (λ x. IsCaller w d k' x) ep h'))))
         c k p h past d k Running run refl refl;
     drain_doomed = each_new w.callers cs key phase new (λ k p. IsTrue (saw_drain p) → IsTrue (is_doomed w k)) doomed safe.drain_doomed;
     parted_gone = λ c k h. each_new w.callers cs key phase new (λ k p. p ≡ Parted → IsFalse (is_linked w k)) gone (λ c k p h e. safe.parted_gone c k (subst (λ x. IsCaller w c k x) e h)) c k Parted h refl;
     held_last = each_new w.callers cs key phase new (λ k p. p ≢ Spent → IsLast w k.slot k.generation) held safe.held_last;
-    running_linked = λ c k h. each_new w.callers cs key phase new (λ k p. p ≡ Running → IsTrue (is_linked w k)) (λ e. live_linked (marks w key) (runs e)) (λ c k p h e. safe.running_linked c k (subst (λ x. IsCaller w c k x) e h)) c k Running h refl;
+    one_hides = one;
+    running_linked = λ c k h. each_new w.callers cs key phase new (λ k p. p ≡ Running → IsTrue (is_linked w k)) (λ e. live_linked (marks w key) (live_has_marks w key (runs e))) (λ c k p h e. safe.running_linked c k (subst (λ x. IsCaller w c k x) e h)) c k Running h refl;
   }
 
 -- what a change of places leaves of the key of a caller
@@ -87,6 +97,7 @@ slots_keep w ps safe keeps = record {
   parted_gone = λ c k h. (keeps c k Parted h (λ e. cc)).gone (safe.parted_gone c k h);
   held_last = λ c k p h holds. (keeps c k p h holds).last (safe.held_last c k p h holds);
   running_linked = λ c k h. (keeps c k Running h (λ e. cc)).linked refl (safe.running_linked c k h);
+  one_hides = safe.one_hides;
 }
 
 pub same_key : (a b : Key) → a.slot ≡ b.slot → a.generation ≡ b.generation → a ≡ b
@@ -158,29 +169,35 @@ entered_runs : (b : Bool) → cond b Running Turned ≡ Running → b ≡ true
 entered_runs true e = refl
 entered_runs false e = cc
 
-entered_not_past : (b : Bool) → saw_drain (cond b Running Turned) ≡ true → ⊥
+entered_not_past : (b : Bool) → saw_unused (cond b Running Turned) ≡ true → ⊥
 entered_not_past true e = cc
 entered_not_past false e = cc
 
--- a caller goes to a phase in which it isn't running and hasn't seen the drain
-plainly : (w : BareWorld) (c : ℕ) (key : Key) (from to : Phase) → Safe w → IsCaller w c key from → from ≢ Spent → (to ≡ Running → ⊥) → saw_drain to ≡ false → Safe (with_phase w c key to)
-plainly w c key from to safe was held not_running not_past = caller_keeps w (with_phase w c key to).callers key to safe
+entered_not_hiding : (b : Bool) → is_hiding (cond b Running Turned) ≡ true → ⊥
+entered_not_hiding true e = cc
+entered_not_hiding false e = cc
+
+-- a caller goes to a phase in which it isn't running and hasn't seen that nobody is
+plainly : (w : BareWorld) (c : ℕ) (key : Key) (from to : Phase) → Safe w → IsCaller w c key from → from ≢ Spent → (to ≡ Running → ⊥) → saw_unused to ≡ false → (is_hiding to ≡ true → (is_hiding from ≡ true) ⊎ (is_hidden w key ≡ false)) → Safe (with_phase w c key to)
+plainly w c key from to safe was held not_running not_past hiding = caller_keeps w (with_phase w c key to).callers key to safe
     (λ d y h. after_set w.callers c d (caller key to) y h)
     (λ e. absurd (not_running e))
+    (λ past. absurd (let x : true ≡ false = sym (drain_unused to past) ∙ not_past in cc))
     (λ past. absurd (let x : true ≡ false = sym past ∙ not_past in cc))
-    (λ past. absurd (let x : true ≡ false = sym past ∙ not_past in cc))
-    (λ e. absurd (let x : saw_drain Parted ≡ false = subst (λ q. saw_drain q ≡ false) e not_past in cc))
+    (λ e. absurd (let x : saw_unused Parted ≡ false = subst (λ q. saw_unused q ≡ false) e not_past in cc))
     (λ _. safe.held_last c key from was held)
+    (one_after_set w c key from to safe.one_hides was hiding)
 
 -- a caller goes on to see the drain, or that the node is gone
-past_now : (w : BareWorld) (c : ℕ) (key : Key) (from to : Phase) → Safe w → IsCaller w c key from → from ≢ Spent → (to ≡ Running → ⊥) → IsTrue (is_doomed w key) → NoneRunning w key → (to ≡ Parted → IsFalse (is_linked w key)) → Safe (with_phase w c key to)
-past_now w c key from to safe was held not_running doomed alone gone = caller_keeps w (with_phase w c key to).callers key to safe
+past_now : (w : BareWorld) (c : ℕ) (key : Key) (from to : Phase) → Safe w → IsCaller w c key from → from ≢ Spent → (to ≡ Running → ⊥) → (IsTrue (saw_drain to) → IsTrue (is_doomed w key)) → NoneRunning w key → (to ≡ Parted → IsFalse (is_linked w key)) → (is_hiding to ≡ true → (is_hiding from ≡ true) ⊎ (is_hidden w key ≡ false)) → Safe (with_phase w c key to)
+past_now w c key from to safe was held not_running doomed alone gone hiding = caller_keeps w (with_phase w c key to).callers key to safe
     (λ d y h. after_set w.callers c d (caller key to) y h)
     (λ e. absurd (not_running e))
-    (λ _. doomed)
+    doomed
     (λ _. alone)
     gone
     (λ _. safe.held_last c key from was held)
+    (one_after_set w c key from to safe.one_hides was hiding)
 
 -- nobody has a reference, so nobody is running
 pub none_running : (w : BareWorld) (key : Key) → NoReference w key → NoneRunning w key
@@ -191,10 +208,11 @@ entered : (w : BareWorld) (c : ℕ) (key : Key) (from : Phase) (given : Bool) �
 entered w c key from given live safe was held = caller_keeps w (with_phase w c key (cond given Running Turned)).callers key (cond given Running Turned) safe
     (λ d y h. after_set w.callers c d (caller key (cond given Running Turned)) y h)
     (λ e. live (entered_runs given e))
+    (λ past. absurd (entered_not_past given (drain_unused (cond given Running Turned) past)))
     (λ past. absurd (entered_not_past given past))
-    (λ past. absurd (entered_not_past given past))
-    (λ e. absurd (entered_not_past given (subst (λ q. saw_drain q ≡ true) (sym e) refl)))
+    (λ e. absurd (entered_not_past given (subst (λ q. saw_unused q ≡ true) (sym e) refl)))
     (λ _. safe.held_last c key from was held)
+    (one_after_set w c key from (cond given Running Turned) safe.one_hides was (λ e. absurd (entered_not_hiding given e)))
 
 -- a linked node is in its slot, with its generation
 pub linked_last : (w : BareWorld) (key : Key) → (m : Option Marks) → marks w key ≡ m → is_some m ≡ true → IsLast w key.slot key.generation
@@ -206,9 +224,10 @@ pin_keeps w key safe may = caller_keeps w (with_caller w key).callers key Still 
     (λ d y h. after_push w.callers d (caller key Still) y h)
     (λ e. absurd (let x : Still ≡ Running = e in cc))
     (λ e. absurd (let x : saw_drain Still ≡ true = e in cc))
-    (λ e. absurd (let x : saw_drain Still ≡ true = e in cc))
+    (λ e. absurd (let x : saw_unused Still ≡ true = e in cc))
     (λ e. absurd (let x : Still ≡ Parted = e in cc))
     (λ _. elim may [ inl linked ↦ linked_last w key (marks w key) refl linked | inr h ↦ safe.held_last h.caller key h.phase h.there h.holds ])
+    (one_after_push w.callers (caller key Still) refl safe.one_hides)
 
 idle_holds : (p : Phase) → may_release p ≡ true → p ≢ Spent
 idle_holds p h e = let x : may_release Spent ≡ true = subst (λ q. may_release q ≡ true) e h in cc
@@ -226,13 +245,16 @@ step_keeps w (Mark key) w' safe s = subst Safe (sym s.3) (marks_keep w key s.0 (
 step_keeps w (Move key dir name) w' safe s = subst Safe (sym s) safe
 step_keeps w (Pin c key) w' safe s = subst Safe (sym s.2) (pin_keeps w key safe s.1)
 step_keeps w (Enter c) w' safe s = subst Safe (sym s.4) (entered w c s.0 s.1 _ (λ live. live) safe s.2 (waiting_holds s.1 s.3))
-step_keeps w (Leave c) w' safe s = subst Safe (sym s.4) (plainly w c s.0 s.1 Still safe s.2 (counted_holds s.1 s.3) (λ e. cc) refl)
-step_keeps w (Break c) w' safe s = subst Safe (sym s.2) (plainly w c s.0 _ _ safe s.1 (λ e. cc) (λ e. cc) refl)
-step_keeps w (Restore c) w' safe s = subst Safe (sym s.2) (plainly w c s.0 _ _ safe s.1 (λ e. cc) (λ e. cc) refl)
-step_keeps w (Look c) w' safe s = subst Safe (sym s.1) (past_now w c s.0.key s.0.phase Drained safe s.0.there (waiting_holds s.0.phase s.0.waits) (λ e. cc) s.0.doomed (none_running w s.0.key s.0.unused) (λ e. absurd (let x : Drained ≡ Parted = e in cc)))
+step_keeps w (Leave c) w' safe s = subst Safe (sym s.4) (plainly w c s.0 s.1 Still safe s.2 (counted_holds s.1 s.3) (λ e. cc) refl (λ e. cc))
+step_keeps w (Break c) w' safe s = subst Safe (sym s.2) (plainly w c s.0 _ _ safe s.1 (λ e. cc) (λ e. cc) refl (λ e. cc))
+step_keeps w (Restore c) w' safe s = subst Safe (sym s.2) (plainly w c s.0 _ _ safe s.1 (λ e. cc) (λ e. cc) refl (λ e. cc))
+step_keeps w (Look c) w' safe s = subst Safe (sym s.1) (past_now w c s.0.key s.0.phase Drained safe s.0.there (waiting_holds s.0.phase s.0.waits) (λ e. cc) (λ _. s.0.doomed) (none_running w s.0.key s.0.unused) (λ e. absurd (let x : Drained ≡ Parted = e in cc)) (λ e. cc))
 step_keeps w (Unlink c) w' safe s =
     let m : (m : Marks) × (marks w s.0 ≡ Some m) = linked_marks (marks w s.0) s.2 in
     subst Safe (sym s.3) (marks_keep w s.0 m.0 None safe m.1 (λ _. refl) (inl (safe.none_running c s.0 _ s.1 refl)))
-step_keeps w (Part c) w' safe s = subst Safe (sym s.1) (past_now w c s.0.key _ _ safe s.0.there (λ e. cc) (λ e. cc) (doomed_if_gone (marks w s.0.key) s.0.gone) (safe.none_running c s.0.key _ s.0.there refl) (λ _. s.0.gone))
-step_keeps w (Release c) w' safe s = subst Safe (sym s.4) (plainly w c s.0 s.1 Spent safe s.2 (idle_holds s.1 s.3) (λ e. cc) refl)
+step_keeps w (Part c) w' safe s = subst Safe (sym s.1) (past_now w c s.0.key _ _ safe s.0.there (λ e. cc) (λ e. cc) (λ _. doomed_if_gone (marks w s.0.key) s.0.gone) (safe.none_running c s.0.key _ s.0.there refl) (λ _. s.0.gone) (λ e. cc))
+step_keeps w (Hide c) w' safe s = subst Safe (sym s.1) (plainly w c s.0.key s.0.phase Hiding safe s.0.there (waiting_holds s.0.phase s.0.waits) (λ e. cc) refl (λ _. inr s.0.shown))
+step_keeps w (LookHidden c) w' safe s = subst Safe (sym s.1) (past_now w c s.0.key Hiding Hidden safe s.0.there (λ e. cc) (λ e. cc) (λ e. absurd (let x : false ≡ true = e in cc)) (none_running w s.0.key s.0.unused) (λ e. absurd (let x : Hidden ≡ Parted = e in cc)) (λ _. inl refl))
+step_keeps w (Show c) w' safe s = subst Safe (sym s.2) (plainly w c s.0 Hidden Still safe s.1 (λ e. cc) (λ e. cc) refl (λ e. cc))
+step_keeps w (Release c) w' safe s = subst Safe (sym s.4) (plainly w c s.0 s.1 Spent safe s.2 (idle_holds s.1 s.3) (λ e. cc) refl (λ e. cc))
 step_keeps w (Undo c) w' safe s = subst Safe (sym s) safe

@@ -15,12 +15,12 @@ use Rattle.kf_core.specs.declared.world.hint.Hint.{Hint}
 use Rattle.kf_core.specs.declared.slot.Marks.{Marks}
 use Rattle.kf_core.specs.declared.slot.SlotState.{SlotState}
 use Rattle.kf_core.specs.Bare.{BareWorld, IsCaller, IsLast}
-use Rattle.kf_core.specs.Phases.{has_reference, is_spent}
+use Rattle.kf_core.specs.Phases.{has_reference, is_hiding, is_spent}
 use Rattle.kf_core.specs.Safe.{Safe}
 use Rattle.kf_core.specs.Steps.{BareStep, with_phase, with_marks, with_caller, IsHeld}
 use Rattle.kf_core.specs.Bounded.{IsFree, holds}
 use Rattle.kf_core.specs.Hints.{Skips}
-use Rattle.kf_core.specs.Counts.{tally, references, IsKept, NoneFree}
+use Rattle.kf_core.specs.Counts.{tally, references, hiders, IsKept, NoneFree}
 use Rattle.kf_core.proofs.Lists.{slice_get-set_same, slice_get-set_other}
 use Rattle.kf_core.proofs.Keeping.{caller, slot_state, step_keeps, one_key}
 use Rattle.kf_core.proofs.Tallies.{phase_counted, pinned_counted, unheld_spent, spent_unheld, share, past_none}
@@ -79,17 +79,19 @@ pub counts_there : (w : BareWorld) (counts : List Counts) (hint : Hint) (slot : 
 counts_there w counts hint slot n kept i is = slice_get_read counts (length counts) slot n refl (let e : length counts ≡ length w.slots = kept.as_long in omega arith) is
 
 -- it has at least the share of each caller of the slot
-pub own_share : (w : BareWorld) (counts : List Counts) (hint : Hint) (c : ℕ) (key : Key) (p : Phase) (n : Counts) → IsKept w counts hint → IsCaller w c key p → slice_get counts key.slot ≡ Some n → (tally (not (is_spent p)) ≤ n.holds) × (tally (has_reference p) ≤ n.references)
+pub own_share : (w : BareWorld) (counts : List Counts) (hint : Hint) (c : ℕ) (key : Key) (p : Phase) (n : Counts) → IsKept w counts hint → IsCaller w c key p → slice_get counts key.slot ≡ Some n → (tally (not (is_spent p)) ≤ n.holds) × (tally (has_reference p) ≤ n.references) × (tally (is_hiding p) ≤ n.hiders)
 own_share w counts hint c key p n kept was is = (
   subst (λ x. tally (not (is_spent p)) ≤ x) (sym (kept.counted key.slot n is).0) (share w.callers c key p (λ p. not (is_spent p)) was),
   subst (λ x. tally (has_reference p) ≤ x) (sym (kept.counted key.slot n is).1) (share w.callers c key p has_reference was),
+  subst (λ x. tally (is_hiding p) ≤ x) (sym (kept.counted key.slot n is).2) (share w.callers c key p is_hiding was),
 )
 
 -- and no more than there are callers
-pub few_counts : (w : BareWorld) (counts : List Counts) (hint : Hint) (slot : ℕ) (n : Counts) → IsKept w counts hint → slice_get counts slot ≡ Some n → (n.holds ≤ length w.callers) × (n.references ≤ length w.callers)
+pub few_counts : (w : BareWorld) (counts : List Counts) (hint : Hint) (slot : ℕ) (n : Counts) → IsKept w counts hint → slice_get counts slot ≡ Some n → (n.holds ≤ length w.callers) × (n.references ≤ length w.callers) × (n.hiders ≤ length w.callers)
 few_counts w counts hint slot n kept is = (
   subst (λ x. x ≤ length w.callers) (sym (kept.counted slot n is).0) (count_by-le-length _ w.callers),
   subst (λ x. x ≤ length w.callers) (sym (kept.counted slot n is).1) (count_by-le-length _ w.callers),
+  subst (λ x. x ≤ length w.callers) (sym (kept.counted slot n is).2) (count_by-le-length _ w.callers),
 )
 
 -- only slots are skipped that were before
@@ -101,10 +103,11 @@ pub record Fewer (now before : Hint) : Type 0 where
 pub phase_kept : (w : BareWorld) (c : ℕ) (key : Key) (from to : Phase) (counts : List Counts) (old new : Counts) (state : SlotState) (hint hint' : Hint) →
     IsKept w counts hint → (e : Event) → BareStep w e (with_phase w c key to) → IsCaller w c key from → slice_get counts key.slot ≡ Some old → slice_get w.slots key.slot ≡ Some state →
     new.holds + tally (not (is_spent from)) ≡ old.holds + tally (not (is_spent to)) → new.references + tally (has_reference from) ≡ old.references + tally (has_reference to) →
+    new.hiders + tally (is_hiding from) ≡ old.hiders + tally (is_hiding to) →
     Fewer hint' hint → ((state.marks ≡ None) × (state.generation < 2 ^ 32 - 1) × (new.holds ≡ 0) → 1 ≤ key.slot → ¬ Skips hint'.lowest hint'.full.items key.slot) →
     IsKept (with_phase w c key to) (slice_set counts key.slot new) hint'
-phase_kept w c key from to counts old new state hint hint' kept e step was is has h r fewer looks =
-    let counted = phase_counted w c key from to counts old new was is h r kept.counted in
+phase_kept w c key from to counts old new state hint hint' kept e step was is has h r i fewer looks =
+    let counted = phase_counted w c key from to counts old new was is h r i kept.counted in
     let told : new.holds ≡ holds (with_phase w c key to) key.slot = (counted key.slot new (slice_get-set_same counts key.slot new (slice_get_within counts key.slot old is))).0 in
     record {
       safe = step_keeps w e (with_phase w c key to) kept.safe step;
@@ -136,21 +139,21 @@ marks_kept w key m counts hint kept e step taken =
     }
 
 -- after a pin of the key
-pub pinned_kept : (w : BareWorld) (key : Key) (counts : List Counts) (old new : Counts) (hint : Hint) → IsKept w counts hint → (e : Event) → BareStep w e (with_caller w key) → slice_get counts key.slot ≡ Some old → new.holds ≡ old.holds + 1 → new.references ≡ old.references + 0 → IsKept (with_caller w key) (slice_set counts key.slot new) hint
-pinned_kept w key counts old new hint kept e step is h r = record {
+pub pinned_kept : (w : BareWorld) (key : Key) (counts : List Counts) (old new : Counts) (hint : Hint) → IsKept w counts hint → (e : Event) → BareStep w e (with_caller w key) → slice_get counts key.slot ≡ Some old → new.holds ≡ old.holds + 1 → new.references ≡ old.references + 0 → new.hiders ≡ old.hiders + 0 → IsKept (with_caller w key) (slice_set counts key.slot new) hint
+pinned_kept w key counts old new hint kept e step is h r i = record {
   safe = step_keeps w e (with_caller w key) kept.safe step;
   few = kept.few;
   as_long = length-set counts key.slot new ∙ kept.as_long;
-  counted = pinned_counted w key counts old new is h r kept.counted;
+  counted = pinned_counted w key counts old new is h r i kept.counted;
   covered = kept.covered;
   skipped = λ slot one s f. kept.skipped slot one s (free_before w key slot f);
 }
 
 -- past the last slot nobody is on the slot
-pub past_kept : (w : BareWorld) (counts : List Counts) (hint : Hint) (slot : ℕ) → IsKept w counts hint → length counts ≤ slot → (0 ≡ holds w slot) × (0 ≡ references w slot)
+pub past_kept : (w : BareWorld) (counts : List Counts) (hint : Hint) (slot : ℕ) → IsKept w counts hint → length counts ≤ slot → (0 ≡ holds w slot) × (0 ≡ references w slot) × (0 ≡ hiders w slot)
 past_kept w counts hint slot kept past =
     let out : length w.slots ≤ slot = (let e : length counts ≡ length w.slots = kept.as_long in omega arith) in
-    (sym (past_none w slot (λ p. not (is_spent p)) kept.safe out refl), sym (past_none w slot has_reference kept.safe out refl))
+    (sym (past_none w slot (λ p. not (is_spent p)) kept.safe out refl), sym (past_none w slot has_reference kept.safe out refl), sym (past_none w slot is_hiding kept.safe out refl))
 
 -- past slots that are skipped none is free
 pub none_skipped : (w : BareWorld) (counts : List Counts) (hint : Hint) (low high : ℕ) → IsKept w counts hint → NoneFree w low → ((slot : ℕ) → low ≤ slot → slot < high → Skips hint.lowest hint.full.items slot) → NoneFree w high
@@ -185,3 +188,10 @@ held_taken w slot c key p was s ne f = ne (f.unheld c key p was s)
 pub free_state : (w : BareWorld) (slot : ℕ) (state : SlotState) (free : IsFree w slot) → slice_get w.slots slot ≡ Some state → (state.generation ≡ free.last) × (state.generation < 2 ^ 32 - 1)
 free_state w slot state free is =
     let e : state.generation ≡ free.last = ap (λ (s : SlotState). s.generation) (same_Some _ _ (sym is ∙ free.unlinked)) in (e, subst (λ n. n < 2 ^ 32 - 1) (sym e) free.more)
+
+-- a key whose slot is not in the list, or has another last generation, is not its last
+pub none_last : (w : BareWorld) (key : Key) → length w.slots ≤ key.slot → ¬ IsLast w key.slot key.generation
+none_last w key past l = let i : key.slot < length w.slots = slice_get_within w.slots key.slot l.0 l.1 in omega arith
+
+pub other_last : (w : BareWorld) (key : Key) (state : SlotState) → slice_get w.slots key.slot ≡ Some state → state.generation ≢ key.generation → ¬ IsLast w key.slot key.generation
+other_last w key state is ne l = ne (ap (λ (s : SlotState). s.generation) (same_Some _ _ (sym is ∙ l.1)) ∙ l.2)

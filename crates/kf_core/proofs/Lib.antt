@@ -1,6 +1,7 @@
 pub mod Lists
 pub mod SlotStates
 pub mod Names
+pub mod Hiding
 pub mod Keeping
 pub mod Passing
 pub mod Runs
@@ -9,8 +10,11 @@ pub mod Kept
 pub mod Events
 pub mod WorldVisits
 pub mod Agreeing
+pub mod AgreeingHidden
 pub mod Ancestors
-pub mod TreeLists
 pub mod Climbs
 pub mod FoundRecords
+pub mod Different
+pub mod Opened
 pub mod Mapped
+pub mod Life

@@ -5,18 +5,19 @@ use Rattle.std.proofs.lemmas.Option.{same_Some, slice_get_within}
 use Rattle.std.proofs.lemmas.Bool.Decides.{eqb_tells}
 use Rattle.kf_core.specs.declared.key.Key.{Key}
 use Rattle.kf_core.specs.declared.caller.Phase.{Phase}
-use Rattle.kf_core.specs.declared.caller.Phase.TheVariants.{Still, Turned, Running, Broken, Restored, Drained, Parted, Spent}
+use Rattle.kf_core.specs.declared.caller.Phase.TheVariants.{Still, Turned, Running, Broken, Restored, Drained, Parted, Hiding, Hidden, Spent}
 use Rattle.kf_core.specs.declared.caller.Caller.{Caller}
 use Rattle.kf_core.specs.declared.slot.Marks.{Marks}
 use Rattle.kf_core.specs.declared.slot.SlotState.{SlotState}
 use Rattle.kf_core.specs.declared.event.Event.{Event}
-use Rattle.kf_core.specs.declared.event.Event.TheVariants.{Born, Rise, Mark, Move, Pin, Enter, Leave, Break, Restore, Look, Unlink, Part, Release, Undo}
+use Rattle.kf_core.specs.declared.event.Event.TheVariants.{Born, Rise, Mark, Move, Pin, Enter, Leave, Break, Restore, Look, Unlink, Part, Hide, LookHidden, Show, Release, Undo}
 use Rattle.kf_core.specs.Bare.{BareWorld, marks_in, marks, is_live, is_doomed, IsCaller}
 use Rattle.kf_core.specs.Marks.{fresh_marks, live_marks, are_doomed}
 use Rattle.kf_core.specs.Safe.{NoneRunning}
 use Rattle.kf_core.specs.Steps.{with_phase, with_marks, with_caller, BareStep, MayBeBorn}
 use Rattle.kf_core.proofs.Lists.{slice_get-set_same, slice_get-set_other, after_set, after_push}
 use Rattle.kf_core.proofs.SlotStates.{live_or_doomed, in_place}
+use Rattle.kf_core.proofs.Hiding.{live_has_marks}
 use Rattle.kf_core.proofs.Keeping.{OneNew, each_new, caller, slot_state, same_key, linked_marks}
 
 -- the slot of the key has come to its generation
@@ -72,6 +73,9 @@ step_come w (Look c) w' k s h = subst (λ x. HasCome x k) (sym s.1) (record { la
 step_come w (Unlink c) w' k s h = subst (λ x. HasCome x k) (sym s.3)
     (let m : (m : Marks) × (marks w s.0 ≡ Some m) = linked_marks (marks w s.0) s.2 in linked_come w s.0 k m.0 None m.1 h)
 step_come w (Part c) w' k s h = subst (λ x. HasCome x k) (sym s.1) (record { last = h.last; there = h.there; come = h.come })
+step_come w (Hide c) w' k s h = subst (λ x. HasCome x k) (sym s.1) (record { last = h.last; there = h.there; come = h.come })
+step_come w (LookHidden c) w' k s h = subst (λ x. HasCome x k) (sym s.1) (record { last = h.last; there = h.there; come = h.come })
+step_come w (Show c) w' k s h = subst (λ x. HasCome x k) (sym s.2) (record { last = h.last; there = h.there; come = h.come })
 step_come w (Release c) w' k s h = subst (λ x. HasCome x k) (sym s.4) (record { last = h.last; there = h.there; come = h.come })
 step_come w (Undo c) w' k s h = subst (λ x. HasCome x k) (sym s) h
 
@@ -119,7 +123,7 @@ pub caller_finished : (w : BareWorld) (cs : List Caller) (key : Key) (phase : Ph
 caller_finished w cs key phase k new runs f = record {
   doomed = f.doomed;
   alone = λ c h. each_new w.callers cs key phase new (λ k' p'. k' ≡ k → p' ≡ Running → ⊥)
-      (λ ek ep. live_or_doomed (marks w k) (subst (λ x. is_live w x ≡ true) ek (runs ep)) f.doomed)
+      (λ ek ep. live_or_doomed (marks w k) (live_has_marks w k (subst (λ x. is_live w x ≡ true) ek (runs ep))) f.doomed)
       (λ d k' p' h' ek ep. f.alone d (subst (λ x. IsCaller w d x Running) ek (subst (λ x. IsCaller w d k' x) ep h')))
       c k Running h refl refl;
   come = record { last = f.come.last; there = f.come.there; come = f.come.come };
@@ -147,5 +151,8 @@ step_finished w (Look c) w' k s f = subst (λ x. Finished x k) (sym s.1) (moved_
 step_finished w (Unlink c) w' k s f = subst (λ x. Finished x k) (sym s.3)
     (let m : (m : Marks) × (marks w s.0 ≡ Some m) = linked_marks (marks w s.0) s.2 in linked_finished w s.0 k m.0 None m.1 (λ _. refl) f)
 step_finished w (Part c) w' k s f = subst (λ x. Finished x k) (sym s.1) (moved_finished w c s.0.key Parted k (λ e. absurd (let x : Parted ≡ Running = e in cc)) f)
+step_finished w (Hide c) w' k s f = subst (λ x. Finished x k) (sym s.1) (moved_finished w c s.0.key Hiding k (λ e. absurd (let x : Hiding ≡ Running = e in cc)) f)
+step_finished w (LookHidden c) w' k s f = subst (λ x. Finished x k) (sym s.1) (moved_finished w c s.0.key Hidden k (λ e. absurd (let x : Hidden ≡ Running = e in cc)) f)
+step_finished w (Show c) w' k s f = subst (λ x. Finished x k) (sym s.2) (moved_finished w c s.0 Still k (λ e. absurd (let x : Still ≡ Running = e in cc)) f)
 step_finished w (Release c) w' k s f = subst (λ x. Finished x k) (sym s.4) (moved_finished w c s.0 Spent k (λ e. absurd (let x : Spent ≡ Running = e in cc)) f)
 step_finished w (Undo c) w' k s f = subst (λ x. Finished x k) (sym s) f

@@ -7,18 +7,19 @@ use Rattle.std.proofs.lemmas.Bool.{eq-eqb}
 use Rattle.std.proofs.lemmas.Bool.Decides.{eqb_tells}
 use Rattle.kf_core.specs.declared.key.Key.{Key}
 use Rattle.kf_core.specs.declared.caller.Phase.{Phase}
-use Rattle.kf_core.specs.declared.caller.Phase.TheVariants.{Still, Turned, Running, Broken, Restored, Drained, Parted, Spent}
+use Rattle.kf_core.specs.declared.caller.Phase.TheVariants.{Still, Turned, Running, Broken, Restored, Drained, Parted, Hiding, Hidden, Spent}
 use Rattle.kf_core.specs.declared.caller.Caller.{Caller}
 use Rattle.kf_core.specs.declared.counts.Counts.{Counts}
 use Rattle.kf_core.specs.declared.slot.SlotState.{SlotState}
-use Rattle.kf_core.specs.Bare.{BareWorld, IsCaller, IsLast}
-use Rattle.kf_core.specs.Phases.{has_reference, is_spent}
+use Rattle.kf_core.specs.Bare.{BareWorld, IsCaller, IsLast, is_hidden}
+use Rattle.kf_core.specs.Phases.{has_reference, is_hiding, is_spent}
 use Rattle.kf_core.specs.Safe.{Safe}
 use Rattle.kf_core.specs.Steps.{with_phase, with_caller, IsHeld, NoReference, OnlySpent}
 use Rattle.kf_core.specs.Bounded.{holds}
-use Rattle.kf_core.specs.Counts.{tally, references, IsCounted}
+use Rattle.kf_core.specs.Counts.{tally, references, hiders, CountsAre, IsCounted}
 use Rattle.kf_core.proofs.Lists.{after_write}
 use Rattle.kf_core.proofs.Keeping.{caller, same_key}
+use Rattle.kf_core.proofs.Hiding.{hidden_has, none_hides, hider_hidden, hiding_holds}
 
 module _ {X : Type 0} (p : X → Bool) where
   -- a write takes the item out of the count that it replaces
@@ -83,6 +84,8 @@ spent_is Broken h = cc
 spent_is Restored h = cc
 spent_is Drained h = cc
 spent_is Parted h = cc
+spent_is Hiding h = cc
+spent_is Hidden h = cc
 spent_is Spent h = refl
 
 pub held_told : (p : Phase) → p ≢ Spent → not (is_spent p) ≡ true
@@ -114,47 +117,58 @@ count_there cs c key slot from to q h ne =
     let b : tally (on slot q (caller key to)) ≡ 0 = ap tally (on_elsewhere key slot q to ne) in
     omega arith
 
+-- what is counted of the callers on a slot after a caller of the key goes to another phase
+moved_count : (w : BareWorld) (c : ℕ) (key : Key) (from to : Phase) (q : Phase → Bool) (old new : ℕ) → IsCaller w c key from → old ≡ count_by (on key.slot q) w.callers → new + tally (q from) ≡ old + tally (q to) → new ≡ count_by (on key.slot q) (with_phase w c key to).callers
+moved_count w c key from to q old new was e h =
+    let f : count_by (on key.slot q) (with_phase w c key to).callers + tally (q from) ≡ count_by (on key.slot q) w.callers + tally (q to) = count_here w.callers c key from to q was in
+    omega arith
+
 -- the counts after a caller of the key goes to another phase
 pub phase_counted : (w : BareWorld) (c : ℕ) (key : Key) (from to : Phase) (counts : List Counts) (old new : Counts) → IsCaller w c key from → slice_get counts key.slot ≡ Some old →
     new.holds + tally (not (is_spent from)) ≡ old.holds + tally (not (is_spent to)) → new.references + tally (has_reference from) ≡ old.references + tally (has_reference to) →
+    new.hiders + tally (is_hiding from) ≡ old.hiders + tally (is_hiding to) →
     IsCounted w counts → IsCounted (with_phase w c key to) (slice_set counts key.slot new)
-phase_counted w c key from to counts old new was is h r counted slot n there = elim (after_write counts key.slot slot new n there) [
-  | inl p ↦ subst (λ (m : Counts). (m.holds ≡ holds (with_phase w c key to) slot) × (m.references ≡ references (with_phase w c key to) slot)) p.1
-      (subst (λ s. (new.holds ≡ holds (with_phase w c key to) s) × (new.references ≡ references (with_phase w c key to) s)) p.0 (
-        (let e : old.holds ≡ holds w key.slot = (counted key.slot old is).0 in
-            let f : holds (with_phase w c key to) key.slot + tally (not (is_spent from)) ≡ holds w key.slot + tally (not (is_spent to)) = count_here w.callers c key from to (λ p. not (is_spent p)) was in
-            omega arith),
-        (let e : old.references ≡ references w key.slot = (counted key.slot old is).1 in
-            let f : references (with_phase w c key to) key.slot + tally (has_reference from) ≡ references w key.slot + tally (has_reference to) = count_here w.callers c key from to has_reference was in
-            omega arith),
-      ))
-  | inr p ↦ ((counted slot n p.1).0 ∙ sym (count_there w.callers c key slot from to (λ p. not (is_spent p)) was p.0), (counted slot n p.1).1 ∙ sym (count_there w.callers c key slot from to has_reference was p.0))
-]
-
--- the counts after a pin of the key
-pub pinned_counted : (w : BareWorld) (key : Key) (counts : List Counts) (old new : Counts) → slice_get counts key.slot ≡ Some old → new.holds ≡ old.holds + 1 → new.references ≡ old.references + 0 →
-    IsCounted w counts → IsCounted (with_caller w key) (slice_set counts key.slot new)
-pinned_counted w key counts old new is h r counted slot n there = elim (after_write counts key.slot slot new n there) [
-  | inl p ↦ subst (λ (m : Counts). (m.holds ≡ holds (with_caller w key) slot) × (m.references ≡ references (with_caller w key) slot)) p.1
-      (subst (λ s. (new.holds ≡ holds (with_caller w key) s) × (new.references ≡ references (with_caller w key) s)) p.0 (
-        (let e : old.holds ≡ holds w key.slot = (counted key.slot old is).0 in
-            let f : holds (with_caller w key) key.slot ≡ holds w key.slot + tally (on key.slot (λ p. not (is_spent p)) (caller key Still)) = count_push (on key.slot (λ p. not (is_spent p))) w.callers (caller key Still) in
-            let t : tally (on key.slot (λ p. not (is_spent p)) (caller key Still)) ≡ 1 = ap tally (on_here key (λ p. not (is_spent p)) Still) in
-            omega arith),
-        (let e : old.references ≡ references w key.slot = (counted key.slot old is).1 in
-            let f : references (with_caller w key) key.slot ≡ references w key.slot + tally (on key.slot has_reference (caller key Still)) = count_push (on key.slot has_reference) w.callers (caller key Still) in
-            let t : tally (on key.slot has_reference (caller key Still)) ≡ 0 = ap tally (on_here key has_reference Still) in
-            omega arith),
+phase_counted w c key from to counts old new was is h r i counted slot n there = elim (after_write counts key.slot slot new n there) [
+  | inl p ↦ subst (λ (m : Counts). CountsAre (with_phase w c key to) slot m) p.1
+      (subst (λ s. CountsAre (with_phase w c key to) s new) p.0 (
+        moved_count w c key from to (λ p. not (is_spent p)) old.holds new.holds was (counted key.slot old is).0 h,
+        moved_count w c key from to has_reference old.references new.references was (counted key.slot old is).1 r,
+        moved_count w c key from to is_hiding old.hiders new.hiders was (counted key.slot old is).2 i,
       ))
   | inr p ↦ (
-    (let e : n.holds ≡ holds w slot = (counted slot n p.1).0 in
-        let f : holds (with_caller w key) slot ≡ holds w slot + tally (on slot (λ p. not (is_spent p)) (caller key Still)) = count_push (on slot (λ p. not (is_spent p))) w.callers (caller key Still) in
-        let t : tally (on slot (λ p. not (is_spent p)) (caller key Still)) ≡ 0 = ap tally (on_elsewhere key slot (λ p. not (is_spent p)) Still p.0) in
-        omega arith),
-    (let e : n.references ≡ references w slot = (counted slot n p.1).1 in
-        let f : references (with_caller w key) slot ≡ references w slot + tally (on slot has_reference (caller key Still)) = count_push (on slot has_reference) w.callers (caller key Still) in
-        let t : tally (on slot has_reference (caller key Still)) ≡ 0 = ap tally (on_elsewhere key slot has_reference Still p.0) in
-        omega arith),
+    (counted slot n p.1).0 ∙ sym (count_there w.callers c key slot from to (λ p. not (is_spent p)) was p.0),
+    (counted slot n p.1).1 ∙ sym (count_there w.callers c key slot from to has_reference was p.0),
+    (counted slot n p.1).2 ∙ sym (count_there w.callers c key slot from to is_hiding was p.0),
+  )
+]
+
+-- what is counted after a pin of the key
+pinned_here : (w : BareWorld) (key : Key) (q : Phase → Bool) (old new : ℕ) → old ≡ count_by (on key.slot q) w.callers → new ≡ old + tally (q Still) → new ≡ count_by (on key.slot q) (with_caller w key).callers
+pinned_here w key q old new e h =
+    let f : count_by (on key.slot q) (with_caller w key).callers ≡ count_by (on key.slot q) w.callers + tally (on key.slot q (caller key Still)) = count_push (on key.slot q) w.callers (caller key Still) in
+    let t : tally (on key.slot q (caller key Still)) ≡ tally (q Still) = ap tally (on_here key q Still) in
+    omega arith
+
+pinned_there : (w : BareWorld) (key : Key) (slot : ℕ) (q : Phase → Bool) → key.slot ≢ slot → count_by (on slot q) w.callers ≡ count_by (on slot q) (with_caller w key).callers
+pinned_there w key slot q ne =
+    let f : count_by (on slot q) (with_caller w key).callers ≡ count_by (on slot q) w.callers + tally (on slot q (caller key Still)) = count_push (on slot q) w.callers (caller key Still) in
+    let t : tally (on slot q (caller key Still)) ≡ 0 = ap tally (on_elsewhere key slot q Still ne) in
+    omega arith
+
+-- the counts after a pin of the key
+pub pinned_counted : (w : BareWorld) (key : Key) (counts : List Counts) (old new : Counts) → slice_get counts key.slot ≡ Some old → new.holds ≡ old.holds + 1 → new.references ≡ old.references + 0 → new.hiders ≡ old.hiders + 0 →
+    IsCounted w counts → IsCounted (with_caller w key) (slice_set counts key.slot new)
+pinned_counted w key counts old new is h r i counted slot n there = elim (after_write counts key.slot slot new n there) [
+  | inl p ↦ subst (λ (m : Counts). CountsAre (with_caller w key) slot m) p.1
+      (subst (λ s. CountsAre (with_caller w key) s new) p.0 (
+        pinned_here w key (λ p. not (is_spent p)) old.holds new.holds (counted key.slot old is).0 h,
+        pinned_here w key has_reference old.references new.references (counted key.slot old is).1 r,
+        pinned_here w key is_hiding old.hiders new.hiders (counted key.slot old is).2 i,
+      ))
+  | inr p ↦ (
+    (counted slot n p.1).0 ∙ pinned_there w key slot (λ p. not (is_spent p)) p.0,
+    (counted slot n p.1).1 ∙ pinned_there w key slot has_reference p.0,
+    (counted slot n p.1).2 ∙ pinned_there w key slot is_hiding p.0,
   )
 ]
 
@@ -238,3 +252,25 @@ held_exact w key safe last = (
   (λ h. let s : tally (not (is_spent h.phase)) ≤ holds w key.slot = share w.callers h.caller key h.phase (λ p. not (is_spent p)) h.there in
       let t : tally (not (is_spent h.phase)) ≡ 1 = ap tally (held_told h.phase h.holds) in omega arith),
 )
+
+-- the count of hiders of the slot of its last key says whether the key is hidden
+pub hidden_exact : (w : BareWorld) (key : Key) → Safe w → IsLast w key.slot key.generation → ((1 ≤ hiders w key.slot) ↔ (is_hidden w key ≡ true))
+hidden_exact w key safe last = (
+  (λ h. let r : Passing (on key.slot is_hiding) w.callers = count_some (on key.slot is_hiding) w.callers h in
+      let b : (nat_eq r.item.key.slot key.slot ≡ true) × (is_hiding r.item.phase ≡ true) = both _ _ r.passes in
+      let its = holds_last w key r.place r.item safe last r.there (hiding_holds r.item.phase b.1) (eqb_same _ _ b.0) in
+      hider_hidden w r.place key r.item.phase (r.there ∙ ap (λ (k : Key). Some (caller k r.item.phase)) its) b.1),
+  (λ h. let r = hidden_has w key h in
+      let s : tally (is_hiding r.1) ≤ hiders w key.slot = share w.callers r.0 key r.1 is_hiding r.2 in
+      let t : tally (is_hiding r.1) ≡ 1 = ap tally r.3 in omega arith),
+)
+
+-- a key that is not the last of its slot is not hidden
+pub past_shown : (w : BareWorld) (key : Key) → Safe w → ¬ IsLast w key.slot key.generation → is_hidden w key ≡ false
+past_shown w key safe past = none_hides w key (λ c p there hides. past (safe.held_last c key p there (hiding_holds p hides)))
+
+-- two tests that tell the same
+pub same_bool : (a b : Bool) → (a ≡ true → b ≡ true) → (b ≡ true → a ≡ true) → a ≡ b
+same_bool true b f g = sym (f refl)
+same_bool false true f g = g refl
+same_bool false false f g = refl

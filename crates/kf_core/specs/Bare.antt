@@ -1,12 +1,14 @@
 -- The world without the shape of the tree: each slot with its last generation and the marks of its linked node,
--- and each caller with its key and its phase.
-use Rattle.std.specs.Prelude.{◌≡◌, ℕ, ◌+◌, Bool, ◌==◌, List, [], replicate, slice_get, slice_set, is_some, Option, None, Some, if◌then◌else◌}
+-- and each caller with its key and its phase. Which keys are hidden is told by the callers.
+use Rattle.std.specs.Prelude.{◌≡◌, ℕ, ◌+◌, Bool, true, false, not, ◌&&◌, ◌==◌, List, [], ◌∷◌, replicate, slice_get, slice_set, is_some, Option, None, Some, if◌then◌else◌}
 use Rattle.kf_core.specs.declared.key.Key.{Key}
 use Rattle.kf_core.specs.declared.caller.Phase.{Phase}
 use Rattle.kf_core.specs.declared.caller.Caller.{Caller}
 use Rattle.kf_core.specs.declared.slot.Marks.{Marks}
 use Rattle.kf_core.specs.declared.slot.SlotState.{SlotState}
+use Rattle.kf_core.specs.Keys.{same_key}
 use Rattle.kf_core.specs.Marks.{live_marks, are_live, are_doomed}
+use Rattle.kf_core.specs.Phases.{is_hiding}
 
 pub record BareWorld : Type 0 where
   pub slots : List SlotState  -- by slot
@@ -24,9 +26,22 @@ marks w key = marks_in (slice_get w.slots key.slot) key.generation
 abbrev pub is_linked : BareWorld → Key → Bool
 is_linked w key = is_some (marks w key)
 
--- linked, activated and not doomed
+-- the caller hides this key
+abbrev pub hides : Key → Caller → Bool
+hides key c = same_key c.key key && is_hiding c.phase
+
+-- one of these callers does
+abbrev pub any_hides : Key → List Caller → Bool
+any_hides key [] = false
+any_hides key (c ∷ cs) = if hides key c then true else any_hides key cs
+
+-- a caller hides it, linked or not
+abbrev pub is_hidden : BareWorld → Key → Bool
+is_hidden w key = any_hides key w.callers
+
+-- linked, activated, not doomed and not hidden
 abbrev pub is_live : BareWorld → Key → Bool
-is_live w key = are_live (marks w key)
+is_live w key = are_live (marks w key) && not (is_hidden w key)
 
 -- doomed, or no longer linked
 abbrev pub is_doomed : BareWorld → Key → Bool

@@ -5,7 +5,7 @@ use Rattle.kf_core.specs.declared.key.Key.{Key}
 use Rattle.kf_core.specs.declared.key.Node.{Node}
 use Rattle.kf_core.specs.declared.records.Record.{Record}
 use Rattle.kf_core.specs.declared.command.Command.{Command}
-use Rattle.kf_core.specs.declared.command.Command.TheVariants.{Create, Activate, Doom, Unlink, Rename}
+use Rattle.kf_core.specs.declared.command.Command.TheVariants.{Create, Activate, Doom, Unlink, Rename, Hide, Show}
 use Rattle.kf_core.specs.Keys.{same_key}
 use Rattle.kf_core.specs.Tree.{Tree, is_linked, in_subtree}
 use Rattle.kf_core.specs.Lawful.{root_record}
@@ -20,11 +20,14 @@ activated_record r = record r { marks = record { activated = true; doomed = r.ma
 abbrev pub doomed_record : Record → Record
 doomed_record r = record r { marks = record { activated = r.marks.activated; doomed = true } }
 
+abbrev pub hidden_record : Bool → Record → Record
+hidden_record b r = record r { hidden = b }
+
 abbrev pub moved_record : Key → List ℕ → Record → Record
 moved_record dir name r = record r { parent = Some dir; name = name }
 
 abbrev pub new_record : Key → Key → List ℕ → Node → Bool → Record
-new_record key parent name node is_live = record { key = key; parent = Some parent; name = name; node = node; marks = record { activated = is_live; doomed = false } }
+new_record key parent name node is_live = record { key = key; parent = Some parent; name = name; node = node; marks = record { activated = is_live; doomed = false }; hidden = false }
 
 -- the tree after a command; applying one refuses nothing
 abbrev pub after : Tree → Command → Tree
@@ -33,6 +36,8 @@ after t (Activate key) = change (λ r. in_subtree t key r.key && not r.marks.doo
 after t (Doom key) = change (λ r. in_subtree t key r.key) doomed_record t
 after t (Unlink key) = if is_linked t key then slice_set t key.slot None else t
 after t (Rename key dir name) = change (λ r. same_key r.key key) (moved_record dir name) t
+after t (Hide key) = change (λ r. same_key r.key key) (hidden_record true) t
+after t (Show key) = change (λ r. same_key r.key key) (hidden_record false) t
 
 -- the tree of the root alone, of so many slots
 abbrev pub root_alone : ℕ → Key → Tree

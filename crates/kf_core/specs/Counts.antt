@@ -2,7 +2,7 @@
 use Rattle.std.specs.Prelude.{◌≡◌, ℕ, ◌<◌, ◌≤◌, ◌/◌, Bool, ◌&&◌, ◌==◌, List, length, count_by, slice_get, Some, if◌then◌else◌}
 use Rattle.kf_core.specs.declared.counts.Counts.{Counts}
 use Rattle.kf_core.specs.declared.world.hint.Hint.{Hint}
-use Rattle.kf_core.specs.Phases.{has_reference}
+use Rattle.kf_core.specs.Phases.{has_reference, is_hiding}
 use Rattle.kf_core.specs.Bare.{BareWorld}
 use Rattle.kf_core.specs.Safe.{Safe}
 use Rattle.kf_core.specs.Bounded.{IsFree, holds}
@@ -16,9 +16,17 @@ tally b = if b then 1 else 0
 abbrev pub references : BareWorld → ℕ → ℕ
 references w slot = count_by (λ c. (c.key.slot == slot) && has_reference c.phase) w.callers
 
+-- how many callers on the slot hide their key
+abbrev pub hiders : BareWorld → ℕ → ℕ
+hiders w slot = count_by (λ c. (c.key.slot == slot) && is_hiding c.phase) w.callers
+
+-- the counts of a slot
+abbrev pub CountsAre : BareWorld → ℕ → Counts → Type 0
+CountsAre w slot c = (c.holds ≡ holds w slot) × (c.references ≡ references w slot) × (c.hiders ≡ hiders w slot)
+
 -- the counts are those of their slots
 abbrev pub IsCounted : BareWorld → List Counts → Type 0
-IsCounted w counts = (slot : ℕ) (c : Counts) → slice_get counts slot ≡ Some c → (c.holds ≡ holds w slot) × (c.references ≡ references w slot)
+IsCounted w counts = (slot : ℕ) (c : Counts) → slice_get counts slot ≡ Some c → CountsAre w slot c
 
 -- from slot 1 up, no slot below this one is free
 abbrev pub NoneFree : BareWorld → ℕ → Type 0

@@ -1,5 +1,5 @@
 -- Lawful trees.
-use Rattle.std.specs.Prelude.{◌≡◌, ℕ, ◌≤◌, true, [], slice_get, None, Some, is_some, count_by}
+use Rattle.std.specs.Prelude.{◌≡◌, ℕ, ◌≤◌, true, false, [], slice_get, None, Some, is_some, count_by}
 use Rattle.kf_core.specs.declared.key.Key.{Key}
 use Rattle.kf_core.specs.declared.key.Node.TheVariants.{Dir}
 use Rattle.kf_core.specs.declared.records.Record.{Record}
@@ -9,7 +9,7 @@ use Rattle.kf_core.specs.Tree.{Tree, record_at, IsIn, ancestor}
 
 -- the root: a live directory without a parent
 abbrev pub root_record : Key → Record
-root_record key = record { key = key; parent = None; name = []; node = Dir; marks = live_marks }
+root_record key = record { key = key; parent = None; name = []; node = Dir; marks = live_marks; hidden = false }
 
 -- the record's parent is a directory of the tree, and asks this of the record
 pub record HasDirectory (t : Tree) (r : Record) (parent : Key) : Type 0 where

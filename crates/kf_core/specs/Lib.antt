@@ -17,3 +17,4 @@ pub mod WorldGuard
 pub mod Hints
 pub mod Counts
 pub mod Agrees
+pub mod Life

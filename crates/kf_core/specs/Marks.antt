@@ -10,7 +10,7 @@ fresh_marks = record { activated = false; doomed = false }
 abbrev pub live_marks : Marks
 live_marks = record { activated = true; doomed = false }
 
--- a node is live where it is linked, activated and not doomed; one without marks is not linked
+-- a node may be live where it is linked, activated and not doomed; one without marks is not linked
 abbrev pub are_live : Option Marks → Bool
 are_live None = false
 are_live (Some m) = m.activated && not m.doomed

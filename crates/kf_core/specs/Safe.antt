@@ -1,18 +1,26 @@
 -- What holds of the callers at every moment.
-use Rattle.std.specs.Prelude.{◌≢◌, ℕ, IsTrue, IsFalse}
+use Rattle.std.specs.Prelude.{◌≡◌, ◌≢◌, ℕ, IsTrue, IsFalse}
 use Rattle.kf_core.specs.declared.key.Key.{Key}
 use Rattle.kf_core.specs.declared.caller.Phase.{Phase}
 use Rattle.kf_core.specs.declared.caller.Phase.TheVariants.{Running, Parted, Spent}
-use Rattle.kf_core.specs.Phases.{saw_drain}
+use Rattle.kf_core.specs.Phases.{saw_drain, saw_unused, is_hiding}
 use Rattle.kf_core.specs.Bare.{BareWorld, IsCaller, IsLast, is_linked, is_doomed}
 
 -- nobody is running on the key
 abbrev pub NoneRunning : BareWorld → Key → Type 0
 NoneRunning w key = (c : ℕ) → IsCaller w c key Running → ⊥
 
+-- no caller but this one hides the key
+abbrev pub OnlyHider : BareWorld → ℕ → Key → Type 0
+OnlyHider w c key = (d : ℕ) (phase : Phase) → IsCaller w d key phase → IsTrue (is_hiding phase) → d ≡ c
+
+-- nobody but spent callers is on the key
+abbrev pub NoneHolding : BareWorld → Key → Type 0
+NoneHolding w key = (c : ℕ) (phase : Phase) → IsCaller w c key phase → phase ≡ Spent
+
 pub record Safe (w : BareWorld) : Type 0 where
-  -- nobody is running on a key on which a caller is drained or parted
-  pub none_running : (c : ℕ) (key : Key) (phase : Phase) → IsCaller w c key phase → IsTrue (saw_drain phase) → NoneRunning w key
+  -- nobody is running on a key on which a caller is drained, parted or hidden
+  pub none_running : (c : ℕ) (key : Key) (phase : Phase) → IsCaller w c key phase → IsTrue (saw_unused phase) → NoneRunning w key
   -- the key of a drained or parted caller is doomed
   pub drain_doomed : (c : ℕ) (key : Key) (phase : Phase) → IsCaller w c key phase → IsTrue (saw_drain phase) → IsTrue (is_doomed w key)
   -- the key of a parted caller is not linked
@@ -21,3 +29,5 @@ pub record Safe (w : BareWorld) : Type 0 where
   pub held_last : (c : ℕ) (key : Key) (phase : Phase) → IsCaller w c key phase → phase ≢ Spent → IsLast w key.slot key.generation
   -- who is running is so on a linked key
   pub running_linked : (c : ℕ) (key : Key) → IsCaller w c key Running → IsTrue (is_linked w key)
+  -- at most one caller hides a key
+  pub one_hides : (c : ℕ) (key : Key) (phase : Phase) → IsCaller w c key phase → IsTrue (is_hiding phase) → OnlyHider w c key

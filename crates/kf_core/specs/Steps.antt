@@ -1,14 +1,14 @@
 -- One atomic step of the bare world: which step may come where, and what it changes.
-use Rattle.std.specs.Prelude.{◌≡◌, ◌≢◌, ℕ, ◌+◌, ◌⊎◌, [], ◌∷◌, ◌++◌, length, slice_get, slice_set, Option, None, Some, if◌then◌else◌, IsTrue, IsFalse, true, false}
+use Rattle.std.specs.Prelude.{◌≡◌, ◌≢◌, ℕ, ◌+◌, ◌⊎◌, List, [], ◌∷◌, ◌++◌, length, slice_get, slice_set, Option, None, Some, if◌then◌else◌, IsTrue, IsFalse, true, false}
 use Rattle.kf_core.specs.declared.key.Key.{Key}
 use Rattle.kf_core.specs.declared.caller.Phase.{Phase}
-use Rattle.kf_core.specs.declared.caller.Phase.TheVariants.{Still, Turned, Running, Broken, Restored, Drained, Parted, Spent}
+use Rattle.kf_core.specs.declared.caller.Phase.TheVariants.{Still, Turned, Running, Broken, Restored, Drained, Parted, Hiding, Hidden, Spent}
 use Rattle.kf_core.specs.declared.slot.Marks.{Marks}
 use Rattle.kf_core.specs.declared.event.Event.{Event}
-use Rattle.kf_core.specs.declared.event.Event.TheVariants.{Born, Rise, Mark, Move, Pin, Enter, Leave, Break, Restore, Look, Unlink, Part, Release, Undo}
+use Rattle.kf_core.specs.declared.event.Event.TheVariants.{Born, Rise, Mark, Move, Pin, Enter, Leave, Break, Restore, Look, Unlink, Part, Hide, LookHidden, Show, Release, Undo}
 use Rattle.kf_core.specs.Marks.{fresh_marks, live_marks}
 use Rattle.kf_core.specs.Phases.{is_waiting, has_reference, may_release}
-use Rattle.kf_core.specs.Bare.{BareWorld, marks, is_linked, is_live, is_doomed, IsCaller}
+use Rattle.kf_core.specs.Bare.{BareWorld, marks, is_linked, is_live, is_doomed, is_hidden, IsCaller}
 
 -- the caller of this number is on the key, in this phase
 abbrev pub with_phase : BareWorld → ℕ → Key → Phase → BareWorld
@@ -63,6 +63,20 @@ pub record MayPart (w : BareWorld) (c : ℕ) : Type 0 where
   pub there : IsCaller w c key Drained
   pub gone : IsFalse (is_linked w key)
 
+-- the caller waits, and nobody hides its node
+pub record MayHide (w : BareWorld) (c : ℕ) : Type 0 where
+  pub key : Key
+  pub phase : Phase
+  pub there : IsCaller w c key phase
+  pub waits : IsTrue (is_waiting phase)
+  pub shown : IsFalse (is_hidden w key)
+
+-- the caller hides its node, and nobody has a reference to the node
+pub record MayLookHidden (w : BareWorld) (c : ℕ) : Type 0 where
+  pub key : Key
+  pub there : IsCaller w c key Hiding
+  pub unused : NoReference w key
+
 -- what one step of each kind makes of a world
 abbrev pub BareStep : BareWorld → Event → BareWorld → Type 0
 BareStep w (Born key parent name node) w' = MayBeBorn w key × (w' ≡ with_marks w key (Some fresh_marks))
@@ -77,5 +91,13 @@ BareStep w (Restore c) w' = (key : Key) × IsCaller w c key Broken × (w' ≡ wi
 BareStep w (Look c) w' = (may : MayLook w c) × (w' ≡ with_phase w c may.key Drained)
 BareStep w (Unlink c) w' = (key : Key) × IsCaller w c key Drained × IsTrue (is_linked w key) × (w' ≡ with_marks w key None)
 BareStep w (Part c) w' = (may : MayPart w c) × (w' ≡ with_phase w c may.key Parted)
+BareStep w (Hide c) w' = (may : MayHide w c) × (w' ≡ with_phase w c may.key Hiding)
+BareStep w (LookHidden c) w' = (may : MayLookHidden w c) × (w' ≡ with_phase w c may.key Hidden)
+BareStep w (Show c) w' = (key : Key) × IsCaller w c key Hidden × (w' ≡ with_phase w c key Still)
 BareStep w (Release c) w' = (key : Key) × (phase : Phase) × IsCaller w c key phase × IsTrue (may_release phase) × (w' ≡ with_phase w c key Spent)
 BareStep w (Undo c) w' = w' ≡ w
+
+-- these events, each a step from the bare world before it
+abbrev pub BareRun : BareWorld → List Event → BareWorld → Type 0
+BareRun w [] w' = w' ≡ w
+BareRun w (event ∷ events) w' = (between : BareWorld) × BareStep w event between × BareRun between events w'

@@ -8,9 +8,9 @@ use Rattle.kf_core.specs.declared.caller.Phase.{Phase}
 use Rattle.kf_core.specs.declared.caller.Caller.{Caller}
 use Rattle.kf_core.specs.declared.slot.SlotState.{SlotState}
 use Rattle.kf_core.specs.declared.records.Record.{Record}
-use Rattle.kf_core.specs.declared.command.Command.TheVariants.{Create, Rename, Unlink as TakeOut}
+use Rattle.kf_core.specs.declared.command.Command.TheVariants.{Create, Rename, Unlink as TakeOut, Hide as HideNode, Show as ShowNode}
 use Rattle.kf_core.specs.declared.event.Event.{Event}
-use Rattle.kf_core.specs.declared.event.Event.TheVariants.{Born, Rise, Mark, Move, Pin, Enter, Leave, Break, Restore, Look, Unlink, Part, Release, Undo}
+use Rattle.kf_core.specs.declared.event.Event.TheVariants.{Born, Rise, Mark, Move, Pin, Enter, Leave, Break, Restore, Look, Unlink, Part, Hide, LookHidden, Show, Release, Undo}
 use Rattle.kf_core.specs.Keys.{same_key}
 use Rattle.kf_core.specs.Names.{IsLawfulName}
 use Rattle.kf_core.specs.Marks.{live_marks}
@@ -31,11 +31,11 @@ pub record World : Type 0 where
 abbrev pub tree : World → Tree
 tree w = map (λ (s : Slot). s.linked) w.slots
 
--- a slot without the parent, name and node of its record
+-- a slot without the parent, name, node and hidden mark of its record
 abbrev pub bare_slot : Slot → SlotState
 bare_slot s = record { generation = s.last; marks = option_map (λ (r : Record). r.marks) s.linked }
 
--- the world without parents, names and nodes
+-- the world without parents, names, nodes and hidden marks
 abbrev pub bare : World → BareWorld
 bare w = record { slots = map bare_slot w.slots; callers = w.callers }
 
@@ -56,10 +56,12 @@ pub record MayMove (t : Tree) (key dir : Key) (name : List ℕ) : Type 0 where
   pub found : record_at t key ≡ Some moving
   pub no_root : moving.parent ≢ None
   pub is_live : moving.marks ≡ live_marks
+  pub is_shown : moving.hidden ≡ false
   pub into : Record
   pub into_found : record_at t dir ≡ Some into
   pub into_dir : into.node ≡ Dir
   pub into_is_live : into.marks ≡ live_marks
+  pub into_is_shown : into.hidden ≡ false
   pub lawful : IsLawfulName name
   pub not_below : IsFalse (in_subtree t key dir)
   pub free : (slot : ℕ) (r : Record) → slice_get t slot ≡ Some (Some r) → r.parent ≡ Some dir → r.name ≢ name
@@ -71,6 +73,8 @@ TreeStep w (Rise key) t' = t' ≡ change (λ r. same_key r.key key) activated_re
 TreeStep w (Mark key) t' = t' ≡ change (λ r. same_key r.key key) doomed_record (tree w)
 TreeStep w (Move key dir name) t' = MayMove (tree w) key dir name × (t' ≡ after (tree w) (Rename key dir name))
 TreeStep w (Unlink c) t' = (key : Key) × (phase : Phase) × IsCaller (bare w) c key phase × NoChild (tree w) key × (t' ≡ after (tree w) (TakeOut key))
+TreeStep w (Hide c) t' = (key : Key) × (phase : Phase) × IsCaller (bare w) c key phase × (t' ≡ after (tree w) (HideNode key))
+TreeStep w (Show c) t' = (key : Key) × (phase : Phase) × IsCaller (bare w) c key phase × (t' ≡ after (tree w) (ShowNode key))
 TreeStep w (Pin c key) t' = t' ≡ tree w
 TreeStep w (Enter c) t' = t' ≡ tree w
 TreeStep w (Leave c) t' = t' ≡ tree w
@@ -78,6 +82,7 @@ TreeStep w (Break c) t' = t' ≡ tree w
 TreeStep w (Restore c) t' = t' ≡ tree w
 TreeStep w (Look c) t' = t' ≡ tree w
 TreeStep w (Part c) t' = t' ≡ tree w
+TreeStep w (LookHidden c) t' = t' ≡ tree w
 TreeStep w (Release c) t' = t' ≡ tree w
 TreeStep w (Undo c) t' = t' ≡ tree w
 

@@ -1,7 +1,7 @@
 //! Callers, and the phases that each goes through between its pin and its release.
 
 ghost use Rattle.std.specs.Prelude.{◌≡◌};
-ghost use Rattle.kf_core.specs.Phases.{is_waiting, has_reference, is_spent};
+ghost use Rattle.kf_core.specs.Phases.{is_waiting, has_reference, is_hiding, is_spent};
 
 use crate::key::Key;
 
@@ -22,6 +22,10 @@ pub enum Phase {
     Drained,
     /// As drained, and saw that the node is not linked.
     Parted,
+    /// Hides its node, and waits until nobody has a reference to it.
+    Hiding,
+    /// Hides its node, and saw that nobody has a reference to it.
+    Hidden,
     /// Holds nothing any more.
     Spent,
 }
@@ -39,6 +43,13 @@ impl Phase {
         ensures known { result ≡ has_reference self }
     {
         matches!(self, Phase::Running | Phase::Restored)
+    }
+
+    /// Whether a caller hides its node.
+    pub(crate) fn is_hiding(self) -> bool
+        ensures known { result ≡ is_hiding self }
+    {
+        matches!(self, Phase::Hiding | Phase::Hidden)
     }
 
     /// Whether a caller holds nothing any more.

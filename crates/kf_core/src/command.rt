@@ -32,4 +32,12 @@ pub enum Command {
         dir: Key,
         name: NameBytes,
     },
+    /// The record is hidden.
+    Hide {
+        key: Key,
+    },
+    /// The record is no longer hidden.
+    Show {
+        key: Key,
+    },
 }

@@ -60,6 +60,18 @@ pub enum Event {
     Part {
         caller: usize,
     },
+    /// The caller hides its node: it is not live until the caller shows it again.
+    Hide {
+        caller: usize,
+    },
+    /// The caller sees that nobody has a reference to the node that it hides.
+    LookHidden {
+        caller: usize,
+    },
+    /// The caller shows its node again.
+    Show {
+        caller: usize,
+    },
     /// The caller gives its hold back.
     Release {
         caller: usize,

@@ -27,8 +27,10 @@ pub trait ActiveCall {
 /// What gives active references and takes them back (`kernfs_get_active` and `kernfs_put_active`).
 /// Each guard has its own holds and calls, and says by its ghost members what a try and an end make of them.
 pub trait Guard {
+    /// Keeps the slot of its node, without a reference.
     type Hold;
 
+    /// A hold with an active reference.
     type Call: ActiveCall;
 
     /// The hold may try here.

@@ -24,7 +24,9 @@ pub use command::Command;
 pub use event::Event;
 pub use guard::{ActiveCall, Guard};
 pub use key::{Key, Node};
-pub use laws::{no_call_after_removal, slots_kept};
+pub use laws::{
+    a_life, no_call_after_drain, no_call_after_removal, slots_kept, subtrees_are_by_steps,
+};
 pub use limits::Limits;
 pub use name_bytes::NameBytes;
 pub use records::Record;

@@ -31,13 +31,6 @@ impl NameBytes {
     {
         self.bytes.as_slice()
     }
-
-    /// The vector of the bytes, given back.
-    pub fn into_bytes(self) -> Vec<u8>
-        ensures same { result.items ≡ self }
-    {
-        self.bytes
-    }
 }
 
 impl Clone for NameBytes {

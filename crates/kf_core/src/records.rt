@@ -4,7 +4,7 @@ use crate::key::{Key, Node};
 use crate::name_bytes::NameBytes;
 use crate::slot::Marks;
 
-/// A linked node: where it stands, what it is, and its marks.
+/// A linked node: where it stands, what it is, its marks, and whether it is hidden.
 #[derive(Drop)]
 pub struct Record {
     pub key: Key,
@@ -14,4 +14,6 @@ pub struct Record {
     pub name: NameBytes,
     pub node: Node,
     pub marks: Marks,
+    /// It is not live while a caller hides it.
+    pub hidden: bool,
 }

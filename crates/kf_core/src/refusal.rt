@@ -7,7 +7,7 @@ ghost use Rattle.kf_core.specs.Refusals.{name_of, number_of};
 use std::alloc::{AllocError, AllocFailed};
 use thiserror::Error;
 
-/// Why a call is refused, named and numbered as in Linux.
+/// Why a call is refused, numbered as in Linux, whose name stands beside each.
 #[derive(Clone, Copy, Debug, PartialEq, Eq, Error)]
 pub enum Refusal {
     /// There is no such node, or it is not live (`ENOENT`).

@@ -1,6 +1,6 @@
 //! The marks of a node, and what the world keeps of a slot.
 
-/// The marks of a linked node. A node is live where it is linked, activated and not doomed.
+/// The marks of a linked node. A node is live where it is linked, activated, not doomed and not hidden.
 #[derive(Clone, Copy, Debug, PartialEq, Eq)]
 pub struct Marks {
     /// Creation or activation has shown it to users (`KERNFS_ACTIVATED`).

@@ -75,6 +75,24 @@ fn restore(world: &mut World, id: usize) -> Option<()> {
     Some(())
 }
 
+/// A caller that waits hides its node.
+fn hide(world: &mut World, id: usize) -> Option<bool> {
+    let (_, phase) = world.caller(id)?;
+    if !phase.is_waiting() {
+        return None;
+    }
+    Some(world.hide(id))
+}
+
+/// A hidden caller shows its node again.
+fn show(world: &mut World, id: usize) -> Option<()> {
+    let (_, Phase::Hidden) = world.caller(id)? else {
+        return None;
+    };
+    world.show(id);
+    Some(())
+}
+
 /// Takes the node of a drained caller out, where it is linked.
 fn take_out(world: &mut World, id: usize) -> Option<()> {
     if world.part(id) {
@@ -267,4 +285,32 @@ fn refusals_have_the_names_and_numbers_of_linux(rt: HostRuntime) {
         assert_eq!(rt; refusal.name(), name);
         assert_eq!(rt; refusal.number(), number, "{name}");
     }
+}
+
+#[test]
+fn a_hidden_node_is_not_live_until_it_is_shown(rt: HostRuntime) -> Result<(), Fail> {
+    let mut world = world_of(rt.alloc(), 3, 4, 0)?;
+    assert_eq!(rt; make(&mut world), Some(key(1, 1)));
+    assert_eq!(rt; make(&mut world), Some(key(2, 1)));
+    let c = world.pin(key(1, 1))?;
+    let d = world.pin(key(1, 1))?;
+    let e = world.pin(key(2, 1))?;
+    assert_eq!(rt; enter(&mut world, c), Some(true));
+    assert_eq!(rt; hide(&mut world, d), Some(true));
+    assert_eq!(rt; world.caller(d), Some((key(1, 1), Phase::Hiding)));
+    assert!(rt; !world.look_hidden(d), "c is running");
+    assert!(rt; !world.look_hidden(e), "e hides nothing");
+    assert_eq!(rt; leave(&mut world, c), Some(()));
+    assert!(rt; world.look_hidden(d), "nobody has a reference");
+    assert_eq!(rt; world.caller(d), Some((key(1, 1), Phase::Hidden)));
+    assert_eq!(rt; enter(&mut world, c), Some(false), "hidden");
+    assert_eq!(rt; hide(&mut world, c), Some(false), "hidden already");
+    assert_eq!(rt; enter(&mut world, e), Some(true), "another node");
+    assert_eq!(rt; show(&mut world, d), Some(()));
+    assert_eq!(rt; world.caller(d), Some((key(1, 1), Phase::Still)));
+    assert_eq!(rt; enter(&mut world, c), Some(true), "shown again");
+    assert_eq!(rt; hide(&mut world, d), Some(true));
+    assert_eq!(rt; leave(&mut world, c), Some(()));
+    assert_eq!(rt; hide(&mut world, c), Some(false), "d hides it");
+    Ok(())
 }

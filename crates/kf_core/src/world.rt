@@ -4,10 +4,11 @@
 ghost use Rattle.std.specs.Prelude.{List, ℕ, ◌≡◌, ◌+◌, ◌-◌, ◌^◌, ◌≤◌, ◌<◌, replicate, slice_get, IfOk, IfErr, None};
 ghost use Rattle.std.specs.Option.{option_map};
 ghost use Rattle.kf_core.specs.declared.refusal.Refusal.TheVariants.{NoMemory};
-ghost use Rattle.kf_core.specs.Bare.{marks_in, is_live, is_linked, is_doomed, opening};
+ghost use Rattle.kf_core.specs.Bare.{marks, marks_in, is_live, is_linked, is_doomed, is_hidden, opening};
+ghost use Rattle.kf_core.specs.Marks.{are_live};
 ghost use Rattle.kf_core.specs.Safe.{Safe};
 ghost use Rattle.kf_core.specs.Bounded.{BoundedWorld, bounded, holds};
-ghost use Rattle.kf_core.specs.Counts.{IsKept, references};
+ghost use Rattle.kf_core.specs.Counts.{IsKept, references, hiders};
 
 use crate::caller::{Caller, Phase};
 use crate::counts::Counts;
@@ -30,9 +31,9 @@ pub struct World {
     slots: Vec<SlotState>,
     callers: Vec<Caller>,
     limit: u32,
-    // By slot, so that no question walks the callers.
+    /// By slot, so that no question walks the callers.
     counts: Vec<Counts>,
-    // Where the search for a free slot need not look.
+    /// Where the search for a free slot need not look.
     hint: Hint,
 }
 
@@ -44,7 +45,7 @@ impl Model for World {
     ghost invariant = { λ w. IsKept (record { slots = w.slots.items; callers = w.callers.items }) w.counts.items w.hint };
 }
 
-// The marks of the node that a key names, where it is linked.
+/// The marks of the node that a key names, where it is linked.
 fn marks_at(slots: &[SlotState], key: Key) -> Option<Marks>
     ensures { result ≡ marks_in (slice_get slots.now key.slot) key.generation }
 {
@@ -54,45 +55,32 @@ fn marks_at(slots: &[SlotState], key: Key) -> Option<Marks>
     }
 }
 
-// So many slots of this last generation, with no node.
+/// So many slots of this last generation, with no node.
 fn empty_slots(alloc: Global, count: usize, generation: u32) -> Result<Vec<SlotState>, Refusal>
     ensures made { IfOk result (λ slots. slots.items ≡ replicate count (record { generation = generation; marks = None })) }
     ensures err { IfErr result (λ refusal. refusal ≡ NoMemory) }
 {
-    let mut slots = Vec::new(alloc);
-    for made in 0..count {
-        prove!(made < count);
-        slots
-            .push(SlotState {
-                generation,
-                marks: None,
-            })
-            .map_err(|_| Refusal::NoMemory)?;
-    }
-    Ok(slots)
+    Ok(vec![in alloc; SlotState {
+        generation,
+        marks: None
+    }; count]?)
 }
 
-// The counts of so many slots on which nobody is.
+/// The counts of so many slots on which nobody is.
 fn no_counts(alloc: Global, count: usize) -> Result<Vec<Counts>, Refusal>
-    ensures made { IfOk result (λ counts. counts.items ≡ replicate count (record { holds = 0; references = 0 })) }
+    ensures made { IfOk result (λ counts. counts.items ≡ replicate count (record { holds = 0; references = 0; hiders = 0 })) }
     ensures err { IfErr result (λ refusal. refusal ≡ NoMemory) }
 {
-    let mut counts = Vec::new(alloc);
-    for made in 0..count {
-        prove!(made < count);
-        counts
-            .push(Counts {
-                holds: 0,
-                references: 0,
-            })
-            .map_err(|_| Refusal::NoMemory)?;
-    }
-    Ok(counts)
+    Ok(vec![in alloc; Counts {
+        holds: 0,
+        references: 0,
+        hiders: 0
+    }; count]?)
 }
 
 impl World {
     /// The root alone, live, in slot 0, and no caller. Each slot's last generation is `start`, and the root's
-    /// is the next. NoMemory where a growth was refused.
+    /// is the next. NoMemory where a growth was refused. Condition: `start` is at most 2^32 - 2.
     pub fn new_at(alloc: Global, limits: Limits, start: u32) -> Result<World, Refusal>
         requires start { start ≤ 2 ^ 32 - 2 }
         ensures opens { IfOk result (λ world. world ≡ bounded (opening limits.slots start) limits.holds) }
@@ -127,9 +115,28 @@ impl World {
         }
     }
 
-    // Whether the node is linked, activated and not doomed.
+    /// Whether a caller hides the node.
+    fn is_hidden(&self, key: Key) -> bool
+        ensures { result ≡ is_hidden self.now.world key }
+    {
+        match self.slots.get(key.slot as usize) {
+            Some(state) => {
+                state.generation == key.generation && self.counts_of(key.slot).hiders > 0
+            }
+            None => false,
+        }
+    }
+
+    /// Whether the node is linked, activated, not doomed and not hidden.
     fn is_live(&self, key: Key) -> bool
         ensures { result ≡ is_live self.now.world key }
+    {
+        self.has_live_marks(key) && !self.is_hidden(key)
+    }
+
+    /// Whether the node is linked, activated and not doomed.
+    fn has_live_marks(&self, key: Key) -> bool
+        ensures { result ≡ are_live (marks self.now.world key) }
     {
         match marks_at(self.slots.as_slice(), key) {
             Some(marks) => marks.activated && !marks.doomed,
@@ -143,7 +150,7 @@ impl World {
         marks_at(self.slots.as_slice(), key).is_some()
     }
 
-    // A node that is not linked counts as doomed.
+    /// A node that is not linked counts as doomed.
     fn is_doomed(&self, key: Key) -> bool
         ensures { result ≡ is_doomed self.now.world key }
     {
@@ -153,10 +160,11 @@ impl World {
         }
     }
 
-    // The counts of a slot. Nobody is on one past the last.
+    /// The counts of a slot. Nobody is on one past the last.
     fn counts_of(&self, slot: u32) -> Counts
         ensures holds { result.holds ≡ holds self.now.world slot }
         ensures references { result.references ≡ references self.now.world slot }
+        ensures hiders { result.hiders ≡ hiders self.now.world slot }
         ensures safe { Safe self.now.world }
     {
         match self.counts.get(slot as usize) {
@@ -164,6 +172,7 @@ impl World {
             None => Counts {
                 holds: 0,
                 references: 0,
+                hiders: 0,
             },
         }
     }

@@ -38,14 +38,14 @@ impl<G: Guard> Model for OpenFile<G> {
     } };
 }
 
-// Whether the mode lets the file be read and written as wanted.
+/// Whether the mode lets the file be read and written as wanted.
 fn allows(mode: u16, want: Want) -> bool
     ensures told { result ≡ allows mode want }
 {
     (!want.read || mode & 0o444 != 0) && (!want.write || mode & 0o222 != 0)
 }
 
-// Stores the first 4,096 bytes, if there are any.
+/// Stores the first 4,096 bytes, if there are any.
 fn store_front<C: ActiveCall, O: Ops<C>>(
     ops: &mut O,
     call: &mut C,
@@ -136,7 +136,7 @@ impl<G: Guard> OpenFile<G> {
         Ok(self.contents.read_shown(offset, out))
     }
 
-    // Tries for a call, and shows the text anew under it.
+    /// Tries for a call, and shows the text anew under it.
     fn show<O: Ops<G::Call>>(
         &mut self,
         guard: &mut G,

@@ -1,6 +1,6 @@
 //! The sibling index of a directory: its entries in byte order of their names, found by binary search.
 
-ghost use Rattle.std.specs.Prelude.{◌≡◌, None, IfOk, IfErr, OnOk, OnErr, IfSome, IfNone, if◌then◌else◌};
+ghost use Rattle.std.specs.Prelude.{◌≡◌, [], vec_capacity, None, IfOk, IfErr, OnOk, OnErr, IfSome, IfNone, if◌then◌else◌};
 ghost use Rattle.std.specs.Option.{option_copied};
 ghost use Rattle.std.specs.FinMap as map;
 ghost use Rattle.kf_index.specs.Entries.{IsLeastAbove, NoneAbove, AreAbove};
@@ -57,6 +57,16 @@ fn first_above(entries: &[(Name, Key)], bound: Option<&[u8]>) -> usize
     }
 }
 
+/// Gives the memory of the entries back, where there are none left.
+fn free_when_empty(entries: &mut Vec<(Name, Key)>)
+    ensures kept { entries.new.items ≡ entries.old.items }
+    ensures freed { entries.new.items ≡ [] → vec_capacity entries.new ≡ 0 }
+{
+    if entries.is_empty() {
+        entries.shrink_to_fit();
+    }
+}
+
 impl Index {
     /// An index without entries. It takes no memory yet.
     pub fn new(alloc: Global) -> Index
@@ -97,7 +107,7 @@ impl Index {
     }
 
     /// Takes the entry of this name out and answers its key, or None where there is none
-    /// (`kernfs_unlink_sibling`).
+    /// (`kernfs_unlink_sibling`). With the last entry the memory of all is given back.
     pub fn remove(&mut self, name: &[u8]) -> Option<Key>
         ensures found { result ≡ map.get self.old name.now }
         ensures removed { self.new ≡ map.remove self.old name.now }
@@ -105,6 +115,7 @@ impl Index {
         match search(&self.entries, name) {
             Ok(at) => {
                 let (_, key) = self.entries.remove(at);
+                free_when_empty(&mut self.entries);
                 Some(key)
             }
             Err(_) => None,

@@ -4,7 +4,7 @@ ghost use Rattle.std.specs.Prelude.{◌≡◌, ℕ, List, IfOk, IfErr};
 ghost use Rattle.std.specs.Option.{unwrap_or};
 ghost use Rattle.kf_core.specs.Names.{IsLawfulName, name_fault};
 
-use kf_core::{NameBytes, Refusal};
+use kf_core::Refusal;
 use std::alloc::{AllocError, Global};
 use std::marker::Model;
 
@@ -58,24 +58,6 @@ impl Name {
             Ok(bytes) => Ok(Name { bytes }),
             Err(_) => Err(Refusal::NoMemory),
         }
-    }
-
-    /// Bytes that are known to be lawful, as a name. It takes no memory.
-    pub fn from_name_bytes(bytes: NameBytes) -> Name
-        requires lawful { IsLawfulName bytes }
-        ensures same { result ≡ bytes }
-    {
-        Name {
-            bytes: bytes.into_bytes(),
-        }
-    }
-
-    /// The bytes of the name, taken out of it. It takes no memory.
-    pub fn into_name_bytes(self) -> NameBytes
-        ensures same { result ≡ self }
-        ensures lawful { IsLawfulName result }
-    {
-        NameBytes::from_bytes(self.bytes)
     }
 
     /// The bytes of the name.

@@ -152,12 +152,10 @@ fn takes_lawful_names_alone(rt: HostRuntime) -> Result<(), Fail> {
 }
 
 #[test]
-fn gives_bytes_back(rt: HostRuntime) -> Result<(), Fail> {
+fn copies_have_bytes_of_their_own(rt: HostRuntime) -> Result<(), Fail> {
     let name = Name::new(rt.alloc(), b"cpu0")?;
     let copy = name.clone()?;
+    drop(name);
     assert_eq!(rt; copy.bytes(), b"cpu0".as_slice());
-    let bytes = name.into_name_bytes();
-    assert_eq!(rt; bytes.bytes(), b"cpu0".as_slice());
-    assert_eq!(rt; Name::from_name_bytes(bytes).bytes(), b"cpu0".as_slice());
     Ok(())
 }

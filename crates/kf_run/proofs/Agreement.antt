@@ -17,7 +17,7 @@ use Rattle.kf_core.specs.Lawful.{Lawful}
 use Rattle.kf_core.specs.PostOrder.{IsPostOrder}
 use Rattle.kf_core.specs.Commands.{after, activated_record, doomed_record, new_record}
 use Rattle.kf_core.proofs.Climbs.{keys_tell, same_key_self}
-use Rattle.kf_core.proofs.TreeLists.{slice_get-set_same}
+use Rattle.kf_core.proofs.Lists.{slice_get-set_same}
 use Rattle.kf_core.proofs.Mapped.{find_mapped}
 use Rattle.kf_core.proofs.FoundRecords.{in_found, found_in, find_at, find_cleared, find_filled, linked_here}
 use Rattle.kf_run.specs.Agreement.{SameMarks, contains_key, doomed_if, risen_if, Changed}

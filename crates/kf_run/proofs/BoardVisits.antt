@@ -1,6 +1,7 @@
 -- Visits to a node by the caller of an open file: what they leave of the nodes, and what they are to the one caller.
 use Rattle.std.proofs.Common.{◌≡◌, inl, inr, ℕ, zero, suc, ◌<◌, refl, ap, arith, sym, ◌∙◌, subst, Bool, true, false, List, [], ◌∷◌, ◌++◌, length, slice_set}
-use Rattle.std.specs.Prelude.{Option, None, Some, slice_get, is_some, IsTrue, IsFalse, Result}
+use Rattle.std.specs.Prelude.{Option, None, Some, slice_get, is_some, IsTrue, IsFalse, Result, Ok, Err, IfOk, IfErr, OnErr, not, ◌&&◌, map}
+use Rattle.std.specs.Option.{option_map}
 use Rattle.std.proofs.lemmas.Option.{same_Some, slice_get_within}
 use Rattle.kf_core.specs.declared.key.Key.{Key}
 use Rattle.kf_core.specs.declared.key.Node.{Node}
@@ -13,7 +14,8 @@ use Rattle.kf_core.specs.declared.refusal.Refusal.{Refusal}
 use Rattle.kf_core.specs.declared.event.Event.TheVariants.{Enter, Release, Pin}
 use Rattle.kf_core.specs.Marks.{are_live}
 use Rattle.kf_core.specs.Phases.{is_waiting}
-use Rattle.kf_core.specs.Bare.{BareWorld, IsCaller, is_live as is_live_there}
+use Rattle.kf_core.specs.Agrees.{AgreesHidden}
+use Rattle.kf_core.specs.Bare.{BareWorld, IsCaller, is_hidden, is_live as is_live_there}
 use Rattle.kf_core.specs.Steps.{with_phase, with_caller}
 use Rattle.kf_core.specs.Bounded.{BoundedWorld, bounded, Happens, May, holds}
 use Rattle.kf_core.specs.Calls.{Visit, unvisited, tried}
@@ -21,14 +23,19 @@ use Rattle.kf_core.specs.WorldGuard.{VisitsAlone}
 use Rattle.kf_core.proofs.Lists.{slice_get-set_same}
 use Rattle.kf_core.proofs.WorldVisits.{may_enter}
 use Rattle.kf_tree.specs.TreeLogs.{TreeLog}
-use Rattle.kf_tree.specs.Causes.{live_in}
+use Rattle.kf_core.specs.declared.records.Record.{Record}
+use Rattle.kf_core.specs.Tree.{record_at}
+use Rattle.kf_core.proofs.FoundRecords.{found_in}
+use Rattle.kf_tree.specs.Causes.{live_in, lives_in}
 use Rattle.kf_files.specs.declared.contents.Want.{Want}
 use Rattle.kf_files.specs.declared.ops.Fault.{Fault}
 use Rattle.kf_files.specs.declared.ops.FileError.{FileError}
 use Rattle.kf_files.specs.Files.{FileState, Shown, Reads, Writes, Opens}
 use Rattle.kf_run.specs.Nodes.{Nodes, nodes_of, last_of, AreTied, Waits, StillWaits, hold_count, spent_on, with_spent}
+use Rattle.kf_run.specs.Removals.{PinsRefused, still_on, with_callers}
 use Rattle.kf_run.specs.Visits.{VisitsLive, file_cause}
 use Rattle.kf_run.proofs.Callers.{waits_inside, waiting_releases}
+use Rattle.kf_run.proofs.HiddenMarks.{told_by, told_pinned, told_released, told_held, told_spent, hiders_waiting}
 
 -- a caller has one key
 one_key : (w : BareWorld) (id : ℕ) (k l : Key) (p q : Phase) → IsCaller w id k p → IsCaller w id l q → k ≡ l
@@ -67,11 +74,31 @@ module _ {Done : Type 0} (w : BoundedWorld) (id : ℕ) (key : Key) (w' : Bounded
   either_way idle does (tried None) d h = h.2
   either_way idle does (tried (Some x)) d h = d x h.2
 
-pub live_told : (log : TreeLog) (w : BareWorld) (key : Key) → AreTied log w → is_live_there w key ≡ live_in log.tree key
-live_told log w key tied = ap are_live (tied.marks key)
+pub live_told : (log : TreeLog) (w : BareWorld) (key : Key) → AreTied log w → AgreesHidden log.tree w → is_live_there w key ≡ live_in log.tree key
+live_told log w key tied told = ap (λ m. are_live m && not (is_hidden w key)) (tied.marks key) ∙ go (record_at log.tree key) refl
+  where
+    go : (o : Option Record) → record_at log.tree key ≡ o → (are_live (option_map (λ (r : Record). r.marks) o) && not (is_hidden w key)) ≡ lives_in o
+    go None e = refl
+    go (Some r) e = let there = found_in log.tree key r e in ap (λ b. are_live (Some r.marks) && not b) (ap (is_hidden w) (sym there.1) ∙ sym (told r there.0))
 
 pub tied_slots : (log : TreeLog) (w w' : BareWorld) → AreTied log w → w'.slots ≡ w.slots → AreTied log w'
 tied_slots log w w' t e = subst (λ ps. AreTied log (record { slots = ps; callers = w'.callers })) (sym e) (record { kept = t.kept; undoomed = t.undoomed; marks = t.marks; slots = t.slots })
+
+-- a pin, whatever came of it
+pub pinned_stays : (log : TreeLog) (w w' : BoundedWorld) (key : Key) (result : Result ℕ Refusal) → AreTied log w.world → AgreesHidden log.tree w.world →
+    IfOk result (λ id. Happens w (Pin id key) w') → OnErr result (w' ≡ w) → AreTied log w'.world × AgreesHidden log.tree w'.world
+pinned_stays log w w' key (Ok id) tied told pin same = (tied_slots log w.world w'.world tied (ap (λ (v : BareWorld). v.slots) pin.steps.2), told_pinned log.tree w w' told id key pin)
+pinned_stays log w w' key (Err refusal) tied told pin same = subst (λ (v : BoundedWorld). AreTied log v.world × AgreesHidden log.tree v.world) (sym same) (tied, told)
+
+-- holds of some nodes, or none
+pub held_stays : (log : TreeLog) (w w' : BoundedWorld) (keys : List Key) (result : Result ℕ Refusal) → AreTied log w.world → AgreesHidden log.tree w.world →
+    IfOk result (λ _. w' ≡ with_callers w (w.world.callers ++ map still_on keys)) → IfErr result (λ refusal. PinsRefused w keys refusal × ((spent : List Key) × (w' ≡ with_callers w (w.world.callers ++ map spent_on spent)))) →
+    AreTied log w'.world × AgreesHidden log.tree w'.world
+held_stays log w w' keys (Ok first) tied told held refused = (tied_slots log w.world w'.world tied (ap (λ (v : BoundedWorld). v.world.slots) held), told_held log.tree w w' told keys (ap (λ (v : BoundedWorld). v.world.callers) held))
+held_stays log w w' keys (Err refusal) tied told held refused = (
+  tied_slots log w.world w'.world tied (ap (λ (v : BoundedWorld). v.world.slots) refused.1.1),
+  told_spent log.tree w w' told refused.1.0 (ap (λ (v : BoundedWorld). v.world.callers) refused.1.1),
+)
 
 -- the value that contracts see, where only the callers are others
 pub seen_callers : (n : Nodes) (log : TreeLog) (w w' : BoundedWorld) (callers : List Caller) → nodes_of log w ≡ n → w'.world.slots ≡ w.world.slots → w'.limit ≡ w.limit → w'.world.callers ≡ callers →
@@ -91,8 +118,8 @@ seen_waits n log w id key callers is h = subst (λ (m : Nodes). StillWaits m.cal
 pub can_try : (n : Nodes) (log : TreeLog) (w : BoundedWorld) (id : ℕ) (key : Key) → nodes_of log w ≡ n → Waits n.callers id key → May w (Enter id)
 can_try n log w id key is h = let h' = waits_inside n log w id key is h in may_enter w id key h'.phase h'.there h'.waits
 
-pub live_seen : (n : Nodes) (log : TreeLog) (w : BoundedWorld) (key : Key) → nodes_of log w ≡ n → AreTied log w.world → is_live_there w.world key ≡ live_in n.log.tree key
-live_seen n log w key is tied = live_told log w.world key tied ∙ ap (λ (m : Nodes). live_in m.log.tree key) is
+pub live_seen : (n : Nodes) (log : TreeLog) (w : BoundedWorld) (key : Key) → nodes_of log w ≡ n → AreTied log w.world → AgreesHidden log.tree w.world → is_live_there w.world key ≡ live_in n.log.tree key
+live_seen n log w key is tied told = live_told log w.world key tied told ∙ ap (λ (m : Nodes). live_in m.log.tree key) is
 
 -- ---- the words of files, by other words for a visit
 
@@ -186,6 +213,9 @@ module _ (n : Nodes) (log : TreeLog) (w pinned w' : BoundedWorld) (id : ℕ) (ke
   waits_pinned : Waits pinned.world.callers id key
   waits_pinned = record { phase = Still; there = pinned_there w id key pinned pin; waits = refl }
 
+  pub told_opened : AgreesHidden log.tree w.world → AgreesHidden log.tree w'.world
+  told_opened told = told_by log.tree pinned.world w'.world (hiders_waiting pinned.world.callers id key w'.world.callers waits_pinned visit.callers) (told_pinned log.tree w pinned told id key pin)
+
   -- the new caller's phase, and the callers
   new_phase : (phase : Phase) × IsTrue (is_waiting phase) × (w'.world.callers ≡ w.world.callers ++ record { key = key; phase = phase } ∷ [])
   new_phase = go visit.callers
@@ -218,6 +248,9 @@ module _ (n : Nodes) (log : TreeLog) (w pinned w' : BoundedWorld) (id : ℕ) (ke
     pub tied_given_back : AreTied log w''.world
     tied_given_back = tied_slots log w'.world w''.world tied_opened (ap (λ (v : BareWorld). v.slots) release.steps.4)
 
+    pub told_given_back : AgreesHidden log.tree w.world → AgreesHidden log.tree w''.world
+    told_given_back told = told_released log.tree w' w'' (told_opened told) id' release
+
     spent_callers : w''.world.callers ≡ n.callers ++ spent_on key ∷ []
     spent_callers =
         ap (λ (v : BareWorld). v.callers) release.steps.4
@@ -230,9 +263,9 @@ module _ (n : Nodes) (log : TreeLog) (w pinned w' : BoundedWorld) (id : ℕ) (ke
     pub given_back_seen : nodes_of log w'' ≡ with_spent n (key ∷ [])
     given_back_seen = seen_callers n log w w'' (n.callers ++ spent_on key ∷ []) is (ap (λ (v : BareWorld). v.slots) release.steps.4 ∙ visit.slots ∙ pinned_slots) (release.limit ∙ visit.limit ∙ pin.limit) spent_callers
 
-pub live_pinned : (n : Nodes) (log : TreeLog) (w pinned : BoundedWorld) (id : ℕ) (key : Key) → nodes_of log w ≡ n → AreTied log w.world → Happens w (Pin id key) pinned → is_live_there pinned.world key ≡ live_in n.log.tree key
-live_pinned n log w pinned id key is tied pin =
-    live_told log pinned.world key (tied_slots log w.world pinned.world tied (ap (λ (v : BareWorld). v.slots) pin.steps.2)) ∙ ap (λ (m : Nodes). live_in m.log.tree key) is
+pub live_pinned : (n : Nodes) (log : TreeLog) (w pinned : BoundedWorld) (id : ℕ) (key : Key) → nodes_of log w ≡ n → AreTied log w.world → AgreesHidden log.tree w.world → Happens w (Pin id key) pinned → is_live_there pinned.world key ≡ live_in n.log.tree key
+live_pinned n log w pinned id key is tied told pin =
+    live_told log pinned.world key (tied_slots log w.world pinned.world tied (ap (λ (v : BareWorld). v.slots) pin.steps.2)) (told_pinned log.tree w pinned told id key pin) ∙ ap (λ (m : Nodes). live_in m.log.tree key) is
 
 pub room_seen : (n : Nodes) (log : TreeLog) (w : BoundedWorld) (key : Key) → nodes_of log w ≡ n → holds w.world key.slot < w.limit → hold_count n.callers key.slot < n.limit
 room_seen n log w key is h = subst (λ (m : Nodes). hold_count m.callers key.slot < m.limit) is h

@@ -16,7 +16,7 @@ use Rattle.kf_core.specs.Bounded.{BoundedWorld, bounded, Happens, May}
 use Rattle.kf_core.specs.Steps.{with_marks, with_phase, MayLook, MayPart, NoReference}
 use Rattle.kf_run.specs.Removals.{IsMarkedDoomed, released, with_callers, taken_out}
 use Rattle.kf_core.proofs.Climbs.{same_key_self}
-use Rattle.kf_core.proofs.TreeLists.{slice_get-set_same}
+use Rattle.kf_core.proofs.Lists.{slice_get-set_same}
 use Rattle.kf_run.proofs.Places.{marks_written, alone_linked}
 
 -- the caller of this number is on the key, in this phase

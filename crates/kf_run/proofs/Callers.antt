@@ -2,7 +2,7 @@
 use Rattle.std.proofs.Common.{◌≡◌, ℕ, refl, sym, subst, true}
 use Rattle.kf_core.specs.declared.key.Key.{Key}
 use Rattle.kf_core.specs.declared.caller.Phase.{Phase}
-use Rattle.kf_core.specs.declared.caller.Phase.TheVariants.{Still, Turned, Running, Broken, Restored, Drained, Parted, Spent}
+use Rattle.kf_core.specs.declared.caller.Phase.TheVariants.{Still, Turned, Running, Broken, Restored, Drained, Parted, Hiding, Hidden, Spent}
 use Rattle.kf_core.specs.declared.event.Event.TheVariants.{Release}
 use Rattle.kf_core.specs.Phases.{is_waiting, may_release}
 use Rattle.kf_core.specs.Bounded.{BoundedWorld, May}
@@ -17,6 +17,8 @@ waiting_releases Broken h = absurd (cc)
 waiting_releases Restored h = absurd (cc)
 waiting_releases Drained h = absurd (cc)
 waiting_releases Parted h = absurd (cc)
+waiting_releases Hiding h = absurd (cc)
+waiting_releases Hidden h = absurd (cc)
 waiting_releases Spent h = absurd (cc)
 
 pub waits_inside : (n : Nodes) (log : TreeLog) (w : BoundedWorld) (id : ℕ) (key : Key) → nodes_of log w ≡ n → Waits n.callers id key → Waits w.world.callers id key

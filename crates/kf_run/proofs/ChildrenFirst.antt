@@ -14,7 +14,7 @@ use Rattle.kf_run.specs.Agreement.{contains_key}
 use Rattle.kf_run.specs.Removals.{AreChildrenFirst}
 use Rattle.kf_run.proofs.Agreement.{is_listed}
 use Rattle.kf_core.proofs.Climbs.{after_step, no_return}
-use Rattle.kf_run.proofs.Different.{no_apart}
+use Rattle.kf_core.proofs.Different.{no_apart}
 use Rattle.kf_core.proofs.Mapped.{mapped_from}
 use Rattle.kf_core.proofs.FoundRecords.{parent_known, in_found, root_parent, root_met, subtree_to, subtree_from}
 

@@ -9,23 +9,24 @@ use Rattle.std.proofs.lemmas.Bool.Decides.{eqb_tells}
 use Rattle.kf_core.specs.declared.key.Key.{Key}
 use Rattle.kf_core.specs.declared.caller.Caller.{Caller}
 use Rattle.kf_core.specs.declared.caller.Phase.{Phase}
-use Rattle.kf_core.specs.declared.caller.Phase.TheVariants.{Still, Turned, Running, Broken, Restored, Drained, Parted, Spent}
+use Rattle.kf_core.specs.declared.caller.Phase.TheVariants.{Still, Turned, Running, Broken, Restored, Drained, Parted, Hiding, Hidden, Spent}
 use Rattle.kf_core.specs.Phases.{is_waiting, has_reference, is_spent}
-use Rattle.kf_core.proofs.Lists.{slice_get-set_same, slice_get-set_other}
+use Rattle.kf_core.proofs.Lists.{slice_get-set_same, slice_get-set_other, after_set, after_push}
 use Rattle.kf_run.specs.declared.nodes.visits.BoardFile.{BoardFile}
-use Rattle.kf_run.specs.Nodes.{Waits, StillWaits, AllIdle, hold_count, spent_on}
-use Rattle.kf_run.specs.Plain.{is_on}
-use Rattle.kf_run.specs.PlainInside.{plain_file, plain_files, IsHeldFile, IsShort}
-use Rattle.kf_core.proofs.TreeLists.{after_set, after_push}
+use Rattle.kf_run.specs.declared.nodes.hiding.BoardToken.{BoardToken}
+use Rattle.kf_run.specs.Nodes.{Waits, StillWaits, AllIdle, hidden_on, hold_count, spent_on}
+use Rattle.kf_run.specs.Plain.{count_on, is_on, token_count}
+use Rattle.kf_run.specs.PlainInside.{plain_file, plain_files, plain_tokens, IsHeldFile, IsHeldToken, IsShort}
 use Rattle.kf_run.proofs.Counts.{none_counted, count_push, count_set}
 use Rattle.kf_run.proofs.BoardVisits.{last_there}
 
 -- the part of a whole board that speaks of callers and open files
-pub record AreHeld (callers : List Caller) (files : List (Option BoardFile)) : Type 0 where
+pub record AreHeld (callers : List Caller) (files : List (Option BoardFile)) (tokens : List (Option BoardToken)) : Type 0 where
   pub idle : AllIdle callers
   pub held : (file : ℕ) (f : BoardFile) → slice_get files file ≡ Some (Some f) → IsHeldFile callers f
   pub apart : (one other : ℕ) (f g : BoardFile) → slice_get files one ≡ Some (Some f) → slice_get files other ≡ Some (Some g) → f.file.hold ≡ g.file.hold → one ≡ other
-  pub counted : (slot : ℕ) → hold_count callers slot ≡ count_by (is_on slot) (plain_files files)
+  pub hidden : (slot : ℕ) (t : BoardToken) → slice_get tokens slot ≡ Some (Some t) → IsHeldToken callers slot t
+  pub counted : (slot : ℕ) → hold_count callers slot ≡ count_on (plain_files files) (plain_tokens tokens) slot
 
 waits_idle : (p : Phase) → is_waiting p ≡ true → has_reference p ≡ false
 waits_idle Still h = refl
@@ -35,6 +36,8 @@ waits_idle Broken h = absurd (cc)
 waits_idle Restored h = absurd (cc)
 waits_idle Drained h = absurd (cc)
 waits_idle Parted h = absurd (cc)
+waits_idle Hiding h = absurd (cc)
+waits_idle Hidden h = absurd (cc)
 waits_idle Spent h = absurd (cc)
 
 waits_holds : (p : Phase) → is_waiting p ≡ true → is_spent p ≡ false
@@ -45,6 +48,8 @@ waits_holds Broken h = absurd (cc)
 waits_holds Restored h = absurd (cc)
 waits_holds Drained h = absurd (cc)
 waits_holds Parted h = absurd (cc)
+waits_holds Hiding h = absurd (cc)
+waits_holds Hidden h = absurd (cc)
 waits_holds Spent h = absurd (cc)
 
 phase_in : (c : Caller) (key : Key) (phase : Phase) → ◌≡◌ {A = Caller} c (record { key = key; phase = phase }) → c.phase ≡ phase
@@ -61,14 +66,14 @@ waiting_counts slot key phase w = let e = waits_holds phase w in rw e (both (key
     both true = refl
     both false = refl
 
-spent_counts : (slot : ℕ) (key : Key) → ((key.slot == slot) && not (is_spent Spent)) ≡ false
+pub spent_counts : (slot : ℕ) (key : Key) → ((key.slot == slot) && not (is_spent Spent)) ≡ false
 spent_counts slot key = neither (key.slot == slot)
   where
     neither : (b : Bool) → (b && false) ≡ false
     neither true = refl
     neither false = refl
 
-kept_left : {X : Type 0} (xs ys : List X) (i : ℕ) (x : X) → slice_get xs i ≡ Some x → slice_get (xs ++ ys) i ≡ Some x
+pub kept_left : {X : Type 0} (xs ys : List X) (i : ℕ) (x : X) → slice_get xs i ≡ Some x → slice_get (xs ++ ys) i ≡ Some x
 kept_left [] ys i x e = absurd (none-some x e)
 kept_left (y ∷ xs) ys zero x e = e
 kept_left (y ∷ xs) ys (suc i) x e = kept_left xs ys i x e
@@ -86,9 +91,20 @@ spent_there (k ∷ keys) (suc i) c e = spent_there keys i c e
 none_spent : (slot : ℕ) (c : Caller) → c.phase ≡ Spent → ((c.key.slot == slot) && not (is_spent c.phase)) ≡ false
 none_spent slot c e = ap (λ p. (c.key.slot == slot) && not (is_spent p)) e ∙ spent_counts slot c.key
 
-module _ (callers : List Caller) (files : List (Option BoardFile)) (h : AreHeld callers files) where
+-- who waits hides nothing
+pub not_the_hider : (callers : List Caller) (id : ℕ) (key : Key) (d : ℕ) (k : Key) → Waits callers id key → slice_get callers d ≡ Some (hidden_on k) → d ≢ id
+not_the_hider callers id key d k w hides e = clash w.phase w.waits (ap (λ (c : Caller). c.phase) (same_Some (record { key = key; phase = w.phase }) (hidden_on k) (sym w.there ∙ ap (slice_get callers) (sym e) ∙ hides)))
+  where
+    clash : (p : Phase) → is_waiting p ≡ true → p ≡ Hidden → ⊥
+    clash p waits is = let x : false ≡ true = ap is_waiting (sym is) ∙ waits in cc
+
+-- a token stays as it was where a waiting caller does something else
+hidden_still : (callers : List Caller) (id : ℕ) (key : Key) (c : Caller) (slot : ℕ) (t : BoardToken) → Waits callers id key → IsHeldToken callers slot t → IsHeldToken (slice_set callers id c) slot t
+hidden_still callers id key c slot t w h = record { hides = slice_get-set_other callers id t.hold c (not_the_hider callers id key t.hold t.key w h.hides) ∙ h.hides; in_slot = h.in_slot }
+
+module _ (callers : List Caller) (files : List (Option BoardFile)) (tokens : List (Option BoardToken)) (h : AreHeld callers files tokens) where
   -- callers that came and released what they held
-  pub held_spent : (keys : List Key) → AreHeld (callers ++ map spent_on keys) files
+  pub held_spent : (keys : List Key) → AreHeld (callers ++ map spent_on keys) files tokens
   held_spent keys = record {
     idle = λ id key phase e. elim (in_either callers (map spent_on keys) id _ e) [
       | inl old ↦ h.idle id key phase old
@@ -101,6 +117,7 @@ module _ (callers : List Caller) (files : List (Option BoardFile)) (h : AreHeld 
       short = old.short;
     };
     apart = h.apart;
+    hidden = λ slot t e. let old = h.hidden slot t e in record { hides = kept_left callers (map spent_on keys) t.hold _ old.hides; in_slot = old.in_slot };
     counted = λ slot.
         let none = none_counted (λ (c : Caller). (c.key.slot == slot) && not (is_spent c.phase)) (map spent_on keys) (λ i c e. none_spent slot c (spent_there keys i c e)) in
         let all = sum_by-append (λ (c : Caller). cond ((c.key.slot == slot) && not (is_spent c.phase)) 1 0) callers (map spent_on keys) in
@@ -112,7 +129,7 @@ module _ (callers : List Caller) (files : List (Option BoardFile)) (h : AreHeld 
 
   -- one caller more, and the file that it is for
   pub held_opened : (file : ℕ) (f : BoardFile) (phase : Phase) → slice_get files file ≡ Some None → IsTrue (is_waiting phase) → f.file.hold ≡ length callers → f.file.tag ≡ f.key.slot → f.file.post ≡ f.key.slot → IsShort f.file.state.text →
-      AreHeld (callers ++ record { key = f.key; phase = phase } ∷ []) (slice_set files file (Some f))
+      AreHeld (callers ++ record { key = f.key; phase = phase } ∷ []) (slice_set files file (Some f)) tokens
   held_opened file f phase empty w hold tag post short = record {
     idle = λ id key p e. elim (after_push callers id (record { key = f.key; phase = phase }) (record { key = key; phase = p }) e) [
       | inl new ↦ ap has_reference (ap (λ (x : Caller). x.phase) (sym new)) ∙ waits_idle phase w
@@ -138,13 +155,14 @@ module _ (callers : List Caller) (files : List (Option BoardFile)) (h : AreHeld 
         | inr b ↦ h.apart one other g k (is_old one g a.1 e) (is_old other k b.1 d) same
       ])
     ];
+    hidden = λ slot t e. let old = h.hidden slot t e in record { hides = kept_left callers _ t.hold _ old.hides; in_slot = old.in_slot };
     counted = λ slot.
         let old = h.counted slot in
         let more = count_push (λ (c : Caller). (c.key.slot == slot) && not (is_spent c.phase)) callers (record { key = f.key; phase = phase }) ∙ ap (λ n. hold_count callers slot + n) (waiting_counts slot f.key phase w) in
         let there : slice_get (plain_files files) file ≡ Some None = slice_get-map (option_map plain_file) files file ∙ ap (option_map (option_map plain_file)) empty in
         let set = count_set (is_on slot) (plain_files files) file None (Some (plain_file f)) there in
         let shape = map-set (option_map plain_file) files file (Some f) in
-        more ∙ sums (hold_count callers slot) (count_by (is_on slot) (plain_files files)) _ _ old set ∙ ap (count_by (is_on slot)) (sym shape);
+        more ∙ sums (hold_count callers slot) (count_by (is_on slot) (plain_files files)) (token_count (slice_get (plain_tokens tokens) slot)) _ _ old set ∙ ap (λ fs. count_on fs (plain_tokens tokens) slot) (sym shape);
   }
     where
       is_new : (at : ℕ) (g : BoardFile) → at ≡ file → slice_get (slice_set files file (Some f)) at ≡ Some (Some g) → f ≡ g
@@ -156,11 +174,11 @@ module _ (callers : List Caller) (files : List (Option BoardFile)) (h : AreHeld 
       too_far : (g : BoardFile) → IsHeldFile callers g → g.file.hold ≡ length callers → ⊥
       too_far g x e = let inside = slice_get_within callers g.file.hold _ x.waits.there in omega (arith, inside, e)
 
-      sums : (a b c d : ℕ) → a ≡ b → c + 0 ≡ b + d → a + d ≡ c
-      sums a b c d e s = omega (arith, e, s)
+      sums : (a b t c d : ℕ) → a ≡ b + t → c + 0 ≡ b + d → a + d ≡ c + t
+      sums a b t c d e s = omega (arith, e, s)
 
   -- one file less, and its caller spent
-  pub held_closed : (file : ℕ) (f : BoardFile) → slice_get files file ≡ Some (Some f) → AreHeld (slice_set callers f.file.hold (spent_on f.key)) (slice_set files file None)
+  pub held_closed : (file : ℕ) (f : BoardFile) → slice_get files file ≡ Some (Some f) → AreHeld (slice_set callers f.file.hold (spent_on f.key)) (slice_set files file None) tokens
   held_closed file f there = record {
     idle = λ id key p e. elim (after_set callers f.file.hold id (spent_on f.key) (record { key = key; phase = p }) e) [
       | inl new ↦ ap has_reference (ap (λ (x : Caller). x.phase) (sym new))
@@ -173,6 +191,7 @@ module _ (callers : List Caller) (files : List (Option BoardFile)) (h : AreHeld 
       short = old.short;
     };
     apart = λ one other g k e d same. h.apart one other g k (not_closed one g e).1 (not_closed other k d).1 same;
+    hidden = λ slot t e. hidden_still callers f.file.hold f.key (spent_on f.key) slot t (h.held file f there).waits (h.hidden slot t e);
     counted = λ slot.
         let old = h.counted slot in
         let was = h.held file f there in
@@ -182,7 +201,7 @@ module _ (callers : List Caller) (files : List (Option BoardFile)) (h : AreHeld 
         let shape = map-set (option_map plain_file) files file None in
         let one = waiting_counts slot f.key was.waits.phase was.waits.waits in
         let none : ◌≡◌ {A = ℕ} (cond ((f.key.slot == slot) && not (is_spent Spent)) 1 0) 0 = ap (λ (b : Bool). cond {A = ℕ} b 1 0) (spent_counts slot f.key) in
-        sums _ (hold_count callers slot) _ (count_by (is_on slot) (plain_files files)) _ _ _ callers_set one none files_set old ∙ ap (count_by (is_on slot)) (sym shape);
+        sums _ (hold_count callers slot) _ (count_by (is_on slot) (plain_files files)) _ _ _ (token_count (slice_get (plain_tokens tokens) slot)) callers_set one none files_set old ∙ ap (λ fs. count_on fs (plain_tokens tokens) slot) (sym shape);
   }
     where
       not_closed : (at : ℕ) (g : BoardFile) → slice_get (slice_set files file None) at ≡ Some (Some g) → (at ≢ file) × (slice_get files at ≡ Some (Some g))
@@ -191,12 +210,12 @@ module _ (callers : List Caller) (files : List (Option BoardFile)) (h : AreHeld 
         | inr d ↦ (d.1, sym (slice_get-set_other files file at None d.1) ∙ e)
       ]
 
-      sums : (a b c d p q r : ℕ) → a + p ≡ b + q → p ≡ r → q ≡ 0 → c + r ≡ d + 0 → b ≡ d → a ≡ c
-      sums a b c d p q r x y z s e = omega (arith, x, y, z, s, e)
+      sums : (a b c d p q r t : ℕ) → a + p ≡ b + q → p ≡ r → q ≡ 0 → c + r ≡ d + 0 → b ≡ d + t → a ≡ c + t
+      sums a b c d p q r t x y z s e = omega (arith, x, y, z, s, e)
 
 -- a caller that waits takes another phase in which it waits
-pub held_moved : (callers : List Caller) (files : List (Option BoardFile)) (h : AreHeld callers files) (file : ℕ) (f : BoardFile) (phase : Phase) → slice_get files file ≡ Some (Some f) → IsTrue (is_waiting phase) → AreHeld (slice_set callers f.file.hold (record { key = f.key; phase = phase })) files
-held_moved callers files h file f phase there w = record {
+pub held_moved : (callers : List Caller) (files : List (Option BoardFile)) (tokens : List (Option BoardToken)) (h : AreHeld callers files tokens) (file : ℕ) (f : BoardFile) (phase : Phase) → slice_get files file ≡ Some (Some f) → IsTrue (is_waiting phase) → AreHeld (slice_set callers f.file.hold (record { key = f.key; phase = phase })) files tokens
+held_moved callers files tokens h file f phase there w = record {
   idle = λ id key p e. elim (after_set callers f.file.hold id (record { key = f.key; phase = phase }) (record { key = key; phase = p }) e) [
     | inl new ↦ ap has_reference (ap (λ (x : Caller). x.phase) (sym new)) ∙ waits_idle phase w
     | inr old ↦ h.idle id key p old
@@ -218,6 +237,7 @@ held_moved callers files h file f phase there w = record {
     }
   ];
   apart = h.apart;
+  hidden = λ slot t e. hidden_still callers f.file.hold f.key (record { key = f.key; phase = phase }) slot t (h.held file f there).waits (h.hidden slot t e);
   counted = λ slot.
       let own = h.held file f there in
       let set = count_set (λ (c : Caller). (c.key.slot == slot) && not (is_spent c.phase)) callers f.file.hold (record { key = f.key; phase = own.waits.phase }) (record { key = f.key; phase = phase }) own.waits.there in
@@ -230,16 +250,17 @@ held_moved callers files h file f phase there w = record {
     equal a b p q r x y z = omega (arith, x, y, z)
 
 -- a file's caller has waited on, and its file keeps something else
-pub held_same : (callers : List Caller) (files : List (Option BoardFile)) (h : AreHeld callers files) (file : ℕ) (f f' : BoardFile) → slice_get files file ≡ Some (Some f) → f'.key ≡ f.key → f'.file.hold ≡ f.file.hold → f'.file.tag ≡ f.file.tag → f'.file.post ≡ f.file.post → IsShort f'.file.state.text →
-    AreHeld callers (slice_set files file (Some f'))
-held_same callers files h file f f' there key hold tag post short = record {
+pub held_same : (callers : List Caller) (files : List (Option BoardFile)) (tokens : List (Option BoardToken)) (h : AreHeld callers files tokens) (file : ℕ) (f f' : BoardFile) → slice_get files file ≡ Some (Some f) → f'.key ≡ f.key → f'.file.hold ≡ f.file.hold → f'.file.tag ≡ f.file.tag → f'.file.post ≡ f.file.post → IsShort f'.file.state.text →
+    AreHeld callers (slice_set files file (Some f')) tokens
+held_same callers files tokens h file f f' there key hold tag post short = record {
   idle = h.idle;
   held = λ at g e. elim (eqb_tells at file) [
     | inl s ↦ subst (λ x. IsHeldFile callers x) (is_new at g s.1 e) kept
     | inr d ↦ h.held at g (is_old at g d.1 e)
   ];
   apart = λ one other g k e d same. h.apart one other (was one g e).0 (was other k d).0 (was one g e).1 (was other k d).1 ((was one g e).2 ∙ same ∙ sym (was other k d).2);
-  counted = λ slot. h.counted slot ∙ same_count slot;
+  hidden = h.hidden;
+  counted = λ slot. h.counted slot ∙ ap (λ n. n + token_count (slice_get (plain_tokens tokens) slot)) (same_count slot);
 }
   where
     is_new : (at : ℕ) (g : BoardFile) → at ≡ file → slice_get (slice_set files file (Some f')) at ≡ Some (Some g) → f' ≡ g
@@ -272,8 +293,8 @@ held_same callers files h file f f' there key hold tag post short = record {
         equal : (a b p q : ℕ) → a + p ≡ b + q → q ≡ p → b ≡ a
         equal a b p q x e = omega (arith, x, e)
 
-pub held_visited : (callers : List Caller) (files : List (Option BoardFile)) (h : AreHeld callers files) (file : ℕ) (f f' : BoardFile) (callers' : List Caller) → slice_get files file ≡ Some (Some f) → StillWaits callers f.file.hold f.key callers' → f'.key ≡ f.key → f'.file.hold ≡ f.file.hold → f'.file.tag ≡ f.file.tag → f'.file.post ≡ f.file.post → IsShort f'.file.state.text →
-    AreHeld callers' (slice_set files file (Some f'))
-held_visited callers files h file f f' callers' there (inl same) key hold tag post short = subst (λ cs. AreHeld cs (slice_set files file (Some f'))) (sym same) (held_same callers files h file f f' there key hold tag post short)
-held_visited callers files h file f f' callers' there (inr moved) key hold tag post short =
-    subst (λ cs. AreHeld cs (slice_set files file (Some f'))) (sym moved.2) (held_same (slice_set callers f.file.hold (record { key = f.key; phase = moved.0 })) files (held_moved callers files h file f moved.0 there moved.1) file f f' there key hold tag post short)
+pub held_visited : (callers : List Caller) (files : List (Option BoardFile)) (tokens : List (Option BoardToken)) (h : AreHeld callers files tokens) (file : ℕ) (f f' : BoardFile) (callers' : List Caller) → slice_get files file ≡ Some (Some f) → StillWaits callers f.file.hold f.key callers' → f'.key ≡ f.key → f'.file.hold ≡ f.file.hold → f'.file.tag ≡ f.file.tag → f'.file.post ≡ f.file.post → IsShort f'.file.state.text →
+    AreHeld callers' (slice_set files file (Some f')) tokens
+held_visited callers files tokens h file f f' callers' there (inl same) key hold tag post short = subst (λ cs. AreHeld cs (slice_set files file (Some f')) tokens) (sym same) (held_same callers files tokens h file f f' there key hold tag post short)
+held_visited callers files tokens h file f f' callers' there (inr moved) key hold tag post short =
+    subst (λ cs. AreHeld cs (slice_set files file (Some f')) tokens) (sym moved.2) (held_same (slice_set callers f.file.hold (record { key = f.key; phase = moved.0 })) files tokens (held_moved callers files tokens h file f moved.0 there moved.1) file f f' there key hold tag post short)

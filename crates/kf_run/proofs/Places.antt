@@ -10,7 +10,7 @@ use Rattle.kf_core.specs.Bare.{BareWorld, marks, marks_in}
 use Rattle.kf_core.specs.Keys.{same_key}
 use Rattle.kf_core.specs.Steps.{with_marks}
 use Rattle.kf_core.proofs.Climbs.{keys_tell, same_key_self, same_parts}
-use Rattle.kf_core.proofs.TreeLists.{slice_get-set_same, slice_get-set_other, length_set}
+use Rattle.kf_core.proofs.Lists.{slice_get-set_same, slice_get-set_other, length_set}
 
 -- the slot of the key has no linked node
 pub record IsVacant (w : BareWorld) (key : Key) : Type 0 where

@@ -26,12 +26,14 @@ use Rattle.kf_core.specs.Tree.{Tree, record_at, is_linked, in_subtree, IsIn}
 use Rattle.kf_core.specs.Commands.{after, replay}
 use Rattle.kf_tree.specs.Causes.{Refuses, linked_cause, doom_cause}
 use Rattle.kf_tree.specs.TreeLogs.{TreeLog, IsKept}
+use Rattle.kf_core.specs.Agrees.{AgreesHidden}
+use Rattle.kf_run.proofs.HiddenMarks.{told_spent, told_unlinked, told_doomed}
 use Rattle.kf_run.specs.Agreement.{SameMarks, Changed, contains_key, doomed_if}
 use Rattle.kf_run.specs.Nodes.{Nodes, nodes_of, AreTied, OnlyMarks, AllIdle, hold_count, is_full_in, is_full_below, last_of, logged, with_spent, spent_on}
 use Rattle.kf_run.specs.Removals.{AreChildrenFirst, Cleared, IsMarkedDoomed, IsMarkedUndoomed, PinsRefused, released, still_on, with_callers}
 use Rattle.kf_run.proofs.Agreement.{same_doomed, is_listed}
 use Rattle.kf_run.proofs.ChildrenFirst.{children_first_doomed}
-use Rattle.kf_run.proofs.Different.{different}
+use Rattle.kf_core.proofs.Different.{different}
 use Rattle.kf_run.proofs.Pins.{released_callers}
 use Rattle.kf_core.proofs.FoundRecords.{in_found, linked_here}
 use Rattle.kf_run.proofs.Ties.{Logs, length_after, log_after}
@@ -184,7 +186,11 @@ module _ (s : TreeLog) (w : BoundedWorld) (key : Key) (keys : List Key) (tied : 
 
       log_now : s2 ≡ logged s (Doom key ∷ map Unlink keys)
       log_now = log ∙ ap (λ l. logged l (map Unlink keys)) (log_after s s1 (Doom key) accepted)
-          ∙ ap (λ cs. let l : TreeLog = record { root = s.root; tree = replay (after s.tree (Doom key)) (map Unlink keys); commands = cs } in l) (append_assoc s.commands (Doom key ∷ []) (map Unlink keys))
+          ∙ ap (λ cs. let l : TreeLog = record { root = s.root; tree = replay (after s.tree (Doom key)) (map Unlink keys); commands = cs; ready = None } in l) (append_assoc s.commands (Doom key ∷ []) (map Unlink keys))
+
+      pub told_removed : AgreesHidden s.tree w.world → AgreesHidden s2.tree w3.world
+      told_removed told = subst (λ (l : TreeLog). AgreesHidden l.tree w3.world) (sym log_now)
+          (told_spent (replay (after s.tree (Doom key)) (map Unlink keys)) w w3 (told_unlinked (after s.tree (Doom key)) w.world keys (told_doomed s.tree w.world told key)) keys callers_now)
 
       pub seen_removed : nodes_of s2 w3 ≡ with_spent (record (nodes_of s w) { log = logged s (Doom key ∷ map Unlink keys) }) keys
       seen_removed =

@@ -21,7 +21,7 @@ use Rattle.kf_run.specs.Agreement.{SameMarks, Changed, contains_key, risen_if, i
 use Rattle.kf_run.specs.Nodes.{AreTied, OnlyMarks}
 use Rattle.kf_core.proofs.Climbs.{keys_tell}
 use Rattle.kf_run.proofs.Agreement.{same_risen}
-use Rattle.kf_run.proofs.Different.{different}
+use Rattle.kf_core.proofs.Different.{different}
 use Rattle.kf_run.proofs.Ties.{Logs, IsUndoomed, tied_after}
 
 abbrev mark : Bool → Bool → Marks

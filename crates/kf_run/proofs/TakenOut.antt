@@ -32,7 +32,7 @@ use Rattle.kf_run.specs.Nodes.{AllIdle, last_of, logged, spent_on}
 use Rattle.kf_run.specs.Removals.{AreChildrenFirst, Cleared, IsMarkedDoomed, released, still_on, taken_out}
 use Rattle.kf_run.proofs.Agreement.{same_unlinked}
 use Rattle.kf_core.proofs.Climbs.{keys_tell, same_key_self}
-use Rattle.kf_core.proofs.TreeLists.{slice_get-set_same, after_set}
+use Rattle.kf_core.proofs.Lists.{slice_get-set_same, after_set}
 use Rattle.kf_run.proofs.Marking.{last_marked, not_before}
 use Rattle.kf_run.proofs.Places.{marks_written, alone_linked}
 use Rattle.kf_run.proofs.Rows.{partly, partly_at, partly_more}
@@ -77,7 +77,7 @@ replay_more t (x ∷ xs) c = replay_more (after t x) xs c
 
 logged_more : (log : TreeLog) (cs : List Command) (c : Command) → logged (logged log cs) (c ∷ []) ≡ logged log (cs ++ c ∷ [])
 logged_more log cs c =
-    (let made : Tree → List Command → TreeLog = λ t l. record { root = log.root; tree = t; commands = l } in
+    (let made : Tree → List Command → TreeLog = λ t l. record { root = log.root; tree = t; commands = l; ready = None } in
     ap (λ t. made t ((log.commands ++ cs) ++ c ∷ [])) (sym (replay_more log.tree cs c)) ∙ ap (made (replay log.tree (cs ++ c ∷ []))) (append_assoc log.commands cs (c ∷ [])))
 
 -- these nodes were taken out, and nobody has a reference
@@ -91,9 +91,10 @@ pub record HasTaken (s0 s : TreeLog) (w0 w : BoundedWorld) (keys : List Key) : T
   pub limit : w.limit ≡ w0.limit
   pub idle : AllIdle w.world.callers
 
-pub none_taken : (s0 : TreeLog) (w0 : BoundedWorld) → IsKept s0 → SameMarks w0.world s0.tree → AllIdle w0.world.callers → HasTaken s0 s0 w0 w0 []
-none_taken s0 w0 kept same idle = record {
-  log = ap (λ cs. let l : TreeLog = record { root = s0.root; tree = s0.tree; commands = cs } in l) (sym (append-nil s0.commands));
+pub none_taken : (s0 : TreeLog) (w0 : BoundedWorld) → s0.ready ≡ None → IsKept s0 → SameMarks w0.world s0.tree → AllIdle w0.world.callers → HasTaken s0 s0 w0 w0 []
+none_taken s0 w0 unready kept same idle = record {
+  log = (let made : List Command → Option Key → TreeLog = λ cs k. record { root = s0.root; tree = s0.tree; commands = cs; ready = k } in
+      ap (λ cs. made cs s0.ready) (sym (append-nil s0.commands)) ∙ ap (made (s0.commands ++ [])) unready);
   kept = kept;
   same = same;
   left = λ k. refl;

@@ -12,11 +12,11 @@ use Rattle.kf_core.specs.declared.slot.Marks.{Marks}
 use Rattle.kf_core.specs.declared.slot.SlotState.{SlotState}
 use Rattle.kf_core.specs.declared.caller.Caller.{Caller}
 use Rattle.kf_core.specs.declared.caller.Phase.{Phase}
-use Rattle.kf_core.specs.declared.caller.Phase.TheVariants.{Still, Turned, Running, Broken, Restored, Drained, Parted, Spent}
+use Rattle.kf_core.specs.declared.caller.Phase.TheVariants.{Still, Turned, Running, Broken, Restored, Drained, Parted, Hiding, Hidden, Spent}
 use Rattle.kf_core.specs.declared.records.Record.{Record}
 use Rattle.kf_core.specs.declared.refusal.Refusal.{Refusal}
 use Rattle.kf_core.specs.declared.command.Command.{Command}
-use Rattle.kf_core.specs.declared.command.Command.TheVariants.{Create, Activate, Doom, Unlink, Rename}
+use Rattle.kf_core.specs.declared.command.Command.TheVariants.{Create, Activate, Doom, Unlink, Rename, Hide, Show}
 use Rattle.kf_core.specs.Keys.{same_key}
 use Rattle.kf_core.specs.Marks.{fresh_marks, live_marks}
 use Rattle.kf_core.specs.Phases.{is_spent}
@@ -28,13 +28,13 @@ use Rattle.kf_core.specs.Commands.{after}
 use Rattle.kf_tree.specs.TreeLogs.{TreeLog, IsKept, IsAccepted, IsRefused}
 use Rattle.kf_tree.specs.Causes.{is_there_already}
 use Rattle.kf_run.specs.Nodes.{Nodes, nodes_of, AreTied, IsNext, is_free, is_vacant, hold_count, last_of, logged}
-use Rattle.kf_core.proofs.TreeLists.{length_set}
+use Rattle.kf_core.proofs.Lists.{length_set}
 use Rattle.kf_core.proofs.Climbs.{same_key_self}
 use Rattle.kf_run.proofs.Counts.{none_passes, none_counted}
 use Rattle.kf_run.proofs.Places.{IsVacant, IsAlone, length_written, marks_written, alone_vacant, alone_linked}
 use Rattle.kf_run.proofs.Agreement.{vacant_in_tree, same_born, same_born_live, same_renamed}
 
-some_at : {X : Type 0} (xs : List X) (i : ℕ) → i < length xs → (x : X) × (slice_get xs i ≡ Some x)
+pub some_at : {X : Type 0} (xs : List X) (i : ℕ) → i < length xs → (x : X) × (slice_get xs i ≡ Some x)
 some_at [] i h = absurd (omega (arith, h))
 some_at (x ∷ xs) zero h = (x, refl)
 some_at (x ∷ xs) (suc i) h = some_at xs i (omega (arith, h))
@@ -74,6 +74,8 @@ spent_is Broken h = absurd (cc)
 spent_is Restored h = absurd (cc)
 spent_is Drained h = absurd (cc)
 spent_is Parted h = absurd (cc)
+spent_is Hiding h = absurd (cc)
+spent_is Hidden h = absurd (cc)
 spent_is Spent h = refl
 
 no_hold : (slot : ℕ) (c : Caller) → (c.key.slot ≡ slot → c.phase ≡ Spent) → ((c.key.slot == slot) && not (is_spent c.phase)) ≡ false
@@ -186,16 +188,19 @@ length_after t (Activate key) = length_mapped _ t
 length_after t (Doom key) = length_mapped _ t
 length_after t (Unlink key) = length_chosen (is_linked t key) (slice_set t key.slot None) t (length_set t key.slot None)
 length_after t (Rename key dir name) = length_mapped _ t
+length_after t (Hide key) = length_mapped _ t
+length_after t (Show key) = length_mapped _ t
 
 -- a command was accepted, whatever could have been against it
 pub record Logs (log log' : TreeLog) (c : Command) : Type 0 where
   pub same_root : log'.root ≡ log.root
   pub changed : log'.tree ≡ after log.tree c
   pub stored : log'.commands ≡ log.commands ++ c ∷ []
+  pub not_ready : log'.ready ≡ None
   pub kept : IsKept log'
 
 pub logs : {log log' : TreeLog} {cause : Option Refusal} {c : Command} → IsAccepted log log' cause c → Logs log log' c
-logs a = record { same_root = a.same_root; changed = a.changed; stored = a.stored; kept = a.kept }
+logs a = record { same_root = a.same_root; changed = a.changed; stored = a.stored; not_ready = a.not_ready; kept = a.kept }
 
 pub logs_live : (log log' : TreeLog) (key parent : Key) (name : List ℕ) (node : Node) (is_live told : Bool) → is_live ≡ told → Logs log log' (Create key parent name node is_live) → Logs log log' (Create key parent name node told)
 logs_live log log' key parent name node is_live told e a = subst (λ b. Logs log log' (Create key parent name node b)) e a
@@ -223,8 +228,9 @@ tied_after log log' w w' c tied a wide same none = record {
 
 pub log_after : (log log' : TreeLog) (c : Command) → Logs log log' c → log' ≡ logged log (c ∷ [])
 log_after log log' c a =
-    let made : Key → Tree → List Command → TreeLog = λ r t cs. record { root = r; tree = t; commands = cs } in
-    ap (λ r. made r log'.tree log'.commands) a.same_root ∙ ap (λ t. made log.root t log'.commands) a.changed ∙ ap (made log.root (after log.tree c)) a.stored
+    let made : Key → Tree → List Command → Option Key → TreeLog = λ r t cs k. record { root = r; tree = t; commands = cs; ready = k } in
+    ap (λ r. made r log'.tree log'.commands log'.ready) a.same_root ∙ ap (λ t. made log.root t log'.commands log'.ready) a.changed
+    ∙ ap (λ cs. made log.root (after log.tree c) cs log'.ready) a.stored ∙ ap (made log.root (after log.tree c) (log.commands ++ c ∷ [])) a.not_ready
 
 module _ (log log' : TreeLog) (w w1 : BareWorld) (key parent : Key) (name : List ℕ) (node : Node)
     (tied : AreTied log w) (may : MayBeBorn w key) (born : w1 ≡ with_marks w key (Some fresh_marks)) where

@@ -13,6 +13,7 @@ pub mod Settled
 pub mod PlainTree
 pub mod PlainLooks
 pub mod PlainRemove
+pub mod PlainHide
 pub mod PlainFiles
 pub mod PlainStep
 pub mod Removals

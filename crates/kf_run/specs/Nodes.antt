@@ -1,15 +1,15 @@
 -- The tree beside the callers of its nodes.
-use Rattle.std.specs.Prelude.{◌≡◌, ◌⊎◌, ℕ, ◌+◌, ◌-◌, ◌^◌, ◌<◌, ◌≤◌, Bool, true, false, not, ◌&&◌, ◌==◌, nat_lt, List, [], ◌++◌, length, map, replicate, count_by, slice_get, slice_set, slice_index, Option, Some, None, IsTrue, IsFalse}
+use Rattle.std.specs.Prelude.{◌≡◌, ◌≢◌, ◌⊎◌, ℕ, ◌+◌, ◌-◌, ◌^◌, ◌<◌, ◌≤◌, Bool, true, false, not, ◌&&◌, ◌==◌, nat_lt, List, [], ◌++◌, length, map, replicate, count_by, slice_get, slice_set, slice_index, Option, Some, None, IsTrue, IsFalse}
 use Rattle.std.specs.List.{list_any}
 use Rattle.kf_core.specs.declared.key.Key.{Key}
 use Rattle.kf_core.specs.declared.slot.SlotState.{SlotState}
 use Rattle.kf_core.specs.declared.slot.Marks.{Marks}
 use Rattle.kf_core.specs.declared.caller.Phase.{Phase}
-use Rattle.kf_core.specs.declared.caller.Phase.TheVariants.{Spent}
+use Rattle.kf_core.specs.declared.caller.Phase.TheVariants.{Hidden, Spent}
 use Rattle.kf_core.specs.declared.caller.Caller.{Caller}
 use Rattle.kf_core.specs.declared.records.Record.{Record}
 use Rattle.kf_core.specs.declared.command.Command.{Command}
-use Rattle.kf_core.specs.Phases.{is_waiting, has_reference, is_spent}
+use Rattle.kf_core.specs.Phases.{is_waiting, has_reference, is_hiding, is_spent}
 use Rattle.kf_core.specs.Bare.{BareWorld, marks}
 use Rattle.kf_core.specs.Bounded.{BoundedWorld}
 use Rattle.kf_core.specs.Tree.{Tree, marks_of, in_subtree}
@@ -45,9 +45,13 @@ pub record OnlyMarks (old new : BoundedWorld) : Type 0 where
   pub limit : new.limit ≡ old.limit
   pub callers : new.world.callers ≡ old.world.callers
 
--- the log after these commands
+-- the log after these commands, with which nothing is made ready
 abbrev pub logged : TreeLog → List Command → TreeLog
-logged log cs = record { root = log.root; tree = replay log.tree cs; commands = log.commands ++ cs }
+logged log cs = record { root = log.root; tree = replay log.tree cs; commands = log.commands ++ cs; ready = None }
+
+-- the same tree, with these stored commands
+abbrev pub listed : TreeLog → List Command → TreeLog
+listed log cs = record { root = log.root; tree = log.tree; commands = cs; ready = None }
 
 -- the root alone, and each slot's last generation is `start`
 abbrev pub root_key : ℕ → Key
@@ -55,7 +59,7 @@ root_key start = record { slot = 0; generation = start + 1 }
 
 abbrev pub new_nodes : ℕ → ℕ → ℕ → Nodes
 new_nodes slots holds start = record {
-  log = record { root = root_key start; tree = root_alone slots (root_key start); commands = [] };
+  log = record { root = root_key start; tree = root_alone slots (root_key start); commands = []; ready = None };
   last = slice_set (replicate slots start) 0 (start + 1);
   limit = holds;
   callers = [];
@@ -93,6 +97,14 @@ PinRefused n key _ = ⊥
 -- a caller that has released the key
 abbrev pub spent_on : Key → Caller
 spent_on key = record { key = key; phase = Spent }
+
+-- a caller that hides the key, on which nobody has a reference
+abbrev pub hidden_on : Key → Caller
+hidden_on key = record { key = key; phase = Hidden }
+
+-- no caller on this slot hides a node
+abbrev pub NoneHides : List Caller → ℕ → Type 0
+NoneHides callers slot = (id : ℕ) (key : Key) (phase : Phase) → slice_get callers id ≡ Some (record { key = key; phase = phase }) → IsTrue (is_hiding phase) → key.slot ≢ slot
 
 -- callers came, and have released these keys; all else is as before
 abbrev pub with_spent : Nodes → List Key → Nodes

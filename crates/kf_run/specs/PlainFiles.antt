@@ -17,7 +17,7 @@ use Rattle.kf_files.specs.declared.ops.FileError.TheVariants.{Refused, Callback}
 use Rattle.kf_files.specs.Files.{Shown, open_cause, new_file}
 use Rattle.kf_run.specs.ReplyText.{refusal_text, fault_text}
 use Rattle.kf_tree.specs.TreeLogs.{TreeLog}
-use Rattle.kf_run.specs.Plain.{Plain, OpenPlainFile, file_at, open_count, with_text}
+use Rattle.kf_run.specs.Plain.{Plain, OpenPlainFile, file_at, holder_count, with_text}
 use Rattle.kf_run.specs.Visits.{VisitsLive, kind_cause}
 use Rattle.kf_run.specs.Settled.{ok_unless}
 
@@ -41,7 +41,7 @@ opened_node log holds limit path want = and_then (seen log.tree log.root path) (
 
 -- the node that is opened under a letter, which is looked at first
 abbrev pub opened_key : Plain → ℕ → List ℕ → Want → Result Key Refusal
-opened_key b file path want = and_then (ok_unless (unless (not (is_some (file_at b file))) Busy) file) (λ _. opened_node b.log (open_count b) b.limit path want)
+opened_key b file path want = and_then (ok_unless (unless (not (is_some (file_at b file))) Busy) file) (λ _. opened_node b.log (holder_count b) b.limit path want)
 
 abbrev pub new_open : Key → Want → OpenPlainFile
 new_open key want = record { key = key; kept = new_file want }

@@ -1,17 +1,19 @@
 -- How the parts of a plain board fit together.
-use Rattle.std.specs.Prelude.{◌≡◌, ℕ, ◌≤◌, List, length, map, count_by, slice_get, Option, Some, None, Ok}
+use Rattle.std.specs.Prelude.{◌≡◌, ℕ, ◌≤◌, List, length, map, slice_get, Option, Some, None, Ok}
 use Rattle.std.specs.Option.{option_map}
 use Rattle.kf_core.specs.declared.key.Node.{Node}
 use Rattle.kf_core.specs.declared.key.Node.TheVariants.{Dir, File, Link}
 use Rattle.kf_core.specs.declared.caller.Caller.{Caller}
 use Rattle.kf_core.specs.declared.records.Record.{Record}
 use Rattle.kf_run.specs.declared.nodes.visits.BoardFile.{BoardFile}
+use Rattle.kf_run.specs.declared.nodes.hiding.BoardToken.{BoardToken}
+use Rattle.kf_core.specs.declared.key.Key.{Key}
 use Rattle.kf_core.specs.Tree.{record_at}
 use Rattle.kf_files.specs.declared.contents.Want.{Want}
 use Rattle.kf_files.specs.Files.{tag_of, new_file}
 use Rattle.kf_run.specs.PlainFiles.{opened_node}
-use Rattle.kf_run.specs.Nodes.{Nodes, Waits, AllIdle, hold_count}
-use Rattle.kf_run.specs.Plain.{Plain, OpenPlainFile, is_on}
+use Rattle.kf_run.specs.Nodes.{Nodes, Waits, AllIdle, hidden_on, hold_count}
+use Rattle.kf_run.specs.Plain.{Plain, OpenPlainFile, count_on}
 
 -- an open file, without the number of its caller
 abbrev pub plain_file : BoardFile → OpenPlainFile
@@ -20,9 +22,25 @@ plain_file f = record { key = f.key; kept = f.file.state }
 abbrev pub plain_files : List (Option BoardFile) → List (Option OpenPlainFile)
 plain_files files = map (option_map plain_file) files
 
+-- a token, without the number of its caller
+abbrev pub plain_token : BoardToken → Key
+plain_token t = t.key
+
+abbrev pub plain_tokens : List (Option BoardToken) → List (Option Key)
+plain_tokens tokens = map (option_map plain_token) tokens
+
 -- the board that these parts make
-abbrev pub plain_of : Nodes → List ℕ → List (List ℕ) → List (Option BoardFile) → Plain
-plain_of n events texts files = record { log = n.log; last = n.last; limit = n.limit; events = events; texts = texts; files = plain_files files }
+abbrev pub plain_of : Nodes → List ℕ → List (List ℕ) → List (Option BoardFile) → List (Option BoardToken)
+    → Plain
+plain_of n events texts files tokens = record {
+  log = n.log;
+  last = n.last;
+  limit = n.limit;
+  events = events;
+  texts = texts;
+  files = plain_files files;
+  tokens = plain_tokens tokens;
+}
 
 -- at most so many bytes of text are buffered
 abbrev pub IsShort : Option (List ℕ) → Type 0
@@ -36,6 +54,11 @@ pub record IsHeldFile (callers : List Caller) (f : BoardFile) : Type 0 where
   pub post : f.file.post ≡ f.key.slot
   pub short : IsShort f.file.state.text
 
+-- the token of a slot: its caller hides its key, which is in this slot
+pub record IsHeldToken (callers : List Caller) (slot : ℕ) (t : BoardToken) : Type 0 where
+  pub hides : slice_get callers t.hold ≡ Some (hidden_on t.key)
+  pub in_slot : t.key.slot ≡ slot
+
 -- a file's tag is the number of its slot
 abbrev pub IsTaggedNode : ℕ → Node → Type 0
 IsTaggedNode slot Dir = Unit {0}
@@ -46,17 +69,22 @@ abbrev pub IsTagged : Option Record → Type 0
 IsTagged None = Unit {0}
 IsTagged (Some r) = IsTaggedNode r.key.slot r.node
 
-pub record IsWhole (n : Nodes) (events : List ℕ) (texts : List (List ℕ)) (files : List (Option BoardFile)) : Type 0 where
+pub record IsWhole (n : Nodes) (events : List ℕ) (texts : List (List ℕ)) (files : List (Option BoardFile))
+    (tokens : List (Option BoardToken)) : Type 0 where
   pub few : length n.log.tree ≤ 4096
   pub an_event_each : length events ≡ length n.log.tree
   pub a_text_each : length texts ≡ length n.log.tree
   pub a_file_each : length files ≡ 26
+  pub a_token_each : length tokens ≡ length n.log.tree
   pub tagged : (slot : ℕ) (o : Option Record) → slice_get n.log.tree slot ≡ Some o → IsTagged o
-  -- who holds a slot is the caller of an open file on it, and no two files have one caller
+  -- who holds a slot is the caller of an open file on it or of its token, and no two files have one caller
   pub idle : AllIdle n.callers
   pub held : (file : ℕ) (f : BoardFile) → slice_get files file ≡ Some (Some f) → IsHeldFile n.callers f
   pub apart : (one other : ℕ) (f g : BoardFile) → slice_get files one ≡ Some (Some f) → slice_get files other ≡ Some (Some g) → f.file.hold ≡ g.file.hold → one ≡ other
-  pub counted : (slot : ℕ) → hold_count n.callers slot ≡ count_by (is_on slot) (plain_files files)
+  pub hidden : (slot : ℕ) (t : BoardToken) → slice_get tokens slot ≡ Some (Some t)
+      → IsHeldToken n.callers slot t
+  pub counted : (slot : ℕ) → hold_count n.callers slot
+      ≡ count_on (plain_files files) (plain_tokens tokens) slot
 
 -- a file that was just opened by a new caller
 pub record IsOpened (n : Nodes) (path : List ℕ) (want : Want) (f : BoardFile) : Type 0 where

@@ -2,19 +2,22 @@
 use Rattle.std.specs.Prelude.{◌≡◌, ℕ, Bool, true, false, List, [], ◌∷◌, length, decimal, slice_index, Option, Some, None, Result, IsTrue}
 use Rattle.kf_core.specs.declared.key.Key.{Key}
 use Rattle.kf_core.specs.declared.key.Node.TheVariants.{Dir, Link}
+use Rattle.kf_core.specs.declared.command.Command.{Command}
 use Rattle.kf_core.specs.declared.command.Command.TheVariants.{Activate}
 use Rattle.kf_core.specs.PostOrder.{IsPostOrder}
+use Rattle.kf_tree.specs.Canonical.{IsCanonical}
 use Rattle.kf_tree.specs.Listing.{IsListing}
 use Rattle.kf_tree.specs.Links.{HasLinkText}
 use Rattle.kf_files.specs.declared.ops.FileError.{FileError}
 use Rattle.kf_files.specs.Files.{FileState, Reads, Writes, Polls, Stored}
-use Rattle.kf_run.specs.Requests.{RequestWords, make_directory, make_file, make_link, activate, list_names, stat, read_link, move, remove, open_file, read_file, write_file, poll_file, notify, close_file, count_commands, takes_memory}
+use Rattle.kf_run.specs.Requests.{RequestWords, make_directory, make_file, make_link, activate, list_names, stat, read_link, move, remove, open_file, read_file, write_file, poll_file, notify, close_file, hide, show, count_commands, compact, takes_memory}
 use Rattle.kf_run.specs.ReplyText.{done_text, key_text, stat_text, names_text, poll_text, starved_text}
-use Rattle.kf_run.specs.Plain.{Plain, IsNextKey, open_count, with_commands, with_text, with_file}
+use Rattle.kf_run.specs.Plain.{Plain, IsNextKey, holder_count, with_commands, with_list, with_text, with_file}
 use Rattle.kf_run.specs.Settled.{Settled}
 use Rattle.kf_run.specs.PlainTree.{new_spot, new_link_spot, file_node, with_node, activated_key, moved_key, with_move}
 use Rattle.kf_run.specs.PlainLooks.{told_stat, listed_dir, name_limit, read_link_key}
 use Rattle.kf_run.specs.PlainRemove.{removed_key, without}
+use Rattle.kf_run.specs.PlainHide.{hidden_key, with_hidden, shown_key, with_shown}
 use Rattle.kf_run.specs.PlainFiles.{opened_key, new_open, known_file, notified_key, with_event, VisitsNode, ShowsText, StoresText, bytes_text, count_text}
 
 -- what a request does where memory is there
@@ -31,7 +34,7 @@ Outcome b (list_names path) reply now = Settled (listed_dir b path) (λ dir.
 Outcome b (stat path) reply now = Settled (told_stat b path) (λ s. (reply ≡ stat_text s) × (now ≡ b)) b reply now
 Outcome b (read_link path) reply now = Settled (read_link_key b path) (λ link. HasLinkText b.log.tree b.log.root link reply × (now ≡ b)) b reply now
 Outcome b (move path dir name) reply now = Settled (moved_key b.log path dir name) (λ keys. (reply ≡ done_text) × (now ≡ with_move b keys.0 keys.1 name)) b reply now
-Outcome b (remove path) reply now = Settled (removed_key b.log (open_count b) b.limit path) (λ key.
+Outcome b (remove path) reply now = Settled (removed_key b.log (holder_count b) b.limit path) (λ key.
     (keys : List Key) × IsPostOrder b.log.tree key keys × (reply ≡ done_text) × (now ≡ without b key keys)) b reply now
 Outcome b (open_file file path reads writes) reply now = Settled (opened_key b file path (record { read = reads; write = writes })) (λ key.
     (reply ≡ done_text) × (now ≡ with_file b file (Some (new_open key (record { read = reads; write = writes }))))) b reply now
@@ -44,7 +47,10 @@ Outcome b (poll_file file) reply now = Settled (known_file b file) (λ opened.
     (changed : Bool) × Polls (VisitsNode b opened.key (Unit {0}) (λ number. number ≡ slice_index b.events opened.key.slot)) opened.kept changed × (reply ≡ poll_text changed) × (now ≡ b)) b reply now
 Outcome b (notify path) reply now = Settled (notified_key b path) (λ key. (reply ≡ done_text) × (now ≡ with_event b key.slot)) b reply now
 Outcome b (close_file file) reply now = Settled (known_file b file) (λ opened. (reply ≡ done_text) × (now ≡ with_file b file None)) b reply now
+Outcome b (hide path) reply now = Settled (hidden_key b.log (holder_count b) b.limit path) (λ key. (reply ≡ done_text) × (now ≡ with_hidden b key)) b reply now
+Outcome b (show path) reply now = Settled (shown_key b path) (λ key. (reply ≡ done_text) × (now ≡ with_shown b key)) b reply now
 Outcome b count_commands reply now = (reply ≡ decimal (length b.log.commands)) × (now ≡ b)
+Outcome b compact reply now = (reply ≡ done_text) × ((commands : List Command) × IsCanonical b.log.tree commands × (now ≡ with_list b commands))
 
 -- what a request is answered; one that memory was wanting for is told so, and changes nothing
 abbrev pub PlainStep : Plain → RequestWords → Bool → List ℕ → Plain → Type 0

@@ -1,5 +1,5 @@
 -- The texts of replies, without the newline that follows each.
-use Rattle.std.specs.Prelude.{ℕ, ◌+◌, ◌/◌, ◌%◌, Bool, List, [], ◌∷◌, ◌++◌, codes, decimal, if◌then◌else◌}
+use Rattle.std.specs.Prelude.{ℕ, ◌+◌, ◌/◌, ◌%◌, Bool, not, List, [], ◌∷◌, ◌++◌, codes, decimal, if◌then◌else◌}
 use Rattle.std.specs.List.{join_with_byte}
 use Rattle.kf_core.specs.declared.key.Key.{Key}
 use Rattle.kf_core.specs.declared.key.Node.{Node}
@@ -46,7 +46,11 @@ node_text (File mode tag) subdirs links = codes "file mode=" ++ octal mode ++ co
 node_text (Link target) subdirs links = codes "link "
 
 abbrev pub state_text : Stat → List ℕ
-state_text s = if s.doomed then codes "removing" else (if s.activated then codes "live" else codes "off")
+state_text s =
+    if s.doomed then codes "removing"
+    else (if not s.activated then codes "off"
+    else (if s.hidden then codes "hidden"
+    else codes "live"))
 
 abbrev pub stat_text : Stat → List ℕ
 stat_text s = node_text s.node s.subdirs s.links ++ state_text s

@@ -5,7 +5,7 @@ use Rattle.std.specs.List.{before_first, after_first, list_all, slice_split}
 use Rattle.std.specs.Str.{bytes_eq}
 use Rattle.kf_run.specs.Lines.{has_bytes, line_limit}
 use Rattle.kf_run.specs.declared.request.Request.{Request}
-use Rattle.kf_run.specs.declared.request.Request.TheVariants.{MakeDirectory, MakeFile, MakeLink, Activate, ListNames, Stat, ReadLink, Move, Remove, OpenFile, ReadFile, WriteFile, PollFile, Notify, CloseFile, CountCommands}
+use Rattle.kf_run.specs.declared.request.Request.TheVariants.{MakeDirectory, MakeFile, MakeLink, Activate, ListNames, Stat, ReadLink, Move, Remove, OpenFile, ReadFile, WriteFile, PollFile, Notify, CloseFile, Hide, Show, CountCommands, Compact}
 
 -- a request, by the bytes of its words; a file is the place of its letter in the alphabet, from 0
 pub data RequestWords : Type 0 where
@@ -24,7 +24,10 @@ pub data RequestWords : Type 0 where
   poll_file : (file : ℕ) → RequestWords
   notify : (path : List ℕ) → RequestWords
   close_file : (file : ℕ) → RequestWords
+  hide : (path : List ℕ) → RequestWords
+  show : (path : List ℕ) → RequestWords
   count_commands : RequestWords
+  compact : RequestWords
 
 -- the words of a request, without where they lie in memory
 abbrev pub request_words : Request → RequestWords
@@ -43,7 +46,10 @@ request_words (WriteFile file text) = write_file file text.now
 request_words (PollFile file) = poll_file file
 request_words (Notify path) = notify path.now
 request_words (CloseFile file) = close_file file
+request_words (Hide path) = hide path.now
+request_words (Show path) = show path.now
 request_words CountCommands = count_commands
+request_words Compact = compact
 
 -- the numbers of a request are in range: a mode has nine bits, and there are 26 files
 abbrev pub IsInRange : RequestWords → Type 0
@@ -101,7 +107,10 @@ file_of _ = None
 
 -- a command with no word after it
 abbrev pub bare_request : List ℕ → Option RequestWords
-bare_request command = if bytes_eq command (codes "commands") then Some count_commands else None
+bare_request command =
+    if bytes_eq command (codes "commands") then Some count_commands
+    else (if bytes_eq command (codes "compact") then Some compact
+    else None)
 
 -- a command with one word after it
 abbrev pub one_word_request : List ℕ → List ℕ → Option RequestWords
@@ -115,7 +124,9 @@ one_word_request command word =
     else (if bytes_eq command (codes "notify") then Some (notify word)
     else (if bytes_eq command (codes "poll") then option_map poll_file (file_of word)
     else (if bytes_eq command (codes "close") then option_map close_file (file_of word)
-    else None))))))))
+    else (if bytes_eq command (codes "hide") then Some (hide word)
+    else (if bytes_eq command (codes "show") then Some (show word)
+    else None))))))))))
 
 -- a command with two words after it
 abbrev pub two_word_request : List ℕ → List ℕ → List ℕ → Option RequestWords
@@ -185,5 +196,6 @@ takes_memory (write_file file text) = has_bytes text
 takes_memory (poll_file file) = false
 takes_memory (notify path) = false
 takes_memory (close_file file) = false
+takes_memory (show path) = false
 takes_memory count_commands = false
 takes_memory _ = true

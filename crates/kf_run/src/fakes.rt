@@ -43,13 +43,20 @@ impl<'a> Read for ChunkReader<'a> {
     }
 }
 
-/// Gives one newline a call, without end.
+/// Gives one newline a call, so many in all, and counts its calls.
 #[derive(Drop)]
-pub struct NewlineReader {}
+pub struct NewlineReader {
+    pub newlines: u32,
+    pub calls: u32,
+}
 
 impl Read for NewlineReader {
     fn read(&mut self, buf: &mut [u8]) -> io::Result<usize> {
         if buf.is_empty() {
+            return Ok(0);
+        }
+        self.calls = self.calls.wrapping_add(1);
+        if self.calls > self.newlines {
             return Ok(0);
         }
         buf[0] = b'\n';

@@ -103,6 +103,9 @@ fn bare<'a>(command: &'a [u8]) -> Option<Request<'a>>
     if command == b"commands".as_slice() {
         return Some(Request::CountCommands);
     }
+    if command == b"compact".as_slice() {
+        return Some(Request::Compact);
+    }
     None
 }
 
@@ -139,6 +142,12 @@ fn one_word<'a>(command: &[u8], word: &'a [u8]) -> Option<Request<'a>>
     }
     if command == b"close".as_slice() {
         return Some(Request::CloseFile { file: file(word)? });
+    }
+    if command == b"hide".as_slice() {
+        return Some(Request::Hide { path: word });
+    }
+    if command == b"show".as_slice() {
+        return Some(Request::Show { path: word });
     }
     None
 }

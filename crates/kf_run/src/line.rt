@@ -27,6 +27,7 @@ impl Model for LineBuffer {
 }
 
 impl LineBuffer {
+    /// An empty line.
     pub fn new(alloc: Global) -> Result<LineBuffer, AllocError>
         ensures { IfOk result (λ line. line ≡ Some []) }
     {
@@ -49,6 +50,7 @@ impl LineBuffer {
         Some(&self.bytes[..self.len])
     }
 
+    /// Adds a byte. A line of more than the limit is too long, whatever follows.
     pub fn push(&mut self, byte: u8)
         ensures { self.new ≡ option_and_then (λ line. kept_line (line ++ byte ∷ [])) self.old }
     {
@@ -60,6 +62,7 @@ impl LineBuffer {
         }
     }
 
+    /// Begins the next line.
     pub fn clear(&mut self)
         ensures { self.new ≡ Some [] }
     {

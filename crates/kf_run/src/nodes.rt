@@ -14,15 +14,17 @@ use std::alloc::Global;
 use std::marker::Model;
 
 mod commands;
+mod hiding;
 mod paths;
 mod subtrees;
 mod visits;
 
+pub use hiding::BoardToken;
 pub use visits::BoardFile;
 
 /// A tree with its stored commands, and the callers of its nodes. Contracts see the log, each slot's
-/// last generation, the limit of holds, and the callers. Both name the same linked, activated and
-/// doomed keys.
+/// last generation, the limit of holds, and the callers. Both name the same linked, activated,
+/// doomed and hidden keys.
 #[derive(Drop)]
 pub struct Nodes {
     state: State,
@@ -30,13 +32,14 @@ pub struct Nodes {
 }
 
 impl Model for Nodes {
+    ghost use Rattle.kf_core.specs.Agrees.{AgreesHidden};
     ghost use Rattle.kf_run.specs.Nodes.{Nodes as NodesSeen, nodes_of, AreTied};
 
     ghost Value = { NodesSeen };
 
     ghost view = { λ n. nodes_of n.state n.world };
 
-    ghost invariant = { λ n. AreTied n.state n.world.world };
+    ghost invariant = { λ n. AreTied n.state n.world.world × AgreesHidden n.state.tree n.world.world };
 }
 
 impl Nodes {
@@ -86,7 +89,7 @@ impl Nodes {
         requires waits { Waits self.old.callers id key }
         ensures spent { self.new ≡ record self.old { callers = slice_set self.old.callers id (record { key = key; phase = Spent }) } }
     {
-        let _ = key;
+        let _ = key; // the contract alone names it
         self.world.release(id);
     }
 }

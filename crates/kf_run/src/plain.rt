@@ -4,7 +4,7 @@ ghost use Rattle.std.specs.Prelude.{◌≡◌, ◌≤◌, ◌-◌, ◌^◌, repl
 ghost use Rattle.kf_core.specs.declared.refusal.Refusal.TheVariants.{NoMemory};
 ghost use Rattle.kf_run.specs.Plain.{new_board};
 
-use crate::nodes::{BoardFile, Nodes};
+use crate::nodes::{BoardFile, BoardToken, Nodes};
 use crate::text_table::TextTable;
 use kf_core::{Limits, Refusal};
 use kf_notify::Posts;
@@ -13,6 +13,7 @@ use std::marker::Model;
 
 mod answering;
 mod files;
+mod hiding;
 mod looking;
 mod making;
 mod removing;
@@ -21,15 +22,16 @@ mod removing;
 const FILES: usize = 26;
 
 /// The board of one caller: a tree, the open files on its nodes by letter, and by slot the text of its
-/// last file and its event number.
+/// last file, its event number, and the token of its hidden file.
 ///
-/// Contracts see no callers: between two lines whoever holds a slot is an open file on it.
+/// Contracts see no callers: between two lines whoever holds a slot is an open file on it, or its token.
 #[derive(Drop)]
 pub struct PlainBoard {
     nodes: Nodes,
     posts: Posts,
     texts: TextTable,
     files: Vec<Option<BoardFile>>,
+    tokens: Vec<Option<BoardToken>>,
 }
 
 impl Model for PlainBoard {
@@ -39,12 +41,12 @@ impl Model for PlainBoard {
 
     ghost use Rattle.kf_run.specs.PlainInside.{plain_of, IsWhole};
 
-    ghost view = { λ b. plain_of b.nodes b.posts b.texts b.files.items };
+    ghost view = { λ b. plain_of b.nodes b.posts b.texts b.files.items b.tokens.items };
 
-    ghost invariant = { λ b. IsWhole b.nodes b.posts b.texts b.files.items };
+    ghost invariant = { λ b. IsWhole b.nodes b.posts b.texts b.files.items b.tokens.items };
 }
 
-// No file under any of the 26 letters.
+/// No file under any of the 26 letters.
 fn no_files(alloc: Global) -> Result<Vec<Option<BoardFile>>, Refusal>
     ensures none { IfOk result (λ files. files.items ≡ replicate 26 None) }
     ensures refused { IfErr result (λ refusal. refusal ≡ NoMemory) }
@@ -57,6 +59,14 @@ fn no_files(alloc: Global) -> Result<Vec<Option<BoardFile>>, Refusal>
     Ok(files)
 }
 
+/// No token in any of so many slots.
+fn no_tokens(alloc: Global, slots: u32) -> Result<Vec<Option<BoardToken>>, Refusal>
+    ensures none { IfOk result (λ tokens. tokens.items ≡ replicate slots None) }
+    ensures refused { IfErr result (λ refusal. refusal ≡ NoMemory) }
+{
+    Ok(vec![in alloc; None; slots as usize]?)
+}
+
 impl PlainBoard {
     /// A board with the root alone. `NoMemory` where it could not be had.
     pub fn new(alloc: Global, limits: Limits) -> Result<PlainBoard, Refusal>
@@ -67,6 +77,8 @@ impl PlainBoard {
     }
 
     /// A board with the root alone, whose slots have had `start` generations. `NoMemory` where it could not be had.
+    ///
+    /// Condition: `start` is at most 2^32 - 2.
     pub fn new_at(alloc: Global, limits: Limits, start: u32) -> Result<PlainBoard, Refusal>
         requires start { start ≤ 2 ^ 32 - 2 }
         ensures made { IfOk result (λ board. board ≡ new_board limits.slots limits.holds start) }
@@ -76,11 +88,13 @@ impl PlainBoard {
         let posts = Posts::new(alloc, limits.slots())?;
         let texts = TextTable::new(alloc, limits.slots())?;
         let files = no_files(alloc)?;
+        let tokens = no_tokens(alloc, limits.slots())?;
         Ok(PlainBoard {
             nodes,
             posts,
             texts,
             files,
+            tokens,
         })
     }
 }

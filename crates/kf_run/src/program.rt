@@ -1,6 +1,6 @@
 //! The program's body: its words, its status, and what it says of a fault.
 
-ghost use Rattle.std.specs.Prelude.{◌≡◌, ◌≤◌, ◌⊎◌, ℕ, IfOk, IfSome, OnOk};
+ghost use Rattle.std.specs.Prelude.{◌≡◌, ◌≤◌, ◌⊎◌, ◌↔◌, ℕ, IfOk, IfSome, IsSome, OnOk};
 ghost use Rattle.std.specs.Io.KnownBytes.{Keeps};
 ghost use Rattle.kf_run.specs.Programs.{Ran};
 
@@ -43,7 +43,9 @@ fn command<'a>(alloc: Global) -> Result<Command<'a>, Error> {
 
 /// The limits of a tree with so many slots, where they are 1 to 4,096.
 fn limits_of(slots: u32) -> Option<Limits>
-    ensures { IfSome result (λ limits. limits.holds ≡ 65535) }
+    ensures made { IsSome result ↔ ((1 ≤ slots) × (slots ≤ 4096)) }
+    ensures slots { IfSome result (λ limits. limits.slots ≡ slots) }
+    ensures holds { IfSome result (λ limits. limits.holds ≡ 65535) }
 {
     Limits::new(slots, HOLDS)
 }

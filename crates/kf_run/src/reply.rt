@@ -259,7 +259,10 @@ fn state_bytes(stat: &Stat) -> &'static [u8]
     if stat.doomed {
         return b"removing";
     }
-    if stat.activated { b"live" } else { b"off" }
+    if !stat.activated {
+        return b"off";
+    }
+    if stat.hidden { b"hidden" } else { b"live" }
 }
 
 /// Three octal digits.

@@ -78,6 +78,16 @@ pub enum Request<'a> {
     CloseFile {
         file: usize,
     },
+    /// `hide PATH`.
+    Hide {
+        path: &'a [u8],
+    },
+    /// `show PATH`.
+    Show {
+        path: &'a [u8],
+    },
     /// `commands`.
     CountCommands,
+    /// `compact`.
+    Compact,
 }

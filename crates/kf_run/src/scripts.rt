@@ -206,6 +206,68 @@ fn freed_slots_are_given_again(rt: HostRuntime) {
     assert!(rt; text.is_some_and(|text| text.as_slice() == want.as_slice()));
 }
 
+#[test]
+fn compact_stores_what_makes_the_tree(rt: HostRuntime) {
+    let text = answers(
+        rt.alloc(),
+        1024,
+        0,
+        b"mkdir /a\nfile /a/x 644 v\nmkdir /b off\nmv /a/x / y\nrm /b\ncommands\ncompact\ncommands\nls /\nmkdir /c\ncommands\n",
+    );
+    let want = b"ok 1.1\nok 2.1\nok 3.1\nok\nok\n6\nok\n2\na y\nok 3.2\n3\n";
+    assert!(rt; text.is_some_and(|text| text.as_slice() == want.as_slice()));
+}
+
+#[test]
+fn a_hidden_file_is_refused_until_it_is_shown(rt: HostRuntime) {
+    let text = answers(
+        rt.alloc(),
+        1024,
+        0,
+        b"file /t 644 v\nopen f /t r\nhide /t\nread f 0 1\nls /\nstat /t\nhide /t\nshow /t\nread f 0 1\nshow /t\nhide /\n",
+    );
+    let want =
+        b"ok 1.1\nok\nok\nerr NoDevice 19\n\nfile mode=644 hidden\nerr Busy 16\nok\nv\nerr Invalid 22\nerr IsDir 21\n";
+    assert!(rt; text.is_some_and(|text| text.as_slice() == want.as_slice()));
+}
+
+#[test]
+fn a_token_keeps_its_slot(rt: HostRuntime) {
+    let text = answers(
+        rt.alloc(),
+        1024,
+        0,
+        b"file /t 644 v\nhide /t\nrm /t\nfile /t 644 w\nshow /t\n",
+    );
+    let want = b"ok 1.1\nok\nok\nok 2.1\nerr Invalid 22\n";
+    assert!(rt; text.is_some_and(|text| text.as_slice() == want.as_slice()));
+}
+
+#[test]
+fn compact_stores_what_is_hidden(rt: HostRuntime) {
+    let text = answers(
+        rt.alloc(),
+        1024,
+        0,
+        b"file /t 644 v\nhide /t\ncompact\ncommands\ncompact\ncommands\nshow /t\ncommands\n",
+    );
+    let want = b"ok 1.1\nok\nok\n2\nok\n2\nok\n3\n";
+    assert!(rt; text.is_some_and(|text| text.as_slice() == want.as_slice()));
+}
+
+#[test]
+fn files_alone_are_hidden(rt: HostRuntime) {
+    let text = answers(
+        rt.alloc(),
+        2,
+        0,
+        b"hide /t\nfile /t 644 v\nhide /t\nshow /t\nrm /t\nfile /u 644 w\nhide /u\nrm /u\nfile /v 644\nhide\nshow /t /u\n",
+    );
+    let want =
+        b"err NoEntry 2\nok 1.1\nok\nok\nok\nok 1.2\nok\nok\nerr NoSpace 28\nerr Line 22\nerr Line 22\n";
+    assert!(rt; text.is_some_and(|text| text.as_slice() == want.as_slice()));
+}
+
 /// Bytes, then so many of one byte, then more bytes.
 fn filled(
     alloc: Global,

@@ -64,16 +64,22 @@ fn a_write_fault_leaves_a_prefix(rt: HostRuntime) {
     }
 }
 
+/// Runs so many newlines, one a call. How the run ended, and how often it has read.
+fn run_newlines(alloc: Global, newlines: u32) -> (Result<(), RunFault>, u32) {
+    let mut writer = Vec::new(alloc);
+    let mut reader = NewlineReader { newlines, calls: 0 };
+    let result = run_lines(alloc, &mut OkBoard {}, &mut reader, &mut writer);
+    (result, reader.calls)
+}
+
 #[test]
-fn a_reader_without_end_is_a_read_fault(rt: HostRuntime) {
-    let mut writer = Vec::new(rt.alloc());
-    let result = run_lines(
-        rt.alloc(),
-        &mut OkBoard {},
-        &mut NewlineReader {},
-        &mut writer,
-    );
-    assert!(rt; matches!(result, Err(RunFault::Read)) && writer.is_empty());
+fn the_last_call_of_read_that_a_run_may_make(rt: HostRuntime) {
+    let (result, calls) = run_newlines(rt.alloc(), 16_777_215);
+    assert!(rt; result.is_ok());
+    assert_eq!(rt; calls, 16_777_216);
+    let (result, calls) = run_newlines(rt.alloc(), 16_777_216);
+    assert!(rt; matches!(result, Err(RunFault::Read)));
+    assert_eq!(rt; calls, 16_777_216);
 }
 
 /// `ls /` with so many bytes in all, and then another line.
@@ -114,7 +120,7 @@ fn a_line_of_8192_bytes_is_the_longest(rt: HostRuntime) {
 
 #[test]
 fn lines_that_make_a_request(rt: HostRuntime) {
-    let lines: [&[u8]; 27] = [
+    let lines: [&[u8]; 30] = [
         b"mkdir /a",
         b"mkdir /a off",
         b"file /a 644 text with spaces",
@@ -140,7 +146,10 @@ fn lines_that_make_a_request(rt: HostRuntime) {
         b"poll f",
         b"notify /a",
         b"close f",
+        b"hide /a",
+        b"show /a",
         b"commands",
+        b"compact",
         b"ls \xff",
     ];
     for line in lines {
@@ -194,9 +203,9 @@ fn lines_that_make_none(rt: HostRuntime) {
         b"plug d0 on",
         b"unplug d0",
         b"wait",
-        b"hide /a",
-        b"show /a",
-        b"compact",
+        b"hide",
+        b"show /a b",
+        b"compact ",
         b"ls\t/",
     ];
     for line in lines {
@@ -209,13 +218,65 @@ fn lines_that_make_none(rt: HostRuntime) {
     }
 }
 
-/// The status for these words, what is written, and what is said of a fault.
-fn status(alloc: Global, words: &[&str]) -> (u8, Vec<u8>, Vec<u8>) {
+/// The status for these words on a script, what is written, and what is said of a fault.
+fn run_words(alloc: Global, words: &[&str], mut script: &[u8]) -> (u8, Vec<u8>, Vec<u8>) {
     let mut out = Vec::new(alloc);
     let mut fault = Vec::new(alloc);
-    let mut script = b"mkdir /a\n".as_slice();
     let status = run_program(alloc, words, &mut script, &mut out, &mut fault);
     (status, out, fault)
+}
+
+/// The same on a script of one directory.
+fn status(alloc: Global, words: &[&str]) -> (u8, Vec<u8>, Vec<u8>) {
+    run_words(alloc, words, b"mkdir /a\n")
+}
+
+#[test]
+fn as_many_slots_as_asked(rt: HostRuntime) {
+    let (code, out, _) = run_words(
+        rt.alloc(),
+        &["kernfs_run", "--slots", "2"],
+        b"file /a 644 x\nopen f /a r\nrm /a\nfile /b 644 y\nclose f\nfile /b 644 y\n",
+    );
+    assert_eq!(rt; code, 0);
+    assert_eq!(rt;
+        out.as_slice(),
+        b"ok 1.1\nok\nok\nerr NoSpace 28\nok\nok 1.2\n".as_slice()
+    );
+    let (code, out, _) = run_words(
+        rt.alloc(),
+        &["kernfs_run", "--slots", "4"],
+        b"mkdir /a\nmkdir /b\nrm /a\nmkdir /c\nmkdir /d\nmkdir /e\n",
+    );
+    assert_eq!(rt; code, 0);
+    assert_eq!(rt;
+        out.as_slice(),
+        b"ok 1.1\nok 2.1\nok\nok 1.2\nok 3.1\nerr NoSpace 28\n".as_slice()
+    );
+}
+
+/// A script that makes a chain of so many directories, each in the one before.
+fn chain(alloc: Global, directories: usize) -> Result<Vec<u8>, AllocError> {
+    let mut path = Vec::new(alloc);
+    let mut script = Vec::new(alloc);
+    for _ in 0..directories {
+        path.extend_from_slice(b"/a")?;
+        script.extend_from_slice(b"mkdir ")?;
+        script.extend_from_slice(&path)?;
+        script.push(b'\n')?;
+    }
+    Ok(script)
+}
+
+#[test]
+fn a_thousand_slots_unless_asked(rt: HostRuntime) -> Result<(), AllocError> {
+    let script = chain(rt.alloc(), 1024)?;
+    let (code, out, _) = run_words(rt.alloc(), &["kernfs_run"], &script);
+    assert_eq!(rt; code, 0);
+    assert!(rt; out.ends_with(b"ok 1022.1\nok 1023.1\nerr NoSpace 28\n"));
+    let (_, out, _) = run_words(rt.alloc(), &["kernfs_run", "--slots", "4096"], &script);
+    assert!(rt; out.ends_with(b"ok 1023.1\nok 1024.1\n"));
+    Ok(())
 }
 
 #[test]

@@ -24,7 +24,7 @@ impl Model for TextTable {
     ghost view = { λ t. map (λ text. text.items) t.texts.items };
 }
 
-// Appends bytes for which there is room.
+/// Appends bytes for which there is room.
 fn append(page: &mut Page, bytes: &[u8])
     requires room { length page.old.items + length bytes.now ≤ 4096 }
     ensures items { page.new.items ≡ page.old.items ++ bytes.now }
@@ -32,7 +32,7 @@ fn append(page: &mut Page, bytes: &[u8])
     let _ = page.try_extend_from_slice(bytes);
 }
 
-// Fills an empty page with the first 4,096 bytes of a text.
+/// Fills an empty page with the first 4,096 bytes of a text.
 fn fill(page: &mut Page, text: &[u8])
     requires empty { page.old.items ≡ [] }
     ensures filled { page.new.items ≡ take 4096 text.now }

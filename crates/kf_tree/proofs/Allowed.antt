@@ -11,13 +11,13 @@ use Rattle.kf_core.specs.declared.key.Node.{Node}
 use Rattle.kf_core.specs.declared.key.Node.TheVariants.{Dir, File, Link}
 use Rattle.kf_core.specs.declared.records.Record.{Record}
 use Rattle.kf_core.specs.declared.refusal.Refusal.{Refusal}
-use Rattle.kf_core.specs.declared.refusal.Refusal.TheVariants.{NoEntry, Exists, NoSpace, Busy, Invalid}
+use Rattle.kf_core.specs.declared.refusal.Refusal.TheVariants.{NoEntry, Exists, NoSpace, Busy, Invalid, IsDir}
 use Rattle.kf_core.specs.Refusals.{unless, first_cause}
 use Rattle.kf_core.specs.Keys.{same_key}
 use Rattle.kf_core.specs.Marks.{are_doomed}
 use Rattle.kf_core.specs.Tree.{Tree, record_at, IsIn, is_dir, is_linked}
 use Rattle.kf_tree.specs.Paths.{is_key, is_under}
-use Rattle.kf_tree.specs.Causes.{create_cause, doom_cause, unlink_cause, target_fault, doomed_in, has_entry, has_child, target_of}
+use Rattle.kf_tree.specs.Causes.{create_cause, doom_cause, unlink_cause, hide_cause, is_directory, is_link, hidden_in, target_fault, doomed_in, has_entry, has_child, target_of}
 use Rattle.kf_core.proofs.Climbs.{same_key_self}
 use Rattle.kf_core.proofs.Names.{lawful_without_fault}
 use Rattle.kf_tree.proofs.Created.{MayCreate}
@@ -126,3 +126,31 @@ not_root t root key h e =
     let other : same_key key root ≡ false = not_passed (same_key key root) Invalid d.0 in
     let same : same_key key root ≡ true = ap (same_key key) (sym e) ∙ same_key_self key in
     let no : true ≡ false = sym same ∙ other in cc)
+
+pub record MayHide (t : Tree) (key : Key) : Type 0 where
+  pub file : Record
+  pub known : record_at t key ≡ Some file
+  pub no_dir : is_dir file.node ≡ false
+  pub shown : file.hidden ≡ false
+
+pub may_hide : (t : Tree) (key : Key) → hide_cause t key ≡ None → MayHide t key
+may_hide t key h =
+    (let last : List (Option Refusal) = unless (not (hidden_in t key)) Busy ∷ [] in
+    let c = no_first (unless (is_linked t key) NoEntry) (unless (not (is_directory t key)) IsDir ∷ unless (not (is_link t key)) Invalid ∷ unless (not (doomed_in t key)) NoEntry ∷ last) h in
+    let r = linked_record t key (passed (is_linked t key) NoEntry c.0) in
+    let c2 = no_first (unless (not (is_directory t key)) IsDir) (unless (not (is_link t key)) Invalid ∷ unless (not (doomed_in t key)) NoEntry ∷ last) c.1 in
+    let c3 = no_first (unless (not (is_link t key)) Invalid) (unless (not (doomed_in t key)) NoEntry ∷ last) c2.1 in
+    let c4 = no_first (unless (not (doomed_in t key)) NoEntry) last c3.1 in
+    let c5 = no_first (unless (not (hidden_in t key)) Busy) [] c4.1 in
+    record {
+      file = r.0;
+      known = r.1;
+      no_dir = ap (λ o. option_map_or (λ (x : Record). is_dir x.node) o false) (sym r.1) ∙ not_passed (is_directory t key) IsDir c2.0;
+      shown = ap (λ o. option_map_or (λ (x : Record). x.hidden) o false) (sym r.1) ∙ not_passed (hidden_in t key) Busy c5.0;
+    })
+
+pub hidden_record_of : (t : Tree) (key : Key) → hidden_in t key ≡ true → (r : Record) × (record_at t key ≡ Some r) × (r.hidden ≡ true)
+hidden_record_of t key h = elim (record_at t key) as (λ o. option_map_or (λ (x : Record). x.hidden) o false ≡ true → (r : Record) × (o ≡ Some r) × (r.hidden ≡ true)) [
+  | None ↦ λ e. absurd (let x : false ≡ true = e in cc)
+  | Some r ↦ λ e. (r, refl, e)
+] h

@@ -12,7 +12,7 @@ use Rattle.kf_core.specs.Tree.{Tree, record_at, parent_of, ancestor, IsIn}
 use Rattle.kf_core.specs.Lawful.{root_record, Lawful}
 use Rattle.kf_core.specs.Commands.{new_record}
 use Rattle.kf_core.proofs.Climbs.{after_step}
-use Rattle.kf_core.proofs.TreeLists.{slice_get-set_same, slice_get-set_other, count_filled}
+use Rattle.kf_core.proofs.Lists.{slice_get-set_same, slice_get-set_other, count_filled}
 use Rattle.kf_core.proofs.FoundRecords.{in_found, found_in, parent_known, way_kept}
 
 pub record MayCreate (t : Tree) (key parent : Key) (name : List ℕ) : Type 0 where

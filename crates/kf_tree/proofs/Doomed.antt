@@ -1,4 +1,4 @@
--- How many records are doomed, after each change.
+-- How many records are doomed or hidden, after each change.
 use Rattle.std.proofs.Common.{◌≡◌, inl, inr, ℕ, zero, suc, ◌+◌, ◌≤◌, refl, ap, arith, sym, ◌∙◌, true, false, cond, not, List, [], ◌∷◌, slice_set, get_or, replicate}
 use Rattle.std.specs.Prelude.{Option, None, Some, slice_get, map, fold}
 use Rattle.std.specs.Option.{option_map, option_and_then}
@@ -9,9 +9,9 @@ use Rattle.kf_core.specs.declared.key.Key.{Key}
 use Rattle.kf_core.specs.declared.records.Record.{Record}
 use Rattle.kf_core.specs.Tree.{Tree}
 use Rattle.kf_core.specs.Commands.{doomed_record}
-use Rattle.kf_core.proofs.TreeLists.{count_at_most}
+use Rattle.kf_core.proofs.Lists.{count_at_most}
 use Rattle.kf_tree.proofs.Each.{altered_at, altered_other}
-use Rattle.kf_tree.specs.Subtrees.{with_changed_slot, with_changed_slots, is_doomed_record, doomed_count, is_undoomed, undoomed_count}
+use Rattle.kf_tree.specs.Subtrees.{with_changed_slot, with_changed_slots, is_doomed_record, doomed_count, is_hidden_record, hidden_count, is_undoomed, undoomed_count}
 
 -- what a write of one slot makes of the number
 pub doomed_written : (t : Tree) (slot : ℕ) (old new : Option Record) → slice_get t slot ≡ Some old →
@@ -19,6 +19,29 @@ pub doomed_written : (t : Tree) (slot : ℕ) (old new : Option Record) → slice
 doomed_written t slot old new h =
     (let e : get_or t slot None ≡ old = get_or_from_slice_get t slot old None h in
     rw e at (sum_by-set (λ o. cond (is_doomed_record o) 1 0) t slot new None (slice_get_within t slot old h)))
+
+pub hidden_written : (t : Tree) (slot : ℕ) (old new : Option Record) → slice_get t slot ≡ Some old →
+    hidden_count (slice_set t slot new) + cond (is_hidden_record old) 1 0 ≡ hidden_count t + cond (is_hidden_record new) 1 0
+hidden_written t slot old new h =
+    (let e : get_or t slot None ≡ old = get_or_from_slice_get t slot old None h in
+    rw e at (sum_by-set (λ o. cond (is_hidden_record o) 1 0) t slot new None (slice_get_within t slot old h)))
+
+none_hidden : (m k : ℕ) → fold (λ a x. a + cond (is_hidden_record x) 1 0) k (replicate m None) ≡ k
+none_hidden zero k = refl
+none_hidden (suc m) k = none_hidden m (k + 0) ∙ omega arith
+
+pub empty_shown : (m : ℕ) → hidden_count (replicate m None) ≡ 0
+empty_shown m = none_hidden m 0
+
+module _ (g : Record → Record) (same : (r : Record) → (g r).hidden ≡ r.hidden) where
+  hidden_on : (n : ℕ) (t : Tree) → fold (λ a x. a + cond (is_hidden_record x) 1 0) n (map (option_map g) t) ≡ fold (λ a x. a + cond (is_hidden_record x) 1 0) n t
+  hidden_on n [] = refl
+  hidden_on n (None ∷ t) = hidden_on (n + 0) t
+  hidden_on n (Some r ∷ t) = ap (λ b. fold (λ a x. a + cond (is_hidden_record x) 1 0) (n + cond {A = ℕ} b 1 0) (map (option_map g) t)) (same r) ∙ hidden_on (n + cond (r.hidden) 1 0) t
+
+  -- a change of every record that leaves whether it is hidden
+  pub hidden_mapped : (t : Tree) → hidden_count (map (option_map g) t) ≡ hidden_count t
+  hidden_mapped t = hidden_on 0 t
 
 none_doomed : (m k : ℕ) → fold (λ a x. a + cond (is_doomed_record x) 1 0) k (replicate m None) ≡ k
 none_doomed zero k = refl

@@ -11,14 +11,14 @@ use Rattle.kf_core.specs.declared.command.Command.TheVariants.{Activate, Doom, R
 use Rattle.kf_core.specs.Keys.{same_key}
 use Rattle.kf_core.specs.Tree.{Tree, record_at, in_subtree, IsIn}
 use Rattle.kf_core.specs.Lawful.{Lawful}
-use Rattle.kf_core.specs.Commands.{after, activated_record, doomed_record, moved_record}
+use Rattle.kf_core.specs.Commands.{after, change, activated_record, doomed_record, moved_record}
 use Rattle.kf_core.specs.PostOrder.{IsPostOrder}
 use Rattle.kf_tree.specs.Subtrees.{with_changed_slot, with_changed_slots, activated_unless_doomed}
 use Rattle.kf_core.proofs.Climbs.{keys_tell, same_key_self}
-use Rattle.kf_core.proofs.TreeLists.{length_set, slice_get-set_same, slice_get-set_other}
+use Rattle.kf_core.proofs.Lists.{length_set, slice_get-set_same, slice_get-set_other}
 use Rattle.kf_core.proofs.FoundRecords.{linked_here, found_in, in_found}
 
-list_same : {X : Type 0} (xs ys : List X) → ((j : ℕ) → slice_get xs j ≡ slice_get ys j) → xs ≡ ys
+pub list_same : {X : Type 0} (xs ys : List X) → ((j : ℕ) → slice_get xs j ≡ slice_get ys j) → xs ≡ ys
 list_same [] [] h = refl
 list_same [] (y ∷ ys) h = absurd (none-some y (h 0))
 list_same (x ∷ xs) [] h = absurd (none-some x (sym (h 0)))
@@ -151,16 +151,16 @@ pub altered_written : (f : Record → Record) (t : Tree) (slot : ℕ) (between i
 altered_written f t slot between item new h e n =
     set-set t slot between new ∙ ap (slice_set t slot) (n ∙ ap (λ o. option_and_then (λ place. option_map f place) o) (ap Some e ∙ sym (slice_get-get_or t slot item h)))
 
--- one record moved, by its slot or by its key
-pub slot_moved : (t : Tree) (root key dir : Key) (name : List ℕ) (r : Record) → Lawful t root → record_at t key ≡ Some r → with_changed_slot (moved_record dir name) t key.slot ≡ after t (Rename key dir name)
-slot_moved t root key dir name r l known = list_same _ _ (λ j. elim (eqb_tells key.slot j) [
+-- one record changed, by its slot or by its key
+pub slot_changed : (g : Record → Record) (t : Tree) (root key : Key) (r : Record) → Lawful t root → record_at t key ≡ Some r → with_changed_slot g t key.slot ≡ change (λ s. same_key s.key key) g t
+slot_changed g t root key r l known = list_same _ _ (λ j. elim (eqb_tells key.slot j) [
   | inl e ↦ (let at : slice_get t j ≡ Some (Some r) = ap (slice_get t) (sym e.1 ∙ ap (λ (k : Key). k.slot) (sym f.1)) ∙ f.0 in
-      altered_same_slot j e.1 ∙ ap (option_map (option_map (moved_record dir name))) at ∙ ap (λ b. Some (Some (cond b (moved_record dir name r) r))) (sym this) ∙ ap (option_map (option_map pick)) (sym at) ∙ sym (slice_get-map (option_map pick) t j))
+      altered_same_slot j e.1 ∙ ap (option_map (option_map g)) at ∙ ap (λ b. Some (Some (cond b (g r) r))) (sym this) ∙ ap (option_map (option_map pick)) (sym at) ∙ sym (slice_get-map (option_map pick) t j))
   | inr n ↦ slice_get-set_other t key.slot j _ (λ e. n.1 (sym e)) ∙ go j n.1 (slice_get t j) refl ∙ sym (slice_get-map (option_map pick) t j)
 ])
   where
     pick : Record → Record
-    pick s = cond (same_key s.key key) (moved_record dir name s) s
+    pick s = cond (same_key s.key key) (g s) s
 
     f : (IsIn t r) × (r.key ≡ key)
     f = found_in t key r known
@@ -168,13 +168,16 @@ slot_moved t root key dir name r l known = list_same _ _ (λ j. elim (eqb_tells 
     this : same_key r.key key ≡ true
     this = ap (λ k. same_key k key) f.1 ∙ same_key_self key
 
-    altered_same_slot : (j : ℕ) → key.slot ≡ j → slice_get (with_changed_slot (moved_record dir name) t key.slot) j ≡ option_map (option_map (moved_record dir name)) (slice_get t j)
-    altered_same_slot j e = altered_at (moved_record dir name) t key.slot j e
+    altered_same_slot : (j : ℕ) → key.slot ≡ j → slice_get (with_changed_slot g t key.slot) j ≡ option_map (option_map g) (slice_get t j)
+    altered_same_slot j e = altered_at g t key.slot j e
 
     go : (j : ℕ) → key.slot ≢ j → (o : Option (Option Record)) → slice_get t j ≡ o → slice_get t j ≡ option_map (option_map pick) (slice_get t j)
     go j n None h = h ∙ ap (option_map (option_map pick)) (sym h)
     go j n (Some None) h = h ∙ ap (option_map (option_map pick)) (sym h)
     go j n (Some (Some s)) h = h ∙ elim (keys_tell s.key key) [
       | inl e ↦ absurd (n (ap (λ (k : Key). k.slot) (sym e.1) ∙ l.in_place j s h))
-      | inr d ↦ ap (λ b. Some (Some (cond b (moved_record dir name s) s))) (sym d.0)
+      | inr d ↦ ap (λ b. Some (Some (cond b (g s) s))) (sym d.0)
     ] ∙ ap (option_map (option_map pick)) (sym h)
+
+pub slot_moved : (t : Tree) (root key dir : Key) (name : List ℕ) (r : Record) → Lawful t root → record_at t key ≡ Some r → with_changed_slot (moved_record dir name) t key.slot ≡ after t (Rename key dir name)
+slot_moved t root key dir name r l known = slot_changed (moved_record dir name) t root key r l known

@@ -13,7 +13,7 @@ use Rattle.std.proofs.lemmas.Bool.Decides.{eqb_tells}
 use Rattle.kf_core.specs.declared.key.Key.{Key}
 use Rattle.kf_tree.specs.declared.directories.Directory.{Directory}
 use Rattle.kf_tree.specs.Directories.{empty_directory, with_child, without_child, with_entry, entry_at, subdirs_at}
-use Rattle.kf_core.proofs.TreeLists.{slice_get-set_same, slice_get-set_other}
+use Rattle.kf_core.proofs.Lists.{slice_get-set_same, slice_get-set_other}
 
 abbrev pub is_same : List ℕ → List ℕ → Bool
 is_same = eq_by_cmp (slice_cmp nat_cmp)

@@ -1,5 +1,5 @@
 -- The indexes are right for the root alone, and stay right where marks change.
-use Rattle.std.proofs.Common.{◌≡◌, inl, inr, ℕ, zero, suc, ◌+◌, ◌<◌, ◌^◌, refl, ap, arith, sym, ◌∙◌, subst, true, false, cond, List, [], ◌∷◌, slice_set, length-set, replicate}
+use Rattle.std.proofs.Common.{◌≡◌, inl, inr, ℕ, zero, suc, ◌+◌, ◌<◌, ◌^◌, refl, ap, arith, sym, ◌∙◌, subst, Bool, true, false, cond, List, [], ◌∷◌, slice_set, length-set, replicate}
 use Rattle.std.specs.Prelude.{Option, None, Some, slice_get, count_by, fold, ◌&&◌}
 use Rattle.std.specs.Option.{option_map, option_and_then}
 use Rattle.std.specs.FinMap.{get-empty}
@@ -12,11 +12,11 @@ use Rattle.kf_core.specs.declared.key.Key.{Key}
 use Rattle.kf_core.specs.declared.records.Record.{Record}
 use Rattle.kf_core.specs.Tree.{Tree, IsIn, is_dir}
 use Rattle.kf_core.specs.Lawful.{root_record}
-use Rattle.kf_core.specs.Commands.{root_alone, doomed_record, activated_record}
+use Rattle.kf_core.specs.Commands.{root_alone, doomed_record, hidden_record, activated_record}
 use Rattle.kf_tree.specs.declared.directories.Directory.{Directory}
 use Rattle.kf_tree.specs.Subtrees.{with_changed_slot, activated_unless_doomed}
 use Rattle.kf_tree.specs.Directories.{empty_directory, entry_at, subdirs_at, is_slot_of, is_subdir_in, IsEntry, AreKept}
-use Rattle.kf_core.proofs.TreeLists.{slice_get-set_same, slice_get-set_other}
+use Rattle.kf_core.proofs.Lists.{slice_get-set_same, slice_get-set_other}
 use Rattle.kf_tree.proofs.Kept.{counted, count_written}
 
 -- the two say the same of where they stand
@@ -107,6 +107,9 @@ module _ (f : Record → Record) (same : (r : Record) → SamePlace (f r) r) (t 
 
 pub doomed_stays : (r : Record) → SamePlace (doomed_record r) r
 doomed_stays r = record { key = refl; parent = refl; name = refl; node = refl }
+
+pub hidden_stays : (b : Bool) (r : Record) → SamePlace (hidden_record b r) r
+hidden_stays b r = record { key = refl; parent = refl; name = refl; node = refl }
 
 pub activated_stays : (r : Record) → SamePlace (activated_unless_doomed r) r
 activated_stays r = elim r.marks.doomed as (λ b. SamePlace (cond b r (activated_record r)) r) [

@@ -27,3 +27,9 @@ pub mod LookUps
 pub mod Unique
 pub mod OneText
 pub mod RenameRule
+pub mod Apart
+pub mod Tours
+pub mod PreOrder
+pub mod Replays
+pub mod Collected
+pub mod OneClimb

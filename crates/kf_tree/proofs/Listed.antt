@@ -10,14 +10,13 @@ use Rattle.std.proofs.lemmas.List.{take_rest}
 use Rattle.std.proofs.lemmas.List.Elements.{Contains-append_left, Contains-append_right, All-append}
 use Rattle.kf_core.specs.declared.key.Key.{Key}
 use Rattle.kf_core.specs.declared.records.Record.{Record}
-use Rattle.kf_core.specs.Marks.{are_live}
 use Rattle.kf_core.specs.Tree.{Tree, IsIn}
 use Rattle.kf_core.specs.Lawful.{Lawful}
-use Rattle.kf_tree.specs.Paths.{is_key, is_under, child}
+use Rattle.kf_tree.specs.Paths.{is_key, is_under, child, lives}
 use Rattle.kf_core.specs.Names.{IsBefore}
 use Rattle.kf_index.specs.Entries.{IsAbove}
 use Rattle.kf_tree.specs.Listing.{IsListed, IsListing}
-use Rattle.kf_tree.specs.Causes.{live_in}
+use Rattle.kf_tree.specs.Causes.{lives_in, live_in}
 use Rattle.kf_tree.specs.Next.{before, above, IsNext, NoneAbove, AreNext}
 use Rattle.kf_core.proofs.FoundRecords.{same_record, in_found}
 use Rattle.kf_tree.proofs.Allowed.{some_first, is_key_self}
@@ -67,14 +66,14 @@ above_up : (bound : Option (List ℕ)) (c x : List ℕ) → above bound c ≡ tr
 above_up None c x a b = refl
 above_up (Some low) c x a b = before_trans low c x a b
 
-listed_live : (o : Option Record) (c : Record) → o ≡ Some c → IsSomeAnd o (λ r. IsTrue (are_live (Some r.marks))) → are_live (Some c.marks) ≡ true
-listed_live o c e h = (let g = subst (λ x. IsSomeAnd x (λ (r : Record). IsTrue (are_live (Some r.marks)))) e h in g)
+listed_live : (o : Option Record) (c : Record) → o ≡ Some c → IsSomeAnd o (λ r. IsTrue (lives r)) → lives c ≡ true
+listed_live o c e h = (let g = subst (λ x. IsSomeAnd x (λ (r : Record). IsTrue (lives r))) e h in g)
 
-live_listed : (o : Option Record) (c : Record) → o ≡ Some c → are_live (Some c.marks) ≡ true → IsSomeAnd o (λ r. IsTrue (are_live (Some r.marks)))
-live_listed o c e h = subst (λ x. IsSomeAnd x (λ (r : Record). IsTrue (are_live (Some r.marks)))) (sym e) h
+live_listed : (o : Option Record) (c : Record) → o ≡ Some c → lives c ≡ true → IsSomeAnd o (λ r. IsTrue (lives r))
+live_listed o c e h = subst (λ x. IsSomeAnd x (λ (r : Record). IsTrue (lives r))) (sym e) h
 
 listed_child : (t : Tree) (root dir : Key) (bound : Option (List ℕ)) (name : List ℕ) → Lawful t root → IsListed t dir bound name → (r : Record) × (child t dir name ≡ Some r) × (IsIn t r) × (r.parent ≡ Some dir) × (r.name ≡ name)
-listed_child t root dir bound name l h = elim (child t dir name) as (λ o. child t dir name ≡ o → IsSomeAnd o (λ r. IsTrue (are_live (Some r.marks))) → (r : Record) × (child t dir name ≡ Some r) × (IsIn t r) × (r.parent ≡ Some dir) × (r.name ≡ name)) [
+listed_child t root dir bound name l h = elim (child t dir name) as (λ o. child t dir name ≡ o → IsSomeAnd o (λ r. IsTrue (lives r)) → (r : Record) × (child t dir name ≡ Some r) × (IsIn t r) × (r.parent ≡ Some dir) × (r.name ≡ name)) [
   | None ↦ λ e g. absurd g
   | Some r ↦ λ e g. (let k = child_is t root dir name r l e in (r, e, k.0, k.1, k.2))
 ] refl h.live_child
@@ -103,10 +102,10 @@ one P y p zero d h = p
 one P y p (suc k) d h = absurd (omega arith)
 
 listed_next : (t : Tree) (root dir : Key) (l : Lawful t root) (after bound : Option (List ℕ)) (limit : ℕ) (names new : List (List ℕ)) (c : Record) (name : List ℕ) → name ≡ c.name → IsNext t dir bound c →
-    length names < limit → IsListedTo t dir after bound limit names → new ≡ cond (are_live (Some c.marks)) (names ++ c.name ∷ []) names → IsListedTo t dir after (Some name) limit new
+    length names < limit → IsListedTo t dir after bound limit names → new ≡ cond (lives c) (names ++ c.name ∷ []) names → IsListedTo t dir after (Some name) limit new
 listed_next t root dir l after bound limit names new c name same n room f pushed =
     subst (λ x. IsListedTo t dir after (Some x) limit new) (sym same) (subst (IsListedTo t dir after (Some c.name) limit) (sym pushed)
-    (elim (are_live (Some c.marks)) as (λ b. are_live (Some c.marks) ≡ b → IsListedTo t dir after (Some c.name) limit (cond b (names ++ c.name ∷ []) names)) [
+    (elim (lives c) as (λ b. lives c ≡ b → IsListedTo t dir after (Some c.name) limit (cond b (names ++ c.name ∷ []) names)) [
       | true ↦ λ e. record {
         listed = All-append (IsListed t dir after) names (c.name ∷ []) f.listed (one (IsListed t dir after) c.name (record {
           live_child = live_listed (child t dir c.name) c known e;
@@ -128,7 +127,7 @@ listed_next t root dir l after bound limit names new c name same n room f pushed
         few = f.few;
         passed = below;
         all = λ x h a. elim (above bound x) as (λ b. above bound x ≡ b → Contains names x) [
-          | true ↦ λ u. absurd (let live : are_live (Some c.marks) ≡ true = listed_live (child t dir x) c (ap (child t dir) (is_c x h a u) ∙ known) h.live_child in
+          | true ↦ λ u. absurd (let live : lives c ≡ true = listed_live (child t dir x) c (ap (child t dir) (is_c x h a u) ∙ known) h.live_child in
               let no : true ≡ false = sym live ∙ e in cc)
           | false ↦ λ u. f.all x h u
         ] refl;
@@ -185,8 +184,8 @@ unfolding AreNext
 listed_more t root dir l after limit names new [] d e some room f pushed = absurd (omega (arith, some))
 listed_more t root dir l after limit names new (entry ∷ later) d e some room f pushed =
     (let n = f.left.0 in
-    let live : live_in t entry.1 ≡ are_live (Some n.0.marks) = ap (live_in t) (sym n.3) ∙ ap (λ o. are_live (option_map (λ (r : Record). r.marks) o)) (in_found t n.0 n.1.is_in) in
-    let pushed' : new ≡ cond (are_live (Some n.0.marks)) (names ++ n.0.name ∷ []) names = pushed ∙ ap (λ b. cond b (names ++ entry.0 ∷ []) names) live ∙ ap (λ x. cond (are_live (Some n.0.marks)) (names ++ x ∷ []) names) (sym n.2) in
+    let live : live_in t entry.1 ≡ lives n.0 = ap (live_in t) (sym n.3) ∙ ap lives_in (in_found t n.0 n.1.is_in) in
+    let pushed' : new ≡ cond (lives n.0) (names ++ n.0.name ∷ []) names = pushed ∙ ap (λ b. cond b (names ++ entry.0 ∷ []) names) live ∙ ap (λ x. cond (lives n.0) (names ++ x ∷ []) names) (sym n.2) in
     record {
       bound = Some entry.0;
       so_far = listed_next t root dir l after f.bound limit names new n.0 entry.0 (sym n.2) n.1 room f.so_far pushed';

@@ -9,11 +9,10 @@ use Rattle.std.proofs.lemmas.Slice.Eq.{bytes_eq-Decides}
 use Rattle.kf_core.specs.declared.key.Key.{Key}
 use Rattle.kf_core.specs.declared.records.Record.{Record}
 use Rattle.kf_core.specs.declared.refusal.Refusal.TheVariants.{NoEntry, NotDir}
-use Rattle.kf_core.specs.Marks.{are_live}
 use Rattle.kf_core.specs.Keys.{same_key}
 use Rattle.kf_core.specs.Tree.{Tree, with_key, record_at, is_dir}
 use Rattle.kf_core.specs.Lawful.{Lawful}
-use Rattle.kf_tree.specs.Paths.{is_key, is_under, child, entry_key, found, only_live}
+use Rattle.kf_tree.specs.Paths.{is_key, is_under, child, entry_key, found, lives, only_live}
 use Rattle.kf_tree.specs.Shown.{shown, shown_record}
 use Rattle.kf_tree.proofs.Next.{both, key_is}
 
@@ -23,7 +22,7 @@ record_shown false t k = refl
 record_shown true t k = ap (λ o. option_and_then (with_key k) o) (slice_get-map only_live t k.slot) ∙ go (slice_get t k.slot)
   where
     live : (r : Record) → with_key k (only_live (Some r)) ≡ only_live (with_key k (Some r))
-    live r = elim (are_live (Some r.marks)) as (λ b. are_live (Some r.marks) ≡ b → with_key k (cond b (Some r) None) ≡ only_live (with_key k (Some r))) [
+    live r = elim (lives r) as (λ b. lives r ≡ b → with_key k (cond b (Some r) None) ≡ only_live (with_key k (Some r))) [
       | true ↦ λ e. elim (same_key r.key k) as (λ s. cond s (Some r) None ≡ only_live (cond s (Some r) None)) [ true ↦ sym (ap (λ b. cond b (Some r) None) e) | false ↦ refl ]
       | false ↦ λ e. elim (same_key r.key k) as (λ s. None ≡ only_live (cond s (Some r) None)) [ true ↦ sym (ap (λ b. cond b (Some r) None) e) | false ↦ refl ]
     ] refl
@@ -47,7 +46,7 @@ module _ (dir : Key) (test : Record → Bool) where
   none_live : (t : Tree) → NonePasses t → first passes (map only_live t) ≡ None
   none_live [] h = refl
   none_live (None ∷ t) h = none_live t (λ j s e. h (suc j) s e)
-  none_live (Some r ∷ t) h = elim (are_live (Some r.marks)) as (λ b. first passes (cond b (Some r) None ∷ map only_live t) ≡ None) [
+  none_live (Some r ∷ t) h = elim (lives r) as (λ b. first passes (cond b (Some r) None ∷ map only_live t) ≡ None) [
     | true ↦ elim (passes (Some r)) as (λ b. passes (Some r) ≡ b → cond b (Some (Some r)) (first passes (map only_live t)) ≡ None) [
       | true ↦ λ e. absurd (h zero r refl e)
       | false ↦ λ e. none_live t (λ j s e. h (suc j) s e)
@@ -65,11 +64,11 @@ module _ (dir : Key) (test : Record → Bool) where
       suc_same : (i j : ℕ) → suc i ≡ suc j → i ≡ j
       suc_same i j e = omega (arith, e)
   first_live (Some r ∷ t) h = (let rest = first_live t (λ i j r s e f p q. suc_same i j (h (suc i) (suc j) r s e f p q)) in elim (passes (Some r)) as (λ b. passes (Some r) ≡ b → the_record (first passes (map only_live (Some r ∷ t))) ≡ only_live (the_record (cond b (Some (Some r)) (first passes t)))) [
-    | true ↦ λ p. elim (are_live (Some r.marks)) as (λ b. are_live (Some r.marks) ≡ b → the_record (first passes (cond b (Some r) None ∷ map only_live t)) ≡ cond b (Some r) None) [
+    | true ↦ λ p. elim (lives r) as (λ b. lives r ≡ b → the_record (first passes (cond b (Some r) None ∷ map only_live t)) ≡ cond b (Some r) None) [
       | true ↦ λ e. ap (λ b. the_record (cond b (Some (Some r)) (first passes (map only_live t)))) p
       | false ↦ λ e. ap the_record (none_live t (λ j s g q. zero_suc j (h zero (suc j) r s refl g p q)))
     ] refl
-    | false ↦ λ p. elim (are_live (Some r.marks)) as (λ b. the_record (first passes (cond b (Some r) None ∷ map only_live t)) ≡ only_live (the_record (first passes t))) [
+    | false ↦ λ p. elim (lives r) as (λ b. the_record (first passes (cond b (Some r) None ∷ map only_live t)) ≡ only_live (the_record (first passes t))) [
       | true ↦ ap (λ b. the_record (cond b (Some (Some r)) (first passes (map only_live t)))) p ∙ rest
       | false ↦ rest
     ]

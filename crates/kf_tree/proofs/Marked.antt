@@ -9,9 +9,10 @@ use Rattle.kf_core.specs.declared.command.Command.TheVariants.{Activate, Doom}
 use Rattle.kf_core.specs.Names.{IsLawfulName}
 use Rattle.kf_core.specs.Tree.{Tree, record_at, parent_of, ancestor, IsIn, in_subtree}
 use Rattle.kf_core.specs.Lawful.{root_record, Lawful}
-use Rattle.kf_core.specs.Commands.{after, activated_record, doomed_record}
+use Rattle.kf_core.specs.Commands.{after, change, activated_record, doomed_record, hidden_record}
+use Rattle.kf_core.specs.Keys.{same_key}
 use Rattle.kf_core.proofs.Climbs.{climb_same, after_step, first_step}
-use Rattle.kf_core.proofs.TreeLists.{count_mapped}
+use Rattle.kf_core.proofs.Lists.{count_mapped}
 use Rattle.kf_core.proofs.FoundRecords.{found_in, parent_known, subtree_to, subtree_from}
 use Rattle.kf_core.proofs.Mapped.{mapped, from_slot, mapped_from, mapped_to, find_mapped}
 
@@ -79,6 +80,9 @@ keeps_where chosen f k = record {
 keeps_activated : KeepsPlace activated_record
 keeps_activated = record { key = λ r. refl; parent = λ r. refl; name = λ r. refl; node = λ r. refl }
 
+keeps_hidden : (b : Bool) → KeepsPlace (hidden_record b)
+keeps_hidden b = record { key = λ r. refl; parent = λ r. refl; name = λ r. refl; node = λ r. refl }
+
 keeps_doomed : KeepsPlace doomed_record
 keeps_doomed = record { key = λ r. refl; parent = λ r. refl; name = λ r. refl; node = λ r. refl }
 
@@ -125,3 +129,13 @@ module _ (t : Tree) (root : Key) (l : Lawful t root) (key : Key) where
           | false ↦ λ y z. z
         ] refl e)
       ] refl
+
+  -- one record hidden or shown, where that leaves the root's
+  pub lawful_hidden : (b : Bool) → cond (same_key root key) (hidden_record b (root_record root)) (root_record root) ≡ root_record root →
+      Lawful (change (λ r. same_key r.key key) (hidden_record b) t) root
+  lawful_hidden b root_same = lawful_mapped t (where_chosen (λ r. same_key r.key key) (hidden_record b)) (keeps_where (λ r. same_key r.key key) (hidden_record b) (keeps_hidden b)) root l
+      root_same
+      (λ r dir h d up same e. doomed_as r ∙ same (sym (doomed_as dir) ∙ e))
+    where
+      doomed_as : (r : Record) → (where_chosen (λ r. same_key r.key key) (hidden_record b) r).marks.doomed ≡ r.marks.doomed
+      doomed_as r = elim (same_key r.key key) as (λ v. (cond v (hidden_record b r) r).marks.doomed ≡ r.marks.doomed) [ true ↦ refl | false ↦ refl ]

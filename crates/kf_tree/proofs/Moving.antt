@@ -1,5 +1,5 @@
 -- What follows where a rename has no cause against it.
-use Rattle.std.proofs.Common.{◌≡◌, ℕ, refl, ap, sym, ◌∙◌, true, false, cond, List, [], ◌∷◌}
+use Rattle.std.proofs.Common.{Bool, ◌≡◌, ℕ, refl, ap, sym, ◌∙◌, true, false, cond, List, [], ◌∷◌}
 use Rattle.std.specs.Prelude.{Option, None, Some, not, ◌&&◌}
 use Rattle.std.specs.Option.{option_map, option_map_or}
 use Rattle.kf_core.specs.declared.key.Key.{Key}
@@ -12,7 +12,7 @@ use Rattle.kf_core.specs.Names.{name_fault}
 use Rattle.kf_core.specs.Keys.{same_key}
 use Rattle.kf_core.specs.Marks.{are_live}
 use Rattle.kf_core.specs.Tree.{Tree, is_linked, is_dir, in_subtree}
-use Rattle.kf_tree.specs.Causes.{is_directory, live_in, is_there_already, has_entry, early_rename_cause, late_rename_cause, rename_cause}
+use Rattle.kf_tree.specs.Causes.{is_directory, lives_in, live_in, is_there_already, has_entry, early_rename_cause, late_rename_cause, rename_cause}
 use Rattle.kf_core.proofs.Climbs.{same_key_self}
 use Rattle.kf_core.proofs.Names.{lawful_without_fault}
 use Rattle.kf_tree.proofs.Renamed.{MayMove}
@@ -23,6 +23,10 @@ undoomed m h = elim (m.doomed) as (λ d. (m.activated && not d) ≡ true → d �
   | true ↦ λ e. elim (m.activated) as (λ a. (a && false) ≡ true → true ≡ false) [ true ↦ λ x. sym x | false ↦ λ x. sym x ] e
   | false ↦ λ e. refl
 ] h
+
+first_of_both : (a b : Bool) → (a && b) ≡ true → a ≡ true
+first_of_both true b h = refl
+first_of_both false b h = cc
 
 pub may_move : (t : Tree) (root key dir : Key) (name : List ℕ) → rename_cause t root key dir name ≡ None → is_there_already t key dir name ≡ false → MayMove t root key dir name
 may_move t root key dir name h away =
@@ -54,7 +58,7 @@ may_move t root key dir name h away =
       target = d.0;
       target_known = d.1;
       is_dir = dir_node d.0.node (ap (λ o. option_map_or (λ (x : Record). is_dir x.node) o false) (sym d.1) ∙ passed (is_directory t dir) NotDir c5.0);
-      undoomed = undoomed d.0.marks (ap (λ o. are_live (option_map (λ (x : Record). x.marks) o)) (sym d.1) ∙ passed (live_in t dir) NoEntry c7.0);
+      undoomed = undoomed d.0.marks (first_of_both (are_live (Some d.0.marks)) (not d.0.hidden) (ap lives_in (sym d.1) ∙ passed (live_in t dir) NoEntry c7.0));
       lawful_name = lawful_without_fault name c4.0;
       not_below = not_passed (in_subtree t key dir) Invalid p1.0;
       unused = name_free t dir name (not_passed (has_entry t dir name) Exists p2.0);

@@ -7,15 +7,15 @@ use Rattle.std.proofs.lemmas.Bool.Decides.{eqb_tells}
 use Rattle.kf_core.specs.declared.key.Key.{Key}
 use Rattle.kf_core.specs.declared.records.Record.{Record}
 use Rattle.kf_core.specs.declared.command.Command.{Command}
-use Rattle.kf_core.specs.declared.command.Command.TheVariants.{Create, Activate, Doom, Unlink, Rename}
+use Rattle.kf_core.specs.declared.command.Command.TheVariants.{Create, Activate, Doom, Unlink, Rename, Hide, Show}
 use Rattle.kf_core.specs.Tree.{Tree, is_linked, IsIn}
 use Rattle.kf_core.specs.Lawful.{root_record, Lawful}
 use Rattle.kf_core.specs.Commands.{after, replay, root_alone}
 use Rattle.kf_tree.specs.TreeLogs.{TreeLog, IsKept}
-use Rattle.kf_tree.specs.Subtrees.{doomed_count}
+use Rattle.kf_tree.specs.Subtrees.{doomed_count, hidden_count}
 use Rattle.kf_tree.specs.Sound.{IsSound}
-use Rattle.kf_core.proofs.TreeLists.{length_set, slice_get-set_same, slice_get-set_other}
-use Rattle.kf_tree.proofs.Doomed.{doomed_written, empty_undoomed}
+use Rattle.kf_core.proofs.Lists.{length_set, slice_get-set_same, slice_get-set_other}
+use Rattle.kf_tree.proofs.Doomed.{doomed_written, hidden_written, empty_undoomed, empty_shown}
 
 abbrev empty_slots : ℕ → Tree
 empty_slots n = replicate n None
@@ -25,12 +25,12 @@ none_there zero slot r h = none-some (Some r) h
 none_there (suc m) zero r h = none-some r (same_Some None (Some r) h)
 none_there (suc m) (suc slot) r h = none_there m slot r h
 
-empty_there : (m slot : ℕ) → slot < m → slice_get (empty_slots m) slot ≡ Some None
+pub empty_there : (m slot : ℕ) → slot < m → slice_get (empty_slots m) slot ≡ Some None
 empty_there zero slot h = absurd (omega arith)
 empty_there (suc m) zero h = refl
 empty_there (suc m) (suc slot) h = empty_there m slot (omega arith)
 
-length_empty : (m : ℕ) → length (empty_slots m) ≡ m
+pub length_empty : (m : ℕ) → length (empty_slots m) ≡ m
 length_empty zero = refl
 length_empty (suc m) = ap (λ j. suc j) (length_empty m)
 
@@ -64,20 +64,25 @@ module _ (n : ℕ) (root : Key) (within : root.slot < n) where
   alone_undoomed = (let d = doomed_written (empty_slots n) root.slot None (Some (root_record root)) (empty_there n root.slot within) in
       let none = empty_undoomed n in omega (arith, d, none))
 
-  alone_kept : IsKept (record { root = root; tree = root_alone n root; commands = [] })
+  alone_shown : hidden_count (root_alone n root) ≡ 0
+  alone_shown = (let d = hidden_written (empty_slots n) root.slot None (Some (root_record root)) (empty_there n root.slot within) in
+      let none = empty_shown n in omega (arith, d, none))
+
+  alone_kept : IsKept (record { root = root; tree = root_alone n root; commands = []; ready = None })
   alone_kept = record { lawful = lawful_alone; replayed = ap (λ m. root_alone m root) (sym length_alone) }
 
-  pub new_kept : (tree : Tree) (commands : List Command) → tree ≡ root_alone n root → commands ≡ [] → IsKept (record { root = root; tree = tree; commands = commands })
+  pub new_kept : (tree : Tree) (commands : List Command) → tree ≡ root_alone n root → commands ≡ [] → IsKept (record { root = root; tree = tree; commands = commands; ready = None })
   new_kept tree commands is none =
-      subst (λ (t : List (Option Record)). IsKept (record { root = root; tree = t; commands = commands })) (sym is)
-      (subst (λ (cs : List Command). IsKept (record { root = root; tree = root_alone n root; commands = cs })) (sym none) alone_kept)
+      subst (λ (t : List (Option Record)). IsKept (record { root = root; tree = t; commands = commands; ready = None })) (sym is)
+      (subst (λ (cs : List Command). IsKept (record { root = root; tree = root_alone n root; commands = cs; ready = None })) (sym none) alone_kept)
 
-  pub new_sound : (tree : Tree) (commands : List Command) (capacity : ℕ) → n ≤ 4096 → tree ≡ root_alone n root → commands ≡ [] → IsSound (record { root = root; tree = tree; commands = commands }) capacity 0
+  pub new_sound : (tree : Tree) (commands : List Command) (capacity : ℕ) → n ≤ 4096 → tree ≡ root_alone n root → commands ≡ [] → IsSound (record { root = root; tree = tree; commands = commands; ready = None }) capacity 0
   new_sound tree commands capacity few is none = record {
     kept = new_kept tree commands is none;
     few = (let e : length tree ≡ n = ap (λ (t : Tree). length t) is ∙ length_alone in omega (arith, few));
-    counted = sym (ap (λ (t : Tree). doomed_count t) is ∙ alone_undoomed);
+    counted = (let d = ap (λ (t : Tree). doomed_count t) is ∙ alone_undoomed in let h = ap (λ (t : Tree). hidden_count t) is ∙ alone_shown in omega (arith, d, h));
     room = (let e : length commands ≡ 0 = ap (λ (cs : List Command). length cs) none in omega (arith, e));
+    ready = λ key h. absurd (none-some key h);
   }
 
   -- the root written over so many empty slots
@@ -90,13 +95,15 @@ length_after t (Activate key) = length-map t _
 length_after t (Doom key) = length-map t _
 length_after t (Unlink key) = elim (is_linked t key) as (λ b. length (cond b (slice_set t key.slot None) t) ≡ length t) [ true ↦ length_set t key.slot None | false ↦ refl ]
 length_after t (Rename key dir name) = length-map t _
+length_after t (Hide key) = length-map t _
+length_after t (Show key) = length-map t _
 
 replay_push : (t : Tree) (cs : List Command) (c : Command) → replay t (cs ++ c ∷ []) ≡ after (replay t cs) c
 replay_push t [] c = refl
 replay_push t (d ∷ cs) c = replay_push (after t d) cs c
 
 -- a command that keeps the tree lawful, and is stored, keeps the state
-pub kept_after : (s : TreeLog) (c : Command) → IsKept s → Lawful (after s.tree c) s.root → IsKept (record { root = s.root; tree = after s.tree c; commands = s.commands ++ c ∷ [] })
+pub kept_after : (s : TreeLog) (c : Command) → IsKept s → Lawful (after s.tree c) s.root → IsKept (record { root = s.root; tree = after s.tree c; commands = s.commands ++ c ∷ []; ready = None })
 kept_after s c k l = record {
   lawful = l;
   replayed = (let same : root_alone (length (after s.tree c)) s.root ≡ root_alone (length s.tree) s.root = ap (λ m. root_alone m s.root) (length_after s.tree c) in

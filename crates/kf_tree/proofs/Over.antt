@@ -12,45 +12,9 @@ use Rattle.kf_tree.specs.Links.{IsOver, ups}
 use Rattle.kf_tree.specs.Subtrees.{is_over_key}
 use Rattle.kf_tree.specs.Ways.{HasUps}
 use Rattle.kf_core.proofs.Climbs.{same_key_is, same_key_self, after_step, climb_rest, no_return}
-use Rattle.kf_core.proofs.TreeLists.{count_less}
+use Rattle.kf_core.proofs.Lists.{count_less}
 use Rattle.kf_tree.proofs.PostOrder.{child_below}
 use Rattle.kf_core.proofs.FoundRecords.{linked_here, known_parent, root_parent, root_met, subtree_to, subtree_from}
-
--- a test that fails on two keys tells that they differ
-differ : (a b : Key) → same_key a b ≡ false → a ≢ b
-differ a b e same = (let x : true ≡ false = sym (ap (same_key a) (sym same) ∙ same_key_self a) ∙ e in cc)
-
-module _ (t : Tree) (root target base : Key) (l : Lawful t root) (linked : IsTrue (is_linked t target)) (other : same_key base root ≡ false) where
-  by_steps : (n : ℕ) → base ≢ target → ancestor t n target ≡ Some base → IsOver t root target base
-  by_steps zero n c = absurd (n (sym (same_Some target base c)))
-  by_steps (suc n) d c = inr (n, c)
-
-  over_below : IsOver t root target base → in_subtree t base target ≡ true
-  over_below (inl e) = absurd (differ base root other e)
-  over_below (inr s) = (let r = linked_here t target linked in
-      ap (in_subtree t base) (sym r.2) ∙ subtree_from t root l r.0 (suc s.0) base r.1 (ap (ancestor t (suc s.0)) r.2 ∙ s.1))
-
-  pub over_by : not (same_key base target) ≡ true → (result : Bool) → result ≡ in_subtree t base target → MatchBool result (IsOver t root target base) (IsOver t root target base → ⊥)
-  over_by apart true e = (let s = subtree_to t root l base target (sym e) in by_steps s.0 (differ base target (flipped (same_key base target) apart)) s.1)
-    where
-      flipped : (b : Bool) → not b ≡ true → b ≡ false
-      flipped true h = sym h
-      flipped false h = refl
-  over_by apart false e = λ o. (let x : false ≡ true = e ∙ over_below o in cc)
-
-  -- the target itself is no base
-  pub not_over_self : not (same_key base target) ≡ false → (result : Bool) → result ≡ false → MatchBool result (IsOver t root target base) (IsOver t root target base → ⊥)
-  not_over_self same result e = subst (λ b. MatchBool b (IsOver t root target base) (IsOver t root target base → ⊥)) (sym e) never
-    where
-      is : same_key base target ≡ true
-      is = elim (same_key base target) as (λ b. not b ≡ false → b ≡ true) [ true ↦ λ h. refl | false ↦ λ h. sym h ] same
-
-      never : IsOver t root target base → ⊥
-      never (inl e) = differ base root other e
-      never (inr s) = (let r = linked_here t target linked in
-          let at : base ≡ target = same_key_is base target is in
-          let w = root_met t root l r.0 r.1 in
-          no_return (parent_of t) root (root_parent t root l) w.0 s.0 target (ap (ancestor t w.0) (sym r.2) ∙ w.1) (s.1 ∙ ap Some at))
 
 -- the base is so many steps up from the directory, none of those below is over the target, and the text grew by `../` for each
 pub record HasClimbed (t : Tree) (root dir target base : Key) (old new : List ℕ) : Type 0 where

@@ -18,8 +18,8 @@ use Rattle.kf_core.specs.Tree.{Tree, record_at, is_linked, is_dir, in_subtree, I
 use Rattle.kf_core.specs.Lawful.{Lawful}
 use Rattle.kf_core.specs.Worlds.{MayMove}
 use Rattle.kf_core.proofs.Names.{lawful_without_fault, no_fault_of_lawful}
-use Rattle.kf_tree.specs.Causes.{is_directory, live_in, is_there_already, has_entry, early_rename_cause, late_rename_cause, rename_cause}
-use Rattle.kf_tree.specs.Paths.{is_key, child}
+use Rattle.kf_tree.specs.Causes.{is_directory, lives_in, live_in, is_there_already, has_entry, early_rename_cause, late_rename_cause, rename_cause}
+use Rattle.kf_tree.specs.Paths.{is_key, child, lives}
 use Rattle.kf_core.proofs.Climbs.{keys_tell, same_key_self}
 use Rattle.kf_core.proofs.FoundRecords.{found_in, root_found}
 use Rattle.kf_tree.proofs.Next.{both, key_is}
@@ -41,8 +41,15 @@ module _ (t : Tree) (root key dir : Key) (name : List ℕ) (l : Lawful t root) w
   abbrev HasNoCause : Type 0
   HasNoCause = (rename_cause t root key dir name ≡ None) × (is_there_already t key dir name ≡ false)
 
-  live_record : (k : Key) (r : Record) → record_at t k ≡ Some r → live_in t k ≡ true → r.marks ≡ live_marks
-  live_record k r e h = marks_of_live r.marks (ap (λ o. are_live (option_map (λ (x : Record). x.marks) o)) (sym e) ∙ h)
+  live_record : (k : Key) (r : Record) → record_at t k ≡ Some r → live_in t k ≡ true → (r.marks ≡ live_marks) × (r.hidden ≡ false)
+  live_record k r e h = let b = both (are_live (Some r.marks)) (not r.hidden) (ap lives_in (sym e) ∙ h) in (marks_of_live r.marks b.0, shown_if r.hidden b.1)
+    where
+      shown_if : (b : Bool) → not b ≡ true → b ≡ false
+      shown_if true x = absurd (let y : false ≡ true = x in cc)
+      shown_if false x = refl
+
+  live_now : (r : Record) → r.marks ≡ live_marks → r.hidden ≡ false → lives r ≡ true
+  live_now r m h = ap (λ x. are_live (Some x) && not r.hidden) m ∙ ap not h
 
   pub may_move_from : HasNoCause → MayMove t key dir name
   may_move_from (h, away) =
@@ -73,11 +80,13 @@ module _ (t : Tree) (root key dir : Key) (name : List ℕ) (l : Lawful t root) w
         found = r.1;
         no_root = λ none. (let at = l.one_root r.0 i.0 none in
             let no : true ≡ false = sym (ap (same_key key) (sym at ∙ i.1) ∙ same_key_self key) ∙ other in cc);
-        is_live = live_record key r.0 r.1 (passed (live_in t key) NoEntry c6.0);
+        is_live = (live_record key r.0 r.1 (passed (live_in t key) NoEntry c6.0)).0;
+        is_shown = (live_record key r.0 r.1 (passed (live_in t key) NoEntry c6.0)).1;
         into = d.0;
         into_found = d.1;
         into_dir = dir_node d.0.node (ap (λ o. option_map_or (λ (x : Record). is_dir x.node) o false) (sym d.1) ∙ passed (is_directory t dir) NotDir c5.0);
-        into_is_live = live_record dir d.0 d.1 (passed (live_in t dir) NoEntry c7.0);
+        into_is_live = (live_record dir d.0 d.1 (passed (live_in t dir) NoEntry c7.0)).0;
+        into_is_shown = (live_record dir d.0 d.1 (passed (live_in t dir) NoEntry c7.0)).1;
         lawful = lawful_without_fault name c4.0;
         not_below = not_passed (in_subtree t key dir) Invalid p1.0;
         free = λ slot s at p n. name_free t dir name (not_passed (has_entry t dir name) Exists p2.0) s (ap (slice_get t) (l.in_place slot s at) ∙ at) p n;
@@ -93,8 +102,8 @@ module _ (t : Tree) (root key dir : Key) (name : List ℕ) (l : Lawful t root) w
       let here : is_linked t key ≡ true = ap is_some m.found in
       let there : is_linked t dir ≡ true = ap is_some m.into_found in
       let directory : is_directory t dir ≡ true = ap (λ o. option_map_or (λ (x : Record). is_dir x.node) o false) m.into_found ∙ ap is_dir m.into_dir in
-      let live : live_in t key ≡ true = ap (λ o. are_live (option_map (λ (x : Record). x.marks) o)) m.found ∙ ap (λ x. are_live (Some x)) m.is_live in
-      let into_live : live_in t dir ≡ true = ap (λ o. are_live (option_map (λ (x : Record). x.marks) o)) m.into_found ∙ ap (λ x. are_live (Some x)) m.into_is_live in
+      let live : live_in t key ≡ true = ap lives_in m.found ∙ live_now m.moving m.is_live m.is_shown in
+      let into_live : live_in t dir ≡ true = ap lives_in m.into_found ∙ live_now m.into m.into_is_live m.into_is_shown in
       let named : name_fault name ≡ None = no_fault_of_lawful name m.lawful in
       let apart : in_subtree t key dir ≡ false = m.not_below in
       let unused : has_entry t dir name ≡ false = no_entry (child t dir name) refl in

@@ -19,7 +19,7 @@ use Rattle.kf_tree.specs.Paths.{is_key}
 use Rattle.kf_tree.specs.Subtrees.{with_changed_slot}
 use Rattle.kf_tree.specs.Directories.{entry_at, subdirs_at, is_subdir_in, IsEntry, AreKept}
 use Rattle.kf_core.proofs.Climbs.{same_key_self}
-use Rattle.kf_core.proofs.TreeLists.{slice_get-set_same, slice_get-set_other}
+use Rattle.kf_core.proofs.Lists.{slice_get-set_same, slice_get-set_other}
 use Rattle.kf_core.proofs.FoundRecords.{found_in}
 
 module _ (t : Tree) (root : Key) (lawful : Lawful t root) where

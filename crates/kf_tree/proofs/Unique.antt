@@ -1,5 +1,5 @@
--- There is one listing of a request, and one post-order of a subtree.
-use Rattle.std.proofs.Common.{◌≡◌, ◌≢◌, ◌⊎◌, inl, inr, ℕ, zero, suc, ◌+◌, ◌-◌, ◌<◌, refl, ap, arith, sym, ◌∙◌, subst, List, [], ◌∷◌}
+-- There is one listing of a request, one post-order of a subtree, and one canonical list of a tree.
+use Rattle.std.proofs.Common.{◌≡◌, ◌≢◌, ◌⊎◌, inl, inr, ℕ, zero, suc, ◌+◌, ◌-◌, ◌<◌, refl, ap, arith, sym, ◌∙◌, subst, List, [], ◌∷◌, ◌++◌}
 use Rattle.std.specs.Prelude.{Option, None, Some, AllPairs, Contains, IsTrue}
 use Rattle.std.proofs.lemmas.Cmp.{nat_list_cmp_total}
 use Rattle.std.proofs.lemmas.Option.{same_Some}
@@ -8,9 +8,11 @@ use Rattle.kf_core.specs.declared.records.Record.{Record}
 use Rattle.kf_core.specs.Names.{IsBefore}
 use Rattle.kf_core.specs.Tree.{Tree, is_linked, parent_of, ancestor, in_subtree, IsIn}
 use Rattle.kf_core.specs.Lawful.{Lawful}
-use Rattle.kf_core.specs.PostOrder.{StandsBefore, IsPostOrder}
+use Rattle.kf_core.specs.PostOrder.{AreApart, StandsBefore, IsPostOrder}
 use Rattle.kf_index.specs.Entries.{IsAbove}
 use Rattle.kf_tree.specs.Listing.{IsListing}
+use Rattle.kf_tree.specs.Canonical.{Precedes, IsPreOrder, IsCanonical, collected, create_of, doom_of, hide_of}
+use Rattle.kf_core.specs.declared.command.Command.{Command}
 use Rattle.kf_core.proofs.Climbs.{first_step, after_step, climb_rest, climb_cut, climb_unique, no_return}
 use Rattle.kf_tree.proofs.Next.{less_before, before_not_self, before_not_back}
 use Rattle.kf_tree.proofs.Over.{one_more}
@@ -213,3 +215,35 @@ module _ (t : Tree) (root : Key) (l : Lawful t root) where
       p.ordered q.ordered
       (λ x h. (q.members x).1 ((p.members x).0 h))
       (λ x h. (p.members x).1 ((q.members x).0 h))
+
+  -- ---- pre-orders, and the canonical lists that follow them
+
+  -- no sibling over a key stands before another that is over what is over the key
+  not_over_apart : (a b : Key) → IsTrue (in_subtree t a b) → AreApart t b a → ⊥
+  not_over_apart a b h p = (let n = steps_to a b h in let f = steps_to p.first.key b p.over_a in let s = steps_to p.second.key a p.over_b in
+      siblings_tied p.first p.second f.0 (n.0 + s.0) b p.first_in p.second_in p.siblings p.order f.1 (over_through n.0 s.0 b a p.second.key n.1 s.1))
+
+  not_preceding_itself : (a : Key) → Precedes t a a → ⊥
+  not_preceding_itself a (inl h) = h.1 refl
+  not_preceding_itself a (inr p) = not_before_itself a (inr p)
+
+  not_each_first : (a b : Key) → IsTrue (is_linked t a) → IsTrue (is_linked t b) → Precedes t a b → Precedes t b a → ⊥
+  not_each_first a b la lb (inl h) (inl g) = (let n = steps_to a b h.0 in let m = steps_to b a g.0 in no_cycle a b m.0 n.0 la h.1 m.1 n.1)
+  not_each_first a b la lb (inl h) (inr p) = not_over_apart a b h.0 p
+  not_each_first a b la lb (inr p) (inl g) = not_over_apart b a g.0 p
+  not_each_first a b la lb (inr p) (inr q) = not_both a b la lb (inr p) (inr q)
+
+  pub one_pre_order : (a b : List Key) → IsPreOrder t a → IsPreOrder t b → a ≡ b
+  one_pre_order a b p q = one_order (Precedes t) a b
+      (λ x h. not_preceding_itself x)
+      (λ x y h g. not_each_first x y ((p.members x).0 h) ((p.members y).0 g))
+      p.ordered q.ordered
+      (λ x h. (q.members x).1 ((p.members x).0 h))
+      (λ x h. (p.members x).1 ((q.members x).0 h))
+
+  -- the commands that follow a pre-order
+  abbrev following : List Key → List Command
+  following keys = collected (create_of t) keys ++ (collected (doom_of t) keys ++ collected (hide_of t) keys)
+
+  pub one_canonical : (a b : List Command) → IsCanonical t a → IsCanonical t b → a ≡ b
+  one_canonical a b p q = p.2 ∙ ap following (one_pre_order p.0 q.0 p.1 q.1) ∙ sym q.2

@@ -7,7 +7,7 @@ use Rattle.kf_core.specs.declared.key.Key.{Key}
 use Rattle.kf_core.specs.declared.records.Record.{Record}
 use Rattle.kf_core.specs.Tree.{Tree, record_at, ancestor, IsIn}
 use Rattle.kf_core.specs.Lawful.{root_record, Lawful}
-use Rattle.kf_core.proofs.TreeLists.{slice_get-set_same, slice_get-set_other}
+use Rattle.kf_core.proofs.Lists.{slice_get-set_same, slice_get-set_other}
 use Rattle.kf_core.proofs.FoundRecords.{found_in, find_cleared, same_find, way_kept, way_short, met_parent, root_found, root_parent}
 
 module _ (t : Tree) (root : Key) (l : Lawful t root) (gone : Record) (is_in : IsIn t gone) (other : gone.key ≢ root)

@@ -5,15 +5,16 @@ use Rattle.std.specs.Option.{option_map_or, option_and_then}
 use Rattle.std.specs.Str.{bytes_eq}
 use Rattle.kf_core.specs.declared.key.Key.{Key}
 use Rattle.kf_core.specs.declared.key.Node.{Node}
+use Rattle.kf_core.specs.declared.records.Record.{Record}
 use Rattle.kf_core.specs.declared.key.Node.TheVariants.{Dir, File, Link}
 use Rattle.kf_core.specs.declared.refusal.Refusal.{Refusal}
-use Rattle.kf_core.specs.declared.refusal.Refusal.TheVariants.{NoEntry, NoMemory, Busy, Exists, NotDir, Invalid, NoSpace}
+use Rattle.kf_core.specs.declared.refusal.Refusal.TheVariants.{NoEntry, NoMemory, Busy, Exists, NotDir, IsDir, Invalid, NoSpace}
 use Rattle.kf_core.specs.Refusals.{unless, first_cause}
 use Rattle.kf_core.specs.Names.{name_fault}
 use Rattle.kf_core.specs.Keys.{same_key}
-use Rattle.kf_core.specs.Marks.{are_live, are_doomed}
+use Rattle.kf_core.specs.Marks.{are_doomed}
 use Rattle.kf_core.specs.Tree.{Tree, record_at, marks_of, is_linked, is_dir, in_subtree}
-use Rattle.kf_tree.specs.Paths.{is_key, is_under, child}
+use Rattle.kf_tree.specs.Paths.{is_key, is_under, child, lives}
 
 -- there was this cause, or none but want of memory
 abbrev pub Refuses : Option Refusal → Refusal → Type 0
@@ -21,8 +22,12 @@ Refuses cause refusal = (cause ≡ Some refusal) ⊎ ((cause ≡ None) × (refus
 
 -- ---- what the causes ask
 
+abbrev pub lives_in : Option Record → Bool
+lives_in None = false
+lives_in (Some r) = lives r
+
 abbrev pub live_in : Tree → Key → Bool
-live_in t key = are_live (marks_of t key)
+live_in t key = lives_in (record_at t key)
 
 -- a key that is not linked counts as doomed
 abbrev pub doomed_in : Tree → Key → Bool
@@ -49,6 +54,12 @@ target_of (Link target) = Some target
 -- the target of a key's record, where that is a link
 abbrev pub link_target : Tree → Key → Option Key
 link_target t key = option_and_then (λ r. target_of r.node) (record_at t key)
+
+abbrev pub is_link : Tree → Key → Bool
+is_link t key = is_some (link_target t key)
+
+abbrev pub hidden_in : Tree → Key → Bool
+hidden_in t key = option_map_or (λ r. r.hidden) (record_at t key) false
 
 -- ---- the causes, in order
 
@@ -86,6 +97,16 @@ abbrev pub unlink_cause : Tree → Key → Option Refusal
 unlink_cause t key = first_cause (
     unless (doomed_in t key) Invalid
     ∷ unless (not (has_child t key)) Busy
+    ∷ [])
+
+-- of a file that is not hidden
+abbrev pub hide_cause : Tree → Key → Option Refusal
+hide_cause t key = first_cause (
+    unless (is_linked t key) NoEntry
+    ∷ unless (not (is_directory t key)) IsDir
+    ∷ unless (not (is_link t key)) Invalid
+    ∷ unless (not (doomed_in t key)) NoEntry
+    ∷ unless (not (hidden_in t key)) Busy
     ∷ [])
 
 -- the causes that come before the question whether the record is there already

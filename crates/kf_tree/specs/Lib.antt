@@ -10,4 +10,6 @@ pub mod Subtrees
 pub mod Sound
 pub mod Shown
 pub mod Ways
+pub mod Walks
+pub mod Canonical
 pub mod Directories

@@ -2,14 +2,13 @@
 use Rattle.std.specs.Prelude.{◌≡◌, ◌⊎◌, ℕ, ◌≤◌, List, length, Option, Some, All, AllPairs, Contains, IsSomeAnd, IsTrue}
 use Rattle.kf_core.specs.declared.key.Key.{Key}
 use Rattle.kf_core.specs.Names.{IsBefore}
-use Rattle.kf_core.specs.Marks.{are_live}
 use Rattle.kf_core.specs.Tree.{Tree}
 use Rattle.kf_index.specs.Entries.{IsAbove}
-use Rattle.kf_tree.specs.Paths.{child}
+use Rattle.kf_tree.specs.Paths.{child, lives}
 
 -- the directory has a live child of this name, above the bound
 pub record IsListed (t : Tree) (dir : Key) (bound : Option (List ℕ)) (name : List ℕ) : Type 0 where
-  pub live_child : IsSomeAnd (child t dir name) (λ r. IsTrue (are_live (Some r.marks)))
+  pub live_child : IsSomeAnd (child t dir name) (λ r. IsTrue (lives r))
   pub above : IsAbove bound name
 
 -- the first names of live children above the bound, in byte order

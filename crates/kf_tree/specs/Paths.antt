@@ -1,5 +1,5 @@
 -- What a name in a directory leads to, and what a path does.
-use Rattle.std.specs.Prelude.{ℕ, Bool, true, false, ◌&&◌, ◌==◌, List, [], ◌∷◌, map, Option, None, Some, Result, Ok, Err, if◌then◌else◌}
+use Rattle.std.specs.Prelude.{ℕ, Bool, true, false, not, ◌&&◌, ◌==◌, List, [], ◌∷◌, map, Option, None, Some, Result, Ok, Err, if◌then◌else◌}
 use Rattle.std.specs.List.{find as first, list_any, slice_split}
 use Rattle.std.specs.Option.{option_and_then, ok_or}
 use Rattle.std.specs.Str.{bytes_eq}
@@ -75,9 +75,13 @@ names_of path = option_and_then (λ bytes. all_named (parts bytes)) (after_slash
 abbrev pub walked : Tree → Key → List ℕ → Result Key Refusal
 walked t root path = and_then (ok_or (names_of path) Invalid) (walk t root)
 
+-- a record is live where it is activated, not doomed and not hidden
+abbrev pub lives : Record → Bool
+lives r = are_live (Some r.marks) && not r.hidden
+
 abbrev pub only_live : Option Record → Option Record
 only_live None = None
-only_live (Some r) = if are_live (Some r.marks) then Some r else None
+only_live (Some r) = if lives r then Some r else None
 
 -- the live node that a path names, where every record that is not live counts as not there
 abbrev pub seen : Tree → Key → List ℕ → Result Key Refusal

@@ -1,12 +1,19 @@
 -- What holds of a state at all times.
-use Rattle.std.specs.Prelude.{◌≡◌, ℕ, ◌+◌, ◌≤◌, length}
+use Rattle.std.specs.Prelude.{◌≡◌, ℕ, ◌+◌, ◌≤◌, length, None, Some}
+use Rattle.kf_core.specs.declared.key.Key.{Key}
+use Rattle.kf_tree.specs.Causes.{hide_cause}
 use Rattle.kf_tree.specs.TreeLogs.{TreeLog, IsKept}
-use Rattle.kf_tree.specs.Subtrees.{doomed_count}
+use Rattle.kf_tree.specs.Subtrees.{owed_count}
 
--- the command list has this capacity, and so many records are said to be doomed
-pub record IsSound (s : TreeLog) (capacity doomed : ℕ) : Type 0 where
+-- nothing is against hiding the key, and there is room for that and for the show after it
+pub record IsReady (s : TreeLog) (capacity owed : ℕ) (key : Key) : Type 0 where
+  pub no_cause : hide_cause s.tree key ≡ None
+  pub room : length s.commands + 2 + owed ≤ capacity
+
+-- the command list has this capacity, and so many later commands are owed
+pub record IsSound (s : TreeLog) (capacity owed : ℕ) : Type 0 where
   pub kept : IsKept s
   pub few : length s.tree ≤ 4096
-  pub counted : doomed ≡ doomed_count s.tree
-  -- room for one unlink of each doomed record
-  pub room : length s.commands + doomed ≤ capacity
+  pub counted : owed ≡ owed_count s.tree
+  pub room : length s.commands + owed ≤ capacity
+  pub ready : (key : Key) → s.ready ≡ Some key → IsReady s capacity owed key

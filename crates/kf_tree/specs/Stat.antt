@@ -18,4 +18,5 @@ stat_of t r = record {
   links = if is_dir r.node then subdirs t r.key + 2 else 1;
   activated = r.marks.activated;
   doomed = r.marks.doomed;
+  hidden = r.hidden;
 }

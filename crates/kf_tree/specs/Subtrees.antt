@@ -1,5 +1,5 @@
 -- A subtree's keys one after another, and changes of its records slot by slot.
-use Rattle.std.specs.Prelude.{◌≡◌, ℕ, Bool, false, not, List, ◌++◌, Option, None, Some, slice_get, slice_set, fold, count_by, if◌then◌else◌}
+use Rattle.std.specs.Prelude.{◌≡◌, ℕ, ◌+◌, Bool, false, not, List, ◌++◌, Option, None, Some, slice_get, slice_set, fold, count_by, if◌then◌else◌}
 use Rattle.std.specs.Option.{option_map, option_and_then, option_map_or}
 use Rattle.kf_core.specs.declared.key.Key.{Key}
 use Rattle.kf_core.specs.declared.records.Record.{Record}
@@ -7,13 +7,6 @@ use Rattle.kf_core.specs.Tree.{Tree, in_subtree}
 use Rattle.kf_core.specs.Commands.{activated_record}
 use Rattle.kf_core.specs.PostOrder.{IsPostOrder}
 use Rattle.kf_tree.specs.Ends.{EndsWith}
-
--- the new list is the old one and then the subtree in post-order, with the top at its end
-pub record HasPushed (t : Tree) (top : Key) (old new : List Key) : Type 0 where
-  pub added : List Key
-  pub appended : new ≡ old ++ added
-  pub post_order : IsPostOrder t top added
-  pub last : EndsWith added top
 
 -- whether the slot has the key itself, or a record above it
 abbrev pub is_over_key : Tree → Key → Option Record → Bool
@@ -40,6 +33,17 @@ is_doomed_record (Some r) = r.marks.doomed
 
 abbrev pub doomed_count : Tree → ℕ
 doomed_count t = count_by is_doomed_record t
+
+abbrev pub is_hidden_record : Option Record → Bool
+is_hidden_record None = false
+is_hidden_record (Some r) = r.hidden
+
+abbrev pub hidden_count : Tree → ℕ
+hidden_count t = count_by is_hidden_record t
+
+-- what has to find room later: the unlink of each doomed record, and the show of each hidden one
+abbrev pub owed_count : Tree → ℕ
+owed_count t = doomed_count t + hidden_count t
 
 -- whether the slot has a record that is not doomed
 abbrev pub is_undoomed : Option (Option Record) → Bool

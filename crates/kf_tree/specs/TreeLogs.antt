@@ -1,17 +1,19 @@
 -- The tree with its stored commands, and what a call makes of them.
-use Rattle.std.specs.Prelude.{◌≡◌, ℕ, List, [], ◌∷◌, ◌++◌, length, Option, None}
+use Rattle.std.specs.Prelude.{◌≡◌, ℕ, List, [], ◌∷◌, ◌++◌, length, Option, None, Some}
 use Rattle.kf_core.specs.declared.key.Key.{Key}
 use Rattle.kf_core.specs.declared.records.Record.{Record}
 use Rattle.kf_core.specs.declared.command.Command.{Command}
 use Rattle.kf_core.specs.declared.refusal.Refusal.{Refusal}
 use Rattle.kf_core.specs.Lawful.{Lawful}
 use Rattle.kf_core.specs.Commands.{after, replay, root_alone}
+use Rattle.kf_tree.specs.Canonical.{IsCanonical}
 use Rattle.kf_tree.specs.Causes.{Refuses}
 
 pub record TreeLog : Type 0 where
   pub root : Key
   pub tree : List (Option Record)  -- by slot
   pub commands : List Command  -- in the order in which they were accepted
+  pub ready : Option Key  -- the key whose hiding has its memory, from `may_hide` to the next change
 
 -- the tree is lawful, and the replay of its commands
 pub record IsKept (s : TreeLog) : Type 0 where
@@ -23,6 +25,7 @@ pub record IsNew (slots : ℕ) (key : Key) (s : TreeLog) : Type 0 where
   pub root : s.root ≡ key
   pub tree : s.tree ≡ root_alone slots key
   pub commands : s.commands ≡ []
+  pub not_ready : s.ready ≡ None
   pub kept : IsKept s
 
 -- there was no cause against the command: it changed the tree, and it is stored
@@ -31,6 +34,23 @@ pub record IsAccepted (old new : TreeLog) (cause : Option Refusal) (command : Co
   pub same_root : new.root ≡ old.root
   pub changed : new.tree ≡ after old.tree command
   pub stored : new.commands ≡ old.commands ++ command ∷ []
+  pub not_ready : new.ready ≡ None
+  pub kept : IsKept new
+
+-- there is no cause against hiding the key, and its memory is there; nothing else changed
+pub record IsReadied (old new : TreeLog) (cause : Option Refusal) (key : Key) : Type 0 where
+  pub no_cause : cause ≡ None
+  pub same_root : new.root ≡ old.root
+  pub same_tree : new.tree ≡ old.tree
+  pub same_commands : new.commands ≡ old.commands
+  pub ready : new.ready ≡ Some key
+
+-- the commands are the canonical list of the tree, which stays, and is their replay
+pub record IsCompacted (old new : TreeLog) : Type 0 where
+  pub same_root : new.root ≡ old.root
+  pub same_tree : new.tree ≡ old.tree
+  pub canonical : IsCanonical new.tree new.commands
+  pub not_ready : new.ready ≡ None
   pub kept : IsKept new
 
 -- there was this cause, or none but want of memory; and nothing changed

@@ -3,9 +3,9 @@
 ghost use Rattle.std.specs.Prelude.{◌≡◌, Option, None, Some, Result, Ok, Err, MatchResult, true, false, not};
 ghost use Rattle.kf_core.specs.declared.key.Key.{Key};
 ghost use Rattle.kf_core.specs.Lawful.{Lawful};
-ghost use Rattle.kf_core.specs.Marks.{are_live};
+ghost use Rattle.kf_tree.specs.Paths.{lives};
 ghost use Rattle.kf_core.specs.Tree.{is_linked, parent_of};
-ghost use Rattle.kf_tree.specs.Causes.{target_fault, target_of, link_target, create_cause, linked_cause, unlink_cause, doom_cause, rename_cause, list_cause, text_cause, is_there_already};
+ghost use Rattle.kf_tree.specs.Causes.{target_fault, target_of, link_target, create_cause, linked_cause, unlink_cause, doom_cause, hide_cause, rename_cause, list_cause, text_cause, is_there_already};
 
 use crate::children::{is_directory, is_in};
 use crate::table::Table;
@@ -118,10 +118,32 @@ pub(crate) fn check_doom(table: &Table, root: Key, key: Key) -> Result<(), Refus
     Ok(())
 }
 
-pub(crate) fn is_live(entry: &Record) -> bool
-    ensures known { result ≡ are_live (Some entry.now.marks) }
+/// Why a key may not be hidden.
+pub(crate) fn check_hide(table: &Table, key: Key) -> Result<(), Refusal>
+    ensures checked { MatchResult result (λ _. hide_cause table.now key ≡ None) (λ cause. hide_cause table.now key ≡ Some cause) }
 {
-    entry.marks.activated && !entry.marks.doomed
+    let Some(entry) = table.record(key) else {
+        return Err(Refusal::NoEntry);
+    };
+    if is_directory(&entry.node) {
+        return Err(Refusal::IsDir);
+    }
+    if target_of(&entry.node).is_some() {
+        return Err(Refusal::Invalid);
+    }
+    if entry.marks.doomed {
+        return Err(Refusal::NoEntry);
+    }
+    if entry.hidden {
+        return Err(Refusal::Busy);
+    }
+    Ok(())
+}
+
+pub(crate) fn is_live(entry: &Record) -> bool
+    ensures known { result ≡ lives entry.now }
+{
+    entry.marks.activated && !entry.marks.doomed && !entry.hidden
 }
 
 /// Whether a record is to move, or why it may not. One that is there already stays.

@@ -1,4 +1,4 @@
-//! What a record is to a directory.
+//! Tests of a record: whether it is a directory, and whether it is in this one.
 
 ghost use Rattle.std.specs.Prelude.{◌≡◌, false};
 ghost use Rattle.std.specs.Option.{option_copied, option_map_or};

@@ -1,4 +1,4 @@
-//! What takes memory.
+//! What takes memory: slots, names, and room for commands.
 
 ghost use Rattle.std.specs.Prelude.{◌≡◌, ◌≤◌, ◌<◌, ◌+◌, ◌^◌, ◌++◌, ◌∷◌, [], replicate, vec_len, vec_capacity, length, None, IfOk, IfErr, OnOk};
 
@@ -42,6 +42,19 @@ pub(crate) fn make_room(commands: &mut Vec<Command>, later: usize) -> Result<(),
         Ok(()) => Ok(()),
         Err(_) => Err(Refusal::NoMemory),
     }
+}
+
+/// Takes room for so many later commands, and gives back what is beyond that.
+pub(crate) fn fit_room(commands: &mut Vec<Command>, later: usize) -> Result<(), Refusal>
+    ensures items { commands.new.items ≡ commands.old.items }
+    ensures room { OnOk result (length commands.old.items + later ≤ vec_capacity commands.new) }
+    ensures refused { IfErr result (λ refusal. refusal ≡ Refusal.NoMemory) }
+{
+    let Ok(()) = commands.reserve_exact(later) else {
+        return Err(Refusal::NoMemory);
+    };
+    commands.shrink_to(commands.len() + later);
+    Ok(())
 }
 
 /// Stores a command for which there is room.

@@ -1,10 +1,12 @@
 //! The plain attribute tree: linked records by slot, and every accepted command. One owner changes it.
 #![tactic(auto)]
 
+mod canonical;
 mod causes;
 mod children;
 mod directories;
 mod growth;
+mod laws;
 mod links;
 mod listing;
 mod marks;
@@ -15,6 +17,8 @@ mod slots;
 mod stat;
 mod state;
 mod table;
+mod walks;
 
+pub use laws::answers_are_unique;
 pub use stat::Stat;
 pub use state::State;

@@ -1,11 +1,11 @@
 //! The text of a link.
 
-ghost use Rattle.std.specs.Prelude.{◌≡◌, ◌≢◌, ℕ, ◌∷◌, ◌++◌, ◌⊎◌, [], map, reverse, Some, None, Ok, IsTrue, IfSome, IfNone, IfOk, IfErr, OnOk, MatchBool, if◌then◌else◌};
+ghost use Rattle.std.specs.Prelude.{◌≡◌, ◌≢◌, ℕ, suc, ◌∷◌, ◌++◌, ◌⊎◌, [], map, reverse, Some, None, Ok, IsTrue, IfSome, IfNone, IfOk, IfErr, OnOk, if◌then◌else◌};
 ghost use Rattle.std.specs.List.{join_with_byte};
 ghost use Rattle.kf_core.specs.declared.key.Key.{Key};
 ghost use Rattle.kf_core.specs.Lawful.{Lawful};
 ghost use Rattle.kf_core.specs.Tree.{is_linked, parent_of, ancestor};
-ghost use Rattle.kf_tree.specs.Links.{IsOver, IsLinkText};
+ghost use Rattle.kf_tree.specs.Links.{IsLinkText};
 ghost use Rattle.kf_tree.specs.Paths.{walk};
 ghost use Rattle.kf_tree.specs.Ways.{HasUps, name_at};
 
@@ -13,31 +13,48 @@ use crate::table::Table;
 use kf_core::{Key, Refusal};
 use std::alloc::{AllocError, Global};
 
-/// Whether the base is the root, or a proper ancestor of the target.
-fn is_over(table: &Table, root: Key, target: Key, base: Key) -> bool
+/// The directory of a target, or the root where it has none.
+fn over_target(table: &Table, root: Key, target: Key) -> Key
     requires rooted { Lawful table.now root }
     requires linked { IsTrue (is_linked table.now target) }
-    ensures known { MatchBool result (IsOver table.now root target base) (¬ IsOver table.now root target base) }
+    ensures over { (parent_of table.now target ≡ Some result) ⊎ ((parent_of table.now target ≡ None) × (result ≡ root)) }
+    ensures linked { IsTrue (is_linked table.now result) }
 {
-    base == root || base != target && table.is_below(base, target)
-}
-
-/// The directory above the base, unless the base is over the target.
-fn next_base(table: &Table, root: Key, target: Key, base: Key) -> Option<Key>
-    requires rooted { Lawful table.now root }
-    requires linked { IsTrue (is_linked table.now target) }
-    requires there { IsTrue (is_linked table.now base) }
-    ensures none { IfNone result (IsOver table.now root target base) }
-    ensures next { IfSome result (λ dir. (¬ IsOver table.now root target base) × (parent_of table.now base ≡ Some dir)) }
-{
-    if is_over(table, root, target, base) {
-        None
-    } else {
-        table.parent(base)
+    match table.parent(target) {
+        Some(parent) => parent,
+        None => root,
     }
 }
 
-/// Pushes `../` for each step up from the directory to the first base over the target, and gives that base.
+/// How many steps up lead from a linked key to the root.
+fn depth(table: &Table, root: Key, key: Key) -> usize
+    requires rooted { Lawful table.now root }
+    requires linked { IsTrue (is_linked table.now key) }
+    ensures deep { ancestor table.now result key ≡ Some root }
+{
+    let mut current = key;
+    'up: for steps in 0..table.len() {
+        match table.parent(current) {
+            Some(parent) => current = parent,
+            None => return steps,
+        }
+    }
+    table.len()
+}
+
+/// The directory of a key from which a step leads up.
+fn parent_below(table: &Table, key: Key) -> Key
+    requires below { (n : ℕ) × (top : Key) × (ancestor table.now (suc n) key ≡ Some top) }
+    ensures parent { parent_of table.now key ≡ Some result }
+{
+    match table.parent(key) {
+        Some(parent) => parent,
+        None => key,
+    }
+}
+
+/// Pushes `../` for each step up from the directory to the first base over the target, and gives that base. A second
+/// way up, from the target's directory, is climbed beside it, always the deeper of the two first.
 fn push_ups(
     table: &Table,
     root: Key,
@@ -51,9 +68,18 @@ fn push_ups(
     ensures climbed { IfOk result (λ base. HasUps table.now root dir target base text.old.items text.new.items) }
 {
     let mut base = dir;
-    'up: while let Some(parent) = next_base(table, root, target, base) {
-        text.extend_from_slice(b"../")?;
-        base = parent;
+    let mut other = over_target(table, root, target);
+    let mut base_depth = depth(table, root, base);
+    let mut other_depth = depth(table, root, other);
+    'up: while base != other {
+        if base_depth >= other_depth {
+            text.extend_from_slice(b"../")?;
+            base = parent_below(table, base);
+            base_depth -= 1;
+        } else {
+            other = parent_below(table, other);
+            other_depth -= 1;
+        }
     }
     Ok(base)
 }

@@ -1,7 +1,8 @@
 //! Changes of the records of a list of keys, one after another.
 
-ghost use Rattle.std.specs.Prelude.{◌≡◌, ◌+◌, ◌≤◌, length, slice_get};
+ghost use Rattle.std.specs.Prelude.{◌≡◌, ◌+◌, ◌≤◌, length, slice_get, if◌then◌else◌};
 ghost use Rattle.kf_core.specs.Commands.{doomed_record};
+ghost use Rattle.kf_tree.specs.Causes.{hidden_in};
 ghost use Rattle.kf_tree.specs.Subtrees.{with_changed_slots, activated_unless_doomed, doomed_count, is_undoomed, undoomed_count};
 
 use crate::table::Table;
@@ -14,6 +15,22 @@ pub(crate) fn is_undoomed(table: &Table, key: Key) -> bool
         Some(found) => !found.marks.doomed,
         None => false,
     }
+}
+
+pub(crate) fn is_hidden(table: &Table, key: Key) -> bool
+    ensures known { result ≡ hidden_in table.now key }
+{
+    match table.record(key) {
+        Some(found) => found.hidden,
+        None => false,
+    }
+}
+
+/// How many commands are owed for a doomed key: its unlink, and its show where it is hidden.
+pub(crate) fn owed_for(table: &Table, key: Key) -> usize
+    ensures value { result ≡ (if hidden_in table.now key then 2 else 1) }
+{
+    if is_hidden(table, key) { 2 } else { 1 }
 }
 
 /// How many of the keys have a record that is not doomed.

@@ -1,4 +1,4 @@
-//! Names in a tree of which all records are shown, or only the live ones.
+//! The find of one name, in the whole tree or among its live records alone.
 
 ghost use Rattle.std.specs.Prelude.{◌≡◌};
 ghost use Rattle.std.specs.Option.{option_copied};

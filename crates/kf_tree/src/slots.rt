@@ -2,7 +2,7 @@
 
 ghost use Rattle.std.specs.Prelude.{◌≡◌};
 ghost use Rattle.std.specs.Option.{option_map};
-ghost use Rattle.kf_core.specs.Commands.{doomed_record, moved_record};
+ghost use Rattle.kf_core.specs.Commands.{doomed_record, hidden_record, moved_record};
 ghost use Rattle.kf_tree.specs.Subtrees.{with_changed_slot, activated_unless_doomed};
 
 use kf_core::{Key, NameBytes, Record};
@@ -52,6 +52,29 @@ pub(crate) fn activate_slot(records: &mut Vec<Option<Record>>, slot: u32)
     if at < records.len() {
         let entry = records[at].take();
         records[at] = activated(entry);
+    }
+}
+
+fn hidden(slot: Option<Record>, hidden: bool) -> Option<Record>
+    ensures changed { result ≡ option_map (hidden_record hidden) slot }
+{
+    match slot {
+        Some(mut found) => {
+            found.hidden = hidden;
+            Some(found)
+        }
+        None => None,
+    }
+}
+
+/// Hides the record in a slot, or shows it.
+pub(crate) fn hide_slot(records: &mut Vec<Option<Record>>, slot: u32, hides: bool)
+    ensures changed { records.new.items ≡ with_changed_slot (hidden_record hides) records.old.items slot }
+{
+    let at = slot as usize;
+    if at < records.len() {
+        let entry = records[at].take();
+        records[at] = hidden(entry, hides);
     }
 }
 

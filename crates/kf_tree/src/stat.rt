@@ -12,12 +12,13 @@ use kf_core::{Node, Record};
 #[derive(Clone, Copy, Debug, PartialEq, Eq)]
 pub struct Stat {
     pub node: Node,
-    /// The child directories, live or not. None for a file or link.
+    /// The child directories, live or not. 0 for a file or link.
     pub subdirs: u32,
     /// Two more than that; one for a file or link.
     pub links: u32,
     pub activated: bool,
     pub doomed: bool,
+    pub hidden: bool,
 }
 
 /// What is told of a record.
@@ -39,5 +40,6 @@ pub(crate) fn stat_of(table: &Table, entry: &Record) -> Stat
         links,
         activated: entry.marks.activated,
         doomed: entry.marks.doomed,
+        hidden: entry.hidden,
     }
 }

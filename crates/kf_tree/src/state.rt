@@ -1,48 +1,45 @@
-//! The plain tree with its stored commands.
+//! The plain tree with its stored commands, and the calls that change it.
 
-ghost use Rattle.std.specs.Prelude.{◌≡◌, ◌<◌, map, IfOk, IfErr, IfSome, IsTrue, slice_get, MatchResult, MatchBool, Option, None, Some, Ok, Err, true, false};
-ghost use Rattle.std.specs.Option.{option_copied, option_map, ok_or};
-ghost use Rattle.kf_core.specs.declared.command.Command.TheVariants.{Create, Activate, Doom, Unlink, Rename};
-ghost use Rattle.kf_core.specs.Tree.{record_at, is_linked};
+ghost use Rattle.std.specs.Prelude.{◌≡◌, ◌<◌, IfOk, IfErr, IfSome, slice_get, MatchBool, Option, None, Some, true, false};
+ghost use Rattle.kf_core.specs.declared.command.Command.TheVariants.{Create, Activate, Doom, Unlink, Rename, Hide, Show};
+ghost use Rattle.kf_core.specs.Tree.{is_linked};
 ghost use Rattle.kf_core.specs.PostOrder.{IsPostOrder};
-ghost use Rattle.kf_tree.specs.Causes.{Refuses, create_cause, linked_cause, doom_cause, unlink_cause, rename_cause, list_cause, text_cause, is_there_already};
+ghost use Rattle.kf_tree.specs.Causes.{create_cause, linked_cause, doom_cause, unlink_cause, hide_cause, hidden_in, rename_cause, is_there_already};
 ghost use Rattle.kf_tree.specs.Ends.{EndsWith};
-ghost use Rattle.kf_tree.specs.Links.{HasLinkText};
-ghost use Rattle.kf_tree.specs.Listing.{IsListing};
-ghost use Rattle.kf_tree.specs.Paths.{found, walked, seen, walked_parent};
-ghost use Rattle.kf_tree.specs.Stat.{stat_of};
-ghost use Rattle.kf_tree.specs.TreeLogs.{IsKept, IsNew, IsAccepted, IsRefused};
+ghost use Rattle.kf_tree.specs.TreeLogs.{IsNew, IsAccepted, IsReadied, IsCompacted, IsRefused};
 
-use crate::causes::{
-    check_create, check_doom, check_linked, check_list, check_rename, check_text, check_unlink,
-};
-use crate::growth::{copy_name, make_room, store};
-use crate::links::link_text;
-use crate::listing::{copy_names, list_names};
-use crate::marks::{activate_each, count_undoomed, doom_each};
-use crate::paths::{walk, walk_parent};
-use crate::post::post_order;
-use crate::shown::find_in;
-use crate::stat::{Stat, stat_of};
-use crate::table::Table;
-use kf_core::{Command, Key, Limits, Marks, Node, Record, Refusal};
-use kf_index::Name;
-use std::alloc::Global;
-use std::marker::Model;
-
+mod reads;
 #[cfg(test)]
 mod tests;
 
-/// The records by slot, and every accepted command in order. Contracts see the root's key, the tree
-/// and the commands. The tree is always lawful, and the replay of the commands from the root alone.
+use crate::canonical::canonical_commands;
+use crate::causes::{
+    check_create, check_doom, check_hide, check_linked, check_rename, check_unlink,
+};
+use crate::growth::{copy_name, make_room, store};
+use crate::marks::{activate_each, count_undoomed, doom_each, is_hidden, owed_for};
+use crate::post::post_order;
+use crate::table::Table;
+use kf_core::{Command, Key, Limits, Marks, Node, Record, Refusal};
+use std::alloc::Global;
+use std::marker::Model;
+
+/// The records by slot, and the stored commands. Contracts see the root's key, the tree and the commands.
+/// The tree is always lawful, and the replay of the commands from the root alone.
+///
+/// All memory that a command needs is taken before anything changes, so a refused one leaves all as it was.
+/// [`State::unlink`], [`State::hide`] and [`State::show`] take none: the list keeps room for what they store.
 #[derive(Drop)]
 pub struct State {
     alloc: Global,
     root: Key,
     table: Table,
     commands: Vec<Command>,
-    /// How many linked records are doomed.
-    doomed: usize,
+    /// How many later commands have their room in the list: an unlink of each doomed record, a show of each
+    /// hidden one.
+    owed: usize,
+    /// The key that `may_hide` has made ready, until the next change.
+    ready: Option<Key>,
 }
 
 impl Model for State {
@@ -52,14 +49,19 @@ impl Model for State {
 
     ghost Value = { TreeLog };
 
-    ghost view = { λ s. record { root = s.root; tree = s.table; commands = s.commands.items } };
+    ghost view = { λ s.
+        record { root = s.root; tree = s.table; commands = s.commands.items; ready = s.ready } };
 
-    ghost invariant = { λ s. IsSound (record { root = s.root; tree = s.table; commands = s.commands.items }) (vec_capacity s.commands) s.doomed };
+    ghost invariant = { λ s.
+        IsSound (record { root = s.root; tree = s.table; commands = s.commands.items; ready = s.ready })
+        (vec_capacity s.commands) s.owed };
 }
 
 impl State {
     /// The tree of the root alone, with places for so many slots. The root is a live directory.
     /// `NoMemory` where the table could not be had.
+    ///
+    /// Condition: the root's slot is in the table.
     pub fn new(alloc: Global, limits: Limits, root: Key) -> Result<State, Refusal>
         requires in_table { root.slot < limits.slots }
         ensures made { IfOk result (λ state. IsNew limits.slots root state) }
@@ -71,31 +73,20 @@ impl State {
             root,
             table,
             commands: Vec::new(alloc),
-            doomed: 0,
+            owed: 0,
+            ready: None,
         })
-    }
-
-    /// The root's key. What holds of every state is told here: its tree is lawful, and the replay of its commands.
-    pub fn root(&self) -> Key
-        ensures known { result ≡ self.now.root }
-        ensures kept { IsKept self.now }
-    {
-        self.root
-    }
-
-    /// Every accepted command, in the order in which they were accepted.
-    pub fn commands(&self) -> &[Command]
-        ensures listed { result.now ≡ self.now.commands }
-        ensures kept { IsKept self.now }
-    {
-        self.commands.as_slice()
     }
 
     /// Links a new record in a directory, under the next key, activated where it is to be live
     /// (`kernfs_create_dir_ns`, `__kernfs_create_file`, `kernfs_create_link`).
-    /// Refusals in order: `NoEntry` (parent not linked), `NameTooLong` or `Invalid` (name), `NotDir`, `NoEntry` (parent
-    /// doomed), `NoEntry` (a link's target is not linked), `Invalid` (it is the root), `Exists`, `NoSpace` (no next key),
-    /// `NoMemory`. After a refusal nothing is changed.
+    /// Refusals in order: `NoEntry` (parent not linked), `NameTooLong` or `Invalid` (name), `NotDir`,
+    /// `NoEntry` (parent doomed), `NoEntry` (a link's target is not linked), `Invalid` (it is the root),
+    /// `Exists`, `NoSpace` (no next key), `NoMemory`. After a refusal nothing is changed.
+    ///
+    /// Condition: the next key's slot is in the table and has no linked node, as [`State::is_vacant`] tells.
+    /// Its generation must be fresh: the state keeps no key of what was unlinked, so under a generation that
+    /// the slot had before, a key or link that somebody kept of the old node would name the new one.
     pub fn create(
         &mut self,
         parent: Key,
@@ -107,14 +98,16 @@ impl State {
         requires vacant { IfSome next (λ key. slice_get self.old.tree key.slot ≡ Some None) }
         ensures given { IfOk result (λ key. next ≡ Some key) }
         ensures accepted { IfOk result (λ key.
-            IsAccepted self.old self.new (create_cause self.old.tree self.old.root parent name.now node next) (Create key parent name.now node live)) }
+            IsAccepted self.old self.new (create_cause self.old.tree self.old.root parent name.now node next)
+            (Create key parent name.now node live)) }
         ensures refused { IfErr result (λ refusal.
-            IsRefused self.old self.new (create_cause self.old.tree self.old.root parent name.now node next) refusal) }
+            IsRefused self.old self.new (create_cause self.old.tree self.old.root parent name.now node next)
+            refusal) }
     {
         let key = check_create(&self.table, self.root, parent, name, &node, next)?;
         let own_name = copy_name(self.alloc, name)?;
         let stored_name = copy_name(self.alloc, name)?;
-        make_room(&mut self.commands, self.doomed)?;
+        make_room(&mut self.commands, self.owed)?;
         self.table.add(Record {
             key,
             parent: Some(parent),
@@ -124,7 +117,9 @@ impl State {
                 activated: live,
                 doomed: false,
             },
+            hidden: false,
         })?;
+        self.ready = None;
         store(
             &mut self.commands,
             Command::Create {
@@ -141,36 +136,59 @@ impl State {
     /// Activates each node of the subtree that is not doomed (`kernfs_activate`).
     /// Refusals in order: `NoEntry` (not linked), `NoMemory`. After a refusal nothing is changed.
     pub fn activate(&mut self, key: Key) -> Result<(), Refusal>
-        ensures accepted { IfOk result (λ _. IsAccepted self.old self.new (linked_cause self.old.tree key) (Activate key)) }
-        ensures refused { IfErr result (λ refusal. IsRefused self.old self.new (linked_cause self.old.tree key) refusal) }
+        ensures accepted { IfOk result (λ _.
+            IsAccepted self.old self.new (linked_cause self.old.tree key) (Activate key)) }
+        ensures refused { IfErr result (λ refusal.
+            IsRefused self.old self.new (linked_cause self.old.tree key) refusal) }
+    {
+        let order = self.post_order(key)?;
+        self.activate_in_order(key, &order)
+    }
+
+    /// [`State::activate`] for a caller that has the post-order of the subtree already, as
+    /// [`State::post_order`] gives it.
+    /// Refusals in order: `NoEntry` (not linked), `NoMemory`. After a refusal nothing is changed.
+    ///
+    /// Condition: the order is the post-order of the key's subtree.
+    pub fn activate_in_order(&mut self, key: Key, order: &[Key]) -> Result<(), Refusal>
+        requires in_order { IsPostOrder self.old.tree key order.now }
+        ensures accepted { IfOk result (λ _.
+            IsAccepted self.old self.new (linked_cause self.old.tree key) (Activate key)) }
+        ensures refused { IfErr result (λ refusal.
+            IsRefused self.old self.new (linked_cause self.old.tree key) refusal) }
     {
         check_linked(&self.table, key)?;
-        let keys = post_order(self.alloc, &self.table, key)?;
-        make_room(&mut self.commands, self.doomed)?;
-        activate_each(&mut self.table, &keys);
+        make_room(&mut self.commands, self.owed)?;
+        activate_each(&mut self.table, order);
+        self.ready = None;
         store(&mut self.commands, Command::Activate { key });
         Ok(())
     }
 
-    /// Moves a record into a directory, under a name (`kernfs_rename_ns`). One that is there already under that name
-    /// stays, nothing is stored, and no memory is taken.
-    /// Refusals in order: `Invalid` (the root), `NoEntry` (either is not linked), `NameTooLong` or `Invalid` (name), `NotDir`,
-    /// `NoEntry` (either is not live); where it is not there already, `Invalid` (the directory is in the record's own
-    /// subtree), `Exists`, `NoMemory`. After a refusal nothing is changed.
+    /// Moves a record into a directory, under a name (`kernfs_rename_ns`). One that is there already under
+    /// that name stays, nothing is stored, and no memory is taken.
+    /// Refusals in order: `Invalid` (the root), `NoEntry` (either is not linked), `NameTooLong` or `Invalid`
+    /// (name), `NotDir`, `NoEntry` (either is not live); where it is not there already, `Invalid` (the
+    /// directory is in the record's own subtree), `Exists`, `NoMemory`. After a refusal nothing is changed.
     pub fn rename(&mut self, key: Key, dir: Key, name: &[u8]) -> Result<(), Refusal>
         ensures no_cause { IfOk result (λ _. rename_cause self.old.tree self.old.root key dir name.now ≡ None) }
-        ensures stays { IfOk result (λ _. is_there_already self.old.tree key dir name.now ≡ true → self.new ≡ self.old) }
+        ensures stays { IfOk result (λ _.
+            is_there_already self.old.tree key dir name.now ≡ true → self.new ≡ self.old) }
         ensures accepted { IfOk result (λ _. is_there_already self.old.tree key dir name.now ≡ false →
-            IsAccepted self.old self.new (rename_cause self.old.tree self.old.root key dir name.now) (Rename key dir name.now)) }
-        ensures refused { IfErr result (λ refusal. IsRefused self.old self.new (rename_cause self.old.tree self.old.root key dir name.now) refusal) }
-        ensures same_place { IfErr result (λ refusal. refusal ≡ Refusal.NoMemory → is_there_already self.old.tree key dir name.now ≡ false) }
+            IsAccepted self.old self.new (rename_cause self.old.tree self.old.root key dir name.now)
+            (Rename key dir name.now)) }
+        ensures refused { IfErr result (λ refusal.
+            IsRefused self.old self.new (rename_cause self.old.tree self.old.root key dir name.now) refusal) }
+        ensures same_place { IfErr result (λ refusal.
+            refusal ≡ Refusal.NoMemory → is_there_already self.old.tree key dir name.now ≡ false) }
     {
         let moves = check_rename(&self.table, self.root, key, dir, name)?;
         if moves {
             let own_name = copy_name(self.alloc, name)?;
             let stored_name = copy_name(self.alloc, name)?;
-            make_room(&mut self.commands, self.doomed)?;
+            make_room(&mut self.commands, self.owed)?;
             self.table.move_to(key, dir, own_name)?;
+            self.ready = None;
             store(
                 &mut self.commands,
                 Command::Rename {
@@ -183,139 +201,130 @@ impl State {
         Ok(())
     }
 
-    /// Dooms each node of the subtree, and gives their keys: each after all that is below it, siblings in byte order of
-    /// names, the given key last (the marking half of `kernfs_remove`). The doom of a doomed node is accepted and stored.
-    /// Refusals in order: `NoEntry` (not linked), `Invalid` (the root), `NoMemory`. After a refusal nothing is changed.
+    /// Dooms each node of the subtree, and gives their keys: each after all that is below it, siblings in
+    /// byte order of names, the given key last (the marking half of `kernfs_remove`). The doom of a doomed
+    /// node is accepted and stored. Refusals in order: `NoEntry` (not linked), `Invalid` (the root),
+    /// `NoMemory`. After a refusal nothing is changed.
     pub fn doom(&mut self, key: Key) -> Result<Vec<Key>, Refusal>
-        ensures accepted { IfOk result (λ _. IsAccepted self.old self.new (doom_cause self.old.tree self.old.root key) (Doom key)) }
+        ensures accepted { IfOk result (λ _.
+            IsAccepted self.old self.new (doom_cause self.old.tree self.old.root key) (Doom key)) }
         ensures ordered { IfOk result (λ keys. IsPostOrder self.old.tree key keys.items) }
         ensures last { IfOk result (λ keys. EndsWith keys.items key) }
-        ensures refused { IfErr result (λ refusal. IsRefused self.old self.new (doom_cause self.old.tree self.old.root key) refusal) }
+        ensures refused { IfErr result (λ refusal.
+            IsRefused self.old self.new (doom_cause self.old.tree self.old.root key) refusal) }
     {
         check_doom(&self.table, self.root, key)?;
-        let keys = post_order(self.alloc, &self.table, key)?;
-        make_room(
-            &mut self.commands,
-            self.doomed + count_undoomed(&self.table, &keys),
-        )?;
-        self.doomed += doom_each(&mut self.table, &keys);
-        store(&mut self.commands, Command::Doom { key });
-        Ok(keys)
+        let order = post_order(self.alloc, &self.table, key)?;
+        self.doom_in_order(key, &order)?;
+        Ok(order)
     }
 
-    /// Takes a doomed record without linked children out, and tells whether the key was linked. It takes no memory.
-    /// Refusals in order, of a linked key: `Invalid` (not doomed), `Busy` (a linked child). After a refusal, and after
-    /// the answer false, nothing is changed.
+    /// [`State::doom`] for a caller that has the post-order of the subtree already, as [`State::post_order`]
+    /// gives it.
+    /// Refusals in order: `NoEntry` (not linked), `Invalid` (the root), `NoMemory`. After a refusal nothing
+    /// is changed.
+    ///
+    /// Condition: the order is the post-order of the key's subtree.
+    pub fn doom_in_order(&mut self, key: Key, order: &[Key]) -> Result<(), Refusal>
+        requires in_order { IsPostOrder self.old.tree key order.now }
+        ensures accepted { IfOk result (λ _.
+            IsAccepted self.old self.new (doom_cause self.old.tree self.old.root key) (Doom key)) }
+        ensures refused { IfErr result (λ refusal.
+            IsRefused self.old self.new (doom_cause self.old.tree self.old.root key) refusal) }
+    {
+        check_doom(&self.table, self.root, key)?;
+        let newly = count_undoomed(&self.table, order);
+        make_room(&mut self.commands, self.owed + newly)?;
+        self.owed += doom_each(&mut self.table, order);
+        self.ready = None;
+        store(&mut self.commands, Command::Doom { key });
+        Ok(())
+    }
+
+    /// Takes a doomed record without linked children out, and tells whether the key was linked
+    /// (`kernfs_unlink_sibling` in `__kernfs_remove`). It takes no memory. Refusals in order, of a linked
+    /// key: `Invalid` (not doomed), `Busy` (a linked child). After a refusal, and after the answer false,
+    /// nothing is changed.
     pub fn unlink(&mut self, key: Key) -> Result<bool, Refusal>
         ensures linked { IfOk result (λ unlinked. is_linked self.old.tree key ≡ unlinked) }
-        ensures accepted { IfOk result (λ unlinked. MatchBool unlinked (IsAccepted self.old self.new (unlink_cause self.old.tree key) (Unlink key)) (self.new ≡ self.old)) }
-        ensures refused { IfErr result (λ refusal. (is_linked self.old.tree key ≡ true) × (unlink_cause self.old.tree key ≡ Some refusal) × (self.new ≡ self.old)) }
+        ensures accepted { IfOk result (λ unlinked. MatchBool unlinked
+            (IsAccepted self.old self.new (unlink_cause self.old.tree key) (Unlink key))
+            (self.new ≡ self.old)) }
+        ensures refused { IfErr result (λ refusal.
+            (is_linked self.old.tree key ≡ true) × (unlink_cause self.old.tree key ≡ Some refusal)
+            × (self.new ≡ self.old)) }
     {
         let linked = check_unlink(&self.table, key)?;
         if linked {
+            self.owed -= owed_for(&self.table, key);
             self.table.take_out(key);
-            self.doomed -= 1;
+            self.ready = None;
             store(&mut self.commands, Command::Unlink { key });
         }
         Ok(linked)
     }
 
-    /// What [`State::unlink`] would answer now, without doing it.
-    pub fn may_unlink(&self, key: Key) -> Result<bool, Refusal>
-        ensures linked { IfOk result (λ linked. is_linked self.now.tree key ≡ linked) }
-        ensures no_cause { IfOk result (λ linked. linked ≡ true → unlink_cause self.now.tree key ≡ None) }
-        ensures refused { IfErr result (λ refusal. (is_linked self.now.tree key ≡ true) × (unlink_cause self.now.tree key ≡ Some refusal)) }
+    /// Makes the state ready to hide a file, until its next change: takes the memory for that and for the
+    /// show after it, or tells why the node may not be hidden. The tree and the commands stay.
+    /// Refusals in order: `NoEntry` (not linked), `IsDir`, `Invalid` (a link), `NoEntry` (doomed), `Busy`
+    /// (hidden), `NoMemory`. After a refusal nothing is changed.
+    pub fn may_hide(&mut self, key: Key) -> Result<(), Refusal>
+        ensures readied { IfOk result (λ _.
+            IsReadied self.old self.new (hide_cause self.old.tree key) key) }
+        ensures refused { IfErr result (λ refusal.
+            IsRefused self.old self.new (hide_cause self.old.tree key) refusal) }
     {
-        check_unlink(&self.table, key)
+        check_hide(&self.table, key)?;
+        make_room(&mut self.commands, self.owed + 1)?;
+        self.ready = Some(key);
+        Ok(())
     }
 
-    /// The keys of a linked node's subtree: each after all that is below it, siblings in byte order of names, the given key last.
-    /// Refusals in order: `NoEntry` (not linked), `NoMemory`.
-    pub fn post_order(&self, key: Key) -> Result<Vec<Key>, Refusal>
-        ensures linked { IfOk result (λ _. linked_cause self.now.tree key ≡ None) }
-        ensures ordered { IfOk result (λ keys. IsPostOrder self.now.tree key keys.items) }
-        ensures last { IfOk result (λ keys. EndsWith keys.items key) }
-        ensures refused { IfErr result (λ refusal. Refuses (linked_cause self.now.tree key) refusal) }
+    /// Hides a file (`kernfs_show` with `show` false): it is linked as before, but not live, so no look-up
+    /// and no listing finds it, and it cannot be moved. It takes no memory and refuses nothing.
+    ///
+    /// Condition: [`State::may_hide`] made the state ready for this key, and nothing changed since.
+    pub fn hide(&mut self, key: Key)
+        requires ready { self.old.ready ≡ Some key }
+        ensures accepted { IsAccepted self.old self.new (hide_cause self.old.tree key) (Hide key) }
     {
-        check_linked(&self.table, key)?;
-        post_order(self.alloc, &self.table, key)
+        self.table.hide(key, true);
+        self.owed += 1;
+        self.ready = None;
+        store(&mut self.commands, Command::Hide { key });
     }
 
-    /// The node with this name in a directory, live or not (`kernfs_find_ns`).
-    /// Refusals in order: `NoEntry` (the directory is not linked), `NotDir`, `NoEntry` (no such child).
-    pub fn find(&self, dir: Key, name: &[u8]) -> Result<Key, Refusal>
-        ensures found { result ≡ found self.now.tree dir name.now }
+    /// Shows a hidden file again (`kernfs_show` with `show` true), and tells whether the key was linked and
+    /// hidden; if not, nothing is changed. A file that was activated or doomed while it was hidden is then
+    /// so. It takes no memory and refuses nothing.
+    pub fn show(&mut self, key: Key) -> bool
+        ensures told { result ≡ hidden_in self.old.tree key }
+        ensures accepted { MatchBool result
+            (IsAccepted self.old self.new None (Show key))
+            (self.new ≡ self.old) }
     {
-        find_in(&self.table, dir, name, false)
-    }
-
-    /// The node that a path names, live or not; links are not followed (`kernfs_walk_ns`).
-    /// `Invalid` where the path has no leading slash or an empty component, else the first refusal of the finds along it.
-    pub fn walk(&self, path: &[u8]) -> Result<Key, Refusal>
-        ensures walked { result ≡ walked self.now.tree self.now.root path.now }
-    {
-        walk(&self.table, self.root, path, false)
-    }
-
-    /// The live node that a path names: every node that is not live counts as not there.
-    /// Refused as [`State::walk`] is.
-    pub fn lookup(&self, path: &[u8]) -> Result<Key, Refusal>
-        ensures seen { result ≡ seen self.now.tree self.now.root path.now }
-    {
-        walk(&self.table, self.root, path, true)
-    }
-
-    /// The node of all components of a path but the last, and the last, which may be empty.
-    /// Refused as [`State::walk`] of those before the last; the path `/` is `Invalid`.
-    pub fn walk_parent<'a>(&self, path: &'a [u8]) -> Result<(Key, &'a [u8]), Refusal>
-        ensures walked { MatchResult result
-            (λ found. walked_parent self.now.tree self.now.root path.now ≡ Ok (found.0, found.1.now))
-            (λ refusal. walked_parent self.now.tree self.now.root path.now ≡ Err refusal) }
-    {
-        walk_parent(&self.table, self.root, path)
-    }
-
-    /// The names of a directory's live children above a bound, in byte order, at most so many (`kernfs_fop_readdir`).
-    /// Refusals in order: `NoEntry` (not linked), `NotDir`, `NoMemory`.
-    pub fn list(&self, dir: Key, after: Option<&[u8]>, limit: usize) -> Result<Vec<Name>, Refusal>
-        ensures no_cause { IfOk result (λ _. list_cause self.now.tree dir ≡ None) }
-        ensures listed { IfOk result (λ names. IsListing self.now.tree dir (option_copied after.entry) limit names.items) }
-        ensures refused { IfErr result (λ refusal. Refuses (list_cause self.now.tree dir) refusal) }
-    {
-        let names = self.names(dir, after, limit)?;
-        copy_names(self.alloc, &names)
-    }
-
-    /// The names that [`State::list`] copies, as they stand in the tree. Refused as it is.
-    pub fn names(&self, dir: Key, after: Option<&[u8]>, limit: usize) -> Result<Vec<&Name>, Refusal>
-        ensures no_cause { IfOk result (λ _. list_cause self.now.tree dir ≡ None) }
-        ensures listed { IfOk result (λ names. IsListing self.now.tree dir (option_copied after.entry) limit (map (λ n. n.now) names.items)) }
-        ensures refused { IfErr result (λ refusal. Refuses (list_cause self.now.tree dir) refusal) }
-    {
-        check_list(&self.table, dir)?;
-        list_names(self.alloc, &self.table, dir, after, limit)
-    }
-
-    /// What is told of a linked node: its kind, its marks, its number of child directories, and its number of links.
-    /// `NoEntry` where it is not linked.
-    pub fn stat(&self, key: Key) -> Result<Stat, Refusal>
-        ensures told { result ≡ ok_or (option_map (stat_of self.now.tree) (record_at self.now.tree key)) Refusal.NoEntry }
-    {
-        match self.table.record(key) {
-            Some(entry) => Ok(stat_of(&self.table, entry)),
-            None => Err(Refusal::NoEntry),
+        let hidden = is_hidden(&self.table, key);
+        if hidden {
+            self.table.hide(key, false);
+            self.owed -= 1;
+            self.ready = None;
+            store(&mut self.commands, Command::Show { key });
         }
+        hidden
     }
 
-    /// The text of a link: `../` from its directory up to the first one that is the root or above the target, then the names
-    /// down to the target, joined by slashes (`kernfs_get_target_path`).
-    /// Refusals in order: `NoEntry` (not linked), `Invalid` (no link), `NoEntry` (the target is not linked), `NoMemory`.
-    pub fn target_text(&self, key: Key) -> Result<Vec<u8>, Refusal>
-        ensures no_cause { IfOk result (λ _. text_cause self.now.tree key ≡ None) }
-        ensures text { IfOk result (λ text. HasLinkText self.now.tree self.now.root key text.items) }
-        ensures refused { IfErr result (λ refusal. Refuses (text_cause self.now.tree key) refusal) }
+    /// Puts the canonical list of this tree in place of the stored commands: in pre-order a creation of each
+    /// record but the root, then a doom of the top of each doomed subtree, then a hiding of each hidden
+    /// record, siblings in byte order of names. Its replay is this tree. Tree, indexes, counts and keys stay,
+    /// and the list has just the room that a later unlink of each doomed record and a show of each hidden one
+    /// needs. It bounds the memory of the list: else that grows with every command. The only refusal is
+    /// `NoMemory`; after it nothing is changed.
+    pub fn compact(&mut self) -> Result<(), Refusal>
+        ensures compacted { IfOk result (λ _. IsCompacted self.old self.new) }
+        ensures refused { IfErr result (λ refusal. (refusal ≡ Refusal.NoMemory) × (self.new ≡ self.old)) }
     {
-        let (dir, target) = check_text(&self.table, key)?;
-        link_text(self.alloc, &self.table, self.root, dir, target)
+        self.commands = canonical_commands(self.alloc, &self.table, self.root, self.owed)?;
+        self.ready = None;
+        Ok(())
     }
 }

@@ -1,11 +1,11 @@
 //! The records of a tree by slot.
 
-ghost use Rattle.std.specs.Prelude.{◌≡◌, ◌≤◌, ◌<◌, Some, None, true, false, IsTrue, IfSome, IfNone, IfOk, IfErr, OnOk, OnErr, length, slice_get, slice_set};
+ghost use Rattle.std.specs.Prelude.{◌≡◌, ◌≤◌, ◌<◌, ◌↔◌, Some, None, true, false, IsTrue, IfSome, IfNone, IfOk, IfErr, OnOk, OnErr, length, slice_get, slice_set};
 ghost use Rattle.std.specs.Option.{option_copied, option_and_then};
 ghost use Rattle.kf_core.specs.declared.key.Key.{Key};
 ghost use Rattle.kf_core.specs.Tree.{record_at, parent_of, is_linked, in_subtree};
 ghost use Rattle.kf_core.specs.Lawful.{Lawful};
-ghost use Rattle.kf_core.specs.Commands.{root_alone, doomed_record, moved_record};
+ghost use Rattle.kf_core.specs.Commands.{root_alone, doomed_record, hidden_record, moved_record};
 ghost use Rattle.kf_tree.specs.Causes.{has_child, is_there_already};
 ghost use Rattle.kf_tree.specs.Next.{AreNext};
 ghost use Rattle.kf_tree.specs.Paths.{child};
@@ -16,7 +16,7 @@ use crate::children::is_directory_record;
 use crate::directories::{Directory, empty_directories, enter, enter_record, leave};
 use crate::growth::empty_slots;
 use crate::marks::is_undoomed;
-use crate::slots::{activate_slot, doom_slot, move_slot};
+use crate::slots::{activate_slot, doom_slot, hide_slot, move_slot};
 use kf_core::{Key, Marks, NameBytes, Node, Record, Refusal};
 use kf_index::Name;
 use std::alloc::Global;
@@ -59,6 +59,7 @@ impl Table {
                 activated: true,
                 doomed: false,
             },
+            hidden: false,
         });
         let directories = empty_directories(alloc, slots)?;
         Ok(Table {
@@ -85,9 +86,8 @@ impl Table {
     }
 
     /// Whether there is such a slot, without a record.
-    #[cfg(test)]
-    pub(crate) fn has_vacant(&self, slot: u32) -> bool
-        ensures known { result ≡ true → slice_get self.now slot ≡ Some None }
+    pub(crate) fn is_vacant(&self, slot: u32) -> bool
+        ensures known { IsTrue result ↔ (slice_get self.now slot ≡ Some None) }
     {
         match self.records.get(slot as usize) {
             Some(entry) => entry.is_none(),
@@ -207,6 +207,13 @@ impl Table {
         let newly = is_undoomed(self, key);
         doom_slot(&mut self.records, key.slot);
         newly
+    }
+
+    /// Hides the record in a key's slot, or shows it.
+    pub(crate) fn hide(&mut self, key: Key, hides: bool)
+        ensures changed { self.new ≡ with_changed_slot (hidden_record hides) self.old key.slot }
+    {
+        hide_slot(&mut self.records, key.slot, hides);
     }
 
     /// Activates the record in a key's slot, unless it is doomed.

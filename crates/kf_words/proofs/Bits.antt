@@ -1,17 +1,18 @@
 -- What a word says of its slot.
-use Rattle.std.proofs.Common.{◌≡◌, ◌≢◌, ◌⊎◌, inl, inr, ℕ, ◌+◌, ◌*◌, ◌/◌, ◌%◌, ◌<◌, ◌≤◌, Bool, true, false, not, refl, sym, ap, ◌∙◌, subst, eq-eqb, ne_eqb, bit_and, arith}
+use Rattle.std.proofs.Common.{◌≡◌, ◌≢◌, ◌⊎◌, inl, inr, ℕ, ◌+◌, ◌*◌, ◌/◌, ◌%◌, ◌-◌, ◌<◌, ◌≤◌, ◌||◌, zero, suc, Bool, true, false, not, refl, sym, ap, ◌∙◌, subst, eq-eqb, ne_eqb, bit_and, arith}
 use Rattle.std.specs.Prelude.{Option, None, Some, is_some, IsTrue}
-use Rattle.std.proofs.lemmas.Nat.{bit_set_by_shift, and_mask}
+use Rattle.std.proofs.lemmas.Nat.{bit_set_by_shift, and_mask, and_or_self, or_disjoint}
+use Rattle.std.specs.Int.Bits.{bit_or, or_add_and}
 use Rattle.std.proofs.lemmas.Bool.{eqb-true}
 use Rattle.std.proofs.lemmas.Bool.Decides.{eqb_tells}
 use Rattle.std.specs.Prelude.{nat_eq}
 use Rattle.kf_core.specs.declared.slot.Marks.{Marks}
 use Rattle.kf_core.specs.declared.slot.SlotState.{SlotState}
 use Rattle.kf_core.specs.declared.caller.Phase.{Phase}
-use Rattle.kf_core.specs.declared.caller.Phase.TheVariants.{Still, Turned, Running, Broken, Restored, Drained, Parted, Spent}
+use Rattle.kf_core.specs.declared.caller.Phase.TheVariants.{Still, Turned, Running, Broken, Restored, Drained, Parted, Hiding, Hidden, Spent}
 use Rattle.kf_core.specs.Marks.{are_live, are_doomed}
-use Rattle.kf_core.specs.Phases.{has_reference, is_waiting, is_spent}
-use Rattle.kf_words.specs.Layout.{bit, bias, doom, linked, keeps_out, is_drained, has_linked, IsFree}
+use Rattle.kf_core.specs.Phases.{has_reference, is_waiting, is_hiding, is_spent}
+use Rattle.kf_words.specs.Layout.{bit, bias, doom, hide, linked, has_bias, has_hide, is_drained, is_unused, has_linked, IsFree}
 use Rattle.kf_words.specs.Rule.{ShowsMarks, ShowsHolds}
 
 pub bool_cases : (b : Bool) → (b ≡ true) ⊎ (b ≡ false)
@@ -22,56 +23,144 @@ pub bit≤ : (b : Bool) (n : ℕ) → bit b n ≤ n
 bit≤ true n = omega arith
 bit≤ false n = omega arith
 
-word_small : (b d : Bool) (n : ℕ) → n ≤ 65535 → n + bit b bias + bit d doom < 17179869184
-word_small b d n h = let x = bit≤ b bias in let y = bit≤ d doom in omega arith
+word_small : (b d : Bool) (n h : ℕ) → n ≤ 65535 → h ≤ 1 → n + bit b bias + bit d doom + h * hide < 34359738368
+word_small b d n h small one = let x = bit≤ b bias in let y = bit≤ d doom in omega arith
 
-has_bias_of : (b d : Bool) (n : ℕ) → n ≤ 65535 → keeps_out (n + bit b bias + bit d doom) ≡ b
-has_bias_of true true n h = eq-eqb _ _ (omega arith)
-has_bias_of true false n h = eq-eqb _ _ (omega arith)
-has_bias_of false true n h = ne_eqb _ _ (λ e. omega arith)
-has_bias_of false false n h = ne_eqb _ _ (λ e. omega arith)
+has_bias_of : (b d : Bool) (n h : ℕ) → n ≤ 65535 → has_bias (n + bit b bias + bit d doom + h * hide) ≡ b
+has_bias_of true true n h small = eq-eqb _ _ (omega arith)
+has_bias_of true false n h small = eq-eqb _ _ (omega arith)
+has_bias_of false true n h small = ne_eqb _ _ (λ e. omega arith)
+has_bias_of false false n h small = ne_eqb _ _ (λ e. omega arith)
+
+-- the bit of a hidden key, where one caller hides it, and where none does
+has_hide_one : (b d : Bool) (n h : ℕ) → n ≤ 65535 → h ≡ 1 → has_hide (n + bit b bias + bit d doom + h * hide) ≡ true
+has_hide_one b d n h small one = let x = bit≤ b bias in let y = bit≤ d doom in eq-eqb _ _ (omega arith)
+
+has_hide_none : (b d : Bool) (n h : ℕ) → n ≤ 65535 → h ≡ 0 → has_hide (n + bit b bias + bit d doom + h * hide) ≡ false
+has_hide_none b d n h small none = let x = bit≤ b bias in let y = bit≤ d doom in ne_eqb _ _ (λ e. omega arith)
 
 pub not_not : (b : Bool) → not (not b) ≡ b
 not_not true = refl
 not_not false = refl
 
--- bias is clear exactly where the node is live
-pub live_shows : (word : ℕ) (o : Option Marks) (n : ℕ) → n ≤ 65535 → ShowsMarks word o n → are_live o ≡ not (keeps_out word)
-live_shows word o n h s = sym (not_not (are_live o)) ∙ ap not (sym (ap keeps_out s.1 ∙ has_bias_of (not (are_live o)) s.0 n h))
+-- bias is clear exactly where the node has the marks of a live one
+pub bias_shows : (word : ℕ) (o : Option Marks) (n h : ℕ) → n ≤ 65535 → ShowsMarks word o n h → has_bias word ≡ not (are_live o)
+bias_shows word o n h small s = ap has_bias s.1 ∙ has_bias_of (not (are_live o)) s.0 n h small
 
-drained_of : (b d : Bool) (n : ℕ) → n ≤ 65535 → n + bit b bias + bit d doom ≡ bias + doom → (n ≡ 0) × (d ≡ true)
-drained_of true true n h e = (omega arith, refl)
-drained_of true false n h e = absurd (omega arith)
-drained_of false true n h e = absurd (omega arith)
-drained_of false false n h e = absurd (omega arith)
+-- hide is set exactly where a caller hides the key
+pub hide_set : (word : ℕ) (o : Option Marks) (n h : ℕ) → n ≤ 65535 → ShowsMarks word o n h → 1 ≤ h → has_hide word ≡ true
+hide_set word o n h small s one = let most = s.3 in ap has_hide s.1 ∙ has_hide_one (not (are_live o)) s.0 n h small (omega arith)
+
+pub hide_clear : (word : ℕ) (o : Option Marks) (n h : ℕ) → n ≤ 65535 → ShowsMarks word o n h → h ≡ 0 → has_hide word ≡ false
+hide_clear word o n h small s none = ap has_hide s.1 ∙ has_hide_none (not (are_live o)) s.0 n h small none
+
+pub hiders_one : (word : ℕ) (o : Option Marks) (n h : ℕ) → n ≤ 65535 → ShowsMarks word o n h → has_hide word ≡ true → h ≡ 1
+hiders_one word o n zero small s e = absurd (let x : true ≡ false = sym e ∙ hide_clear word o n 0 small s refl in cc)
+hiders_one word o n (suc h) small s e = let most = s.3 in omega arith
+
+pub hiders_none : (word : ℕ) (o : Option Marks) (n h : ℕ) → n ≤ 65535 → ShowsMarks word o n h → has_hide word ≡ false → h ≡ 0
+hiders_none word o n zero small s e = refl
+hiders_none word o n (suc h) small s e = absurd (let x : true ≡ false = sym (hide_set word o n (suc h) small s (omega arith)) ∙ e in cc)
+
+or_is : (a b : Bool) → (a || b) ≡ true → (a ≡ true) ⊎ (b ≡ true)
+or_is true b e = inl refl
+or_is false b e = inr e
+
+drained_of : (b d : Bool) (n h : ℕ) → n ≤ 65535 → (n + bit b bias + bit d doom + h * hide ≡ bias + doom) ⊎ (n + bit b bias + bit d doom + h * hide ≡ bias + doom + hide) → (n ≡ 0) × (d ≡ true)
+drained_of true true n h small (inl e) = (omega arith, refl)
+drained_of true true n h small (inr e) = (omega arith, refl)
+drained_of true false n h small (inl e) = absurd (omega arith)
+drained_of true false n h small (inr e) = absurd (omega arith)
+drained_of false true n h small (inl e) = absurd (omega arith)
+drained_of false true n h small (inr e) = absurd (omega arith)
+drained_of false false n h small (inl e) = absurd (omega arith)
+drained_of false false n h small (inr e) = absurd (omega arith)
 
 doomed_by : (o : Option Marks) → (IsTrue (is_some o) → are_doomed o ≡ true) → are_doomed o ≡ true
 doomed_by None h = refl
 doomed_by (Some m) h = h refl
 
 -- a drained word has no user, and its node is doomed
-pub drained_shows : (word : ℕ) (o : Option Marks) (n : ℕ) → n ≤ 65535 → ShowsMarks word o n → is_drained word ≡ true → (n ≡ 0) × (are_doomed o ≡ true)
-drained_shows word o n h s e =
-    let x = drained_of (not (are_live o)) s.0 n h (sym s.1 ∙ eqb-true word (bias + doom) e) in
+pub drained_shows : (word : ℕ) (o : Option Marks) (n h : ℕ) → n ≤ 65535 → ShowsMarks word o n h → is_drained word ≡ true → (n ≡ 0) × (are_doomed o ≡ true)
+drained_shows word o n h small s e =
+    let which : (word ≡ bias + doom) ⊎ (word ≡ bias + doom + hide) = elim (or_is (nat_eq word (bias + doom)) (nat_eq word (bias + doom + hide)) e) [ inl x ↦ inl (eqb-true word (bias + doom) x) | inr x ↦ inr (eqb-true word (bias + doom + hide) x) ] in
+    let x = drained_of (not (are_live o)) s.0 n h small (elim which [ inl y ↦ inl (sym s.1 ∙ y) | inr y ↦ inr (sym s.1 ∙ y) ]) in
     (x.0, doomed_by o (λ linked. sym (s.2 linked) ∙ x.1))
 
+-- a word that is not used has no user
+unused_of : (b d : Bool) (n h : ℕ) → n ≤ 65535 → (n + bit b bias + bit d doom + h * hide) % bias ≡ 0 → n ≡ 0
+unused_of true true n h small e = omega arith
+unused_of true false n h small e = omega arith
+unused_of false true n h small e = omega arith
+unused_of false false n h small e = omega arith
+
+pub unused_shows : (word : ℕ) (o : Option Marks) (n h : ℕ) → n ≤ 65535 → ShowsMarks word o n h → is_unused word ≡ true → n ≡ 0
+unused_shows word o n h small s e = unused_of (not (are_live o)) s.0 n h small (sym (ap (λ (w : ℕ). w % bias) s.1) ∙ eqb-true (word % bias) 0 e)
+
 -- one user more, and one less, in the arithmetic of 64 bits
-pub one_more : (word : ℕ) (o : Option Marks) (n m : ℕ) → n ≤ 65535 → m ≡ n + 1 → ShowsMarks word o n → ShowsMarks ((word + 1) % 18446744073709551616) o m
-one_more word o n m h e s =
-    let small = word_small (not (are_live o)) s.0 n h in
+pub one_more : (word : ℕ) (o : Option Marks) (n m h : ℕ) → n ≤ 65535 → m ≡ n + 1 → ShowsMarks word o n h → ShowsMarks ((word + 1) % 18446744073709551616) o m h
+one_more word o n m h few e s =
+    let small = word_small (not (are_live o)) s.0 n h few s.3 in
     let is = s.1 in
-    (s.0, omega arith, s.2)
+    (s.0, omega arith, s.2, s.3)
 
-pub one_less : (word : ℕ) (o : Option Marks) (n m : ℕ) → n ≤ 65535 → n ≡ m + 1 → ShowsMarks word o n → ShowsMarks ((word + 18446744073709551615) % 18446744073709551616) o m
-one_less word o n m h e s =
-    let small = word_small (not (are_live o)) s.0 n h in
+pub one_less : (word : ℕ) (o : Option Marks) (n m h : ℕ) → n ≤ 65535 → n ≡ m + 1 → ShowsMarks word o n h → ShowsMarks ((word + 18446744073709551615) % 18446744073709551616) o m h
+one_less word o n m h few e s =
+    let small = word_small (not (are_live o)) s.0 n h few s.3 in
     let is = s.1 in
-    (s.0, omega arith, s.2)
+    (s.0, omega arith, s.2, s.3)
 
-no_bias : (n : ℕ) → bit_and n bias ≡ 0 → keeps_out n ≡ false
+-- the bit of a hidden key, tested and masked
+no_hide : (n : ℕ) → bit_and n hide ≡ 0 → has_hide n ≡ false
+no_hide n e = ne_eqb _ _ (λ one. (bit_set_by_shift n 34).0 (and_mask (n / 17179869184) 1 ∙ one) e)
+
+some_hide : (n : ℕ) → bit_and n hide ≢ 0 → has_hide n ≡ true
+some_hide n ne = eq-eqb _ _ (sym (and_mask (n / 17179869184) 1) ∙ (bit_set_by_shift n 34).1 ne)
+
+clear_and : (n : ℕ) → has_hide n ≡ false → bit_and n hide ≡ 0
+clear_and n e = elim (eqb_tells (bit_and n hide) 0) [
+  | inl x ↦ x.1
+  | inr x ↦ absurd (let y : true ≡ false = sym (some_hide n x.1) ∙ e in cc)
+]
+
+set_and : (n : ℕ) → has_hide n ≡ true → bit_and n hide ≡ hide
+set_and n e =
+    let odd : (n / hide) % 2 ≡ 1 = eqb-true ((n / hide) % 2) 1 e in
+    let rest : ℕ = n - hide in
+    let clear : has_hide (n - hide) ≡ false = ne_eqb _ _ (λ x. omega arith) in
+    let whole : bit_or (n - hide) hide ≡ n = or_disjoint (n - hide) hide (clear_and (n - hide) clear) ∙ omega arith in
+    subst (λ (k : ℕ). bit_and k hide ≡ hide) whole (and_or_self hide (n - hide))
+
+-- the bit of a hidden key comes, and goes
+pub hide_comes : (word : ℕ) (o : Option Marks) (n h h' : ℕ) → n ≤ 65535 → ShowsMarks word o n h → has_hide word ≡ false → h' ≡ h + 1 → ShowsMarks (bit_or word hide) o n h'
+hide_comes word o n h h' few s clear more =
+    let none : h ≡ 0 = hiders_none word o n h few s clear in
+    let apart : bit_and word hide ≡ 0 = clear_and word clear in
+    let is = s.1 in
+    (s.0, or_disjoint word hide apart ∙ ap (λ (w : ℕ). w + hide) s.1 ∙ omega arith, s.2, omega arith)
+
+-- set again, it changes nothing
+pub hide_again : (word : ℕ) → has_hide word ≡ true → word < 18446744073709551616 → bit_or word hide ≡ word
+hide_again word set small =
+    let all : bit_and word hide ≡ hide = set_and word set in
+    let sum : bit_or word hide + bit_and word hide ≡ word + hide = or_add_and word hide in
+    omega arith
+
+-- the word without it
+pub hide_taken : (word : ℕ) (o : Option Marks) (n h : ℕ) → n ≤ 65535 → ShowsMarks word o n h → h ≡ 1 → ShowsMarks (word - hide) o n 0
+hide_taken word o n h few s one = let is = s.1 in (s.0, omega arith, s.2, omega arith)
+
+pub hide_goes : (word : ℕ) (o : Option Marks) (n h h' : ℕ) → n ≤ 65535 → ShowsMarks word o n h → h ≡ h' + 1 → ShowsMarks ((word + 18446744056529682432) % 18446744073709551616) o n h'
+hide_goes word o n h h' few s less =
+    let small = word_small (not (are_live o)) s.0 n h few s.3 in
+    let is = s.1 in
+    let one = s.3 in
+    (s.0, omega arith, s.2, omega arith)
+
+no_bias : (n : ℕ) → bit_and n bias ≡ 0 → has_bias n ≡ false
 no_bias n e = ne_eqb _ _ (λ one. (bit_set_by_shift n 32).0 (and_mask (n / 4294967296) 1 ∙ one) e)
 
-some_bias : (n : ℕ) → bit_and n bias ≢ 0 → keeps_out n ≡ true
+some_bias : (n : ℕ) → bit_and n bias ≢ 0 → has_bias n ≡ true
 some_bias n ne = eq-eqb _ _ (sym (and_mask (n / 4294967296) 1) ∙ (bit_set_by_shift n 32).1 ne)
 
 pub waiting_is : (p : Phase) → is_waiting p ≡ true → (p ≢ Spent) × (has_reference p ≡ false)
@@ -82,6 +171,8 @@ waiting_is Broken e = absurd (let x : false ≡ true = e in cc)
 waiting_is Restored e = absurd (let x : false ≡ true = e in cc)
 waiting_is Drained e = absurd (let x : false ≡ true = e in cc)
 waiting_is Parted e = absurd (let x : false ≡ true = e in cc)
+waiting_is Hiding e = absurd (let x : false ≡ true = e in cc)
+waiting_is Hidden e = absurd (let x : false ≡ true = e in cc)
 waiting_is Spent e = absurd (let x : false ≡ true = e in cc)
 
 pub counted_is : (p : Phase) → has_reference p ≡ true → p ≢ Spent
@@ -133,7 +224,12 @@ not_spent Broken n = refl
 not_spent Restored n = refl
 not_spent Drained n = refl
 not_spent Parted n = refl
+not_spent Hiding n = refl
+not_spent Hidden n = refl
 not_spent Spent n = absurd (n refl)
+
+pub hiding_unspent : (p : Phase) → is_hiding p ≡ true → is_spent p ≡ false
+hiding_unspent p e = not_spent p (λ s. let y : is_hiding Spent ≡ true = subst (λ (q : Phase). is_hiding q ≡ true) s e in cc)
 
 pub counted_unspent : (p : Phase) → has_reference p ≡ true → is_spent p ≡ false
 counted_unspent p e = not_spent p (counted_is p e)
@@ -145,8 +241,14 @@ some_linked : (n : ℕ) → bit_and n linked ≢ 0 → has_linked n ≡ true
 some_linked n ne = eq-eqb _ _ (sym (and_mask (n / 2147483648) 1) ∙ (bit_set_by_shift n 31).1 ne)
 
 -- the tests in the code
-pub keeps_out_test : (n : ℕ) → not (nat_eq (bit_and n bias) 0) ≡ keeps_out n
-keeps_out_test n = elim (eqb_tells (bit_and n bias) 0) [
+pub has_hide_test : (n : ℕ) → not (nat_eq (bit_and n hide) 0) ≡ has_hide n
+has_hide_test n = elim (eqb_tells (bit_and n hide) 0) [
+  | inl e ↦ ap not e.0 ∙ sym (no_hide n e.1)
+  | inr e ↦ ap not e.0 ∙ sym (some_hide n e.1)
+]
+
+pub has_bias_test : (n : ℕ) → not (nat_eq (bit_and n bias) 0) ≡ has_bias n
+has_bias_test n = elim (eqb_tells (bit_and n bias) 0) [
   | inl e ↦ ap not e.0 ∙ sym (no_bias n e.1)
   | inr e ↦ ap not e.0 ∙ sym (some_bias n e.1)
 ]

@@ -1,21 +1,22 @@
 -- The steps of a caller, as the table asks for them.
-use Rattle.std.proofs.Common.{◌≡◌, ◌≢◌, ℕ, ◌+◌, ◌-◌, ◌%◌, ◌^◌, ◌<◌, length, true, false, List, [], set, get_or, refl, sym, ap, ◌∙◌, subst}
+use Rattle.std.proofs.Common.{◌≡◌, ◌≢◌, ℕ, ◌+◌, ◌-◌, ◌%◌, ◌^◌, ◌<◌, bit_or, length, true, false, List, [], set, get_or, refl, sym, ap, ◌∙◌, subst}
 use mathlib.Core.Option.{some, none}
 use lib.ListN.{get_elem?}
-use Rattle.atomic_table.specs.Table.{Step, step, Allows, keeps}
+use Rattle.atomic_table.specs.Table.{State, Step, step, Allows, keeps}
 use Rattle.kf_core.specs.declared.caller.Phase.{Phase}
-use Rattle.kf_core.specs.declared.caller.Phase.TheVariants.{Turned, Running, Broken, Drained, Spent}
+use Rattle.kf_core.specs.declared.caller.Phase.TheVariants.{Turned, Running, Broken, Drained, Hiding, Hidden, Spent}
 use Rattle.kf_core.specs.Phases.{may_release}
 use Rattle.kf_words.specs.declared.view.CallerView.{CallerView}
 use Rattle.kf_words.specs.declared.view.MasterView.{MasterView}
 use Rattle.kf_words.specs.declared.view.View.{View}
 use Rattle.kf_words.specs.declared.view.View.TheVariants as seat
-use Rattle.kf_words.specs.Rule.{hold_index, hold_word, Shows, Shown, seats}
-use Rattle.kf_words.specs.Steps.{Seated, caller_of, after_try, after_undo, after_leave, after_look, after_release, after_part, after_break, after_restore, CallerBecomes}
+use Rattle.kf_words.specs.Layout.{hide, active_index, hold_index, active_word, hold_word, has_hide}
+use Rattle.kf_words.specs.Rule.{Shows, Shown, seats}
+use Rattle.kf_words.specs.Steps.{Seated, caller_of, after_try, after_undo, after_leave, after_look, after_release, after_part, after_break, after_restore, after_hide, after_look_hidden, after_show, CallerBecomes, ShowsKey}
 use Rattle.kf_words.specs.Callers.{IsAtRest, HasReference, IsIn}
 use Rattle.kf_words.proofs.Bits.{waiting_is, counted_is}
 use Rattle.kf_words.proofs.Seating.{caller_seat, seats-set}
-use Rattle.kf_words.proofs.CallerSteps.{try_owes, undo_owes, leave_owes, break_owes, restore_owes, look_owes, release_owes, part_owes}
+use Rattle.kf_words.proofs.CallerSteps.{try_owes, undo_owes, leave_owes, break_owes, restore_owes, look_owes, hide_owes, look_hidden_owes, show_owes, show_finds, release_owes, part_owes}
 
 -- no play of a caller reads the step
 abbrev pub no_step : Step (Unit {0})
@@ -47,18 +48,38 @@ allows count limit homes id me i f after is owes t h _ at small =
     )
 
 -- the steps on the active word, as the table asks for them
-module _ (count limit homes id : ℕ) (me : Seated) (i : ℕ) (is : me ≡ (seat.Caller (caller_of me.0), [])) (its : (caller_of me.0).key.slot ≡ i) where
+module _ (count limit homes id : ℕ) (me : Seated) (i : ℕ) (is : me ≡ (seat.Caller (caller_of me.0), [])) (its : active_index (caller_of me.0).key.slot ≡ i) where
   abbrev c : CallerView
   c = caller_of me.0
 
   abbrev OwesHere : (ℕ → ℕ) → (ℕ → CallerView → CallerView) → Type 0
   OwesHere f after =
       (words : List ℕ) (m : MasterView) (cs : List CallerView) (j : ℕ) → Shows words m cs → get_elem? cs j ≡ some c
-      → Shows (set words c.key.slot (f (get_or words c.key.slot 0))) m (set cs j (after (get_or words c.key.slot 0) c))
+      → Shows (set words (active_index c.key.slot) (f (active_word words c.key.slot))) m (set cs j (after (active_word words c.key.slot) c))
 
   here : (f : ℕ → ℕ) (after : ℕ → CallerView → CallerView) → OwesHere f after → Allows (Shown count limit) homes id me i f (CallerBecomes after no_step me)
   here f after owes = subst (λ (k : ℕ). Allows (Shown count limit) homes id me k f (CallerBecomes after no_step me)) its
-      (allows count limit homes id me c.key.slot f after is (λ words m cs j _ shows at _. owes words m cs j shows at))
+      (allows count limit homes id me (active_index c.key.slot) f after is (λ words m cs j _ shows at _. owes words m cs j shows at))
+
+  pub hide_allowed : IsAtRest c → Allows (Shown count limit) homes id me i (λ n. bit_or n hide) (CallerBecomes after_hide no_step me)
+  hide_allowed waits = subst (λ (k : ℕ). Allows (Shown count limit) homes id me k (λ n. bit_or n hide) (CallerBecomes after_hide no_step me)) its
+      (allows count limit homes id me (active_index c.key.slot) (λ n. bit_or n hide) after_hide is (λ words m cs j _ shows at small. hide_owes words m cs j c shows at (waiting_is c.phase waits.0).0 waits.0 waits.1 small))
+
+  pub look_hidden_allowed : IsIn Hiding c → Allows (Shown count limit) homes id me i (λ n. n) (CallerBecomes after_look_hidden no_step me)
+  look_hidden_allowed is_in = here (λ n. n) after_look_hidden (λ words m cs j shows at. look_hidden_owes words m cs j c shows at (λ e. let x : Hiding ≡ Spent = sym is_in.0 ∙ e in cc) is_in.0 is_in.1)
+
+  show_moves : IsIn Hidden c → Allows (Shown count limit) homes id me i (λ n. (n + (2 ^ 64 - hide)) % 2 ^ 64) (CallerBecomes after_show no_step me)
+  show_moves is_in = here (λ n. (n + (2 ^ 64 - hide)) % 2 ^ 64) after_show (λ words m cs j shows at. show_owes words m cs j c shows at (λ e. let x : Hidden ≡ Spent = sym is_in.0 ∙ e in cc) is_in.0 is_in.1)
+
+  -- the bit was set
+  hidden_set : IsIn Hidden c → (t : State (Unit {0}) View) → Shown count limit t → get_elem? t.views id ≡ some me.0 → has_hide (get_or t.words i 0) ≡ true
+  hidden_set is_in t h at =
+      let at' : get_elem? (seats h.master h.callers) id ≡ some (seat.Caller c) = subst (λ (l : List View). get_elem? l id ≡ some (seat.Caller c)) h.views (at ∙ ap (λ (x : Seated). some x.0) is) in
+      let p = caller_seat h.master h.callers id c at' in
+      subst (λ (k : ℕ). has_hide (get_or t.words k 0) ≡ true) its (show_finds t.words h.master h.callers p.0 c h.shows p.2 (λ e. let x : Hidden ≡ Spent = sym is_in.0 ∙ e in cc) is_in.0)
+
+  pub show_allowed : IsIn Hidden c → Allows (Shown count limit) homes id me i (λ n. (n + (2 ^ 64 - hide)) % 2 ^ 64) (ShowsKey no_step me)
+  show_allowed is_in t h long at small = let r = show_moves is_in t h long at small in (r.0, r.1, r.2, r.3, (r.4, hidden_set is_in t h at))
 
   pub try_allowed : IsAtRest c → Allows (Shown count limit) homes id me i (λ n. (n + 1) % 2 ^ 64) (CallerBecomes after_try no_step me)
   try_allowed waits = here (λ n. (n + 1) % 2 ^ 64) after_try (λ words m cs j shows at. try_owes words m cs j c shows at (waiting_is c.phase waits.0).0 waits.0 waits.1)
@@ -79,21 +100,18 @@ module _ (count limit homes id : ℕ) (me : Seated) (i : ℕ) (is : me ≡ (seat
   restore_allowed is_in = here (λ n. (n + 1) % 2 ^ 64) after_restore (λ words m cs j shows at. restore_owes words m cs j c shows at (λ e. let x : Broken ≡ Spent = sym is_in.0 ∙ e in cc) is_in.0 is_in.1)
 
 -- the steps on the hold word
-module _ (count limit homes id : ℕ) (me : Seated) (i : ℕ) (is : me ≡ (seat.Caller (caller_of me.0), [])) (its : count + (caller_of me.0).key.slot ≡ i) where
+module _ (count limit homes id : ℕ) (me : Seated) (i : ℕ) (is : me ≡ (seat.Caller (caller_of me.0), [])) (its : hold_index (caller_of me.0).key.slot ≡ i) where
   abbrev me_c : CallerView
   me_c = caller_of me.0
 
   abbrev OwesThere : (ℕ → ℕ) → (ℕ → CallerView → CallerView) → Type 0
   OwesThere f after =
-      (words : List ℕ) (m : MasterView) (cs : List CallerView) (j : ℕ) → Shows words m cs → get_elem? cs j ≡ some me_c → hold_word words m me_c.key.slot < 18446744073709551616
-      → Shows (set words (hold_index m me_c.key.slot) (f (hold_word words m me_c.key.slot))) m (set cs j (after (hold_word words m me_c.key.slot) me_c))
+      (words : List ℕ) (m : MasterView) (cs : List CallerView) (j : ℕ) → Shows words m cs → get_elem? cs j ≡ some me_c → hold_word words me_c.key.slot < 18446744073709551616
+      → Shows (set words (hold_index me_c.key.slot) (f (hold_word words me_c.key.slot))) m (set cs j (after (hold_word words me_c.key.slot) me_c))
 
   hold_step : (f : ℕ → ℕ) (after : ℕ → CallerView → CallerView) → OwesThere f after → Allows (Shown count limit) homes id me i f (CallerBecomes after no_step me)
-  hold_step f after owes = allows count limit homes id me i f after is
-      (λ words m cs j wide shows at small.
-      let index : hold_index m me_c.key.slot ≡ i = ap (λ (k : ℕ). k + me_c.key.slot) wide ∙ its in
-      let small' : hold_word words m me_c.key.slot < 18446744073709551616 = subst (λ (k : ℕ). get_or words k 0 < 18446744073709551616) (sym index) small in
-      subst (λ (k : ℕ). Shows (set words k (f (get_or words k 0))) m (set cs j (after (get_or words k 0) me_c))) index (owes words m cs j shows at small'))
+  hold_step f after owes = subst (λ (k : ℕ). Allows (Shown count limit) homes id me k f (CallerBecomes after no_step me)) its
+      (allows count limit homes id me (hold_index me_c.key.slot) f after is (λ words m cs j _ shows at small. owes words m cs j shows at small))
 
   pub release_allowed : may_release me_c.phase ≡ true → me_c.undo_due ≡ false → Allows (Shown count limit) homes id me i (λ n. (n + (2 ^ 64 - 1)) % 2 ^ 64) (CallerBecomes after_release no_step me)
   release_allowed idles settled = hold_step (λ n. (n + (2 ^ 64 - 1)) % 2 ^ 64) after_release (λ words m cs j shows at small. release_owes words m cs j me_c shows at (idle_is me_c.phase idles) idles settled small)

@@ -1,6 +1,6 @@
 -- Each step of a seat is its event on the world that the views name.
-use Rattle.std.proofs.Common.{◌≡◌, ◌≢◌, ◌∷◌, ◌++◌, ℕ, zero, suc, ◌+◌, Bool, true, false, not, List, [], map, set, if◌then◌else◌, refl, sym, ap, ◌∙◌, subst, ⊎_elim, eq-eqb}
-use Rattle.std.specs.Prelude.{slice_get, slice_index, Option, Some, None, is_some}
+use Rattle.std.proofs.Common.{◌≡◌, ◌≢◌, ◌∷◌, ◌++◌, inr, length, ℕ, zero, suc, ◌+◌, Bool, true, false, not, List, [], map, set, if◌then◌else◌, refl, sym, ap, ◌∙◌, subst, ⊎_elim, eq-eqb}
+use Rattle.std.specs.Prelude.{slice_get, Option, Some, None, is_some}
 use Rattle.std.proofs.lemmas.Option.{none-some, same_Some, get_or_from_slice_get}
 use Rattle.std.proofs.lemmas.List.{length-map}
 use mathlib.Core.List.{map-append}
@@ -9,27 +9,27 @@ use Rattle.atomic_table.specs.Table.{State}
 use Rattle.kf_core.specs.declared.key.Key.{Key}
 use Rattle.kf_core.specs.declared.caller.Caller.{Caller}
 use Rattle.kf_core.specs.declared.caller.Phase.{Phase}
-use Rattle.kf_core.specs.declared.caller.Phase.TheVariants.{Still, Turned, Running, Broken, Restored, Drained, Parted, Spent}
+use Rattle.kf_core.specs.declared.caller.Phase.TheVariants.{Still, Turned, Running, Broken, Restored, Drained, Parted, Hiding, Hidden, Spent}
 use Rattle.kf_core.specs.declared.event.Event.{Event}
-use Rattle.kf_core.specs.declared.event.Event.TheVariants.{Enter, Leave, Break, Restore, Look, Part, Release}
+use Rattle.kf_core.specs.declared.event.Event.TheVariants.{Enter, Leave, Break, Restore, Look, Part, Hide, LookHidden, Show, Release, Pin}
 use Rattle.kf_core.specs.declared.slot.Marks.{Marks}
 use Rattle.kf_core.specs.declared.slot.SlotState.{SlotState}
-use Rattle.kf_core.specs.Bare.{BareWorld, IsLast, marks, marks_in}
-use Rattle.kf_core.specs.Marks.{fresh_marks, are_live, are_doomed}
+use Rattle.kf_core.specs.Bare.{BareWorld, IsLast, marks, marks_in, is_hidden, is_live}
+use Rattle.kf_core.specs.Marks.{fresh_marks, are_doomed}
 use Rattle.kf_core.specs.Steps as core
 use Rattle.kf_core.proofs.Keeping.{same_key}
 use Rattle.kf_words.specs.declared.view.CallerView.{CallerView}
 use Rattle.kf_words.specs.declared.view.MasterView.{MasterView}
 use Rattle.kf_words.specs.declared.view.View.{View}
-use Rattle.kf_words.specs.Layout.{keeps_out, is_drained, has_linked}
-use Rattle.kf_words.specs.Rule.{Shown, caller, bare, last_key, hold_word}
+use Rattle.kf_words.specs.Layout.{active_word, hold_word, keeps_out, is_drained, has_hide, is_unused, has_linked}
+use Rattle.kf_words.specs.Rule.{Shown, caller, bare, last_key}
 use Rattle.kf_words.specs.Steps.{after_step, with_try, no_state, state_at, remarked, new_hold, hold_for, after_split, activated_marks, doomed_marks}
 use Rattle.kf_words.specs.Nodes.{marks_of}
-use Rattle.kf_words.specs.Events.{Moves, TryIsEnter, UndoIsUndo, LookIsLook, PartIsPart, LeaveIsLeave, BreakIsBreak, RestoreIsRestore, ReleaseIsRelease, MissIsNothing, RiseIsRise, MarkIsMark, BirthIsBorn, UnlinkIsUnlink, SplitIsPin, RestIsNothing}
+use Rattle.kf_words.specs.Events.{Moves, TryIsEnter, UndoIsUndo, LookIsLook, PartIsPart, LeaveIsLeave, BreakIsBreak, RestoreIsRestore, ReleaseIsRelease, HideIsHide, LookHiddenIsLook, ShowIsShow, MissIsNothing, RiseIsRise, MarkIsMark, BirthIsBorn, UnlinkIsUnlink, SplitIsPin, HeldSplitIsPin, RestIsNothing}
 use Rattle.kf_words.proofs.Bits.{bool_cases, waiting_is, not_not}
-use Rattle.kf_words.proofs.Answered.{try_enters, try_refused, look_hits, look_misses, part_gone, part_linked}
+use Rattle.kf_words.proofs.Answered.{try_enters, try_refused, look_hits, look_misses, part_gone, part_linked, hide_sets, hide_found, look_hidden_hits, look_hidden_misses}
 use Rattle.kf_words.proofs.Keys.{linked_state}
-use Rattle.kf_words.proofs.Tells.{lets_in_the_live, drained_is_unused, free_is_unheld, tells_the_linked}
+use Rattle.kf_words.proofs.Tells.{lets_in_the_live, tells_the_hidden, drained_is_unused, unused_is_unused, free_is_unheld, tells_the_linked}
 
 caller_there : (cs : List CallerView) (j : ℕ) (c : CallerView) → slice_get cs j ≡ Some c → slice_get (map caller cs) j ≡ Some (caller c)
 caller_there [] j c e = absurd (none-some c e)
@@ -76,22 +76,31 @@ module _ (slots limit : ℕ) (t : State (Unit {0}) View) (shown : Shown slots li
   known : marks world c.key ≡ last.0.marks
   known = ap (λ o. marks_in o c.key.generation) last.1 ∙ ap (λ (b : Bool). if b then last.0.marks else None) (eq-eqb last.0.generation c.key.generation last.2)
 
-  live_is : are_live (marks world c.key) ≡ not (keeps_out (slice_index t.words c.key.slot))
-  live_is = ap are_live known ∙ sym (not_not (are_live last.0.marks)) ∙ ap not (sym (lets_in_the_live slots limit t shown c.key.slot last.0 last.1))
+  its_key : last_key c.key.slot last.0 ≡ c.key
+  its_key = same_key (last_key c.key.slot last.0) c.key refl last.2
 
-  doomed_unused : is_drained (slice_index t.words c.key.slot) ≡ true → (are_doomed (marks world c.key) ≡ true) × core.NoReference world c.key
+  live_is : is_live world c.key ≡ not (keeps_out (active_word t.words c.key.slot))
+  live_is = ap (is_live world) (sym its_key) ∙ sym (not_not (is_live world (last_key c.key.slot last.0))) ∙ ap not (sym (lets_in_the_live slots limit t shown c.key.slot last.0 last.1))
+
+  hidden_is : is_hidden world c.key ≡ has_hide (active_word t.words c.key.slot)
+  hidden_is = ap (is_hidden world) (sym its_key) ∙ sym (tells_the_hidden slots limit t shown c.key.slot last.0 last.1).1
+
+  unused_is : is_unused (active_word t.words c.key.slot) ≡ true → core.NoReference world c.key
+  unused_is hit = subst (core.NoReference world) its_key (unused_is_unused slots limit t shown c.key.slot last.0 last.1 hit)
+
+  doomed_unused : is_drained (active_word t.words c.key.slot) ≡ true → (are_doomed (marks world c.key) ≡ true) × core.NoReference world c.key
   doomed_unused hit =
       let d = drained_is_unused slots limit t shown c.key.slot last.0 last.1 hit in
       (ap are_doomed known ∙ d.0, subst (core.NoReference world) (same_key (last_key c.key.slot last.0) c.key refl last.2) d.1)
 
-  unlinked : has_linked (hold_word t.words shown.master c.key.slot) ≡ false → is_some (marks world c.key) ≡ false
+  unlinked : has_linked (hold_word t.words c.key.slot) ≡ false → is_some (marks world c.key) ≡ false
   unlinked none = ap is_some known ∙ sym (tells_the_linked slots limit t shown c.key.slot last.0 last.1) ∙ none
 
 pub try_is_enter : TryIsEnter
 try_is_enter slots limit t shown j c at rests =
     let m : MasterView = shown.master in
     let cs : List CallerView = shown.callers in
-    let word : ℕ = slice_index t.words c.key.slot in
+    let word : ℕ = active_word t.words c.key.slot in
     let lives = live_is slots limit t shown j c at (waiting_is c.phase rests.0).0 in
     ⊎_elim
     (λ (biased : keeps_out word ≡ true). subst (λ (x : CallerView). Moves m cs j x (Enter j)) (sym (try_refused word c biased))
@@ -109,17 +118,39 @@ pub look_is_look : LookIsLook
 look_is_look slots limit t shown j c at rests hit =
     let m : MasterView = shown.master in
     let cs : List CallerView = shown.callers in
-    let word : ℕ = slice_index t.words c.key.slot in
+    let word : ℕ = active_word t.words c.key.slot in
     let d = doomed_unused slots limit t shown j c at (waiting_is c.phase rests.0).0 hit in
     subst (λ (x : CallerView). Moves m cs j x (Look j)) (sym (look_hits word c hit))
     (moved m cs j c at (Look j) Drained false word
     (record { key = c.key; phase = c.phase; there = there m cs j c at; waits = rests.0; doomed = d.0; unused = d.1 }, refl))
 
+pub hide_is_hide : HideIsHide
+hide_is_hide slots limit t shown j c at rests clear =
+    let m : MasterView = shown.master in
+    let cs : List CallerView = shown.callers in
+    let word : ℕ = active_word t.words c.key.slot in
+    subst (λ (x : CallerView). Moves m cs j x (Hide j)) (sym (hide_sets word c clear))
+    (moved m cs j c at (Hide j) Hiding false word
+    (record { key = c.key; phase = c.phase; there = there m cs j c at; waits = rests.0; shown = hidden_is slots limit t shown j c at (waiting_is c.phase rests.0).0 ∙ clear }, refl))
+
+pub look_hidden_is_look : LookHiddenIsLook
+look_hidden_is_look slots limit t shown j c at hiding hit =
+    let m : MasterView = shown.master in
+    let cs : List CallerView = shown.callers in
+    let word : ℕ = active_word t.words c.key.slot in
+    subst (λ (x : CallerView). Moves m cs j x (LookHidden j)) (sym (look_hidden_hits word c hit))
+    (moved m cs j c at (LookHidden j) Hidden false word
+    (record { key = c.key; there = in_phase m cs j c at Hiding hiding.0; unused = unused_is slots limit t shown j c at (λ e. let x : Hiding ≡ Spent = sym hiding.0 ∙ e in cc) hit }, refl))
+
+pub show_is_show : ShowIsShow
+show_is_show slots limit t shown j c at hid found =
+    moved shown.master shown.callers j c at (Show j) Still false found (c.key, in_phase shown.master shown.callers j c at Hidden hid.0, refl)
+
 pub part_is_part : PartIsPart
 part_is_part slots limit t shown j c at drains none =
     let m : MasterView = shown.master in
     let cs : List CallerView = shown.callers in
-    let hold : ℕ = hold_word t.words m c.key.slot in
+    let hold : ℕ = hold_word t.words c.key.slot in
     subst (λ (x : CallerView). Moves m cs j x (Part j)) (sym (part_gone hold c none))
     (moved m cs j c at (Part j) Parted false hold
     (record { key = c.key; there = in_phase m cs j c at Drained drains.0; gone = unlinked slots limit t shown j c at (λ e. let x : Drained ≡ Spent = sym drains.0 ∙ e in cc) none }, refl))
@@ -145,7 +176,9 @@ miss_is_nothing slots limit t shown j c at found =
     let m : MasterView = shown.master in
     let cs : List CallerView = shown.callers in (
       λ miss. ap (λ (x : CallerView). bare m (set cs j x)) (look_misses found c miss) ∙ stays m cs j c at c.undo_due found,
-      λ yes. ap (λ (x : CallerView). bare m (set cs j x)) (part_linked found c yes) ∙ stays m cs j c at c.undo_due found,
+      λ linked. ap (λ (x : CallerView). bare m (set cs j x)) (part_linked found c linked) ∙ stays m cs j c at c.undo_due found,
+      λ set_already. ap (λ (x : CallerView). bare m (set cs j x)) (hide_found found c set_already) ∙ stays m cs j c at c.undo_due found,
+      λ used. ap (λ (x : CallerView). bare m (set cs j x)) (look_hidden_misses found c used) ∙ stays m cs j c at c.undo_due found,
     )
 
 -- the Master writes a slot's state
@@ -203,6 +236,16 @@ split_is_pin slots limit t shown slot state pins its may =
       ap (λ (x : CallerView). bare (after_split m) (cs ++ x ∷ [])) who
           ∙ ap (λ (l : List Caller). let w : BareWorld = record { slots = m.slots; callers = l } in w) (map-append caller cs (new_hold (last_key slot state) ∷ [])),
     )
+
+pub held_split_is_pin : HeldSplitIsPin
+held_split_is_pin slots limit t shown j c at holds pins =
+    let m : MasterView = shown.master in
+    let cs : List CallerView = shown.callers in
+    let l = last slots limit t shown j c at holds in
+    let key : last_key c.key.slot l.0 ≡ c.key = its_key slots limit t shown j c at holds in
+    let held : core.IsHeld (bare m cs) c.key = record { caller = j; phase = c.phase; there = there m cs j c at; holds = holds } in
+    subst (λ (k : Key). core.BareStep (bare m cs) (Pin (length cs) k) (bare (after_split m) (cs ++ hold_for m m.pinning ∷ []))) key
+    (split_is_pin slots limit t shown c.key.slot l.0 pins l.1 (inr (subst (λ (k : Key). core.IsHeld (bare m cs) k) (sym key) held)))
 
 pub rest_is_nothing : RestIsNothing
 rest_is_nothing slots limit t shown slot found = (refl, refl, refl, refl, refl)

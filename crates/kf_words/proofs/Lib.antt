@@ -1,12 +1,16 @@
 pub mod Bits
 pub mod Seating
 pub mod Answered
+pub mod MasterSteps
+pub mod HiddenBit
 pub mod CallerSteps
 pub mod CallerAllowed
-pub mod MasterSteps
 pub mod MasterViews
 pub mod MasterAllowed
 pub mod Keys
 pub mod Opening
 pub mod Tells
 pub mod Events
+pub mod WordSteps
+pub mod Runs
+pub mod Made

@@ -1,5 +1,5 @@
 -- Each step of the Master keeps the rule.
-use Rattle.std.proofs.Common.{◌&&◌, ◌||◌, ◌≡◌, ◌≢◌, inl, ℕ, zero, suc, ◌+◌, ◌-◌, ◌*◌, ◌%◌, ◌^◌, ◌<◌, ◌≤◌, Bool, true, false, not, eqb, List, [], ◌∷◌, map, length, set, get_or, refl, sym, ap, ◌∙◌, subst, arith, length-set, get_or-set_same, get_or-set_other, eq-eqb, ne_eqb}
+use Rattle.std.proofs.Common.{◌&&◌, ◌||◌, ◌≡◌, ◌≢◌, inl, ℕ, zero, suc, ◌+◌, ◌-◌, ◌*◌, ◌%◌, ◌^◌, ◌<◌, ◌≤◌, Bool, true, false, not, eqb, List, [], ◌∷◌, map, length, set, refl, sym, ap, ◌∙◌, subst, arith, length-set, get_or-set_same, get_or-set_other, eq-eqb, ne_eqb}
 use Rattle.std.specs.Prelude.{slice_get, Option, Some, None, is_some}
 use Rattle.std.proofs.lemmas.Option.{slice_get_within, none-some}
 use mathlib.Core.Logic.{dite}
@@ -9,12 +9,12 @@ use Rattle.kf_core.specs.declared.caller.Caller.{Caller}
 use Rattle.kf_core.specs.declared.slot.Marks.{Marks}
 use Rattle.kf_core.specs.declared.slot.SlotState.{SlotState}
 use Rattle.kf_core.specs.declared.caller.Phase.{Phase}
-use Rattle.kf_core.specs.declared.caller.Phase.TheVariants.{Still, Turned, Running, Broken, Restored, Drained, Parted, Spent}
+use Rattle.kf_core.specs.declared.caller.Phase.TheVariants.{Still, Turned, Running, Broken, Restored, Drained, Parted, Hiding, Hidden, Spent}
 use Rattle.kf_core.specs.declared.event.Event.{Event}
 use Rattle.kf_core.specs.declared.event.Event.TheVariants.{Rise, Mark}
 use Rattle.kf_core.specs.Bare.{BareWorld, IsCaller, marks, marks_in}
 use Rattle.kf_core.specs.Marks.{fresh_marks, live_marks, are_live, are_doomed}
-use Rattle.kf_core.specs.Phases.{has_reference, is_spent}
+use Rattle.kf_core.specs.Phases.{has_reference, is_hiding, is_spent}
 use Rattle.kf_core.specs.Safe.{Safe, NoneRunning}
 use Rattle.kf_core.specs.Steps as core
 use Rattle.kf_core.proofs.Lists.{slice_get-set_same, slice_get-set_other}
@@ -23,10 +23,10 @@ use Rattle.kf_core.proofs.Keeping.{step_keeps, marks_keep, born_keeps}
 use Rattle.kf_words.specs.declared.view.CallerView.{CallerView}
 use Rattle.kf_words.specs.declared.view.MasterView.{MasterView}
 use Rattle.kf_words.specs.declared.view.Load.{Load}
-use Rattle.kf_words.specs.Layout.{bit, bias, doom, linked, one_generation, is_drained, holds_in, HasRoom, IsFree}
-use Rattle.kf_words.specs.Rule.{is_user, is_holder, users, holders, pins_in, ShowsMarks, ShowsHolds, StillHolds, hold_index, hold_word, last_key, caller, bare, Shows}
+use Rattle.kf_words.specs.Layout.{bit, bias, doom, hide, linked, one_generation, line_words, active_index, hold_index, active_word, hold_word, is_drained, holds_in, HasRoom, IsFree}
+use Rattle.kf_words.specs.Rule.{is_user, is_hider, is_holder, users, hiders, holders, pins_in, ShowsMarks, ShowsHolds, StillHolds, last_key, caller, bare, Shows}
 use Rattle.kf_words.specs.Steps.{on_active, on_hold, activated_marks, doomed_marks}
-use Rattle.kf_words.proofs.Bits.{counted_unspent, free_shows, count_shows, hold_less, hold_more}
+use Rattle.kf_words.proofs.Bits.{counted_unspent, hiding_unspent, free_shows, count_shows, hold_less, hold_more}
 use Rattle.kf_words.proofs.Seating.{at_caller, tally≤, tally-one}
 
 module _ (words : List ℕ) (m : MasterView) (cs : List CallerView) (shows : Shows words m cs) where
@@ -39,14 +39,21 @@ module _ (words : List ℕ) (m : MasterView) (cs : List CallerView) (shows : Sho
       and_not_spent true false true phase u e tries = ap (λ (q : Phase). not (is_spent q)) (tries refl)
       and_not_spent true false false phase u e tries = absurd (let x : false ≡ true = u in cc)
 
+  pub hiders≤holders : (slot : ℕ) → hiders slot cs ≤ holders slot cs
+  hiders≤holders slot = tally≤ (is_hider slot) (is_holder slot) cs (λ i x e u. and_not_spent (eqb x.key.slot slot) x.phase u)
+    where
+      and_not_spent : (s : Bool) (phase : Phase) → (s && is_hiding phase) ≡ true → (s && not (is_spent phase)) ≡ true
+      and_not_spent false phase u = absurd (let x : false ≡ true = u in cc)
+      and_not_spent true phase u = ap not (hiding_unspent phase u)
+
   module _ (slot : ℕ) (state : SlotState) (its : slice_get m.slots slot ≡ Some state) where
     pub near : slot < length m.slots
     near = slice_get_within m.slots slot state its
 
     abbrev hold : ℕ
-    hold = hold_word words m slot
+    hold = hold_word words slot
 
-    pub shown_holds : ShowsHolds m.limit (hold_word words m slot) state (holders slot cs + pins_in m.pinning slot)
+    pub shown_holds : ShowsHolds m.limit (hold_word words slot) state (holders slot cs + pins_in m.pinning slot)
     shown_holds = shows.holds slot state its
 
     pub users_few : users slot cs ≤ 65535
@@ -58,38 +65,34 @@ module _ (words : List ℕ) (m : MasterView) (cs : List CallerView) (shows : Sho
       next = record { limit = m.limit; slots = set m.slots slot state'; pins = m.pins; pinning = p'; fresh = f'; loads = l'; at_birth = b'; looked = k' }
 
       changed : length words' ≡ length words
-          → ShowsMarks (get_or words' slot 0) state'.marks (users slot cs)
-          → ShowsHolds m.limit (hold_word words' m slot) state' (holders slot cs + pins_in p' slot)
-          → ((k : ℕ) → k ≢ slot → k < length m.slots → (get_or words' k 0 ≡ get_or words k 0) × (hold_word words' m k ≡ hold_word words m k) × (pins_in p' k ≡ pins_in m.pinning k))
-          → ((i : ℕ) (load : Load) → slice_get l' i ≡ Some load → StillHolds m.limit load.word (hold_word words' m load.slot))
-          → ((k : ℕ) → f' ≡ Some k → (k < length m.slots) × (get_or words' k 0 ≡ bias) × IsFree (hold_word words' m k))
+          → ShowsMarks (active_word words' slot) state'.marks (users slot cs) (hiders slot cs)
+          → ShowsHolds m.limit (hold_word words' slot) state' (holders slot cs + pins_in p' slot)
+          → ((k : ℕ) → k ≢ slot → k < length m.slots → (active_word words' k ≡ active_word words k) × (hold_word words' k ≡ hold_word words k) × (pins_in p' k ≡ pins_in m.pinning k))
+          → ((i : ℕ) (load : Load) → slice_get l' i ≡ Some load → StillHolds m.limit load.word (hold_word words' load.slot))
+          → ((k : ℕ) → f' ≡ Some k → (k < length m.slots) × (active_word words' k ≡ bias) × IsFree (hold_word words' k))
           → ((load : Load) (x : SlotState) → k' ≡ Some load → is_drained load.word ≡ true → slice_get (set m.slots slot state') load.slot ≡ Some x → (are_doomed x.marks ≡ true) × NoneRunning (bare next cs) (last_key load.slot x))
           → Safe (bare next cs) → Shows words' next cs
       changed wide marks' holds' others loads' fresh' looked' safe' = record {
-        wide = wide ∙ shows.wide ∙ (let e = length-set m.slots slot state' in let a : length m.slots ≡ length (set m.slots slot state') = sym e in ap (λ n. n + n) a);
+        wide = wide ∙ shows.wide ∙ ap (λ (n : ℕ). n * line_words) (sym (length-set m.slots slot state'));
         few = shows.few;
         pinned = shows.pinned;
         marks = λ k x at. dite (ℕ_discrete k slot)
-            (λ e. subst (λ (i : ℕ). ShowsMarks (get_or words' i 0) x.marks (users i cs)) (sym e) (subst (λ (y : SlotState). ShowsMarks (get_or words' slot 0) y.marks (users slot cs)) (here k x e at) marks'))
+            (λ e. subst (λ (i : ℕ). ShowsMarks (active_word words' i) x.marks (users i cs) (hiders i cs)) (sym e) (subst (λ (y : SlotState). ShowsMarks (active_word words' slot) y.marks (users slot cs) (hiders slot cs)) (here k x e at) marks'))
             (λ ne. let at' = there k x ne at in let o = others k ne (slice_get_within m.slots k x at') in
-            subst (λ (n : ℕ). ShowsMarks n x.marks (users k cs)) (sym o.0) (shows.marks k x at'));
+            subst (λ (n : ℕ). ShowsMarks n x.marks (users k cs) (hiders k cs)) (sym o.0) (shows.marks k x at'));
         holds = λ k x at. dite (ℕ_discrete k slot)
-            (λ e. subst (λ (i : ℕ). ShowsHolds m.limit (hold_word words' next i) x (holders i cs + pins_in p' i)) (sym e)
-            (subst (λ (y : SlotState). ShowsHolds m.limit (hold_word words' next slot) y (holders slot cs + pins_in p' slot)) (here k x e at)
-            (subst (λ (n : ℕ). ShowsHolds m.limit n state' (holders slot cs + pins_in p' slot)) (moved slot) holds')))
+            (λ e. subst (λ (i : ℕ). ShowsHolds m.limit (hold_word words' i) x (holders i cs + pins_in p' i)) (sym e)
+            (subst (λ (y : SlotState). ShowsHolds m.limit (hold_word words' slot) y (holders slot cs + pins_in p' slot)) (here k x e at) holds'))
             (λ ne. let at' = there k x ne at in let o = others k ne (slice_get_within m.slots k x at') in
-            subst (λ (n : ℕ). ShowsHolds m.limit n x (holders k cs + pins_in p' k)) (sym o.1 ∙ moved k)
-            (subst (λ (n : ℕ). ShowsHolds m.limit (hold_word words m k) x (holders k cs + n)) (sym o.2) (shows.holds k x at')));
+            subst (λ (n : ℕ). ShowsHolds m.limit n x (holders k cs + pins_in p' k)) (sym o.1)
+            (subst (λ (n : ℕ). ShowsHolds m.limit (hold_word words k) x (holders k cs + n)) (sym o.2) (shows.holds k x at')));
         tries = shows.tries;
-        loads = λ i load e. subst (λ (n : ℕ). StillHolds m.limit load.word n) (moved load.slot) (loads' i load e);
-        fresh = λ k e. let f = fresh' k e in let l = length-set m.slots slot state' in (omega (arith, f.0), f.1, subst IsFree (moved k) f.2);
+        loads = loads';
+        fresh = λ k e. let f = fresh' k e in let l = length-set m.slots slot state' in (omega (arith, f.0), f.1, f.2);
         looked = looked';
         safe = safe';
       }
         where
-          moved : (k : ℕ) → hold_word words' m k ≡ hold_word words' next k
-          moved k = ap (λ (n : ℕ). get_or words' (n + k) 0) (sym (length-set m.slots slot state'))
-
           here : (k : ℕ) (x : SlotState) → k ≡ slot → slice_get (set m.slots slot state') k ≡ Some x → state' ≡ x
           here k x e at =
               let at' : slice_get (set m.slots slot state') slot ≡ Some x = subst (λ (i : ℕ). slice_get (set m.slots slot state') i ≡ Some x) e at in
@@ -110,17 +113,17 @@ module _ (words : List ℕ) (m : MasterView) (cs : List CallerView) (shows : Sho
     same_world : bare (next words state m.pinning m.fresh m.loads m.at_birth m.looked) cs ≡ bare m cs
     same_world = ap (λ (ps : List SlotState). let w : BareWorld = record { slots = ps; callers = map caller cs } in w) same_slots
 
-    other_hold : (k new : ℕ) → k ≢ slot → hold_word (set words (hold_index m slot) new) m k ≡ hold_word words m k
-    other_hold k new ne = get_or-set_other words (hold_index m slot) (hold_index m k) new 0 (λ e. ne (omega arith))
+    other_hold : (k new : ℕ) → k ≢ slot → hold_word (set words (hold_index slot) new) k ≡ hold_word words k
+    other_hold k new ne = get_or-set_other words (hold_index slot) (hold_index k) new 0 (λ e. ne (omega arith))
 
-    this_hold : (new : ℕ) → hold_word (set words (hold_index m slot) new) m slot ≡ new
-    this_hold new = let n = near in let wide = shows.wide in get_or-set_same words (hold_index m slot) new 0 (omega arith)
+    this_hold : (new : ℕ) → hold_word (set words (hold_index slot) new) slot ≡ new
+    this_hold new = let n = near in let wide = shows.wide in get_or-set_same words (hold_index slot) new 0 (omega arith)
 
-    active_kept : (k new : ℕ) → k < length m.slots → get_or (set words (hold_index m slot) new) k 0 ≡ get_or words k 0
-    active_kept k new short = get_or-set_other words (hold_index m slot) k new 0 (λ e. omega arith)
+    active_kept : (k new : ℕ) → k < length m.slots → active_word (set words (hold_index slot) new) k ≡ active_word words k
+    active_kept k new short = get_or-set_other words (hold_index slot) (active_index k) new 0 (λ e. omega arith)
 
-    hold_kept : (k new : ℕ) → hold_word (set words slot new) m k ≡ hold_word words m k
-    hold_kept k new = let n = near in get_or-set_other words slot (hold_index m k) new 0 (λ e. omega arith)
+    hold_kept : (k new : ℕ) → hold_word (set words (active_index slot) new) k ≡ hold_word words k
+    hold_kept k new = let n = near in get_or-set_other words (active_index slot) (hold_index k) new 0 (λ e. omega arith)
 
     no_pin : (k : ℕ) → k ≢ slot → pins_in (Some slot) k ≡ 0
     no_pin k ne = ap (λ (b : Bool). bit b 1) (ne_eqb slot k (λ e. ne (sym e)))
@@ -128,7 +131,7 @@ module _ (words : List ℕ) (m : MasterView) (cs : List CallerView) (shows : Sho
     one_pin : pins_in (Some slot) slot ≡ 1
     one_pin = ap (λ (b : Bool). bit b 1) (eq-eqb slot slot refl)
 
-    nothing_fresh : (words' : List ℕ) (k : ℕ) → None ≡ Some k → (k < length m.slots) × (get_or words' k 0 ≡ bias) × IsFree (hold_word words' m k)
+    nothing_fresh : (words' : List ℕ) (k : ℕ) → None ≡ Some k → (k < length m.slots) × (active_word words' k ≡ bias) × IsFree (hold_word words' k)
     nothing_fresh words' k e = absurd (none-some k e)
 
     no_look : (P : Load → SlotState → Type 0) (load : Load) (x : SlotState) → None ≡ Some load → is_drained load.word ≡ true → P load x
@@ -139,7 +142,7 @@ module _ (words : List ℕ) (m : MasterView) (cs : List CallerView) (shows : Sho
 
     -- one hold more, which no seat has yet
     pub pin_counts : m.pinning ≡ None → HasRoom m.limit hold → hold < 18446744073709551616
-        → Shows (set words (hold_index m slot) ((hold + 1) % 2 ^ 64)) (record (on_hold m) { pinning = Some slot }) cs
+        → Shows (set words (hold_index slot) ((hold + 1) % 2 ^ 64)) (record (on_hold m) { pinning = Some slot }) cs
     pin_counts no_pin_yet room small =
         let n : ℕ = holders slot cs + pins_in m.pinning slot in
         let none_yet : pins_in m.pinning slot ≡ 0 = ap (λ o. pins_in o slot) no_pin_yet in
@@ -148,10 +151,10 @@ module _ (words : List ℕ) (m : MasterView) (cs : List CallerView) (shows : Sho
         let below : n < m.limit = (let r : holds_in hold < m.limit = room in omega arith) in
         let more : holders slot cs + pins_in (Some slot) slot ≡ n + 1 = omega arith in
         let new : ℕ = (hold + 1) % 2 ^ 64 in
-        subst (λ (ps : List SlotState). Shows (set words (hold_index m slot) new) (record (on_hold m) { pinning = Some slot; slots = ps }) cs) same_slots
-        (changed (set words (hold_index m slot) new) state (Some slot) None [] m.at_birth None
-        (length-set words (hold_index m slot) new)
-        (subst (λ (x : ℕ). ShowsMarks x state.marks (users slot cs)) (sym (active_kept slot new near)) (shows.marks slot state its))
+        subst (λ (ps : List SlotState). Shows (set words (hold_index slot) new) (record (on_hold m) { pinning = Some slot; slots = ps }) cs) same_slots
+        (changed (set words (hold_index slot) new) state (Some slot) None [] m.at_birth None
+        (length-set words (hold_index slot) new)
+        (subst (λ (x : ℕ). ShowsMarks x state.marks (users slot cs) (hiders slot cs)) (sym (active_kept slot new near)) (shows.marks slot state its))
         (subst (λ (x : ℕ). ShowsHolds m.limit x state (holders slot cs + pins_in (Some slot) slot)) (sym (this_hold new))
         (subst (λ (x : ℕ). ShowsHolds m.limit new state x) (sym more) (hold_more m.limit hold state n shows.few small below shown_holds)))
         (λ k ne short. (active_kept k new short, other_hold k new ne, no_pin k ne ∙ sym (ap (λ o. pins_in o k) no_pin_yet)))
@@ -160,15 +163,15 @@ module _ (words : List ℕ) (m : MasterView) (cs : List CallerView) (shows : Sho
 
     -- a pin that no seat has is taken back
     pub pin_back : m.pinning ≡ Some slot → hold < 18446744073709551616
-        → Shows (set words (hold_index m slot) ((hold + (2 ^ 64 - 1)) % 2 ^ 64)) (record (on_hold m) { pinning = None }) cs
+        → Shows (set words (hold_index slot) ((hold + (2 ^ 64 - 1)) % 2 ^ 64)) (record (on_hold m) { pinning = None }) cs
     pin_back has_pin small =
         let n : ℕ = holders slot cs + pins_in m.pinning slot in
         let had : pins_in m.pinning slot ≡ 1 = ap (λ o. pins_in o slot) has_pin ∙ one_pin in
         let new : ℕ = (hold + (2 ^ 64 - 1)) % 2 ^ 64 in
-        subst (λ (ps : List SlotState). Shows (set words (hold_index m slot) new) (record (on_hold m) { pinning = None; slots = ps }) cs) same_slots
-        (changed (set words (hold_index m slot) new) state None None [] m.at_birth None
-        (length-set words (hold_index m slot) new)
-        (subst (λ (x : ℕ). ShowsMarks x state.marks (users slot cs)) (sym (active_kept slot new near)) (shows.marks slot state its))
+        subst (λ (ps : List SlotState). Shows (set words (hold_index slot) new) (record (on_hold m) { pinning = None; slots = ps }) cs) same_slots
+        (changed (set words (hold_index slot) new) state None None [] m.at_birth None
+        (length-set words (hold_index slot) new)
+        (subst (λ (x : ℕ). ShowsMarks x state.marks (users slot cs) (hiders slot cs)) (sym (active_kept slot new near)) (shows.marks slot state its))
         (subst (λ (x : ℕ). ShowsHolds m.limit x state (holders slot cs + 0)) (sym (this_hold new))
         (hold_less m.limit hold state n (holders slot cs + 0) small (omega arith) shown_holds))
         (λ k ne short. (active_kept k new short, other_hold k new ne, sym (ap (λ o. pins_in o k) has_pin ∙ no_pin k ne)))
@@ -176,35 +179,36 @@ module _ (words : List ℕ) (m : MasterView) (cs : List CallerView) (shows : Sho
         (subst Safe (sym same_world) shows.safe))
 
     -- nobody holds a free slot
-    pub unheld : IsFree hold → (holders slot cs ≡ 0) × (pins_in m.pinning slot ≡ 0) × (is_some state.marks ≡ false) × (state.generation < 4294967295) × (users slot cs ≡ 0)
+    pub unheld : IsFree hold → (holders slot cs ≡ 0) × (pins_in m.pinning slot ≡ 0) × (is_some state.marks ≡ false) × (state.generation < 4294967295) × (users slot cs ≡ 0) × (hiders slot cs ≡ 0)
     unheld free =
         let f = free_shows m.limit hold state (holders slot cs + pins_in m.pinning slot) shows.few shown_holds free in
         let none = f.0 in
         let u = users≤holders slot in
-        (omega arith, omega arith, f.1, f.2, omega arith)
+        let v = hiders≤holders slot in
+        (omega arith, omega arith, f.1, f.2, omega arith, omega arith)
 
     pub unlinked_state : (o : Option Marks) → is_some o ≡ false → o ≡ None
     unlinked_state None e = refl
     unlinked_state (Some x) e = absurd (let y : true ≡ false = e in cc)
 
     -- the active word of a free slot is stored afresh
-    pub freshen : IsFree hold → Shows (set words slot bias) (record (on_active m) { fresh = Some slot }) cs
+    pub freshen : IsFree hold → Shows (set words (active_index slot) bias) (record (on_active m) { fresh = Some slot }) cs
     freshen free =
         let u = unheld free in
         let gone : state.marks ≡ None = unlinked_state state.marks u.2 in
         let n = near in let wide = shows.wide in
-        let stored : get_or (set words slot bias) slot 0 ≡ bias = get_or-set_same words slot bias 0 (omega arith) in
-        subst (λ (ps : List SlotState). Shows (set words slot bias) (record (on_active m) { fresh = Some slot; slots = ps }) cs) same_slots
-        (changed (set words slot bias) state m.pinning (Some slot) m.loads m.at_birth None
-        (length-set words slot bias)
-        (subst (λ (x : ℕ). ShowsMarks x state.marks (users slot cs)) (sym stored)
-        (subst (λ (o : Option Marks). ShowsMarks bias o (users slot cs)) (sym gone)
-        (subst (λ (x : ℕ). ShowsMarks bias None x) (sym u.4) (false, refl, λ e. absurd (let x : false ≡ true = e in cc)))))
+        let stored : active_word (set words (active_index slot) bias) slot ≡ bias = get_or-set_same words (active_index slot) bias 0 (omega arith) in
+        subst (λ (ps : List SlotState). Shows (set words (active_index slot) bias) (record (on_active m) { fresh = Some slot; slots = ps }) cs) same_slots
+        (changed (set words (active_index slot) bias) state m.pinning (Some slot) m.loads m.at_birth None
+        (length-set words (active_index slot) bias)
+        (subst (λ (x : ℕ). ShowsMarks x state.marks (users slot cs) (hiders slot cs)) (sym stored)
+        (subst (λ (o : Option Marks). ShowsMarks bias o (users slot cs) (hiders slot cs)) (sym gone)
+        (subst (λ (x : ℕ). ShowsMarks bias None x (hiders slot cs)) (sym u.4) (subst (λ (x : ℕ). ShowsMarks bias None 0 x) (sym u.5) (false, refl, (λ e. absurd (let x : false ≡ true = e in cc)), omega arith)))))
         (subst (λ (x : ℕ). ShowsHolds m.limit x state (holders slot cs + pins_in m.pinning slot)) (sym (hold_kept slot bias)) shown_holds)
-        (λ k ne short. (get_or-set_other words slot k bias 0 ne, hold_kept k bias, refl))
+        (λ k ne short. (get_or-set_other words (active_index slot) (active_index k) bias 0 (λ e. ne (omega arith)), hold_kept k bias, refl))
         (λ i load e. subst (λ (x : ℕ). StillHolds m.limit load.word x) (sym (hold_kept load.slot bias)) (shows.loads i load e))
         (λ k e. let is : Some slot ≡ Some k = e in let same : slot ≡ k = cc in
-        subst (λ (x : ℕ). (x < length m.slots) × (get_or (set words slot bias) x 0 ≡ bias) × IsFree (hold_word (set words slot bias) m x)) same (near, stored, subst IsFree (sym (hold_kept slot bias)) free))
+        subst (λ (x : ℕ). (x < length m.slots) × (active_word (set words (active_index slot) bias) x ≡ bias) × IsFree (hold_word (set words (active_index slot) bias) x)) same (near, stored, subst IsFree (sym (hold_kept slot bias)) free))
         (no_look _)
         (subst Safe (sym same_world) shows.safe))
 
@@ -218,6 +222,8 @@ module _ (words : List ℕ) (m : MasterView) (cs : List CallerView) (shows : Sho
     spent_if Restored h = absurd (h refl)
     spent_if Drained h = absurd (h refl)
     spent_if Parted h = absurd (h refl)
+    spent_if Hiding h = absurd (h refl)
+    spent_if Hidden h = absurd (h refl)
 
     pub only_spent : (c : ℕ) (k : Key) (phase : Phase) → IsCaller (bare m cs) c k phase → k.slot ≡ slot → holders slot cs ≡ 0 → phase ≡ Spent
     only_spent c k phase there same nobody =
@@ -231,7 +237,7 @@ module _ (words : List ℕ) (m : MasterView) (cs : List CallerView) (shows : Sho
 
     -- a node is born where the active word is fresh
     pub birth : m.fresh ≡ Some slot → hold < 18446744073709551616
-        → Shows (set words (hold_index m slot) ((hold + (one_generation + linked)) % 2 ^ 64))
+        → Shows (set words (hold_index slot) ((hold + (one_generation + linked)) % 2 ^ 64))
         (record (on_hold m) { slots = set m.slots slot (record { generation = state.generation + 1; marks = Some fresh_marks }); at_birth = m.loads }) cs
     birth is_fresh small =
         let f = shows.fresh slot is_fresh in
@@ -244,10 +250,10 @@ module _ (words : List ℕ) (m : MasterView) (cs : List CallerView) (shows : Sho
         let was : hold ≡ g * 4294967296 + bit (is_some state.marks) linked + (holders slot cs + pins_in m.pinning slot) = shown_holds.0 in
         let now : (hold + 6442450944) % 18446744073709551616 ≡ (g + 1) * 4294967296 + 2147483648 + (holders slot cs + pins_in m.pinning slot) = omega arith in
         let key : Key = record { slot = slot; generation = g + 1 } in
-        changed (set words (hold_index m slot) new) node m.pinning None [] m.loads None
-        (length-set words (hold_index m slot) new)
-        (subst (λ (x : ℕ). ShowsMarks x (Some fresh_marks) (users slot cs)) (sym (active_kept slot new near ∙ f.1))
-        (subst (λ (x : ℕ). ShowsMarks bias (Some fresh_marks) x) (sym u.4) (false, refl, λ _. refl)))
+        changed (set words (hold_index slot) new) node m.pinning None [] m.loads None
+        (length-set words (hold_index slot) new)
+        (subst (λ (x : ℕ). ShowsMarks x (Some fresh_marks) (users slot cs) (hiders slot cs)) (sym (active_kept slot new near ∙ f.1))
+        (subst (λ (x : ℕ). ShowsMarks bias (Some fresh_marks) x (hiders slot cs)) (sym u.4) (subst (λ (x : ℕ). ShowsMarks bias (Some fresh_marks) 0 x) (sym u.5) (false, refl, (λ _. refl), omega arith))))
         (subst (λ (x : ℕ). ShowsHolds m.limit x node (holders slot cs + pins_in m.pinning slot)) (sym (this_hold new)) (now, shown_holds.1))
         (λ k ne short. (active_kept k new short, other_hold k new ne, refl))
         (nothing_loaded _) (nothing_fresh _) (no_look _)
@@ -260,7 +266,7 @@ module _ (words : List ℕ) (m : MasterView) (cs : List CallerView) (shows : Sho
 
     -- a node leaves the tree, after its word was found drained
     pub unlink : (x : Marks) (found : ℕ) → state.marks ≡ Some x → m.looked ≡ Some (record { slot = slot; word = found }) → is_drained found ≡ true → hold < 18446744073709551616
-        → Shows (set words (hold_index m slot) ((hold + (2 ^ 64 - linked)) % 2 ^ 64))
+        → Shows (set words (hold_index slot) ((hold + (2 ^ 64 - linked)) % 2 ^ 64))
         (record (on_hold m) { slots = set m.slots slot (record { generation = state.generation; marks = None }) }) cs
     unlink x found there was_looked hit small =
         let d = shows.looked (record { slot = slot; word = found }) state was_looked hit its in
@@ -274,9 +280,9 @@ module _ (words : List ℕ) (m : MasterView) (cs : List CallerView) (shows : Sho
         let dead : are_live state.marks ≡ false = not_both state.marks d.0 in
         let key : Key = last_key slot state in
         let known : marks (bare m cs) key ≡ Some x = ap (λ o. marks_in o g) its ∙ shown g state.marks ∙ there in
-        changed (set words (hold_index m slot) new) node m.pinning None [] m.at_birth None
-        (length-set words (hold_index m slot) new)
-        (s.0, active_kept slot new near ∙ s.1 ∙ ap (λ (b : Bool). users slot cs + bit (not b) bias + bit s.0 doom) dead, λ e. absurd (let y : false ≡ true = e in cc))
+        changed (set words (hold_index slot) new) node m.pinning None [] m.at_birth None
+        (length-set words (hold_index slot) new)
+        (s.0, active_kept slot new near ∙ s.1 ∙ ap (λ (b : Bool). users slot cs + bit (not b) bias + bit s.0 doom + hiders slot cs * hide) dead, (λ e. absurd (let y : false ≡ true = e in cc)), s.3)
         (subst (λ (y : ℕ). ShowsHolds m.limit y node (holders slot cs + pins_in m.pinning slot)) (sym (this_hold new)) (now, shown_holds.1))
         (λ k ne short. (active_kept k new short, other_hold k new ne, refl))
         (nothing_loaded _) (nothing_fresh _) (no_look _)
@@ -293,18 +299,18 @@ module _ (words : List ℕ) (m : MasterView) (cs : List CallerView) (shows : Sho
             off false false e = refl
 
     -- the marks of the node change with its active word
-    remark : (x : Marks) (change : Marks → Marks) (new : ℕ) → state.marks ≡ Some x → ShowsMarks new (Some (change x)) (users slot cs)
+    remark : (x : Marks) (change : Marks → Marks) (new : ℕ) → state.marks ≡ Some x → ShowsMarks new (Some (change x)) (users slot cs) (hiders slot cs)
         → (e : Event) → core.BareStep (bare m cs) e (core.with_marks (bare m cs) (last_key slot state) (Some (change x)))
-        → Shows (set words slot new) (record (on_active m) { slots = set m.slots slot (record { generation = state.generation; marks = Some (change x) }) }) cs
+        → Shows (set words (active_index slot) new) (record (on_active m) { slots = set m.slots slot (record { generation = state.generation; marks = Some (change x) }) }) cs
     remark x change new there is e event =
         let node : SlotState = record { generation = state.generation; marks = Some (change x) } in
         let n = near in let wide = shows.wide in
-        changed (set words slot new) node m.pinning None m.loads m.at_birth None
-        (length-set words slot new)
-        (subst (λ (y : ℕ). ShowsMarks y (Some (change x)) (users slot cs)) (sym (get_or-set_same words slot new 0 (omega arith))) is)
+        changed (set words (active_index slot) new) node m.pinning None m.loads m.at_birth None
+        (length-set words (active_index slot) new)
+        (subst (λ (y : ℕ). ShowsMarks y (Some (change x)) (users slot cs) (hiders slot cs)) (sym (get_or-set_same words (active_index slot) new 0 (omega arith))) is)
         (subst (λ (y : ℕ). ShowsHolds m.limit y node (holders slot cs + pins_in m.pinning slot)) (sym (hold_kept slot new))
         (shown_holds.0 ∙ ap (λ (o : Option Marks). state.generation * one_generation + bit (is_some o) linked + (holders slot cs + pins_in m.pinning slot)) there, shown_holds.1))
-        (λ k ne short. (get_or-set_other words slot k new 0 ne, hold_kept k new, refl))
+        (λ k ne short. (get_or-set_other words (active_index slot) (active_index k) new 0 (λ e. ne (omega arith)), hold_kept k new, refl))
         (λ i load e. subst (λ (y : ℕ). StillHolds m.limit load.word y) (sym (hold_kept load.slot new)) (shows.loads i load e))
         (nothing_fresh _) (no_look _)
         (step_keeps (bare m cs) e (core.with_marks (bare m cs) (last_key slot state) (Some (change x))) shows.safe event)
@@ -312,27 +318,30 @@ module _ (words : List ℕ) (m : MasterView) (cs : List CallerView) (shows : Sho
     pub marks_known : (x : Marks) → state.marks ≡ Some x → marks (bare m cs) (last_key slot state) ≡ Some x
     marks_known x there = ap (λ o. marks_in o state.generation) its ∙ shown state.generation state.marks ∙ there
 
-    pub rise : state.marks ≡ Some fresh_marks → Shows (set words slot ((get_or words slot 0 + (2 ^ 64 - bias)) % 2 ^ 64)) (record (on_active m) { slots = set m.slots slot (record { generation = state.generation; marks = Some live_marks }) }) cs
+    pub rise : state.marks ≡ Some fresh_marks → Shows (set words (active_index slot) ((active_word words slot + (2 ^ 64 - bias)) % 2 ^ 64)) (record (on_active m) { slots = set m.slots slot (record { generation = state.generation; marks = Some live_marks }) }) cs
     rise there =
         let n : ℕ = users slot cs in
-        let word : ℕ = get_or words slot 0 in
-        let s : ShowsMarks word (Some fresh_marks) n = subst (λ (o : Option Marks). ShowsMarks word o n) there (shows.marks slot state its) in
+        let word : ℕ = active_word words slot in
+        let h : ℕ = hiders slot cs in
+        let s : ShowsMarks word (Some fresh_marks) n h = subst (λ (o : Option Marks). ShowsMarks word o n h) there (shows.marks slot state its) in
         let plain : bit s.0 doom ≡ 0 = ap (λ (b : Bool). bit b doom) (s.2 refl) in
         let few = users_few in
-        let was : word ≡ n + 4294967296 + bit s.0 doom = s.1 in
-        let now : (word + 18446744069414584320) % 18446744073709551616 ≡ n + 0 + 0 = omega arith in
-        remark fresh_marks activated_marks _ there (false, now, λ _. refl) (Rise (last_key slot state)) (marks_known fresh_marks there, refl)
+        let one = s.3 in
+        let was : word ≡ n + 4294967296 + bit s.0 doom + h * hide = s.1 in
+        let now : (word + 18446744069414584320) % 18446744073709551616 ≡ n + 0 + 0 + h * hide = omega arith in
+        remark fresh_marks activated_marks _ there (false, now, (λ _. refl), s.3) (Rise (last_key slot state)) (marks_known fresh_marks there, refl)
 
     pub mark_node : (x : Marks) (k : ℕ) → state.marks ≡ Some x → x.doomed ≡ false → k ≡ bit x.activated bias + doom
-        → Shows (set words slot ((get_or words slot 0 + k) % 2 ^ 64)) (record (on_active m) { slots = set m.slots slot (record { generation = state.generation; marks = Some (doomed_marks x) }) }) cs
+        → Shows (set words (active_index slot) ((active_word words slot + k) % 2 ^ 64)) (record (on_active m) { slots = set m.slots slot (record { generation = state.generation; marks = Some (doomed_marks x) }) }) cs
     mark_node x k there undoomed bits =
         let n : ℕ = users slot cs in
-        let word : ℕ = get_or words slot 0 in
-        let s : ShowsMarks word (Some x) n = subst (λ (o : Option Marks). ShowsMarks word o n) there (shows.marks slot state its) in
-        remark x doomed_marks _ there (true, marked_word x.activated x.doomed s.0 n word k undoomed (s.2 refl) users_few s.1 bits, λ _. refl) (Mark (last_key slot state)) (x, marks_known x there, undoomed, refl)
+        let word : ℕ = active_word words slot in
+        let h : ℕ = hiders slot cs in
+        let s : ShowsMarks word (Some x) n h = subst (λ (o : Option Marks). ShowsMarks word o n h) there (shows.marks slot state its) in
+        remark x doomed_marks _ there (true, marked_word x.activated x.doomed s.0 n h word k undoomed (s.2 refl) users_few s.3 s.1 bits, (λ _. refl), s.3) (Mark (last_key slot state)) (x, marks_known x there, undoomed, refl)
       where
-        marked_word : (a d d' : Bool) (n word k : ℕ) → d ≡ false → d' ≡ d → n ≤ 65535 → word ≡ n + bit (not (a && not d)) bias + bit d' doom → k ≡ bit a bias + doom → (word + k) % 18446744073709551616 ≡ n + bit (not (a && false)) bias + doom
-        marked_word a true d' n word k u e few is bits = absurd (cc)
-        marked_word a false true n word k u e few is bits = absurd (cc)
-        marked_word true false false n word k u e few is bits = omega arith
-        marked_word false false false n word k u e few is bits = omega arith
+        marked_word : (a d d' : Bool) (n h word k : ℕ) → d ≡ false → d' ≡ d → n ≤ 65535 → h ≤ 1 → word ≡ n + bit (not (a && not d)) bias + bit d' doom + h * hide → k ≡ bit a bias + doom → (word + k) % 18446744073709551616 ≡ n + bit (not (a && false)) bias + doom + h * hide
+        marked_word a true d' n h word k u e few one is bits = absurd (cc)
+        marked_word a false true n h word k u e few one is bits = absurd (cc)
+        marked_word true false false n h word k u e few one is bits = omega arith
+        marked_word false false false n h word k u e few one is bits = omega arith

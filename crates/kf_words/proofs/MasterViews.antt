@@ -1,5 +1,5 @@
 -- The Master's steps that change no word keep the rule: a split, and loads.
-use Rattle.std.proofs.Common.{◌&&◌, ◌||◌, ◌≡◌, ℕ, ◌+◌, Bool, true, false, eqb, List, [], ◌∷◌, ◌++◌, map, get_or, refl, sym, ap, ◌∙◌, subst, ⊎_elim, arith, length-append, eq-eqb}
+use Rattle.std.proofs.Common.{◌&&◌, ◌||◌, ◌≡◌, ℕ, ◌+◌, Bool, true, false, eqb, List, [], ◌∷◌, ◌++◌, map, refl, sym, ap, ◌∙◌, subst, ⊎_elim, arith, length-append, eq-eqb}
 use Rattle.std.specs.Prelude.{slice_get, Some, None}
 use Rattle.std.proofs.lemmas.Option.{same_Some, none-some}
 use mathlib.Core.List.{map-append}
@@ -10,16 +10,17 @@ use Rattle.kf_core.specs.declared.caller.Phase.{Phase}
 use Rattle.kf_core.specs.declared.caller.Phase.TheVariants.{Still, Running, Parted}
 use Rattle.kf_core.specs.Bare.{BareWorld}
 use Rattle.kf_core.specs.Marks.{are_doomed}
-use Rattle.kf_core.specs.Phases.{has_reference, saw_drain}
+use Rattle.kf_core.specs.Phases.{has_reference, saw_drain, saw_unused}
 use Rattle.kf_core.specs.Safe.{Safe, NoneRunning}
 use Rattle.kf_core.specs.Steps as core
 use Rattle.kf_core.proofs.Lists.{after_push}
 use Rattle.kf_core.proofs.Keeping.{caller_keeps}
+use Rattle.kf_core.proofs.Hiding.{one_after_push}
 use Rattle.kf_words.specs.declared.view.CallerView.{CallerView}
 use Rattle.kf_words.specs.declared.view.MasterView.{MasterView}
 use Rattle.kf_words.specs.declared.view.Load.{Load}
-use Rattle.kf_words.specs.Layout.{bit, is_drained}
-use Rattle.kf_words.specs.Rule.{is_user, is_holder, users, holders, pins_in, ShowsMarks, ShowsHolds, StillHolds, hold_word, last_key, caller, bare, Shows}
+use Rattle.kf_words.specs.Layout.{bit, active_word, hold_word, is_drained}
+use Rattle.kf_words.specs.Rule.{is_user, is_hider, is_holder, users, hiders, holders, pins_in, ShowsMarks, ShowsHolds, StillHolds, last_key, caller, bare, Shows}
 use Rattle.kf_words.specs.Steps.{on_active, after_split, new_hold, with_look}
 use Rattle.kf_words.proofs.Bits.{drained_shows}
 use Rattle.kf_words.proofs.Seating.{at_caller, tally-push, tally-one}
@@ -32,8 +33,9 @@ module _ (words : List ℕ) (m : MasterView) (cs : List CallerView) (shows : Sho
     wide = shows.wide;
     few = shows.few;
     pinned = (let a = length-append cs (new_hold (last_key slot state) ∷ []) in let b = shows.pinned in omega arith);
-    marks = λ k y at. subst (λ (n : ℕ). ShowsMarks (get_or words k 0) y.marks n) (sym (no_user k)) (shows.marks k y at);
-    holds = λ k y at. subst (λ (n : ℕ). ShowsHolds m.limit (hold_word words m k) y n) (sym (same_holds k)) (shows.holds k y at);
+    marks = λ k y at. subst (λ (n : ℕ). ShowsMarks (active_word words k) y.marks n (hiders k (cs ++ new_hold (last_key slot state) ∷ []))) (sym (no_user k))
+        (subst (λ (n : ℕ). ShowsMarks (active_word words k) y.marks (users k cs) n) (sym (no_hider k)) (shows.marks k y at));
+    holds = λ k y at. subst (λ (n : ℕ). ShowsHolds m.limit (hold_word words k) y n) (sym (same_holds k)) (shows.holds k y at);
     tries = λ i y e. ⊎_elim (λ old. shows.tries i y old) (λ (new : new_hold (last_key slot state) ≡ y). λ t. absurd (let a : false ≡ true = ap (λ (z : CallerView). z.undo_due) new ∙ t in cc)) (at_snoc cs (new_hold (last_key slot state)) y i e);
     loads = shows.loads;
     fresh = λ i e. absurd (none-some i e);
@@ -43,9 +45,10 @@ module _ (words : List ℕ) (m : MasterView) (cs : List CallerView) (shows : Sho
         (λ d y h. after_push (map caller cs) d (caller (new_hold (last_key slot state))) y h)
         (λ e. absurd (let x : Still ≡ Running = e in cc))
         (λ e. absurd (let x : saw_drain Still ≡ true = e in cc))
-        (λ e. absurd (let x : saw_drain Still ≡ true = e in cc))
+        (λ e. absurd (let x : saw_unused Still ≡ true = e in cc))
         (λ e. absurd (let x : Still ≡ Parted = e in cc))
-        (λ _. (state, its, refl)));
+        (λ _. (state, its, refl))
+        (one_after_push (map caller cs) (caller (new_hold (last_key slot state))) refl shows.safe.one_hides));
   }
     where
       c : CallerView
@@ -57,6 +60,9 @@ module _ (words : List ℕ) (m : MasterView) (cs : List CallerView) (shows : Sho
 
       no_user : (k : ℕ) → users k (cs ++ new_hold (last_key slot state) ∷ []) ≡ users k cs
       no_user k = let a = tally-push (is_user k) cs (new_hold (last_key slot state)) in let b : bit (is_user k (new_hold (last_key slot state))) 1 ≡ 0 = off (eqb slot k) in omega arith
+
+      no_hider : (k : ℕ) → hiders k (cs ++ new_hold (last_key slot state) ∷ []) ≡ hiders k cs
+      no_hider k = let a = tally-push (is_hider k) cs (new_hold (last_key slot state)) in let b : bit (is_hider k (new_hold (last_key slot state))) 1 ≡ 0 = off (eqb slot k) in omega arith
 
       one_of : (b : Bool) → bit (b && true) 1 ≡ bit b 1
       one_of true = refl
@@ -70,7 +76,7 @@ module _ (words : List ℕ) (m : MasterView) (cs : List CallerView) (shows : Sho
           omega arith
 
   -- a load of a hold word, and one of an active word
-  pub load_kept : (k : ℕ) → Shows words (record (on_active m) { loads = m.loads ++ record { slot = k; word = hold_word words m k } ∷ [] }) cs
+  pub load_kept : (k : ℕ) → Shows words (record (on_active m) { loads = m.loads ++ record { slot = k; word = hold_word words k } ∷ [] }) cs
   load_kept k = record {
     wide = shows.wide;
     few = shows.few;
@@ -79,15 +85,15 @@ module _ (words : List ℕ) (m : MasterView) (cs : List CallerView) (shows : Sho
     holds = shows.holds;
     tries = shows.tries;
     loads = λ i load e. ⊎_elim
-        (λ (new : (record { slot = k; word = hold_word words m k }) ≡ load). subst (λ (x : Load). StillHolds m.limit x.word (hold_word words m x.slot)) new ((λ f. f), (λ r. r)))
+        (λ (new : (record { slot = k; word = hold_word words k }) ≡ load). subst (λ (x : Load). StillHolds m.limit x.word (hold_word words x.slot)) new ((λ f. f), (λ r. r)))
         (λ old. shows.loads i load old)
-        (after_push m.loads i (record { slot = k; word = hold_word words m k }) load e);
+        (after_push m.loads i (record { slot = k; word = hold_word words k }) load e);
     fresh = λ i e. absurd (none-some i e);
     looked = λ load x e hit at. absurd (none-some load e);
     safe = shows.safe;
   }
 
-  pub look_kept : (slot : ℕ) → Shows words (with_look slot (get_or words slot 0) m) cs
+  pub look_kept : (slot : ℕ) → Shows words (with_look slot (active_word words slot) m) cs
   look_kept slot = record {
     wide = shows.wide;
     few = shows.few;
@@ -100,7 +106,7 @@ module _ (words : List ℕ) (m : MasterView) (cs : List CallerView) (shows : Sho
     looked = λ load x e hit at. subst
         (λ (y : Load). is_drained y.word ≡ true → slice_get m.slots y.slot ≡ Some x → (are_doomed x.marks ≡ true) × NoneRunning (bare m cs) (last_key y.slot x))
         (same_Some _ _ e)
-        (λ found here. let s = drained_shows (get_or words slot 0) x.marks (users slot cs) (users_few words m cs shows slot x here) (shows.marks slot x here) found in (s.1, nobody_runs slot x s.0))
+        (λ found here. let s = drained_shows (active_word words slot) x.marks (users slot cs) (hiders slot cs) (users_few words m cs shows slot x here) (shows.marks slot x here) found in (s.1, nobody_runs slot x s.0))
         hit at;
     safe = shows.safe;
   }

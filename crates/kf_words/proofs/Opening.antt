@@ -1,6 +1,7 @@
 -- The opening meets the rule.
-use Rattle.std.proofs.Common.{◌≡◌, ◌≢◌, ℕ, zero, suc, ◌+◌, ◌*◌, ◌<◌, ◌≤◌, true, false, List, [], ◌++◌, length, length-append, length-set, set, get_or, replicate, refl, sym, ap, ◌∙◌, subst, arith, get_or-set_same, get_or-set_other}
+use Rattle.std.proofs.Common.{◌≡◌, ◌≢◌, ℕ, zero, suc, ◌+◌, ◌*◌, ◌<◌, ◌≤◌, true, false, List, [], length, length-set, set, get_or, replicate, refl, sym, ap, ◌∙◌, subst, arith, get_or-set_same, get_or-set_other}
 use Rattle.std.specs.Prelude.{slice_get, Some, None}
+use Rattle.std.specs.List.{repeat}
 use Rattle.std.proofs.lemmas.Option.{slice_get_within, none-some, same_Some}
 use mathlib.Core.Logic.{dite}
 use mathlib.Core.Option.{some-ne-none}
@@ -12,8 +13,8 @@ use Rattle.kf_core.specs.Safe.{Safe}
 use Rattle.kf_core.proofs.Lists.{slice_get-set_same, slice_get-set_other}
 use Rattle.kf_words.specs.declared.view.MasterView.{MasterView}
 use Rattle.kf_words.specs.declared.view.View.TheVariants as seat
-use Rattle.kf_words.specs.Layout.{bias, linked, one_generation, opening_words}
-use Rattle.kf_words.specs.Rule.{ShowsMarks, ShowsHolds, hold_word, bare, Shown}
+use Rattle.kf_words.specs.Layout.{bias, linked, one_generation, line_words, active_index, hold_index, active_word, hold_word, empty_line, opening_words}
+use Rattle.kf_words.specs.Rule.{ShowsMarks, ShowsHolds, bare, Shown}
 use Rattle.kf_words.specs.Steps.{opened}
 
 length-replicate : {X : Type 0} (n : ℕ) (x : X) → length (replicate n x) ≡ n
@@ -25,20 +26,35 @@ replicated zero i x y e = absurd (none-some y e)
 replicated (suc n) zero x y e = same_Some x y e
 replicated (suc n) (suc i) x y e = replicated n i x y e
 
-at_replicate : (n i x : ℕ) → i < n → get_or (replicate n x) i 0 ≡ x
-at_replicate zero i x h = absurd (omega arith)
-at_replicate (suc n) zero x h = refl
-at_replicate (suc n) (suc i) x h = at_replicate n i x (omega arith)
+-- a line further
+abbrev past_line : ℕ → ℕ
+past_line i = suc (suc (suc (suc (suc (suc (suc (suc i)))))))
 
-in_front : (n i x : ℕ) (ys : List ℕ) → i < n → get_or (replicate n x ++ ys) i 0 ≡ x
-in_front zero i x ys h = absurd (omega arith)
-in_front (suc n) zero x ys h = refl
-in_front (suc n) (suc i) x ys h = in_front n i x ys (omega arith)
+length-lines : (n start : ℕ) → length (repeat n (empty_line start)) ≡ n * line_words
+length-lines zero start = refl
+length-lines (suc n) start =
+    let rest = length-lines n start in
+    let further : past_line (n * line_words) ≡ suc n * line_words = omega arith in
+    ap past_line rest ∙ further
 
-behind : (n m i x y : ℕ) → n ≤ i → i < n + m → get_or (replicate n x ++ replicate m y) i 0 ≡ y
-behind zero m i x y h near = at_replicate m i y (omega arith)
-behind (suc n) m zero x y h near = absurd (omega arith)
-behind (suc n) m (suc i) x y h near = behind n m i x y (omega arith) (omega arith)
+active_there : (n k start : ℕ) → k < n → active_word (repeat n (empty_line start)) k ≡ bias
+active_there zero k start h = absurd (omega arith)
+active_there (suc n) zero start h = refl
+active_there (suc n) (suc k) start h =
+    let further : active_index (suc k) ≡ past_line (active_index k) = omega arith in
+    ap (λ (i : ℕ). get_or (repeat (suc n) (empty_line start)) i 0) further ∙ active_there n k start (omega arith)
+
+hold_there : (n k start : ℕ) → k < n → hold_word (repeat n (empty_line start)) k ≡ start * one_generation
+hold_there zero k start h = absurd (omega arith)
+hold_there (suc n) zero start h = refl
+hold_there (suc n) (suc k) start h =
+    let further : hold_index (suc k) ≡ past_line (hold_index k) = omega arith in
+    ap (λ (i : ℕ). get_or (repeat (suc n) (empty_line start)) i 0) further ∙ hold_there n k start (omega arith)
+
+pub length-words : (slots start : ℕ) → length (opening_words slots start) ≡ slots * line_words
+length-words slots start =
+    length-set (set (repeat slots (empty_line start)) (active_index 0) 0) (hold_index 0) ((start + 1) * one_generation + linked)
+    ∙ length-set (repeat slots (empty_line start)) (active_index 0) 0 ∙ length-lines slots start
 
 abbrev unborn : ℕ → SlotState
 unborn start = record { generation = start; marks = None }
@@ -51,7 +67,13 @@ module _ (slots limit start : ℕ) (some_slot : 1 ≤ slots) (few : limit ≤ 65
   m = opened limit slots start
 
   abbrev plain : List ℕ
-  plain = replicate slots bias ++ replicate slots (start * one_generation)
+  plain = repeat slots (empty_line start)
+
+  abbrev rooted : List ℕ
+  rooted = set plain (active_index 0) 0
+
+  abbrev root_holds : ℕ
+  root_holds = (start + 1) * one_generation + linked
 
   abbrev words : List ℕ
   words = opening_words slots start
@@ -59,14 +81,11 @@ module _ (slots limit start : ℕ) (some_slot : 1 ≤ slots) (few : limit ≤ 65
   all : length m.slots ≡ slots
   all = length-set (replicate slots (unborn start)) 0 (root start) ∙ length-replicate slots (unborn start)
 
-  all_plain : length plain ≡ slots + slots
-  all_plain =
-      length-append (replicate slots bias) (replicate slots (start * one_generation))
-      ∙ ap (λ (n : ℕ). n + length (replicate slots (start * one_generation))) (length-replicate slots bias)
-      ∙ ap (λ (n : ℕ). slots + n) (length-replicate slots (start * one_generation))
+  all_plain : length plain ≡ slots * line_words
+  all_plain = length-lines slots start
 
-  all_words : length words ≡ slots + slots
-  all_words = length-set (set plain 0 0) slots ((start + 1) * one_generation + linked) ∙ length-set plain 0 0 ∙ all_plain
+  all_words : length words ≡ slots * line_words
+  all_words = length-words slots start
 
   -- the root's slot, and any other
   root_here : (state : SlotState) → slice_get m.slots 0 ≡ Some state → root start ≡ state
@@ -77,43 +96,41 @@ module _ (slots limit start : ℕ) (some_slot : 1 ≤ slots) (few : limit ≤ 65
   unborn_there : (k : ℕ) (state : SlotState) → k ≢ 0 → slice_get m.slots k ≡ Some state → unborn start ≡ state
   unborn_there k state ne its = replicated slots k (unborn start) state (sym (slice_get-set_other (replicate slots (unborn start)) 0 k (root start) ne) ∙ its)
 
-  root_word : get_or words 0 0 ≡ 0
-  root_word = let long = all_plain in get_or-set_other (set plain 0 0) slots 0 ((start + 1) * one_generation + linked) 0 (λ e. omega arith) ∙ get_or-set_same plain 0 0 0 (omega arith)
+  root_word : active_word words 0 ≡ 0
+  root_word =
+      let long = all_plain in
+      get_or-set_other rooted (hold_index 0) (active_index 0) root_holds 0 (λ e. omega arith) ∙ get_or-set_same plain (active_index 0) 0 0 (omega arith)
 
-  other_word : (k : ℕ) → k ≢ 0 → k < slots → get_or words k 0 ≡ bias
+  other_word : (k : ℕ) → k ≢ 0 → k < slots → active_word words k ≡ bias
   other_word k ne near =
-      get_or-set_other (set plain 0 0) slots k ((start + 1) * one_generation + linked) 0 (λ e. omega arith) ∙ get_or-set_other plain 0 k 0 0 ne ∙ in_front slots k bias (replicate slots (start * one_generation)) near
+      get_or-set_other rooted (hold_index 0) (active_index k) root_holds 0 (λ e. omega arith)
+      ∙ get_or-set_other plain (active_index 0) (active_index k) 0 0 (λ e. ne (omega arith)) ∙ active_there slots k start near
 
-  root_hold : hold_word words m 0 ≡ (start + 1) * one_generation + linked
+  root_hold : hold_word words 0 ≡ root_holds
   root_hold =
       let long = all_plain in
-      let long' = length-set plain 0 0 in
-      let count = all in
-      let index : length m.slots + 0 ≡ slots = omega arith in
-      ap (λ (i : ℕ). get_or words i 0) index ∙ get_or-set_same (set plain 0 0) slots ((start + 1) * one_generation + linked) 0 (omega arith)
+      let long' = length-set plain (active_index 0) 0 in
+      get_or-set_same rooted (hold_index 0) root_holds 0 (omega arith)
 
-  other_hold : (k : ℕ) → k ≢ 0 → k < slots → hold_word words m k ≡ start * one_generation
+  other_hold : (k : ℕ) → k ≢ 0 → k < slots → hold_word words k ≡ start * one_generation
   other_hold k ne near =
-      let count = all in
-      let index : length m.slots + k ≡ slots + k = omega arith in
-      ap (λ (i : ℕ). get_or words i 0) index
-      ∙ get_or-set_other (set plain 0 0) slots (slots + k) ((start + 1) * one_generation + linked) 0 (λ e. ne (omega arith))
-      ∙ get_or-set_other plain 0 (slots + k) 0 0 (λ e. omega arith) ∙ behind slots slots (slots + k) bias (start * one_generation) (omega arith) (omega arith)
+      get_or-set_other rooted (hold_index 0) (hold_index k) root_holds 0 (λ e. ne (omega arith))
+      ∙ get_or-set_other plain (active_index 0) (hold_index k) 0 0 (λ e. omega arith) ∙ hold_there slots k start near
 
   within : (k : ℕ) (state : SlotState) → slice_get m.slots k ≡ Some state → k < slots
   within k state its = let near = slice_get_within m.slots k state its in let count = all in omega arith
 
-  marks : (k : ℕ) (state : SlotState) → slice_get m.slots k ≡ Some state → ShowsMarks (get_or words k 0) state.marks 0
+  marks : (k : ℕ) (state : SlotState) → slice_get m.slots k ≡ Some state → ShowsMarks (active_word words k) state.marks 0 0
   marks k state its = dite (ℕ_discrete k 0)
-      (λ e. subst (λ (i : ℕ). ShowsMarks (get_or words i 0) state.marks 0) (sym e)
-      (subst (λ (s : SlotState). ShowsMarks (get_or words 0 0) s.marks 0) (root_here state (subst (λ (i : ℕ). slice_get m.slots i ≡ Some state) e its)) (false, root_word, λ _. refl)))
-      (λ ne. subst (λ (s : SlotState). ShowsMarks (get_or words k 0) s.marks 0) (unborn_there k state ne its) (false, other_word k ne (within k state its), λ e. absurd (let x : false ≡ true = e in cc)))
+      (λ e. subst (λ (i : ℕ). ShowsMarks (active_word words i) state.marks 0 0) (sym e)
+      (subst (λ (s : SlotState). ShowsMarks (active_word words 0) s.marks 0 0) (root_here state (subst (λ (i : ℕ). slice_get m.slots i ≡ Some state) e its)) (false, root_word, (λ _. refl), omega arith)))
+      (λ ne. subst (λ (s : SlotState). ShowsMarks (active_word words k) s.marks 0 0) (unborn_there k state ne its) (false, other_word k ne (within k state its), (λ e. absurd (let x : false ≡ true = e in cc)), omega arith))
 
-  holds : (k : ℕ) (state : SlotState) → slice_get m.slots k ≡ Some state → ShowsHolds limit (hold_word words m k) state 0
+  holds : (k : ℕ) (state : SlotState) → slice_get m.slots k ≡ Some state → ShowsHolds limit (hold_word words k) state 0
   holds k state its = dite (ℕ_discrete k 0)
-      (λ e. subst (λ (i : ℕ). ShowsHolds limit (hold_word words m i) state 0) (sym e)
-      (subst (λ (s : SlotState). ShowsHolds limit (hold_word words m 0) s 0) (root_here state (subst (λ (i : ℕ). slice_get m.slots i ≡ Some state) e its)) ((let w = root_hold in omega arith), omega arith)))
-      (λ ne. subst (λ (s : SlotState). ShowsHolds limit (hold_word words m k) s 0) (unborn_there k state ne its) ((let w = other_hold k ne (within k state its) in omega arith), omega arith))
+      (λ e. subst (λ (i : ℕ). ShowsHolds limit (hold_word words i) state 0) (sym e)
+      (subst (λ (s : SlotState). ShowsHolds limit (hold_word words 0) s 0) (root_here state (subst (λ (i : ℕ). slice_get m.slots i ≡ Some state) e its)) ((let w = root_hold in omega arith), omega arith)))
+      (λ ne. subst (λ (s : SlotState). ShowsHolds limit (hold_word words k) s 0) (unborn_there k state ne its) ((let w = other_hold k ne (within k state its) in omega arith), omega arith))
 
   safe : Safe (bare m [])
   safe = record {
@@ -122,6 +139,7 @@ module _ (slots limit start : ℕ) (some_slot : 1 ≤ slots) (few : limit ≤ 65
     parted_gone = λ c key h. absurd (none-some _ h);
     held_last = λ c key phase h holds. absurd (none-some _ h);
     running_linked = λ c key h. absurd (none-some _ h);
+    one_hides = λ c key phase h hiding. absurd (none-some _ h);
   }
 
   pub opening_shown : Shown slots limit (opening words [] (seat.Master m))
@@ -132,7 +150,7 @@ module _ (slots limit start : ℕ) (some_slot : 1 ≤ slots) (few : limit ≤ 65
     all_slots = all;
     most_holds = refl;
     shows = record {
-      wide = (let a = all in let b = all_words in omega arith);
+      wide = all_words ∙ ap (λ (n : ℕ). n * line_words) (sym all);
       few = few;
       pinned = refl;
       marks = marks;

@@ -4,12 +4,12 @@ pub use Rattle.atomic_table.specs.Seated.{TableId}
 use Rattle.kf_core.specs.declared.key.Key.{Key}
 use Rattle.kf_core.specs.declared.key.Node.{Node}
 use Rattle.kf_core.specs.declared.caller.Phase.{Phase}
-use Rattle.kf_core.specs.declared.caller.Phase.TheVariants.{Still, Turned, Running, Broken, Restored, Drained, Parted, Spent}
+use Rattle.kf_core.specs.declared.caller.Phase.TheVariants.{Still, Turned, Running, Broken, Restored, Drained, Parted, Hiding, Hidden, Spent}
 use Rattle.kf_core.specs.Phases.{has_reference, is_waiting}
 use Rattle.kf_words.specs.declared.seat.CallerSeat.{CallerSeat}
 use Rattle.kf_words.specs.declared.view.CallerView.{CallerView}
-use Rattle.kf_words.specs.Layout.{keeps_out, is_drained, has_linked}
-use Rattle.kf_words.specs.Steps.{caller_of}
+use Rattle.kf_words.specs.Layout.{active_index, hold_index, keeps_out, is_drained, has_hide, is_unused, has_linked}
+use Rattle.kf_words.specs.Steps.{caller_of, WasFound}
 
 pub record Handle : Type 0 where
   pub table : TableId  -- which table of words
@@ -62,6 +62,8 @@ is_in_call Broken = true
 is_in_call Restored = true
 is_in_call Drained = false
 is_in_call Parted = false
+is_in_call Hiding = false
+is_in_call Hidden = false
 is_in_call Spent = false
 
 -- no reference, and no try to undo
@@ -112,6 +114,38 @@ SawParted before after = (after.phase ≡ Parted) × (after.steps ≡ before.ste
 abbrev pub SawLinked : Handle → Handle → Type 0
 SawLinked before after = (after.phase ≡ before.phase) × (after.steps ≡ before.steps + 1) × (has_linked after.found ≡ true)
 
+-- its one step set the bit of a hidden key
+abbrev pub WasHidden : Handle → Handle → Type 0
+WasHidden before after = (after.phase ≡ Hiding) × (after.steps ≡ before.steps + 1) × (has_hide after.found ≡ false)
+
+-- its one step found the bit set
+abbrev pub FoundHidden : Handle → Handle → Type 0
+FoundHidden before after = (after.phase ≡ before.phase) × (after.steps ≡ before.steps + 1) × (has_hide after.found ≡ true)
+
+-- its one step found nobody who uses the node
+abbrev pub SawUnused : Handle → Handle → Type 0
+SawUnused before after = (after.phase ≡ Hidden) × (after.steps ≡ before.steps + 1) × (is_unused after.found ≡ true)
+
+-- its one step found somebody
+abbrev pub SawUser : Handle → Handle → Type 0
+SawUser before after = (after.phase ≡ before.phase) × (after.steps ≡ before.steps + 1) × (is_unused after.found ≡ false)
+
+-- one step took the bit of a hidden key off, which it found set
+abbrev pub WasShown : Handle → Handle → Type 0
+WasShown before after = (after.phase ≡ Still) × (after.steps ≡ before.steps + 1) × (has_hide after.found ≡ true)
+
 -- one step gave the hold of the slot back
 abbrev pub WasReleased : Handle → Handle → Type 0
 WasReleased before after = (after.phase ≡ Spent) × (after.steps ≡ before.steps + 1)
+
+-- the view of the seat
+abbrev pub seat_view : Handle → CallerView
+seat_view h = record { key = h.key; phase = h.phase; steps = h.steps; tries = h.tries; found = h.found; undo_due = h.undo_due }
+
+-- once, while the rule held and this seat was as told, the active word of its slot was as found
+abbrev pub FoundThere : Handle → ℕ → Type 0
+FoundThere h found = WasFound (seat_view h) (active_index h.key.slot) found
+
+-- and its hold word
+abbrev pub FoundInHold : Handle → ℕ → Type 0
+FoundInHold h found = WasFound (seat_view h) (hold_index h.key.slot) found

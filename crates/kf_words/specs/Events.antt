@@ -1,12 +1,12 @@
 -- Which event each step of a seat is, on the world that the views name.
-use Rattle.std.specs.Prelude.{◌≡◌, ℕ, ◌+◌, List, [], ◌∷◌, ◌++◌, length, Some, is_some, slice_get, slice_set, slice_index, true, false}
+use Rattle.std.specs.Prelude.{◌≡◌, ◌≢◌, ℕ, ◌+◌, List, [], ◌∷◌, ◌++◌, length, Some, is_some, slice_get, slice_set, true, false}
 use Rattle.atomic_table.specs.Table.{State}
 use Rattle.kf_core.specs.declared.key.Key.{Key}
 use Rattle.kf_core.specs.declared.key.Node.{Node}
 use Rattle.kf_core.specs.declared.name_bytes.NameBytes.{NameBytes}
-use Rattle.kf_core.specs.declared.caller.Phase.TheVariants.{Turned, Running, Broken, Drained}
+use Rattle.kf_core.specs.declared.caller.Phase.TheVariants.{Turned, Running, Broken, Drained, Hiding, Hidden, Spent}
 use Rattle.kf_core.specs.declared.event.Event.{Event}
-use Rattle.kf_core.specs.declared.event.Event.TheVariants.{Born, Rise, Mark, Pin, Enter, Leave, Break, Restore, Look, Unlink, Part, Release, Undo}
+use Rattle.kf_core.specs.declared.event.Event.TheVariants.{Born, Rise, Mark, Pin, Enter, Leave, Break, Restore, Look, Unlink, Part, Hide, LookHidden, Show, Release, Undo}
 use Rattle.kf_core.specs.declared.slot.Marks.{Marks}
 use Rattle.kf_core.specs.declared.slot.SlotState.{SlotState}
 use Rattle.kf_core.specs.Marks.{fresh_marks}
@@ -15,9 +15,9 @@ use Rattle.kf_core.specs.Steps.{BareStep, MayPin}
 use Rattle.kf_words.specs.declared.view.CallerView.{CallerView}
 use Rattle.kf_words.specs.declared.view.MasterView.{MasterView}
 use Rattle.kf_words.specs.declared.view.View.{View}
-use Rattle.kf_words.specs.Layout.{is_drained, has_linked}
-use Rattle.kf_words.specs.Rule.{Shown, bare, last_key, hold_word}
-use Rattle.kf_words.specs.Steps.{after_try, after_undo, after_leave, after_break, after_restore, after_look, after_part, after_release, with_load, with_pin, without_pin, with_look, after_store, after_split, hold_for, with_birth, with_marks, activated_marks, doomed_marks, without_node}
+use Rattle.kf_words.specs.Layout.{active_word, hold_word, is_drained, has_hide, is_unused, has_linked}
+use Rattle.kf_words.specs.Rule.{Shown, bare, last_key}
+use Rattle.kf_words.specs.Steps.{after_try, after_undo, after_leave, after_break, after_restore, after_look, after_part, after_hide, after_look_hidden, after_show, after_release, with_load, with_pin, without_pin, with_look, after_store, after_split, hold_for, with_birth, with_marks, activated_marks, doomed_marks, without_node}
 use Rattle.kf_words.specs.Callers.{IsAtRest, HasReference, IsIn}
 use Rattle.kf_words.specs.Nodes.{marks_of}
 
@@ -39,7 +39,7 @@ Changes m cs m' event = BareStep (bare m cs) event (bare m' cs)
 
 -- a try, which finds the active word as it is, is an Enter: the caller runs exactly where its node is live
 abbrev pub TryIsEnter : Type 0
-TryIsEnter = OfEachCaller (λ words m cs j c. IsAtRest c → Moves m cs j (after_try (slice_index words c.key.slot) c) (Enter j))
+TryIsEnter = OfEachCaller (λ words m cs j c. IsAtRest c → Moves m cs j (after_try (active_word words c.key.slot) c) (Enter j))
 
 -- the second step of a refused try is an Undo
 abbrev pub UndoIsUndo : Type 0
@@ -47,11 +47,11 @@ UndoIsUndo = OfEachCaller (λ words m cs j c. c.phase ≡ Turned → c.undo_due 
 
 -- a look that finds the word drained is a Look
 abbrev pub LookIsLook : Type 0
-LookIsLook = OfEachCaller (λ words m cs j c. IsAtRest c → is_drained (slice_index words c.key.slot) ≡ true → Moves m cs j (after_look (slice_index words c.key.slot) c) (Look j))
+LookIsLook = OfEachCaller (λ words m cs j c. IsAtRest c → is_drained (active_word words c.key.slot) ≡ true → Moves m cs j (after_look (active_word words c.key.slot) c) (Look j))
 
 -- a load that finds no node linked is a Part
 abbrev pub PartIsPart : Type 0
-PartIsPart = OfEachCaller (λ words m cs j c. IsIn Drained c → has_linked (hold_word words m c.key.slot) ≡ false → Moves m cs j (after_part (hold_word words m c.key.slot) c) (Part j))
+PartIsPart = OfEachCaller (λ words m cs j c. IsIn Drained c → has_linked (hold_word words c.key.slot) ≡ false → Moves m cs j (after_part (hold_word words c.key.slot) c) (Part j))
 
 -- the end of a call is a Leave, and so on: each at any word that it finds
 abbrev pub LeaveIsLeave : Type 0
@@ -66,9 +66,22 @@ RestoreIsRestore = OfEachCaller (λ words m cs j c. IsIn Broken c → (found : �
 abbrev pub ReleaseIsRelease : Type 0
 ReleaseIsRelease = OfEachCaller (λ words m cs j c. may_release c.phase ≡ true → (found : ℕ) → Moves m cs j (after_release found c) (Release j))
 
+-- the bit of a hidden key set where the word had it clear is a Hide
+abbrev pub HideIsHide : Type 0
+HideIsHide = OfEachCaller (λ words m cs j c. IsAtRest c → has_hide (active_word words c.key.slot) ≡ false → Moves m cs j (after_hide (active_word words c.key.slot) c) (Hide j))
+
+-- a load by a hider that finds nobody who uses the node is a LookHidden
+abbrev pub LookHiddenIsLook : Type 0
+LookHiddenIsLook = OfEachCaller (λ words m cs j c. IsIn Hiding c → is_unused (active_word words c.key.slot) ≡ true → Moves m cs j (after_look_hidden (active_word words c.key.slot) c) (LookHidden j))
+
+-- the bit taken off is a Show
+abbrev pub ShowIsShow : Type 0
+ShowIsShow = OfEachCaller (λ words m cs j c. IsIn Hidden c → (found : ℕ) → Moves m cs j (after_show found c) (Show j))
+
 -- a look that finds another word, and a load that finds a node linked, leave the world as it is
 abbrev pub MissIsNothing : Type 0
-MissIsNothing = OfEachCaller (λ words m cs j c. (found : ℕ) → (is_drained found ≡ false → bare m (slice_set cs j (after_look found c)) ≡ bare m cs) × (has_linked found ≡ true → bare m (slice_set cs j (after_part found c)) ≡ bare m cs))
+MissIsNothing = OfEachCaller (λ words m cs j c. (found : ℕ) → (is_drained found ≡ false → bare m (slice_set cs j (after_look found c)) ≡ bare m cs) × (has_linked found ≡ true → bare m (slice_set cs j (after_part found c)) ≡ bare m cs)
+    × (has_hide found ≡ true → bare m (slice_set cs j (after_hide found c)) ≡ bare m cs) × (is_unused found ≡ false → bare m (slice_set cs j (after_look_hidden found c)) ≡ bare m cs))
 
 -- the bias taken off the active word of a fresh node is a Rise, and the mark of one not doomed a Mark
 abbrev pub RiseIsRise : Type 0
@@ -90,6 +103,11 @@ UnlinkIsUnlink = OfTheMaster (λ m cs. (j : ℕ) (c : CallerView) → slice_get 
 abbrev pub SplitIsPin : Type 0
 SplitIsPin = OfTheMaster (λ m cs. (slot : ℕ) (state : SlotState) → m.pinning ≡ Some slot → slice_get m.slots slot ≡ Some state → MayPin (bare m cs) (last_key slot state)
     → BareStep (bare m cs) (Pin (length cs) (last_key slot state)) (bare (after_split m) (cs ++ hold_for m m.pinning ∷ [])))
+
+-- so it is of the key of whoever holds the slot
+abbrev pub HeldSplitIsPin : Type 0
+HeldSplitIsPin = OfEachCaller (λ words m cs j c. c.phase ≢ Spent → m.pinning ≡ Some c.key.slot
+    → BareStep (bare m cs) (Pin (length cs) c.key) (bare (after_split m) (cs ++ hold_for m m.pinning ∷ [])))
 
 -- the Master's other steps leave the world as it is
 abbrev pub RestIsNothing : Type 0

@@ -1,13 +1,17 @@
 -- What the words tell at every moment, whatever steps the seats have made.
-use Rattle.std.specs.Prelude.{◌≡◌, ℕ, not, Some, None, is_some, slice_get, slice_index, true}
+use Rattle.std.specs.Prelude.{◌≡◌, ℕ, ◌-◌, not, Some, None, is_some, slice_get, true}
 use Rattle.atomic_table.specs.Table.{State}
 use Rattle.kf_core.specs.declared.slot.SlotState.{SlotState}
 use Rattle.kf_core.specs.Marks.{are_live, are_doomed}
-use Rattle.kf_core.specs.Safe.{Safe}
+use Rattle.kf_core.specs.declared.caller.Phase.TheVariants.{Hidden}
+use Rattle.kf_core.specs.Bare.{marks, is_live, is_hidden}
+use Rattle.kf_core.specs.Phases.{is_hiding}
+use Rattle.kf_core.specs.Safe.{Safe, NoneRunning}
 use Rattle.kf_core.specs.Steps.{NoReference, OnlySpent}
+use Rattle.kf_words.specs.declared.view.CallerView.{CallerView}
 use Rattle.kf_words.specs.declared.view.View.{View}
-use Rattle.kf_words.specs.Layout.{keeps_out, is_drained, has_linked, IsFree}
-use Rattle.kf_words.specs.Rule.{Shown, bare, last_key, hold_word}
+use Rattle.kf_words.specs.Layout.{hide, active_word, hold_word, keeps_out, has_bias, has_hide, is_drained, has_linked, IsFree}
+use Rattle.kf_words.specs.Rule.{Shown, bare, last_key}
 
 -- the world that the views name is safe
 abbrev pub AlwaysSafe : Type 0
@@ -16,19 +20,34 @@ AlwaysSafe = (slots limit : ℕ) (t : State (Unit {0}) View) (shown : Shown slot
 -- a slot's active word lets a try in exactly where the slot's last key is live
 abbrev pub LetsInTheLive : Type 0
 LetsInTheLive = (slots limit : ℕ) (t : State (Unit {0}) View) (shown : Shown slots limit t) (slot : ℕ) (state : SlotState) → slice_get shown.master.slots slot ≡ Some state
-    → keeps_out (slice_index t.words slot) ≡ not (are_live state.marks)
+    → keeps_out (active_word t.words slot) ≡ not (is_live (bare shown.master shown.callers) (last_key slot state))
+
+-- it has bias exactly where that key is not linked, activated and undoomed, and hide exactly where a caller hides it
+abbrev pub TellsTheHidden : Type 0
+TellsTheHidden = (slots limit : ℕ) (t : State (Unit {0}) View) (shown : Shown slots limit t) (slot : ℕ) (state : SlotState) → slice_get shown.master.slots slot ≡ Some state
+    → (has_bias (active_word t.words slot) ≡ not (are_live state.marks)) × (has_hide (active_word t.words slot) ≡ is_hidden (bare shown.master shown.callers) (last_key slot state))
+
+-- while a caller hides its key a try there is refused, and once it is hidden nobody is running there
+abbrev pub HiddenIsRefused : Type 0
+HiddenIsRefused = (slots limit : ℕ) (t : State (Unit {0}) View) (shown : Shown slots limit t) (j : ℕ) (c : CallerView) → slice_get shown.callers j ≡ Some c → is_hiding c.phase ≡ true
+    → (keeps_out (active_word t.words c.key.slot) ≡ true) × (c.phase ≡ Hidden → NoneRunning (bare shown.master shown.callers) c.key)
+
+-- the step by which a hidden caller shows its key again takes the bit off and leaves the rest, and the word then lets a try in exactly where the key is linked, activated and undoomed, also where it was activated or doomed meanwhile
+abbrev pub ShownLetsIn : Type 0
+ShownLetsIn = (slots limit : ℕ) (t : State (Unit {0}) View) (shown : Shown slots limit t) (j : ℕ) (c : CallerView) → slice_get shown.callers j ≡ Some c → c.phase ≡ Hidden
+    → (has_hide (active_word t.words c.key.slot) ≡ true) × (keeps_out (active_word t.words c.key.slot - hide) ≡ not (are_live (marks (bare shown.master shown.callers) c.key)))
 
 -- where it is drained, the key is doomed and nobody has a reference to it
 abbrev pub DrainedIsUnused : Type 0
 DrainedIsUnused = (slots limit : ℕ) (t : State (Unit {0}) View) (shown : Shown slots limit t) (slot : ℕ) (state : SlotState) → slice_get shown.master.slots slot ≡ Some state
-    → is_drained (slice_index t.words slot) ≡ true → (are_doomed state.marks ≡ true) × NoReference (bare shown.master shown.callers) (last_key slot state)
+    → is_drained (active_word t.words slot) ≡ true → (are_doomed state.marks ≡ true) × NoReference (bare shown.master shown.callers) (last_key slot state)
 
 -- where the slot's hold word is free, no node is linked there and nobody holds the slot
 abbrev pub FreeIsUnheld : Type 0
 FreeIsUnheld = (slots limit : ℕ) (t : State (Unit {0}) View) (shown : Shown slots limit t) (slot : ℕ) (state : SlotState) → slice_get shown.master.slots slot ≡ Some state
-    → IsFree (hold_word t.words shown.master slot) → (state.marks ≡ None) × OnlySpent (bare shown.master shown.callers) slot
+    → IsFree (hold_word t.words slot) → (state.marks ≡ None) × OnlySpent (bare shown.master shown.callers) slot
 
 -- a slot's hold word has the bit of a linked node exactly where one is linked there
 abbrev pub TellsTheLinked : Type 0
 TellsTheLinked = (slots limit : ℕ) (t : State (Unit {0}) View) (shown : Shown slots limit t) (slot : ℕ) (state : SlotState) → slice_get shown.master.slots slot ≡ Some state
-    → has_linked (hold_word t.words shown.master slot) ≡ is_some state.marks
+    → has_linked (hold_word t.words slot) ≡ is_some state.marks

@@ -1,12 +1,37 @@
--- The two words of a slot: where their bits stand, and what is tested of a word that was found.
-use Rattle.std.specs.Prelude.{◌≡◌, ℕ, ◌+◌, ◌*◌, ◌/◌, ◌%◌, ◌<◌, Bool, true, false, ◌==◌, List, ◌++◌, replicate, slice_set}
+-- The two words of a slot: where they stand, where their bits stand, and what is tested of a word that was found.
+use Rattle.std.specs.Prelude.{◌≡◌, ℕ, ◌+◌, ◌*◌, ◌/◌, ◌%◌, ◌<◌, ◌||◌, ◌&&◌, Bool, true, false, ◌==◌, List, [], ◌∷◌, slice_index, slice_set}
+use Rattle.std.specs.List.{repeat}
 
--- in an active word, above the number of its users: the bit of a node that is not live, and the bit of a doomed node
+-- each slot has a cache line of eight words to itself: its active word, behind that its hold word, and six that nobody uses
+abbrev pub line_words : ℕ
+line_words = 8
+
+-- where a slot's words stand
+abbrev pub active_index : ℕ → ℕ
+active_index slot = slot * line_words
+
+abbrev pub hold_index : ℕ → ℕ
+hold_index slot = slot * line_words + 1
+
+-- the slot of the word that stands here
+abbrev pub slot_of : ℕ → ℕ
+slot_of index = index / line_words
+
+abbrev pub active_word : List ℕ → ℕ → ℕ
+active_word words slot = slice_index words (active_index slot)
+
+abbrev pub hold_word : List ℕ → ℕ → ℕ
+hold_word words slot = slice_index words (hold_index slot)
+
+-- in an active word, above the number of its users: the bit of a node that is not at once linked, activated and undoomed, the bit of a doomed node, and the bit of a hidden key
 abbrev pub bias : ℕ
 bias = 4294967296
 
 abbrev pub doom : ℕ
 doom = 8589934592
+
+abbrev pub hide : ℕ
+hide = 17179869184
 
 -- in a hold word, above the number of its holds: the bit of a linked node, and above that the last generation
 abbrev pub linked : ℕ
@@ -20,13 +45,28 @@ abbrev pub bit : Bool → ℕ → ℕ
 bit true b = b
 bit false b = 0
 
+abbrev pub has_bias : ℕ → Bool
+has_bias word = (word / bias) % 2 == 1
+
+-- the key of this active word is hidden
+abbrev pub has_hide : ℕ → Bool
+has_hide word = (word / hide) % 2 == 1
+
 -- a try that finds this active word is refused
 abbrev pub keeps_out : ℕ → Bool
-keeps_out word = (word / bias) % 2 == 1
+keeps_out word = has_bias word || has_hide word
 
--- the node of this active word is doomed, and nobody uses it
+-- the node of this active word is doomed, and nobody uses it, hidden or not
 abbrev pub is_drained : ℕ → Bool
-is_drained word = word == bias + doom
+is_drained word = (word == bias + doom) || (word == bias + doom + hide)
+
+-- nobody uses the node of this active word
+abbrev pub is_unused : ℕ → Bool
+is_unused word = word % bias == 0
+
+-- a sleeper may wait for this active word: the node is doomed or its key hidden, and nobody uses the node
+abbrev pub wants_wake : ℕ → Bool
+wants_wake word = is_drained word || (has_hide word && is_unused word)
 
 -- a node is linked in the slot of this hold word
 abbrev pub has_linked : ℕ → Bool
@@ -44,6 +84,10 @@ IsFree word = (word % one_generation ≡ 0) × (word / one_generation < 42949672
 abbrev pub HasRoom : ℕ → ℕ → Type 0
 HasRoom limit word = holds_in word < limit
 
--- the words at the opening, the active ones first: no slot has had more than `start` generations, but for the root's, which has a live node of the next
+-- the line of a slot that has had `start` generations, and has no node
+abbrev pub empty_line : ℕ → List ℕ
+empty_line start = bias ∷ start * one_generation ∷ 0 ∷ 0 ∷ 0 ∷ 0 ∷ 0 ∷ 0 ∷ []
+
+-- the lines at the opening: no slot has had more than `start` generations, but for the root's, which has a live node of the next
 abbrev pub opening_words : ℕ → ℕ → List ℕ
-opening_words slots start = slice_set (slice_set (replicate slots bias ++ replicate slots (start * one_generation)) 0 0) slots ((start + 1) * one_generation + linked)
+opening_words slots start = slice_set (slice_set (repeat slots (empty_line start)) (active_index 0) 0) (hold_index 0) ((start + 1) * one_generation + linked)

@@ -5,3 +5,4 @@ pub mod Callers
 pub mod Nodes
 pub mod Laws
 pub mod Events
+pub mod Runs

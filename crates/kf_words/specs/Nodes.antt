@@ -33,9 +33,10 @@ marks_of m key = marks_in (slice_get m.slots key.slot) key.generation
 abbrev pub slots_with : List SlotState → Key → Option Marks → List SlotState
 slots_with slots key marks = slice_set slots key.slot (record { generation = key.generation; marks = marks })
 
--- the same table, and nothing about nodes changed
+-- the same table with the same limit of holds, and nothing about nodes changed
 pub record KeepsNodes (old new : MasterState) : Type 0 where
   pub table : new.table ≡ old.table
+  pub limit : new.view.limit ≡ old.view.limit
   pub nodes : new.nodes ≡ old.nodes
   pub slots : new.view.slots ≡ old.view.slots
 

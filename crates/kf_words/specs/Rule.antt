@@ -1,5 +1,5 @@
 -- The rule of the table: what its words show of the views of all seats.
-use Rattle.std.specs.Prelude.{◌≡◌, ℕ, ◌+◌, ◌*◌, ◌≤◌, ◌<◌, Bool, true, List, [], ◌∷◌, map, length, not, ◌&&◌, ◌||◌, ◌==◌, slice_index, slice_get, Option, Some, None, is_some, IsTrue}
+use Rattle.std.specs.Prelude.{◌≡◌, ℕ, ◌+◌, ◌*◌, ◌≤◌, ◌<◌, Bool, true, List, [], ◌∷◌, map, length, not, ◌&&◌, ◌||◌, ◌==◌, slice_get, Option, Some, None, is_some, IsTrue}
 use mathlib.Core.Option.{some}
 use lib.ListN.{get_elem?}
 use Rattle.atomic_table.specs.Table.{State}
@@ -10,14 +10,14 @@ use Rattle.kf_core.specs.declared.slot.Marks.{Marks}
 use Rattle.kf_core.specs.declared.slot.SlotState.{SlotState}
 use Rattle.kf_core.specs.Bare.{BareWorld}
 use Rattle.kf_core.specs.Marks.{are_live, are_doomed}
-use Rattle.kf_core.specs.Phases.{has_reference, is_spent}
+use Rattle.kf_core.specs.Phases.{has_reference, is_hiding, is_spent}
 use Rattle.kf_core.specs.Safe.{Safe, NoneRunning}
 use Rattle.kf_words.specs.declared.view.CallerView.{CallerView}
 use Rattle.kf_words.specs.declared.view.MasterView.{MasterView}
 use Rattle.kf_words.specs.declared.view.Load.{Load}
 use Rattle.kf_words.specs.declared.view.View.{View}
 use Rattle.kf_words.specs.declared.view.View.TheVariants as seat
-use Rattle.kf_words.specs.Layout.{bit, bias, doom, linked, one_generation, is_drained, IsFree, HasRoom}
+use Rattle.kf_words.specs.Layout.{bit, bias, doom, hide, linked, one_generation, line_words, active_word, hold_word, is_drained, IsFree, HasRoom}
 
 -- how many callers pass a test
 abbrev pub tally : (CallerView → Bool) → List CallerView → ℕ
@@ -28,12 +28,19 @@ tally p (c ∷ cs) = bit (p c) 1 + tally p cs
 abbrev pub is_user : ℕ → CallerView → Bool
 is_user slot c = (c.key.slot == slot) && (has_reference c.phase || c.undo_due)
 
+-- the caller hides its key, which has this slot
+abbrev pub is_hider : ℕ → CallerView → Bool
+is_hider slot c = (c.key.slot == slot) && is_hiding c.phase
+
 -- the caller counts in the hold word of this slot
 abbrev pub is_holder : ℕ → CallerView → Bool
 is_holder slot c = (c.key.slot == slot) && not (is_spent c.phase)
 
 abbrev pub users : ℕ → List CallerView → ℕ
 users slot cs = tally (is_user slot) cs
+
+abbrev pub hiders : ℕ → List CallerView → ℕ
+hiders slot cs = tally (is_hider slot) cs
 
 abbrev pub holders : ℕ → List CallerView → ℕ
 holders slot cs = tally (is_holder slot) cs
@@ -43,20 +50,13 @@ abbrev pub pins_in : Option ℕ → ℕ → ℕ
 pins_in None slot = 0
 pins_in (Some s) slot = bit (s == slot) 1
 
--- the active word has so many users, bias unless the node is live, and doom where a linked node is doomed
-abbrev pub ShowsMarks : ℕ → Option Marks → ℕ → Type 0
-ShowsMarks word marks n = (d : Bool) × (word ≡ n + bit (not (are_live marks)) bias + bit d doom) × (IsTrue (is_some marks) → d ≡ are_doomed marks)
+-- the active word has so many users, bias unless the node has the marks of a live one, doom where a linked node is doomed, and hide where a caller hides the key, who is the only one
+abbrev pub ShowsMarks : ℕ → Option Marks → ℕ → ℕ → Type 0
+ShowsMarks word marks n h = (d : Bool) × (word ≡ n + bit (not (are_live marks)) bias + bit d doom + h * hide) × (IsTrue (is_some marks) → d ≡ are_doomed marks) × (h ≤ 1)
 
 -- the hold word has the last generation, the bit of a linked node, and so many holds, which are not too many
 abbrev pub ShowsHolds : ℕ → ℕ → SlotState → ℕ → Type 0
 ShowsHolds limit word state n = (word ≡ state.generation * one_generation + bit (is_some state.marks) linked + n) × (n ≤ limit)
-
--- where the hold word of a slot stands: behind the active words of all slots
-abbrev pub hold_index : MasterView → ℕ → ℕ
-hold_index m slot = length m.slots + slot
-
-abbrev pub hold_word : List ℕ → MasterView → ℕ → ℕ
-hold_word words m slot = slice_index words (hold_index m slot)
 
 -- a slot found free is free, and one found with room has room
 abbrev pub StillHolds : ℕ → ℕ → ℕ → Type 0
@@ -75,20 +75,20 @@ last_key slot state = record { slot = slot; generation = state.generation }
 -- what the words show of the Master's view and of those of the callers
 module _ (words : List ℕ) (m : MasterView) (cs : List CallerView) where
   pub record Shows : Type 0 where
-    -- for each slot an active word and, behind all of these, a hold word
-    pub wide : length words ≡ length m.slots + length m.slots
+    -- for each slot a line
+    pub wide : length words ≡ length m.slots * line_words
     -- a count of holds stays below the bits above it
     pub few : m.limit ≤ 65535
     -- each pin has its seat
     pub pinned : length cs ≡ m.pins
-    pub marks : (slot : ℕ) (state : SlotState) → slice_get m.slots slot ≡ Some state → ShowsMarks (slice_index words slot) state.marks (users slot cs)
-    pub holds : (slot : ℕ) (state : SlotState) → slice_get m.slots slot ≡ Some state → ShowsHolds m.limit (hold_word words m slot) state (holders slot cs + pins_in m.pinning slot)
+    pub marks : (slot : ℕ) (state : SlotState) → slice_get m.slots slot ≡ Some state → ShowsMarks (active_word words slot) state.marks (users slot cs) (hiders slot cs)
+    pub holds : (slot : ℕ) (state : SlotState) → slice_get m.slots slot ≡ Some state → ShowsHolds m.limit (hold_word words slot) state (holders slot cs + pins_in m.pinning slot)
     -- who has a try to undo was turned away
     pub tries : (j : ℕ) (c : CallerView) → get_elem? cs j ≡ some c → c.undo_due ≡ true → c.phase ≡ Turned
     -- what the Master found still holds
-    pub loads : (i : ℕ) (load : Load) → slice_get m.loads i ≡ Some load → StillHolds m.limit load.word (hold_word words m load.slot)
+    pub loads : (i : ℕ) (load : Load) → slice_get m.loads i ≡ Some load → StillHolds m.limit load.word (hold_word words load.slot)
     -- the active word that the Master's last step stored is still as stored, in a free slot
-    pub fresh : (slot : ℕ) → m.fresh ≡ Some slot → (slot < length m.slots) × (slice_index words slot ≡ bias) × IsFree (hold_word words m slot)
+    pub fresh : (slot : ℕ) → m.fresh ≡ Some slot → (slot < length m.slots) × (active_word words slot ≡ bias) × IsFree (hold_word words slot)
     -- where the Master's last step found a drained word, the node is doomed, and nobody is running on it
     pub looked : (load : Load) (state : SlotState) → m.looked ≡ Some load → IsTrue (is_drained load.word) → slice_get m.slots load.slot ≡ Some state
         → (are_doomed state.marks ≡ true) × NoneRunning (bare m cs) (last_key load.slot state)

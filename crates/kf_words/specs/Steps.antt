@@ -1,10 +1,12 @@
 -- What each step makes of the view of its own seat.
-use Rattle.std.specs.Prelude.{◌≡◌, ℕ, ◌+◌, ◌-◌, ◌/◌, Bool, true, false, [], ◌∷◌, ◌++◌, length, replicate, slice_set, slice_index_or, Option, None, Some, is_some, if◌then◌else◌}
+use Rattle.std.specs.Prelude.{◌≡◌, slice_index, ℕ, ◌+◌, ◌/◌, Bool, true, false, [], ◌∷◌, ◌++◌, replicate, slice_set, slice_index_or, Option, None, Some, is_some, if◌then◌else◌}
 use Rattle.std.specs.Option.{option_map}
-use Rattle.atomic_table.specs.Table.{Me, Step}
+use mathlib.Core.Option.{some}
+use lib.ListN.{get_elem?}
+use Rattle.atomic_table.specs.Table.{Me, Step, State}
 use Rattle.kf_core.specs.declared.key.Key.{Key}
 use Rattle.kf_core.specs.declared.caller.Phase.{Phase}
-use Rattle.kf_core.specs.declared.caller.Phase.TheVariants.{Still, Turned, Running, Broken, Restored, Drained, Parted, Spent}
+use Rattle.kf_core.specs.declared.caller.Phase.TheVariants.{Still, Turned, Running, Broken, Restored, Drained, Parted, Hiding, Hidden, Spent}
 use Rattle.kf_core.specs.declared.slot.Marks.{Marks}
 use Rattle.kf_core.specs.declared.slot.SlotState.{SlotState}
 use Rattle.kf_core.specs.Marks.{fresh_marks, live_marks}
@@ -12,8 +14,8 @@ use Rattle.kf_words.specs.declared.view.CallerView.{CallerView}
 use Rattle.kf_words.specs.declared.view.MasterView.{MasterView}
 use Rattle.kf_words.specs.declared.view.View.{View}
 use Rattle.kf_words.specs.declared.view.View.TheVariants as seat
-use Rattle.kf_words.specs.Layout.{keeps_out, is_drained, has_linked, one_generation}
-use Rattle.kf_words.specs.Rule.{last_key}
+use Rattle.kf_words.specs.Layout.{slot_of, keeps_out, is_drained, has_hide, is_unused, has_linked, one_generation}
+use Rattle.kf_words.specs.Rule.{last_key, Shown}
 
 abbrev pub Seated : Type 0
 Seated = Me (Unit {0}) View
@@ -61,6 +63,18 @@ after_restore found c = after_step Restored false found c
 abbrev pub after_look : ℕ → CallerView → CallerView
 after_look found c = if is_drained found then after_step Drained false found c else after_step c.phase c.undo_due found c
 
+-- a caller hides its key, where nobody does yet
+abbrev pub after_hide : ℕ → CallerView → CallerView
+after_hide found c = if has_hide found then after_step c.phase c.undo_due found c else after_step Hiding false found c
+
+-- it sees that nobody uses the node
+abbrev pub after_look_hidden : ℕ → CallerView → CallerView
+after_look_hidden found c = if is_unused found then after_step Hidden false found c else after_step c.phase c.undo_due found c
+
+-- it shows its key again
+abbrev pub after_show : ℕ → CallerView → CallerView
+after_show found c = after_step Still false found c
+
 -- the hold of the slot is given back
 abbrev pub after_release : ℕ → CallerView → CallerView
 after_release found c = after_step Spent false found c
@@ -73,10 +87,6 @@ no_state = record { generation = 0; marks = None }
 
 abbrev pub state_at : MasterView → ℕ → SlotState
 state_at m slot = slice_index_or m.slots slot no_state
-
--- the slot of a hold word
-abbrev pub hold_slot : MasterView → ℕ → ℕ
-hold_slot m word = word - length m.slots
 
 -- a step of the Master on an active word, and one on a hold word that is no load
 abbrev pub on_active : MasterView → MasterView
@@ -142,23 +152,24 @@ without_node slot m = record (on_hold m) { slots = slice_set m.slots slot (recor
 abbrev pub unread : (ℕ → MasterView → MasterView) → ℕ → ℕ → MasterView → MasterView
 unread after slot found m = after slot m
 
--- a step on a hold word, by its slot
-abbrev pub by_slot : (ℕ → ℕ → MasterView → MasterView) → ℕ → ℕ → MasterView → MasterView
-by_slot after word found m = after (hold_slot m word) found m
-
 -- what a step tells its caller: the view is that of before, changed in this way
 abbrev pub CallerBecomes : (ℕ → CallerView → CallerView) → Step (Unit {0}) → Seated → ℕ → Seated → Type 0
 CallerBecomes after st me found me' = me' ≡ (seat.Caller (after found (caller_of me.0)), me.1)
 
+-- a hidden key is shown again by the step that finds its bit
+abbrev pub ShowsKey : Step (Unit {0}) → Seated → ℕ → Seated → Type 0
+ShowsKey st me found me' = CallerBecomes after_show st me found me' × (has_hide found ≡ true)
+
+-- and its Master, whose view changes by the slot of the word
 abbrev pub MasterBecomes : (ℕ → ℕ → MasterView → MasterView) → Step (Unit {0}) → Seated → ℕ → Seated → Type 0
-MasterBecomes after st me found me' = me' ≡ (seat.Master (after st.word found (master_of me.0)), me.1)
+MasterBecomes after st me found me' = me' ≡ (seat.Master (after (slot_of st.word) found (master_of me.0)), me.1)
 
 -- a load of a hold word tells the last generation, and whether a node is linked
 abbrev pub TellsSlot : MasterView → ℕ → ℕ → Type 0
 TellsSlot m slot found = (found / one_generation ≡ (state_at m slot).generation) × (has_linked found ≡ is_some (state_at m slot).marks)
 
 abbrev pub LoadsHold : Step (Unit {0}) → Seated → ℕ → Seated → Type 0
-LoadsHold st me found me' = MasterBecomes (by_slot with_load) st me found me' × TellsSlot (master_of me.0) (hold_slot (master_of me.0) st.word) found
+LoadsHold st me found me' = MasterBecomes with_load st me found me' × TellsSlot (master_of me.0) (slot_of st.word) found
 
 -- the Master's view at the opening: only the root has a node
 abbrev pub opened : ℕ → ℕ → ℕ → MasterView
@@ -166,3 +177,13 @@ opened limit slots start = record no_master {
   limit = limit;
   slots = slice_set (replicate slots (record { generation = start; marks = None })) 0 (record { generation = start + 1; marks = Some live_marks });
 }
+
+-- once, while the rule held and this caller was among the callers, the word was as found
+pub record WasFound (c : CallerView) (word found : ℕ) : Type 0 where
+  pub slots : ℕ
+  pub limit : ℕ
+  pub table : State (Unit {0}) View
+  pub shown : Shown slots limit table
+  pub caller : ℕ
+  pub there : get_elem? shown.callers caller ≡ some c
+  pub as_found : slice_index table.words word ≡ found

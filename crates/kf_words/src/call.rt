@@ -2,7 +2,8 @@
 ghost use Rattle.std.specs.Prelude.{◌≡◌, true};
 ghost use Rattle.kf_core.specs.Phases.{has_reference};
 ghost use Rattle.kf_core.specs.declared.caller.Phase.TheVariants as phase_of;
-ghost use Rattle.kf_words.specs.Callers.{IsSameSeat, WasLeft, WasBroken, WasRestored, is_in_call};
+ghost use Rattle.kf_words.specs.Callers.{IsSameSeat, WasLeft, WasBroken, WasRestored, is_in_call, seat_view};
+ghost use Rattle.kf_words.specs.Runs.{WasALeave, WasABreak, WasARestore};
 
 use crate::hold::Hold;
 use crate::seat::CallerSeat;
@@ -56,10 +57,11 @@ impl Call {
         requires { has_reference self.phase ≡ true }
         ensures same { IsSameSeat self result }
         ensures hold { WasLeft self result }
+        ensures made { WasALeave (seat_view self) (seat_view result) }
     {
         let Call { mut seat, phase: _ } = self;
         let found = seat.drop_reference();
-        seat.wake_if_drained(found);
+        seat.wake_if_unused(found);
         Hold { seat }
     }
 
@@ -70,10 +72,11 @@ impl Call {
         requires { self.old.phase ≡ phase_of.Running }
         ensures same { IsSameSeat self.old self.new }
         ensures call { WasBroken self.old self.new }
+        ensures made { WasABreak (seat_view self.old) (seat_view self.new) }
     {
         let found = self.seat.break_off();
         self.phase = Phase::Broken;
-        self.seat.wake_if_drained(found);
+        self.seat.wake_if_unused(found);
     }
 
     /// Takes a reference again, whatever became of the node (`kernfs_unbreak_active_protection`), in one word step.
@@ -83,6 +86,7 @@ impl Call {
         requires { self.old.phase ≡ phase_of.Broken }
         ensures same { IsSameSeat self.old self.new }
         ensures call { WasRestored self.old self.new }
+        ensures made { WasARestore (seat_view self.old) (seat_view self.new) }
     {
         self.seat.take_again();
         self.phase = Phase::Restored;

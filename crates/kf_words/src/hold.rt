@@ -1,18 +1,20 @@
 //! A hold: it keeps the slot of its node, and has no reference to the node.
 ghost use Rattle.std.specs.Prelude.{◌≡◌, true, IfOk, IfErr, MatchResult};
 ghost use Rattle.kf_core.specs.Phases.{is_waiting};
-ghost use Rattle.kf_words.specs.Callers.{IsSameSeat, Entered, WasTurned, SawDrained, SawUse};
+ghost use Rattle.kf_words.specs.Callers.{IsSameSeat, Entered, WasTurned, SawDrained, SawUse, WasHidden, FoundHidden, FoundThere, seat_view};
+ghost use Rattle.kf_words.specs.Runs.{WasATry, WasATryUndone, WasALook, WasAHide, WasLetInLive};
 
 use crate::call::Call;
 use crate::caller_steps::release_seat;
-use crate::layout::{is_drained, keeps_out};
+use crate::hiding::Hiding;
+use crate::layout::{has_hide, is_drained, keeps_out};
 use crate::receipt::Drained;
 use crate::seat::CallerSeat;
 use kf_core::{Key, Node, Phase};
 use std::marker::Model;
 
 /// Holds the slot of a node, with no reference to it. While it is out the slot is not given again.
-/// It must be spent: by `enter`, `look`, `wait_drained` or `release`.
+/// It must be spent: by `enter`, `look`, `hide`, `wait_drained` or `release`.
 pub struct Hold {
     pub(crate) seat: CallerSeat,
 }
@@ -43,12 +45,15 @@ impl Hold {
         self.seat.node
     }
 
-    /// Tries for an active reference (`kernfs_get_active`). A hold that comes back found that the node is not live.
+    /// Tries for an active reference (`kernfs_get_active`). A hold that comes back found that the node is not live, or its key hidden.
     /// It takes one word step where it answers a call, and two where it gives the hold back.
     pub fn enter(self) -> Result<Call, Hold>
         ensures same { MatchResult result (λ call. IsSameSeat self call) (λ hold. IsSameSeat self hold) }
         ensures call { IfOk result (λ call. Entered self call) }
         ensures refused { IfErr result (λ hold. WasTurned self hold) }
+        ensures found { MatchResult result (λ call. FoundThere self call.found) (λ hold. FoundThere self hold.found) }
+        ensures made { MatchResult result (λ call. WasATry (seat_view self) (seat_view call)) (λ hold. WasATryUndone (seat_view self) (seat_view hold)) }
+        ensures live { IfOk result (λ call. WasLetInLive (seat_view self) (seat_view call)) }
     {
         let Hold { mut seat } = self;
         if !keeps_out(seat.try_reference()) {
@@ -58,15 +63,18 @@ impl Hold {
             });
         }
         let found = seat.undo();
-        seat.wake_if_drained(found);
+        seat.wake_if_unused(found);
         Err(Hold { seat })
     }
 
-    /// Looks, in one word step, whether the node is doomed and nobody has a reference to it.
+    /// Looks, in one word step, whether the node is doomed and nobody has a reference to it. Gives the hold back where
+    /// it is not so (one look of `kernfs_drain`).
     pub fn look(self) -> Result<Drained, Hold>
         ensures same { MatchResult result (λ saw. IsSameSeat self saw) (λ hold. IsSameSeat self hold) }
         ensures drained { IfOk result (λ saw. SawDrained self saw) }
         ensures not_yet { IfErr result (λ hold. SawUse self hold) }
+        ensures found { MatchResult result (λ saw. FoundThere self saw.found) (λ hold. FoundThere self hold.found) }
+        ensures made { MatchResult result (λ saw. WasALook (seat_view self) (seat_view saw)) (λ hold. WasALook (seat_view self) (seat_view hold)) }
     {
         let Hold { mut seat } = self;
         if is_drained(seat.load()) {
@@ -74,6 +82,22 @@ impl Hold {
             Ok(Drained { seat })
         } else {
             Err(Hold { seat })
+        }
+    }
+
+    /// Hides the key, in one word step: until it is shown again, each try is refused. Err where a caller hides it already.
+    /// Called under the lock of the tree.
+    pub fn hide(self) -> Result<Hiding, Hold>
+        ensures same { MatchResult result (λ hiding. IsSameSeat self hiding) (λ hold. IsSameSeat self hold) }
+        ensures hiding { IfOk result (λ hiding. WasHidden self hiding) }
+        ensures already { IfErr result (λ hold. FoundHidden self hold) }
+        ensures made { MatchResult result (λ hiding. WasAHide (seat_view self) (seat_view hiding)) (λ hold. WasAHide (seat_view self) (seat_view hold)) }
+    {
+        let Hold { mut seat } = self;
+        if has_hide(seat.set_hide()) {
+            Err(Hold { seat })
+        } else {
+            Ok(Hiding { seat })
         }
     }
 

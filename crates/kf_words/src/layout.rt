@@ -1,14 +1,21 @@
-//! The numbers of which active words and hold words are made, and the tests on a word that was found.
+//! Where the words of a slot stand, the numbers of which active words and hold words are made, and the tests on a word that was found.
 ghost use Rattle.std.specs.Prelude.{◌≡◌, ◌+◌, ◌↔◌, IsTrue};
-ghost use Rattle.kf_words.specs.Layout.{keeps_out, is_drained, has_linked, bit, bias, doom, IsFree, HasRoom};
+ghost use Rattle.kf_words.specs.Layout.{active_index, hold_index, keeps_out, has_bias, has_hide, is_drained, is_unused, wants_wake, has_linked, bit, bias, doom, IsFree, HasRoom};
 
 use kf_core::Marks;
 
-/// In an active word: the node is not live, so a try for a reference fails.
+/// The words of a cache line. Each slot has a line to itself, so that calls of one node never wait for those of another:
+/// its active word, behind that its hold word, and six words that nobody uses.
+pub(crate) const LINE_WORDS: usize = 8;
+
+/// In an active word: the node is not at once linked, activated and undoomed, so a try for a reference fails.
 pub(crate) const BIAS: u64 = 0x1_0000_0000;
 
 /// In an active word: the node is doomed.
 pub(crate) const DOOM: u64 = 0x2_0000_0000;
+
+/// In an active word: the key is hidden, so a try for a reference fails.
+pub(crate) const HIDE: u64 = 0x4_0000_0000;
 
 /// In an active word: the number of its users.
 pub(crate) const USERS: u64 = 0xffff_ffff;
@@ -22,19 +29,61 @@ pub(crate) const HOLDS: u64 = 0x7fff_ffff;
 /// In a hold word: one generation.
 pub(crate) const GENERATION: u64 = 0x1_0000_0000;
 
-/// Whether a try that found this active word is refused.
-#[tactic(auto, using(crate::proofs::Bits::keeps_out_test))]
-pub(crate) fn keeps_out(word: u64) -> bool
-    ensures { result ≡ keeps_out word }
+/// Where the active word of a slot stands.
+pub(crate) fn active_index(slot: u32) -> usize
+    ensures { result ≡ active_index slot }
+{
+    slot as usize * LINE_WORDS
+}
+
+/// Where the hold word of a slot stands.
+pub(crate) fn hold_index(slot: u32) -> usize
+    ensures { result ≡ hold_index slot }
+{
+    slot as usize * LINE_WORDS + 1
+}
+
+#[tactic(auto, using(crate::proofs::Bits::has_bias_test))]
+fn has_bias(word: u64) -> bool
+    ensures { result ≡ has_bias word }
 {
     word & BIAS != 0
 }
 
-/// Whether the node of this active word is doomed, and nobody uses it.
+/// Whether the key of this active word is hidden.
+#[tactic(auto, using(crate::proofs::Bits::has_hide_test))]
+pub(crate) fn has_hide(word: u64) -> bool
+    ensures { result ≡ has_hide word }
+{
+    word & HIDE != 0
+}
+
+/// Whether a try that found this active word is refused.
+pub(crate) fn keeps_out(word: u64) -> bool
+    ensures { result ≡ keeps_out word }
+{
+    has_bias(word) || has_hide(word)
+}
+
+/// Whether the node of this active word is doomed, and nobody uses it, hidden or not.
 pub(crate) fn is_drained(word: u64) -> bool
     ensures { result ≡ is_drained word }
 {
-    word == BIAS + DOOM
+    word == BIAS + DOOM || word == BIAS + DOOM + HIDE
+}
+
+/// Whether nobody uses the node of this active word.
+pub(crate) fn is_unused(word: u64) -> bool
+    ensures { result ≡ is_unused word }
+{
+    word & USERS == 0
+}
+
+/// Whether a sleeper may wait for this active word: the node is doomed or its key hidden, and nobody uses it.
+pub(crate) fn wants_wake(word: u64) -> bool
+    ensures { result ≡ wants_wake word }
+{
+    is_drained(word) || has_hide(word) && is_unused(word)
 }
 
 /// Whether a node is linked in the slot of this hold word.

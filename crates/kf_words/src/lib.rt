@@ -1,9 +1,11 @@
-//! Two words for each node of the tree, which any number of threads change in single atomic steps: an active word, whose count is that of the active references and of tries not yet undone, and a hold word, whose count is that of the holds that keep the slot.
+//! Two words for each slot, which any number of threads change in single atomic steps: the active word counts active
+//! references and tries not yet undone, the hold word counts the holds that keep the slot.
 #![tactic(auto)]
 
 mod call;
 mod caller_steps;
 mod drain;
+mod hiding;
 mod hold;
 mod laws;
 mod layout;
@@ -21,13 +23,16 @@ mod tests;
 #[cfg(test)]
 mod thread_tests;
 mod view;
+#[cfg(test)]
+mod wait_tests;
 mod words;
 
 pub use call::Call;
 pub use caller_steps::release_seat;
 pub use drain::wait_drained;
+pub use hiding::{Hidden, Hiding, wait_hidden};
 pub use hold::Hold;
-pub use laws::{words_step, words_tell};
+pub use laws::{words_run, words_step, words_tell};
 pub use master::Master;
 pub use receipt::{Drained, Parted};
 pub use seat::CallerSeat;

@@ -59,7 +59,8 @@ impl Master {
     ///
     /// Condition: the node is linked.
     ///
-    /// Refusals, in order: TooManyHolds where the slot has as many holds as there may be; NoMemory.
+    /// Refusals, in order: TooManyHolds where the slot has as many holds as there may be; NoMemory where the table can have no
+    /// owner more (its `Arc` is at its last count).
     /// After each the slot has the holds that it had.
     pub fn pin(&mut self, key: Key) -> Result<Hold, Refusal>
         requires { is_some (marks_of self.old.view key) ≡ true }
@@ -92,7 +93,7 @@ impl Master {
         }
     }
 
-    // A new hold of the last key of a slot.
+    /// A new hold of the last key of a slot.
     fn pin_last(&mut self, key: Key) -> Result<Hold, Refusal>
         requires { IsLastKey self.old.view key }
         ensures kept { KeepsNodes self.old self.new }

@@ -1,6 +1,7 @@
 //! The Master's seat at the table of words.
-ghost use Rattle.std.specs.Prelude.{◌≡◌, ◌+◌, [], length};
+ghost use Rattle.std.specs.Prelude.{◌≡◌, ◌*◌, [], length};
 ghost use Rattle.std.specs.Arc.{arc_value};
+ghost use Rattle.kf_words.specs.Layout.{line_words};
 ghost use Rattle.kf_words.specs.Steps.{master_of};
 ghost use Rattle.kf_words.specs.declared.view.View.TheVariants as seat_of;
 
@@ -16,6 +17,6 @@ pub(crate) struct MasterSeat {
     pub(crate) token: Seat<(), View>,
     ghost of_table: { token.table_id ≡ (arc_value table).shared.table_id },
     ghost a_master: { token.me ≡ (seat_of.Master (master_of token.me.0), []) },
-    ghost two_words: { (arc_value table).shared.table_id.words ≡ (arc_value table).shared.key.slots + (arc_value table).shared.key.slots },
+    ghost lines: { (arc_value table).shared.table_id.words ≡ (arc_value table).shared.key.slots * line_words },
     ghost all_slots: { length (master_of token.me.0).slots ≡ (arc_value table).shared.key.slots },
 }

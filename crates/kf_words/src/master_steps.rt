@@ -1,15 +1,15 @@
 //! The steps of the Master's seat, one by one.
-ghost use Rattle.std.specs.Prelude.{◌≡◌, ◌<◌, ◌≤◌, ◌+◌, IfSome, [], length, Some, None, true, false};
+ghost use Rattle.std.specs.Prelude.{◌≡◌, ◌<◌, ◌≤◌, IfSome, [], length, Some, None, true, false};
 ghost use Rattle.std.specs.Arc.{arc_value};
 ghost use Rattle.kf_core.specs.Marks.{fresh_marks};
-ghost use Rattle.kf_words.specs.Layout.{is_drained};
+ghost use Rattle.kf_words.specs.Layout.{active_index, hold_index, is_drained};
 ghost use Rattle.kf_words.specs.Rule.{last_key};
 ghost use Rattle.kf_words.specs.Steps.{with_load, with_pin, without_pin, after_split, new_hold, state_at, with_look, without_node, after_store, with_birth, TellsSlot, with_marks, activated_marks, doomed_marks};
 ghost use Rattle.kf_core.specs.declared.slot.Marks.{Marks};
 ghost use Rattle.kf_words.specs.Nodes.{HasMarks, HasLooked, FoundRoom, FoundFree, Searched, HasNext, master_view};
 ghost use Rattle.kf_words.specs.declared.view.View.TheVariants as seat_of;
 
-use crate::layout::{BIAS, GENERATION, LINKED, is_drained, is_free, mark_bits};
+use crate::layout::{BIAS, GENERATION, LINKED, active_index, hold_index, is_free, mark_bits};
 use crate::master_seat::MasterSeat;
 use crate::plays::{
     Births, LoadsHold, LooksOver, MarksNode, PinsHold, SplitsHold, StoresFresh, TakesBias, Unlinks,
@@ -20,26 +20,36 @@ use atomic_table::Seat;
 use kf_core::Marks;
 
 impl MasterSeat {
-    fn hold_word(&self, slot: u32) -> usize
+    /// Where the active word of a slot stands.
+    fn active_index(&self, slot: u32) -> usize
         requires { slot < length (master_view self.now).slots }
-        ensures here { result ≡ (arc_value self.now.table).shared.key.slots + slot }
+        ensures here { result ≡ active_index slot }
         ensures within { result < (arc_value self.now.table).shared.table_id.words }
     {
-        self.table.word_count() / 2 + slot as usize
+        active_index(slot)
     }
 
-    // Loads the hold word of a slot.
+    /// Where the hold word of a slot stands.
+    fn hold_index(&self, slot: u32) -> usize
+        requires { slot < length (master_view self.now).slots }
+        ensures here { result ≡ hold_index slot }
+        ensures within { result < (arc_value self.now.table).shared.table_id.words }
+    {
+        hold_index(slot)
+    }
+
+    /// Loads the hold word of a slot.
     pub(crate) fn load_hold(&mut self, slot: u32) -> u64
         requires { slot < length (master_view self.old).slots }
         ensures table { self.new.token.table_id ≡ self.old.token.table_id }
         ensures view { master_view self.new ≡ with_load slot result (master_view self.old) }
         ensures slot { TellsSlot (master_view self.old) slot result }
     {
-        let word = self.hold_word(slot);
+        let word = self.hold_index(slot);
         self.table.shared.load::<LoadsHold>(&mut self.token, word)
     }
 
-    // Counts one hold more, which no seat has yet.
+    /// Counts one hold more, which no seat has yet.
     pub(crate) fn pin_hold(&mut self, slot: u32)
         requires slot { slot < length (master_view self.old).slots }
         requires one { (master_view self.old).pinning ≡ None }
@@ -47,26 +57,26 @@ impl MasterSeat {
         ensures table { self.new.token.table_id ≡ self.old.token.table_id }
         ensures view { master_view self.new ≡ with_pin slot (master_view self.old) }
     {
-        let word = self.hold_word(slot);
+        let word = self.hold_index(slot);
         self.table
             .shared
             .fetch_add::<PinsHold>(&mut self.token, word, 1);
     }
 
-    // Takes back a hold that no seat has.
+    /// Takes back a hold that no seat has.
     pub(crate) fn unpin_hold(&mut self, slot: u32)
         requires slot { slot < length (master_view self.old).slots }
         requires one { (master_view self.old).pinning ≡ Some slot }
         ensures table { self.new.token.table_id ≡ self.old.token.table_id }
         ensures view { master_view self.new ≡ without_pin slot (master_view self.old) }
     {
-        let word = self.hold_word(slot);
+        let word = self.hold_index(slot);
         self.table
             .shared
             .fetch_sub::<UnpinsHold>(&mut self.token, word, 1);
     }
 
-    // A new seat gets the hold.
+    /// A new seat gets the hold.
     pub(crate) fn give_hold(&mut self, slot: u32) -> Seat<(), View>
         requires slot { slot < length (master_view self.old).slots }
         requires one { (master_view self.old).pinning ≡ Some slot }
@@ -75,47 +85,50 @@ impl MasterSeat {
         ensures same_table { result.table_id ≡ self.old.token.table_id }
         ensures hold { result.me ≡ (seat_of.Caller (new_hold (last_key slot (state_at (master_view self.old) slot))), []) }
     {
-        let _ = slot;
+        let _ = slot; // the contract alone names it
         self.table.shared.split_seat::<SplitsHold>(&mut self.token)
     }
 
-    // Stores the active word of a new node in a free slot.
+    /// Stores the active word of a new node in a free slot.
     pub(crate) fn store_fresh(&mut self, slot: u32)
         requires slot { slot < length (master_view self.old).slots }
         requires free { FoundFree (master_view self.old) slot }
         ensures table { self.new.token.table_id ≡ self.old.token.table_id }
         ensures view { master_view self.new ≡ after_store slot (master_view self.old) }
     {
+        let word = self.active_index(slot);
         self.table
             .shared
-            .store::<StoresFresh>(&mut self.token, slot as usize, BIAS);
+            .store::<StoresFresh>(&mut self.token, word, BIAS);
     }
 
-    // Gives the slot its next generation, and links a node there.
+    /// Gives the slot its next generation, and links a node there.
     pub(crate) fn birth(&mut self, slot: u32)
         requires slot { slot < length (master_view self.old).slots }
         requires fresh { (master_view self.old).fresh ≡ Some slot }
         ensures table { self.new.token.table_id ≡ self.old.token.table_id }
         ensures view { master_view self.new ≡ with_birth slot (master_view self.old) }
     {
-        let word = self.hold_word(slot);
+        let word = self.hold_index(slot);
         self.table
             .shared
             .fetch_add::<Births>(&mut self.token, word, GENERATION + LINKED);
     }
 
-    // Takes the bias off the active word of a slot.
+    /// Takes the bias off the active word of a slot.
     pub(crate) fn take_bias(&mut self, slot: u32)
         requires { HasMarks (master_view self.old) slot fresh_marks }
         ensures table { self.new.token.table_id ≡ self.old.token.table_id }
         ensures view { master_view self.new ≡ with_marks activated_marks slot (master_view self.old) }
     {
+        let word = self.active_index(slot);
         self.table
             .shared
-            .fetch_sub::<TakesBias>(&mut self.token, slot as usize, BIAS);
+            .fetch_sub::<TakesBias>(&mut self.token, word, BIAS);
     }
 
-    // Marks the node of a slot, which has these marks, as doomed, and wakes a sleeper where that leaves a drained word.
+    /// Marks the node of a slot, which has these marks, as doomed. It wakes nobody: one who waits for a node that is not doomed yet
+    /// sleeps for a millisecond at most.
     pub(crate) fn mark_node(&mut self, slot: u32, marks: Marks)
         requires marks { HasMarks (master_view self.old) slot marks }
         requires undoomed { marks.doomed ≡ false }
@@ -123,40 +136,36 @@ impl MasterSeat {
         ensures view { master_view self.new ≡ with_marks doomed_marks slot (master_view self.old) }
     {
         let bits = mark_bits(marks);
-        let found = self
-            .table
+        let word = self.active_index(slot);
+        self.table
             .shared
-            .fetch_add::<MarksNode>(&mut self.token, slot as usize, bits);
-        if is_drained(found.wrapping_add(bits)) {
-            self.table.shared.wake_one(slot as usize);
-        }
+            .fetch_add::<MarksNode>(&mut self.token, word, bits);
     }
 
-    // Loads the active word of a slot.
+    /// Loads the active word of a slot.
     pub(crate) fn look_over(&mut self, slot: u32) -> u64
         requires { slot < length (master_view self.old).slots }
         ensures table { self.new.token.table_id ≡ self.old.token.table_id }
         ensures view { master_view self.new ≡ with_look slot result (master_view self.old) }
     {
-        self.table
-            .shared
-            .load::<LooksOver>(&mut self.token, slot as usize)
+        let word = self.active_index(slot);
+        self.table.shared.load::<LooksOver>(&mut self.token, word)
     }
 
-    // Takes the node of a slot out, whose active word the last step found drained.
+    /// Takes the node of a slot out, whose active word the last step found drained.
     pub(crate) fn unlink(&mut self, slot: u32)
         requires marks { (x : Marks) × HasMarks (master_view self.old) slot x }
         requires drained { HasLooked (master_view self.old) slot }
         ensures table { self.new.token.table_id ≡ self.old.token.table_id }
         ensures view { master_view self.new ≡ without_node slot (master_view self.old) }
     {
-        let word = self.hold_word(slot);
+        let word = self.hold_index(slot);
         self.table
             .shared
             .fetch_sub::<Unlinks>(&mut self.token, word, LINKED);
     }
 
-    // The first slot from 1 up that is found free, of so many.
+    /// The first slot from 1 up that is found free, of so many.
     pub(crate) fn find_free(&mut self, slots: u32) -> Option<u32>
         requires some { 1 ≤ slots }
         requires all { slots ≡ length (master_view self.old).slots }

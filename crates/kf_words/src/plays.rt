@@ -6,72 +6,99 @@ use atomic_table::{Play, Split};
 pub(crate) struct Tries;
 
 impl Play<(), View> for Tries {
-    ghost use Rattle.kf_words.specs.Steps.{CallerBecomes, after_try};
+    ghost use Rattle.kf_words.specs.Runs.{MakesTry};
 
-    ghost then = { CallerBecomes after_try };
+    ghost then = { MakesTry };
 }
 
 /// A caller takes a refused try back.
 pub(crate) struct Undoes;
 
 impl Play<(), View> for Undoes {
-    ghost use Rattle.kf_words.specs.Steps.{CallerBecomes, after_undo};
+    ghost use Rattle.kf_words.specs.Runs.{MakesUndo};
 
-    ghost then = { CallerBecomes (λ _. after_undo) };
+    ghost then = { MakesUndo };
 }
 
 /// A caller ends its call.
 pub(crate) struct Leaves;
 
 impl Play<(), View> for Leaves {
-    ghost use Rattle.kf_words.specs.Steps.{CallerBecomes, after_leave};
+    ghost use Rattle.kf_words.specs.Runs.{MakesLeave};
 
-    ghost then = { CallerBecomes after_leave };
+    ghost then = { MakesLeave };
 }
 
 /// A caller gives its reference up inside its call.
 pub(crate) struct Breaks;
 
 impl Play<(), View> for Breaks {
-    ghost use Rattle.kf_words.specs.Steps.{CallerBecomes, after_break};
+    ghost use Rattle.kf_words.specs.Runs.{MakesBreak};
 
-    ghost then = { CallerBecomes after_break };
+    ghost then = { MakesBreak };
 }
 
 /// A caller takes a reference again inside its call.
 pub(crate) struct Restores;
 
 impl Play<(), View> for Restores {
-    ghost use Rattle.kf_words.specs.Steps.{CallerBecomes, after_restore};
+    ghost use Rattle.kf_words.specs.Runs.{MakesRestore};
 
-    ghost then = { CallerBecomes after_restore };
+    ghost then = { MakesRestore };
 }
 
 /// A caller loads the active word.
 pub(crate) struct Looks;
 
 impl Play<(), View> for Looks {
-    ghost use Rattle.kf_words.specs.Steps.{CallerBecomes, after_look};
+    ghost use Rattle.kf_words.specs.Runs.{MakesLook};
 
-    ghost then = { CallerBecomes after_look };
+    ghost then = { MakesLook };
+}
+
+/// A caller sets the bit of a hidden key.
+pub(crate) struct Hides;
+
+impl Play<(), View> for Hides {
+    ghost use Rattle.kf_words.specs.Runs.{MakesHide};
+
+    ghost then = { MakesHide };
+}
+
+/// A caller that hides its key loads the active word.
+pub(crate) struct LooksHidden;
+
+impl Play<(), View> for LooksHidden {
+    ghost use Rattle.kf_words.specs.Runs.{MakesLookHidden};
+
+    ghost then = { MakesLookHidden };
+}
+
+/// A caller takes the bit of a hidden key off.
+pub(crate) struct Shows;
+
+impl Play<(), View> for Shows {
+    ghost use Rattle.kf_words.specs.Runs.{MakesShow};
+
+    ghost then = { MakesShow };
 }
 
 /// A caller loads the hold word.
 pub(crate) struct Parts;
 
 impl Play<(), View> for Parts {
-    ghost use Rattle.kf_words.specs.Steps.{CallerBecomes, after_part};
+    ghost use Rattle.kf_words.specs.Runs.{MakesPart};
 
-    ghost then = { CallerBecomes after_part };
+    ghost then = { MakesPart };
 }
 
 /// A caller gives its slot back.
 pub(crate) struct Releases;
 
 impl Play<(), View> for Releases {
-    ghost use Rattle.kf_words.specs.Steps.{CallerBecomes, after_release};
+    ghost use Rattle.kf_words.specs.Runs.{MakesRelease};
 
-    ghost then = { CallerBecomes after_release };
+    ghost then = { MakesRelease };
 }
 
 /// The Master loads a hold word.
@@ -87,18 +114,18 @@ impl Play<(), View> for LoadsHold {
 pub(crate) struct PinsHold;
 
 impl Play<(), View> for PinsHold {
-    ghost use Rattle.kf_words.specs.Steps.{MasterBecomes, by_slot, unread, with_pin};
+    ghost use Rattle.kf_words.specs.Steps.{MasterBecomes, unread, with_pin};
 
-    ghost then = { MasterBecomes (by_slot (unread with_pin)) };
+    ghost then = { MasterBecomes (unread with_pin) };
 }
 
 /// The Master takes back a hold that has no seat.
 pub(crate) struct UnpinsHold;
 
 impl Play<(), View> for UnpinsHold {
-    ghost use Rattle.kf_words.specs.Steps.{MasterBecomes, by_slot, unread, without_pin};
+    ghost use Rattle.kf_words.specs.Steps.{MasterBecomes, unread, without_pin};
 
-    ghost then = { MasterBecomes (by_slot (unread without_pin)) };
+    ghost then = { MasterBecomes (unread without_pin) };
 }
 
 /// The Master stores the active word of a node that is to be born.
@@ -114,9 +141,9 @@ impl Play<(), View> for StoresFresh {
 pub(crate) struct Births;
 
 impl Play<(), View> for Births {
-    ghost use Rattle.kf_words.specs.Steps.{MasterBecomes, by_slot, unread, with_birth};
+    ghost use Rattle.kf_words.specs.Steps.{MasterBecomes, unread, with_birth};
 
-    ghost then = { MasterBecomes (by_slot (unread with_birth)) };
+    ghost then = { MasterBecomes (unread with_birth) };
 }
 
 /// The Master takes the bias off an active word: the node is activated.
@@ -150,9 +177,9 @@ impl Play<(), View> for LooksOver {
 pub(crate) struct Unlinks;
 
 impl Play<(), View> for Unlinks {
-    ghost use Rattle.kf_words.specs.Steps.{MasterBecomes, by_slot, unread, without_node};
+    ghost use Rattle.kf_words.specs.Steps.{MasterBecomes, unread, without_node};
 
-    ghost then = { MasterBecomes (by_slot (unread without_node)) };
+    ghost then = { MasterBecomes (unread without_node) };
 }
 
 /// The hold that has no seat yet goes to a new one.

@@ -1,7 +1,8 @@
 //! Receipts: a caller that saw its node drained, and one that saw it gone as well.
 ghost use Rattle.std.specs.Prelude.{◌≡◌, IfOk, IfErr, MatchResult};
 ghost use Rattle.kf_core.specs.declared.caller.Phase.TheVariants as phase_of;
-ghost use Rattle.kf_words.specs.Callers.{IsSameSeat, SawParted, SawLinked};
+ghost use Rattle.kf_words.specs.Callers.{IsSameSeat, SawParted, SawLinked, FoundInHold, seat_view};
+ghost use Rattle.kf_words.specs.Runs.{WasAPart};
 
 use crate::caller_steps::release_seat;
 use crate::layout::has_linked;
@@ -57,6 +58,8 @@ impl Drained {
         ensures same { MatchResult result (λ gone. IsSameSeat self gone) (λ back. IsSameSeat self back) }
         ensures gone { IfOk result (λ gone. SawParted self gone) }
         ensures linked { IfErr result (λ back. SawLinked self back) }
+        ensures found { MatchResult result (λ gone. FoundInHold self gone.found) (λ back. FoundInHold self back.found) }
+        ensures made { MatchResult result (λ gone. WasAPart (seat_view self) (seat_view gone)) (λ back. WasAPart (seat_view self) (seat_view back)) }
     {
         let Drained { mut seat } = self;
         if has_linked(seat.load_hold()) {

@@ -1,6 +1,7 @@
 //! A caller's seat at the table of words.
-ghost use Rattle.std.specs.Prelude.{◌≡◌, ◌+◌, ◌<◌, []};
+ghost use Rattle.std.specs.Prelude.{◌≡◌, ◌*◌, ◌<◌, []};
 ghost use Rattle.std.specs.Arc.{arc_value};
+ghost use Rattle.kf_words.specs.Layout.{line_words};
 ghost use Rattle.kf_words.specs.Steps.{caller_of};
 ghost use Rattle.kf_words.specs.declared.view.View.TheVariants as seat_of;
 
@@ -11,15 +12,16 @@ use kf_core::{Key, Node};
 use std::sync::Arc;
 
 /// A caller's seat at the table of words, with the key whose slot it holds and the node of that key.
-/// It lies in a `Hold`, `Call`, `Drained` or `Parted`, and ends when its slot is given back.
+/// It lies in a `Hold`, `Call`, `Drained`, `Parted`, `Hiding` or `Hidden`, and ends when its slot is given back.
+/// The node stands first: a call moves what lies behind the slot through memory, between two atomic steps.
 pub struct CallerSeat {
+    pub(crate) node: Node,
     pub(crate) table: Arc<WordTable>,
     pub(crate) key: Key,
-    pub(crate) node: Node,
     pub(crate) token: Seat<(), View>,
     ghost of_table: { token.table_id ≡ (arc_value table).shared.table_id },
     ghost a_caller: { token.me ≡ (seat_of.Caller (caller_of token.me.0), []) },
     ghost same_key: { (caller_of token.me.0).key ≡ key },
-    ghost two_words: { (arc_value table).shared.table_id.words ≡ (arc_value table).shared.key.slots + (arc_value table).shared.key.slots },
+    ghost lines: { (arc_value table).shared.table_id.words ≡ (arc_value table).shared.key.slots * line_words },
     ghost in_table: { key.slot < (arc_value table).shared.key.slots },
 }

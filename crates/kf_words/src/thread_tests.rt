@@ -1,6 +1,6 @@
 //! The words under many threads.
-use crate::tests::{activate, born, doom, enter, look, made, pin};
-use crate::{Call, Hold, Master, Seats, wait_drained};
+use crate::tests::{activate, born, doom, enter, hide, look, made, pin, refused};
+use crate::{Call, Hidden, Hiding, Hold, Master, Seats, wait_drained, wait_hidden};
 use kf_core::{Guard, Key, Phase};
 use std::alloc::Global;
 use std::process::Abort;
@@ -10,7 +10,7 @@ use std::sync::atomic::{AtomicU64, Ordering};
 use std::thread::{self, Threads, for_each_mut, join};
 use std::time::Duration;
 
-// Enters and leaves until refused, at most 10,000 times, through the guard; counts the thread once it has entered.
+/// Enters and leaves until refused, at most 10,000 times, through the guard; counts the thread once it has entered.
 fn turns(mut hold: Hold, entered: &AtomicU64) -> Hold {
     let mut guard = Seats;
     for turn in 0..10_000 {
@@ -27,7 +27,7 @@ fn turns(mut hold: Hold, entered: &AtomicU64) -> Hold {
     hold
 }
 
-// The same with a hold in its place.
+/// The same with a hold in its place.
 fn turns_in(place: &mut Option<Hold>, entered: &AtomicU64) {
     if let Some(hold) = place.take() {
         let back = turns(hold, entered);
@@ -37,7 +37,7 @@ fn turns_in(place: &mut Option<Hold>, entered: &AtomicU64) {
     }
 }
 
-// Each hold in a thread of its own.
+/// Each hold in a thread of its own.
 fn all_turns<R: Threads + Sync>(rt: &R, holds: &mut Vec<Option<Hold>>, entered: &AtomicU64) {
     for_each_mut(
         rt,
@@ -47,8 +47,8 @@ fn all_turns<R: Threads + Sync>(rt: &R, holds: &mut Vec<Option<Hold>>, entered: 
     );
 }
 
-// Waits until so many threads have counted themselves.
-fn wait_for(count: u64, counter: &AtomicU64) {
+/// Waits until so many threads have counted themselves.
+pub(crate) fn wait_for(count: u64, counter: &AtomicU64) {
     for _ in 0..1_000_000_000u64 {
         if counter.load(Ordering::SeqCst) >= count {
             return;
@@ -56,8 +56,8 @@ fn wait_for(count: u64, counter: &AtomicU64) {
     }
 }
 
-// Holds of a key, each in its place.
-fn pins<R: Abort>(
+/// Holds of a key, each in its place.
+pub(crate) fn pins<R: Abort>(
     rt: &R,
     alloc: Global,
     master: &mut Master,
@@ -77,7 +77,7 @@ fn pins<R: Abort>(
     holds
 }
 
-fn see_drained<R: Abort>(rt: &R, mut holds: Vec<Option<Hold>>) {
+pub(crate) fn see_drained<R: Abort>(rt: &R, mut holds: Vec<Option<Hold>>) {
     while let Some(place) = holds.pop() {
         match place {
             Some(hold) => look(rt, hold).release(),
@@ -88,7 +88,7 @@ fn see_drained<R: Abort>(rt: &R, mut holds: Vec<Option<Hold>>) {
 }
 
 #[test]
-fn eight_threads_are_turned_away_by_the_mark(rt: HostRuntime) {
+fn eight_threads_enter_until_the_mark_and_all_see_the_drain(rt: HostRuntime) {
     let mut master = made(&rt, rt.alloc(), 2, 8, 0);
     let key = born(&rt, &mut master, 1, 1);
     activate(&rt, &mut master, key);
@@ -106,8 +106,8 @@ fn eight_threads_are_turned_away_by_the_mark(rt: HostRuntime) {
     see_drained(&rt, holds);
 }
 
-// Waits for the drain with the hold in its place, and counts the thread when it is through.
-fn drain_in<R: Wait>(rt: &R, place: &mut Option<Hold>, through: &AtomicU64) {
+/// Waits for the drain with the hold in its place, and counts the thread when it is through.
+pub(crate) fn drain_in<R: Wait>(rt: &R, place: &mut Option<Hold>, through: &AtomicU64) {
     if let Some(hold) = place.take() {
         wait_drained(rt, hold).release();
         through.fetch_add(1, Ordering::SeqCst);
@@ -123,8 +123,8 @@ fn all_drain<R: Threads + Wait + Sync>(rt: &R, holds: &mut Vec<Option<Hold>>, th
     );
 }
 
-// Ends the call. Where `breaks` says so it breaks its protection first, and answers whether so many came through before it ends.
-fn let_through(mut call: Call, breaks: bool, count: u64, through: &AtomicU64) -> bool {
+/// Ends the call. Where `breaks` says so it breaks its protection first, and answers whether so many came through before it ends.
+pub(crate) fn let_through(mut call: Call, breaks: bool, count: u64, through: &AtomicU64) -> bool {
     let mut enough = true;
     match call.phase() {
         Phase::Running => {
@@ -146,8 +146,8 @@ fn let_through(mut call: Call, breaks: bool, count: u64, through: &AtomicU64) ->
     enough
 }
 
-// Frees waiters by refused tries, each of which wakes one as it is undone.
-fn free_the_rest(place: &mut Option<Hold>, count: u64, through: &AtomicU64) {
+/// Frees waiters by refused tries, each of which wakes one as it is undone.
+pub(crate) fn free_the_rest(place: &mut Option<Hold>, count: u64, through: &AtomicU64) {
     for _ in 0..1_000_000u32 {
         if through.load(Ordering::SeqCst) >= count {
             return;
@@ -164,7 +164,7 @@ fn free_the_rest(place: &mut Option<Hold>, count: u64, through: &AtomicU64) {
     }
 }
 
-// In which order the node is marked, four holds begin to wait, and the last call gives its reference up.
+/// In which order the node is marked, four holds begin to wait, and the last call gives its reference up.
 #[derive(Clone, Copy, PartialEq, Eq)]
 enum Course {
     MarkWaitLeave,
@@ -173,7 +173,7 @@ enum Course {
     WaitLeaveMark,
 }
 
-// Four holds wait for a drain, and all are woken.
+/// Four holds wait for a drain, and all are woken.
 fn four_wait<R: Abort + Threads + Wait + Clock + Sync>(rt: &R, alloc: Global, course: Course) {
     let mut master = made(rt, alloc, 2, 8, 0);
     let key = born(rt, &mut master, 1, 1);
@@ -213,7 +213,7 @@ fn four_wait<R: Abort + Threads + Wait + Clock + Sync>(rt: &R, alloc: Global, co
     no_hold_left(rt, running, holds);
 }
 
-fn no_hold_left<R: Abort>(rt: &R, running: Option<Call>, mut holds: Vec<Option<Hold>>) {
+pub(crate) fn no_hold_left<R: Abort>(rt: &R, running: Option<Call>, mut holds: Vec<Option<Hold>>) {
     if let Some(call) = running {
         let_through(call, false, 0, &AtomicU64::new(0));
         panic!(rt; "the call was not ended");
@@ -238,16 +238,16 @@ fn waiters_are_woken_where_the_last_call_breaks_its_protection(rt: HostRuntime) 
 }
 
 #[test]
-fn waiters_that_came_before_the_mark_are_woken_by_the_last_call(rt: HostRuntime) {
+fn waiters_that_came_before_the_mark_see_the_last_call_end(rt: HostRuntime) {
     four_wait(&rt, rt.alloc(), Course::WaitMarkLeave);
 }
 
 #[test]
-fn waiters_that_came_before_the_mark_are_woken_by_the_mark(rt: HostRuntime) {
+fn waiters_that_came_before_a_mark_with_no_call_all_see_it(rt: HostRuntime) {
     four_wait(&rt, rt.alloc(), Course::WaitLeaveMark);
 }
 
-// Makes tries until told to end, and counts them.
+/// Makes tries until told to end, and counts them.
 fn keep_trying(place: &mut Option<Hold>, tries: &AtomicU64, end: &AtomicU64) {
     for _ in 0..1_000_000_000u64 {
         if end.load(Ordering::SeqCst) != 0 {
@@ -266,7 +266,7 @@ fn keep_trying(place: &mut Option<Hold>, tries: &AtomicU64, end: &AtomicU64) {
     }
 }
 
-// Leaves the call while refused tries come and go, and ends them when some thousands more were made.
+/// Leaves the call while refused tries come and go, and ends them when some thousands more were made.
 fn leave_among_tries<R: Threads + Sync>(
     rt: &R,
     running: &mut Option<Call>,
@@ -288,8 +288,8 @@ fn leave_among_tries<R: Threads + Sync>(
     );
 }
 
-// A hold waits for the drain, and the call is left among refused tries. If a try is not yet undone when the call is left,
-// the waiter is woken by an undo or by nobody.
+/// A hold waits for the drain, and the call is left among refused tries. If a try is not yet undone when the call is left,
+/// the waiter is woken by an undo or by nobody.
 fn one_waits_among_tries<R: Abort + Threads + Wait + Sync>(rt: &R, alloc: Global) {
     let mut master = made(rt, alloc, 2, 8, 0);
     let key = born(rt, &mut master, 1, 1);
@@ -325,4 +325,55 @@ fn a_waiter_is_woken_by_the_undo_of_a_refused_try(rt: HostRuntime) {
     for _ in 0..100 {
         one_waits_among_tries(&rt, rt.alloc());
     }
+}
+
+// Waits until nobody uses the hidden key, and then counts itself.
+pub(crate) fn hide_in<R: Wait>(
+    rt: &R,
+    place: &mut Option<Hiding>,
+    through: &AtomicU64,
+) -> Option<Hidden> {
+    let hiding = place.take()?;
+    let hidden = wait_hidden(rt, hiding);
+    through.fetch_add(1, Ordering::SeqCst);
+    Some(hidden)
+}
+
+// Leaves the call after many looks at the count, and tells whether it stood at 0 until then and was raised after.
+fn leave_late(running: &mut Option<Call>, through: &AtomicU64) -> bool {
+    let mut early = false;
+    for _ in 0..10_000 {
+        early = early || through.load(Ordering::SeqCst) != 0;
+    }
+    if let Some(call) = running.take() {
+        let_through(call, false, 0, through);
+    }
+    wait_for(1, through);
+    !early && through.load(Ordering::SeqCst) == 1
+}
+
+#[test]
+fn a_hide_waits_for_the_call(rt: HostRuntime) {
+    let mut master = made(&rt, rt.alloc(), 2, 8, 0);
+    let key = born(&rt, &mut master, 1, 1);
+    activate(&rt, &mut master, key);
+    let mut running = Some(enter(&rt, pin(&rt, &mut master, key)));
+    let mut hiding = Some(hide(&rt, pin(&rt, &mut master, key)));
+    let third = pin(&rt, &mut master, key);
+    let through = AtomicU64::new(0);
+    let (hidden, waited) = join(
+        &rt,
+        || hide_in(&rt, &mut hiding, &through),
+        || leave_late(&mut running, &through),
+    );
+    assert!(rt; waited);
+    refused(&rt, third).release();
+    match hidden {
+        Some(hidden) => enter(&rt, hidden.show()).leave().release(),
+        None => panic!(rt; "nobody hid the key"),
+    }
+    if let Some(left) = hiding {
+        wait_hidden(&rt, left).show().release();
+    }
+    no_hold_left(&rt, running, Vec::new(rt.alloc()));
 }

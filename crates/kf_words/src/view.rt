@@ -39,6 +39,7 @@ pub struct MasterView {
     pub looked: Option<Load>,
 }
 
+/// The Master's seat, or a caller's.
 pub enum View {
     Master(MasterView),
     Caller(CallerView),

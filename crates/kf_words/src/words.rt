@@ -6,7 +6,7 @@ ghost use Rattle.kf_core.specs.declared.refusal.Refusal.TheVariants as refusal_o
 ghost use Rattle.kf_words.specs.Layout.{opening_words};
 ghost use Rattle.kf_words.specs.Steps.{opened};
 
-use crate::layout::{BIAS, GENERATION, LINKED};
+use crate::layout::{BIAS, GENERATION, LINKED, active_index, hold_index};
 use crate::master::Master;
 use crate::master_seat::MasterSeat;
 use crate::table::{Opening, WordTable};
@@ -15,7 +15,8 @@ use std::alloc::{AllocError, Global};
 use std::marker::Model;
 use std::sync::Arc;
 
-/// A table of words: for each slot an active word and a hold word. Contracts see which table it is.
+/// A table of words: for each slot a line with an active word and a hold word. Contracts see which table it is.
+/// It keeps the table; the Master and the holds that it gives do all else.
 #[derive(Drop)]
 pub struct Words {
     table: Arc<WordTable>,
@@ -30,21 +31,20 @@ impl Model for Words {
     ghost view = { λ w. (arc_value w.table).shared.table_id };
 }
 
-// The words at the opening: the active words, then the hold words.
+/// The words at the opening.
 fn first_words(alloc: Global, slots: u32, start: u32) -> Result<Vec<u64>, AllocError>
     requires some { 1 ≤ slots }
     requires generations { start ≤ 4294967294 }
     ensures { IfOk result (λ words. words.items ≡ opening_words slots start) }
 {
-    let slots = slots as usize;
-    let mut words = vec![in alloc; BIAS; slots]?;
-    words.resize(2 * slots, start as u64 * GENERATION)?;
-    words[0] = 0;
-    words[slots] = (start as u64 + 1) * GENERATION + LINKED;
+    let line = [BIAS, start as u64 * GENERATION, 0, 0, 0, 0, 0, 0];
+    let mut words = line.repeat(alloc, slots as usize)?;
+    words[active_index(0)] = 0;
+    words[hold_index(0)] = (start as u64 + 1) * GENERATION + LINKED;
     Ok(words)
 }
 
-// The slots at the opening.
+/// The slots at the opening.
 fn first_slots(alloc: Global, slots: u32, start: u32) -> Result<Vec<SlotState>, AllocError>
     requires some { 1 ≤ slots }
     requires generations { start ≤ 4294967294 }

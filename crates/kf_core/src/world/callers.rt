@@ -1,16 +1,16 @@
 //! The steps of callers, from the pin to the release.
 
-ghost use Rattle.std.specs.Prelude.{ℕ, ◌≡◌, ◌≢◌, ◌<◌, ◌↔◌, IsTrue, IfOk, IfErr, OnOk, OnErr};
+ghost use Rattle.std.specs.Prelude.{ℕ, ◌≡◌, ◌≢◌, ◌<◌, ◌↔◌, not, IsTrue, IfOk, IfErr, OnOk, OnErr};
 ghost use Rattle.std.specs.Bool.{OnTrue, OnFalse};
 ghost use Rattle.kf_core.specs.declared.key.Key.{Key};
 ghost use Rattle.kf_core.specs.declared.caller.Phase.{Phase};
 ghost use Rattle.kf_core.specs.declared.caller.Phase.TheVariants.{Spent};
 ghost use Rattle.kf_core.specs.declared.event.Event.{Event};
-ghost use Rattle.kf_core.specs.declared.event.Event.TheVariants.{Pin, Enter, Leave, Break, Restore, Look, Part, Release};
-ghost use Rattle.kf_core.specs.Bare.{IsCaller, is_doomed, is_live};
+ghost use Rattle.kf_core.specs.declared.event.Event.TheVariants.{Pin, Enter, Leave, Break, Restore, Look, Part, Hide, LookHidden, Show, Release};
+ghost use Rattle.kf_core.specs.Bare.{IsCaller, is_doomed, is_hidden, is_live};
 ghost use Rattle.kf_core.specs.Phases.{is_waiting};
 ghost use Rattle.kf_core.specs.Safe.{Safe};
-ghost use Rattle.kf_core.specs.Steps.{with_caller, with_phase, BareStep, IsHeld, MayLook, MayPart, MayPin, NoReference};
+ghost use Rattle.kf_core.specs.Steps.{with_caller, with_phase, BareStep, IsHeld, MayLook, MayLookHidden, MayPart, MayPin, NoReference};
 ghost use Rattle.kf_core.specs.Bounded.{Happens, May, PinRefused, bounded, holds};
 
 use super::World;
@@ -21,7 +21,7 @@ use crate::refusal::Refusal;
 use std::alloc::AllocError;
 
 impl World {
-    // The caller's phase becomes this one.
+    /// The caller's phase becomes this one.
     fn put_phase(&mut self, id: usize, caller: Caller, phase: Phase)
         requires there { IsCaller self.old.world id caller.key caller.phase }
         requires holds { caller.phase ≢ Spent }
@@ -39,7 +39,7 @@ impl World {
         self.hint.note(caller.key.slot, free);
     }
 
-    /// Whether the slot of the key has fewer holds than the limit.
+    /// Whether the slot of the key has fewer holds than the limit, as one that the list lacks has.
     pub fn room(&self, key: Key) -> bool
         ensures told { IsTrue result ↔ (holds self.now.world key.slot < self.now.limit) }
         ensures safe { Safe self.now.world }
@@ -47,7 +47,7 @@ impl World {
         self.counts_of(key.slot).holds < self.limit as usize
     }
 
-    // Whether somebody holds the node.
+    /// Whether somebody holds the node.
     fn is_held(&self, key: Key) -> bool
         ensures { IsTrue result ↔ IsHeld self.now.world key }
     {
@@ -59,14 +59,14 @@ impl World {
         }
     }
 
-    // Whether the node is linked, or somebody holds it.
+    /// Whether the node is linked, or somebody holds it.
     fn may_pin(&self, key: Key) -> bool
         ensures { IsTrue result ↔ MayPin self.now.world key }
     {
         self.is_linked(key) || self.is_held(key)
     }
 
-    // One caller more, which holds the key.
+    /// One caller more, which holds the key.
     fn add_caller(&mut self, key: Key) -> Result<(), AllocError>
         requires may { MayPin self.old.world key }
         ensures added { OnOk result (self.new ≡ bounded (with_caller self.old.world key) self.old.limit) }
@@ -103,6 +103,8 @@ impl World {
 
     /// A try for an active reference (`kernfs_get_active`). It succeeds exactly where the node is live: the
     /// caller is then Running, else Turned.
+    ///
+    /// Condition: Still or Turned.
     pub fn enter(&mut self, id: usize) -> bool
         requires may { May self.old (Enter id) }
         ensures step { Happens self.old (Enter id) self.new }
@@ -116,6 +118,8 @@ impl World {
     }
 
     /// The end of a call (`kernfs_put_active`).
+    ///
+    /// Condition: Running or Restored.
     pub fn leave(&mut self, id: usize)
         requires may { May self.old (Leave id) }
         ensures step { Happens self.old (Leave id) self.new }
@@ -125,6 +129,8 @@ impl World {
     }
 
     /// Gives the reference up inside the call (`kernfs_break_active_protection`).
+    ///
+    /// Condition: Running.
     pub fn break_at(&mut self, id: usize)
         requires may { May self.old (Break id) }
         ensures step { Happens self.old (Break id) self.new }
@@ -134,6 +140,8 @@ impl World {
     }
 
     /// Takes a reference again inside the call (`kernfs_unbreak_active_protection`).
+    ///
+    /// Condition: Broken.
     pub fn restore(&mut self, id: usize)
         requires may { May self.old (Restore id) }
         ensures step { Happens self.old (Restore id) self.new }
@@ -159,7 +167,7 @@ impl World {
         true
     }
 
-    // Whether a caller of this key and phase may see the drain.
+    /// Whether a caller of this key and phase may see the drain.
     fn sees_drain(&self, key: Key, phase: Phase) -> bool
         requires there { (id : ℕ) × IsCaller self.now.world id key phase }
         ensures { IsTrue result ↔ (IsTrue (is_waiting phase) × IsTrue (is_doomed self.now.world key) × NoReference self.now.world key) }
@@ -188,7 +196,63 @@ impl World {
         true
     }
 
+    /// Hides the node of a waiting caller: it is not live until the caller shows it again. The caller is then
+    /// Hiding. False, and nothing changes, where a caller hides the node already.
+    pub fn hide(&mut self, id: usize) -> bool
+        requires waits { (key : Key) × (phase : Phase) × IsCaller self.old.world id key phase × IsTrue (is_waiting phase) }
+        ensures step { OnTrue result (Happens self.old (Hide id) self.new) }
+        ensures same { OnFalse result (self.new ≡ self.old) }
+        ensures told { (key : Key) (phase : Phase) → IsCaller self.old.world id key phase → result ≡ not (is_hidden self.old.world key) }
+    {
+        let caller = self.callers[id];
+        if self.is_hidden(caller.key) {
+            return false;
+        }
+        self.put_phase(id, caller, Phase::Hiding);
+        true
+    }
+
+    /// Whether the caller is Hiding and nobody has a reference to its node. The caller is then Hidden; else
+    /// nothing changes.
+    pub fn look_hidden(&mut self, id: usize) -> bool
+        ensures step { OnTrue result (Happens self.old (LookHidden id) self.new) }
+        ensures same { OnFalse result (self.new ≡ self.old) }
+        ensures told { IsTrue result ↔ MayLookHidden self.old.world id }
+    {
+        let Some((key, Phase::Hiding)) = self.caller(id) else {
+            return false;
+        };
+        if !self.is_unused(key, Phase::Hiding) {
+            return false;
+        }
+        let phase = Phase::Hiding;
+        self.put_phase(id, Caller { key, phase }, Phase::Hidden);
+        true
+    }
+
+    /// Whether nobody has a reference to the node that a caller holds.
+    fn is_unused(&self, key: Key, phase: Phase) -> bool
+        requires there { (id : ℕ) × IsCaller self.now.world id key phase }
+        requires holds { phase ≢ Spent }
+        ensures { IsTrue result ↔ NoReference self.now.world key }
+    {
+        let _ = phase;
+        let counts = self.counts_of(key.slot);
+        counts.references == 0
+    }
+
+    /// Shows the node again that the caller hides.
+    pub fn show(&mut self, id: usize)
+        requires may { May self.old (Show id) }
+        ensures step { Happens self.old (Show id) self.new }
+    {
+        let hider = self.callers[id];
+        self.put_phase(id, hider, Phase::Still);
+    }
+
     /// Gives the hold back. The caller stays in the list, Spent.
+    ///
+    /// Condition: Still, Turned, Drained or Parted.
     pub fn release(&mut self, id: usize)
         requires may { May self.old (Release id) }
         ensures step { Happens self.old (Release id) self.new }

@@ -8,10 +8,10 @@ ghost use Rattle.kf_core.specs.Hints.{Skips};
 use crate::refusal::Refusal;
 use std::alloc::Global;
 
-// So many slots make a block.
+/// So many slots make a block.
 pub(super) const BLOCK: u32 = 64;
 
-// From slot 1 up no slot that is skipped is free.
+/// From slot 1 up no slot that is skipped is free.
 #[derive(Drop)]
 pub(crate) struct Hint {
     // The search begins here.
@@ -21,7 +21,7 @@ pub(crate) struct Hint {
     ghost from_one: { 1 ≤ lowest },
 }
 
-// The block in which a slot stands.
+/// The block in which a slot stands.
 pub(super) fn block_of(slot: u32) -> usize
     ensures { result ≡ slot / 64 }
 {
@@ -29,7 +29,7 @@ pub(super) fn block_of(slot: u32) -> usize
 }
 
 impl Hint {
-    // For a world of so many slots. The search looks at each from 1 up.
+    /// For a world of so many slots. The search looks at each from 1 up.
     pub(super) fn new(alloc: Global, slots: u32) -> Result<Hint, Refusal>
         ensures looks { IfOk result (λ hint. (slot : ℕ) → 1 ≤ slot → ¬ Skips hint.lowest hint.full.items slot) }
         ensures covered { IfOk result (λ hint. slots / 64 < length hint.full.items) }
@@ -41,7 +41,7 @@ impl Hint {
         }
     }
 
-    // After a change of one slot. Where it is free now, the search looks at it.
+    /// After a change of one slot. Where it is free now, the search looks at it.
     pub(super) fn note(&mut self, slot: u32, free: bool)
         requires within { slot / 64 < length self.old.full.items }
         ensures looks { IsTrue free → 1 ≤ slot → ¬ Skips self.new.lowest self.new.full.items slot }
@@ -57,7 +57,7 @@ impl Hint {
         }
     }
 
-    // From now on the search begins at this slot, and passes over each block from the old begin to it.
+    /// From now on the search begins at this slot, and passes over each block from the old begin to it.
     pub(super) fn raise(&mut self, lowest: u32)
         requires from_one { 1 ≤ lowest }
         ensures skips { (slot : ℕ) → Skips self.new.lowest self.new.full.items slot → (slot < lowest) ⊎ Skips self.old.lowest self.old.full.items slot }

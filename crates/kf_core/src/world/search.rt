@@ -10,7 +10,7 @@ use super::hint::{BLOCK, block_of};
 use crate::key::Key;
 use crate::slot::SlotState;
 
-// Whether a slot of this state may be given again, where so many hold it.
+/// Whether a slot of this state may be given again, where so many hold it.
 pub(super) fn may_be_given(state: SlotState, holds: usize) -> bool
     ensures { IsTrue result ↔ ((state.marks ≡ None) × (state.generation < 2 ^ 32 - 1) × (holds ≡ 0)) }
 {
@@ -18,7 +18,7 @@ pub(super) fn may_be_given(state: SlotState, holds: usize) -> bool
 }
 
 impl World {
-    // Whether the slot may be given again.
+    /// Whether the slot may be given again.
     fn is_free(&self, slot: u32) -> bool
         ensures { IsTrue result ↔ IsFree self.now.world slot }
     {
@@ -28,7 +28,7 @@ impl World {
         }
     }
 
-    // The lowest free slot of a block, where no slot below the block is free.
+    /// The lowest free slot of a block, where no slot below the block is free.
     fn free_in(&self, block: usize) -> Option<u32>
         requires within { block ≤ length self.now.world.slots / 64 }
         requires passed { NoneFree self.now.world (64 * block) }
@@ -49,7 +49,7 @@ impl World {
         None
     }
 
-    // The lowest free slot, the root's left out.
+    /// The lowest free slot, the root's left out.
     pub(super) fn lowest_free(&self) -> Option<u32>
         ensures free { IfSome result (λ slot. IsFree self.now.world slot) }
         ensures from_one { IfSome result (λ slot. 1 ≤ slot) }
@@ -65,7 +65,7 @@ impl World {
         None
     }
 
-    // The search begins at the lowest free slot, and past every slot where none is free.
+    /// The search begins at the lowest free slot, and past every slot where none is free.
     pub(super) fn raise_lowest(&mut self)
         ensures { self.new ≡ self.old }
     {

@@ -13,7 +13,7 @@ use crate::key::Key;
 use crate::slot::{Marks, SlotState};
 
 impl World {
-    // The slot of the key gets its generation, and these marks.
+    /// The slot of the key gets its generation, and these marks.
     fn put_marks(&mut self, key: Key, marks: Option<Marks>)
         requires within { key.slot < length self.old.world.slots }
         requires step { (event : Event) × BareStep self.old.world event (with_marks self.old.world key marks) }
@@ -27,6 +27,8 @@ impl World {
     }
 
     /// Links a node, not activated and not doomed, in a slot that nobody holds.
+    ///
+    /// Condition: the slot has no linked node and only spent callers, and the key is its next.
     pub fn born(&mut self, key: Key)
         requires may { MayBeBorn self.old.world key }
         ensures step { (parent : Key) (name : List ℕ) (node : Node) → Happens self.old (Born key parent name node) self.new }
@@ -41,7 +43,9 @@ impl World {
         self.raise_lowest();
     }
 
-    /// Activates a linked node that is neither activated nor doomed (`kernfs_activate`).
+    /// Activates a node (`kernfs_activate`).
+    ///
+    /// Condition: linked, neither activated nor doomed.
     pub fn activate(&mut self, key: Key)
         requires may { May self.old (Rise key) }
         ensures step { Happens self.old (Rise key) self.new }
@@ -55,7 +59,9 @@ impl World {
         );
     }
 
-    /// Dooms a linked node: no try for a reference succeeds any more.
+    /// Dooms a node: no try for a reference succeeds any more.
+    ///
+    /// Condition: linked, not doomed.
     pub fn doom(&mut self, key: Key)
         requires may { May self.old (Mark key) }
         ensures step { Happens self.old (Mark key) self.new }
@@ -71,7 +77,9 @@ impl World {
         }
     }
 
-    /// Takes the node of a drained caller out. The slot stays held.
+    /// Takes the node of a caller out. The slot stays held.
+    ///
+    /// Condition: the caller is Drained, and its node linked.
     pub fn unlink(&mut self, id: usize)
         requires may { May self.old (Unlink id) }
         ensures step { Happens self.old (Unlink id) self.new }

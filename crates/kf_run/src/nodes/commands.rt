@@ -1,10 +1,13 @@
 //! The tree commands, each with the events of the callers' world that go with it.
 
-ghost use Rattle.std.specs.Prelude.{◌≡◌, [], ◌∷◌, slice_set, IfOk, IfErr, None, Some, true, false, if◌then◌else◌};
+ghost use Rattle.std.specs.Prelude.{◌≡◌, List, [], ◌∷◌, slice_set, IfOk, IfErr, None, Some, true, false, if◌then◌else◌};
+ghost use Rattle.kf_core.specs.declared.command.Command.{Command};
 ghost use Rattle.kf_core.specs.declared.command.Command.TheVariants.{Create, Activate, Rename};
+ghost use Rattle.kf_core.specs.declared.refusal.Refusal.TheVariants.{NoMemory};
 ghost use Rattle.kf_core.specs.PostOrder.{IsPostOrder};
+ghost use Rattle.kf_tree.specs.Canonical.{IsCanonical};
 ghost use Rattle.kf_tree.specs.Causes.{Refuses, create_cause, linked_cause, rename_cause, is_there_already};
-ghost use Rattle.kf_run.specs.Nodes.{IsNext, hold_count, logged};
+ghost use Rattle.kf_run.specs.Nodes.{IsNext, hold_count, listed, logged};
 
 use super::Nodes;
 use kf_core::{Key, Node, Refusal};
@@ -46,5 +49,15 @@ impl Nodes {
         ensures refused { IfErr result (λ refusal. Refuses (rename_cause self.old.log.tree self.old.log.root key dir name.now) refusal × (self.new ≡ self.old)) }
     {
         self.state.rename(key, dir, name)
+    }
+
+    /// Puts the shortest list that makes this tree in place of the stored commands, as `State::compact` does.
+    /// `NoMemory` alone; then nothing is changed.
+    pub fn compact(&mut self) -> Result<(), Refusal>
+        ensures compacted { IfOk result (λ _. (commands : List Command) × IsCanonical self.old.log.tree commands
+            × (self.new ≡ record self.old { log = listed self.old.log commands })) }
+        ensures refused { IfErr result (λ refusal. (refusal ≡ NoMemory) × (self.new ≡ self.old)) }
+    {
+        self.state.compact()
     }
 }

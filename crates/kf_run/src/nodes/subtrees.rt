@@ -21,7 +21,7 @@ use super::Nodes;
 use kf_core::{Key, Refusal, World};
 use kf_tree::State;
 
-// Whether a linked node is neither activated nor doomed.
+/// Whether a linked node is neither activated nor doomed.
 fn is_fresh(state: &State, key: Key) -> bool
     ensures fresh { result ≡ is_fresh_key state.now.tree key }
 {
@@ -31,7 +31,7 @@ fn is_fresh(state: &State, key: Key) -> bool
     }
 }
 
-// Activates each of these nodes, none of which is activated or doomed.
+/// Activates each of these nodes, none of which is activated or doomed.
 fn rise_each(world: &mut World, keys: &[Key])
     requires different { AllPairs (λ a b. a ≢ b) keys.now }
     requires fresh { All (λ key. marks world.old.world key ≡ Some fresh_marks) keys.now }
@@ -43,7 +43,7 @@ fn rise_each(world: &mut World, keys: &[Key])
     }
 }
 
-// Gives back the holds of so many callers, from this number to the last.
+/// Gives back the holds of so many callers, from this number to the last.
 fn release_from(world: &mut World, first: usize, count: usize)
     requires last { first + count ≡ length world.old.world.callers }
     requires fits { first + count ≤ 2 ^ 64 }
@@ -55,8 +55,8 @@ fn release_from(world: &mut World, first: usize, count: usize)
     }
 }
 
-// A new hold of each of these linked nodes, in this order. Answers the number of the first caller.
-// After a refusal the holds that were taken are given back.
+/// A new hold of each of these linked nodes, in this order. Answers the number of the first caller.
+/// After a refusal the holds that were taken are given back.
 fn pin_each(world: &mut World, keys: &[Key]) -> Result<usize, Refusal>
     requires some { 0 < length keys.now }
     requires linked { All (λ key. IsTrue (has_node world.old.world key)) keys.now }
@@ -81,7 +81,7 @@ fn pin_each(world: &mut World, keys: &[Key]) -> Result<usize, Refusal>
     Ok(first)
 }
 
-// Dooms each of these nodes, none of which is doomed.
+/// Dooms each of these nodes, none of which is doomed.
 fn doom_each(world: &mut World, keys: &[Key])
     requires different { AllPairs (λ a b. a ≢ b) keys.now }
     requires undoomed { All (λ key. IsMarkedUndoomed (marks world.old.world key)) keys.now }
@@ -93,8 +93,8 @@ fn doom_each(world: &mut World, keys: &[Key])
     }
 }
 
-// Takes out a doomed node without linked children. The caller of this number holds it, and nobody has a reference to
-// it, so each step succeeds: the drain is over at once.
+/// Takes out a doomed node without linked children. The caller of this number holds it, and nobody has a reference to
+/// it, so each step succeeds: the drain is over at once.
 fn take_out(state: &mut State, world: &mut World, id: usize, key: Key)
     requires still { IsCaller world.old.world id key Still }
     requires unused { NoReference world.old.world key }
@@ -111,9 +111,10 @@ fn take_out(state: &mut State, world: &mut World, id: usize, key: Key)
     world.release(id);
 }
 
-// Takes out these doomed nodes, each after its children. The callers from this number on hold one each.
+/// Takes out these doomed nodes, each after its children. The callers from this number on hold one each.
 fn take_out_each(state: &mut State, world: &mut World, first: usize, keys: &[Key])
     requires kept { IsKept state.old }
+    requires not_ready { state.old.ready ≡ None }
     requires same { SameMarks world.old.world state.old.tree }
     requires doomed { All (λ key. IsMarkedDoomed (marks world.old.world key)) keys.now }
     requires different { AllPairs (λ a b. a ≢ b) keys.now }

@@ -2,7 +2,7 @@
 
 ghost use Rattle.std.specs.Prelude.{◌≡◌, ◌<◌, Bool};
 ghost use Rattle.kf_run.specs.PlainStep.{PlainStep};
-ghost use Rattle.kf_run.specs.Requests.{make_directory as make_directory_words, make_file as make_file_words, make_link as make_link_words, activate as activate_words, list_names as list_names_words, stat as stat_words, read_link as read_link_words, move as move_words, remove as remove_words, open_file as open_file_words, notify as notify_words, close_file as close_file_words, read_file as read_file_words, write_file as write_file_words, poll_file as poll_file_words, count_commands as count_commands_words};
+ghost use Rattle.kf_run.specs.Requests.{make_directory as make_directory_words, make_file as make_file_words, make_link as make_link_words, activate as activate_words, list_names as list_names_words, stat as stat_words, read_link as read_link_words, move as move_words, remove as remove_words, open_file as open_file_words, notify as notify_words, close_file as close_file_words, read_file as read_file_words, write_file as write_file_words, poll_file as poll_file_words, count_commands as count_commands_words, compact as compact_words, hide as hide_words, show as show_words};
 
 use super::PlainBoard;
 use crate::board::Board;
@@ -11,6 +11,7 @@ use crate::request::Request;
 use kf_files::Want;
 
 impl PlainBoard {
+    /// `mkdir`: the new key.
     fn answer_make_directory(&mut self, path: &[u8], is_live: bool, reply: &mut Reply)
         ensures { (starved : Bool) × PlainStep self.old (make_directory_words path.now is_live) starved reply.new self.new }
     {
@@ -20,6 +21,7 @@ impl PlainBoard {
         }
     }
 
+    /// `file`: the new key.
     fn answer_make_file(&mut self, path: &[u8], mode: u16, text: &[u8], reply: &mut Reply)
         ensures { (starved : Bool) × PlainStep self.old (make_file_words path.now mode text.now) starved reply.new self.new }
     {
@@ -29,6 +31,7 @@ impl PlainBoard {
         }
     }
 
+    /// `link`: the new key.
     fn answer_make_link(&mut self, path: &[u8], target: &[u8], reply: &mut Reply)
         ensures { (starved : Bool) × PlainStep self.old (make_link_words path.now target.now) starved reply.new self.new }
     {
@@ -38,6 +41,7 @@ impl PlainBoard {
         }
     }
 
+    /// `activate`: done.
     fn answer_activate(&mut self, path: &[u8], reply: &mut Reply)
         ensures { (starved : Bool) × PlainStep self.old (activate_words path.now) starved reply.new self.new }
     {
@@ -47,6 +51,7 @@ impl PlainBoard {
         }
     }
 
+    /// `ls`: the names.
     fn answer_list(&mut self, path: &[u8], reply: &mut Reply)
         ensures { (starved : Bool) × PlainStep self.old (list_names_words path.now) starved reply.new self.new }
     {
@@ -55,6 +60,7 @@ impl PlainBoard {
         }
     }
 
+    /// `stat`: what is told of the node.
     fn answer_stat(&mut self, path: &[u8], reply: &mut Reply)
         ensures { (starved : Bool) × PlainStep self.old (stat_words path.now) starved reply.new self.new }
     {
@@ -64,6 +70,7 @@ impl PlainBoard {
         }
     }
 
+    /// `readlink`: the text.
     fn answer_read_link(&mut self, path: &[u8], reply: &mut Reply)
         ensures { (starved : Bool) × PlainStep self.old (read_link_words path.now) starved reply.new self.new }
     {
@@ -72,6 +79,7 @@ impl PlainBoard {
         }
     }
 
+    /// `mv`: done.
     fn answer_move(&mut self, path: &[u8], dir: &[u8], name: &[u8], reply: &mut Reply)
         ensures { (starved : Bool) × PlainStep self.old (move_words path.now dir.now name.now) starved reply.new self.new }
     {
@@ -81,6 +89,7 @@ impl PlainBoard {
         }
     }
 
+    /// `rm`: done.
     fn answer_remove(&mut self, path: &[u8], reply: &mut Reply)
         ensures { (starved : Bool) × PlainStep self.old (remove_words path.now) starved reply.new self.new }
     {
@@ -90,6 +99,7 @@ impl PlainBoard {
         }
     }
 
+    /// `open`: done.
     fn answer_open(&mut self, file: usize, path: &[u8], want: Want, reply: &mut Reply)
         requires { file < 26 }
         ensures { (starved : Bool) × PlainStep self.old (open_file_words file path.now want.read want.write) starved reply.new self.new }
@@ -100,6 +110,7 @@ impl PlainBoard {
         }
     }
 
+    /// `read`: the bytes.
     fn answer_read(&mut self, file: usize, offset: u64, most: usize, reply: &mut Reply)
         requires { file < 26 }
         ensures { (starved : Bool) × PlainStep self.old (read_file_words file offset most) starved reply.new self.new }
@@ -109,6 +120,7 @@ impl PlainBoard {
         }
     }
 
+    /// `write`: the number of bytes taken.
     fn answer_write(&mut self, file: usize, text: &[u8], reply: &mut Reply)
         requires { file < 26 }
         ensures { (starved : Bool) × PlainStep self.old (write_file_words file text.now) starved reply.new self.new }
@@ -118,6 +130,7 @@ impl PlainBoard {
         }
     }
 
+    /// `poll`: changed or the same.
     fn answer_poll(&mut self, file: usize, reply: &mut Reply)
         requires { file < 26 }
         ensures { (starved : Bool) × PlainStep self.old (poll_file_words file) starved reply.new self.new }
@@ -128,6 +141,7 @@ impl PlainBoard {
         }
     }
 
+    /// `notify`: done.
     fn answer_notify(&mut self, path: &[u8], reply: &mut Reply)
         ensures { (starved : Bool) × PlainStep self.old (notify_words path.now) starved reply.new self.new }
     {
@@ -137,6 +151,37 @@ impl PlainBoard {
         }
     }
 
+    /// `hide`: done.
+    fn answer_hide(&mut self, path: &[u8], reply: &mut Reply)
+        ensures { (starved : Bool) × PlainStep self.old (hide_words path.now) starved reply.new self.new }
+    {
+        match self.hide(path) {
+            Ok(()) => reply.set_done(),
+            Err(refusal) => reply.set_refusal(refusal),
+        }
+    }
+
+    /// `show`: done.
+    fn answer_show(&mut self, path: &[u8], reply: &mut Reply)
+        ensures { (starved : Bool) × PlainStep self.old (show_words path.now) starved reply.new self.new }
+    {
+        match self.show(path) {
+            Ok(()) => reply.set_done(),
+            Err(refusal) => reply.set_refusal(refusal),
+        }
+    }
+
+    /// `compact`: done.
+    fn answer_compact(&mut self, reply: &mut Reply)
+        ensures { (starved : Bool) × PlainStep self.old compact_words starved reply.new self.new }
+    {
+        match self.compact() {
+            Ok(()) => reply.set_done(),
+            Err(refusal) => reply.set_refusal(refusal),
+        }
+    }
+
+    /// `close`: done.
     fn answer_close(&mut self, file: usize, reply: &mut Reply)
         requires { file < 26 }
         ensures { (starved : Bool) × PlainStep self.old (close_file_words file) starved reply.new self.new }
@@ -183,7 +228,10 @@ impl Board for PlainBoard {
             Request::PollFile { file } => self.answer_poll(file, reply),
             Request::Notify { path } => self.answer_notify(path, reply),
             Request::CloseFile { file } => self.answer_close(file, reply),
+            Request::Hide { path } => self.answer_hide(path, reply),
+            Request::Show { path } => self.answer_show(path, reply),
             Request::CountCommands => reply.set_number(self.count_commands()),
+            Request::Compact => self.answer_compact(reply),
         }
     }
 }

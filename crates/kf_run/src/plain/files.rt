@@ -129,7 +129,7 @@ impl PlainBoard {
     }
 }
 
-// Tells the bytes that were read to the front of a buffer, or why there are none.
+/// Tells the bytes that were read to the front of a buffer, or why there are none.
 fn tell_bytes(reply: &mut Reply, told: Result<usize, FileError>, out: &[u8])
     requires fits { IfOk told (λ count. count ≤ length out.now) }
     requires page { length out.now ≤ 4096 }
@@ -141,7 +141,7 @@ fn tell_bytes(reply: &mut Reply, told: Result<usize, FileError>, out: &[u8])
     }
 }
 
-// Tells the number that a store answered, or why there is none.
+/// Tells the number that a store answered, or why there is none.
 fn tell_count(reply: &mut Reply, told: Result<usize, FileError>)
     ensures told { reply.new ≡ count_text told }
 {

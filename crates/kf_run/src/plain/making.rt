@@ -1,10 +1,13 @@
 //! The requests that make, activate and move nodes.
 
-ghost use Rattle.std.specs.Prelude.{◌≡◌, [], ◌∷◌, None, Some, Ok, IfOk, IfErr, Option, true};
+ghost use Rattle.std.specs.Prelude.{◌≡◌, List, [], ◌∷◌, None, Some, Ok, IfOk, IfErr, Option, true};
 ghost use Rattle.kf_core.specs.declared.key.Key.{Key};
 ghost use Rattle.kf_core.specs.declared.key.Node.TheVariants.{Dir, Link};
+ghost use Rattle.kf_core.specs.declared.command.Command.{Command};
 ghost use Rattle.kf_core.specs.declared.command.Command.TheVariants.{Activate};
-ghost use Rattle.kf_run.specs.Plain.{IsNextKey, with_commands, with_text};
+ghost use Rattle.kf_core.specs.declared.refusal.Refusal.TheVariants.{NoMemory};
+ghost use Rattle.kf_tree.specs.Canonical.{IsCanonical};
+ghost use Rattle.kf_run.specs.Plain.{IsNextKey, with_commands, with_list, with_text};
 ghost use Rattle.kf_run.specs.PlainTree.{Spot, new_spot, new_link_spot, file_node, with_node, activated_key, moved_key, with_move};
 ghost use Rattle.kf_run.specs.Settled.{IsRefused};
 
@@ -63,9 +66,17 @@ impl PlainBoard {
     {
         self.nodes.move_at(path, dir, name)
     }
+
+    /// Puts the shortest list that makes the tree in place of the stored commands.
+    pub(super) fn compact(&mut self) -> Result<(), Refusal>
+        ensures compacted { IfOk result (λ _. (commands : List Command) × IsCanonical self.old.log.tree commands × (self.new ≡ with_list self.old commands)) }
+        ensures refused { IfErr result (λ refusal. (refusal ≡ NoMemory) × (self.new ≡ self.old)) }
+    {
+        self.nodes.compact()
+    }
 }
 
-// The node of a new file under the next key: its tag is the number of its slot.
+/// The node of a new file under the next key: its tag is the number of its slot.
 fn file_node(mode: u16, next: Option<Key>) -> Node
     ensures node { result ≡ file_node mode next }
 {

@@ -1,6 +1,11 @@
 //! Each public call on its happy path, with answers known from outside, and walks of long paths.
+//! What is done more than once stands in a function of its own, which keeps the proofs of the tests short.
 
 ghost use Rattle.std.specs.Prelude.{◌≡◌, slice_get, IfSome, Some, None};
+
+mod compaction;
+mod hiding;
+mod large;
 
 use super::State;
 use crate::Stat;
@@ -13,9 +18,8 @@ const ROOT: Key = Key {
     generation: 1,
 };
 
-fn key(slot: u32) -> Key
-    ensures same_slot { result.slot ≡ slot }
-{
+/// The first key of a slot.
+fn key(slot: u32) -> Key {
     Key {
         slot,
         generation: 1,
@@ -29,12 +33,12 @@ fn new_state(alloc: Global, slots: u32) -> Result<State, Refusal> {
     }
 }
 
-/// The slot's first key, where the slot is vacant.
-fn vacant(state: &State, slot: u32) -> Option<Key>
+/// The key of this slot and generation, where the slot is vacant.
+fn vacant(state: &State, slot: u32, generation: u32) -> Option<Key>
     ensures vacant { IfSome result (λ key. slice_get state.now.tree key.slot ≡ Some None) }
 {
-    if state.table.has_vacant(slot) {
-        Some(key(slot))
+    if state.is_vacant(slot) {
+        Some(Key { slot, generation })
     } else {
         None
     }
@@ -43,8 +47,68 @@ fn vacant(state: &State, slot: u32) -> Option<Key>
 /// A node at a path, in this slot where it is vacant.
 fn add(state: &mut State, path: &[u8], node: Node, live: bool, slot: u32) -> Result<Key, Refusal> {
     let (parent, name) = state.walk_parent(path)?;
-    let next = vacant(state, slot);
+    let next = vacant(state, slot, 1);
     state.create(parent, name, node, live, next)
+}
+
+/// Whether the doom of a key answers these keys.
+fn dooms(state: &mut State, key: Key, expected: &[Key]) -> bool {
+    match state.doom(key) {
+        Ok(keys) => keys.as_slice() == expected,
+        Err(_) => false,
+    }
+}
+
+/// Whether the post-order of a key's subtree is these keys.
+fn has_order(state: &State, key: Key, expected: &[Key]) -> bool {
+    match state.post_order(key) {
+        Ok(keys) => keys.as_slice() == expected,
+        Err(_) => false,
+    }
+}
+
+fn unlink(state: &mut State, key: Key) -> Result<bool, Refusal> {
+    state.unlink(key)
+}
+
+fn text_refusal(state: &State, key: Key) -> Option<Refusal> {
+    state.target_text(key).err()
+}
+
+/// The letter of each stored command: Create, Activate, Doom, Unlink, Rename, Hide, Show.
+fn letter(command: &Command) -> u8 {
+    match command {
+        Command::Create { .. } => b'C',
+        Command::Activate { .. } => b'A',
+        Command::Doom { .. } => b'D',
+        Command::Unlink { .. } => b'U',
+        Command::Rename { .. } => b'R',
+        Command::Hide { .. } => b'H',
+        Command::Show { .. } => b'S',
+    }
+}
+
+/// The key that a stored command is about.
+fn key_of(command: &Command) -> Key {
+    match command {
+        Command::Create { key, .. }
+        | Command::Activate { key }
+        | Command::Doom { key }
+        | Command::Unlink { key }
+        | Command::Rename { key, .. }
+        | Command::Hide { key }
+        | Command::Show { key } => *key,
+    }
+}
+
+/// Whether the stored commands are of these kinds, in this order.
+fn has_stored(state: &State, letters: &[u8]) -> bool {
+    let commands = state.commands();
+    commands.len() == letters.len()
+        && commands
+            .iter()
+            .zip(letters)
+            .all(|(command, expected)| letter(command) == *expected)
 }
 
 fn remove(state: &mut State, path: &[u8]) -> Result<(), Refusal> {
@@ -89,6 +153,7 @@ fn directory(subdirs: u32, links: u32, activated: bool) -> Stat {
         links,
         activated,
         doomed: false,
+        hidden: false,
     }
 }
 
@@ -116,6 +181,7 @@ fn lists_and_tells_of_what_was_created(rt: HostRuntime) -> Result<(), Fail> {
         links: 1,
         activated: true,
         doomed: false,
+        hidden: false,
     };
     assert_eq!(rt; state.stat(key(3)), Ok(told));
     assert_eq!(rt;
@@ -135,22 +201,17 @@ fn removes_a_directory(rt: HostRuntime) -> Result<(), Fail> {
     );
     assert_eq!(rt; add(&mut state, b"/a/c", Node::Dir, true, 2), Ok(key(2)));
     assert_eq!(rt; add(&mut state, b"/a/b", Node::Dir, false, 3), Ok(key(3)));
-    assert!(rt;
-        state.post_order(key(1)).is_ok_and(|keys| keys.as_slice()
-            == [key(3), key(2), key(1)].as_slice())
-    );
-    assert_eq!(rt; state.unlink(key(2)), Err(Refusal::Invalid));
-    assert!(rt;
-        state.doom(key(1)).is_ok_and(|keys| keys.as_slice() == [key(3), key(2), key(1)].as_slice())
-    );
+    assert!(rt; has_order(&state, key(1), &[key(3), key(2), key(1)]));
+    assert_eq!(rt; unlink(&mut state, key(2)), Err(Refusal::Invalid));
+    assert!(rt; dooms(&mut state, key(1), &[key(3), key(2), key(1)]));
     assert_eq!(rt; state.lookup(b"/a/c"), Err(Refusal::NoEntry));
     assert_eq!(rt; state.may_unlink(key(1)), Err(Refusal::Busy));
     assert_eq!(rt; remove(&mut state, b"/a"), Ok(()));
     assert!(rt; shows(&state, ROOT, None, 10, &[]));
     assert_eq!(rt; remove(&mut state, b"/a"), Err(Refusal::NoEntry));
-    assert_eq!(rt; state.unlink(key(1)), Ok(false));
-    assert_eq!(rt; state.commands().len(), 8);
-    assert_eq!(rt; state.doom(ROOT).err(), Some(Refusal::Invalid));
+    assert_eq!(rt; unlink(&mut state, key(1)), Ok(false));
+    assert!(rt; has_stored(&state, b"CCCDDUUU"));
+    assert_eq!(rt; remove(&mut state, b"/"), Err(Refusal::Invalid));
     Ok(())
 }
 
@@ -166,7 +227,7 @@ fn activates_what_was_created_off(rt: HostRuntime) -> Result<(), Fail> {
     assert_eq!(rt; state.stat(key(1)), Ok(directory(0, 2, false)));
     assert_eq!(rt; state.activate(key(1)), Ok(()));
     assert!(rt; shows(&state, ROOT, None, 10, &[b"a"]));
-    assert!(rt; matches!(state.commands().last(), Some(Command::Activate { .. })));
+    assert!(rt; has_stored(&state, b"CA"));
     Ok(())
 }
 
@@ -228,7 +289,7 @@ fn moves_and_counts_directories(rt: HostRuntime) -> Result<(), Fail> {
     assert_eq!(rt; add(&mut state, b"/b", Node::Dir, true, 2), Ok(key(2)));
     assert_eq!(rt; add(&mut state, b"/a/c", Node::Dir, true, 3), Ok(key(3)));
     assert_eq!(rt; move_to(&mut state, b"/a", b"/", b"a"), Ok(()));
-    assert_eq!(rt; state.commands().len(), 3);
+    assert!(rt; has_stored(&state, b"CCC"));
     assert_eq!(rt;
         move_to(&mut state, b"/a", b"/", b"b"),
         Err(Refusal::Exists)
@@ -244,7 +305,7 @@ fn moves_and_counts_directories(rt: HostRuntime) -> Result<(), Fail> {
     assert_eq!(rt; move_to(&mut state, b"/a/c", b"/b", b"d"), Ok(()));
     assert_eq!(rt; state.stat(key(1)), Ok(directory(0, 2, true)));
     assert_eq!(rt; state.stat(key(2)), Ok(directory(1, 3, true)));
-    assert_eq!(rt; state.commands().len(), 4);
+    assert!(rt; has_stored(&state, b"CCCR"));
     Ok(())
 }
 
@@ -257,9 +318,12 @@ fn has_text(state: &State, path: &[u8], expected: &[u8]) -> bool {
     }
 }
 
-#[test]
-fn spells_links(rt: HostRuntime) -> Result<(), Fail> {
-    let mut state = new_state(rt.alloc(), 1024)?;
+fn add_link(state: &mut State, path: &[u8], target: Key, slot: u32) -> Result<Key, Refusal> {
+    add(state, path, Node::Link { target }, true, slot)
+}
+
+/// Two directories of devices, one of them with a device, as in a kernel's tree.
+fn add_devices(state: &mut State) -> Result<(), Refusal> {
     let paths: [(&[u8], u32); 4] = [
         (b"/devices", 1),
         (b"/devices/d0", 2),
@@ -267,53 +331,40 @@ fn spells_links(rt: HostRuntime) -> Result<(), Fail> {
         (b"/bus/devices", 4),
     ];
     for (path, slot) in paths {
-        assert_eq!(rt; add(&mut state, path, Node::Dir, true, slot), Ok(key(slot)));
+        add(state, path, Node::Dir, true, slot)?;
     }
+    Ok(())
+}
+
+#[test]
+fn spells_links(rt: HostRuntime) -> Result<(), Fail> {
+    let mut state = new_state(rt.alloc(), 1024)?;
+    assert_eq!(rt; add_devices(&mut state), Ok(()));
     assert_eq!(rt;
-        add(
-            &mut state,
-            b"/bus/devices/d0",
-            Node::Link { target: key(2) },
-            true,
-            5
-        ),
+        add_link(&mut state, b"/bus/devices/d0", key(2), 5),
         Ok(key(5))
     );
-    assert!(rt; has_text(&state, b"/bus/devices/d0", b"../../devices/d0"));
+    assert_eq!(rt; add_link(&mut state, b"/devices/e", key(2), 6), Ok(key(6)));
     assert_eq!(rt;
-        add(
-            &mut state,
-            b"/devices/e",
-            Node::Link { target: key(2) },
-            true,
-            6
-        ),
-        Ok(key(6))
-    );
-    assert!(rt; has_text(&state, b"/devices/e", b"d0"));
-    assert_eq!(rt;
-        add(
-            &mut state,
-            b"/devices/d0/up",
-            Node::Link { target: key(1) },
-            true,
-            7
-        ),
+        add_link(&mut state, b"/devices/d0/up", key(1), 7),
         Ok(key(7))
     );
+    assert_eq!(rt; add_link(&mut state, b"/r", ROOT, 8), Err(Refusal::Invalid));
+    assert!(rt; has_text(&state, b"/bus/devices/d0", b"../../devices/d0"));
+    assert!(rt; has_text(&state, b"/devices/e", b"d0"));
     assert!(rt; has_text(&state, b"/devices/d0/up", b"../../devices"));
+    Ok(())
+}
+
+#[test]
+fn spells_no_link_to_what_is_gone(rt: HostRuntime) -> Result<(), Fail> {
+    let mut state = new_state(rt.alloc(), 1024)?;
+    assert_eq!(rt; add_devices(&mut state), Ok(()));
+    assert_eq!(rt; add_link(&mut state, b"/devices/e", key(2), 6), Ok(key(6)));
     assert_eq!(rt; remove(&mut state, b"/devices/d0"), Ok(()));
-    assert_eq!(rt; state.target_text(key(6)).err(), Some(Refusal::NoEntry));
-    assert_eq!(rt; state.target_text(key(1)).err(), Some(Refusal::Invalid));
-    assert!(rt;
-        state
-            .stat(key(6))
-            .is_ok_and(|told| told.activated && told.links == 1)
-    );
-    assert_eq!(rt;
-        add(&mut state, b"/r", Node::Link { target: ROOT }, true, 8),
-        Err(Refusal::Invalid)
-    );
+    assert_eq!(rt; text_refusal(&state, key(6)), Some(Refusal::NoEntry));
+    assert_eq!(rt; text_refusal(&state, key(1)), Some(Refusal::Invalid));
+    assert_eq!(rt; state.lookup(b"/devices/e"), Ok(key(6)));
     Ok(())
 }
 

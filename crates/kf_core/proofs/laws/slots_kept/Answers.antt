@@ -1,5 +1,6 @@
 -- Each world of a run is safe, and a slot's generation never goes back.
 use Rattle.kf_core.proofs.Agreeing.{run_agrees}
+use Rattle.kf_core.proofs.AgreeingHidden.{run_tells_hidden}
 use Rattle.kf_core.proofs.Runs.{run_safe, linked_once, never_twice}
 use Rattle.kf_core.proofs.laws.slots_kept.Goals as goal
 
@@ -19,3 +20,6 @@ returns-clause-never_twice c count start before between t u v w key again parent
 
 pub returns-clause-agree : goal.returns-clause-agree
 returns-clause-agree c = run_agrees
+
+pub returns-clause-hidden_told : goal.returns-clause-hidden_told
+returns-clause-hidden_told c = run_tells_hidden

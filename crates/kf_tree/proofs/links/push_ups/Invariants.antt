@@ -1,10 +1,13 @@
-use Rattle.std.specs.Prelude.{count_by}
-use Rattle.kf_tree.specs.Subtrees.{is_over_key}
+use Rattle.std.proofs.Common.{◌+◌}
 use Rattle.kf_tree.proofs.Over.{HasClimbed}
+use Rattle.kf_tree.proofs.OneClimb.{IsBeside}
 use Rattle.kf_tree.proofs.links.push_ups.Given as goal
 
 abbrev pub invariant-up : goal.invariant-up
-invariant-up l = HasClimbed l.table l.root l.fn.dir l.target l.base l.initial.text.items l.text.items
+invariant-up l = record {
+  climbed : HasClimbed l.table l.fn.root l.fn.dir l.fn.target l.base l.initial.text.items l.text.items;
+  beside : IsBeside l.table l.fn.root l.fn.target l.base l.other l.base_depth l.other_depth;
+}
 
 abbrev pub decreases-up : goal.decreases-up
-decreases-up l = count_by (is_over_key l.table l.base) l.table
+decreases-up l = l.base_depth + l.other_depth

@@ -1,4 +1,4 @@
-use Rattle.kf_words.proofs.Events.{try_is_enter, undo_is_undo, look_is_look, part_is_part, leave_is_leave, break_is_break, restore_is_restore, release_is_release, miss_is_nothing, rise_is_rise, mark_is_mark, birth_is_born, unlink_is_unlink, split_is_pin, rest_is_nothing}
+use Rattle.kf_words.proofs.Events.{try_is_enter, undo_is_undo, look_is_look, part_is_part, leave_is_leave, break_is_break, restore_is_restore, release_is_release, hide_is_hide, look_hidden_is_look, show_is_show, miss_is_nothing, rise_is_rise, mark_is_mark, birth_is_born, unlink_is_unlink, split_is_pin, held_split_is_pin, rest_is_nothing}
 use Rattle.kf_words.proofs.laws.words_step.Goals as goal
 
 pub returns-clause-try_is_enter : goal.returns-clause-try_is_enter
@@ -43,5 +43,17 @@ returns-clause-unlink_is_unlink c = unlink_is_unlink
 pub returns-clause-split_is_pin : goal.returns-clause-split_is_pin
 returns-clause-split_is_pin c = split_is_pin
 
+pub returns-clause-held_split_is_pin : goal.returns-clause-held_split_is_pin
+returns-clause-held_split_is_pin c = held_split_is_pin
+
 pub returns-clause-rest_is_nothing : goal.returns-clause-rest_is_nothing
 returns-clause-rest_is_nothing c = rest_is_nothing
+
+pub returns-clause-hide_is_hide : goal.returns-clause-hide_is_hide
+returns-clause-hide_is_hide c = hide_is_hide
+
+pub returns-clause-look_hidden_is_look : goal.returns-clause-look_hidden_is_look
+returns-clause-look_hidden_is_look c = look_hidden_is_look
+
+pub returns-clause-show_is_show : goal.returns-clause-show_is_show
+returns-clause-show_is_show c = show_is_show

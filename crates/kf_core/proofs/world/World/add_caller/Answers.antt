@@ -19,6 +19,12 @@ with-requires-clause-few_references c =
     let is = counts_there _ _ _ c.args.key.slot c.index.result.now c.self.invariant (pin_within _ c.args.key c.self.invariant.safe may) c.index.ensures in
     omega (arith, (few_counts _ _ _ _ _ c.self.invariant is).1, c.self.inside.callers.ok.0)
 
+pub with-requires-clause-few_hiders : goal.with-requires-clause-few_hiders
+with-requires-clause-few_hiders c =
+    let may = subst (λ (b : BoundedWorld). MayPin b.world c.args.key) (sym c.self.view_is) c.requires.may in
+    let is = counts_there _ _ _ c.args.key.slot c.index.result.now c.self.invariant (pin_within _ c.args.key c.self.invariant.safe may) c.index.ensures in
+    omega (arith, (few_counts _ _ _ _ _ c.self.invariant is).2, c.self.inside.callers.ok.0)
+
 pub index_mut-requires : goal.index_mut-requires
 index_mut-requires c =
     let may = subst (λ (b : BoundedWorld). MayPin b.world c.args.key) (sym c.self.view_is) c.requires.may in
@@ -29,4 +35,4 @@ invariant_of-self-2 c =
     let may = subst (λ (b : BoundedWorld). MayPin b.world c.args.key) (sym c.self.view_is) c.requires.may in
     let is = counts_there _ _ _ c.args.key.slot c.index.result.now c.self.invariant (pin_within _ c.args.key c.self.invariant.safe may) c.index.ensures in
     rw c.in_ok-push.ensures.items
-    (pinned_kept _ c.args.key _ c.index.result.now c.with.result _ c.self.invariant (Pin (length c.self.inside.callers.items) c.args.key) (refl, may, refl) is c.with.ensures.holds c.with.ensures.references)
+    (pinned_kept _ c.args.key _ c.index.result.now c.with.result _ c.self.invariant (Pin (length c.self.inside.callers.items) c.args.key) (refl, may, refl) is c.with.ensures.holds c.with.ensures.references c.with.ensures.hiders)

@@ -1,7 +1,7 @@
 -- The change is a step, and the counts of the slot follow.
 use Rattle.std.proofs.Common.{◌≡◌, ◌+◌, length, sym, subst, arith, not, refl}
 use Rattle.std.proofs.lemmas.Option.{slice_get_within, slice_get_read}
-use Rattle.kf_core.specs.Phases.{is_spent, has_reference}
+use Rattle.kf_core.specs.Phases.{is_spent, has_reference, is_hiding}
 use Rattle.kf_core.specs.Bare.{IsCaller}
 use Rattle.kf_core.specs.Steps.{BareStep, with_phase}
 use Rattle.kf_core.specs.Bounded.{BoundedWorld}
@@ -20,6 +20,18 @@ without-requires-clause-references c =
     let was = subst (λ (b : BoundedWorld). IsCaller b.world c.args.id c.args.caller.key c.args.caller.phase) (sym c.self.view_is) c.requires.there in
     let is = counts_there _ _ _ c.args.caller.key.slot c.index.result.now c.self.invariant (slot_within _ _ _ _ _ _ c.self.invariant was c.requires.holds) c.index.ensures in
     (own_share _ _ _ _ _ _ _ c.self.invariant was is).1
+
+pub without-requires-clause-hiders : goal.without-requires-clause-hiders
+without-requires-clause-hiders c =
+    let was = subst (λ (b : BoundedWorld). IsCaller b.world c.args.id c.args.caller.key c.args.caller.phase) (sym c.self.view_is) c.requires.there in
+    let is = counts_there _ _ _ c.args.caller.key.slot c.index.result.now c.self.invariant (slot_within _ _ _ _ _ _ c.self.invariant was c.requires.holds) c.index.ensures in
+    (own_share _ _ _ _ _ _ _ c.self.invariant was is).2
+
+pub with-counts-requires-clause-few_hiders : goal.with-counts-requires-clause-few_hiders
+with-counts-requires-clause-few_hiders c =
+    let was = subst (λ (b : BoundedWorld). IsCaller b.world c.args.id c.args.caller.key c.args.caller.phase) (sym c.self.view_is) c.requires.there in
+    let is = counts_there _ _ _ c.args.caller.key.slot c.index.result.now c.self.invariant (slot_within _ _ _ _ _ _ c.self.invariant was c.requires.holds) c.index.ensures in
+    omega (arith, (few_counts _ _ _ _ _ c.self.invariant is).2, c.self.inside.callers.ok.0, c.without.ensures.hiders)
 
 pub with-counts-requires-clause-few_holds : goal.with-counts-requires-clause-few_holds
 with-counts-requires-clause-few_holds c =
@@ -62,6 +74,7 @@ invariant_of-self c =
     let state = slice_get_read c.self.inside.slots.items (length c.self.inside.slots.items) c.args.caller.key.slot c.index-2.result.now refl within c.index-2.ensures in
     let h : c.with-counts.result.holds + tally (not (is_spent c.args.caller.phase)) ≡ c.index.result.now.holds + tally (not (is_spent c.args.phase)) = omega (arith, c.with-counts.ensures.holds, c.without.ensures.holds) in
     let r : c.with-counts.result.references + tally (has_reference c.args.caller.phase) ≡ c.index.result.now.references + tally (has_reference c.args.phase) = omega (arith, c.with-counts.ensures.references, c.without.ensures.references) in
+    let i : c.with-counts.result.hiders + tally (is_hiding c.args.caller.phase) ≡ c.index.result.now.hiders + tally (is_hiding c.args.phase) = omega (arith, c.with-counts.ensures.hiders, c.without.ensures.hiders) in
     phase_kept _ c.args.id c.args.caller.key c.args.caller.phase c.args.phase _ c.index.result.now c.with-counts.result c.index-2.result.now c.self.inside.hint _
-    c.self.invariant c.requires.step.0 step was is state h r (record { skips = c.note.ensures.skips; as_many = c.note.ensures.as_many })
+    c.self.invariant c.requires.step.0 step was is state h r i (record { skips = c.note.ensures.skips; as_many = c.note.ensures.as_many })
     (λ free one. c.note.ensures.looks (c.may_be_given-free.ensures.1 free) one)

@@ -5,6 +5,7 @@ use Rattle.kf_run.proofs.BoardVisits.{visited, to_live, either_way, live_seen, t
 use Rattle.std.proofs.Common.{ℕ}
 use Rattle.kf_files.specs.Opened.{Opened}
 use Rattle.kf_run.specs.declared.nodes.visits.BoardFile.{BoardFile}
+use Rattle.kf_run.proofs.HiddenMarks.{told_by, hiders_waiting}
 use Rattle.kf_run.proofs.nodes.Nodes.read.Goals as goal
 
 pub read-requires : goal.read-requires
@@ -15,13 +16,16 @@ invariant_of-self c =
     let waits = waits_inside c.args.self.now c.self.inside.state c.self.inside.world c.args.file.now.file.hold c.args.file.now.key c.self.view_is c.requires.waits in
     let v = reads_visit _ _ c.args.file.now.file.state c.args.offset _ c.read.new.self.state c.read.ensures.reads in
     let a = alone _ _ c.self.inside.world c.read.new.guard c.args.file.now.file.hold _ c.args.file.now.key waits.phase v.0 waits.there v.1 in
-    tied_slots c.self.inside.state c.self.inside.world.world c.read.new.guard.world c.self.invariant (visited c.self.inside.world c.args.file.now.file.hold c.args.file.now.key c.read.new.guard _ _ v.0 a.1).slots
+    let seen = visited c.self.inside.world c.args.file.now.file.hold c.args.file.now.key c.read.new.guard _ _ v.0 a.1 in (
+      tied_slots c.self.inside.state c.self.inside.world.world c.read.new.guard.world c.self.invariant.0 seen.slots,
+      told_by c.self.inside.state.tree c.self.inside.world.world c.read.new.guard.world (hiders_waiting c.self.inside.world.world.callers c.args.file.now.file.hold c.args.file.now.key c.read.new.guard.world.callers waits seen.callers) c.self.invariant.1,
+    )
 
 pub returns-clause-reads : goal.returns-clause-reads
 returns-clause-reads c =
     let waits = waits_inside c.args.self.now c.self.inside.state c.self.inside.world c.args.file.now.file.hold c.args.file.now.key c.self.view_is c.requires.waits in
     reads_by _ _
-    (λ v h. to_live c.self.inside.world c.args.file.now.file.hold c.args.file.now.key c.read.new.guard _ _ _ _ _ v (live_seen c.args.self.now c.self.inside.state c.self.inside.world c.args.file.now.key c.self.view_is c.self.invariant) (λ i. tt) (λ d h. (h.0, (h.1.0, refl)))
+    (λ v h. to_live c.self.inside.world c.args.file.now.file.hold c.args.file.now.key c.read.new.guard _ _ _ _ _ v (live_seen c.args.self.now c.self.inside.state c.self.inside.world c.args.file.now.key c.self.view_is c.self.invariant.0 c.self.invariant.1) (λ i. tt) (λ d h. (h.0, (h.1.0, refl)))
     (alone _ _ c.self.inside.world c.read.new.guard c.args.file.now.file.hold _ c.args.file.now.key waits.phase v waits.there h).1)
     _ c.args.file.now.file.state c.args.offset _ c.read.new.self.state c.read.ensures.reads
 

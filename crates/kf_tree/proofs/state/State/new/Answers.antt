@@ -12,5 +12,6 @@ returns-clause-made c = (let made = c.in_ok-table.ensures.made ∙ ap (λ n. roo
   root = refl;
   tree = made;
   commands = c.new-2.ensures.items;
+  not_ready = refl;
   kept = new_kept c.args.limits.slots c.args.root c.requires.in_table c.in_ok-table.table c.new-2.result.items made c.new-2.ensures.items;
 })

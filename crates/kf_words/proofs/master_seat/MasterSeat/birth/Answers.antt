@@ -2,32 +2,31 @@ use Rattle.std.proofs.Common.{◌≡◌, ◌+◌, ◌%◌, ◌^◌, length, leng
 use Rattle.std.specs.Arc.{arc_value}
 use Rattle.kf_words.specs.declared.view.MasterView.{MasterView}
 use Rattle.kf_words.specs.Steps.{Seated, master_of, unread, with_birth}
-use Rattle.kf_words.proofs.MasterAllowed.{hold_allows, told, keeps_master, birth_owes, state_there}
+use Rattle.kf_words.proofs.MasterAllowed.{hold_slot, hold_allows, told, keeps_master, birth_owes, state_there}
 use Rattle.kf_words.proofs.master_seat.MasterSeat.birth.Goals as goal
 
 pub fetch_add-requires : goal.fetch_add-requires
 fetch_add-requires c =
     let self = c.args.self.now in
     let m : MasterView = master_of self.token.me.0 in
-    let slots : c.deref.result.now.shared.key.slots ≡ (arc_value self.table).shared.key.slots = ap (λ t. t.shared.key.slots) c.deref.ensures in
     let words : c.deref.result.now.shared.table_id.words ≡ (arc_value self.table).shared.table_id.words = ap (λ t. t.shared.table_id.words) c.deref.ensures in
-    let at = c.hold_word-word.ensures.here in
-    let within = c.hold_word-word.ensures.within in
+    let at = c.hold_index-word.ensures.here in
+    let within = c.hold_index-word.ensures.within in
     let p = state_there m.slots c.args.slot c.requires.slot in
-    (search rules, omega arith, hold_allows c.deref.result.now.shared.key.slots _ _ _ self.token.me c.args.slot c.hold_word-word.result (λ n. (n + 6442450944) % 2 ^ 64) (unread with_birth) self.a_master (omega arith) (birth_owes m c.args.slot p.0 p.1 c.requires.fresh))
+    (search rules, omega arith, hold_allows c.deref.result.now.shared.key.slots _ _ _ self.token.me c.args.slot c.hold_index-word.result (λ n. (n + 6442450944) % 2 ^ 64) (unread with_birth) self.a_master (omega arith) (birth_owes m c.args.slot p.0 p.1 c.requires.fresh))
 
 pub invariant_of-self : goal.invariant_of-self
 invariant_of-self c =
     let self = c.args.self.now in
-    let now = told self.token.me c.fetch_add.new.seat.me (arc_value self.table).shared.key.slots c.args.slot c.hold_word-word.result c.fetch_add.result (unread with_birth) self.a_master (sym c.hold_word-word.ensures.here) self.all_slots c.fetch_add.ensures.2 in
+    let now = told self.token.me c.fetch_add.new.seat.me c.args.slot c.hold_index-word.result c.fetch_add.result (unread with_birth) self.a_master (hold_slot c.args.slot c.hold_index-word.result (sym c.hold_index-word.ensures.here)) c.fetch_add.ensures.2 in
     record {
       of_table = c.fetch_add.ensures.0 ∙ self.of_table;
       a_master = keeps_master _ _ now;
-      two_words = self.two_words;
+      lines = self.lines;
       all_slots = ap (λ (x : Seated). length (master_of x.0).slots) now ∙ length-set (master_of self.token.me.0).slots c.args.slot _ ∙ self.all_slots;
     }
 
 pub returns-clause-view : goal.returns-clause-view
 returns-clause-view c =
     let self = c.args.self.now in
-    ap (λ (x : Seated). master_of x.0) (told self.token.me c.fetch_add.new.seat.me (arc_value self.table).shared.key.slots c.args.slot c.hold_word-word.result c.fetch_add.result (unread with_birth) self.a_master (sym c.hold_word-word.ensures.here) self.all_slots c.fetch_add.ensures.2)
+    ap (λ (x : Seated). master_of x.0) (told self.token.me c.fetch_add.new.seat.me c.args.slot c.hold_index-word.result c.fetch_add.result (unread with_birth) self.a_master (hold_slot c.args.slot c.hold_index-word.result (sym c.hold_index-word.ensures.here)) c.fetch_add.ensures.2)

@@ -11,7 +11,7 @@ split_seat-requires c =
     let p = state_there (master_of self.token.me.0).slots c.args.slot c.requires.slot in
     let words : c.deref.result.now.shared.table_id.words ≡ (arc_value self.table).shared.table_id.words = ap (λ t. t.shared.table_id.words) c.deref.ensures in
     let near = c.requires.slot in
-    let two = self.two_words in let wide = self.all_slots in
+    let two = self.lines in let wide = self.all_slots in
     (search rules, omega arith, splits c.deref.result.now.shared.key.slots _ self.token.id self.token.me.0 c.args.slot p.0 (ap (λ x. x.0) self.a_master) p.1 c.requires.one)
 
 pub invariant_of-self : goal.invariant_of-self
@@ -22,6 +22,6 @@ invariant_of-self c =
     record {
       of_table = c.split_seat.ensures.0 ∙ self.of_table;
       a_master = keeps_master _ _ now;
-      two_words = self.two_words;
+      lines = self.lines;
       all_slots = ap (λ (x : Seated). length (master_of x.0).slots) now ∙ self.all_slots;
     }

@@ -2,36 +2,35 @@ use Rattle.std.proofs.Common.{◌≡◌, ℕ, length, rules, arith, sym, ap, ◌
 use Rattle.std.specs.Arc.{arc_value}
 use Rattle.kf_words.specs.declared.view.MasterView.{MasterView}
 use Rattle.kf_words.specs.Steps.{Seated, TellsSlot, master_of, with_load}
-use Rattle.kf_words.proofs.MasterAllowed.{told, load_allowed, slot_back, keeps_master}
+use Rattle.kf_words.proofs.MasterAllowed.{hold_slot, told, load_allowed, keeps_master}
 use Rattle.kf_words.proofs.master_seat.MasterSeat.load_hold.Goals as goal
 
 pub load-requires : goal.load-requires
 load-requires c =
     let self = c.args.self.now in
-    let slots : c.deref.result.now.shared.key.slots ≡ (arc_value self.table).shared.key.slots = ap (λ t. t.shared.key.slots) c.deref.ensures in
     let words : c.deref.result.now.shared.table_id.words ≡ (arc_value self.table).shared.table_id.words = ap (λ t. t.shared.table_id.words) c.deref.ensures in
-    let at = c.hold_word-word.ensures.here in
-    let within = c.hold_word-word.ensures.within in
-    (search rules, omega arith, load_allowed c.deref.result.now.shared.key.slots _ _ _ self.token.me c.args.slot c.hold_word-word.result self.a_master (omega arith) c.requires)
+    let at = c.hold_index-word.ensures.here in
+    let within = c.hold_index-word.ensures.within in
+    (search rules, omega arith, load_allowed c.deref.result.now.shared.key.slots _ _ _ self.token.me c.args.slot c.hold_index-word.result self.a_master (omega arith) c.requires)
 
 pub invariant_of-self : goal.invariant_of-self
 invariant_of-self c =
     let self = c.args.self.now in
-    let now = told self.token.me c.load.new.seat.me (arc_value self.table).shared.key.slots c.args.slot c.hold_word-word.result c.load.result with_load self.a_master (sym c.hold_word-word.ensures.here) self.all_slots c.load.ensures.2.0 in
+    let now = told self.token.me c.load.new.seat.me c.args.slot c.hold_index-word.result c.load.result with_load self.a_master (hold_slot c.args.slot c.hold_index-word.result (sym c.hold_index-word.ensures.here)) c.load.ensures.2.0 in
     record {
       of_table = c.load.ensures.0 ∙ self.of_table;
       a_master = keeps_master _ _ now;
-      two_words = self.two_words;
+      lines = self.lines;
       all_slots = ap (λ (x : Seated). length (master_of x.0).slots) now ∙ self.all_slots;
     }
 
 pub returns-clause-view : goal.returns-clause-view
 returns-clause-view c =
     let self = c.args.self.now in
-    ap (λ (x : Seated). master_of x.0) (told self.token.me c.load.new.seat.me (arc_value self.table).shared.key.slots c.args.slot c.hold_word-word.result c.load.result with_load self.a_master (sym c.hold_word-word.ensures.here) self.all_slots c.load.ensures.2.0)
+    ap (λ (x : Seated). master_of x.0) (told self.token.me c.load.new.seat.me c.args.slot c.hold_index-word.result c.load.result with_load self.a_master (hold_slot c.args.slot c.hold_index-word.result (sym c.hold_index-word.ensures.here)) c.load.ensures.2.0)
 
 pub returns-clause-slot : goal.returns-clause-slot
 returns-clause-slot c =
     let self = c.args.self.now in
     let m : MasterView = master_of self.token.me.0 in
-    subst (λ (k : ℕ). TellsSlot m k c.load.result) (slot_back m (arc_value self.table).shared.key.slots c.args.slot c.hold_word-word.result (sym c.hold_word-word.ensures.here) self.all_slots) c.load.ensures.2.1
+    subst (λ (k : ℕ). TellsSlot m k c.load.result) (hold_slot c.args.slot c.hold_index-word.result (sym c.hold_index-word.ensures.here)) c.load.ensures.2.1

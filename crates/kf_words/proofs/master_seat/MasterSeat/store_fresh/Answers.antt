@@ -1,27 +1,30 @@
-use Rattle.std.proofs.Common.{◌≡◌, ℕ, List, [], length, rules, arith, ap, ◌∙◌}
+use Rattle.std.proofs.Common.{◌≡◌, length, rules, arith, sym, ap, ◌∙◌}
 use Rattle.std.specs.Arc.{arc_value}
-use Rattle.kf_words.specs.declared.view.View.TheVariants as seat
-use Rattle.kf_words.specs.Steps.{Seated, master_of, after_store}
-use Rattle.kf_words.proofs.MasterAllowed.{fresh_allowed, keeps_master}
+use Rattle.kf_words.specs.Steps.{Seated, master_of, unread, after_store}
+use Rattle.kf_words.proofs.MasterAllowed.{active_slot, told, fresh_allowed, keeps_master}
 use Rattle.kf_words.proofs.master_seat.MasterSeat.store_fresh.Goals as goal
 
 pub store-requires : goal.store-requires
 store-requires c =
     let self = c.args.self.now in
     let words : c.deref.result.now.shared.table_id.words ≡ (arc_value self.table).shared.table_id.words = ap (λ t. t.shared.table_id.words) c.deref.ensures in
-    let two = self.two_words in
-    let wide = self.all_slots in
-    let near = c.requires.slot in
-    (search rules, omega arith, fresh_allowed c.deref.result.now.shared.key.slots _ _ _ self.token.me c.args.slot self.a_master c.requires.slot c.requires.free)
+    let at = c.active_index-word.ensures.here in
+    let within = c.active_index-word.ensures.within in
+    (search rules, omega arith, fresh_allowed c.deref.result.now.shared.key.slots _ _ _ self.token.me c.args.slot c.active_index-word.result self.a_master (omega arith) c.requires.slot c.requires.free)
 
 pub invariant_of-self : goal.invariant_of-self
 invariant_of-self c =
     let self = c.args.self.now in
-    let now : c.store.new.seat.me ≡ (seat.Master (after_store c.args.slot (master_of self.token.me.0)), []) =
-    c.store.ensures.2 ∙ ap (λ (l : List (ℕ × Unit {0})). let y : Seated = (seat.Master (after_store c.args.slot (master_of self.token.me.0)), l) in y) (ap (λ (x : Seated). x.1) self.a_master) in
+    let now = told self.token.me c.store.new.seat.me c.args.slot c.active_index-word.result 0 (unread after_store) self.a_master (active_slot c.args.slot c.active_index-word.result (sym c.active_index-word.ensures.here)) c.store.ensures.2 in
     record {
       of_table = c.store.ensures.0 ∙ self.of_table;
       a_master = keeps_master _ _ now;
-      two_words = self.two_words;
+      lines = self.lines;
       all_slots = ap (λ (x : Seated). length (master_of x.0).slots) now ∙ self.all_slots;
     }
+
+pub returns-clause-view : goal.returns-clause-view
+returns-clause-view c =
+    let self = c.args.self.now in
+    let now = told self.token.me c.store.new.seat.me c.args.slot c.active_index-word.result 0 (unread after_store) self.a_master (active_slot c.args.slot c.active_index-word.result (sym c.active_index-word.ensures.here)) c.store.ensures.2 in
+    ap (λ (x : Seated). master_of x.0) now

@@ -3,36 +3,35 @@ use Rattle.std.proofs.lemmas.Option.{slice_get_within}
 use Rattle.std.specs.Arc.{arc_value}
 use Rattle.kf_words.specs.declared.view.MasterView.{MasterView}
 use Rattle.kf_words.specs.Steps.{Seated, master_of, unread, without_node}
-use Rattle.kf_words.proofs.MasterAllowed.{hold_allows, told, keeps_master, unlink_owes}
+use Rattle.kf_words.proofs.MasterAllowed.{hold_slot, hold_allows, told, keeps_master, unlink_owes}
 use Rattle.kf_words.proofs.master_seat.MasterSeat.unlink.Goals as goal
 
-pub hold_word-word-requires : goal.hold_word-word-requires
-hold_word-word-requires c = let q = c.requires.marks in slice_get_within (master_of c.args.self.now.token.me.0).slots c.args.slot q.1.0 q.1.1
+pub hold_index-word-requires : goal.hold_index-word-requires
+hold_index-word-requires c = let q = c.requires.marks in slice_get_within (master_of c.args.self.now.token.me.0).slots c.args.slot q.1.0 q.1.1
 
 pub fetch_sub-requires : goal.fetch_sub-requires
 fetch_sub-requires c =
     let self = c.args.self.now in
     let m : MasterView = master_of self.token.me.0 in
-    let slots : c.deref.result.now.shared.key.slots ≡ (arc_value self.table).shared.key.slots = ap (λ t. t.shared.key.slots) c.deref.ensures in
     let words : c.deref.result.now.shared.table_id.words ≡ (arc_value self.table).shared.table_id.words = ap (λ t. t.shared.table_id.words) c.deref.ensures in
-    let at = c.hold_word-word.ensures.here in
-    let within = c.hold_word-word.ensures.within in
+    let at = c.hold_index-word.ensures.here in
+    let within = c.hold_index-word.ensures.within in
     let q = c.requires.marks in
     let d = c.requires.drained in
-    (search rules, omega arith, hold_allows c.deref.result.now.shared.key.slots _ _ _ self.token.me c.args.slot c.hold_word-word.result (λ n. (n + (2 ^ 64 - 2147483648)) % 2 ^ 64) (unread without_node) self.a_master (omega arith) (unlink_owes m c.args.slot q.1.0 q.0 d.0 q.1.1 q.1.2 d.1 d.2))
+    (search rules, omega arith, hold_allows c.deref.result.now.shared.key.slots _ _ _ self.token.me c.args.slot c.hold_index-word.result (λ n. (n + (2 ^ 64 - 2147483648)) % 2 ^ 64) (unread without_node) self.a_master (omega arith) (unlink_owes m c.args.slot q.1.0 q.0 d.0 q.1.1 q.1.2 d.1 d.2))
 
 pub invariant_of-self : goal.invariant_of-self
 invariant_of-self c =
     let self = c.args.self.now in
-    let now = told self.token.me c.fetch_sub.new.seat.me (arc_value self.table).shared.key.slots c.args.slot c.hold_word-word.result c.fetch_sub.result (unread without_node) self.a_master (sym c.hold_word-word.ensures.here) self.all_slots c.fetch_sub.ensures.2 in
+    let now = told self.token.me c.fetch_sub.new.seat.me c.args.slot c.hold_index-word.result c.fetch_sub.result (unread without_node) self.a_master (hold_slot c.args.slot c.hold_index-word.result (sym c.hold_index-word.ensures.here)) c.fetch_sub.ensures.2 in
     record {
       of_table = c.fetch_sub.ensures.0 ∙ self.of_table;
       a_master = keeps_master _ _ now;
-      two_words = self.two_words;
+      lines = self.lines;
       all_slots = ap (λ (x : Seated). length (master_of x.0).slots) now ∙ length-set (master_of self.token.me.0).slots c.args.slot _ ∙ self.all_slots;
     }
 
 pub returns-clause-view : goal.returns-clause-view
 returns-clause-view c =
     let self = c.args.self.now in
-    ap (λ (x : Seated). master_of x.0) (told self.token.me c.fetch_sub.new.seat.me (arc_value self.table).shared.key.slots c.args.slot c.hold_word-word.result c.fetch_sub.result (unread without_node) self.a_master (sym c.hold_word-word.ensures.here) self.all_slots c.fetch_sub.ensures.2)
+    ap (λ (x : Seated). master_of x.0) (told self.token.me c.fetch_sub.new.seat.me c.args.slot c.hold_index-word.result c.fetch_sub.result (unread without_node) self.a_master (hold_slot c.args.slot c.hold_index-word.result (sym c.hold_index-word.ensures.here)) c.fetch_sub.ensures.2)

@@ -1,0 +1,56 @@
+-- A run with every kind of event: the whole life of a node, and of the next one in its slot.
+use Rattle.std.specs.Prelude.{ℕ, true, false, List, [], ◌∷◌, Option, None, Some}
+use Rattle.kf_core.specs.declared.key.Key.{Key}
+use Rattle.kf_core.specs.declared.key.Node.{Node}
+use Rattle.kf_core.specs.declared.key.Node.TheVariants.{File}
+use Rattle.kf_core.specs.declared.caller.Phase.{Phase}
+use Rattle.kf_core.specs.declared.caller.Caller.{Caller}
+use Rattle.kf_core.specs.declared.slot.Marks.{Marks}
+use Rattle.kf_core.specs.declared.records.Record.{Record}
+use Rattle.kf_core.specs.declared.event.Event.{Event}
+use Rattle.kf_core.specs.declared.event.Event.TheVariants.{Born, Rise, Mark, Move, Pin, Enter, Leave, Break, Restore, Look, Unlink, Part, Hide, LookHidden, Show, Release, Undo}
+use Rattle.kf_core.specs.Worlds.{World, Slot}
+use Rattle.kf_core.specs.Lawful.{root_record}
+
+abbrev pub root : Key
+root = record { slot = 0; generation = 1 }
+
+-- the first node of slot 1, and the second
+abbrev pub first : Key
+first = record { slot = 1; generation = 1 }
+
+abbrev pub second : Key
+second = record { slot = 1; generation = 2 }
+
+-- the names `a` and `b`
+abbrev pub a : List ℕ
+a = 97 ∷ []
+
+abbrev pub b : List ℕ
+b = 98 ∷ []
+
+abbrev pub file : Node
+file = File 420 7
+
+-- the file of this key and name in the root, with these marks
+abbrev pub file_at : Key → List ℕ → Marks → Record
+file_at key name marks = record { key = key; parent = Some root; name = name; node = file; marks = marks; hidden = false }
+
+-- a caller that came for the first node
+abbrev pub by : Phase → Caller
+by phase = record { key = first; phase = phase }
+
+-- the root, slot 1 with its last generation and its record, and the callers
+abbrev pub at : ℕ → Option Record → List Caller → World
+at last linked callers = record { slots = record { last = 1; linked = Some (root_record root) } ∷ record { last = last; linked = linked } ∷ []; callers = callers }
+
+abbrev pub doomed_marks : Marks
+doomed_marks = record { activated = true; doomed = true }
+
+-- caller 0 calls into the node, caller 1 hides it, shows it, and removes it
+abbrev pub whole_life : List Event
+whole_life =
+    Born first root a file ∷ Rise first ∷ Move first root b ∷ Pin 0 first ∷ Pin 1 first
+    ∷ Enter 0 ∷ Hide 1 ∷ Leave 0 ∷ LookHidden 1 ∷ Enter 0 ∷ Undo 0 ∷ Show 1
+    ∷ Enter 0 ∷ Mark first ∷ Enter 1 ∷ Undo 1 ∷ Break 0 ∷ Look 1 ∷ Restore 0 ∷ Unlink 1 ∷ Part 1
+    ∷ Leave 0 ∷ Release 0 ∷ Release 1 ∷ Born second root a file ∷ []

@@ -1,0 +1,140 @@
+-- The way up from a directory to the first one that is over a target, with a second way up from the target beside it.
+use Rattle.std.proofs.Common.{◌≡◌, ◌≢◌, ◌⊎◌, inl, inr, ℕ, zero, suc, ◌+◌, ◌-◌, ◌<◌, ◌≤◌, refl, ap, arith, sym, ◌∙◌, subst, Bool, true, false, List, [], ◌∷◌, ◌++◌, length}
+use Rattle.std.specs.Prelude.{Option, None, Some, is_some, IsTrue}
+use Rattle.std.proofs.lemmas.Option.{same_Some, none-some}
+use Rattle.kf_core.specs.declared.key.Key.{Key}
+use Rattle.kf_core.specs.declared.records.Record.{Record}
+use Rattle.kf_core.specs.Tree.{Tree, is_linked, parent_of, ancestor, in_subtree, IsIn}
+use Rattle.kf_core.specs.Lawful.{root_record, Lawful}
+use Rattle.kf_core.proofs.Climbs.{first_step, after_step, climb_rest, climb_unique}
+use Rattle.kf_core.proofs.FoundRecords.{in_found, found_in, linked_here, known_parent, parent_known, root_parent, root_met, root_found, way_shorter, subtree_to, subtree_from}
+use Rattle.kf_tree.specs.Links.{IsOver}
+use Rattle.kf_tree.specs.Ways.{HasUps}
+use Rattle.kf_tree.proofs.Apart.{sub_self, sub_up}
+use Rattle.kf_tree.proofs.Over.{HasClimbed, climbed_none, climbed_next, climbed_end, one_more, parent_linked}
+
+-- the key is so many steps below the root
+abbrev pub IsDeep : Tree → Key → ℕ → Key → Type 0
+IsDeep t root depth key = ancestor t depth key ≡ Some root
+
+-- beside the base is a directory over the target, over which stands all that is over the base and over the target
+pub record IsBeside (t : Tree) (root target base other : Key) (base_depth other_depth : ℕ) : Type 0 where
+  pub linked : IsTrue (is_linked t other)
+  pub over : IsOver t root target other
+  pub meets : (c : Key) → IsOver t root target c → in_subtree t c base ≡ true → in_subtree t c other ≡ true
+  pub base_deep : IsDeep t root base_depth base
+  pub other_deep : IsDeep t root other_depth other
+
+-- the current key is so many steps above the key
+pub record IsCounted (t : Tree) (key current : Key) (steps : ℕ) : Type 0 where
+  pub linked : IsTrue (is_linked t current)
+  pub met : ancestor t steps key ≡ Some current
+
+module _ (t : Tree) (root : Key) (l : Lawful t root) where
+  self_over : (key : Key) → IsTrue (is_linked t key) → in_subtree t key key ≡ true
+  self_over key h = (let r = linked_here t key h in subst (λ k. in_subtree t k k ≡ true) r.2 (sub_self t root l r.0 r.1))
+
+  pub under_root : (key : Key) → IsTrue (is_linked t key) → in_subtree t root key ≡ true
+  under_root key h = (let r = linked_here t key h in let w = root_met t root l r.0 r.1 in ap (in_subtree t root) (sym r.2) ∙ subtree_from t root l r.0 w.0 root r.1 w.1)
+
+  -- what is over a key and no higher up is the key
+  no_higher : (a k : Key) (da dk : ℕ) → in_subtree t a k ≡ true → IsDeep t root da a → IsDeep t root dk k → dk ≤ da → k ≡ a
+  no_higher a k da dk h at bt le = (let s = subtree_to t root l a k h in go s.0 s.1)
+    where
+      go : (n : ℕ) → ancestor t n k ≡ Some a → k ≡ a
+      go zero c = same_Some k a c
+      go (suc n) c = absurd (let e = climb_unique (parent_of t) root (root_parent t root l) (suc n + da) dk k (climb_rest (parent_of t) (suc n) da k a c ∙ at) bt in omega (arith, e, le))
+
+  -- one step up
+  pub up_deep : (key parent : Key) (depth : ℕ) → parent_of t key ≡ Some parent → IsDeep t root depth key → IsDeep t root (depth - 1) parent
+  up_deep key parent zero p d = absurd (none-some parent (sym (root_parent t root l) ∙ ap (parent_of t) (sym (same_Some key root d)) ∙ p))
+  up_deep key parent (suc n) p d = (let e : suc n - 1 ≡ n = omega arith in
+      ap (λ m. ancestor t m parent) e ∙ sym (after_step (parent_of t) n key parent p) ∙ d)
+
+  -- two keys that differ are not both the root
+  pub deep : (a b : Key) (da db : ℕ) → IsDeep t root da a → IsDeep t root db b → a ≢ b → db ≤ da → 0 < da
+  deep a b zero db x y n le = absurd (let z : 0 ≡ db = omega (arith, le) in n (same_Some a root x ∙ sym (same_Some b root (ap (λ m. ancestor t m b) z ∙ y))))
+  deep a b (suc da) db x y n le = omega arith
+
+  pub above_by : (key : Key) (depth : ℕ) → 0 < depth → IsDeep t root depth key → (n : ℕ) × (top : Key) × (ancestor t (suc n) key ≡ Some top)
+  above_by key zero h d = absurd (omega (arith, h))
+  above_by key (suc n) h d = (n, root, d)
+
+  pub beside_first : (dir target other : Key) (base_depth other_depth : ℕ) → IsTrue (is_linked t target) → IsTrue (is_linked t dir) → (parent_of t target ≡ Some other) ⊎ ((parent_of t target ≡ None) × (other ≡ root)) →
+      IsDeep t root base_depth dir → IsDeep t root other_depth other → IsBeside t root target dir other base_depth other_depth
+  beside_first dir target other base_depth other_depth linked there start bd od = record {
+    linked = other_linked start;
+    over = other_over start;
+    meets = λ c o h. meet c o start;
+    base_deep = bd;
+    other_deep = od;
+  }
+    where
+      other_linked : (parent_of t target ≡ Some other) ⊎ ((parent_of t target ≡ None) × (other ≡ root)) → IsTrue (is_linked t other)
+      other_linked (inl p) = parent_linked t root l target other p
+      other_linked (inr e) = ap (is_linked t) e.1 ∙ ap is_some (root_found t root l)
+
+      other_over : (parent_of t target ≡ Some other) ⊎ ((parent_of t target ≡ None) × (other ≡ root)) → IsOver t root target other
+      other_over (inl p) = inr (0, after_step (parent_of t) 0 target other p)
+      other_over (inr e) = inl e.1
+
+      meet : (c : Key) → IsOver t root target c → (parent_of t target ≡ Some other) ⊎ ((parent_of t target ≡ None) × (other ≡ root)) → in_subtree t c other ≡ true
+      meet c (inl e) s = ap (λ k. in_subtree t k other) e ∙ under_root other (other_linked s)
+      meet c (inr a) (inl p) = (let r = linked_here t other (parent_linked t root l target other p) in
+          ap (in_subtree t c) (sym r.2) ∙ subtree_from t root l r.0 a.0 c r.1 (ap (ancestor t a.0) r.2 ∙ sym (after_step (parent_of t) a.0 target other p) ∙ a.1))
+      meet c (inr a) (inr e) = (let f = first_step (parent_of t) a.0 target c a.1 in absurd (none-some f.0 (sym e.0 ∙ f.1)))
+
+  -- over a child is what is over its directory
+  down_over : (c key parent : Key) → parent_of t key ≡ Some parent → in_subtree t c parent ≡ true → in_subtree t c key ≡ true
+  down_over c key parent p h = (let s = subtree_to t root l c parent h in let r = known_parent t key parent p in
+      ap (in_subtree t c) (sym r.2) ∙ subtree_from t root l r.0 (suc s.0) c r.1 (ap (ancestor t (suc s.0)) r.2 ∙ after_step (parent_of t) s.0 key parent p ∙ s.1))
+
+  pub beside_up : (target base other next : Key) (base_depth other_depth : ℕ) → IsBeside t root target base other base_depth other_depth → parent_of t base ≡ Some next → IsBeside t root target next other (base_depth - 1) other_depth
+  beside_up target base other next base_depth other_depth b p = record {
+    linked = b.linked;
+    over = b.over;
+    meets = λ c o h. b.meets c o (down_over c base next p h);
+    base_deep = up_deep base next base_depth p b.base_deep;
+    other_deep = b.other_deep;
+  }
+
+  -- the base is not over the target, where it is no higher up than what is beside it
+  pub not_over : (target base other : Key) (base_depth other_depth : ℕ) → IsBeside t root target base other base_depth other_depth → IsTrue (is_linked t base) → base ≢ other → other_depth ≤ base_depth → IsOver t root target base → ⊥
+  not_over target base other base_depth other_depth b linked n le o =
+      n (sym (no_higher base other base_depth other_depth (b.meets base o (self_over base linked)) b.base_deep b.other_deep le))
+
+  pub other_up : (target base other next : Key) (base_depth other_depth : ℕ) → IsBeside t root target base other base_depth other_depth → parent_of t other ≡ Some next → base ≢ other → base_depth ≤ other_depth → IsBeside t root target base next base_depth (other_depth - 1)
+  other_up target base other next base_depth other_depth b p n le = record {
+    linked = parent_linked t root l other next p;
+    over = higher b.over;
+    meets = λ c o h. (let r = known_parent t other next p in
+        elim (sub_up t root l c r.0 next r.1 r.3 (ap (in_subtree t c) r.2 ∙ b.meets c o h)) [
+          | inl e ↦ absurd (n (no_higher other base other_depth base_depth (ap (λ k. in_subtree t k base) (sym r.2 ∙ e) ∙ h) b.other_deep b.base_deep le))
+          | inr s ↦ s
+        ]);
+    base_deep = b.base_deep;
+    other_deep = up_deep other next other_depth p b.other_deep;
+  }
+    where
+      higher : IsOver t root target other → IsOver t root target next
+      higher (inl e) = absurd (none-some next (sym (root_parent t root l) ∙ ap (parent_of t) (sym e) ∙ p))
+      higher (inr a) = inr (suc a.0, one_more t (suc a.0) target other next a.1 p)
+
+  -- ---- the depth of a key
+
+  pub counted_none : (key : Key) → IsTrue (is_linked t key) → IsCounted t key key 0
+  counted_none key h = record { linked = h; met = refl }
+
+  pub counted_more : (key current parent : Key) (steps : ℕ) → IsCounted t key current steps → parent_of t current ≡ Some parent → IsCounted t key parent (steps + 1)
+  counted_more key current parent steps c p = record {
+    linked = parent_linked t root l current parent p;
+    met = (let e : steps + 1 ≡ suc steps = omega arith in ap (λ m. ancestor t m key) e ∙ one_more t steps key current parent c.met p);
+  }
+
+  pub counted_few : (key current : Key) (steps : ℕ) → IsCounted t key current steps → steps < length t
+  counted_few key current steps c = (let r = linked_here t current c.linked in let w = root_met t root l r.0 r.1 in
+      let s = way_shorter t root l (steps + w.0) key (climb_rest (parent_of t) steps w.0 key current c.met ∙ ap (ancestor t w.0) (sym r.2) ∙ w.1) in omega (arith, s))
+
+  pub counted_all : (key current : Key) (steps : ℕ) → IsCounted t key current steps → parent_of t current ≡ None → IsDeep t root steps key
+  counted_all key current steps c p = (let r = linked_here t current c.linked in
+      c.met ∙ ap Some (sym r.2 ∙ l.one_root r.0 r.1 (sym (parent_known t r.0 r.1) ∙ ap (parent_of t) r.2 ∙ p)))

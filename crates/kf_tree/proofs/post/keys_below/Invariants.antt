@@ -1,0 +1,9 @@
+use Rattle.std.specs.Prelude.{count_by}
+use Rattle.kf_tree.proofs.Tours.{IsUpTo, is_left}
+use Rattle.kf_tree.proofs.post.keys_below.Given as goal
+
+abbrev pub invariant-visit : goal.invariant-visit
+invariant-visit l = IsUpTo l.table l.top l.current l.keys.items
+
+abbrev pub decreases-visit : goal.decreases-visit
+decreases-visit l = count_by (is_left l.keys.items) l.table

@@ -1,0 +1,18 @@
+use Rattle.std.proofs.Common.{rules, ◌≡◌, ◌≢◌}
+use Rattle.kf_tree.proofs.Tours.{linked_sibling, on_to_sibling, up_to_parent}
+use Rattle.kf_tree.proofs.walks.next_in_post_order.Goals as goal
+
+pub first_below-requires-clause-linked : goal.first_below-requires-clause-linked
+first_below-requires-clause-linked c = linked_sibling c.args.table.now c.requires.lawful.0 c.requires.lawful.1 _ _ _ _ c.in-len1-up.len_at_least c.children_above.ensures.listed
+
+pub returns-in-empty-clause-next : goal.returns-in-empty-clause-next
+returns-in-empty-clause-next c =
+    (let other : c.args.key ≢ c.args.top = search rules in
+    up_to_parent c.args.table.now c.requires.lawful.0 c.requires.lawful.1 c.args.top c.args.key c.in_ok-entry.entry.now c.in_ok-dir.dir c.bytes.result.now _ c.in_ok-entry.ensures.known c.in_ok-dir.was other
+    c.requires.below c.bytes.ensures.same c.in-empty.len_below c.children_above.ensures.listed)
+
+pub returns-in-len1-up-clause-next : goal.returns-in-len1-up-clause-next
+returns-in-len1-up-clause-next c =
+    (let other : c.args.key ≢ c.args.top = search rules in
+    on_to_sibling c.args.table.now c.requires.lawful.0 c.requires.lawful.1 c.args.top c.args.key c.first_below.result c.in_ok-entry.entry.now c.in_ok-dir.dir c.bytes.result.now _ _ c.in_ok-entry.ensures.known c.in_ok-dir.was other
+    c.requires.below c.bytes.ensures.same c.in-len1-up.len_at_least c.children_above.ensures.listed c.first_below.ensures.first)

@@ -1,0 +1,29 @@
+-- Walks over a subtree from node to node.
+use Rattle.std.specs.Prelude.{◌≡◌, ◌≢◌, ◌⊎◌, ◌↔◌, Some, IsTrue, List, Contains, AllPairs}
+use Rattle.kf_core.specs.declared.key.Key.{Key}
+use Rattle.kf_core.specs.declared.records.Record.{Record}
+use Rattle.kf_core.specs.Tree.{Tree, is_linked, IsIn, in_subtree}
+use Rattle.kf_tree.specs.Canonical.{Precedes}
+use Rattle.kf_core.specs.PostOrder.{AreApart, StandsBefore}
+
+-- a leaf of the subtree, and what stands apart before it is what stands apart before the whole subtree
+pub record IsFirstBelow (t : Tree) (top first : Key) : Type 0 where
+  pub linked : IsTrue (is_linked t first)
+  pub below : IsTrue (in_subtree t top first)
+  pub childless : (c : Record) → IsIn t c → c.parent ≢ Some first
+  pub left : (key : Key) → AreApart t key first ↔ AreApart t key top
+
+-- in the subtree, before the next stand the key and what stands before the key, and nothing else
+pub record IsNextInPostOrder (t : Tree) (top key next : Key) : Type 0 where
+  pub linked : IsTrue (is_linked t next)
+  pub below : IsTrue (in_subtree t top next)
+  pub follows : (k : Key) → IsTrue (is_linked t k) → StandsBefore t k next ↔ ((k ≡ key) ⊎ StandsBefore t k key)
+
+-- in pre-order, before the next stand the key and what stands before the key, and nothing else
+pub record IsNextInPreOrder (t : Tree) (key next : Key) : Type 0 where
+  pub linked : IsTrue (is_linked t next)
+  pub follows : (k : Key) → IsTrue (is_linked t k) → Precedes t k next ↔ ((k ≡ key) ⊎ Precedes t k key)
+
+-- every other linked key stands before this one
+abbrev pub IsLastInPreOrder : Tree → Key → Type 0
+IsLastInPreOrder t key = (k : Key) → IsTrue (is_linked t k) → (k ≡ key) ⊎ Precedes t k key

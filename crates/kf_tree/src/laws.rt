@@ -1,0 +1,28 @@
+//! What holds of the definitions that the contracts cite.
+
+ghost use Rattle.std.specs.Prelude.{◌≡◌, ℕ, List, Option};
+ghost use Rattle.kf_core.specs.declared.key.Key.{Key};
+ghost use Rattle.kf_core.specs.declared.command.Command.{Command};
+ghost use Rattle.kf_core.specs.Lawful.{Lawful};
+ghost use Rattle.kf_core.specs.PostOrder.{IsPostOrder};
+ghost use Rattle.kf_core.specs.Tree.{Tree};
+ghost use Rattle.kf_tree.specs.Canonical.{IsCanonical};
+ghost use Rattle.kf_tree.specs.Links.{HasLinkText};
+ghost use Rattle.kf_tree.specs.Listing.{IsListing};
+
+/// The contracts say of a listing, a post-order, a list of commands and a link's text what each has to be, and not
+/// how it is found. There is one such answer and no other, so each of these calls has its answer fixed.
+pub fn answers_are_unique()
+    // A directory has one listing above a bound, for each limit.
+    ensures listing { (t : Tree) (dir : Key) (bound : Option (List ℕ)) (limit : ℕ) (a b : List (List ℕ)) →
+        IsListing t dir bound limit a → IsListing t dir bound limit b → a ≡ b }
+    // A subtree has one post-order.
+    ensures post_order { (t : Tree) (root top : Key) (a b : List Key) → Lawful t root →
+        IsPostOrder t top a → IsPostOrder t top b → a ≡ b }
+    // A tree has one canonical list of commands.
+    ensures canonical { (t : Tree) (root : Key) (a b : List Command) → Lawful t root →
+        IsCanonical t a → IsCanonical t b → a ≡ b }
+    // A link has one text.
+    ensures link_text { (t : Tree) (root key : Key) (a b : List ℕ) → Lawful t root →
+        HasLinkText t root key a → HasLinkText t root key b → a ≡ b }
+{}

@@ -1,0 +1,166 @@
+//! What a state tells: its commands, paths, listings, and what is told of a node. No call changes anything.
+
+ghost use Rattle.std.specs.Prelude.{◌≡◌, ◌↔◌, map, IfOk, IfErr, IsTrue, slice_get, MatchResult, None, Some, Ok, Err, true};
+ghost use Rattle.std.specs.Option.{option_copied, option_map, ok_or};
+ghost use Rattle.kf_core.specs.Tree.{record_at, is_linked};
+ghost use Rattle.kf_core.specs.PostOrder.{IsPostOrder};
+ghost use Rattle.kf_tree.specs.Causes.{Refuses, linked_cause, doom_cause, unlink_cause, list_cause, text_cause};
+ghost use Rattle.kf_tree.specs.Ends.{EndsWith};
+ghost use Rattle.kf_tree.specs.Links.{HasLinkText};
+ghost use Rattle.kf_tree.specs.Listing.{IsListing};
+ghost use Rattle.kf_tree.specs.Paths.{found, walked, seen, walked_parent};
+ghost use Rattle.kf_tree.specs.Stat.{stat_of};
+ghost use Rattle.kf_tree.specs.TreeLogs.{IsKept};
+
+use super::State;
+use crate::causes::{check_doom, check_linked, check_list, check_text, check_unlink};
+use crate::links::link_text;
+use crate::listing::{copy_names, list_names};
+use crate::paths::{walk, walk_parent};
+use crate::post::post_order;
+use crate::shown::find_in;
+use crate::stat::{Stat, stat_of};
+use kf_core::{Command, Key, Refusal};
+use kf_index::Name;
+
+impl State {
+    /// The root's key. What holds of every state is told here: its tree is lawful, and the replay of its
+    /// commands.
+    pub fn root(&self) -> Key
+        ensures known { result ≡ self.now.root }
+        ensures kept { IsKept self.now }
+    {
+        self.root
+    }
+
+    /// The canonical list of the tree at the last [`State::compact`], where there was one, and every command
+    /// accepted since, in the order in which they were accepted.
+    pub fn commands(&self) -> &[Command]
+        ensures listed { result.now ≡ self.now.commands }
+        ensures kept { IsKept self.now }
+    {
+        self.commands.as_slice()
+    }
+
+    /// Whether there is such a slot, without a record: what [`State::create`] asks of the slot of the next
+    /// key.
+    pub fn is_vacant(&self, slot: u32) -> bool
+        ensures known { IsTrue result ↔ (slice_get self.now.tree slot ≡ Some None) }
+    {
+        self.table.is_vacant(slot)
+    }
+
+    /// Why [`State::doom`] would refuse this key now, want of memory aside: `NoEntry` (not linked), then `Invalid`
+    /// (the root). It takes no memory.
+    pub fn may_doom(&self, key: Key) -> Result<(), Refusal>
+        ensures checked { MatchResult result
+            (λ _. doom_cause self.now.tree self.now.root key ≡ None)
+            (λ refusal. doom_cause self.now.tree self.now.root key ≡ Some refusal) }
+    {
+        check_doom(&self.table, self.root, key)
+    }
+
+    /// What [`State::unlink`] would answer now, without doing it.
+    pub fn may_unlink(&self, key: Key) -> Result<bool, Refusal>
+        ensures linked { IfOk result (λ linked. is_linked self.now.tree key ≡ linked) }
+        ensures no_cause { IfOk result (λ linked. linked ≡ true → unlink_cause self.now.tree key ≡ None) }
+        ensures refused { IfErr result (λ refusal.
+            (is_linked self.now.tree key ≡ true) × (unlink_cause self.now.tree key ≡ Some refusal)) }
+    {
+        check_unlink(&self.table, key)
+    }
+
+    /// The keys of a linked node's subtree: each after all that is below it, siblings in byte order of names,
+    /// the given key last. Refusals in order: `NoEntry` (not linked), `NoMemory`.
+    pub fn post_order(&self, key: Key) -> Result<Vec<Key>, Refusal>
+        ensures linked { IfOk result (λ _. linked_cause self.now.tree key ≡ None) }
+        ensures ordered { IfOk result (λ keys. IsPostOrder self.now.tree key keys.items) }
+        ensures last { IfOk result (λ keys. EndsWith keys.items key) }
+        ensures refused { IfErr result (λ refusal. Refuses (linked_cause self.now.tree key) refusal) }
+    {
+        check_linked(&self.table, key)?;
+        post_order(self.alloc, &self.table, key)
+    }
+
+    /// The node with this name in a directory, live or not (`kernfs_find_ns`).
+    /// Refusals in order: `NoEntry` (the directory is not linked), `NotDir`, `NoEntry` (no such child).
+    pub fn find(&self, dir: Key, name: &[u8]) -> Result<Key, Refusal>
+        ensures found { result ≡ found self.now.tree dir name.now }
+    {
+        find_in(&self.table, dir, name, false)
+    }
+
+    /// The node that a path names, live or not; links are not followed (`kernfs_walk_ns`). `Invalid` where
+    /// the path has no leading slash or an empty component, else the first refusal of the finds along it.
+    pub fn walk(&self, path: &[u8]) -> Result<Key, Refusal>
+        ensures walked { result ≡ walked self.now.tree self.now.root path.now }
+    {
+        walk(&self.table, self.root, path, false)
+    }
+
+    /// The live node that a path names: every node that is not live counts as not there.
+    /// Refused as [`State::walk`] is.
+    pub fn lookup(&self, path: &[u8]) -> Result<Key, Refusal>
+        ensures seen { result ≡ seen self.now.tree self.now.root path.now }
+    {
+        walk(&self.table, self.root, path, true)
+    }
+
+    /// The node of all components of a path but the last, and the last, which may be empty.
+    /// Refused as [`State::walk`] of those before the last; the path `/` is `Invalid`.
+    pub fn walk_parent<'a>(&self, path: &'a [u8]) -> Result<(Key, &'a [u8]), Refusal>
+        ensures walked { MatchResult result
+            (λ found. walked_parent self.now.tree self.now.root path.now ≡ Ok (found.0, found.1.now))
+            (λ refusal. walked_parent self.now.tree self.now.root path.now ≡ Err refusal) }
+    {
+        walk_parent(&self.table, self.root, path)
+    }
+
+    /// The names of a directory's live children above a bound, in byte order, at most so many
+    /// (`kernfs_fop_readdir`).
+    /// Refusals in order: `NoEntry` (not linked), `NotDir`, `NoMemory`.
+    pub fn list(&self, dir: Key, after: Option<&[u8]>, limit: usize) -> Result<Vec<Name>, Refusal>
+        ensures no_cause { IfOk result (λ _. list_cause self.now.tree dir ≡ None) }
+        ensures listed { IfOk result (λ names.
+            IsListing self.now.tree dir (option_copied after.entry) limit names.items) }
+        ensures refused { IfErr result (λ refusal. Refuses (list_cause self.now.tree dir) refusal) }
+    {
+        let names = self.names(dir, after, limit)?;
+        copy_names(self.alloc, &names)
+    }
+
+    /// The names that [`State::list`] copies, as they stand in the tree. Refused as it is.
+    pub fn names(&self, dir: Key, after: Option<&[u8]>, limit: usize) -> Result<Vec<&Name>, Refusal>
+        ensures no_cause { IfOk result (λ _. list_cause self.now.tree dir ≡ None) }
+        ensures listed { IfOk result (λ names.
+            IsListing self.now.tree dir (option_copied after.entry) limit (map (λ n. n.now) names.items)) }
+        ensures refused { IfErr result (λ refusal. Refuses (list_cause self.now.tree dir) refusal) }
+    {
+        check_list(&self.table, dir)?;
+        list_names(self.alloc, &self.table, dir, after, limit)
+    }
+
+    /// What is told of a linked node: its kind, its marks, its number of child directories, and its number of
+    /// links. `NoEntry` where it is not linked.
+    pub fn stat(&self, key: Key) -> Result<Stat, Refusal>
+        ensures told { result ≡
+            ok_or (option_map (stat_of self.now.tree) (record_at self.now.tree key)) Refusal.NoEntry }
+    {
+        match self.table.record(key) {
+            Some(entry) => Ok(stat_of(&self.table, entry)),
+            None => Err(Refusal::NoEntry),
+        }
+    }
+
+    /// The text of a link: `../` from its directory up to the first one that is the root or above the target,
+    /// then the names down to the target, joined by slashes (`kernfs_get_target_path`). Refusals in order:
+    /// `NoEntry` (not linked), `Invalid` (no link), `NoEntry` (the target is not linked), `NoMemory`.
+    pub fn target_text(&self, key: Key) -> Result<Vec<u8>, Refusal>
+        ensures no_cause { IfOk result (λ _. text_cause self.now.tree key ≡ None) }
+        ensures text { IfOk result (λ text. HasLinkText self.now.tree self.now.root key text.items) }
+        ensures refused { IfErr result (λ refusal. Refuses (text_cause self.now.tree key) refusal) }
+    {
+        let (dir, target) = check_text(&self.table, key)?;
+        link_text(self.alloc, &self.table, self.root, dir, target)
+    }
+}

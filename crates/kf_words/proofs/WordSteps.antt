@@ -1,0 +1,340 @@
+-- Each step of the table as a whole keeps the rule, and is an event of the world or none.
+use Rattle.std.proofs.Common.{◌≡◌, ◌⊎◌, inl, inr, ℕ, zero, suc, ◌+◌, ◌<◌, true, false, List, [], ◌∷◌, ◌++◌, map, length, set, refl, sym, ap, ◌∙◌, subst, ⊎_elim}
+use Rattle.std.specs.Prelude.{slice_get, slice_index, Option, Some, None, is_some}
+use Rattle.std.proofs.lemmas.Option.{same_Some, get_or_from_slice_get}
+use mathlib.Core.Option.{some, none, some-ne-none, some-injective}
+use lib.ListN.{get_elem?}
+use Rattle.atomic_table.specs.Table.{Allows, step, stepped, keeps, carried_after}
+use Rattle.kf_core.specs.declared.key.Key.{Key}
+use Rattle.kf_core.specs.declared.key.Node.TheVariants.{Dir}
+use Rattle.kf_core.specs.declared.event.Event.{Event}
+use Rattle.kf_core.specs.declared.event.Event.TheVariants.{Born, Rise, Mark, Pin, Enter, Leave, Break, Restore, Look, Unlink, Part, Hide, LookHidden, Show, Release, Undo}
+use Rattle.kf_core.specs.declared.slot.Marks.{Marks}
+use Rattle.kf_core.specs.declared.slot.SlotState.{SlotState}
+use Rattle.kf_core.specs.Bare.{BareWorld, IsCaller, marks_in}
+use Rattle.kf_core.specs.Marks.{fresh_marks}
+use Rattle.kf_core.specs.Steps.{BareStep, MayPin}
+use Rattle.kf_core.proofs.SlotStates.{shown}
+use Rattle.kf_core.proofs.Keeping.{same_key}
+use Rattle.kf_words.specs.declared.view.CallerView.{CallerView}
+use Rattle.kf_words.specs.declared.view.MasterView.{MasterView}
+use Rattle.kf_words.specs.declared.view.View.{View}
+use Rattle.kf_words.specs.declared.view.View.TheVariants as seat
+use Rattle.kf_words.specs.Layout.{bit, bias, doom, hide, linked, one_generation, active_index, hold_index, slot_of, is_drained, has_hide, is_unused, has_linked}
+use Rattle.kf_words.specs.Rule.{Shows, Shown, seats, bare, caller, last_key}
+use Rattle.kf_words.specs.Steps.{Seated, caller_of, no_state, state_at, after_try, after_undo, after_leave, after_break, after_restore, after_look, after_part, after_hide, after_look_hidden, after_show, after_release, after_split, hold_for, with_load, with_pin, without_pin, after_store, with_birth, with_marks, activated_marks, doomed_marks, with_look, without_node, unread, CallerBecomes, MasterBecomes, LoadsHold, ShowsKey}
+use Rattle.kf_words.specs.Nodes.{marks_of}
+use Rattle.kf_words.specs.Runs.{Table, Kind, tries, undoes, leaves, breaks, restores, looks, parts, hides, looks_hidden, shows, releases, loads_hold, pins_hold, unpins_hold, splits_linked, splits_held, stores_fresh, births, takes_bias, marks_node, looks_over, unlinks, plus, minus, same, with_hide, master_in, callers_in, world, IsSeated, HoldsSlot, WordStep}
+use Rattle.kf_words.proofs.Bits.{bool_cases}
+use Rattle.kf_words.proofs.Seating.{master_seat, seats-set, seats-push}
+use Rattle.kf_words.proofs.CallerAllowed.{no_step, try_allowed, undo_allowed, leave_allowed, break_allowed, restore_allowed, look_allowed, release_allowed, part_allowed, hide_allowed, look_hidden_allowed, show_allowed}
+use Rattle.kf_words.proofs.MasterAllowed.{active_slot, hold_slot, hold_allows, pin_owes, unpin_owes, birth_owes, unlink_owes, splits, state_there, look_allowed as look_over_allowed, fresh_allowed, load_allowed, rise_allowed, mark_allowed}
+use Rattle.kf_words.proofs.Events.{try_is_enter, undo_is_undo, look_is_look, part_is_part, leave_is_leave, break_is_break, restore_is_restore, release_is_release, hide_is_hide, look_hidden_is_look, show_is_show, miss_is_nothing, rise_is_rise, mark_is_mark, birth_is_born, unlink_is_unlink, split_is_pin}
+
+-- the next world is the same, or an event leads there, and only a try is an Enter
+abbrev pub Led : Kind → BareWorld → BareWorld → Type 0
+Led kind w w' = (w' ≡ w) ⊎ ((e : Event) × BareStep w e w' × ((c : ℕ) → e ≡ Enter c → kind ≡ tries c))
+
+-- the rule holds after the step, and the worlds are led
+abbrev Goes : Kind → ℕ → ℕ → Table → Table → Type 0
+Goes kind slots limit t t' = Shown slots limit t' × Led kind (world t) (world t')
+
+pub at_seat : (cs : List CallerView) (j : ℕ) (c : CallerView) → get_elem? (map seat.Caller cs) j ≡ some (seat.Caller c) → slice_get cs j ≡ Some c
+at_seat [] j c e = absurd (some-ne-none (seat.Caller c) (sym e))
+at_seat (x ∷ xs) zero c e = let is : seat.Caller x ≡ seat.Caller c = some-injective _ _ e in let one : x ≡ c = cc in ap Some one
+at_seat (x ∷ xs) (suc j) c e = at_seat xs j c e
+
+pub in_world : (cs : List CallerView) (j : ℕ) (c : CallerView) → slice_get cs j ≡ Some c → slice_get (map caller cs) j ≡ Some (caller c)
+in_world [] j c e = absurd (let x : None ≡ Some c = e in cc)
+in_world (x ∷ xs) zero c e = ap (λ (y : CallerView). Some (caller y)) (same_Some x c e)
+in_world (x ∷ xs) (suc j) c e = in_world xs j c e
+
+callers_back : (cs : List CallerView) → map caller_of (map seat.Caller cs) ≡ cs
+callers_back [] = refl
+callers_back (c ∷ cs) = ap (λ (l : List CallerView). c ∷ l) (callers_back cs)
+
+-- the world of a table, by the views that the rule names
+pub world_is : (t : Table) (m : MasterView) (cs : List CallerView) → t.views ≡ seats m cs → world t ≡ bare m cs
+world_is t m cs views = ap (λ (l : List View). bare (master_in l) (callers_in l)) views ∙ ap (bare m) (callers_back cs)
+
+led : (kind : Kind) (t t' : Table) (w w' : BareWorld) → world t ≡ w → world t' ≡ w' → Led kind w w' → Led kind (world t) (world t')
+led kind t t' w w' is is' l = subst (λ (x : BareWorld). Led kind x (world t')) (sym is) (subst (λ (x : BareWorld). Led kind w x) (sym is') l)
+
+same_shown : (slots limit : ℕ) (s t : Table) → t.words ≡ s.words → t.views ≡ s.views → Shown slots limit s → Shown slots limit t
+same_shown slots limit s t words views h = record {
+  master = h.master;
+  callers = h.callers;
+  views = views ∙ h.views;
+  all_slots = h.all_slots;
+  most_holds = h.most_holds;
+  shows = subst (λ (l : List ℕ). Shows l h.master h.callers) (sym words) h.shows;
+}
+
+-- what the table asks of each kind of step, for the one view that it tells
+by_play : (slots limit place word : ℕ) (f : ℕ → ℕ) (t t' : Table) (before after : View) (told : ℕ → Seated → Type 0)
+    → Allows (Shown slots limit) (length t.homes) place (before, []) word f told
+    → Shown slots limit t → get_elem? t.views place ≡ some before → slice_index t.words word < 18446744073709551616
+    → t' ≡ stepped t word (f (slice_index t.words word)) place [] after keeps
+    → ((me' : Seated) → told (slice_index t.words word) me' → me'.0 ≡ after) → Shown slots limit t'
+by_play slots limit place word f t t' before after told allowed h there fits becomes one =
+    let r = allowed t h refl there fits in
+    same_shown slots limit (stepped t word (f (slice_index t.words word)) place [] r.0 r.1) t'
+    (ap (λ (x : Table). x.words) becomes)
+    (ap (λ (x : Table). x.views) becomes ∙ ap (λ (v : View). set t.views place v) (sym (one (r.0, carried_after [] r.1) r.4)))
+    r.3
+
+-- a step of the caller of this number
+module _ (slots limit : ℕ) (t t' : Table) (h : Shown slots limit t) (j : ℕ) (c : CallerView) (there : IsSeated t j c) where
+  abbrev me : Seated
+  me = (seat.Caller c, [])
+
+  pub at : slice_get h.callers j ≡ Some c
+  at = at_seat h.callers j c (subst (λ (l : List View). get_elem? l (suc j) ≡ some (seat.Caller c)) h.views there)
+
+  caller_goes : (kind : Kind) (word : ℕ) (f : ℕ → ℕ) (aft : ℕ → CallerView → CallerView) (told : ℕ → Seated → Type 0)
+      → Allows (Shown slots limit) (length t.homes) (suc j) me word f told
+      → ((me' : Seated) → told (slice_index t.words word) me' → me'.0 ≡ seat.Caller (aft (slice_index t.words word) c))
+      → slice_index t.words word < 18446744073709551616
+      → t' ≡ stepped t word (f (slice_index t.words word)) (suc j) [] (seat.Caller (aft (slice_index t.words word) c)) keeps
+      → Led kind (bare h.master h.callers) (bare h.master (set h.callers j (aft (slice_index t.words word) c))) → Goes kind slots limit t t'
+  caller_goes kind word f aft told allowed one fits becomes l =
+      let c' : CallerView = aft (slice_index t.words word) c in
+      let views : t'.views ≡ seats h.master (set h.callers j c') =
+      ap (λ (x : Table). x.views) becomes ∙ ap (λ (l : List View). set l (suc j) (seat.Caller c')) h.views ∙ seats-set h.master h.callers j c' in (
+        by_play slots limit (suc j) word f t t' (seat.Caller c) (seat.Caller c') told allowed h there fits becomes one,
+        led kind t t' (bare h.master h.callers) (bare h.master (set h.callers j c')) (world_is t h.master h.callers h.views) (world_is t' h.master (set h.callers j c') views) l,
+      )
+
+-- what a step of the Master tells, by its slot
+slot_view : (after : ℕ → ℕ → MasterView → MasterView) (m : MasterView) (n i slot : ℕ) (me' : Seated) → slot_of i ≡ slot → me' ≡ (seat.Master (after (slot_of i) n m), []) → me'.0 ≡ seat.Master (after slot n m)
+slot_view after m n i slot me' back e = ap (λ (x : Seated). x.0) e ∙ ap (λ (k : ℕ). seat.Master (after k n m)) back
+
+-- a step of the Master
+module _ (slots limit : ℕ) (t t' : Table) (h0 : Shown slots limit t) (m : MasterView) (there : get_elem? t.views 0 ≡ some (seat.Master m)) where
+  abbrev cs : List CallerView
+  cs = h0.callers
+
+  pub is_m : h0.master ≡ m
+  is_m = (master_seat h0.master m cs 0 (subst (λ (l : List View). get_elem? l 0 ≡ some (seat.Master m)) h0.views there)).1
+
+  -- the rule, with the view that the Master's seat has
+  abbrev pub met : Shown slots limit t
+  met = record {
+    master = m;
+    callers = cs;
+    views = h0.views ∙ ap (λ (x : MasterView). seats x cs) is_m;
+    all_slots = ap (λ (x : MasterView). length x.slots) (sym is_m) ∙ h0.all_slots;
+    most_holds = ap (λ (x : MasterView). x.limit) (sym is_m) ∙ h0.most_holds;
+    shows = subst (λ (x : MasterView). Shows t.words x cs) is_m h0.shows;
+  }
+
+  master_goes : (kind : Kind) (slot word : ℕ) (f : ℕ → ℕ) (after : ℕ → ℕ → MasterView → MasterView) (told : ℕ → Seated → Type 0)
+      → Allows (Shown slots limit) (length t.homes) 0 (seat.Master m, []) word f told
+      → ((me' : Seated) → told (slice_index t.words word) me' → me'.0 ≡ seat.Master (after slot (slice_index t.words word) m))
+      → slice_index t.words word < 18446744073709551616
+      → t' ≡ stepped t word (f (slice_index t.words word)) 0 [] (seat.Master (after slot (slice_index t.words word) m)) keeps
+      → Led kind (bare m cs) (bare (after slot (slice_index t.words word) m) cs) → Goes kind slots limit t t'
+  master_goes kind slot word f after told allowed one fits becomes l =
+      let m' : MasterView = after slot (slice_index t.words word) m in
+      let views : t'.views ≡ seats m' cs = ap (λ (x : Table). x.views) becomes ∙ ap (λ (l : List View). set l 0 (seat.Master m')) met.views in (
+        by_play slots limit 0 word f t t' (seat.Master m) (seat.Master m') told allowed met there fits becomes one,
+        led kind t t' (bare m cs) (bare m' cs) (world_is t m cs met.views) (world_is t' m' cs views) l,
+      )
+
+  -- marks of a slot's last key
+  last_marks : (slot : ℕ) (state : SlotState) (o : Option Marks) → slice_get m.slots slot ≡ Some state → state.marks ≡ o → marks_of m (last_key slot state) ≡ o
+  last_marks slot state o its is = ap (λ (x : Option SlotState). marks_in x state.generation) its ∙ shown state.generation state.marks ∙ is
+
+  split_goes : (kind : Kind) (slot : ℕ) (state : SlotState) → slice_get m.slots slot ≡ Some state → m.pinning ≡ Some slot → MayPin (bare m cs) (last_key slot state)
+      → t' ≡ record { words = t.words; homes = t.homes; views = set t.views 0 (seat.Master (after_split m)) ++ seat.Caller (hold_for m m.pinning) ∷ [] } → Goes kind slots limit t t'
+  split_goes kind slot state its pins may becomes =
+      let new : CallerView = hold_for m m.pinning in
+      let views : t'.views ≡ seats (after_split m) (cs ++ new ∷ []) =
+      ap (λ (x : Table). x.views) becomes ∙ ap (λ (l : List View). set l 0 (seat.Master (after_split m)) ++ seat.Caller new ∷ []) met.views ∙ seats-push (after_split m) cs new in (
+        subst (λ (x : Table). Shown slots limit x) (sym becomes) (splits slots limit 0 (seat.Master m) slot state refl its pins t met there),
+        led kind t t' (bare m cs) (bare (after_split m) (cs ++ new ∷ [])) (world_is t m cs met.views) (world_is t' (after_split m) (cs ++ new ∷ []) views)
+            (inr (Pin (length cs) (last_key slot state), split_is_pin slots limit t met slot state pins its may, λ c e. absurd (let x : Pin (length cs) (last_key slot state) ≡ Enter c = e in cc))),
+      )
+
+  -- a linked node, or a holder of its slot, lets it be pinned
+  linked_pins : (slot : ℕ) (state : SlotState) → slice_get m.slots slot ≡ Some state → is_some (state_at m slot).marks ≡ true → MayPin (bare m cs) (last_key slot state)
+  linked_pins slot state its linked_is =
+      inl (ap is_some (last_marks slot state state.marks its refl) ∙ ap (λ (x : SlotState). is_some x.marks) (sym (get_or_from_slice_get m.slots slot state no_state its)) ∙ linked_is)
+
+  held_pins : (slot : ℕ) (state : SlotState) → slice_get m.slots slot ≡ Some state → (j : ℕ) → HoldsSlot t slot j → MayPin (bare m cs) (last_key slot state)
+  held_pins slot state its j holder =
+      let c : CallerView = holder.0 in
+      let in_w = in_world cs j c (at slots limit t t h0 j c holder.1) in
+      let last = met.shows.safe.held_last j c.key c.phase in_w holder.3 in
+      let one : last.0 ≡ state = same_Some last.0 state (sym last.1 ∙ ap (λ (k : ℕ). slice_get m.slots k) holder.2 ∙ its) in
+      let key : c.key ≡ last_key slot state = same_key c.key (last_key slot state) holder.2 (sym last.2 ∙ ap (λ (x : SlotState). x.generation) one) in
+      inr (record { caller = j; phase = c.phase; there = subst (λ (k : Key). IsCaller (bare m cs) j k c.phase) key in_w; holds = holder.3 })
+
+-- each step of the table
+pub word_step : (slots limit : ℕ) (t : Table) (kind : Kind) (t' : Table) → Shown slots limit t → WordStep t kind t' → Goes kind slots limit t t'
+word_step slots limit t (tries j) t' h s =
+    let c : CallerView = s.0 in
+    caller_goes slots limit t t' h j c s.2.there (tries j) (active_index c.key.slot) (plus 1) after_try (CallerBecomes after_try no_step (seat.Caller c, []))
+    (try_allowed slots limit (length t.homes) (suc j) (seat.Caller c, []) (active_index c.key.slot) refl refl s.1)
+    (λ me' e. ap (λ (x : Seated). x.0) e) s.2.fits s.2.becomes
+    (inr (Enter j, try_is_enter slots limit t h j c (at slots limit t t' h j c s.2.there) s.1, λ c e. let x : Enter j ≡ Enter c = e in let one : j ≡ c = cc in ap tries one))
+word_step slots limit t (undoes j) t' h s =
+    let c : CallerView = s.0 in
+    caller_goes slots limit t t' h j c s.2.there (undoes j) (active_index c.key.slot) (minus 1) (λ _. after_undo) (CallerBecomes (λ _. after_undo) no_step (seat.Caller c, []))
+    (undo_allowed slots limit (length t.homes) (suc j) (seat.Caller c, []) (active_index c.key.slot) refl refl s.1.0 s.1.1)
+    (λ me' e. ap (λ (x : Seated). x.0) e) s.2.fits s.2.becomes
+    (inr (Undo j, undo_is_undo slots limit t h j c (at slots limit t t' h j c s.2.there) s.1.0 s.1.1, λ c e. absurd (let x : Undo j ≡ Enter c = e in cc)))
+word_step slots limit t (leaves j) t' h s =
+    let c : CallerView = s.0 in
+    caller_goes slots limit t t' h j c s.2.there (leaves j) (active_index c.key.slot) (minus 1) after_leave (CallerBecomes after_leave no_step (seat.Caller c, []))
+    (leave_allowed slots limit (length t.homes) (suc j) (seat.Caller c, []) (active_index c.key.slot) refl refl s.1)
+    (λ me' e. ap (λ (x : Seated). x.0) e) s.2.fits s.2.becomes
+    (inr (Leave j, leave_is_leave slots limit t h j c (at slots limit t t' h j c s.2.there) s.1 (slice_index t.words (active_index c.key.slot)), λ c e. absurd (let x : Leave j ≡ Enter c = e in cc)))
+word_step slots limit t (breaks j) t' h s =
+    let c : CallerView = s.0 in
+    caller_goes slots limit t t' h j c s.2.there (breaks j) (active_index c.key.slot) (minus 1) after_break (CallerBecomes after_break no_step (seat.Caller c, []))
+    (break_allowed slots limit (length t.homes) (suc j) (seat.Caller c, []) (active_index c.key.slot) refl refl s.1)
+    (λ me' e. ap (λ (x : Seated). x.0) e) s.2.fits s.2.becomes
+    (inr (Break j, break_is_break slots limit t h j c (at slots limit t t' h j c s.2.there) s.1 (slice_index t.words (active_index c.key.slot)), λ c e. absurd (let x : Break j ≡ Enter c = e in cc)))
+word_step slots limit t (restores j) t' h s =
+    let c : CallerView = s.0 in
+    caller_goes slots limit t t' h j c s.2.there (restores j) (active_index c.key.slot) (plus 1) after_restore (CallerBecomes after_restore no_step (seat.Caller c, []))
+    (restore_allowed slots limit (length t.homes) (suc j) (seat.Caller c, []) (active_index c.key.slot) refl refl s.1)
+    (λ me' e. ap (λ (x : Seated). x.0) e) s.2.fits s.2.becomes
+    (inr (Restore j, restore_is_restore slots limit t h j c (at slots limit t t' h j c s.2.there) s.1 (slice_index t.words (active_index c.key.slot)), λ c e. absurd (let x : Restore j ≡ Enter c = e in cc)))
+word_step slots limit t (looks j) t' h s =
+    let c : CallerView = s.0 in
+    let n : ℕ = slice_index t.words (active_index c.key.slot) in
+    let its = at slots limit t t' h j c s.2.there in
+    caller_goes slots limit t t' h j c s.2.there (looks j) (active_index c.key.slot) same after_look (CallerBecomes after_look no_step (seat.Caller c, []))
+    (look_allowed slots limit (length t.homes) (suc j) (seat.Caller c, []) (active_index c.key.slot) refl refl s.1)
+    (λ me' e. ap (λ (x : Seated). x.0) e) s.2.fits s.2.becomes
+    (⊎_elim
+    (λ (hit : is_drained n ≡ true). inr (Look j, look_is_look slots limit t h j c its s.1 hit, λ c e. absurd (let x : Look j ≡ Enter c = e in cc)))
+    (λ (miss : is_drained n ≡ false). inl ((miss_is_nothing slots limit t h j c its n).0 miss))
+    (bool_cases (is_drained n)))
+word_step slots limit t (parts j) t' h s =
+    let c : CallerView = s.0 in
+    let n : ℕ = slice_index t.words (hold_index c.key.slot) in
+    let its = at slots limit t t' h j c s.2.there in
+    caller_goes slots limit t t' h j c s.2.there (parts j) (hold_index c.key.slot) same after_part (CallerBecomes after_part no_step (seat.Caller c, []))
+    (part_allowed slots limit (length t.homes) (suc j) (seat.Caller c, []) (hold_index c.key.slot) refl refl s.1)
+    (λ me' e. ap (λ (x : Seated). x.0) e) s.2.fits s.2.becomes
+    (⊎_elim
+    (λ (yes : has_linked n ≡ true). inl ((miss_is_nothing slots limit t h j c its n).1 yes))
+    (λ (gone : has_linked n ≡ false). inr (Part j, part_is_part slots limit t h j c its s.1 gone, λ c e. absurd (let x : Part j ≡ Enter c = e in cc)))
+    (bool_cases (has_linked n)))
+word_step slots limit t (hides j) t' h s =
+    let c : CallerView = s.0 in
+    let n : ℕ = slice_index t.words (active_index c.key.slot) in
+    let its = at slots limit t t' h j c s.2.there in
+    caller_goes slots limit t t' h j c s.2.there (hides j) (active_index c.key.slot) with_hide after_hide (CallerBecomes after_hide no_step (seat.Caller c, []))
+    (hide_allowed slots limit (length t.homes) (suc j) (seat.Caller c, []) (active_index c.key.slot) refl refl s.1)
+    (λ me' e. ap (λ (x : Seated). x.0) e) s.2.fits s.2.becomes
+    (⊎_elim
+    (λ (already : has_hide n ≡ true). inl ((miss_is_nothing slots limit t h j c its n).2 already))
+    (λ (clear : has_hide n ≡ false). inr (Hide j, hide_is_hide slots limit t h j c its s.1 clear, λ c e. absurd (let x : Hide j ≡ Enter c = e in cc)))
+    (bool_cases (has_hide n)))
+word_step slots limit t (looks_hidden j) t' h s =
+    let c : CallerView = s.0 in
+    let n : ℕ = slice_index t.words (active_index c.key.slot) in
+    let its = at slots limit t t' h j c s.2.there in
+    caller_goes slots limit t t' h j c s.2.there (looks_hidden j) (active_index c.key.slot) same after_look_hidden (CallerBecomes after_look_hidden no_step (seat.Caller c, []))
+    (look_hidden_allowed slots limit (length t.homes) (suc j) (seat.Caller c, []) (active_index c.key.slot) refl refl s.1)
+    (λ me' e. ap (λ (x : Seated). x.0) e) s.2.fits s.2.becomes
+    (⊎_elim
+    (λ (unused : is_unused n ≡ true). inr (LookHidden j, look_hidden_is_look slots limit t h j c its s.1 unused, λ c e. absurd (let x : LookHidden j ≡ Enter c = e in cc)))
+    (λ (used : is_unused n ≡ false). inl ((miss_is_nothing slots limit t h j c its n).3 used))
+    (bool_cases (is_unused n)))
+word_step slots limit t (shows j) t' h s =
+    let c : CallerView = s.0 in
+    caller_goes slots limit t t' h j c s.2.there (shows j) (active_index c.key.slot) (minus hide) after_show (ShowsKey no_step (seat.Caller c, []))
+    (show_allowed slots limit (length t.homes) (suc j) (seat.Caller c, []) (active_index c.key.slot) refl refl s.1)
+    (λ me' e. ap (λ (x : Seated). x.0) e.0) s.2.fits s.2.becomes
+    (inr (Show j, show_is_show slots limit t h j c (at slots limit t t' h j c s.2.there) s.1 (slice_index t.words (active_index c.key.slot)), λ c e. absurd (let x : Show j ≡ Enter c = e in cc)))
+word_step slots limit t (releases j) t' h s =
+    let c : CallerView = s.0 in
+    caller_goes slots limit t t' h j c s.2.there (releases j) (hold_index c.key.slot) (minus 1) after_release (CallerBecomes after_release no_step (seat.Caller c, []))
+    (release_allowed slots limit (length t.homes) (suc j) (seat.Caller c, []) (hold_index c.key.slot) refl refl s.1.0 s.1.1)
+    (λ me' e. ap (λ (x : Seated). x.0) e) s.2.fits s.2.becomes
+    (inr (Release j, release_is_release slots limit t h j c (at slots limit t t' h j c s.2.there) s.1.0 (slice_index t.words (hold_index c.key.slot)), λ c e. absurd (let x : Release j ≡ Enter c = e in cc)))
+word_step slots limit t (loads_hold slot) t' g s =
+    let m : MasterView = s.0 in
+    master_goes slots limit t t' g m s.2.there (loads_hold slot) slot (hold_index slot) same (with_load) (LoadsHold (step 0 (hold_index slot) 0 0 none) (seat.Master m, []))
+    (load_allowed slots limit (length t.homes) 0 (seat.Master m, []) slot (hold_index slot) refl refl s.1)
+    (λ me' e. slot_view (with_load) m (slice_index t.words (hold_index slot)) (hold_index slot) slot me' (hold_slot slot (hold_index slot) refl) e.0) s.2.fits s.2.becomes
+    (inl refl)
+word_step slots limit t (pins_hold slot) t' g s =
+    let m : MasterView = s.0 in
+    let p = state_there m.slots slot s.1.0 in
+    master_goes slots limit t t' g m s.2.there (pins_hold slot) slot (hold_index slot) (plus 1) (unread with_pin) (MasterBecomes (unread with_pin) (step 0 (hold_index slot) 0 0 none) (seat.Master m, []))
+    (hold_allows slots limit (length t.homes) 0 (seat.Master m, []) slot (hold_index slot) (plus 1) (unread with_pin) refl refl (pin_owes m slot p.0 p.1 s.1.1 s.1.2))
+    (λ me' e. slot_view (unread with_pin) m (slice_index t.words (hold_index slot)) (hold_index slot) slot me' (hold_slot slot (hold_index slot) refl) e) s.2.fits s.2.becomes
+    (inl refl)
+word_step slots limit t (unpins_hold slot) t' g s =
+    let m : MasterView = s.0 in
+    let p = state_there m.slots slot s.1.0 in
+    master_goes slots limit t t' g m s.2.there (unpins_hold slot) slot (hold_index slot) (minus 1) (unread without_pin) (MasterBecomes (unread without_pin) (step 0 (hold_index slot) 0 0 none) (seat.Master m, []))
+    (hold_allows slots limit (length t.homes) 0 (seat.Master m, []) slot (hold_index slot) (minus 1) (unread without_pin) refl refl (unpin_owes m slot p.0 p.1 s.1.1))
+    (λ me' e. slot_view (unread without_pin) m (slice_index t.words (hold_index slot)) (hold_index slot) slot me' (hold_slot slot (hold_index slot) refl) e) s.2.fits s.2.becomes
+    (inl refl)
+word_step slots limit t (splits_linked slot) t' g s =
+    let m : MasterView = s.0 in
+    let p = state_there m.slots slot s.3 in
+    split_goes slots limit t t' g m s.2 (splits_linked slot) slot p.0 p.1 s.4 (linked_pins slots limit t t' g m s.2 slot p.0 p.1 s.1) s.5
+word_step slots limit t (splits_held slot j) t' g s =
+    let m : MasterView = s.0 in
+    let p = state_there m.slots slot s.3 in
+    split_goes slots limit t t' g m s.2 (splits_held slot j) slot p.0 p.1 s.4 (held_pins slots limit t t' g m s.2 slot p.0 p.1 j s.1) s.5
+word_step slots limit t (stores_fresh slot) t' g s =
+    let m : MasterView = s.0 in
+    master_goes slots limit t t' g m s.2.there (stores_fresh slot) slot (active_index slot) (λ _. bias) (unread after_store) (MasterBecomes (unread after_store) (step 0 (active_index slot) 0 0 none) (seat.Master m, []))
+    (fresh_allowed slots limit (length t.homes) 0 (seat.Master m, []) slot (active_index slot) refl refl s.1.0 s.1.1)
+    (λ me' e. slot_view (unread after_store) m (slice_index t.words (active_index slot)) (active_index slot) slot me' (active_slot slot (active_index slot) refl) e) s.2.fits s.2.becomes
+    (inl refl)
+word_step slots limit t (births slot) t' g s =
+    let m : MasterView = s.0 in
+    let p = state_there m.slots slot s.1.0 in
+    let key : Key = record { slot = slot; generation = p.0.generation + 1 } in
+    master_goes slots limit t t' g m s.2.there (births slot) slot (hold_index slot) (plus (one_generation + linked)) (unread with_birth) (MasterBecomes (unread with_birth) (step 0 (hold_index slot) 0 0 none) (seat.Master m, []))
+    (hold_allows slots limit (length t.homes) 0 (seat.Master m, []) slot (hold_index slot) (plus (one_generation + linked)) (unread with_birth) refl refl (birth_owes m slot p.0 p.1 s.1.1))
+    (λ me' e. slot_view (unread with_birth) m (slice_index t.words (hold_index slot)) (hold_index slot) slot me' (hold_slot slot (hold_index slot) refl) e) s.2.fits s.2.becomes
+    (inr (Born key key [] Dir, birth_is_born slots limit t (met slots limit t t' g m s.2.there) slot p.0 key [] Dir s.1.1 p.1, λ c e. absurd (let x : Born key key [] Dir ≡ Enter c = e in cc)))
+word_step slots limit t (takes_bias slot) t' g s =
+    let m : MasterView = s.0 in
+    let key : Key = last_key slot s.1.0 in
+    master_goes slots limit t t' g m s.2.there (takes_bias slot) slot (active_index slot) (minus bias) (unread (with_marks activated_marks)) (MasterBecomes (unread (with_marks activated_marks)) (step 0 (active_index slot) 0 0 none) (seat.Master m, []))
+    (rise_allowed slots limit (length t.homes) 0 (seat.Master m, []) slot (active_index slot) s.1.0 refl refl s.1.1 s.1.2)
+    (λ me' e. slot_view (unread (with_marks activated_marks)) m (slice_index t.words (active_index slot)) (active_index slot) slot me' (active_slot slot (active_index slot) refl) e) s.2.fits s.2.becomes
+    (inr (Rise key, rise_is_rise slots limit t (met slots limit t t' g m s.2.there) key (last_marks slots limit t t' g m s.2.there slot s.1.0 (Some fresh_marks) s.1.1 s.1.2), λ c e. absurd (let x : Rise key ≡ Enter c = e in cc)))
+word_step slots limit t (marks_node slot) t' g r =
+    let x : Marks = r.0 in
+    let s = r.1 in
+    let m : MasterView = s.0 in
+    let state : SlotState = s.1.0.0 in
+    let key : Key = last_key slot state in
+    master_goes slots limit t t' g m s.2.there (marks_node slot) slot (active_index slot) (plus (bit x.activated bias + doom)) (unread (with_marks doomed_marks)) (MasterBecomes (unread (with_marks doomed_marks)) (step 0 (active_index slot) 0 0 none) (seat.Master m, []))
+    (mark_allowed slots limit (length t.homes) 0 (seat.Master m, []) slot (active_index slot) state x (bit x.activated bias + doom) refl refl s.1.0.1 s.1.0.2 s.1.1 refl)
+    (λ me' e. slot_view (unread (with_marks doomed_marks)) m (slice_index t.words (active_index slot)) (active_index slot) slot me' (active_slot slot (active_index slot) refl) e) s.2.fits s.2.becomes
+    (inr (Mark key, mark_is_mark slots limit t (met slots limit t t' g m s.2.there) key x (last_marks slots limit t t' g m s.2.there slot state (Some x) s.1.0.1 s.1.0.2) s.1.1, λ c e. absurd (let x : Mark key ≡ Enter c = e in cc)))
+word_step slots limit t (looks_over slot) t' g s =
+    let m : MasterView = s.0 in
+    master_goes slots limit t t' g m s.2.there (looks_over slot) slot (active_index slot) same (with_look) (MasterBecomes (with_look) (step 0 (active_index slot) 0 0 none) (seat.Master m, []))
+    (look_over_allowed slots limit (length t.homes) 0 (seat.Master m, []) slot (active_index slot) refl refl)
+    (λ me' e. slot_view (with_look) m (slice_index t.words (active_index slot)) (active_index slot) slot me' (active_slot slot (active_index slot) refl) e) s.2.fits s.2.becomes
+    (inl refl)
+word_step slots limit t (unlinks slot j) t' g both =
+    let s = both.0 in
+    let lent = both.1 in
+    let m : MasterView = s.0 in
+    let c : CallerView = lent.0 in
+    let x = s.1.0 in
+    let looked = s.1.1 in
+    let k = met slots limit t t' g m s.2.there in
+    let its = at slots limit t t' g j c lent.1 in
+    let there : is_some (marks_of m c.key) ≡ true = ap (λ (l : List View). is_some (marks_of (master_in l) c.key)) (sym k.views) ∙ lent.4 in
+    master_goes slots limit t t' g m s.2.there (unlinks slot j) slot (hold_index slot) (minus linked) (unread without_node) (MasterBecomes (unread without_node) (step 0 (hold_index slot) 0 0 none) (seat.Master m, []))
+    (hold_allows slots limit (length t.homes) 0 (seat.Master m, []) slot (hold_index slot) (minus linked) (unread without_node) refl refl (unlink_owes m slot x.1.0 x.0 looked.0 x.1.1 x.1.2 looked.1 looked.2))
+    (λ me' e. slot_view (unread without_node) m (slice_index t.words (hold_index slot)) (hold_index slot) slot me' (hold_slot slot (hold_index slot) refl) e) s.2.fits s.2.becomes
+    (subst (λ (k : ℕ). Led (unlinks slot j) (bare m g.callers) (bare (without_node k m) g.callers)) lent.2
+    (inr (Unlink j, unlink_is_unlink slots limit t k j c its lent.3 there, λ c e. absurd (let x : Unlink j ≡ Enter c = e in cc))))

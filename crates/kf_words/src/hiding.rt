@@ -1,0 +1,119 @@
+//! Keys that are hidden: one caller hides a key, waits until nobody uses its node, and shows it again.
+ghost use Rattle.std.specs.Prelude.{◌≡◌, true, IfOk, IfErr, MatchResult};
+ghost use Rattle.kf_core.specs.declared.caller.Phase.TheVariants as phase_of;
+ghost use Rattle.kf_words.specs.Callers.{IsSameSeat, SawUnused, SawUser, WasShown, FoundThere, seat_view};
+ghost use Rattle.kf_words.specs.Layout.{is_unused};
+ghost use Rattle.kf_words.specs.Runs.{LastWasALookHidden, WasALookHidden, WasAShow};
+
+use crate::hold::Hold;
+use crate::layout::is_unused;
+use crate::seat::CallerSeat;
+use kf_core::Key;
+use std::marker::Model;
+use std::sync::Wait;
+
+/// Hides its key, on which calls may still run. It must be spent, by `look` or `wait_hidden`.
+pub struct Hiding {
+    pub(crate) seat: CallerSeat,
+}
+
+impl Model for Hiding {
+    ghost use Rattle.kf_core.specs.declared.caller.Phase.TheVariants as phase_of;
+    ghost use Rattle.kf_words.specs.Callers.{Handle, handle_of, view_of, IsIn};
+
+    ghost Value = { Handle };
+
+    ghost view = { λ h. handle_of h.seat };
+
+    ghost invariant = { λ h. IsIn phase_of.Hiding (view_of h.seat) };
+}
+
+/// Hides its key, and saw that nobody had a reference to the node. While it is out no call of the node is Running:
+/// a callback that still runs there gave its protection up before. It must be spent, by `show`.
+pub struct Hidden {
+    pub(crate) seat: CallerSeat,
+}
+
+impl Model for Hidden {
+    ghost use Rattle.kf_core.specs.declared.caller.Phase.TheVariants as phase_of;
+    ghost use Rattle.kf_words.specs.Callers.{Handle, handle_of, view_of, IsIn};
+
+    ghost Value = { Handle };
+
+    ghost view = { λ h. handle_of h.seat };
+
+    ghost invariant = { λ h. IsIn phase_of.Hidden (view_of h.seat) };
+}
+
+impl Hiding {
+    /// The key that it hides.
+    pub fn key(&self) -> Key
+        ensures value { result ≡ self.now.key }
+        ensures phase { self.now.phase ≡ phase_of.Hiding }
+    {
+        self.seat.key
+    }
+
+    /// Looks, in one word step, whether nobody has a reference to the node.
+    pub fn look(self) -> Result<Hidden, Hiding>
+        ensures same { MatchResult result (λ saw. IsSameSeat self saw) (λ back. IsSameSeat self back) }
+        ensures hidden { IfOk result (λ saw. SawUnused self saw) }
+        ensures not_yet { IfErr result (λ back. SawUser self back) }
+        ensures found { MatchResult result (λ saw. FoundThere self saw.found) (λ back. FoundThere self back.found) }
+        ensures made { MatchResult result (λ saw. WasALookHidden (seat_view self) (seat_view saw)) (λ back. WasALookHidden (seat_view self) (seat_view back)) }
+    {
+        let Hiding { mut seat } = self;
+        if is_unused(seat.load_hidden()) {
+            seat.wake_one();
+            Ok(Hidden { seat })
+        } else {
+            Err(Hiding { seat })
+        }
+    }
+}
+
+impl Hidden {
+    /// The key that it hides.
+    pub fn key(&self) -> Key
+        ensures value { result ≡ self.now.key }
+        ensures phase { self.now.phase ≡ phase_of.Hidden }
+    {
+        self.seat.key
+    }
+
+    /// Shows the key again, in one word step: the bit of the hidden key goes, and all other bits stay as they are.
+    /// Called under the lock of the tree.
+    pub fn show(self) -> Hold
+        ensures same { IsSameSeat self result }
+        ensures hold { WasShown self result }
+        ensures made { WasAShow (seat_view self) (seat_view result) }
+    {
+        let Hidden { mut seat } = self;
+        seat.clear_hide();
+        Hold { seat }
+    }
+}
+
+/// Waits until nobody has a reference to the node whose key it hides.
+/// It may never return, and its number of word steps is not told.
+pub fn wait_hidden<R: Wait>(rt: &R, hiding: Hiding) -> Hidden
+    ensures same { IsSameSeat hiding result }
+    ensures hidden { result.phase ≡ phase_of.Hidden }
+    ensures found { is_unused result.found ≡ true }
+    ensures looked { LastWasALookHidden (seat_view result) }
+{
+    let Hiding { mut seat } = hiding;
+    let mut slept = false;
+    for _ in rt.forever() {
+        let seen = seat.load_hidden();
+        if is_unused(seen) {
+            break;
+        }
+        seat.park(rt, seen);
+        slept = true;
+    }
+    if slept {
+        seat.wake_one();
+    }
+    Hidden { seat }
+}
