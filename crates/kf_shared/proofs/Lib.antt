@@ -1,0 +1,12 @@
+pub mod Slots
+pub mod Changes
+pub mod Agreement
+pub mod Nodes
+pub mod Ties
+pub mod Unlinked
+pub mod Ends
+pub mod Pins
+pub mod Receipts
+pub mod Opening
+pub mod Gone
+pub mod Running

@@ -1,0 +1,6 @@
+pub mod Agreement
+pub mod Locked
+pub mod Removal
+pub mod Receipts
+pub mod Hiding
+pub mod Running

@@ -1,0 +1,97 @@
+-- What the tree lock keeps, and what the calls on one node make of it.
+use Rattle.std.specs.Prelude.{◌≡◌, ◌⊎◌, ℕ, Bool, false, ◌==◌, slice_get, List, length, Option, None, Some, MatchBool, IfSome}
+use Rattle.std.specs.Option.{option_map}
+use Rattle.kf_core.specs.declared.key.Key.{Key}
+use Rattle.kf_core.specs.declared.key.Node.{Node}
+use Rattle.kf_core.specs.declared.command.Command.TheVariants.{Create, Unlink}
+use Rattle.kf_core.specs.declared.caller.Phase.TheVariants.{Still}
+use Rattle.kf_core.specs.declared.refusal.Refusal.{Refusal}
+use Rattle.kf_core.specs.declared.refusal.Refusal.TheVariants.{NoEntry, Busy}
+use Rattle.kf_core.specs.Tree.{Tree, record_at, is_linked}
+use Rattle.kf_tree.specs.Causes.{create_cause, rename_cause, unlink_cause}
+use Rattle.kf_tree.specs.TreeLogs.{TreeLog, IsKept, IsAccepted, IsRefused}
+use Rattle.kf_words.specs.declared.view.MasterView.{MasterView}
+use Rattle.kf_words.specs.Callers.{TableId, Handle}
+use Rattle.kf_words.specs.Nodes.{MasterState, KeepsNodes, IsVacant, Searched, FoundFirst, PinRefused, UnlinkAnswer}
+use Rattle.kf_shared.specs.Agreement.{SameMarks, HasNodes}
+
+-- the tree with its commands, the Master of the words, and by slot the generation that was last claimed
+pub record Locked : Type 0 where
+  pub state : TreeLog
+  pub master : MasterState
+  pub claims : List ℕ
+
+-- the Master and the claims are those of the tree, whose root has slot 0
+pub record IsTied (table : TableId) (s : Locked) : Type 0 where
+  pub same_table : s.master.table ≡ table
+  pub root : s.state.root.slot ≡ 0
+  pub marks : SameMarks s.master.view.slots s.state.tree
+  pub nodes : HasNodes s.master.nodes s.state.tree
+  pub slots : length s.master.view.slots ≡ length s.state.tree
+  pub all_nodes : length s.master.nodes ≡ length s.state.tree
+  pub claims : length s.claims ≡ length s.state.tree
+
+-- what holds whenever the lock is free: the tree is lawful and the replay of its commands, and the Master names the same keys
+pub record IsWhole (table : TableId) (s : Locked) : Type 0 where
+  pub kept : IsKept s.state
+  pub tied : IsTied table s
+
+-- this call's search for a free slot answered this key, the next of its slot
+pub record HasFound (m : MasterView) (next : Option Key) (m' : MasterView) : Type 0 where
+  pub searched : Searched m (option_map (λ (key : Key). key.slot) next) m'
+  pub vacant : IfSome next (λ key. IsVacant m' key)
+
+-- the slots from 1 up were loaded until one was found free, and these loads are kept from the birth that came then, which was there
+abbrev pub BornLowest : MasterView → MasterView → ℕ → Type 0
+BornLowest old new slot = (found : MasterView) × FoundFirst old slot found × (new.at_birth ≡ found.loads)
+
+-- the node was linked in the directory, under the next key that was found, and that is stored
+abbrev pub Created : Locked → Locked → Key → List ℕ → Node → Bool → Key → Type 0
+Created old new parent name node live key =
+    IsAccepted old.state new.state (create_cause old.state.tree old.state.root parent name node (Some key)) (Create key parent name node live)
+
+-- there was a cause against it, with the next key that was found, or no memory
+abbrev pub CreateRefused : Locked → Locked → Key → List ℕ → Node → Refusal → Type 0
+CreateRefused old new parent name node refusal = (next : Option Key) × HasFound old.master.view next new.master.view
+    × IsRefused old.state new.state (create_cause old.state.tree old.state.root parent name node next) refusal
+
+-- why a node may not be moved
+abbrev pub move_cause : Locked → Key → Key → List ℕ → Option Refusal
+move_cause s key dir name = rename_cause s.state.tree s.state.root key dir name
+
+-- the node was taken out of the tree, and that is stored; or it was not linked, and nothing was done
+abbrev pub UnlinkDone : Locked → Locked → Key → Bool → Type 0
+UnlinkDone old new key unlinked = MatchBool unlinked (IsAccepted old.state new.state (unlink_cause old.state.tree key) (Unlink key)) (new ≡ old)
+
+-- a new hold of this linked node
+pub record IsNewHold (table : TableId) (t : Tree) (key : Key) (hold : Handle) : Type 0 where
+  pub same_table : hold.table ≡ table
+  pub key_is : hold.key ≡ key
+  pub node : option_map (λ r. r.node) (record_at t key) ≡ Some hold.node
+  pub still : hold.phase ≡ Still
+
+-- the node is not linked, and nothing changed; or one load found as many holds as there may be; or there was no memory
+abbrev pub HoldRefused : Locked → Locked → Key → Refusal → Type 0
+HoldRefused old new key refusal = MatchBool (is_linked old.state.tree key) (PinRefused old.master.view key.slot refusal new.master.view) ((refusal ≡ NoEntry) × (new ≡ old))
+
+-- the root, the tree, its commands and the claims are as before, and of the Master the table, the nodes and the slots
+pub record Unchanged (old new : Locked) : Type 0 where
+  pub root : new.state.root ≡ old.state.root
+  pub tree : new.state.tree ≡ old.state.tree
+  pub commands : new.state.commands ≡ old.state.commands
+  pub claims : new.claims ≡ old.claims
+  pub master : KeepsNodes old.master new.master
+
+-- the tree refuses it, and nothing changed; or one load found the word in use
+abbrev pub UnlinkRefused : Locked → Locked → Key → Refusal → Type 0
+UnlinkRefused old new key refusal =
+    ((unlink_cause old.state.tree key ≡ Some refusal) × (new ≡ old))
+    ⊎ ((unlink_cause old.state.tree key ≡ None) × (refusal ≡ Busy) × UnlinkAnswer old.master.view key.slot false new.master.view × Unchanged old new)
+
+abbrev pub is_some_of : Option ℕ → ℕ → Bool
+is_some_of None n = false
+is_some_of (Some m) n = m == n
+
+-- the generation of the key was claimed last
+abbrev pub is_claimed : List ℕ → Key → Bool
+is_claimed claims key = is_some_of (slice_get claims key.slot) key.generation

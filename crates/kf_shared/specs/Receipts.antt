@@ -1,0 +1,67 @@
+-- What the receipts of a removal tell, and what it found and made while it had the lock.
+use Rattle.std.specs.Prelude.{◌≡◌, ◌≢◌, ℕ, Bool, not, List, [], ◌∷◌, ◌++◌, map, All, AllPairs, MatchBool, slice_set}
+use Rattle.kf_core.specs.declared.key.Key.{Key}
+use Rattle.kf_core.specs.declared.refusal.Refusal.{Refusal}
+use Rattle.kf_core.specs.PostOrder.{IsPostOrder}
+use Rattle.kf_core.specs.Tree.{Tree, is_linked}
+use Rattle.kf_words.specs.Callers.{TableId, Handle, SeatId, IsSameSeat, id_of}
+use Rattle.kf_shared.specs.Locked.{Locked, IsWhole, Unchanged, is_claimed}
+use Rattle.kf_shared.specs.Removal.{DoomMarked, DoomRefused, SelfRemovalRefused}
+
+-- all are of this table
+abbrev pub AreOf : TableId → List Handle → Type 0
+AreOf table handles = All (λ h. h.table ≡ table) handles
+
+-- no key stands twice
+abbrev pub AllDifferent : List Key → Type 0
+AllDifferent keys = AllPairs (λ a b. a ≢ b) keys
+
+-- what no step of a seat changes: its key, and which seat of which table it is
+pub record Owner : Type 0 where
+  pub key : Key
+  pub seat : SeatId
+
+abbrev pub owner : Handle → Owner
+owner h = record { key = h.key; seat = id_of h }
+
+abbrev pub owners_of : List Handle → List Owner
+owners_of handles = map owner handles
+
+-- the last is of the very seat of this hold
+abbrev pub EndsAt : List Handle → Handle → Type 0
+EndsAt handles hold = (front : List Handle) × (last : Handle) × (handles ≡ front ++ last ∷ []) × IsSameSeat hold last
+
+-- the keys of the node's subtree, in post-order; where the node is not linked, its own alone
+abbrev pub IsDoomList : Tree → Key → List Key → Type 0
+IsDoomList t key keys = MatchBool (is_linked t key) (IsPostOrder t key keys) (keys ≡ key ∷ [])
+
+-- what the lock kept when a removal doomed its nodes, and after that. It does not say when that was
+pub record WasDoomed (table : TableId) (key : Key) (keys : List Key) : Type 0 where
+  pub old : Locked
+  pub new : Locked
+  pub was_whole : IsWhole table old
+  pub is_whole : IsWhole table new
+  pub listed : IsDoomList old.state.tree key keys
+  pub done : DoomMarked old new key
+
+-- the same of a self-removal, which claims its node, and is the first where that was not claimed
+pub record WasSelfDoomed (table : TableId) (key : Key) (first : Bool) (keys : List Key) : Type 0 where
+  pub doomed : WasDoomed table key keys
+  pub told : first ≡ not (is_claimed doomed.old.claims key)
+  pub claimed : doomed.new.claims ≡ slice_set doomed.old.claims key.slot key.generation
+
+-- what the lock kept when a removal was refused, and after that
+pub record RemovalRefused (table : TableId) (key : Key) (refusal : Refusal) : Type 0 where
+  pub old : Locked
+  pub new : Locked
+  pub whole : IsWhole table old
+  pub why : DoomRefused old new key refusal
+  pub same : Unchanged old new
+
+-- and when a self-removal was
+pub record SelfRemovalWasRefused (table : TableId) (key : Key) (refusal : Refusal) : Type 0 where
+  pub old : Locked
+  pub new : Locked
+  pub whole : IsWhole table old
+  pub why : SelfRemovalRefused old new key refusal
+  pub same : Unchanged old new

@@ -1,0 +1,63 @@
+-- Holds of a subtree, and what its doom makes of what the tree lock keeps.
+use Rattle.std.specs.Prelude.{◌≡◌, ◌≢◌, ◌⊎◌, List, [], ◌∷◌, ◌++◌, map, All, MatchBool, true}
+use Rattle.kf_core.specs.declared.key.Key.{Key}
+use Rattle.kf_core.specs.declared.caller.Phase.TheVariants.{Still}
+use Rattle.kf_core.specs.declared.command.Command.TheVariants.{Doom}
+use Rattle.kf_core.specs.declared.refusal.Refusal.{Refusal}
+use Rattle.kf_core.specs.declared.refusal.Refusal.TheVariants.{NoEntry, NoMemory, TooManyHolds, Invalid}
+use Rattle.kf_core.specs.Keys.{same_key}
+use Rattle.kf_core.specs.Tree.{Tree, is_linked, in_subtree}
+use Rattle.kf_core.specs.PostOrder.{IsPostOrder}
+use Rattle.kf_tree.specs.Causes.{doom_cause}
+use Rattle.kf_tree.specs.TreeLogs.{IsAccepted}
+use Rattle.kf_words.specs.declared.view.MasterView.{MasterView}
+use Rattle.kf_words.specs.Callers.{TableId, Handle}
+use Rattle.kf_words.specs.Nodes.{FoundFull, IsLastKey}
+use Rattle.kf_shared.specs.Locked.{Locked}
+
+abbrev pub keys_of : List Handle → List Key
+keys_of holds = map (λ h. h.key) holds
+
+-- of this table, with no reference
+abbrev pub IsStill : TableId → Handle → Type 0
+IsStill table hold = (hold.table ≡ table) × (hold.phase ≡ Still)
+
+-- new holds, and the given one last
+abbrev pub AreHolds : TableId → Handle → List Handle → Type 0
+AreHolds table hold holds = (front : List Handle) × (holds ≡ front ++ hold ∷ []) × All (IsStill table) front
+
+-- one hold for each node of the subtree, in post-order; where the node is no longer linked, the given hold alone
+abbrev pub DoomHolds : Tree → Handle → List Handle → Type 0
+DoomHolds t hold holds = MatchBool (is_linked t hold.key) (IsPostOrder t hold.key (keys_of holds)) (holds ≡ hold ∷ [])
+
+-- the node and all below it are doomed, and that is stored; where it is no longer linked the tree is as before
+abbrev pub DoomMarked : Locked → Locked → Key → Type 0
+DoomMarked old new key = MatchBool (is_linked old.state.tree key) (IsAccepted old.state new.state (doom_cause old.state.tree old.state.root key) (Doom key)) (new.state ≡ old.state)
+
+-- and in that case no word step is made either
+abbrev pub DoomDone : Locked → Locked → Key → Type 0
+DoomDone old new key = MatchBool (is_linked old.state.tree key) (IsAccepted old.state new.state (doom_cause old.state.tree old.state.root key) (Doom key)) (new ≡ old)
+
+-- a load found as many holds of a node of the subtree as there may be
+abbrev pub FoundFullIn : Tree → Key → MasterView → Type 0
+FoundFullIn t top m = (key : Key) × (in_subtree t top key ≡ true) × FoundFull m key.slot
+
+-- and the node is not the top, of which a hold is at hand
+abbrev pub FoundFullBelow : Tree → Key → MasterView → Type 0
+FoundFullBelow t top m = (key : Key) × (key ≢ top) × (in_subtree t top key ≡ true) × FoundFull m key.slot
+
+-- one of the nodes has no room for a hold; or there was no memory
+abbrev pub PinsRefused : Type 0 → Refusal → Type 0
+PinsRefused Full refusal = ((refusal ≡ TooManyHolds) × Full) ⊎ (refusal ≡ NoMemory)
+
+-- it is the root, and else the pins were refused; where the node is no longer linked there was no memory
+abbrev pub DoomRefused : Locked → Locked → Key → Refusal → Type 0
+DoomRefused old new key refusal = MatchBool (is_linked old.state.tree key)
+    (MatchBool (same_key key old.state.root) (refusal ≡ Invalid) (PinsRefused (FoundFullBelow old.state.tree key new.master.view) refusal))
+    (refusal ≡ NoMemory)
+
+-- it is the root; and else the slot has had a later node, or the pins were refused
+abbrev pub SelfRemovalRefused : Locked → Locked → Key → Refusal → Type 0
+SelfRemovalRefused old new key refusal = MatchBool (same_key key old.state.root)
+    (refusal ≡ Invalid)
+    (((refusal ≡ NoEntry) × (¬ IsLastKey old.master.view key)) ⊎ PinsRefused (FoundFullIn old.state.tree key new.master.view) refusal)

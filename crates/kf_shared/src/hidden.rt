@@ -1,0 +1,50 @@
+//! Files that are hidden and shown again, by threads that do not have the lock.
+ghost use Rattle.std.specs.Prelude.{◌≡◌, true, IfErr, IfOk};
+ghost use Rattle.kf_core.specs.declared.caller.Phase.TheVariants as phase_of;
+ghost use Rattle.kf_words.specs.Callers.{IsSameSeat, WasShown};
+ghost use Rattle.kf_words.specs.Layout.{is_unused};
+ghost use Rattle.kf_shared.specs.Hiding.{HidingRefused};
+
+use crate::naming::Naming;
+use crate::tree::SharedTree;
+use kf_core::Refusal;
+use kf_words::{Hidden, Hold, wait_hidden};
+use std::sync::Wait;
+
+impl<N: Naming> SharedTree<N> {
+    /// Hides a file, and waits, with the lock let go, until nobody has a reference to it: then no callback runs there, save
+    /// one that broke its own protection, and none starts until the file is shown. It may never return: it waits for
+    /// every callback that runs on the file, its caller's own among them.
+    ///
+    /// Condition: the hold is of this tree's table.
+    ///
+    /// Refusals, in order, all before the wait: IsDir, Invalid (a link), by the hold's own node; NoEntry (not linked, or
+    /// doomed), Busy (hidden), NoMemory. After a refusal the tree is as before, and the hold comes back.
+    pub fn hide<R: Wait>(&self, rt: &R, hold: Hold) -> Result<Hidden, (Hold, Refusal)>
+        requires table { hold.table ≡ N.table }
+        ensures same { IfOk result (λ hidden. IsSameSeat hold hidden) }
+        ensures hidden { IfOk result (λ hidden. hidden.phase ≡ phase_of.Hidden) }
+        ensures unused { IfOk result (λ hidden. is_unused hidden.found ≡ true) }
+        ensures refused { IfErr result (λ r. HidingRefused N.table hold r.0 r.1) }
+    {
+        let started = {
+            let mut editor = self.edit(rt);
+            editor.hide(hold)
+        };
+        match started {
+            Ok(hiding) => Ok(wait_hidden(rt, hiding)),
+            Err(refused) => Err(refused),
+        }
+    }
+
+    /// Shows a hidden file again, under the lock. It refuses nothing and takes no memory.
+    ///
+    /// Condition: the token is of this tree's table.
+    pub fn show<R: Wait>(&self, rt: &R, hidden: Hidden) -> Hold
+        requires table { hidden.table ≡ N.table }
+        ensures hold { IsSameSeat hidden result × WasShown hidden result }
+    {
+        let mut editor = self.edit(rt);
+        editor.show(hidden)
+    }
+}

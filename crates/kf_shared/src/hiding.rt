@@ -1,0 +1,77 @@
+//! Files that are hidden and shown again: the tree's part and the words' part of each, under the lock.
+ghost use Rattle.std.specs.Prelude.{◌≡◌, IfOk, IfErr, OnErr, Option};
+ghost use Rattle.kf_core.specs.declared.command.Command.TheVariants.{Hide};
+ghost use Rattle.kf_core.specs.declared.refusal.Refusal.TheVariants as refusal_of;
+ghost use Rattle.kf_tree.specs.TreeLogs.{IsAccepted, IsCompacted};
+ghost use Rattle.kf_words.specs.Callers.{IsSameSeat, WasHidden, WasShown};
+ghost use Rattle.kf_shared.specs.Locked.{Unchanged};
+ghost use Rattle.kf_shared.specs.Hiding.{kind_cause, hold_cause, HideRefused, ShowDone};
+
+use crate::locked::Locked;
+use crate::naming::Naming;
+use kf_core::{Node, Refusal};
+use kf_words::{Hidden, Hiding, Hold};
+
+/// Why a node of this kind is not hidden.
+fn kind_fault(node: Node) -> Option<Refusal>
+    ensures { result ≡ kind_cause node }
+{
+    match node {
+        Node::Dir => Some(Refusal::IsDir),
+        Node::File { .. } => None,
+        Node::Link { .. } => Some(Refusal::Invalid),
+    }
+}
+
+impl<N: Naming> Locked<N> {
+    /// Hides the file of a hold: the tree is asked first, then the word, and then the tree is told.
+    pub fn hide(&mut self, hold: Hold) -> Result<Hiding, (Hold, Refusal)>
+        requires table { hold.table ≡ N.table }
+        ensures hiding { IfOk result (λ hiding. IsSameSeat hold hiding × WasHidden hold hiding) }
+        ensures accepted { IfOk result (λ _. IsAccepted self.old.state self.new.state (hold_cause self.old.state.tree hold) (Hide hold.key)) }
+        ensures refused { IfErr result (λ r. HideRefused self.old.state.tree hold r.0 r.1) }
+        ensures same { OnErr result (Unchanged self.old self.new) }
+        ensures words { self.new.master ≡ self.old.master }
+        ensures claims { self.new.claims ≡ self.old.claims }
+    {
+        if let Some(refusal) = kind_fault(hold.node()) {
+            return Err((hold, refusal));
+        }
+        let key = hold.key();
+        if let Err(refusal) = self.state.may_hide(key) {
+            return Err((hold, refusal));
+        }
+        match hold.hide() {
+            Ok(hiding) => {
+                self.state.hide(key);
+                Ok(hiding)
+            }
+            Err(back) => Err((back, Refusal::Busy)),
+        }
+    }
+
+    /// Shows a hidden file again, in the words and, where it is linked there, in the tree.
+    pub fn show(&mut self, hidden: Hidden) -> Hold
+        requires table { hidden.table ≡ N.table }
+        ensures hold { IsSameSeat hidden result × WasShown hidden result }
+        ensures done { ShowDone self.old self.new hidden.key }
+        ensures words { self.new.master ≡ self.old.master }
+        ensures claims { self.new.claims ≡ self.old.claims }
+    {
+        let key = hidden.key();
+        let hold = hidden.show();
+        self.state.show(key);
+        hold
+    }
+
+    /// Puts the shortest list that makes this tree in place of the stored commands.
+    pub fn compact(&mut self) -> Result<(), Refusal>
+        ensures compacted { IfOk result (λ _. IsCompacted self.old.state self.new.state) }
+        ensures refused { IfErr result (λ refusal. refusal ≡ refusal_of.NoMemory) }
+        ensures same { OnErr result (self.new ≡ self.old) }
+        ensures words { self.new.master ≡ self.old.master }
+        ensures claims { self.new.claims ≡ self.old.claims }
+    {
+        self.state.compact()
+    }
+}

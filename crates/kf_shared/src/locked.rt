@@ -1,0 +1,162 @@
+//! What the tree lock keeps, and its commands on one node.
+ghost use Rattle.std.specs.Prelude.{◌≡◌, IfOk, IfErr, OnErr, Some, None, true, false, not, Option, MatchBool, slice_set};
+ghost use Rattle.kf_core.specs.declared.key.Key.{Key};
+ghost use Rattle.kf_core.specs.declared.command.Command.TheVariants.{Activate, Rename};
+ghost use Rattle.kf_core.specs.declared.refusal.Refusal.TheVariants as refusal_of;
+ghost use Rattle.kf_core.specs.Tree.{is_linked};
+ghost use Rattle.kf_tree.specs.Causes.{linked_cause, is_there_already};
+ghost use Rattle.kf_tree.specs.TreeLogs.{IsAccepted, IsRefused};
+ghost use Rattle.kf_words.specs.Nodes.{KeepsNodes, IsVacant, UnlinkAnswer};
+ghost use Rattle.kf_shared.specs.Locked.{IsWhole, Created, CreateRefused, BornLowest, move_cause, IsNewHold, HoldRefused, Unchanged, UnlinkDone, UnlinkRefused, is_claimed};
+
+use crate::marking::rise_each;
+use crate::naming::Naming;
+use kf_core::{Key, Node, Refusal};
+use kf_tree::State;
+use kf_words::{Drained, Hold, Master};
+use std::alloc::Global;
+use std::marker::{Model, PhantomData};
+
+/// The tree with its commands, the Master of the words, and by slot the generation that was last claimed by a
+/// self-removal.
+#[derive(Drop)]
+pub struct Locked<N: Naming> {
+    pub(crate) alloc: Global,
+    pub(crate) state: State,
+    pub(crate) master: Master,
+    pub(crate) claims: Vec<u32>,
+    pub(crate) name: PhantomData<N>,
+}
+
+impl<N: Naming> Model for Locked<N> {
+    ghost use Rattle.kf_shared.specs.Locked.{Locked, IsTied};
+
+    ghost Value = { Locked };
+
+    ghost view = { λ s. record { state = s.state; master = s.master; claims = s.claims.items } };
+
+    ghost invariant = { λ s. IsTied N.table (record { state = s.state; master = s.master; claims = s.claims.items }) };
+}
+
+impl<N: Naming> Locked<N> {
+    /// The tree with its stored commands.
+    pub fn state(&self) -> &State
+        ensures same { result.now ≡ self.now.state }
+        ensures whole { IsWhole N.table self.now }
+    {
+        let _ = self.state.root();
+        &self.state
+    }
+
+    /// Links a node in the slot that the search for a free one found.
+    pub fn create(
+        &mut self,
+        parent: Key,
+        name: &[u8],
+        node: Node,
+        live: bool,
+    ) -> Result<Key, Refusal>
+        ensures accepted { IfOk result (λ key. Created self.old self.new parent name.now node live key) }
+        ensures next { IfOk result (λ key. IsVacant self.old.master.view key) }
+        ensures lowest { IfOk result (λ key. BornLowest self.old.master.view self.new.master.view key.slot) }
+        ensures refused { IfErr result (λ refusal. CreateRefused self.old self.new parent name.now node refusal) }
+        ensures same { OnErr result (Unchanged self.old self.new) }
+        ensures claims { self.new.claims ≡ self.old.claims }
+    {
+        let _ = self.state.root();
+        let next = self.master.free_key();
+        let key = self.state.create(parent, name, node, live, next)?;
+        self.master.born(key, node);
+        if live {
+            self.master.activate(key);
+        }
+        Ok(key)
+    }
+
+    /// Activates each node of the subtree that is not doomed.
+    pub fn activate(&mut self, key: Key) -> Result<(), Refusal>
+        ensures accepted { IfOk result (λ _. IsAccepted self.old.state self.new.state (linked_cause self.old.state.tree key) (Activate key)) }
+        ensures refused { IfErr result (λ refusal. IsRefused self.old.state self.new.state (linked_cause self.old.state.tree key) refusal) }
+        ensures claims { self.new.claims ≡ self.old.claims }
+        ensures same { OnErr result (self.new ≡ self.old) }
+    {
+        let order = self.state.post_order(key)?;
+        self.state.activate_in_order(key, order.as_slice())?;
+        rise_each(&mut self.master, order.as_slice());
+        Ok(())
+    }
+
+    /// Moves a node into a directory, under a name.
+    pub fn rename(&mut self, key: Key, dir: Key, name: &[u8]) -> Result<(), Refusal>
+        ensures no_cause { IfOk result (λ _. move_cause self.old key dir name.now ≡ None) }
+        ensures stays { IfOk result (λ _. is_there_already self.old.state.tree key dir name.now ≡ true → self.new.state ≡ self.old.state) }
+        ensures accepted { IfOk result (λ _. is_there_already self.old.state.tree key dir name.now ≡ false →
+            IsAccepted self.old.state self.new.state (move_cause self.old key dir name.now) (Rename key dir name.now)) }
+        ensures refused { IfErr result (λ refusal. IsRefused self.old.state self.new.state (move_cause self.old key dir name.now) refusal) }
+        ensures same_place { IfErr result (λ refusal. refusal ≡ refusal_of.NoMemory →
+            is_there_already self.old.state.tree key dir name.now ≡ false) }
+        ensures claims { self.new.claims ≡ self.old.claims }
+        ensures words { self.new.master ≡ self.old.master }
+    {
+        self.state.rename(key, dir, name)
+    }
+
+    /// A new hold of a linked node.
+    pub fn hold(&mut self, key: Key) -> Result<Hold, Refusal>
+        ensures hold { IfOk result (λ hold. IsNewHold N.table self.old.state.tree key hold) }
+        ensures refused { IfErr result (λ refusal. HoldRefused self.old self.new key refusal) }
+        ensures state { self.new.state ≡ self.old.state }
+        ensures words { KeepsNodes self.old.master self.new.master }
+        ensures claims { self.new.claims ≡ self.old.claims }
+    {
+        if !self.is_linked(key) {
+            return Err(Refusal::NoEntry);
+        }
+        self.master.pin(key)
+    }
+
+    /// Takes a drained node out of the tree. False where it is no longer linked.
+    pub fn unlink(&mut self, drained: &Drained) -> Result<bool, Refusal>
+        requires table { drained.now.table ≡ N.table }
+        ensures linked { IfOk result (λ unlinked. is_linked self.old.state.tree drained.now.key ≡ unlinked) }
+        ensures accepted { IfOk result (λ unlinked. UnlinkDone self.old self.new drained.now.key unlinked) }
+        ensures drained { IfOk result (λ unlinked. unlinked ≡ true → UnlinkAnswer self.old.master.view drained.now.key.slot true self.new.master.view) }
+        ensures still_linked { IfErr result (λ _. is_linked self.old.state.tree drained.now.key ≡ true) }
+        ensures refused { IfErr result (λ refusal. UnlinkRefused self.old self.new drained.now.key refusal) }
+        ensures claims { self.new.claims ≡ self.old.claims }
+    {
+        let key = drained.key();
+        if !self.state.may_unlink(key)? {
+            return Ok(false);
+        }
+        if !self.master.unlink(drained) {
+            return Err(Refusal::Busy);
+        }
+        self.state.unlink(key)?;
+        Ok(true)
+    }
+
+    /// Claims the removal of a node by itself. False where it was claimed before.
+    pub(crate) fn claim(&mut self, key: Key) -> bool
+        ensures first { result ≡ not (is_claimed self.old.claims key) }
+        ensures claimed { self.new.claims ≡ slice_set self.old.claims key.slot key.generation }
+        ensures state { self.new.state ≡ self.old.state }
+        ensures master { self.new.master ≡ self.old.master }
+    {
+        match self.claims.get_mut(key.slot as usize) {
+            Some(last) => {
+                let first = *last != key.generation;
+                *last = key.generation;
+                first
+            }
+            None => true,
+        }
+    }
+
+    /// Whether a node is linked, as the words tell it too. It makes no word step.
+    pub(crate) fn is_linked(&self, key: Key) -> bool
+        ensures { result ≡ is_linked self.now.state.tree key }
+    {
+        self.master.marks(key).is_some()
+    }
+}

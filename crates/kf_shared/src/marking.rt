@@ -1,0 +1,54 @@
+//! The events of the words for several nodes, one after the other.
+ghost use Rattle.std.specs.Prelude.{◌≡◌, ◌<◌, All, is_some, true, [], ◌∷◌, length, take};
+ghost use Rattle.kf_shared.specs.Agreement.{marks_at, Changed, OnlyMarks, doomed_if, risen_if};
+
+use kf_core::Key;
+use kf_words::Master;
+
+/// Dooms a linked node, where it is not doomed yet.
+fn doom_one(master: &mut Master, key: Key)
+    requires linked { is_some (marks_at master.old.view.slots key) ≡ true }
+    ensures marks { Changed doomed_if (key ∷ []) master.old.view.slots master.new.view.slots }
+    ensures only { OnlyMarks master.old master.new }
+{
+    if let Some(marks) = master.marks(key) {
+        if !marks.doomed {
+            master.doom(key);
+        }
+    }
+}
+
+/// Activates a linked node, where it is neither activated nor doomed.
+fn rise_one(master: &mut Master, key: Key)
+    requires linked { is_some (marks_at master.old.view.slots key) ≡ true }
+    ensures marks { Changed risen_if (key ∷ []) master.old.view.slots master.new.view.slots }
+    ensures only { OnlyMarks master.old master.new }
+{
+    if let Some(marks) = master.marks(key) {
+        if !marks.doomed && !marks.activated {
+            master.activate(key);
+        }
+    }
+}
+
+/// Dooms each of these linked nodes that is not doomed yet.
+pub fn doom_each(master: &mut Master, keys: &[Key])
+    requires linked { All (λ key. is_some (marks_at master.old.view.slots key) ≡ true) keys.now }
+    ensures marks { Changed doomed_if keys.now master.old.view.slots master.new.view.slots }
+    ensures only { OnlyMarks master.old master.new }
+{
+    for key in keys {
+        doom_one(master, *key);
+    }
+}
+
+/// Activates each of these linked nodes that is neither activated nor doomed.
+pub fn rise_each(master: &mut Master, keys: &[Key])
+    requires linked { All (λ key. is_some (marks_at master.old.view.slots key) ≡ true) keys.now }
+    ensures marks { Changed risen_if keys.now master.old.view.slots master.new.view.slots }
+    ensures only { OnlyMarks master.old master.new }
+{
+    for key in keys {
+        rise_one(master, *key);
+    }
+}

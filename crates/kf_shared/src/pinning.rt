@@ -1,0 +1,57 @@
+//! Holds of several nodes.
+ghost use Rattle.std.specs.Prelude.{◌≡◌, ◌⊎◌, ◌<◌, ◌+◌, ◌≤◌, List, All, is_some, true, [], ◌∷◌, length, map, take, IfOk, IfErr, Contains, vec_capacity, vec_len};
+ghost use Rattle.kf_core.specs.declared.key.Key.{Key};
+ghost use Rattle.kf_core.specs.declared.refusal.Refusal.TheVariants as refusal_of;
+ghost use Rattle.kf_words.specs.Nodes.{KeepsNodes, FoundFull};
+ghost use Rattle.kf_shared.specs.Agreement.{marks_at};
+ghost use Rattle.kf_shared.specs.Removal.{keys_of, IsStill};
+
+use kf_core::{Key, Refusal};
+use kf_words::{Hold, Master};
+use std::alloc::Global;
+
+/// Gives these holds back.
+pub fn release_each(mut holds: Vec<Hold>) {
+    while let Some(hold) = holds.pop() {
+        hold.release();
+    }
+    holds.destroy_empty();
+}
+
+/// A new hold of each of these linked nodes, and room for one hold more. On a refusal no hold is left.
+pub fn pin_each(master: &mut Master, alloc: Global, keys: &[Key]) -> Result<Vec<Hold>, Refusal>
+    requires linked { All (λ key. is_some (marks_at master.old.view.slots key) ≡ true) keys.now }
+    ensures kept { KeepsNodes master.old master.new }
+    ensures keys { IfOk result (λ holds. keys_of holds.items ≡ keys.now) }
+    ensures still { IfOk result (λ holds. All (IsStill master.old.table) holds.items) }
+    ensures room { IfOk result (λ holds. vec_len holds < vec_capacity holds) }
+    ensures refused { IfErr result (λ refusal. (refusal ≡ refusal_of.NoMemory) ⊎ ((refusal ≡ refusal_of.TooManyHolds) × ((key : Key) × Contains keys.now key × FoundFull master.new.view key.slot))) }
+{
+    let Ok(mut holds) = Vec::with_capacity(alloc, keys.len() + 1) else {
+        return Err(Refusal::NoMemory);
+    };
+    for key in keys {
+        match master.pin(*key) {
+            Ok(hold) => holds.push_reserved(hold),
+            Err(refusal) => {
+                release_each(holds);
+                return Err(refusal);
+            }
+        }
+    }
+    Ok(holds)
+}
+
+/// The hold alone.
+pub fn alone(alloc: Global, hold: Hold) -> Result<Vec<Hold>, (Hold, Refusal)>
+    ensures holds { IfOk result (λ holds. holds.items ≡ hold ∷ []) }
+    ensures refused { IfErr result (λ r. (r.0 ≡ hold) × (r.1 ≡ refusal_of.NoMemory)) }
+{
+    match Vec::with_capacity(alloc, 1) {
+        Ok(mut holds) => {
+            holds.push_reserved(hold);
+            Ok(holds)
+        }
+        Err(_) => Err((hold, Refusal::NoMemory)),
+    }
+}

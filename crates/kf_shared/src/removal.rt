@@ -1,0 +1,171 @@
+//! The doom of a subtree: holds of all its nodes first, then the marks.
+ghost use Rattle.std.specs.Prelude.{◌≡◌, ◌<◌, ◌≤◌, ◌+◌, ◌++◌, ◌∷◌, [], IfOk, IfErr, OnOk, OnErr, All, true, false, not, vec_capacity, vec_len, slice_set};
+ghost use Rattle.kf_core.specs.declared.command.Command.TheVariants.{Doom};
+ghost use Rattle.kf_core.specs.declared.caller.Phase.TheVariants as phase_of;
+ghost use Rattle.kf_core.specs.declared.refusal.Refusal.TheVariants as refusal_of;
+ghost use Rattle.kf_core.specs.Keys.{same_key};
+ghost use Rattle.kf_core.specs.PostOrder.{IsPostOrder};
+ghost use Rattle.kf_core.specs.Tree.{is_linked};
+ghost use Rattle.kf_tree.specs.Causes.{doom_cause};
+ghost use Rattle.kf_tree.specs.TreeLogs.{IsAccepted};
+ghost use Rattle.kf_words.specs.Callers.{Handle, IsSameSeat};
+ghost use Rattle.kf_shared.specs.Locked.{Unchanged, is_claimed};
+ghost use Rattle.kf_shared.specs.Removal.{keys_of, IsStill, AreHolds, DoomHolds, DoomDone, DoomMarked, DoomRefused, SelfRemovalRefused};
+
+use crate::locked::Locked;
+use crate::marking::doom_each;
+use crate::naming::Naming;
+use crate::pinning::{alone, pin_each, release_each};
+use kf_core::{Key, Refusal};
+use kf_words::{Call, Hold, Parted};
+
+impl<N: Naming> Locked<N> {
+    /// The post-order of a node's subtree, and a new hold of each node below it. Nothing is marked yet.
+    fn pin_below(&mut self, key: Key) -> Result<(Vec<Key>, Vec<Hold>), Refusal>
+        requires linked { is_linked self.old.state.tree key ≡ true }
+        ensures not_root { OnOk result (same_key key self.old.state.root ≡ false) }
+        ensures order { IfOk result (λ r. IsPostOrder self.old.state.tree key r.0.items) }
+        ensures below { IfOk result (λ r. r.0.items ≡ keys_of r.1.items ++ key ∷ []) }
+        ensures still { IfOk result (λ r. All (IsStill N.table) r.1.items) }
+        ensures room { IfOk result (λ r. vec_len r.1 < vec_capacity r.1) }
+        ensures refused { IfErr result (λ refusal. DoomRefused self.old self.new key refusal) }
+        ensures state { self.new.state ≡ self.old.state }
+        ensures same { Unchanged self.old self.new }
+    {
+        if key == self.state.root() {
+            return Err(Refusal::Invalid);
+        }
+        let order = self.state.post_order(key)?;
+        let below = &order.as_slice()[..order.len() - 1];
+        match pin_each(&mut self.master, self.alloc, below) {
+            Ok(pins) => Ok((order, pins)),
+            Err(refusal) => Err(refusal),
+        }
+    }
+
+    /// Dooms the subtree, and gives the pins with the hold of its top.
+    fn mark(
+        &mut self,
+        order: &[Key],
+        mut pins: Vec<Hold>,
+        hold: Hold,
+    ) -> Result<Vec<Hold>, (Hold, Refusal)>
+        requires order { IsPostOrder self.old.state.tree hold.key order.now }
+        requires linked { is_linked self.old.state.tree hold.key ≡ true }
+        requires not_root { same_key hold.key self.old.state.root ≡ false }
+        requires room { vec_len pins < vec_capacity pins }
+        ensures holds { IfOk result (λ holds. holds.items ≡ pins.items ++ hold ∷ []) }
+        ensures done { IfOk result (λ _. IsAccepted self.old.state self.new.state (doom_cause self.old.state.tree self.old.state.root hold.key) (Doom hold.key)) }
+        ensures back { IfErr result (λ r. (r.0 ≡ hold) × (r.1 ≡ refusal_of.NoMemory)) }
+        ensures same { OnErr result (self.new ≡ self.old) }
+        ensures claims { self.new.claims ≡ self.old.claims }
+    {
+        let key = hold.key();
+        match self.state.doom_in_order(key, order) {
+            Ok(()) => {
+                doom_each(&mut self.master, order);
+                pins.push_reserved(hold);
+                Ok(pins)
+            }
+            Err(refusal) => {
+                release_each(pins);
+                Err((hold, refusal))
+            }
+        }
+    }
+
+    /// Dooms the subtree of the hold's node, and gives a hold for each of its nodes, in post-order, the given one last.
+    pub fn doom(&mut self, hold: Hold) -> Result<Vec<Hold>, (Hold, Refusal)>
+        requires table { hold.table ≡ N.table }
+        ensures order { IfOk result (λ holds. DoomHolds self.old.state.tree hold holds.items) }
+        ensures holds { IfOk result (λ holds. AreHolds N.table hold holds.items) }
+        ensures done { IfOk result (λ _. DoomDone self.old self.new hold.key) }
+        ensures back { IfErr result (λ r. r.0 ≡ hold) }
+        ensures refused { IfErr result (λ r. DoomRefused self.old self.new hold.key r.1) }
+        ensures same { OnErr result (Unchanged self.old self.new) }
+        ensures claims { self.new.claims ≡ self.old.claims }
+    {
+        let key = hold.key();
+        if !self.is_linked(key) {
+            return alone(self.alloc, hold);
+        }
+        match self.pin_below(key) {
+            Ok((order, pins)) => self.mark(order.as_slice(), pins, hold),
+            Err(refusal) => Err((hold, refusal)),
+        }
+    }
+
+    /// As `doom`, where room for as many receipts is made before anything is marked.
+    pub(crate) fn start_removal(
+        &mut self,
+        hold: Hold,
+        receipts: &mut Vec<Parted>,
+    ) -> Result<Vec<Hold>, (Hold, Refusal)>
+        requires table { hold.table ≡ N.table }
+        ensures order { IfOk result (λ holds. DoomHolds self.old.state.tree hold holds.items) }
+        ensures holds { IfOk result (λ holds. AreHolds N.table hold holds.items) }
+        ensures done { IfOk result (λ _. DoomDone self.old self.new hold.key) }
+        ensures room { IfOk result (λ holds. vec_len receipts.new + vec_len holds ≤ vec_capacity receipts.new) }
+        ensures receipts { receipts.new.items ≡ receipts.old.items }
+        ensures back { IfErr result (λ r. r.0 ≡ hold) }
+        ensures refused { IfErr result (λ r. DoomRefused self.old self.new hold.key r.1) }
+        ensures same { OnErr result (Unchanged self.old self.new) }
+        ensures claims { self.new.claims ≡ self.old.claims }
+    {
+        let key = hold.key();
+        if !self.is_linked(key) {
+            if receipts.reserve(1).is_err() {
+                return Err((hold, Refusal::NoMemory));
+            }
+            return alone(self.alloc, hold);
+        }
+        match self.pin_below(key) {
+            Ok((order, pins)) => {
+                if receipts.reserve(pins.len() + 1).is_err() {
+                    release_each(pins);
+                    return Err((hold, Refusal::NoMemory));
+                }
+                self.mark(order.as_slice(), pins, hold)
+            }
+            Err(refusal) => Err((hold, refusal)),
+        }
+    }
+
+    /// Starts the removal of a call's own node: pins, marks, claims, and breaks the call's protection.
+    pub(crate) fn start_self_removal(
+        &mut self,
+        call: &mut Call,
+        receipts: &mut Vec<Parted>,
+    ) -> Result<(bool, Vec<Hold>), Refusal>
+        requires table { call.old.table ≡ N.table }
+        requires running { call.old.phase ≡ phase_of.Running }
+        ensures seat { IsSameSeat call.old call.new }
+        ensures broken { OnOk result (call.new.phase ≡ phase_of.Broken) }
+        ensures kept { OnErr result (call.new ≡ call.old) }
+        ensures holds { IfOk result (λ r. (hold : Handle) × IsStill N.table hold × (hold.key ≡ call.old.key) × AreHolds N.table hold r.1.items × DoomHolds self.old.state.tree hold r.1.items) }
+        ensures first { IfOk result (λ r. r.0 ≡ not (is_claimed self.old.claims call.old.key)) }
+        ensures claimed { OnOk result (self.new.claims ≡ slice_set self.old.claims call.old.key.slot call.old.key.generation) }
+        ensures done { IfOk result (λ _. DoomMarked self.old self.new call.old.key) }
+        ensures room { IfOk result (λ r. vec_len receipts.new + vec_len r.1 ≤ vec_capacity receipts.new) }
+        ensures receipts { receipts.new.items ≡ receipts.old.items }
+        ensures refused { IfErr result (λ refusal. SelfRemovalRefused self.old self.new call.old.key refusal) }
+        ensures same { OnErr result (Unchanged self.old self.new) }
+    {
+        let key = call.key();
+        if key == self.state.root() {
+            return Err(Refusal::Invalid);
+        }
+        let hold = self.master.pin_held(call)?;
+        match self.start_removal(hold, receipts) {
+            Ok(holds) => {
+                let first = self.claim(key);
+                call.break_protection();
+                Ok((first, holds))
+            }
+            Err((hold, refusal)) => {
+                hold.release();
+                Err(refusal)
+            }
+        }
+    }
+}

@@ -1,0 +1,144 @@
+//! Removal that waits: until every node that it dooms is drained and out of the tree.
+ghost use Rattle.std.specs.Prelude.{◌≡◌, ◌+◌, ◌≤◌, ◌++◌, IfErr, IfOk, OnErr, OnOk, vec_capacity, vec_len};
+ghost use Rattle.kf_core.specs.declared.caller.Phase.TheVariants as phase_of;
+ghost use Rattle.kf_core.specs.declared.refusal.Refusal.TheVariants as refusal_of;
+ghost use Rattle.kf_tree.specs.Ends.{EndsWith};
+ghost use Rattle.kf_words.specs.Callers.{IsSameSeat};
+ghost use Rattle.kf_shared.specs.Removal.{keys_of};
+ghost use Rattle.kf_shared.specs.Receipts.{AllDifferent, AreOf, EndsAt, RemovalRefused, SelfRemovalWasRefused, WasDoomed, WasSelfDoomed, owners_of};
+
+use crate::naming::Naming;
+use crate::tree::SharedTree;
+use kf_core::Refusal;
+use kf_words::{Call, Hold, Parted, wait_drained};
+use std::sync::Wait;
+
+impl<N: Naming> SharedTree<N> {
+    /// Waits until the hold's node is drained, takes it out of the tree under the lock, waiting on while that is refused,
+    /// and parts (`kernfs_drain`, then `kernfs_unlink_sibling`). The holds of one doom are finished in their order:
+    /// another order may wait for itself. It takes no memory, and may never return: it waits, with the lock let go, for every
+    /// callback that runs on the node, its caller's own among them, and for the lock, which its caller must not have.
+    ///
+    /// Condition: the hold is of this tree's table.
+    pub fn finish<R: Wait>(&self, rt: &R, hold: Hold) -> Parted
+        requires table { hold.table ≡ N.table }
+        ensures same { IsSameSeat hold result }
+        ensures parted { result.phase ≡ phase_of.Parted }
+    {
+        let mut drained = wait_drained(rt, hold);
+        for _ in rt.forever() {
+            let unlinked = self.edit(rt).unlink(&drained);
+            if unlinked.is_err() {
+                drained.rest(rt);
+                continue;
+            }
+            match drained.parted() {
+                Ok(parted) => return parted,
+                Err(back) => drained = back,
+            }
+        }
+        unreachable!()
+    }
+
+    /// Finishes each hold in turn. There is room for the receipts.
+    pub(crate) fn finish_each<R: Wait>(
+        &self,
+        rt: &R,
+        holds: Vec<Hold>,
+        mut receipts: Vec<Parted>,
+    ) -> Vec<Parted>
+        requires holds { AreOf N.table holds.items }
+        requires receipts { AreOf N.table receipts.items }
+        requires room { vec_len receipts + vec_len holds ≤ vec_capacity receipts }
+        ensures tables { AreOf N.table result.items }
+        ensures owners { owners_of result.items ≡ owners_of receipts.items ++ owners_of holds.items }
+    {
+        let mut rest = holds.into_iter();
+        while let Some(hold) = rest.next() {
+            receipts.push_reserved(self.finish(rt, hold));
+        }
+        rest.destroy_empty();
+        receipts
+    }
+
+    /// Dooms the subtree of the hold's node, and waits until each of its nodes is drained and out of the tree
+    /// (`kernfs_remove`). The receipts stand in the order of the doom: each node after all that is below it, siblings in
+    /// byte order of names, the given hold's last. Where the node is no longer linked, the receipt is for it alone.
+    /// It may never return: it waits, with the lock let go, for every callback that runs in the subtree, its caller's own
+    /// among them (which takes `remove_self`), and for the lock, which its caller must not have.
+    ///
+    /// Condition: the hold is of this tree's table.
+    ///
+    /// Refusals, in order: Invalid (the root), TooManyHolds (a node below was found to have as many holds as there may
+    /// be), NoMemory. After a refusal nothing is marked, and the hold comes back as it was.
+    pub fn remove<R: Wait>(&self, rt: &R, hold: Hold) -> Result<Vec<Parted>, (Hold, Refusal)>
+        requires table { hold.table ≡ N.table }
+        ensures tables { IfOk result (λ receipts. AreOf N.table receipts.items) }
+        ensures last { IfOk result (λ receipts. EndsAt receipts.items hold) }
+        ensures different { IfOk result (λ receipts. AllDifferent (keys_of receipts.items)) }
+        ensures doomed { IfOk result (λ receipts. WasDoomed N.table hold.key (keys_of receipts.items)) }
+        ensures back { IfErr result (λ r. r.0 ≡ hold) }
+        ensures refused { IfErr result (λ r. RemovalRefused N.table hold.key r.1) }
+        ensures root { IfErr result (λ r. r.1 ≡ refusal_of.Invalid → hold.key.slot ≡ 0) }
+    {
+        let mut receipts = Vec::new(self.alloc);
+        let started = {
+            let mut editor = self.edit(rt);
+            editor.start_removal(hold, &mut receipts)
+        };
+        match started {
+            Ok(holds) => Ok(self.finish_each(rt, holds, receipts)),
+            Err(refused) => {
+                receipts.destroy_empty();
+                Err(refused)
+            }
+        }
+    }
+
+    /// Removes the node of a call from within its own callback (`kernfs_remove_self`). Under the lock it takes holds of
+    /// its own of the subtree's nodes, dooms them, claims the node, and breaks the call's protection; it waits as `remove`
+    /// does; then, under the lock, it restores the call. True for the first self-removal of the node, also where a plain
+    /// removal is under way; every other answers false, after its own waiting. The last receipt is for the call's node.
+    /// It may never return: it waits for every other callback that runs in the subtree, and for the lock, which its caller
+    /// must not have. A callback that runs on two nodes waits for itself where it removes one below the other.
+    ///
+    /// Conditions: the call is Running, and of this tree's table. After an answer it is Restored.
+    ///
+    /// Refusals, in order: Invalid (the root), NoEntry (the slot has had a later node), TooManyHolds, NoMemory. After a
+    /// refusal the call is as it was, nothing is marked, and the node is not claimed.
+    pub fn remove_self<R: Wait>(
+        &self,
+        rt: &R,
+        call: &mut Call,
+    ) -> Result<(bool, Vec<Parted>), Refusal>
+        requires table { call.old.table ≡ N.table }
+        requires running { call.old.phase ≡ phase_of.Running }
+        ensures same { IsSameSeat call.old call.new }
+        ensures answered { OnOk result (call.new.phase ≡ phase_of.Restored) }
+        ensures kept { OnErr result (call.new ≡ call.old) }
+        ensures tables { IfOk result (λ r. AreOf N.table r.1.items) }
+        ensures last { IfOk result (λ r. EndsWith (keys_of r.1.items) call.old.key) }
+        ensures different { IfOk result (λ r. AllDifferent (keys_of r.1.items)) }
+        ensures doomed { IfOk result (λ r. WasSelfDoomed N.table call.old.key r.0 (keys_of r.1.items)) }
+        ensures refused { IfErr result (λ refusal. SelfRemovalWasRefused N.table call.old.key refusal) }
+        ensures root { IfErr result (λ refusal. refusal ≡ refusal_of.Invalid → call.old.key.slot ≡ 0) }
+    {
+        let mut receipts = Vec::new(self.alloc);
+        let started = {
+            let mut editor = self.edit(rt);
+            editor.start_self_removal(call, &mut receipts)
+        };
+        match started {
+            Ok((first, holds)) => {
+                let receipts = self.finish_each(rt, holds, receipts);
+                let _editor = self.edit(rt);
+                call.restore();
+                Ok((first, receipts))
+            }
+            Err(refusal) => {
+                receipts.destroy_empty();
+                Err(refusal)
+            }
+        }
+    }
+}

@@ -1,0 +1,135 @@
+//! The tree that threads share: how it is made, named and locked.
+ghost use Rattle.std.specs.Prelude.{◌≡◌, ◌+◌, ◌≤◌, IfErr, IfOk, replicate};
+ghost use Rattle.kf_core.specs.declared.refusal.Refusal.TheVariants as refusal_of;
+ghost use Rattle.kf_tree.specs.TreeLogs.{IsNew};
+ghost use Rattle.kf_words.specs.Steps.{opened};
+ghost use Rattle.kf_shared.specs.Locked.{IsWhole};
+
+use crate::editor::Editor;
+use crate::locked::Locked;
+use crate::naming::Naming;
+use kf_core::{Key, Limits, Refusal};
+use kf_tree::State;
+use kf_words::{Master, Words};
+use std::alloc::{AllocError, Global};
+use std::marker::{Brand, Model, PhantomData};
+use std::sync::{Mutex, Wait};
+
+/// A tree with its words, which has no name yet: [`NewTree::named`] makes of it the tree that threads share.
+#[derive(Drop)]
+pub struct NewTree {
+    alloc: Global,
+    state: State,
+    master: Master,
+    claims: Vec<u32>,
+}
+
+impl Model for NewTree {
+    ghost use Rattle.kf_shared.specs.Locked.{Locked, IsTied};
+
+    ghost Value = { Locked };
+
+    ghost view = { λ s. record { state = s.state; master = s.master; claims = s.claims.items } };
+
+    ghost invariant = { λ s. IsTied s.master.table (record { state = s.state; master = s.master; claims = s.claims.items }) };
+}
+
+/// No slot's node is claimed: generation 0 is that of no node.
+fn no_claims(alloc: Global, slots: u32) -> Result<Vec<u32>, AllocError>
+    ensures { IfOk result (λ claims. claims.items ≡ replicate slots 0) }
+{
+    vec![in alloc; 0; slots as usize]
+}
+
+impl NewTree {
+    /// The tree behind its lock, under the name of its table. It takes no memory.
+    ///
+    /// Condition: the name is that of the tree's table of words.
+    pub fn named<N: Naming>(self) -> SharedTree<N>
+        requires { self.master.table ≡ N.table }
+    {
+        let NewTree {
+            alloc,
+            state,
+            master,
+            claims,
+        } = self;
+        SharedTree {
+            alloc,
+            lock: Mutex::new(Locked {
+                alloc,
+                state,
+                master,
+                claims,
+                name: PhantomData,
+            }),
+        }
+    }
+}
+
+/// The tree behind its one lock. Threads share it by reference.
+#[derive(Drop)]
+pub struct SharedTree<N: Naming> {
+    pub(crate) alloc: Global,
+    lock: Mutex<Locked<N>>,
+}
+
+impl SharedTree<Brand> {
+    /// The tree of the root alone, a live directory of slot 0 and generation 1 (`kernfs_create_root`).
+    ///
+    /// Refusal: NoMemory.
+    pub fn new(alloc: Global, limits: Limits) -> Result<NewTree, Refusal>
+        ensures tree { IfOk result (λ tree. IsNew limits.slots (record { slot = 0; generation = 1 }) tree.state) }
+        ensures words { IfOk result (λ tree. tree.master.view ≡ opened limits.holds limits.slots 0) }
+        ensures claims { IfOk result (λ tree. tree.claims ≡ replicate limits.slots 0) }
+        ensures refused { IfErr result (λ refusal. refusal ≡ refusal_of.NoMemory) }
+    {
+        SharedTree::new_at(alloc, limits, 0)
+    }
+
+    /// The same, where each slot has already had `start` generations. The root has the next.
+    ///
+    /// Condition: `start` is at most 4294967294.
+    ///
+    /// Refusal: NoMemory.
+    pub fn new_at(alloc: Global, limits: Limits, start: u32) -> Result<NewTree, Refusal>
+        requires { start ≤ 4294967294 }
+        ensures tree { IfOk result (λ tree. IsNew limits.slots (record { slot = 0; generation = start + 1 }) tree.state) }
+        ensures words { IfOk result (λ tree. tree.master.view ≡ opened limits.holds limits.slots start) }
+        ensures claims { IfOk result (λ tree. tree.claims ≡ replicate limits.slots 0) }
+        ensures refused { IfErr result (λ refusal. refusal ≡ refusal_of.NoMemory) }
+    {
+        let (_words, master) = Words::new_at(alloc, limits, start)?;
+        let root = Key {
+            slot: 0,
+            generation: start + 1,
+        };
+        let state = State::new(alloc, limits, root)?;
+        let claims = no_claims(alloc, limits.slots())?;
+        Ok(NewTree {
+            alloc,
+            state,
+            master,
+            claims,
+        })
+    }
+}
+
+impl<N: Naming> SharedTree<N> {
+    /// Waits for the one lock. Whenever it is got, the tree is lawful and the replay of its commands, and the words name
+    /// the same linked, activated and doomed keys.
+    ///
+    /// The lock is not reentrant: one who has an [`Editor`] and calls `edit`, `finish`, `remove`, `remove_self`, `hide` or
+    /// `show` of the same tree waits for itself. So does one who waits under it for a drain or a hidden file, since nobody
+    /// can take a node out meanwhile. Under it may be called what takes no runtime: the editor's commands, and each call of a
+    /// hold, call, receipt or token.
+    pub fn edit<R: Wait>(&self, rt: &R) -> Editor<'_, N>
+        ensures { IsWhole N.table result }
+    {
+        let editor = Editor {
+            guard: self.lock.lock(rt),
+        };
+        let _ = editor.state();
+        editor
+    }
+}
