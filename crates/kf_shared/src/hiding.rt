@@ -64,7 +64,7 @@ impl<N: Naming> Locked<N> {
         hold
     }
 
-    /// Puts the shortest list that makes this tree in place of the stored commands.
+    /// Puts the canonical list of this tree in place of the stored commands.
     pub fn compact(&mut self) -> Result<(), Refusal>
         ensures compacted { IfOk result (λ _. IsCompacted self.old.state self.new.state) }
         ensures refused { IfErr result (λ refusal. refusal ≡ refusal_of.NoMemory) }

@@ -10,6 +10,8 @@ mod hidden;
 mod hiding;
 #[cfg(test)]
 mod hiding_tests;
+#[cfg(test)]
+mod large_tests;
 mod laws;
 mod locked;
 mod marking;

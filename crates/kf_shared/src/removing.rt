@@ -69,8 +69,8 @@ impl<N: Naming> SharedTree<N> {
     ///
     /// Condition: the hold is of this tree's table.
     ///
-    /// Refusals, in order: Invalid (the root), TooManyHolds (a node below was found to have as many holds as there may
-    /// be), NoMemory. After a refusal nothing is marked, and the hold comes back as it was.
+    /// Refusals: first Invalid (the root); else TooManyHolds (a node below was found to have as many holds as there may
+    /// be) or NoMemory, whichever is met first. After a refusal nothing is marked, and the hold comes back as it was.
     pub fn remove<R: Wait>(&self, rt: &R, hold: Hold) -> Result<Vec<Parted>, (Hold, Refusal)>
         requires table { hold.table ≡ N.table }
         ensures tables { IfOk result (λ receipts. AreOf N.table receipts.items) }
@@ -100,11 +100,12 @@ impl<N: Naming> SharedTree<N> {
     /// does; then, under the lock, it restores the call. True for the first self-removal of the node, also where a plain
     /// removal is under way; every other answers false, after its own waiting. The last receipt is for the call's node.
     /// It may never return: it waits for every other callback that runs in the subtree, and for the lock, which its caller
-    /// must not have. A callback that runs on two nodes waits for itself where it removes one below the other.
+    /// must not have. A callback that runs on two nodes, one above the other, waits for itself where it removes the upper.
     ///
     /// Conditions: the call is Running, and of this tree's table. After an answer it is Restored.
     ///
-    /// Refusals, in order: Invalid (the root), NoEntry (the slot has had a later node), TooManyHolds, NoMemory. After a
+    /// Refusals: first Invalid (the root), then NoEntry (the slot has had a later node); else TooManyHolds or NoMemory,
+    /// whichever is met first. After a
     /// refusal the call is as it was, nothing is marked, and the node is not claimed.
     pub fn remove_self<R: Wait>(
         &self,

@@ -198,6 +198,23 @@ fn a_call_removes_its_own_node(rt: HostRuntime) {
     self_removals::<Brand, _>(&rt, made(&rt, rt.alloc(), 4, 4, 0));
 }
 
+fn later_node_claimed<N: Naming, R: Abort + Wait>(rt: &R, new: NewTree)
+    requires { new.master.table ≡ N.table }
+{
+    let tree = new.named::<N>();
+    let x = add(rt, &tree, b"/x", FILE, true);
+    told(rt, removed(rt, &tree, hold(rt, &tree, x)), &[x]);
+    let y = add(rt, &tree, b"/y", FILE, true);
+    assert_eq!(rt; y, key_at(1, 2), "no self-removal of the slot so far");
+    removed_self(rt, &tree, enter(rt, hold(rt, &tree, y)), &[y]);
+    assert!(rt; is_bare(rt, &tree));
+}
+
+#[test]
+fn a_claim_of_an_earlier_node_does_not_count(rt: HostRuntime) {
+    later_node_claimed::<Brand, _>(&rt, made(&rt, rt.alloc(), 2, 4, 0));
+}
+
 fn refused_self_removal<N: Naming, R: Abort + Wait>(rt: &R, new: NewTree)
     requires { new.master.table ≡ N.table }
 {

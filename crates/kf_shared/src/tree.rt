@@ -120,8 +120,8 @@ impl<N: Naming> SharedTree<N> {
     /// the same linked, activated and doomed keys.
     ///
     /// The lock is not reentrant: one who has an [`Editor`] and calls `edit`, `finish`, `remove`, `remove_self`, `hide` or
-    /// `show` of the same tree waits for itself. So does one who waits under it for a drain or a hidden file, since nobody
-    /// can take a node out meanwhile. Under it may be called what takes no runtime: the editor's commands, and each call of a
+    /// `show` of the same tree waits for itself. So may one who waits under it for a drain or a hidden file: nobody
+    /// can mark a node meanwhile, and a callback that is waited for may want the lock. Under it may be called what takes no runtime: the editor's commands, and each call of a
     /// hold, call, receipt or token.
     pub fn edit<R: Wait>(&self, rt: &R) -> Editor<'_, N>
         ensures { IsWhole N.table result }

@@ -1,7 +1,9 @@
 //! Removals that wait together, for a call that runs or for one that has its reference again.
 ghost use Rattle.std.specs.Prelude.{◌≡◌};
 
-use crate::fixtures::{FILE, add, commands, doom_alone, hold, is_bare, made, told, turned_away};
+use crate::fixtures::{
+    FILE, add, commands, doom_alone, hold, is_bare, is_linked, made, told, turned_away,
+};
 use crate::thread_tests::{
     Held, Inside, Removal, SelfRemoval, call_of, first_of, free_the_rest, held_by, leave, receipts,
     removal_of, run, run_self, self_removal_of, stays_zero, wait_for, wait_for_mark,
@@ -250,10 +252,11 @@ fn restored_call<N: Naming + Send + Sync, R: Abort + Threads + Wait + Clock + Sy
             let waits = stays_zero(10_000, &answered);
             thread::sleep(rt, Duration::from_millis(20));
             let still = stays_zero(1, &answered);
+            let linked = is_linked(rt, &tree, key); // the finish sleeps without the lock
             if let Some(call) = broken.take() {
                 end_call(call);
             }
-            waits && still && wait_for(1, &answered)
+            waits && still && linked && wait_for(1, &answered)
         },
     );
     if let Some(call) = broken {

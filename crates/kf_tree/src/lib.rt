@@ -1,4 +1,4 @@
-//! The plain attribute tree: linked records by slot, and every accepted command. One owner changes it.
+//! The plain attribute tree: linked records by slot, and the stored commands. One owner changes it.
 #![tactic(auto)]
 
 mod canonical;

@@ -24,7 +24,8 @@ use kf_core::{Command, Key, Limits, Marks, Node, Record, Refusal};
 use std::alloc::Global;
 use std::marker::Model;
 
-/// The records by slot, and the stored commands. Contracts see the root's key, the tree and the commands.
+/// The records by slot, and the stored commands. Contracts see the root's key, the tree, the commands, and
+/// the key that is ready to be hidden.
 /// The tree is always lawful, and the replay of the commands from the root alone.
 ///
 /// All memory that a command needs is taken before anything changes, so a refused one leaves all as it was.
@@ -280,8 +281,8 @@ impl State {
         Ok(())
     }
 
-    /// Hides a file (`kernfs_show` with `show` false): it is linked as before, but not live, so no look-up
-    /// and no listing finds it, and it cannot be moved. It takes no memory and refuses nothing.
+    /// Hides a file (`kernfs_show` with `show` false): it is linked as before, but not live, so neither
+    /// `lookup` nor `list` finds it, and it cannot be moved. It takes no memory and refuses nothing.
     ///
     /// Condition: [`State::may_hide`] made the state ready for this key, and nothing changed since.
     pub fn hide(&mut self, key: Key)

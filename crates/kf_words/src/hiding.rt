@@ -54,7 +54,7 @@ impl Hiding {
         self.seat.key
     }
 
-    /// Looks, in one word step, whether nobody has a reference to the node.
+    /// Looks, in one word step, whether nobody uses the node: no reference, and no refused try not yet taken back.
     pub fn look(self) -> Result<Hidden, Hiding>
         ensures same { MatchResult result (λ saw. IsSameSeat self saw) (λ back. IsSameSeat self back) }
         ensures hidden { IfOk result (λ saw. SawUnused self saw) }

@@ -67,8 +67,8 @@ impl Hold {
         Err(Hold { seat })
     }
 
-    /// Looks, in one word step, whether the node is doomed and nobody has a reference to it. Gives the hold back where
-    /// it is not so (one look of `kernfs_drain`).
+    /// Looks, in one word step, whether the node is doomed and nobody uses it. Gives the hold back where it is not so,
+    /// also while a refused try is not yet taken back (one look of `kernfs_drain`).
     pub fn look(self) -> Result<Drained, Hold>
         ensures same { MatchResult result (λ saw. IsSameSeat self saw) (λ hold. IsSameSeat self hold) }
         ensures drained { IfOk result (λ saw. SawDrained self saw) }

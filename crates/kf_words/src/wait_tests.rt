@@ -128,7 +128,8 @@ fn naps<R: Abort + Threads + Wait + Clock + Sync>(rt: &R, alloc: Global, count: 
     see_drained(rt, others);
 }
 
-/// A waiter for an idle node falls asleep where the mark may just have sent its wake. So it may sleep for a short time alone.
+/// A waiter for an idle node may fall asleep just as the node is marked, and the mark wakes nobody. So it may sleep for a
+/// short time alone.
 #[test]
 fn a_waiter_for_an_idle_node_never_misses_the_mark(rt: HostRuntime) {
     for _ in 0..40 {

@@ -51,7 +51,7 @@ impl Nodes {
         self.state.rename(key, dir, name)
     }
 
-    /// Puts the shortest list that makes this tree in place of the stored commands, as `State::compact` does.
+    /// Puts the canonical list of this tree in place of the stored commands, as `State::compact` does.
     /// `NoMemory` alone; then nothing is changed.
     pub fn compact(&mut self) -> Result<(), Refusal>
         ensures compacted { IfOk result (λ _. (commands : List Command) × IsCanonical self.old.log.tree commands

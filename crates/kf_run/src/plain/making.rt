@@ -67,7 +67,7 @@ impl PlainBoard {
         self.nodes.move_at(path, dir, name)
     }
 
-    /// Puts the shortest list that makes the tree in place of the stored commands.
+    /// Puts the canonical list of the tree in place of the stored commands.
     pub(super) fn compact(&mut self) -> Result<(), Refusal>
         ensures compacted { IfOk result (λ _. (commands : List Command) × IsCanonical self.old.log.tree commands × (self.new ≡ with_list self.old commands)) }
         ensures refused { IfErr result (λ refusal. (refusal ≡ NoMemory) × (self.new ≡ self.old)) }
