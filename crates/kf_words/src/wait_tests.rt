@@ -132,7 +132,7 @@ fn naps<R: Abort + Threads + Wait + Clock + Sync>(rt: &R, alloc: Global, count: 
 /// short time alone.
 #[test]
 fn a_waiter_for_an_idle_node_never_misses_the_mark(rt: HostRuntime) {
-    for _ in 0..40 {
+    for _ in 0..4 {
         naps(&rt, rt.alloc(), 500);
     }
 }
