@@ -4,5 +4,5 @@
 use std::process::ExitCode;
 
 fn main(rt: HostRuntime) -> ExitCode {
-    ExitCode::from(kf_run::run_host(&rt))
+    ExitCode::from(kf_run::run_host(&rt, &rt))
 }

@@ -2,12 +2,19 @@
 use Rattle.std.specs.Prelude.{ℕ, Bool, true, false, List, Option, Some, None, IsSome, Result, Ok, Err}
 use Rattle.std.proofs.lemmas.Bool.{false≢true}
 use Rattle.kf_core.specs.declared.refusal.Refusal.{Refusal}
+use Rattle.kf_notify.specs.PostStates.{PostState}
 use Rattle.kf_files.specs.Files.{FileState}
 
--- the hold that it was opened with, its post, the tag of its node, and what it keeps
+-- of a file without its event numbers: the hold that it was opened with, its node's tag, and what it keeps
+pub record Held (Hold : Type 0) : Type 0 where
+  pub hold : Hold
+  pub tag : ℕ
+  pub state : FileState
+
+-- the same, with its post
 pub record Opened (Hold : Type 0) : Type 0 where
   pub hold : Hold
-  pub post : ℕ
+  pub post : PostState
   pub tag : ℕ
   pub state : FileState
 
@@ -22,11 +29,19 @@ text_in true bytes = Some bytes
 text_in false bytes = None
 
 -- why an open was refused. None: it was not
-abbrev pub refusal_of : {Hold : Type 0} → Result (Opened Hold) (Hold × ℕ × Refusal) → Option Refusal
+abbrev pub held_refusal : {Hold : Type 0} → Result (Held Hold) (Hold × Refusal) → Option Refusal
+held_refusal (Ok file) = None
+held_refusal (Err back) = Some back.1
+
+abbrev pub refusal_of : {Hold : Type 0} → Result (Opened Hold) (Hold × PostState × Refusal) → Option Refusal
 refusal_of (Ok file) = None
 refusal_of (Err back) = Some back.2
 
 -- the hold after an open, in the file or given back
-abbrev pub hold_after : {Hold : Type 0} → Result (Opened Hold) (Hold × ℕ × Refusal) → Hold
+abbrev pub held_after : {Hold : Type 0} → Result (Held Hold) (Hold × Refusal) → Hold
+held_after (Ok file) = file.hold
+held_after (Err back) = back.0
+
+abbrev pub hold_after : {Hold : Type 0} → Result (Opened Hold) (Hold × PostState × Refusal) → Hold
 hold_after (Ok file) = file.hold
 hold_after (Err back) = back.0

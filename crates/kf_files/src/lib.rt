@@ -2,13 +2,26 @@
 #![tactic(auto)]
 
 mod contents;
+mod event_numbers;
+mod held_file;
 mod hold;
 mod open_file;
 mod ops;
+mod tree_seats;
+mod wait_ops;
+mod waiting_file;
+#[cfg(test)]
+mod waiting_fixtures;
+#[cfg(test)]
+mod waiting_tests;
 
 pub use contents::Want;
+pub use event_numbers::EventNumbers;
+pub use held_file::HeldFile;
 pub use open_file::OpenFile;
 pub use ops::{Fault, FileError, Ops, Page};
+pub use wait_ops::WaitOps;
+pub use waiting_file::WaitingFile;
 
 #[cfg(test)]
 mod tests;

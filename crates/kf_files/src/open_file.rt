@@ -1,66 +1,37 @@
-//! A file opened by a hold on its node.
+//! A file opened by a hold on its node, with a post of its slot.
 
-ghost use Rattle.std.specs.Prelude.{◌≡◌, ◌≤◌, length, IsSome, IfOk, MatchResult};
-ghost use Rattle.kf_core.specs.Calls.{Visits, GivenBack};
-ghost use Rattle.kf_core.specs.declared.caller.Phase.TheVariants.{Running};
-ghost use Rattle.kf_notify.specs.Numbers.{number_at};
-ghost use Rattle.kf_files.specs.Files.{Opens, Reads, Writes, Polls, Shows, Gives, Stored, new_file, tag_of, allows};
+ghost use Rattle.std.specs.Prelude.{◌≡◌, ◌≤◌, length, IfOk, MatchResult};
+ghost use Rattle.kf_core.specs.Calls.{Visits};
+ghost use Rattle.kf_notify.specs.PostStates.{Took};
+ghost use Rattle.kf_files.specs.Files.{Opens, Reads, Writes, Polls, Gives, Stored, new_file, tag_of};
 ghost use Rattle.kf_files.specs.Opened.{hold_after, refusal_of};
 
-use crate::contents::{Contents, Want};
-use crate::hold::put_back;
-use crate::ops::{Fault, FileError, Ops};
-use kf_core::{ActiveCall, Guard, Node, Refusal};
-use kf_notify::{Post, Posts};
+use crate::contents::Want;
+use crate::held_file::HeldFile;
+use crate::ops::{FileError, Ops};
+use kf_core::{Guard, Node, Refusal};
+use kf_notify::Post;
 use std::marker::Model;
 
-/// A file opened by a hold on its node (`struct kernfs_open_file`). It keeps the hold and a post of its slot until it is closed.
+/// A file opened by a hold on its node (`struct kernfs_open_file`). It keeps the hold and a post of its slot until
+/// it is closed.
 #[derive(Drop)]
 pub struct OpenFile<G: Guard> {
-    // Empty only while a call has the hold.
-    hold: Option<G::Hold>,
+    file: HeldFile<G>,
     post: Post,
-    tag: u64,
-    contents: Contents,
-    ghost held: { IsSome hold },
 }
 
 impl<G: Guard> Model for OpenFile<G> {
-    ghost use Rattle.kf_files.specs.Opened.{Opened, hold_in};
+    ghost use Rattle.kf_files.specs.Opened.{Opened};
 
     ghost Value = { Opened G.Hold };
 
     ghost view = { λ f. record {
-      hold = hold_in f.hold f.held;
+      hold = f.file.hold;
       post = f.post;
-      tag = f.tag;
-      state = f.contents;
+      tag = f.file.tag;
+      state = f.file.state;
     } };
-}
-
-/// Whether the mode lets the file be read and written as wanted.
-fn allows(mode: u16, want: Want) -> bool
-    ensures told { result ≡ allows mode want }
-{
-    (!want.read || mode & 0o444 != 0) && (!want.write || mode & 0o222 != 0)
-}
-
-/// Stores the first 4,096 bytes, if there are any.
-fn store_front<C: ActiveCall, O: Ops<C>>(
-    ops: &mut O,
-    call: &mut C,
-    tag: u64,
-    bytes: &[u8],
-) -> Result<usize, Fault>
-    requires running { (C.view_of call.old).phase ≡ Running }
-    ensures stored { Stored O.stores ops.old tag bytes.now ops.new result }
-    ensures call { GivenBack (C.view_of call.old) (C.view_of call.new) }
-{
-    if bytes.is_empty() {
-        return Ok(0);
-    }
-    let end = bytes.len().min(4096);
-    ops.store(call, tag, &bytes[..end])
 }
 
 impl<G: Guard> OpenFile<G> {
@@ -76,103 +47,53 @@ impl<G: Guard> OpenFile<G> {
         post: Post,
     ) -> Result<OpenFile<G>, (G::Hold, Post, Refusal)>
         requires may_enter { G.may_enter guard.old hold }
-        ensures opens { Opens (Visits G.enters G.refuses G.leaves G.Call.view_of (Unit {0}) (λ _. Unit {0}) guard.old hold guard.new (hold_after result)) node want (refusal_of result) }
+        ensures opens { Opens
+            (Visits G.enters G.refuses G.leaves G.Call.view_of (Unit {0}) (λ _. Unit {0})
+            guard.old hold guard.new (hold_after result))
+            node want (refusal_of result) }
         ensures new { IfOk result (λ file. file.state ≡ new_file want) }
         ensures tag { IfOk result (λ file. file.tag ≡ tag_of node) }
         ensures post { MatchResult result (λ file. file.post ≡ post) (λ back. back.1 ≡ post) }
         ensures may_enter { G.may_enter guard.new (hold_after result) }
     {
-        let (mode, tag) = match node {
-            Node::Dir => return Err((hold, post, Refusal::IsDir)),
-            Node::Link { target: _ } => return Err((hold, post, Refusal::Invalid)),
-            Node::File { mode, tag } => (mode, tag),
-        };
-        let hold = match guard.enter(hold) {
-            Ok(call) => guard.leave(call),
-            Err(hold) => return Err((hold, post, Refusal::NoDevice)),
-        };
-        if !allows(mode, want) {
-            return Err((hold, post, Refusal::Access));
+        match HeldFile::open(guard, hold, node, want) {
+            Ok(file) => Ok(OpenFile { file, post }),
+            Err((hold, why)) => Err((hold, post, why)),
         }
-        Ok(OpenFile {
-            hold: Some(hold),
-            post,
-            tag,
-            contents: Contents::new(want),
-        })
     }
 
-    /// Reads the text from the offset on into the front of `out`, and answers how many bytes that are (`kernfs_fop_read_iter`).
-    /// At offset 0, and where no text is buffered, the text is shown anew under a call, after its event number was taken;
-    /// else it is the buffered text, which needs no live node.
-    /// `Access` where the file was not opened for reading, then `NoDevice` where the node is not live; both change nothing.
-    /// A fault of show leaves no text. The rest of `out` stays, and all of it after an error.
+    /// Reads the text from the offset on into the front of `out`, and answers how many bytes that are
+    /// (`kernfs_fop_read_iter`). At offset 0, and where no text is buffered, the text is shown anew under a call,
+    /// after its event number was taken; else it is the buffered text, which needs no live node and takes no
+    /// number. `Access` where the file was not opened for reading, then `NoDevice` where the node is not live; both
+    /// change nothing. A fault of show leaves no text. The rest of `out` stays, and all of it after an error.
     pub fn read<O: Ops<G::Call>>(
         &mut self,
         guard: &mut G,
         ops: &mut O,
         offset: u64,
         out: &mut [u8],
-        posts: &mut Posts,
     ) -> Result<usize, FileError>
         requires may_enter { G.may_enter guard.old self.old.hold }
         ensures reads { Reads
-            (Visits G.enters G.refuses G.leaves G.Call.view_of (ops.new ≡ ops.old)
-            (λ shown. (shown.number ≡ number_at posts.old self.old.post) × O.shows ops.old self.old.tag shown.filled ops.new)
+            (Visits G.enters G.refuses G.leaves G.Call.view_of
+            ((ops.new ≡ ops.old) × (self.new.post ≡ self.old.post))
+            (λ shown. Took self.old.post shown.number self.new.post
+            × O.shows ops.old self.old.tag shown.filled ops.new)
             guard.old self.old.hold guard.new self.new.hold)
             (Gives out.old result out.new) self.old.state offset (length out.old) self.new.state }
         ensures fits { IfOk result (λ count. count ≤ length out.new) }
-        ensures same { self.new ≡ record self.old { hold = self.new.hold; state = self.new.state } }
-        ensures same_posts { posts.new ≡ posts.old }
+        ensures same { self.new ≡
+            record self.old { hold = self.new.hold; post = self.new.post; state = self.new.state } }
         ensures may_enter { G.may_enter guard.new self.new.hold }
     {
-        if !self.contents.want().read {
-            return Err(FileError::Refused(Refusal::Access));
-        }
-        if let Some(count) = self.contents.read_buffered(offset, out) {
-            return Ok(count);
-        }
-        self.show(guard, ops, posts)?;
-        Ok(self.contents.read_shown(offset, out))
+        self.file.read(guard, ops, &mut self.post, offset, out)
     }
 
-    /// Tries for a call, and shows the text anew under it.
-    fn show<O: Ops<G::Call>>(
-        &mut self,
-        guard: &mut G,
-        ops: &mut O,
-        posts: &mut Posts,
-    ) -> Result<(), FileError>
-        requires may_enter { G.may_enter guard.old self.old.hold }
-        ensures shows { Shows
-            (Visits G.enters G.refuses G.leaves G.Call.view_of (ops.new ≡ ops.old)
-            (λ shown. (shown.number ≡ number_at posts.old self.old.post) × O.shows ops.old self.old.tag shown.filled ops.new)
-            guard.old self.old.hold guard.new self.new.hold)
-            self.old.state result self.new.state }
-        ensures same { self.new ≡ record self.old { hold = self.new.hold; state = self.new.state } }
-        ensures same_posts { posts.new ≡ posts.old }
-        ensures may_enter { G.may_enter guard.new self.new.hold }
-    {
-        let Some(hold) = self.hold.take() else {
-            unreachable!()
-        };
-        let mut call = match guard.enter(hold) {
-            Ok(call) => call,
-            Err(hold) => {
-                put_back(&mut self.hold, hold);
-                return Err(FileError::Refused(Refusal::NoDevice));
-            }
-        };
-        let number = self.post.now(posts);
-        let shown = self.contents.show(ops, &mut call, self.tag, number);
-        let hold = guard.leave(call);
-        put_back(&mut self.hold, hold);
-        shown
-    }
-
-    /// Hands the first 4,096 bytes to one store under a call, and answers what it answers (`kernfs_fop_write_iter`).
-    /// A write of no bytes answers 0 and calls nothing, but it needs a live node too.
-    /// `Access` where the file was not opened for writing, then `NoDevice` where the node is not live. The file stays as it was.
+    /// Hands the first 4,096 bytes to one store under a call, and answers what it answers
+    /// (`kernfs_fop_write_iter`). A write of no bytes answers 0 and calls nothing, but it needs a live node too.
+    /// `Access` where the file was not opened for writing, then `NoDevice` where the node is not live. The file
+    /// stays as it was.
     pub fn write<O: Ops<G::Call>>(
         &mut self,
         guard: &mut G,
@@ -188,50 +109,23 @@ impl<G: Guard> OpenFile<G> {
         ensures same { self.new ≡ record self.old { hold = self.new.hold } }
         ensures may_enter { G.may_enter guard.new self.new.hold }
     {
-        if !self.contents.want().write {
-            return Err(FileError::Refused(Refusal::Access));
-        }
-        let Some(hold) = self.hold.take() else {
-            unreachable!()
-        };
-        match guard.enter(hold) {
-            Ok(mut call) => {
-                let stored = store_front(ops, &mut call, self.tag, bytes);
-                let hold = guard.leave(call);
-                put_back(&mut self.hold, hold);
-                Ok(stored?)
-            }
-            Err(hold) => {
-                put_back(&mut self.hold, hold);
-                Err(FileError::Refused(Refusal::NoDevice))
-            }
-        }
+        self.file.write(guard, ops, bytes)
     }
 
-    /// Whether the file has changed since its last show (`kernfs_fop_poll`): the slot's event number is another, or the node is not live.
-    /// A file that was never shown has changed. The number that the file keeps stays.
-    pub fn poll(&mut self, guard: &mut G, posts: &mut Posts) -> bool
+    /// Whether the file has changed since its last show (`kernfs_fop_poll`): the slot's event number, taken under
+    /// a call, is another, or the node is not live. A file that was never shown has changed. The number that the
+    /// file keeps stays.
+    pub fn poll(&mut self, guard: &mut G) -> bool
         requires may_enter { G.may_enter guard.old self.old.hold }
-        ensures polls { Polls (Visits G.enters G.refuses G.leaves G.Call.view_of (Unit {0}) (λ now. now ≡ number_at posts.old self.old.post) guard.old self.old.hold guard.new self.new.hold) self.old.state result }
-        ensures same { self.new ≡ record self.old { hold = self.new.hold } }
-        ensures same_posts { posts.new ≡ posts.old }
+        ensures polls { Polls
+            (Visits G.enters G.refuses G.leaves G.Call.view_of (self.new.post ≡ self.old.post)
+            (λ now. Took self.old.post now self.new.post)
+            guard.old self.old.hold guard.new self.new.hold)
+            self.old.state result }
+        ensures same { self.new ≡ record self.old { hold = self.new.hold; post = self.new.post } }
         ensures may_enter { G.may_enter guard.new self.new.hold }
     {
-        let Some(hold) = self.hold.take() else {
-            unreachable!()
-        };
-        match guard.enter(hold) {
-            Ok(call) => {
-                let now = self.post.now(posts);
-                let hold = guard.leave(call);
-                put_back(&mut self.hold, hold);
-                now != self.contents.number()
-            }
-            Err(hold) => {
-                put_back(&mut self.hold, hold);
-                true
-            }
-        }
+        self.file.poll(guard, &mut self.post)
     }
 
     /// Gives the hold and the post back (`kernfs_fop_release`).
@@ -239,12 +133,7 @@ impl<G: Guard> OpenFile<G> {
         ensures hold { result.0 ≡ self.hold }
         ensures post { result.1 ≡ self.post }
     {
-        let OpenFile {
-            hold,
-            post,
-            tag: _,
-            contents: _,
-        } = self;
-        (hold.unwrap(), post)
+        let OpenFile { file, post } = self;
+        (file.close(), post)
     }
 }

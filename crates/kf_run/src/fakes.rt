@@ -1,109 +1,52 @@
-//! Readers, writers and a board for tests.
+//! A reader and a writer that fail.
 
-ghost use Rattle.std.specs.Prelude.{◌≡◌, ◌<◌, Some, codes};
-ghost use Rattle.kf_run.specs.ReplyText.{done_text};
+ghost use Rattle.std.specs.Prelude.{Some};
 
-use super::board::Board;
-use super::reply::Reply;
-use super::request::Request;
 use std::io;
 use std::io::{ErrorKind, Read, Write};
 
-/// Gives its bytes a few at a time, and fails after so many calls.
+/// Fails at its first call, and then gives its bytes.
 #[derive(Drop)]
-pub struct ChunkReader<'a> {
-    bytes: &'a [u8],
-    most: usize,
-    calls: usize,
-    ghost some: { 0 < most },
+pub struct FailingReader<'a> {
+    pub bytes: &'a [u8],
+    pub has_failed: bool,
 }
 
-impl<'a> ChunkReader<'a> {
-    pub fn new(bytes: &'a [u8], most: usize, calls: usize) -> ChunkReader<'a> {
-        ChunkReader {
-            bytes,
-            most: most.max(1),
-            calls,
-        }
-    }
-}
-
-impl<'a> Read for ChunkReader<'a> {
+impl<'a> Read for FailingReader<'a> {
     ghost remaining = { λ r. Some r.bytes.now };
 
     fn read(&mut self, buf: &mut [u8]) -> io::Result<usize> {
-        if self.calls == 0 {
-            return Err(ErrorKind::Other.into());
+        if !self.has_failed {
+            self.has_failed = true;
+            return Err(ErrorKind::Interrupted.into());
         }
-        self.calls -= 1;
-        let count = buf.len().min(self.most).min(self.bytes.len());
+        let count = buf.len().min(self.bytes.len());
         buf[..count].copy_from_slice(&self.bytes[..count]);
         self.bytes = &self.bytes[count..];
         Ok(count)
     }
 }
 
-/// Gives one newline a call, so many in all, and counts its calls.
-#[derive(Drop)]
-pub struct NewlineReader {
-    pub newlines: u32,
-    pub calls: u32,
-}
-
-impl Read for NewlineReader {
-    fn read(&mut self, buf: &mut [u8]) -> io::Result<usize> {
-        if buf.is_empty() {
-            return Ok(0);
-        }
-        self.calls = self.calls.wrapping_add(1);
-        if self.calls > self.newlines {
-            return Ok(0);
-        }
-        buf[0] = b'\n';
-        Ok(1)
-    }
-}
-
-/// Keeps what is written, a few bytes a call, and fails after so many calls.
+/// Fails at its first call, and then keeps what is written.
 #[derive(Drop)]
 pub struct FailingWriter {
     pub kept: Vec<u8>,
-    most: usize,
-    calls: usize,
-}
-
-impl FailingWriter {
-    pub fn new(kept: Vec<u8>, most: usize, calls: usize) -> FailingWriter {
-        FailingWriter { kept, most, calls }
-    }
+    pub has_failed: bool,
 }
 
 impl Write for FailingWriter {
     ghost contents = { λ w. Some w.kept.items };
 
     fn write(&mut self, buf: &[u8]) -> io::Result<usize> {
-        if self.calls == 0 {
-            return Err(ErrorKind::Other.into());
+        if !self.has_failed {
+            self.has_failed = true;
+            return Err(ErrorKind::Interrupted.into());
         }
-        self.calls -= 1;
-        let count = buf.len().min(self.most);
-        self.kept.extend_from_slice(&buf[..count])?;
-        Ok(count)
+        self.kept.extend_from_slice(buf)?;
+        Ok(buf.len())
     }
 
     fn flush(&mut self) -> io::Result<()> {
         Ok(())
-    }
-}
-
-/// Answers each request with `ok`.
-#[derive(Drop)]
-pub struct OkBoard {}
-
-impl Board for OkBoard {
-    ghost step = { λ before request starved reply now. (reply ≡ done_text) × (now ≡ before) };
-
-    fn answer(&mut self, request: Request<'_>, reply: &mut Reply) {
-        reply.set_done();
     }
 }

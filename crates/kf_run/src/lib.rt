@@ -1,36 +1,18 @@
-//! Scripts on an attribute tree: bytes in, replies out.
+//! Scripts on an attribute tree: the program's body, and the boards that it runs them on.
 #![tactic(auto)]
 
-mod board;
-mod fault;
-mod grammar;
+mod arguments;
 mod host;
-mod line;
-mod nodes;
-mod output;
-mod plain;
-mod plain_run;
 mod program;
-mod reads;
-mod reply;
-mod request;
-mod script;
-mod text_table;
 
-pub use board::Board;
-pub use fault::RunFault;
+pub use arguments::{Asked, read_words};
 pub use host::run_host;
-pub use plain::PlainBoard;
-pub use plain_run::run_script;
-pub use program::run_program;
-pub use reads::ReadCount;
-pub use reply::Reply;
-pub use request::Request;
-pub use script::{run_counted, run_lines};
+pub use kf_plain::PlainBoard;
+pub use kf_script::{RunFault, run_script};
+pub use kf_workers::{Texts, read_script, run_workers};
+pub use program::{run_asked, run_program};
 
 #[cfg(test)]
 mod fakes;
-#[cfg(test)]
-mod scripts;
 #[cfg(test)]
 mod tests;

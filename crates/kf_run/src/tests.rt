@@ -1,239 +1,37 @@
-//! Tests of scripts over readers, writers and boards.
+//! The program's words, statuses and what it says of a fault.
 
-use super::fakes::{ChunkReader, FailingWriter, NewlineReader, OkBoard};
-use super::fault::RunFault;
+use super::fakes::{FailingReader, FailingWriter};
 use super::program::run_program;
-use super::script::run_lines;
 use std::alloc::{AllocError, Global};
-
-/// What is written for a script that is read a few bytes a call, and how the run ended.
-fn run(
-    alloc: Global,
-    script: &[u8],
-    most: usize,
-    reads: usize,
-    writes: usize,
-) -> (Vec<u8>, Result<(), RunFault>) {
-    let mut reader = ChunkReader::new(script, most, reads);
-    let mut writer = FailingWriter::new(Vec::new(alloc), 100, writes);
-    let mut board = OkBoard {};
-    let result = run_lines(alloc, &mut board, &mut reader, &mut writer);
-    (writer.kept, result)
-}
-
-#[test]
-fn lines_are_cut_at_newlines_alone(rt: HostRuntime) {
-    for most in [1usize, 7, 100, 5000] {
-        let (text, result) = run(rt.alloc(), b"ls /\n\nfrob /a\r\nstat /b", most, 100, 100);
-        assert!(rt; matches!(result, Ok(())));
-        assert_eq!(rt;
-            text.as_slice(),
-            b"ok\nerr Line 22\nok\n".as_slice(),
-            "at {most}"
-        );
-    }
-    let (text, result) = run(rt.alloc(), b"", 1, 100, 100);
-    assert!(rt; matches!(result, Ok(())) && text.is_empty());
-}
-
-#[test]
-fn a_read_fault_leaves_the_lines_that_ended_answered(rt: HostRuntime) {
-    for (reads, want) in [
-        (0usize, b"".as_slice()),
-        (1, b"".as_slice()),
-        (2, b"ok\n".as_slice()),
-        (3, b"ok\nok\n".as_slice()),
-        (4, b"ok\nok\n".as_slice()),
-    ] {
-        let (text, result) = run(rt.alloc(), b"ls /\nls /\nls /a", 4, reads, 100);
-        assert!(rt; matches!(result, Err(RunFault::Read)));
-        assert_eq!(rt; text.as_slice(), want, "at {reads}");
-    }
-}
-
-#[test]
-fn a_write_fault_leaves_a_prefix(rt: HostRuntime) {
-    for (writes, want) in [
-        (0usize, b"".as_slice()),
-        (1, b"ok\n".as_slice()),
-        (2, b"ok\nok\n".as_slice()),
-    ] {
-        let (text, result) = run(rt.alloc(), b"ls /\nls /\nls /a", 100, 100, writes);
-        assert!(rt; matches!(result, Err(RunFault::Write)));
-        assert_eq!(rt; text.as_slice(), want, "at {writes}");
-    }
-}
-
-/// Runs so many newlines, one a call. How the run ended, and how often it has read.
-fn run_newlines(alloc: Global, newlines: u32) -> (Result<(), RunFault>, u32) {
-    let mut writer = Vec::new(alloc);
-    let mut reader = NewlineReader { newlines, calls: 0 };
-    let result = run_lines(alloc, &mut OkBoard {}, &mut reader, &mut writer);
-    (result, reader.calls)
-}
-
-#[test]
-fn the_last_call_of_read_that_a_run_may_make(rt: HostRuntime) {
-    let (result, calls) = run_newlines(rt.alloc(), 16_777_215);
-    assert!(rt; result.is_ok());
-    assert_eq!(rt; calls, 16_777_216);
-    let (result, calls) = run_newlines(rt.alloc(), 16_777_216);
-    assert!(rt; matches!(result, Err(RunFault::Read)));
-    assert_eq!(rt; calls, 16_777_216);
-}
-
-/// `ls /` with so many bytes in all, and then another line.
-fn long_line(alloc: Global, bytes: usize) -> Result<Vec<u8>, AllocError> {
-    let mut script = Vec::from_slice(alloc, b"ls /")?;
-    for _ in 4..bytes {
-        script.push(b'x')?;
-    }
-    script.extend_from_slice(b"\nls /\n")?;
-    Ok(script)
-}
-
-#[test]
-fn a_line_of_8192_bytes_is_the_longest(rt: HostRuntime) {
-    for (bytes, want) in [
-        (8191usize, b"ok\nok\n".as_slice()),
-        (8192, b"ok\nok\n".as_slice()),
-        (8193, b"err Line 22\nok\n".as_slice()),
-        (20000, b"err Line 22\nok\n".as_slice()),
-    ] {
-        let script = long_line(rt.alloc(), bytes).expect(&rt, "memory");
-        let (text, result) = run(rt.alloc(), script.as_slice(), 5000, 100, 100);
-        assert!(rt; matches!(result, Ok(())));
-        assert_eq!(rt; text.as_slice(), want, "at {bytes}");
-        let (text, _) = run(
-            rt.alloc(),
-            &script.as_slice()[..bytes.min(script.len())],
-            5000,
-            100,
-            100,
-        );
-        assert!(rt;
-            text.as_slice() == &want[..want.len() - 3],
-            "without newline at {bytes}"
-        );
-    }
-}
-
-#[test]
-fn lines_that_make_a_request(rt: HostRuntime) {
-    let lines: [&[u8]; 30] = [
-        b"mkdir /a",
-        b"mkdir /a off",
-        b"file /a 644 text with spaces",
-        b"file /a 644",
-        b"file /a 000 ",
-        b"file /a 777  x",
-        b"link /a /b",
-        b"activate /a",
-        b"ls /",
-        b"stat /a",
-        b"readlink /a",
-        b"mv /a / b",
-        b"rm /a",
-        b"open a /a r",
-        b"open z /a w",
-        b"open f /a rw",
-        b"read f 0 0",
-        b"read f 4294967295 65535",
-        b"read f 0000000000 00000",
-        b"write f",
-        b"write f ",
-        b"write f  x y ",
-        b"poll f",
-        b"notify /a",
-        b"close f",
-        b"hide /a",
-        b"show /a",
-        b"commands",
-        b"compact",
-        b"ls \xff",
-    ];
-    for line in lines {
-        let (text, _) = run(rt.alloc(), line, 5000, 100, 100);
-        assert_eq!(rt; text.as_slice(), b"ok\n".as_slice(), "for {line:?}");
-    }
-}
-
-#[test]
-fn lines_that_make_none(rt: HostRuntime) {
-    let lines: [&[u8]; 46] = [
-        b" ",
-        b"frob /a",
-        b"mkdir",
-        b"mkdir ",
-        b"mkdir /a ",
-        b"mkdir  /a",
-        b" mkdir /a",
-        b"mkdir /a b",
-        b"mkdir /a off ",
-        b"mkdir /a  off",
-        b"mkdir /a off off",
-        b"MKDIR /a",
-        b"file",
-        b"file /a",
-        b"file /a 64 x",
-        b"file /a 0644 x",
-        b"file /a 648 x",
-        b"file  644 x",
-        b"link /a",
-        b"mv /a /",
-        b"mv /a / b c",
-        b"open /a r",
-        b"open f /a",
-        b"open f /a wr",
-        b"open F /a r",
-        b"open ff /a r",
-        b"read f 0",
-        b"read f 0 65536",
-        b"read f 0 000000",
-        b"read f 4294967296 1",
-        b"read f 00000000000 1",
-        b"read f +1 1",
-        b"read f -1 1",
-        b"write",
-        b"write ",
-        b"write  x",
-        b"commands ",
-        b"commands x",
-        b"@1 ls /",
-        b"plug d0 on",
-        b"unplug d0",
-        b"wait",
-        b"hide",
-        b"show /a b",
-        b"compact ",
-        b"ls\t/",
-    ];
-    for line in lines {
-        let (text, _) = run(rt.alloc(), line, 5000, 100, 100);
-        assert_eq!(rt;
-            text.as_slice(),
-            b"err Line 22\n".as_slice(),
-            "for {line:?}"
-        );
-    }
-}
+use std::sync::Wait;
+use std::thread::Threads;
 
 /// The status for these words on a script, what is written, and what is said of a fault.
-fn run_words(alloc: Global, words: &[&str], mut script: &[u8]) -> (u8, Vec<u8>, Vec<u8>) {
+fn run_words<R: Threads + Wait + Sync>(
+    rt: &R,
+    alloc: Global,
+    words: &[&str],
+    mut script: &[u8],
+) -> (u8, Vec<u8>, Vec<u8>) {
     let mut out = Vec::new(alloc);
     let mut fault = Vec::new(alloc);
-    let status = run_program(alloc, words, &mut script, &mut out, &mut fault);
+    let status = run_program(rt, alloc, words, &mut script, &mut out, &mut fault);
     (status, out, fault)
 }
 
 /// The same on a script of one directory.
-fn status(alloc: Global, words: &[&str]) -> (u8, Vec<u8>, Vec<u8>) {
-    run_words(alloc, words, b"mkdir /a\n")
+fn status<R: Threads + Wait + Sync>(
+    rt: &R,
+    alloc: Global,
+    words: &[&str],
+) -> (u8, Vec<u8>, Vec<u8>) {
+    run_words(rt, alloc, words, b"mkdir /a\n")
 }
 
 #[test]
 fn as_many_slots_as_asked(rt: HostRuntime) {
     let (code, out, _) = run_words(
+        &rt,
         rt.alloc(),
         &["kernfs_run", "--slots", "2"],
         b"file /a 644 x\nopen f /a r\nrm /a\nfile /b 644 y\nclose f\nfile /b 644 y\n",
@@ -244,6 +42,7 @@ fn as_many_slots_as_asked(rt: HostRuntime) {
         b"ok 1.1\nok\nok\nerr NoSpace 28\nok\nok 1.2\n".as_slice()
     );
     let (code, out, _) = run_words(
+        &rt,
         rt.alloc(),
         &["kernfs_run", "--slots", "4"],
         b"mkdir /a\nmkdir /b\nrm /a\nmkdir /c\nmkdir /d\nmkdir /e\n",
@@ -271,17 +70,17 @@ fn chain(alloc: Global, directories: usize) -> Result<Vec<u8>, AllocError> {
 #[test]
 fn a_thousand_slots_unless_asked(rt: HostRuntime) -> Result<(), AllocError> {
     let script = chain(rt.alloc(), 1024)?;
-    let (code, out, _) = run_words(rt.alloc(), &["kernfs_run"], &script);
+    let (code, out, _) = run_words(&rt, rt.alloc(), &["kernfs_run"], &script);
     assert_eq!(rt; code, 0);
     assert!(rt; out.ends_with(b"ok 1022.1\nok 1023.1\nerr NoSpace 28\n"));
-    let (_, out, _) = run_words(rt.alloc(), &["kernfs_run", "--slots", "4096"], &script);
+    let (_, out, _) = run_words(&rt, rt.alloc(), &["kernfs_run", "--slots", "4096"], &script);
     assert!(rt; out.ends_with(b"ok 1023.1\nok 1024.1\n"));
     Ok(())
 }
 
 #[test]
 fn statuses(rt: HostRuntime) {
-    let (code, out, fault) = status(rt.alloc(), &["kernfs_run", "--slots", "2"]);
+    let (code, out, fault) = status(&rt, rt.alloc(), &["kernfs_run", "--slots", "2"]);
     assert!(rt; code == 0 && !out.is_empty() && fault.is_empty());
     let refused: [&[&str]; 6] = [
         &["kernfs_run", "--slots", "0"],
@@ -289,40 +88,77 @@ fn statuses(rt: HostRuntime) {
         &["kernfs_run", "--slots", "many"],
         &["kernfs_run", "--slots"],
         &["kernfs_run", "--workers", "17"],
-        &["kernfs_run", "script.kf"],
+        &["kernfs_run", "one.kf", "two.kf"],
     ];
     for words in refused {
-        let (code, out, fault) = status(rt.alloc(), words);
+        let (code, out, fault) = status(&rt, rt.alloc(), words);
         assert!(rt; code == 2 && out.is_empty() && !fault.is_empty());
     }
-    let (code, out, fault) = status(rt.alloc(), &["kernfs_run", "--help"]);
+    let (code, out, fault) = status(&rt, rt.alloc(), &["kernfs_run", "--help"]);
     assert!(rt; code == 0 && out.starts_with(b"Runs a script") && fault.is_empty());
+    let (code, out, fault) = status(&rt, rt.alloc(), &["kernfs_run", "--version"]);
+    assert!(rt; code == 0 && out.starts_with(b"kernfs_run ") && fault.is_empty());
 }
 
 #[test]
 fn faults_are_named(rt: HostRuntime) {
-    let words = ["kernfs_run"];
-    let mut out = FailingWriter::new(Vec::new(rt.alloc()), 100, 100);
-    let mut fault = Vec::new(rt.alloc());
-    let mut reader = ChunkReader::new(b"ls /\n", 100, 0);
-    let code = run_program(rt.alloc(), &words, &mut reader, &mut out, &mut fault);
-    assert!(rt; code == 1 && out.kept.is_empty());
-    assert_eq!(rt; fault.as_slice(), b"kernfs_run: read\n".as_slice());
-    let mut out = FailingWriter::new(Vec::new(rt.alloc()), 100, 0);
-    let mut fault = Vec::new(rt.alloc());
-    let mut reader = ChunkReader::new(b"ls /\n", 100, 100);
-    let code = run_program(rt.alloc(), &words, &mut reader, &mut out, &mut fault);
-    assert!(rt; code == 1);
-    assert_eq!(rt; fault.as_slice(), b"kernfs_run: write\n".as_slice());
-    let mut out = FailingWriter::new(Vec::new(rt.alloc()), 100, 0);
+    let mut reader = FailingReader {
+        bytes: b"ls /\n",
+        has_failed: false,
+    };
+    let mut out = Vec::new(rt.alloc());
     let mut fault = Vec::new(rt.alloc());
     let code = run_program(
+        &rt,
         rt.alloc(),
-        &["kernfs_run", "--help"],
+        &["kernfs_run"],
         &mut reader,
         &mut out,
         &mut fault,
     );
-    assert!(rt; code == 1);
-    assert_eq!(rt; fault.as_slice(), b"kernfs_run: write\n".as_slice());
+    assert!(rt; code == 1 && out.is_empty());
+    assert_eq!(rt; fault.as_slice(), b"kernfs_run: read\n".as_slice());
+    for words in [["kernfs_run"].as_slice(), &["kernfs_run", "--help"]] {
+        let mut script = b"mkdir /a\nls /\n".as_slice();
+        let mut out = FailingWriter {
+            kept: Vec::new(rt.alloc()),
+            has_failed: false,
+        };
+        let mut fault = Vec::new(rt.alloc());
+        let code = run_program(&rt, rt.alloc(), words, &mut script, &mut out, &mut fault);
+        assert!(rt; code == 1 && out.kept.is_empty());
+        assert_eq!(rt; fault.as_slice(), b"kernfs_run: write\n".as_slice());
+    }
+}
+
+#[test]
+fn workers_answer_in_the_order_of_lines(rt: HostRuntime) {
+    let (code, out, fault) = run_words(
+        &rt,
+        rt.alloc(),
+        &["kernfs_run", "--workers", "2", "--slots", "8"],
+        b"file /x 666 a\nwait\n@1 open f /x r\n@2 open f /x r\n@1 read f 0 9\n@2 read f 0 9\n@3 ls /\n",
+    );
+    assert!(rt; code == 0 && fault.is_empty());
+    assert_eq!(rt;
+        out.as_slice(),
+        b"ok 1.1\nok\nok\nok\na\na\nerr Line 22\n".as_slice()
+    );
+    let (code, out, _) = run_words(&rt, rt.alloc(), &["kernfs_run"], b"@1 ls /\nwait\n");
+    assert_eq!(rt; code, 0);
+    assert_eq!(rt; out.as_slice(), b"err Line 22\nok\n".as_slice());
+}
+
+#[test]
+fn a_fault_of_a_run_by_many_is_named(rt: HostRuntime) {
+    let mut reader = FailingReader {
+        bytes: b"ls /\n",
+        has_failed: false,
+    };
+    let mut out = Vec::new(rt.alloc());
+    let mut fault = Vec::new(rt.alloc());
+    let words = ["kernfs_run", "--workers", "1"];
+    let code = run_program(&rt, rt.alloc(), &words, &mut reader, &mut out, &mut fault);
+    assert!(rt; code == 1 && out.is_empty());
+    assert_eq!(rt; fault.as_slice(), b"kernfs_run: read\n".as_slice());
 }

@@ -5,6 +5,7 @@ pub mod Nodes
 pub mod Ties
 pub mod Unlinked
 pub mod Ends
+pub mod Rooms
 pub mod Pins
 pub mod Receipts
 pub mod Opening

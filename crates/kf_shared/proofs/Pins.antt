@@ -1,8 +1,8 @@
 -- Holds of the nodes of a subtree, and why they are refused.
-use Rattle.std.proofs.Common.{◌≡◌, ◌⊎◌, inl, inr, refl, ap, sym, ◌∙◌, subst, Bool, true, false, List, [], ◌∷◌, ◌++◌}
-use Rattle.std.specs.Prelude.{Option, None, Result, Ok, Err, IfErr, Contains, MatchBool, not}
+use Rattle.std.proofs.Common.{◌≡◌, ◌≢◌, ◌⊎◌, inl, inr, refl, ap, sym, ◌∙◌, subst, Bool, true, false, List, [], ◌∷◌, ◌++◌}
+use Rattle.std.specs.Prelude.{Option, None, Some, Result, Ok, Err, IfErr, Contains, MatchBool, not}
 use Rattle.std.proofs.lemmas.Bool.{MatchBool-at_false}
-use Rattle.std.proofs.lemmas.Option.{none-some}
+use Rattle.std.proofs.lemmas.Option.{none-some, same_Some}
 use Rattle.std.proofs.lemmas.List.Elements.{Contains-append_left}
 use Rattle.kf_core.specs.declared.key.Key.{Key}
 use Rattle.kf_core.specs.declared.refusal.Refusal.{Refusal}
@@ -15,14 +15,16 @@ use Rattle.kf_tree.specs.Causes.{Refuses, linked_cause, doom_cause}
 use Rattle.kf_tree.specs.TreeLogs.{TreeLog, IsKept}
 use Rattle.kf_words.specs.Callers.{Handle}
 use Rattle.kf_words.specs.declared.view.MasterView.{MasterView}
-use Rattle.kf_words.specs.Nodes.{FoundFull, PinRefused, IsLastKey}
+use Rattle.kf_words.specs.Nodes.{MasterState, FoundFull, PinRefused, HeldPinRefused, IsLastKey}
 use Rattle.kf_shared.specs.Locked.{Locked}
 use Rattle.kf_shared.proofs.Ends.{not_last}
+use Rattle.kf_shared.proofs.Rooms.{top_full}
+use Rattle.kf_shared.proofs.Ties.{locked}
 use Rattle.kf_core.proofs.Different.{different}
 use Rattle.kf_shared.specs.Receipts.{RemovalRefused, SelfRemovalWasRefused}
 use Rattle.kf_words.specs.Callers.{TableId}
 use Rattle.kf_core.proofs.Climbs.{same_key_is}
-use Rattle.kf_shared.specs.Removal.{keys_of, FoundFullIn, FoundFullBelow, PinsRefused, DoomRefused, SelfRemovalRefused, DoomHolds}
+use Rattle.kf_shared.specs.Removal.{keys_of, FoundFullIn, FoundFullBelow, PinsRefused, HoldsBelowRefused, HoldsInRefused, DoomRefused, SelfRemovalRefused, DoomHolds}
 
 -- what is asked at either answer of a test
 pub if_true : {b : Bool} (P Q : Type 0) → b ≡ true → P → MatchBool b P Q
@@ -30,6 +32,21 @@ if_true P Q e p = subst (λ b. MatchBool b P Q) (sym e) p
 
 pub if_false : {b : Bool} (P Q : Type 0) → b ≡ false → Q → MatchBool b P Q
 if_false P Q e q = subst (λ b. MatchBool b P Q) (sym e) q
+
+-- a refusal is want of memory, or not
+pub refusal_tells : (r : Refusal) → (r ≡ NoMemory) ⊎ (r ≢ NoMemory)
+refusal_tells NoMemory = inl refl
+refusal_tells NoEntry = inr (λ e. cc)
+refusal_tells Access = inr (λ e. cc)
+refusal_tells Busy = inr (λ e. cc)
+refusal_tells Exists = inr (λ e. cc)
+refusal_tells NoDevice = inr (λ e. cc)
+refusal_tells NotDir = inr (λ e. cc)
+refusal_tells IsDir = inr (λ e. cc)
+refusal_tells Invalid = inr (λ e. cc)
+refusal_tells TooManyHolds = inr (λ e. cc)
+refusal_tells NoSpace = inr (λ e. cc)
+refusal_tells NameTooLong = inr (λ e. cc)
 
 -- where there is no cause, only memory was wanting
 pub only_memory : (cause : Option Refusal) (refusal : Refusal) → cause ≡ None → Refuses cause refusal → refusal ≡ NoMemory
@@ -43,36 +60,63 @@ no_doom_cause t root key linked other =
     ap (λ b. first_cause (unless b NoEntry ∷ unless (not (same_key key root)) Invalid ∷ [])) linked
     ∙ ap (λ b. first_cause (unless true NoEntry ∷ unless (not b) Invalid ∷ [])) other
 
+doom_cause_of_root : (t : Tree) (root key : Key) → is_linked t key ≡ true → same_key key root ≡ true → doom_cause t root key ≡ Some Invalid
+doom_cause_of_root t root key linked same =
+    ap (λ b. first_cause (unless b NoEntry ∷ unless (not (same_key key root)) Invalid ∷ [])) linked
+    ∙ ap (λ b. first_cause (unless true NoEntry ∷ unless (not b) Invalid ∷ [])) same
+
+-- what is asked of a linked key before its doom: that it is not the root
+pub not_the_root : (t : Tree) (root key : Key) → is_linked t key ≡ true → doom_cause t root key ≡ None → same_key key root ≡ false
+not_the_root t root key linked none = elim (same_key key root) as (λ b. same_key key root ≡ b → b ≡ false) [
+  | true ↦ λ e. absurd (none-some Invalid (sym none ∙ doom_cause_of_root t root key linked e))
+  | false ↦ λ e. refl
+] refl
+
 -- the root is refused
 pub root_refused : (old new : Locked) (key : Key) → is_linked old.state.tree key ≡ true → same_key key old.state.root ≡ true → DoomRefused old new key Invalid
 root_refused old new key linked same = if_true _ _ linked (if_true _ _ same refl)
 
+pub cause_refused : (old new : Locked) (key : Key) (refusal : Refusal) → is_linked old.state.tree key ≡ true → doom_cause old.state.tree old.state.root key ≡ Some refusal → DoomRefused old new key refusal
+cause_refused old new key refusal linked cause = go (same_key key old.state.root) refl
+  where
+    go : (b : Bool) → same_key key old.state.root ≡ b → DoomRefused old new key refusal
+    go true e = if_true _ _ linked (if_true _ _ e (same_Some refusal Invalid (sym cause ∙ doom_cause_of_root old.state.tree old.state.root key linked e)))
+    go false e = absurd (none-some refusal (sym (no_doom_cause old.state.tree old.state.root key linked e) ∙ cause))
+
 -- and of another linked node the pins
-pub pins_refused : (old new : Locked) (key : Key) (refusal : Refusal) → is_linked old.state.tree key ≡ true → same_key key old.state.root ≡ false → PinsRefused (FoundFullBelow old.state.tree key new.master.view) refusal → DoomRefused old new key refusal
+pub pins_refused : (old new : Locked) (key : Key) (refusal : Refusal) → is_linked old.state.tree key ≡ true → same_key key old.state.root ≡ false → HoldsBelowRefused old.state.tree key new.master.view refusal → DoomRefused old new key refusal
 pins_refused old new key refusal linked other h = if_true _ _ linked (if_false _ _ other h)
 
 -- what stands in post-order is below the top
 below_top : (t : Tree) (top key : Key) (keys : List Key) → IsPostOrder t top keys → Contains keys key → in_subtree t top key ≡ true
 below_top t top key keys order h = ((order.members key).0 h).1
 
+-- a node of the front of a post-order is below its top
+pub full_below : (s : TreeLog) (m : MasterView) (top : Key) (keys below seen : List Key) → IsKept s → IsPostOrder s.tree top keys → keys ≡ below ++ top ∷ [] → seen ≡ below
+    → (key : Key) → Contains seen key → FoundFull m key.slot → FoundFullBelow s.tree top m
+full_below s m top keys below seen kept order parts is key h full =
+    let among : Contains below key = subst (λ ks. Contains ks key) is h in (
+      key,
+      not_last keys below top key (different s.tree s.root kept.lawful top keys order) parts among,
+      below_top s.tree top key keys order (subst (λ ks. Contains ks key) (sym parts) (Contains-append_left below (top ∷ []) key among)),
+      full,
+    )
+
 -- a pin of one of the nodes below was refused
-pub pin_refused : {X : Type 0} (result : Result X Refusal) (s : TreeLog) (old new : Locked) (top : Key) (keys below seen : List Key) → s ≡ old.state → IsKept s → is_linked old.state.tree top ≡ true → same_key top old.state.root ≡ false →
-    IsPostOrder s.tree top keys → keys ≡ below ++ top ∷ [] → seen ≡ below →
-    IfErr result (λ r. (r ≡ NoMemory) ⊎ ((r ≡ TooManyHolds) × ((key : Key) × Contains seen key × FoundFull new.master.view key.slot))) → IfErr result (λ r. DoomRefused old new top r)
-pin_refused (Ok x) s old new top keys below seen same kept linked other order parts is h = h
-pin_refused (Err r) s old new top keys below seen same kept linked other order parts is h = pins_refused old new top r linked other (elim h [
-  | inl e ↦ inr e
-  | inr f ↦ (let among : Contains below f.1.0 = subst (λ ks. Contains ks f.1.0) is f.1.1 in
-      inl (
-        f.0,
-        (
-          f.1.0,
-          not_last keys below top f.1.0 (different s.tree s.root kept.lawful top keys order) parts among,
-          below_top old.state.tree top f.1.0 keys (subst (λ (l : TreeLog). IsPostOrder l.tree top keys) same order) (subst (λ ks. Contains ks f.1.0) (sym parts) (Contains-append_left below (top ∷ []) f.1.0 among)),
-          f.1.2,
-        ),
-      ))
-])
+pub pin_refused : (s : TreeLog) (m : MasterView) (top : Key) (keys below seen : List Key) → IsKept s → IsPostOrder s.tree top keys → keys ≡ below ++ top ∷ [] → seen ≡ below
+    → (refusal : Refusal) → refusal ≡ TooManyHolds → (refusal ≡ NoMemory) ⊎ ((refusal ≡ TooManyHolds) × ((key : Key) × Contains seen key × FoundFull m key.slot)) → HoldsBelowRefused s.tree top m refusal
+pin_refused s m top keys below seen kept order parts is refusal too_many h = elim h [
+  | inl e ↦ absurd (cc (e, too_many))
+  | inr f ↦ inl (f.0, full_below s m top keys below seen kept order parts is f.1.0 f.1.1 f.1.2)
+]
+
+-- what refuses the doom in a state, refuses it in the same one
+pub same_refused : (old mid new : Locked) (key : Key) (refusal : Refusal) → mid.state ≡ old.state → DoomRefused mid new key refusal → DoomRefused old new key refusal
+same_refused old mid new key refusal same h = subst (λ (s : TreeLog). DoomRefused (locked s mid.master mid.claims) new key refusal) same h
+
+-- what was told of a tree and a view is told of the same tree
+pub same_tree : (s s' : TreeLog) (m : MasterView) (top : Key) (refusal : Refusal) → s ≡ s' → HoldsBelowRefused s.tree top m refusal → HoldsBelowRefused s'.tree top m refusal
+same_tree s s' m top refusal e h = subst (λ (x : TreeLog). HoldsBelowRefused x.tree top m refusal) e h
 
 pub keys_more : (xs ys : List Handle) → keys_of (xs ++ ys) ≡ keys_of xs ++ keys_of ys
 keys_more [] ys = refl
@@ -98,39 +142,77 @@ why_refused m m' keys key Invalid h p full = absurd p
 why_refused m m' keys key NoSpace h p full = absurd p
 why_refused m m' keys key NameTooLong h p full = absurd p
 
--- the removal of a call's own node was refused
-pub self_refused : (old mid new : Locked) (key held : Key) (refusal : Refusal) → mid.state ≡ old.state → held ≡ key → same_key key old.state.root ≡ false → DoomRefused mid new held refusal → SelfRemovalRefused old new key refusal
-self_refused old mid new key held refusal same is other h =
-    if_false _ _ other (inr (subst (λ k. PinsRefused (FoundFullIn old.state.tree k new.master.view) refusal) is (subst (λ (s : TreeLog). PinsRefused (FoundFullIn s.tree held new.master.view) refusal) same (go h))))
+-- a node below the top is one of the subtree
+within : (t : Tree) (top : Key) (m : MasterView) → FoundFullBelow t top m → FoundFullIn t top m
+within t top m f = (f.0, f.2, f.3)
+
+-- the removal of a call's own node was refused for a node that was found full, and not for memory
+full_in : (old new : Locked) (key : Key) (refusal : Refusal) → refusal ≢ NoMemory → same_key key old.state.root ≡ false → DoomRefused old new key refusal → (refusal ≡ TooManyHolds) × FoundFullIn old.state.tree key new.master.view
+full_in old new key refusal not_memory other h = go (is_linked old.state.tree key) h
+  where
+    at_pins : HoldsBelowRefused old.state.tree key new.master.view refusal → (refusal ≡ TooManyHolds) × FoundFullIn old.state.tree key new.master.view
+    at_pins p = elim p [ inl f ↦ (f.0, within old.state.tree key new.master.view f.1) | inr e ↦ absurd (not_memory e.0) ]
+
+    go : (b : Bool) → MatchBool b (MatchBool (same_key key old.state.root) (refusal ≡ Invalid) (HoldsBelowRefused old.state.tree key new.master.view refusal)) (refusal ≡ NoMemory) → (refusal ≡ TooManyHolds) × FoundFullIn old.state.tree key new.master.view
+    go true m = at_pins (MatchBool-at_false _ _ other m)
+    go false e = absurd (not_memory e)
+
+-- want of memory, where every node was looked at; and any other refusal of the doom
+pub self_refused : (old mid between new : Locked) (key held : Key) (why refusal : Refusal) → mid.state ≡ old.state → between.state.tree ≡ old.state.tree → held ≡ key → same_key key old.state.root ≡ false
+    → DoomRefused mid between held why
+    → (why ≡ NoMemory → HoldsInRefused between.state.tree key new.master.view refusal)
+    → (why ≢ NoMemory → (refusal ≡ why) × (new.master ≡ between.master))
+    → SelfRemovalRefused old new key refusal
+self_refused old mid between new key held why refusal same same' is other h memory stays = if_false _ _ other (inr (go (refusal_tells why)))
   where
     not_root : same_key held mid.state.root ≡ false
     not_root = ap (λ (s : TreeLog). same_key held s.root) same ∙ ap (λ k. same_key k old.state.root) is ∙ other
 
-    within : PinsRefused (FoundFullBelow mid.state.tree held new.master.view) refusal → PinsRefused (FoundFullIn mid.state.tree held new.master.view) refusal
-    within p = elim p [ inl f ↦ inl (f.0, (f.1.0, f.1.2, f.1.3)) | inr e ↦ inr e ]
+    moved : FoundFullIn mid.state.tree held between.master.view → why ≢ NoMemory → FoundFullIn old.state.tree key new.master.view
+    moved f n =
+        subst (λ (x : MasterState). FoundFullIn old.state.tree key x.view) (sym (stays n).1)
+        (subst (λ k. FoundFullIn old.state.tree k between.master.view) is (subst (λ (s : TreeLog). FoundFullIn s.tree held between.master.view) same f))
 
-    go : DoomRefused mid new held refusal → PinsRefused (FoundFullIn mid.state.tree held new.master.view) refusal
-    go = elim (is_linked mid.state.tree held)
-        as (λ b. MatchBool b (MatchBool (same_key held mid.state.root) (refusal ≡ Invalid) (PinsRefused (FoundFullBelow mid.state.tree held new.master.view) refusal)) (refusal ≡ NoMemory) → PinsRefused (FoundFullIn mid.state.tree held new.master.view) refusal) [
-          | true ↦ λ m. within (MatchBool-at_false _ _ not_root m)
-          | false ↦ λ e. inr e
-        ]
+    go : (why ≡ NoMemory) ⊎ (why ≢ NoMemory) → HoldsInRefused old.state.tree key new.master.view refusal
+    go t = elim t [
+      | inl e ↦ subst (λ (t : Tree). HoldsInRefused t key new.master.view refusal) same' (memory e)
+      | inr n ↦ (let f = full_in mid between held why n not_root h in inl ((stays n).0 ∙ f.0, moved f.1 n))
+    ]
 
-not_invalid : {P : Type 0} (Full : Type 0) → PinsRefused Full Invalid → P
-not_invalid Full p = elim p [ inl f ↦ absurd (cc (f.0)) | inr e ↦ absurd (cc (e)) ]
+-- a hold of the call's own node was refused
+pub held_refused : (old new : Locked) (held : MasterState) (key : Key) (why refusal : Refusal) → same_key key old.state.root ≡ false
+    → HeldPinRefused old.master.view key why held.view → (why ≡ TooManyHolds → FoundFull held.view key.slot)
+    → (why ≡ NoMemory → HoldsInRefused old.state.tree key new.master.view refusal) → (why ≢ NoMemory → (refusal ≡ why) × (new.master ≡ held)) → SelfRemovalRefused old new key refusal
+held_refused old new held key NoEntry refusal other h full memory stays = if_false _ _ other (inl ((stays (λ e. cc)).0, h.0))
+held_refused old new held key TooManyHolds refusal other h full memory stays =
+    let s = stays (λ e. cc) in
+    if_false _ _ other (inr (subst (λ r. HoldsInRefused old.state.tree key new.master.view r) (sym s.0) (top_full old.state.tree key new.master.view (subst (λ (x : MasterState). FoundFull x.view key.slot) (sym s.1) (full refl)))))
+held_refused old new held key NoMemory refusal other h full memory stays = if_false _ _ other (inr (memory refl))
+held_refused old new held key Access refusal other h full memory stays = absurd h
+held_refused old new held key Busy refusal other h full memory stays = absurd h
+held_refused old new held key Exists refusal other h full memory stays = absurd h
+held_refused old new held key NoDevice refusal other h full memory stays = absurd h
+held_refused old new held key NotDir refusal other h full memory stays = absurd h
+held_refused old new held key IsDir refusal other h full memory stays = absurd h
+held_refused old new held key Invalid refusal other h full memory stays = absurd h
+held_refused old new held key NoSpace refusal other h full memory stays = absurd h
+held_refused old new held key NameTooLong refusal other h full memory stays = absurd h
+
+not_invalid : {P : Type 0} (Full Room : Type 0) → PinsRefused Full Room Invalid → P
+not_invalid Full Room p = elim p [ inl f ↦ absurd (cc (f.0)) | inr e ↦ absurd (cc (e.0)) ]
 
 -- a removal that is refused as invalid is of the root, which has slot 0
 pub invalid_root : (table : TableId) (key : Key) (refusal : Refusal) → RemovalRefused table key refusal → refusal ≡ Invalid → key.slot ≡ 0
 invalid_root table key refusal w e = go (is_linked w.old.state.tree key) (same_key key w.old.state.root) refl (subst (λ r. DoomRefused w.old w.new key r) e w.why)
   where
-    go : (a b : Bool) → same_key key w.old.state.root ≡ b → MatchBool a (MatchBool b (Invalid ≡ Invalid) (PinsRefused (FoundFullBelow w.old.state.tree key w.new.master.view) Invalid)) (Invalid ≡ NoMemory) → key.slot ≡ 0
+    go : (a b : Bool) → same_key key w.old.state.root ≡ b → MatchBool a (MatchBool b (Invalid ≡ Invalid) (HoldsBelowRefused w.old.state.tree key w.new.master.view Invalid)) (Invalid ≡ NoMemory) → key.slot ≡ 0
     go true true is p = ap (λ (k : Key). k.slot) (same_key_is key w.old.state.root is) ∙ w.whole.tied.root
-    go true false is p = not_invalid _ p
+    go true false is p = not_invalid _ _ p
     go false b is p = absurd (cc (p))
 
 pub invalid_self_root : (table : TableId) (key : Key) (refusal : Refusal) → SelfRemovalWasRefused table key refusal → refusal ≡ Invalid → key.slot ≡ 0
 invalid_self_root table key refusal w e = go (same_key key w.old.state.root) refl (subst (λ r. SelfRemovalRefused w.old w.new key r) e w.why)
   where
-    go : (b : Bool) → same_key key w.old.state.root ≡ b → MatchBool b (Invalid ≡ Invalid) (((Invalid ≡ NoEntry) × (¬ IsLastKey w.old.master.view key)) ⊎ PinsRefused (FoundFullIn w.old.state.tree key w.new.master.view) Invalid) → key.slot ≡ 0
+    go : (b : Bool) → same_key key w.old.state.root ≡ b → MatchBool b (Invalid ≡ Invalid) (((Invalid ≡ NoEntry) × (¬ IsLastKey w.old.master.view key)) ⊎ HoldsInRefused w.old.state.tree key w.new.master.view Invalid) → key.slot ≡ 0
     go true is p = ap (λ (k : Key). k.slot) (same_key_is key w.old.state.root is) ∙ w.whole.tied.root
-    go false is p = elim p [ inl n ↦ absurd (cc (n.0)) | inr q ↦ not_invalid _ q ]
+    go false is p = elim p [ inl n ↦ absurd (cc (n.0)) | inr q ↦ not_invalid _ _ q ]

@@ -1,5 +1,5 @@
 -- Holds of a subtree, and what its doom makes of what the tree lock keeps.
-use Rattle.std.specs.Prelude.{◌≡◌, ◌≢◌, ◌⊎◌, List, [], ◌∷◌, ◌++◌, map, All, MatchBool, true}
+use Rattle.std.specs.Prelude.{◌≡◌, ◌≢◌, ◌⊎◌, ℕ, List, [], ◌∷◌, ◌++◌, map, All, MatchBool, true}
 use Rattle.kf_core.specs.declared.key.Key.{Key}
 use Rattle.kf_core.specs.declared.caller.Phase.TheVariants.{Still}
 use Rattle.kf_core.specs.declared.command.Command.TheVariants.{Doom}
@@ -12,7 +12,7 @@ use Rattle.kf_tree.specs.Causes.{doom_cause}
 use Rattle.kf_tree.specs.TreeLogs.{IsAccepted}
 use Rattle.kf_words.specs.declared.view.MasterView.{MasterView}
 use Rattle.kf_words.specs.Callers.{TableId, Handle}
-use Rattle.kf_words.specs.Nodes.{FoundFull, IsLastKey}
+use Rattle.kf_words.specs.Nodes.{FoundFull, FoundRoom, IsLastKey}
 use Rattle.kf_shared.specs.Locked.{Locked}
 
 abbrev pub keys_of : List Handle → List Key
@@ -46,18 +46,47 @@ FoundFullIn t top m = (key : Key) × (in_subtree t top key ≡ true) × FoundFul
 abbrev pub FoundFullBelow : Tree → Key → MasterView → Type 0
 FoundFullBelow t top m = (key : Key) × (key ≢ top) × (in_subtree t top key ≡ true) × FoundFull m key.slot
 
--- one of the nodes has no room for a hold; or there was no memory
-abbrev pub PinsRefused : Type 0 → Refusal → Type 0
-PinsRefused Full refusal = ((refusal ≡ TooManyHolds) × Full) ⊎ (refusal ≡ NoMemory)
+-- a linked node below the top
+pub record IsBelow (t : Tree) (top key : Key) : Type 0 where
+  pub other : key ≢ top
+  pub linked : is_linked t key ≡ true
+  pub below : in_subtree t top key ≡ true
 
--- it is the root, and else the pins were refused; where the node is no longer linked there was no memory
+-- of each linked node below the top a load found room for a hold more
+abbrev pub FoundRoomBelow : Tree → Key → MasterView → Type 0
+FoundRoomBelow t top m = (key : Key) → IsBelow t top key → FoundRoom m key.slot
+
+-- of the node of this slot, where it is below the top
+abbrev pub HasRoomIfBelow : Tree → Key → ℕ → MasterView → Type 0
+HasRoomIfBelow t top slot m = (key : Key) → key.slot ≡ slot → IsBelow t top key → FoundRoom m slot
+
+-- and of the top too
+abbrev pub FoundRoomIn : Tree → Key → MasterView → Type 0
+FoundRoomIn t top m = FoundRoom m top.slot × FoundRoomBelow t top m
+
+-- one of the nodes has no room for a hold; or each of them has, and there was no memory
+abbrev pub PinsRefused : Type 0 → Type 0 → Refusal → Type 0
+PinsRefused Full Room refusal = ((refusal ≡ TooManyHolds) × Full) ⊎ ((refusal ≡ NoMemory) × Room)
+
+-- holds of the nodes below the top were refused
+abbrev pub HoldsBelowRefused : Tree → Key → MasterView → Refusal → Type 0
+HoldsBelowRefused t top m refusal = PinsRefused (FoundFullBelow t top m) (FoundRoomBelow t top m) refusal
+
+-- holds of the whole subtree were refused
+abbrev pub HoldsInRefused : Tree → Key → MasterView → Refusal → Type 0
+HoldsInRefused t top m refusal = PinsRefused (FoundFullIn t top m) (FoundRoomIn t top m) refusal
+
+-- it is the root, and else the holds were refused; where the node is no longer linked there was no memory
 abbrev pub DoomRefused : Locked → Locked → Key → Refusal → Type 0
 DoomRefused old new key refusal = MatchBool (is_linked old.state.tree key)
-    (MatchBool (same_key key old.state.root) (refusal ≡ Invalid) (PinsRefused (FoundFullBelow old.state.tree key new.master.view) refusal))
+    (MatchBool (same_key key old.state.root)
+    (refusal ≡ Invalid)
+    (HoldsBelowRefused old.state.tree key new.master.view refusal))
     (refusal ≡ NoMemory)
 
--- it is the root; and else the slot has had a later node, or the pins were refused
+-- it is the root; and else the slot has had a later node, or the holds were refused
 abbrev pub SelfRemovalRefused : Locked → Locked → Key → Refusal → Type 0
 SelfRemovalRefused old new key refusal = MatchBool (same_key key old.state.root)
     (refusal ≡ Invalid)
-    (((refusal ≡ NoEntry) × (¬ IsLastKey old.master.view key)) ⊎ PinsRefused (FoundFullIn old.state.tree key new.master.view) refusal)
+    (((refusal ≡ NoEntry) × (¬ IsLastKey old.master.view key))
+    ⊎ HoldsInRefused old.state.tree key new.master.view refusal)

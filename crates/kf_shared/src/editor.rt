@@ -121,8 +121,8 @@ impl<N: Naming> Editor<'_, N> {
     ///
     /// Condition: the hold is of this table.
     ///
-    /// Refusals: first Invalid (the root); else TooManyHolds (a node below was found to have as many holds as there may
-    /// be) or NoMemory, whichever is met first. After a refusal nothing is marked, and the hold comes back.
+    /// Refusals, in order: Invalid (the root), TooManyHolds (a node below was found to have as many holds as there may
+    /// be), NoMemory (each was found to have room). After a refusal nothing is marked, and the hold comes back.
     pub fn doom(&mut self, hold: Hold) -> Result<Vec<Hold>, (Hold, Refusal)>
         requires table { hold.table ≡ N.table }
         ensures order { IfOk result (λ holds. DoomHolds self.old.state.tree hold holds.items) }

@@ -1,12 +1,13 @@
 //! Holds of several nodes.
-ghost use Rattle.std.specs.Prelude.{◌≡◌, ◌⊎◌, ◌<◌, ◌+◌, ◌≤◌, List, All, is_some, true, [], ◌∷◌, length, map, take, IfOk, IfErr, Contains, vec_capacity, vec_len};
+ghost use Rattle.std.specs.Prelude.{◌≡◌, ◌⊎◌, ◌<◌, ◌+◌, ◌≤◌, List, All, is_some, true, false, [], ◌∷◌, length, map, take, IfOk, IfErr, Contains, vec_capacity, vec_len};
 ghost use Rattle.kf_core.specs.declared.key.Key.{Key};
 ghost use Rattle.kf_core.specs.declared.refusal.Refusal.TheVariants as refusal_of;
-ghost use Rattle.kf_words.specs.Nodes.{KeepsNodes, FoundFull};
+ghost use Rattle.kf_words.specs.Nodes.{KeepsNodes, KeepsRooms, FoundFull};
 ghost use Rattle.kf_shared.specs.Agreement.{marks_at};
-ghost use Rattle.kf_shared.specs.Removal.{keys_of, IsStill};
+ghost use Rattle.kf_shared.specs.Removal.{keys_of, IsStill, FoundFullBelow, HasRoomIfBelow, HoldsBelowRefused};
 
 use kf_core::{Key, Refusal};
+use kf_tree::State;
 use kf_words::{Hold, Master};
 use std::alloc::Global;
 
@@ -40,6 +41,39 @@ pub fn pin_each(master: &mut Master, alloc: Global, keys: &[Key]) -> Result<Vec<
         }
     }
     Ok(holds)
+}
+
+/// Whether one load finds the node of this slot full, where it is below the top.
+fn finds_full_below(state: &State, master: &mut Master, top: Key, slot: u32) -> bool
+    requires slots { length master.old.view.slots ≡ length state.now.tree }
+    ensures kept { KeepsNodes master.old master.new }
+    ensures rooms { KeepsRooms master.old.view master.new.view }
+    ensures full { result ≡ true → FoundFullBelow state.now.tree top master.new.view }
+    ensures room { result ≡ false → HasRoomIfBelow state.now.tree top slot master.new.view }
+{
+    let Some(key) = state.key_in(slot) else {
+        return false;
+    };
+    if key == top || master.room(key) {
+        return false;
+    }
+    state.is_below(top, key)
+}
+
+/// What a removal answers where memory was refused: TooManyHolds where a node below the top is found full, and
+/// NoMemory where each is found to have room. It takes no memory.
+pub fn full_or_no_memory(state: &State, master: &mut Master, top: Key) -> Refusal
+    requires slots { length master.old.view.slots ≡ length state.now.tree }
+    ensures kept { KeepsNodes master.old master.new }
+    ensures rooms { KeepsRooms master.old.view master.new.view }
+    ensures refused { HoldsBelowRefused state.now.tree top master.new.view result }
+{
+    for slot in 0..state.slots() {
+        if finds_full_below(state, master, top, slot) {
+            return Refusal::TooManyHolds;
+        }
+    }
+    Refusal::NoMemory
 }
 
 /// The hold alone.

@@ -1,5 +1,5 @@
 //! The doom of a subtree: holds of all its nodes first, then the marks.
-ghost use Rattle.std.specs.Prelude.{◌≡◌, ◌<◌, ◌≤◌, ◌+◌, ◌++◌, ◌∷◌, [], IfOk, IfErr, OnOk, OnErr, All, true, false, not, vec_capacity, vec_len, slice_set};
+ghost use Rattle.std.specs.Prelude.{◌≡◌, ◌≢◌, ◌<◌, ◌≤◌, ◌+◌, ◌++◌, ◌∷◌, [], IfOk, IfErr, OnOk, OnErr, All, true, false, not, vec_capacity, vec_len, slice_set};
 ghost use Rattle.kf_core.specs.declared.command.Command.TheVariants.{Doom};
 ghost use Rattle.kf_core.specs.declared.caller.Phase.TheVariants as phase_of;
 ghost use Rattle.kf_core.specs.declared.refusal.Refusal.TheVariants as refusal_of;
@@ -9,17 +9,47 @@ ghost use Rattle.kf_core.specs.Tree.{is_linked};
 ghost use Rattle.kf_tree.specs.Causes.{doom_cause};
 ghost use Rattle.kf_tree.specs.TreeLogs.{IsAccepted};
 ghost use Rattle.kf_words.specs.Callers.{Handle, IsSameSeat};
+ghost use Rattle.kf_words.specs.Nodes.{IsLastKey};
 ghost use Rattle.kf_shared.specs.Locked.{Unchanged, is_claimed};
-ghost use Rattle.kf_shared.specs.Removal.{keys_of, IsStill, AreHolds, DoomHolds, DoomDone, DoomMarked, DoomRefused, SelfRemovalRefused};
+ghost use Rattle.kf_shared.specs.Removal.{keys_of, IsStill, AreHolds, DoomHolds, DoomDone, DoomMarked, DoomRefused, HoldsInRefused, SelfRemovalRefused};
 
 use crate::locked::Locked;
 use crate::marking::doom_each;
 use crate::naming::Naming;
-use crate::pinning::{alone, pin_each, release_each};
+use crate::pinning::{alone, full_or_no_memory, pin_each, release_each};
 use kf_core::{Key, Refusal};
 use kf_words::{Call, Hold, Parted};
 
 impl<N: Naming> Locked<N> {
+    /// Why the doom of a linked node is refused, where memory was: TooManyHolds where a node below is found full, and
+    /// NoMemory where each is found to have room.
+    fn full_or_no_memory(&mut self, key: Key) -> Refusal
+        requires linked { is_linked self.old.state.tree key ≡ true }
+        requires not_root { same_key key self.old.state.root ≡ false }
+        ensures refused { DoomRefused self.old self.new key result }
+        ensures state { self.new.state ≡ self.old.state }
+        ensures same { Unchanged self.old self.new }
+    {
+        full_or_no_memory(&self.state, &mut self.master, key)
+    }
+
+    /// The refusal of a self-removal, where want of memory comes after a node that is found full, its own among them.
+    fn memory_last(&mut self, key: Key, refusal: Refusal) -> Refusal
+        requires last { refusal ≡ refusal_of.NoMemory → IsLastKey self.old.master.view key }
+        ensures memory { refusal ≡ refusal_of.NoMemory →
+            HoldsInRefused self.old.state.tree key self.new.master.view result }
+        ensures other { refusal ≢ refusal_of.NoMemory → (result ≡ refusal) × (self.new ≡ self.old) }
+        ensures same { Unchanged self.old self.new }
+    {
+        if refusal != Refusal::NoMemory {
+            return refusal;
+        }
+        if !self.master.room(key) {
+            return Refusal::TooManyHolds;
+        }
+        full_or_no_memory(&self.state, &mut self.master, key)
+    }
+
     /// The post-order of a node's subtree, and a new hold of each node below it. Nothing is marked yet.
     fn pin_below(&mut self, key: Key) -> Result<(Vec<Key>, Vec<Hold>), Refusal>
         requires linked { is_linked self.old.state.tree key ≡ true }
@@ -32,14 +62,15 @@ impl<N: Naming> Locked<N> {
         ensures state { self.new.state ≡ self.old.state }
         ensures same { Unchanged self.old self.new }
     {
-        if key == self.state.root() {
-            return Err(Refusal::Invalid);
-        }
-        let order = self.state.post_order(key)?;
+        self.state.may_doom(key)?;
+        let Ok(order) = self.state.post_order(key) else {
+            return Err(self.full_or_no_memory(key));
+        };
         let below = &order.as_slice()[..order.len() - 1];
         match pin_each(&mut self.master, self.alloc, below) {
             Ok(pins) => Ok((order, pins)),
-            Err(refusal) => Err(refusal),
+            Err(Refusal::TooManyHolds) => Err(Refusal::TooManyHolds),
+            Err(_) => Err(self.full_or_no_memory(key)),
         }
     }
 
@@ -90,7 +121,10 @@ impl<N: Naming> Locked<N> {
             return alone(self.alloc, hold);
         }
         match self.pin_below(key) {
-            Ok((order, pins)) => self.mark(order.as_slice(), pins, hold),
+            Ok((order, pins)) => match self.mark(order.as_slice(), pins, hold) {
+                Ok(holds) => Ok(holds),
+                Err((back, _)) => Err((back, self.full_or_no_memory(key))),
+            },
             Err(refusal) => Err((hold, refusal)),
         }
     }
@@ -123,9 +157,12 @@ impl<N: Naming> Locked<N> {
             Ok((order, pins)) => {
                 if receipts.reserve(pins.len() + 1).is_err() {
                     release_each(pins);
-                    return Err((hold, Refusal::NoMemory));
+                    return Err((hold, self.full_or_no_memory(key)));
                 }
-                self.mark(order.as_slice(), pins, hold)
+                match self.mark(order.as_slice(), pins, hold) {
+                    Ok(holds) => Ok(holds),
+                    Err((back, _)) => Err((back, self.full_or_no_memory(key))),
+                }
             }
             Err(refusal) => Err((hold, refusal)),
         }
@@ -155,7 +192,10 @@ impl<N: Naming> Locked<N> {
         if key == self.state.root() {
             return Err(Refusal::Invalid);
         }
-        let hold = self.master.pin_held(call)?;
+        let hold = match self.master.pin_held(call) {
+            Ok(hold) => hold,
+            Err(refusal) => return Err(self.memory_last(key, refusal)),
+        };
         match self.start_removal(hold, receipts) {
             Ok(holds) => {
                 let first = self.claim(key);
@@ -164,7 +204,7 @@ impl<N: Naming> Locked<N> {
             }
             Err((hold, refusal)) => {
                 hold.release();
-                Err(refusal)
+                Err(self.memory_last(key, refusal))
             }
         }
     }

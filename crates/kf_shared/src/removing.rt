@@ -69,8 +69,8 @@ impl<N: Naming> SharedTree<N> {
     ///
     /// Condition: the hold is of this tree's table.
     ///
-    /// Refusals: first Invalid (the root); else TooManyHolds (a node below was found to have as many holds as there may
-    /// be) or NoMemory, whichever is met first. After a refusal nothing is marked, and the hold comes back as it was.
+    /// Refusals, in order: Invalid (the root), TooManyHolds (a node below was found to have as many holds as there may
+    /// be), NoMemory (each was found to have room). After a refusal nothing is marked, and the hold comes back as it was.
     pub fn remove<R: Wait>(&self, rt: &R, hold: Hold) -> Result<Vec<Parted>, (Hold, Refusal)>
         requires table { hold.table ≡ N.table }
         ensures tables { IfOk result (λ receipts. AreOf N.table receipts.items) }
@@ -104,9 +104,9 @@ impl<N: Naming> SharedTree<N> {
     ///
     /// Conditions: the call is Running, and of this tree's table. After an answer it is Restored.
     ///
-    /// Refusals: first Invalid (the root), then NoEntry (the slot has had a later node); else TooManyHolds or NoMemory,
-    /// whichever is met first. After a
-    /// refusal the call is as it was, nothing is marked, and the node is not claimed.
+    /// Refusals, in order: Invalid (the root), NoEntry (the slot has had a later node), TooManyHolds (a node of the subtree
+    /// was found to have as many holds as there may be), NoMemory (each was found to have room). After a refusal the call is
+    /// as it was, nothing is marked, and the node is not claimed.
     pub fn remove_self<R: Wait>(
         &self,
         rt: &R,

@@ -1,7 +1,7 @@
 -- What stands apart before a node, when a walk goes down to a child, on to a sibling, or up.
-use Rattle.std.proofs.Common.{◌≡◌, ◌≢◌, ◌⊎◌, inl, inr, ℕ, zero, suc, ◌+◌, ◌-◌, ◌<◌, ◌≤◌, refl, ap, arith, sym, ◌∙◌, subst, true, false, List}
-use Rattle.std.specs.Prelude.{Option, None, Some, IsTrue, ◌↔◌}
-use Rattle.std.proofs.lemmas.Option.{same_Some, none-some}
+use Rattle.std.proofs.Common.{◌≡◌, ◌⊎◌, inl, inr, ℕ, zero, suc, ◌+◌, ◌-◌, ◌≤◌, refl, ap, arith, sym, ◌∙◌, true, false}
+use Rattle.std.specs.Prelude.{None, Some, ◌↔◌}
+use Rattle.std.proofs.lemmas.Option.{same_Some}
 use Rattle.kf_core.specs.declared.key.Key.{Key}
 use Rattle.kf_core.specs.declared.records.Record.{Record}
 use Rattle.kf_core.specs.Tree.{Tree, parent_of, ancestor, in_subtree, IsIn}
@@ -9,8 +9,8 @@ use Rattle.kf_core.specs.Lawful.{Lawful}
 use Rattle.kf_core.specs.PostOrder.{AreApart, StandsBefore}
 use Rattle.kf_core.proofs.Climbs.{first_step, after_step, climb_rest, climb_cut}
 use Rattle.kf_core.proofs.FoundRecords.{found_in, parent_known, met_parent, met_linked, subtree_to, subtree_from, same_record}
-use Rattle.kf_tree.specs.Next.{before, above, IsNext}
-use Rattle.kf_tree.proofs.Next.{before_less, less_before, before_not_self, before_trans, before_ties, before_skip}
+use Rattle.kf_tree.specs.Next.{before, IsNext}
+use Rattle.kf_tree.proofs.Next.{before_less, less_before, before_not_self, before_trans, before_ties}
 use Rattle.kf_tree.proofs.PostOrder.{child_below, lt_or_le}
 
 module _ (t : Tree) (root : Key) (l : Lawful t root) where

@@ -1,7 +1,7 @@
 -- What follows where a rename has no cause against it.
 use Rattle.std.proofs.Common.{Bool, ◌≡◌, ℕ, refl, ap, sym, ◌∙◌, true, false, cond, List, [], ◌∷◌}
 use Rattle.std.specs.Prelude.{Option, None, Some, not, ◌&&◌}
-use Rattle.std.specs.Option.{option_map, option_map_or}
+use Rattle.std.specs.Option.{option_map_or}
 use Rattle.kf_core.specs.declared.key.Key.{Key}
 use Rattle.kf_core.specs.declared.slot.Marks.{Marks}
 use Rattle.kf_core.specs.declared.records.Record.{Record}

@@ -1,17 +1,15 @@
 -- The way up from a directory to the first one that is over a target, with a second way up from the target beside it.
-use Rattle.std.proofs.Common.{◌≡◌, ◌≢◌, ◌⊎◌, inl, inr, ℕ, zero, suc, ◌+◌, ◌-◌, ◌<◌, ◌≤◌, refl, ap, arith, sym, ◌∙◌, subst, Bool, true, false, List, [], ◌∷◌, ◌++◌, length}
-use Rattle.std.specs.Prelude.{Option, None, Some, is_some, IsTrue}
+use Rattle.std.proofs.Common.{◌≡◌, ◌≢◌, ◌⊎◌, inl, inr, ℕ, zero, suc, ◌+◌, ◌-◌, ◌<◌, ◌≤◌, refl, ap, arith, sym, ◌∙◌, subst, true, length}
+use Rattle.std.specs.Prelude.{None, Some, is_some, IsTrue}
 use Rattle.std.proofs.lemmas.Option.{same_Some, none-some}
 use Rattle.kf_core.specs.declared.key.Key.{Key}
-use Rattle.kf_core.specs.declared.records.Record.{Record}
-use Rattle.kf_core.specs.Tree.{Tree, is_linked, parent_of, ancestor, in_subtree, IsIn}
-use Rattle.kf_core.specs.Lawful.{root_record, Lawful}
+use Rattle.kf_core.specs.Tree.{Tree, is_linked, parent_of, ancestor, in_subtree}
+use Rattle.kf_core.specs.Lawful.{Lawful}
 use Rattle.kf_core.proofs.Climbs.{first_step, after_step, climb_rest, climb_unique}
-use Rattle.kf_core.proofs.FoundRecords.{in_found, found_in, linked_here, known_parent, parent_known, root_parent, root_met, root_found, way_shorter, subtree_to, subtree_from}
+use Rattle.kf_core.proofs.FoundRecords.{linked_here, known_parent, parent_known, root_parent, root_met, root_found, way_shorter, subtree_to, subtree_from}
 use Rattle.kf_tree.specs.Links.{IsOver}
-use Rattle.kf_tree.specs.Ways.{HasUps}
 use Rattle.kf_tree.proofs.Apart.{sub_self, sub_up}
-use Rattle.kf_tree.proofs.Over.{HasClimbed, climbed_none, climbed_next, climbed_end, one_more, parent_linked}
+use Rattle.kf_tree.proofs.Over.{one_more, parent_linked}
 
 -- the key is so many steps below the root
 abbrev pub IsDeep : Tree → Key → ℕ → Key → Type 0

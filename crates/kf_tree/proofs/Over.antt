@@ -1,20 +1,19 @@
 -- The way up from a directory to the first one that is over a target.
-use Rattle.std.proofs.Common.{◌≡◌, ◌≢◌, ◌⊎◌, inl, inr, ℕ, zero, suc, ◌+◌, ◌<◌, refl, ap, arith, sym, ◌∙◌, subst, Bool, true, false, not, List, [], ◌∷◌, ◌++◌, append_assoc}
-use Rattle.std.specs.Prelude.{Option, None, Some, is_some, IsTrue, MatchBool, count_by}
+use Rattle.std.proofs.Common.{◌≡◌, ◌⊎◌, inl, inr, ℕ, zero, suc, ◌+◌, ◌<◌, refl, ap, arith, sym, ◌∙◌, subst, true, false, List, [], ◌∷◌, ◌++◌, append_assoc}
+use Rattle.std.specs.Prelude.{Option, None, Some, is_some, IsTrue, count_by}
 use Rattle.std.proofs.lemmas.Option.{same_Some}
 use Rattle.std.proofs.lemmas.List.{append-nil}
 use Rattle.kf_core.specs.declared.key.Key.{Key}
 use Rattle.kf_core.specs.declared.records.Record.{Record}
-use Rattle.kf_core.specs.Keys.{same_key}
 use Rattle.kf_core.specs.Tree.{Tree, is_linked, parent_of, ancestor, in_subtree, IsIn}
 use Rattle.kf_core.specs.Lawful.{Lawful}
 use Rattle.kf_tree.specs.Links.{IsOver, ups}
 use Rattle.kf_tree.specs.Subtrees.{is_over_key}
 use Rattle.kf_tree.specs.Ways.{HasUps}
-use Rattle.kf_core.proofs.Climbs.{same_key_is, same_key_self, after_step, climb_rest, no_return}
+use Rattle.kf_core.proofs.Climbs.{after_step, climb_rest}
 use Rattle.kf_core.proofs.Lists.{count_less}
 use Rattle.kf_tree.proofs.PostOrder.{child_below}
-use Rattle.kf_core.proofs.FoundRecords.{linked_here, known_parent, root_parent, root_met, subtree_to, subtree_from}
+use Rattle.kf_core.proofs.FoundRecords.{linked_here, known_parent, root_met, subtree_to, subtree_from}
 
 -- the base is so many steps up from the directory, none of those below is over the target, and the text grew by `../` for each
 pub record HasClimbed (t : Tree) (root dir target base : Key) (old new : List ℕ) : Type 0 where

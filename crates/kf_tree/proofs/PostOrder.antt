@@ -1,19 +1,15 @@
 -- Lists in order, bounds, and records below others.
-use Rattle.std.proofs.Common.{◌≡◌, ◌⊎◌, inl, inr, ℕ, zero, suc, ◌+◌, ◌-◌, ◌<◌, ◌≤◌, refl, ap, arith, sym, ◌∙◌, subst, true, false, List, [], ◌∷◌, ◌++◌, length, length-append, take, drop, get_or, lit<, append_assoc}
-use Rattle.std.specs.Prelude.{Option, None, Some, is_some, AllPairs, Contains, IsTrue}
-use Rattle.std.proofs.lemmas.Option.{same_Some}
-use Rattle.std.proofs.lemmas.List.{get_or_default, get_or_append_left, get_or-append_right, take_rest}
-use Rattle.std.proofs.lemmas.List.Elements.{Contains-append_left, Contains-append_right, Contains-append_cases}
+use Rattle.std.proofs.Common.{◌≡◌, ◌⊎◌, inl, inr, ℕ, zero, suc, ◌+◌, ◌-◌, ◌<◌, ◌≤◌, refl, arith, sym, ◌∙◌, subst, true, false, List, ◌++◌, length, length-append, get_or}
+use Rattle.std.specs.Prelude.{Option, None, Some, AllPairs, Contains}
+use Rattle.std.proofs.lemmas.List.{get_or_default, get_or_append_left, get_or-append_right}
 use Rattle.kf_core.specs.declared.key.Key.{Key}
 use Rattle.kf_core.specs.declared.records.Record.{Record}
-use Rattle.kf_core.specs.Tree.{Tree, is_linked, parent_of, ancestor, in_subtree, IsIn}
+use Rattle.kf_core.specs.Tree.{Tree, parent_of, in_subtree, IsIn}
 use Rattle.kf_core.specs.Lawful.{Lawful}
-use Rattle.kf_core.specs.PostOrder.{StandsBefore, IsPostOrder}
-use Rattle.kf_tree.specs.Ends.{EndsWith}
-use Rattle.kf_tree.specs.Next.{before, above, IsNext, AreNext}
-use Rattle.kf_core.proofs.Climbs.{after_step, climb_rest, no_return}
-use Rattle.kf_core.proofs.FoundRecords.{in_found, parent_known, linked_here, met_parent, root_parent, root_met, subtree_to, subtree_from, way_shorter}
-use Rattle.kf_tree.proofs.Next.{before_less, before_not_self, before_trans, before_ties, before_skip}
+use Rattle.kf_tree.specs.Next.{before, above}
+use Rattle.kf_core.proofs.Climbs.{after_step, no_return}
+use Rattle.kf_core.proofs.FoundRecords.{parent_known, root_parent, root_met, subtree_to}
+use Rattle.kf_tree.proofs.Next.{before_trans, before_skip}
 
 pub lt_or_le : (a b : ℕ) → (a < b) ⊎ (b ≤ a)
 lt_or_le a zero = inr (omega arith)

@@ -1,16 +1,16 @@
 -- The walk over a tree in pre-order.
-use Rattle.std.proofs.Common.{◌≡◌, ◌≢◌, ◌⊎◌, inl, inr, ℕ, zero, suc, ◌+◌, ◌-◌, ◌<◌, ◌≤◌, refl, ap, arith, sym, ◌∙◌, subst, true, false, List, [], ◌∷◌, ◌++◌, length, get_or, lit<}
-use Rattle.std.specs.Prelude.{Bool, Option, None, Some, is_some, IfNone, IsTrue, ◌↔◌, Contains, AllPairs, count_by}
+use Rattle.std.proofs.Common.{◌≡◌, ◌≢◌, ◌⊎◌, inl, inr, ℕ, zero, suc, ◌<◌, ◌≤◌, refl, ap, arith, sym, ◌∙◌, subst, true, false, List, [], ◌∷◌, ◌++◌, length, get_or, lit<}
+use Rattle.std.specs.Prelude.{Option, None, Some, is_some, IfNone, IsTrue, ◌↔◌, Contains, AllPairs, count_by}
 use Rattle.std.proofs.lemmas.Option.{same_Some, none-some}
 use Rattle.std.proofs.lemmas.List.Elements.{Contains-append_left, Contains-append_right, Contains-append_cases}
 use Rattle.kf_core.specs.declared.key.Key.{Key}
 use Rattle.kf_core.specs.declared.records.Record.{Record}
 use Rattle.kf_core.specs.Tree.{Tree, is_linked, parent_of, record_at, ancestor, in_subtree, IsIn}
-use Rattle.kf_core.specs.Lawful.{Lawful, root_record}
-use Rattle.kf_core.specs.PostOrder.{AreApart, StandsBefore}
+use Rattle.kf_core.specs.Lawful.{Lawful}
+use Rattle.kf_core.specs.PostOrder.{AreApart}
 use Rattle.kf_core.proofs.Climbs.{keys_tell, first_step}
 use Rattle.kf_core.proofs.FoundRecords.{in_found, found_in, linked_here, parent_known, root_parent, root_met, root_found, subtree_to, subtree_from}
-use Rattle.kf_tree.specs.Next.{before, above, IsNext, AreNext, NoneAbove}
+use Rattle.kf_tree.specs.Next.{IsNext, AreNext, NoneAbove}
 use Rattle.kf_tree.specs.Subtrees.{is_over_key}
 use Rattle.kf_tree.specs.Canonical.{Precedes, IsPreOrder}
 use Rattle.kf_tree.specs.Walks.{IsNextInPreOrder, IsLastInPreOrder}

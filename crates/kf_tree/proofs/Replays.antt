@@ -1,7 +1,7 @@
 -- The replay of a tree's canonical list is the tree.
-use Rattle.std.proofs.Common.{◌≡◌, ◌≢◌, ◌⊎◌, inl, inr, ℕ, zero, suc, ◌+◌, ◌-◌, ◌<◌, ◌≤◌, refl, ap, arith, sym, ◌∙◌, subst, Bool, true, false, cond, List, [], ◌∷◌, ◌++◌, length, get_or, slice_set, lit<, replicate}
-use Rattle.std.specs.Prelude.{Option, None, Some, is_some, not, ◌&&◌, ◌||◌, IsTrue, ◌↔◌, Contains, map, slice_get}
-use Rattle.std.specs.Option.{option_map, option_map_or, option_and_then}
+use Rattle.std.proofs.Common.{◌≡◌, ◌⊎◌, inl, inr, ℕ, zero, suc, ◌≤◌, refl, ap, arith, sym, ◌∙◌, Bool, true, false, cond, List, [], ◌∷◌, ◌++◌, length, get_or, replicate}
+use Rattle.std.specs.Prelude.{Option, None, Some, is_some, not, ◌&&◌, ◌||◌, Contains, map, slice_get}
+use Rattle.std.specs.Option.{option_map, option_map_or}
 use Rattle.std.proofs.lemmas.Option.{same_Some, none-some, slice_get_within, slice_get_past, slice_get-get_or, slice_get-map}
 use Rattle.std.proofs.lemmas.List.{length-map}
 use Rattle.std.proofs.lemmas.Bool.Decides.{eqb_tells}
@@ -11,14 +11,14 @@ use Rattle.kf_core.specs.declared.command.Command.{Command}
 use Rattle.kf_core.specs.declared.command.Command.TheVariants.{Create, Doom, Hide}
 use Rattle.kf_core.specs.Keys.{same_key}
 use Rattle.kf_core.specs.Marks.{are_doomed}
-use Rattle.kf_core.specs.Tree.{Tree, record_at, is_linked, parent_of, meets, ancestor, in_subtree, IsIn}
+use Rattle.kf_core.specs.Tree.{Tree, record_at, parent_of, meets, ancestor, in_subtree, IsIn}
 use Rattle.kf_core.specs.Lawful.{root_record, Lawful}
 use Rattle.kf_core.specs.Commands.{after, replay, root_alone, new_record, doomed_record, hidden_record}
-use Rattle.kf_core.proofs.Climbs.{keys_tell, same_key_self, same_key_is, first_step, climb_rest, after_step}
-use Rattle.kf_core.proofs.FoundRecords.{in_found, found_in, linked_here, parent_known, root_found, subtree_to, subtree_from, root_met, same_record}
+use Rattle.kf_core.proofs.Climbs.{same_key_self, same_key_is, first_step}
+use Rattle.kf_core.proofs.FoundRecords.{in_found, found_in, parent_known, root_found, subtree_to, root_met, same_record}
 use Rattle.kf_core.proofs.Lists.{slice_get-set_same, slice_get-set_other, length_set}
 use Rattle.kf_tree.specs.Causes.{doomed_in, hidden_in}
-use Rattle.kf_tree.specs.Canonical.{collected, creation, create_of, is_doomed_top, doom_of, hide_of, IsPreOrder, IsCanonical}
+use Rattle.kf_tree.specs.Canonical.{collected, creation, create_of, is_doomed_top, doom_of, hide_of, IsPreOrder}
 use Rattle.kf_tree.proofs.Marked.{KeepsPlace, parent_mapped}
 use Rattle.kf_tree.proofs.Apart.{dir_of, sub_self, sub_parent, sub_trans}
 use Rattle.kf_tree.proofs.Opening.{empty_there, length_empty}

@@ -1,7 +1,6 @@
 -- A walk over a subtree from node to node.
-use Rattle.std.proofs.Common.{◌≡◌, ◌≢◌, ◌⊎◌, inl, inr, ℕ, zero, suc, ◌+◌, ◌-◌, ◌<◌, ◌≤◌, refl, ap, arith, sym, ◌∙◌, subst, true, false, List, [], ◌∷◌, ◌++◌, length, get_or, lit<}
-use Rattle.std.specs.Prelude.{Bool, not, ◌||◌, Option, None, Some, is_some, IsTrue, ◌↔◌, Contains, AllPairs, count_by, slice_get}
-use Rattle.std.proofs.lemmas.Option.{same_Some, none-some}
+use Rattle.std.proofs.Common.{◌≡◌, ◌≢◌, ◌⊎◌, inl, inr, ℕ, zero, suc, ◌-◌, ◌<◌, ◌≤◌, refl, ap, arith, sym, ◌∙◌, subst, true, false, List, [], ◌∷◌, ◌++◌, length, get_or, lit<}
+use Rattle.std.specs.Prelude.{Bool, not, ◌||◌, Option, None, Some, is_some, IsTrue, ◌↔◌, Contains, AllPairs, count_by}
 use Rattle.std.proofs.lemmas.List.Sums.{count_by-le-length}
 use Rattle.kf_core.specs.declared.key.Key.{Key}
 use Rattle.kf_core.specs.declared.records.Record.{Record}
@@ -10,7 +9,7 @@ use Rattle.kf_core.specs.Lawful.{Lawful}
 use Rattle.kf_core.specs.PostOrder.{AreApart, StandsBefore}
 use Rattle.kf_core.proofs.Climbs.{keys_tell, same_key_self}
 use Rattle.kf_core.proofs.FoundRecords.{in_found, found_in, linked_here, parent_known}
-use Rattle.kf_tree.specs.Next.{before, above, IsNext, AreNext, NoneAbove}
+use Rattle.kf_tree.specs.Next.{IsNext, AreNext, NoneAbove}
 use Rattle.kf_tree.specs.Subtrees.{is_over_key}
 use Rattle.kf_core.specs.Keys.{same_key}
 use Rattle.kf_core.specs.PostOrder.{IsPostOrder}

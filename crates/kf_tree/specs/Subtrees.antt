@@ -1,12 +1,14 @@
 -- A subtree's keys one after another, and changes of its records slot by slot.
-use Rattle.std.specs.Prelude.{◌≡◌, ℕ, ◌+◌, Bool, false, not, List, ◌++◌, Option, None, Some, slice_get, slice_set, fold, count_by, if◌then◌else◌}
+use Rattle.std.specs.Prelude.{ℕ, ◌+◌, Bool, false, not, List, Option, None, Some, slice_get, slice_set, fold, count_by, if◌then◌else◌}
 use Rattle.std.specs.Option.{option_map, option_and_then, option_map_or}
 use Rattle.kf_core.specs.declared.key.Key.{Key}
 use Rattle.kf_core.specs.declared.records.Record.{Record}
 use Rattle.kf_core.specs.Tree.{Tree, in_subtree}
 use Rattle.kf_core.specs.Commands.{activated_record}
-use Rattle.kf_core.specs.PostOrder.{IsPostOrder}
-use Rattle.kf_tree.specs.Ends.{EndsWith}
+
+-- the key of the record in a slot
+abbrev pub key_in : Tree → ℕ → Option Key
+key_in t slot = option_map (λ r. r.key) (option_and_then (λ r. r) (slice_get t slot))
 
 -- whether the slot has the key itself, or a record above it
 abbrev pub is_over_key : Tree → Key → Option Record → Bool

@@ -1,5 +1,5 @@
 -- What the Master knows of a slot and of its keys, and a search load by load.
-use Rattle.std.proofs.Common.{◌≡◌, ℕ, zero, suc, get_or, slice_set, ◌+◌, ◌<◌, ◌≤◌, ◌/◌, true, false, List, [], ◌∷◌, ◌++◌, length, refl, sym, ap, ◌∙◌, arith}
+use Rattle.std.proofs.Common.{◌≡◌, ℕ, zero, suc, get_or, slice_set, ◌+◌, ◌<◌, ◌≤◌, ◌/◌, true, false, List, [], ◌∷◌, ◌++◌, length, refl, sym, ap, ◌∙◌, arith, subst}
 use Rattle.std.specs.Prelude.{slice_get, Option, Some, None, is_some}
 use Rattle.std.specs.Option.{option_map}
 use Rattle.std.proofs.lemmas.Option.{slice_get_within, get_or_from_slice_get, none-some, same_Some}
@@ -13,7 +13,7 @@ use Rattle.kf_words.specs.declared.view.MasterView.{MasterView}
 use Rattle.kf_words.specs.Layout.{IsFree}
 use Rattle.kf_words.specs.Rule.{last_key}
 use Rattle.kf_words.specs.Steps.{with_load, without_node, state_at, no_state, TellsSlot}
-use Rattle.kf_words.specs.Nodes.{NoneFree, with_loads, IsLastKey, HasNext, marks_of, slots_with}
+use Rattle.kf_words.specs.Nodes.{FoundRoom, KeepsRooms, NoneFree, with_loads, IsLastKey, HasNext, marks_of, slots_with}
 use Rattle.kf_words.proofs.Bits.{free_unlinked}
 use Rattle.kf_words.proofs.MasterAllowed.{state_there}
 
@@ -24,6 +24,16 @@ none_free_more s (l ∷ ls) x n at free = (n.0, n.1, none_free_more (s + 1) ls x
 pub with_loads_more : (loads : List Load) (x : Load) (m : MasterView) → with_loads (loads ++ x ∷ []) m ≡ with_load x.slot x.word (with_loads loads m)
 with_loads_more [] x m = refl
 with_loads_more (l ∷ ls) x m = with_loads_more ls x (with_load l.slot l.word m)
+
+still_there : {X : Type 0} (xs ys : List X) (i : ℕ) (x : X) → slice_get xs i ≡ Some x → slice_get (xs ++ ys) i ≡ Some x
+still_there [] ys i x h = absurd (none-some x h)
+still_there (y ∷ xs) ys zero x h = h
+still_there (y ∷ xs) ys (suc i) x h = still_there xs ys i x h
+
+-- one load more leaves what was found before
+pub rooms_kept : (m m' : MasterView) (slot found : ℕ) → m' ≡ with_load slot found m → KeepsRooms m m'
+rooms_kept m m' slot found is s f =
+    subst (λ (w : MasterView). FoundRoom w s) (sym is) (f.0, f.1, still_there m.loads (record { slot = slot; word = found } ∷ []) f.0 f.1 f.2, f.3, f.4)
 
 pub with_loads_slots : (loads : List Load) (m : MasterView) → (with_loads loads m).slots ≡ m.slots
 with_loads_slots [] m = refl

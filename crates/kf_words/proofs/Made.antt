@@ -19,12 +19,17 @@ use Rattle.kf_words.specs.Runs.{Table, WasLetInLive, world, Kind, tries, undoes,
 use Rattle.kf_words.proofs.Seating.{caller_seat}
 use Rattle.kf_words.proofs.WordSteps.{word_step, world_is, at_seat, in_world}
 use Rattle.kf_words.proofs.Runs.{let_in_live}
+use Rattle.kf_words.proofs.MasterAllowed.{on_word}
 use Rattle.kf_words.proofs.CallerAllowed.{no_step, try_allowed, undo_allowed, leave_allowed, break_allowed, restore_allowed, look_allowed, release_allowed, part_allowed, hide_allowed, look_hidden_allowed, show_allowed}
 
 put : {A : Type 0} (l : List A) (k : ℕ) (a b : A) → get_elem? l k ≡ some a → get_elem? (set l k b) k ≡ some b
 put [] k a b e = absurd (some-ne-none a (sym e))
 put (x ∷ xs) zero a b e = refl
 put (x ∷ xs) (suc k) a b e = put xs k a b e
+
+-- what a step on the word i tells, where that is the word of this index of the caller's slot
+abbrev pub MadeAt : (ℕ → ℕ) → ℕ → Seated → (ℕ → Kind) → (ℕ → Seated → Type 0) → ℕ → Seated → Type 0
+MadeAt index i me kind told n me' = (i ≡ index (caller_of me.0).key.slot) × (told n me' × WasMade kind (caller_of me.0) (caller_of me'.0))
 
 module _ (count limit homes id : ℕ) (me : Seated) (i : ℕ) (is : me ≡ (seat.Caller (caller_of me.0), [])) where
   abbrev me_c : CallerView
@@ -70,49 +75,50 @@ step_made : (count limit homes id : ℕ) (me : Seated) (i : ℕ) → me ≡ (sea
     → (kind : ℕ → Kind) (f : ℕ → ℕ) (aft : ℕ → CallerView → CallerView) (told : ℕ → Seated → Type 0) → ((n : ℕ) (me' : Seated) → told n me' → me'.0 ≡ seat.Caller (aft n (caller_of me.0)))
     → Allows (Shown count limit) homes id me (index (caller_of me.0).key.slot) f told
     → ((t t' : Table) (j : ℕ) → (let k : ℕ = index (caller_of me.0).key.slot in Plays t (suc j) k f (seat.Caller (caller_of me.0)) (seat.Caller (aft (slice_index t.words k) (caller_of me.0))) t') → WordStep t (kind j) t')
-    → Allows (Shown count limit) homes id me i f (λ n me'. told n me' × WasMade kind (caller_of me.0) (caller_of me'.0))
+    → Allows (Shown count limit) homes id me i f (MadeAt index i me kind told)
 step_made count limit homes id me i is index its kind f aft told one allowed makes =
-    subst (λ (k : ℕ). Allows (Shown count limit) homes id me k f (λ n me'. told n me' × WasMade kind (caller_of me.0) (caller_of me'.0))) its
-    (made count limit homes id me (index (caller_of me.0).key.slot) is kind f aft told one makes allowed)
+    on_word (Shown count limit) homes id me i f (λ n me'. told n me' × WasMade kind (caller_of me.0) (caller_of me'.0)) (i ≡ index (caller_of me.0).key.slot) (sym its)
+    (subst (λ (k : ℕ). Allows (Shown count limit) homes id me k f (λ n me'. told n me' × WasMade kind (caller_of me.0) (caller_of me'.0))) its
+    (made count limit homes id me (index (caller_of me.0).key.slot) is kind f aft told one makes allowed))
 
 -- each step on the active word
 module _ (count limit homes id : ℕ) (me : Seated) (i : ℕ) (is : me ≡ (seat.Caller (caller_of me.0), [])) (its : active_index (caller_of me.0).key.slot ≡ i) where
   abbrev at_c : CallerView
   at_c = caller_of me.0
 
-  pub try_made : IsAtRest at_c → Allows (Shown count limit) homes id me i (plus 1) (λ n me'. CallerBecomes after_try no_step me n me' × WasMade tries at_c (caller_of me'.0))
+  pub try_made : IsAtRest at_c → Allows (Shown count limit) homes id me i (plus 1) (MadeAt active_index i me tries (CallerBecomes after_try no_step me))
   try_made may = step_made count limit homes id me i is active_index its tries (plus 1) after_try (CallerBecomes after_try no_step me)
       (λ n me' e. ap (λ (x : Seated). x.0) e) (try_allowed count limit homes id me (active_index at_c.key.slot) is refl may) (λ t t' j p. (at_c, may, p))
 
-  pub undo_made : at_c.phase ≡ Turned → at_c.undo_due ≡ true → Allows (Shown count limit) homes id me i (minus 1) (λ n me'. CallerBecomes (λ _. after_undo) no_step me n me' × WasMade undoes at_c (caller_of me'.0))
+  pub undo_made : at_c.phase ≡ Turned → at_c.undo_due ≡ true → Allows (Shown count limit) homes id me i (minus 1) (MadeAt active_index i me undoes (CallerBecomes (λ _. after_undo) no_step me))
   undo_made turned due = step_made count limit homes id me i is active_index its undoes (minus 1) (λ _. after_undo) (CallerBecomes (λ _. after_undo) no_step me)
       (λ n me' e. ap (λ (x : Seated). x.0) e) (undo_allowed count limit homes id me (active_index at_c.key.slot) is refl turned due) (λ t t' j p. (at_c, (turned, due), p))
 
-  pub leave_made : HasReference at_c → Allows (Shown count limit) homes id me i (minus 1) (λ n me'. CallerBecomes after_leave no_step me n me' × WasMade leaves at_c (caller_of me'.0))
+  pub leave_made : HasReference at_c → Allows (Shown count limit) homes id me i (minus 1) (MadeAt active_index i me leaves (CallerBecomes after_leave no_step me))
   leave_made may = step_made count limit homes id me i is active_index its leaves (minus 1) after_leave (CallerBecomes after_leave no_step me)
       (λ n me' e. ap (λ (x : Seated). x.0) e) (leave_allowed count limit homes id me (active_index at_c.key.slot) is refl may) (λ t t' j p. (at_c, may, p))
 
-  pub break_made : IsIn Running at_c → Allows (Shown count limit) homes id me i (minus 1) (λ n me'. CallerBecomes after_break no_step me n me' × WasMade breaks at_c (caller_of me'.0))
+  pub break_made : IsIn Running at_c → Allows (Shown count limit) homes id me i (minus 1) (MadeAt active_index i me breaks (CallerBecomes after_break no_step me))
   break_made may = step_made count limit homes id me i is active_index its breaks (minus 1) after_break (CallerBecomes after_break no_step me)
       (λ n me' e. ap (λ (x : Seated). x.0) e) (break_allowed count limit homes id me (active_index at_c.key.slot) is refl may) (λ t t' j p. (at_c, may, p))
 
-  pub restore_made : IsIn Broken at_c → Allows (Shown count limit) homes id me i (plus 1) (λ n me'. CallerBecomes after_restore no_step me n me' × WasMade restores at_c (caller_of me'.0))
+  pub restore_made : IsIn Broken at_c → Allows (Shown count limit) homes id me i (plus 1) (MadeAt active_index i me restores (CallerBecomes after_restore no_step me))
   restore_made may = step_made count limit homes id me i is active_index its restores (plus 1) after_restore (CallerBecomes after_restore no_step me)
       (λ n me' e. ap (λ (x : Seated). x.0) e) (restore_allowed count limit homes id me (active_index at_c.key.slot) is refl may) (λ t t' j p. (at_c, may, p))
 
-  pub look_made : IsAtRest at_c → Allows (Shown count limit) homes id me i same (λ n me'. CallerBecomes after_look no_step me n me' × WasMade looks at_c (caller_of me'.0))
+  pub look_made : IsAtRest at_c → Allows (Shown count limit) homes id me i same (MadeAt active_index i me looks (CallerBecomes after_look no_step me))
   look_made may = step_made count limit homes id me i is active_index its looks same after_look (CallerBecomes after_look no_step me)
       (λ n me' e. ap (λ (x : Seated). x.0) e) (look_allowed count limit homes id me (active_index at_c.key.slot) is refl may) (λ t t' j p. (at_c, may, p))
 
-  pub hide_made : IsAtRest at_c → Allows (Shown count limit) homes id me i with_hide (λ n me'. CallerBecomes after_hide no_step me n me' × WasMade hides at_c (caller_of me'.0))
+  pub hide_made : IsAtRest at_c → Allows (Shown count limit) homes id me i with_hide (MadeAt active_index i me hides (CallerBecomes after_hide no_step me))
   hide_made may = step_made count limit homes id me i is active_index its hides with_hide after_hide (CallerBecomes after_hide no_step me)
       (λ n me' e. ap (λ (x : Seated). x.0) e) (hide_allowed count limit homes id me (active_index at_c.key.slot) is refl may) (λ t t' j p. (at_c, may, p))
 
-  pub look_hidden_made : IsIn Hiding at_c → Allows (Shown count limit) homes id me i same (λ n me'. CallerBecomes after_look_hidden no_step me n me' × WasMade looks_hidden at_c (caller_of me'.0))
+  pub look_hidden_made : IsIn Hiding at_c → Allows (Shown count limit) homes id me i same (MadeAt active_index i me looks_hidden (CallerBecomes after_look_hidden no_step me))
   look_hidden_made may = step_made count limit homes id me i is active_index its looks_hidden same after_look_hidden (CallerBecomes after_look_hidden no_step me)
       (λ n me' e. ap (λ (x : Seated). x.0) e) (look_hidden_allowed count limit homes id me (active_index at_c.key.slot) is refl may) (λ t t' j p. (at_c, may, p))
 
-  pub show_made : IsIn Hidden at_c → Allows (Shown count limit) homes id me i (minus hide) (λ n me'. ShowsKey no_step me n me' × WasMade shows at_c (caller_of me'.0))
+  pub show_made : IsIn Hidden at_c → Allows (Shown count limit) homes id me i (minus hide) (MadeAt active_index i me shows (ShowsKey no_step me))
   show_made may = step_made count limit homes id me i is active_index its shows (minus hide) after_show (ShowsKey no_step me)
       (λ n me' e. ap (λ (x : Seated). x.0) e.0) (show_allowed count limit homes id me (active_index at_c.key.slot) is refl may) (λ t t' j p. (at_c, may, p))
 
@@ -121,11 +127,11 @@ module _ (count limit homes id : ℕ) (me : Seated) (i : ℕ) (is : me ≡ (seat
   abbrev on_c : CallerView
   on_c = caller_of me.0
 
-  pub part_made : IsIn Drained on_c → Allows (Shown count limit) homes id me i same (λ n me'. CallerBecomes after_part no_step me n me' × WasMade parts on_c (caller_of me'.0))
+  pub part_made : IsIn Drained on_c → Allows (Shown count limit) homes id me i same (MadeAt hold_index i me parts (CallerBecomes after_part no_step me))
   part_made may = step_made count limit homes id me i is hold_index its parts same after_part (CallerBecomes after_part no_step me)
       (λ n me' e. ap (λ (x : Seated). x.0) e) (part_allowed count limit homes id me (hold_index on_c.key.slot) is refl may) (λ t t' j p. (on_c, may, p))
 
-  pub release_made : may_release on_c.phase ≡ true → on_c.undo_due ≡ false → Allows (Shown count limit) homes id me i (minus 1) (λ n me'. CallerBecomes after_release no_step me n me' × WasMade releases on_c (caller_of me'.0))
+  pub release_made : may_release on_c.phase ≡ true → on_c.undo_due ≡ false → Allows (Shown count limit) homes id me i (minus 1) (MadeAt hold_index i me releases (CallerBecomes after_release no_step me))
   release_made idles settled = step_made count limit homes id me i is hold_index its releases (minus 1) after_release (CallerBecomes after_release no_step me)
       (λ n me' e. ap (λ (x : Seated). x.0) e) (release_allowed count limit homes id me (hold_index on_c.key.slot) is refl idles settled) (λ t t' j p. (on_c, (idles, settled), p))
 

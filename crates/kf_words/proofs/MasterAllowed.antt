@@ -6,7 +6,7 @@ use Rattle.std.proofs.lemmas.Option.{get_or_from_slice_get}
 use Rattle.std.proofs.lemmas.List.{set-get_or}
 use mathlib.Core.Option.{some, none}
 use lib.ListN.{get_elem?}
-use Rattle.atomic_table.specs.Table.{step, Allows, Splits, keeps}
+use Rattle.atomic_table.specs.Table.{State, step, Allows, Splits, keeps}
 use Rattle.kf_core.specs.declared.slot.Marks.{Marks}
 use Rattle.kf_core.specs.declared.slot.SlotState.{SlotState}
 use Rattle.kf_core.specs.Marks.{fresh_marks}
@@ -17,7 +17,7 @@ use Rattle.kf_words.specs.declared.view.View.{View}
 use Rattle.kf_words.specs.declared.view.View.TheVariants as seat
 use Rattle.kf_words.specs.Layout.{bit, bias, doom, linked, one_generation, active_index, hold_index, slot_of, active_word, hold_word, is_drained, has_linked, HasRoom, IsFree}
 use Rattle.kf_words.specs.Rule.{holders, pins_in, last_key, Shows, Shown, seats}
-use Rattle.kf_words.specs.Steps.{Seated, master_of, no_state, state_at, on_active, on_hold, remarked, with_marks, activated_marks, doomed_marks, with_load, with_pin, without_pin, with_birth, without_node, unread, after_split, new_hold, hold_for, after_store, with_look, MasterBecomes, LoadsHold, TellsSlot}
+use Rattle.kf_words.specs.Steps.{Seated, master_of, no_state, state_at, on_active, on_hold, remarked, with_marks, activated_marks, doomed_marks, with_load, with_pin, without_pin, with_birth, without_node, unread, after_split, new_hold, hold_for, after_store, with_look, On, MasterBecomes, LoadsHold, TellsSlot}
 use Rattle.kf_words.specs.Nodes.{Found, FoundRoom, FoundFree}
 use Rattle.kf_words.proofs.Bits.{linked_shows}
 use Rattle.kf_words.proofs.Seating.{master_seat, seats-push}
@@ -49,12 +49,23 @@ allows count limit homes id me i f after is owes t h _ at small =
       refl,
     )
 
+-- a step may tell besides what holds of its word
+pub on_word : (holds : State (Unit {0}) View → Type 0) (homes id : ℕ) (me : Seated) (i : ℕ) (f : ℕ → ℕ) (told : ℕ → Seated → Type 0) (Is : Type 0) → Is
+    → Allows holds homes id me i f told → Allows holds homes id me i f (λ n me'. Is × told n me')
+on_word holds homes id me i f told Is is allowed t h far at small = let r = allowed t h far at small in (r.0, r.1, r.2, r.3, (is, r.4))
+
 -- the slot of a word that is one of its two
 pub active_slot : (slot i : ℕ) → active_index slot ≡ i → slot_of i ≡ slot
 active_slot slot i its = omega arith
 
 pub hold_slot : (slot i : ℕ) → hold_index slot ≡ i → slot_of i ≡ slot
 hold_slot slot i its = omega arith
+
+pub active_here : (slot i : ℕ) → active_index slot ≡ i → i ≡ active_index (slot_of i)
+active_here slot i its = omega arith
+
+pub hold_here : (slot i : ℕ) → hold_index slot ≡ i → i ≡ hold_index (slot_of i)
+hold_here slot i its = omega arith
 
 -- what a step on a slot's word of this index owes
 pub OwesSlot : MasterView → ℕ → ℕ → (ℕ → ℕ) → (ℕ → ℕ → MasterView → MasterView) → Type 0
@@ -74,14 +85,16 @@ slot_allows count limit homes id me slot i f after is back owes =
 
 -- a step on the active word of a slot, and one on its hold word
 pub active_allows : (count limit homes id : ℕ) (me : Seated) (slot i : ℕ) (f : ℕ → ℕ) (after : ℕ → ℕ → MasterView → MasterView) → me ≡ (seat.Master (master_of me.0), []) → active_index slot ≡ i → OwesSlot (master_of me.0) slot (active_index slot) f after
-    → Allows (Shown count limit) homes id me i f (MasterBecomes after (step 0 i 0 0 none) me)
+    → Allows (Shown count limit) homes id me i f (On active_index (MasterBecomes after) (step 0 i 0 0 none) me)
 active_allows count limit homes id me slot i f after is its owes =
-    slot_allows count limit homes id me slot i f after is (active_slot slot i its) (subst (λ (k : ℕ). OwesSlot (master_of me.0) slot k f after) its owes)
+    on_word (Shown count limit) homes id me i f (MasterBecomes after (step 0 i 0 0 none) me) (i ≡ active_index (slot_of i)) (active_here slot i its)
+    (slot_allows count limit homes id me slot i f after is (active_slot slot i its) (subst (λ (k : ℕ). OwesSlot (master_of me.0) slot k f after) its owes))
 
 pub hold_allows : (count limit homes id : ℕ) (me : Seated) (slot i : ℕ) (f : ℕ → ℕ) (after : ℕ → ℕ → MasterView → MasterView) → me ≡ (seat.Master (master_of me.0), []) → hold_index slot ≡ i → OwesSlot (master_of me.0) slot (hold_index slot) f after
-    → Allows (Shown count limit) homes id me i f (MasterBecomes after (step 0 i 0 0 none) me)
+    → Allows (Shown count limit) homes id me i f (On hold_index (MasterBecomes after) (step 0 i 0 0 none) me)
 hold_allows count limit homes id me slot i f after is its owes =
-    slot_allows count limit homes id me slot i f after is (hold_slot slot i its) (subst (λ (k : ℕ). OwesSlot (master_of me.0) slot k f after) its owes)
+    on_word (Shown count limit) homes id me i f (MasterBecomes after (step 0 i 0 0 none) me) (i ≡ hold_index (slot_of i)) (hold_here slot i its)
+    (slot_allows count limit homes id me slot i f after is (hold_slot slot i its) (subst (λ (k : ℕ). OwesSlot (master_of me.0) slot k f after) its owes))
 
 -- what the step tells, by the slot
 pub told : (me me' : Seated) (slot i found : ℕ) (after : ℕ → ℕ → MasterView → MasterView) → me ≡ (seat.Master (master_of me.0), []) → slot_of i ≡ slot
@@ -168,7 +181,7 @@ look_owes : (m : MasterView) (slot : ℕ) → OwesSlot m slot (active_index slot
 unfolding OwesSlot
 look_owes m slot words cs shows small = (refl, refl, subst (λ (l : List ℕ). Shows l (with_look slot (active_word words slot) m) cs) (sym (set-get_or words (active_index slot) 0)) (look_kept words m cs shows slot))
 
-pub look_allowed : (count limit homes id : ℕ) (me : Seated) (slot i : ℕ) → me ≡ (seat.Master (master_of me.0), []) → active_index slot ≡ i → Allows (Shown count limit) homes id me i (λ n. n) (MasterBecomes with_look (step 0 i 0 0 none) me)
+pub look_allowed : (count limit homes id : ℕ) (me : Seated) (slot i : ℕ) → me ≡ (seat.Master (master_of me.0), []) → active_index slot ≡ i → Allows (Shown count limit) homes id me i (λ n. n) (On active_index (MasterBecomes with_look) (step 0 i 0 0 none) me)
 look_allowed count limit homes id me slot i is its = active_allows count limit homes id me slot i (λ n. n) with_look is its (look_owes (master_of me.0) slot)
 
 fresh_owes : (m : MasterView) (slot : ℕ) → slot < length m.slots → FoundFree m slot → OwesSlot m slot (active_index slot) (λ _. bias) (unread after_store)
@@ -178,7 +191,7 @@ fresh_owes m slot near found words cs shows small =
     (refl, refl, freshen words m cs shows slot p.0 p.1 (subst (λ (k : ℕ). IsFree (hold_word words k)) found.3 ((shows.loads found.0 found.1 found.2).0 found.4)))
 
 pub fresh_allowed : (count limit homes id : ℕ) (me : Seated) (slot i : ℕ) → me ≡ (seat.Master (master_of me.0), []) → active_index slot ≡ i → slot < length (master_of me.0).slots → FoundFree (master_of me.0) slot
-    → Allows (Shown count limit) homes id me i (λ _. bias) (MasterBecomes (unread after_store) (step 0 i 0 0 none) me)
+    → Allows (Shown count limit) homes id me i (λ _. bias) (On active_index (MasterBecomes (unread after_store)) (step 0 i 0 0 none) me)
 fresh_allowed count limit homes id me slot i is its near found = active_allows count limit homes id me slot i (λ _. bias) (unread after_store) is its (fresh_owes (master_of me.0) slot near found)
 
 generation_of : (b : Bool) (g n : ℕ) → n ≤ 65535 → (g * 4294967296 + bit b linked + n) / 4294967296 ≡ g
@@ -186,7 +199,7 @@ generation_of true g n h = omega arith
 generation_of false g n h = omega arith
 
 pub load_allowed : (count limit homes id : ℕ) (me : Seated) (slot i : ℕ) → me ≡ (seat.Master (master_of me.0), []) → hold_index slot ≡ i → slot < length (master_of me.0).slots
-    → Allows (Shown count limit) homes id me i (λ n. n) (LoadsHold (step 0 i 0 0 none) me)
+    → Allows (Shown count limit) homes id me i (λ n. n) (On hold_index LoadsHold (step 0 i 0 0 none) me)
 load_allowed count limit homes id me slot i is its near t h far at small =
     let m : MasterView = master_of me.0 in
     let r = hold_allows count limit homes id me slot i (λ n. n) with_load is its (load_owes m slot) t h far at small in
@@ -205,7 +218,7 @@ load_allowed count limit homes id me slot i is its near t h far at small =
     let node : has_linked (get_or t.words i 0) ≡ is_some (state_at m slot).marks =
     ap (λ (k : ℕ). has_linked (get_or t.words k 0)) (sym its) ∙ linked_shows m.limit (hold_word t.words slot) x.0 (holders slot cs + pins_in m.pinning slot) shows.few s
     ∙ sym (ap (λ (y : SlotState). is_some y.marks) known) in
-    (r.0, r.1, r.2, r.3, (r.4, subst (λ (k : ℕ). TellsSlot m k (get_or t.words i 0)) (sym (hold_slot slot i its)) (generation, node)))
+    (r.0, r.1, r.2, r.3, (r.4.0, (r.4.1, subst (λ (k : ℕ). TellsSlot m k (get_or t.words i 0)) (sym (hold_slot slot i its)) (generation, node))))
 
 -- the state that the step writes, at a state that is known
 remarked_is : (m : MasterView) (slot : ℕ) (state : SlotState) (x : Marks) (change : Marks → Marks) → slice_get m.slots slot ≡ Some state → state.marks ≡ Some x
@@ -224,7 +237,7 @@ rise_owes m slot state its there words cs shows small = (
 )
 
 pub rise_allowed : (count limit homes id : ℕ) (me : Seated) (slot i : ℕ) (state : SlotState) → me ≡ (seat.Master (master_of me.0), []) → active_index slot ≡ i → slice_get (master_of me.0).slots slot ≡ Some state → state.marks ≡ Some fresh_marks
-    → Allows (Shown count limit) homes id me i (λ n. (n + (2 ^ 64 - bias)) % 2 ^ 64) (MasterBecomes (unread (with_marks activated_marks)) (step 0 i 0 0 none) me)
+    → Allows (Shown count limit) homes id me i (λ n. (n + (2 ^ 64 - bias)) % 2 ^ 64) (On active_index (MasterBecomes (unread (with_marks activated_marks))) (step 0 i 0 0 none) me)
 rise_allowed count limit homes id me slot i state is at its there =
     active_allows count limit homes id me slot i (λ n. (n + (2 ^ 64 - bias)) % 2 ^ 64) (unread (with_marks activated_marks)) is at (rise_owes (master_of me.0) slot state its there)
 
@@ -239,6 +252,6 @@ mark_owes m slot state x k its there undoomed bits words cs shows small = (
 )
 
 pub mark_allowed : (count limit homes id : ℕ) (me : Seated) (slot i : ℕ) (state : SlotState) (x : Marks) (k : ℕ) → me ≡ (seat.Master (master_of me.0), []) → active_index slot ≡ i → slice_get (master_of me.0).slots slot ≡ Some state → state.marks ≡ Some x → x.doomed ≡ false → k ≡ bit x.activated bias + doom
-    → Allows (Shown count limit) homes id me i (λ n. (n + k) % 2 ^ 64) (MasterBecomes (unread (with_marks doomed_marks)) (step 0 i 0 0 none) me)
+    → Allows (Shown count limit) homes id me i (λ n. (n + k) % 2 ^ 64) (On active_index (MasterBecomes (unread (with_marks doomed_marks))) (step 0 i 0 0 none) me)
 mark_allowed count limit homes id me slot i state x k is at its there undoomed bits =
     active_allows count limit homes id me slot i (λ n. (n + k) % 2 ^ 64) (unread (with_marks doomed_marks)) is at (mark_owes (master_of me.0) slot state x k its there undoomed bits)

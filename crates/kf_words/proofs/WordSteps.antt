@@ -22,7 +22,7 @@ use Rattle.kf_words.specs.declared.view.View.{View}
 use Rattle.kf_words.specs.declared.view.View.TheVariants as seat
 use Rattle.kf_words.specs.Layout.{bit, bias, doom, hide, linked, one_generation, active_index, hold_index, slot_of, is_drained, has_hide, is_unused, has_linked}
 use Rattle.kf_words.specs.Rule.{Shows, Shown, seats, bare, caller, last_key}
-use Rattle.kf_words.specs.Steps.{Seated, caller_of, no_state, state_at, after_try, after_undo, after_leave, after_break, after_restore, after_look, after_part, after_hide, after_look_hidden, after_show, after_release, after_split, hold_for, with_load, with_pin, without_pin, after_store, with_birth, with_marks, activated_marks, doomed_marks, with_look, without_node, unread, CallerBecomes, MasterBecomes, LoadsHold, ShowsKey}
+use Rattle.kf_words.specs.Steps.{Seated, caller_of, no_state, state_at, after_try, after_undo, after_leave, after_break, after_restore, after_look, after_part, after_hide, after_look_hidden, after_show, after_release, after_split, hold_for, with_load, with_pin, without_pin, after_store, with_birth, with_marks, activated_marks, doomed_marks, with_look, without_node, unread, CallerBecomes, On, MasterBecomes, LoadsHold, ShowsKey}
 use Rattle.kf_words.specs.Nodes.{marks_of}
 use Rattle.kf_words.specs.Runs.{Table, Kind, tries, undoes, leaves, breaks, restores, looks, parts, hides, looks_hidden, shows, releases, loads_hold, pins_hold, unpins_hold, splits_linked, splits_held, stores_fresh, births, takes_bias, marks_node, looks_over, unlinks, plus, minus, same, with_hide, master_in, callers_in, world, IsSeated, HoldsSlot, WordStep}
 use Rattle.kf_words.proofs.Bits.{bool_cases}
@@ -260,23 +260,23 @@ word_step slots limit t (releases j) t' h s =
     (inr (Release j, release_is_release slots limit t h j c (at slots limit t t' h j c s.2.there) s.1.0 (slice_index t.words (hold_index c.key.slot)), λ c e. absurd (let x : Release j ≡ Enter c = e in cc)))
 word_step slots limit t (loads_hold slot) t' g s =
     let m : MasterView = s.0 in
-    master_goes slots limit t t' g m s.2.there (loads_hold slot) slot (hold_index slot) same (with_load) (LoadsHold (step 0 (hold_index slot) 0 0 none) (seat.Master m, []))
+    master_goes slots limit t t' g m s.2.there (loads_hold slot) slot (hold_index slot) same (with_load) (On hold_index LoadsHold (step 0 (hold_index slot) 0 0 none) (seat.Master m, []))
     (load_allowed slots limit (length t.homes) 0 (seat.Master m, []) slot (hold_index slot) refl refl s.1)
-    (λ me' e. slot_view (with_load) m (slice_index t.words (hold_index slot)) (hold_index slot) slot me' (hold_slot slot (hold_index slot) refl) e.0) s.2.fits s.2.becomes
+    (λ me' e. slot_view (with_load) m (slice_index t.words (hold_index slot)) (hold_index slot) slot me' (hold_slot slot (hold_index slot) refl) e.1.0) s.2.fits s.2.becomes
     (inl refl)
 word_step slots limit t (pins_hold slot) t' g s =
     let m : MasterView = s.0 in
     let p = state_there m.slots slot s.1.0 in
-    master_goes slots limit t t' g m s.2.there (pins_hold slot) slot (hold_index slot) (plus 1) (unread with_pin) (MasterBecomes (unread with_pin) (step 0 (hold_index slot) 0 0 none) (seat.Master m, []))
+    master_goes slots limit t t' g m s.2.there (pins_hold slot) slot (hold_index slot) (plus 1) (unread with_pin) (On hold_index (MasterBecomes (unread with_pin)) (step 0 (hold_index slot) 0 0 none) (seat.Master m, []))
     (hold_allows slots limit (length t.homes) 0 (seat.Master m, []) slot (hold_index slot) (plus 1) (unread with_pin) refl refl (pin_owes m slot p.0 p.1 s.1.1 s.1.2))
-    (λ me' e. slot_view (unread with_pin) m (slice_index t.words (hold_index slot)) (hold_index slot) slot me' (hold_slot slot (hold_index slot) refl) e) s.2.fits s.2.becomes
+    (λ me' e. slot_view (unread with_pin) m (slice_index t.words (hold_index slot)) (hold_index slot) slot me' (hold_slot slot (hold_index slot) refl) e.1) s.2.fits s.2.becomes
     (inl refl)
 word_step slots limit t (unpins_hold slot) t' g s =
     let m : MasterView = s.0 in
     let p = state_there m.slots slot s.1.0 in
-    master_goes slots limit t t' g m s.2.there (unpins_hold slot) slot (hold_index slot) (minus 1) (unread without_pin) (MasterBecomes (unread without_pin) (step 0 (hold_index slot) 0 0 none) (seat.Master m, []))
+    master_goes slots limit t t' g m s.2.there (unpins_hold slot) slot (hold_index slot) (minus 1) (unread without_pin) (On hold_index (MasterBecomes (unread without_pin)) (step 0 (hold_index slot) 0 0 none) (seat.Master m, []))
     (hold_allows slots limit (length t.homes) 0 (seat.Master m, []) slot (hold_index slot) (minus 1) (unread without_pin) refl refl (unpin_owes m slot p.0 p.1 s.1.1))
-    (λ me' e. slot_view (unread without_pin) m (slice_index t.words (hold_index slot)) (hold_index slot) slot me' (hold_slot slot (hold_index slot) refl) e) s.2.fits s.2.becomes
+    (λ me' e. slot_view (unread without_pin) m (slice_index t.words (hold_index slot)) (hold_index slot) slot me' (hold_slot slot (hold_index slot) refl) e.1) s.2.fits s.2.becomes
     (inl refl)
 word_step slots limit t (splits_linked slot) t' g s =
     let m : MasterView = s.0 in
@@ -288,24 +288,24 @@ word_step slots limit t (splits_held slot j) t' g s =
     split_goes slots limit t t' g m s.2 (splits_held slot j) slot p.0 p.1 s.4 (held_pins slots limit t t' g m s.2 slot p.0 p.1 j s.1) s.5
 word_step slots limit t (stores_fresh slot) t' g s =
     let m : MasterView = s.0 in
-    master_goes slots limit t t' g m s.2.there (stores_fresh slot) slot (active_index slot) (λ _. bias) (unread after_store) (MasterBecomes (unread after_store) (step 0 (active_index slot) 0 0 none) (seat.Master m, []))
+    master_goes slots limit t t' g m s.2.there (stores_fresh slot) slot (active_index slot) (λ _. bias) (unread after_store) (On active_index (MasterBecomes (unread after_store)) (step 0 (active_index slot) 0 0 none) (seat.Master m, []))
     (fresh_allowed slots limit (length t.homes) 0 (seat.Master m, []) slot (active_index slot) refl refl s.1.0 s.1.1)
-    (λ me' e. slot_view (unread after_store) m (slice_index t.words (active_index slot)) (active_index slot) slot me' (active_slot slot (active_index slot) refl) e) s.2.fits s.2.becomes
+    (λ me' e. slot_view (unread after_store) m (slice_index t.words (active_index slot)) (active_index slot) slot me' (active_slot slot (active_index slot) refl) e.1) s.2.fits s.2.becomes
     (inl refl)
 word_step slots limit t (births slot) t' g s =
     let m : MasterView = s.0 in
     let p = state_there m.slots slot s.1.0 in
     let key : Key = record { slot = slot; generation = p.0.generation + 1 } in
-    master_goes slots limit t t' g m s.2.there (births slot) slot (hold_index slot) (plus (one_generation + linked)) (unread with_birth) (MasterBecomes (unread with_birth) (step 0 (hold_index slot) 0 0 none) (seat.Master m, []))
+    master_goes slots limit t t' g m s.2.there (births slot) slot (hold_index slot) (plus (one_generation + linked)) (unread with_birth) (On hold_index (MasterBecomes (unread with_birth)) (step 0 (hold_index slot) 0 0 none) (seat.Master m, []))
     (hold_allows slots limit (length t.homes) 0 (seat.Master m, []) slot (hold_index slot) (plus (one_generation + linked)) (unread with_birth) refl refl (birth_owes m slot p.0 p.1 s.1.1))
-    (λ me' e. slot_view (unread with_birth) m (slice_index t.words (hold_index slot)) (hold_index slot) slot me' (hold_slot slot (hold_index slot) refl) e) s.2.fits s.2.becomes
+    (λ me' e. slot_view (unread with_birth) m (slice_index t.words (hold_index slot)) (hold_index slot) slot me' (hold_slot slot (hold_index slot) refl) e.1) s.2.fits s.2.becomes
     (inr (Born key key [] Dir, birth_is_born slots limit t (met slots limit t t' g m s.2.there) slot p.0 key [] Dir s.1.1 p.1, λ c e. absurd (let x : Born key key [] Dir ≡ Enter c = e in cc)))
 word_step slots limit t (takes_bias slot) t' g s =
     let m : MasterView = s.0 in
     let key : Key = last_key slot s.1.0 in
-    master_goes slots limit t t' g m s.2.there (takes_bias slot) slot (active_index slot) (minus bias) (unread (with_marks activated_marks)) (MasterBecomes (unread (with_marks activated_marks)) (step 0 (active_index slot) 0 0 none) (seat.Master m, []))
+    master_goes slots limit t t' g m s.2.there (takes_bias slot) slot (active_index slot) (minus bias) (unread (with_marks activated_marks)) (On active_index (MasterBecomes (unread (with_marks activated_marks))) (step 0 (active_index slot) 0 0 none) (seat.Master m, []))
     (rise_allowed slots limit (length t.homes) 0 (seat.Master m, []) slot (active_index slot) s.1.0 refl refl s.1.1 s.1.2)
-    (λ me' e. slot_view (unread (with_marks activated_marks)) m (slice_index t.words (active_index slot)) (active_index slot) slot me' (active_slot slot (active_index slot) refl) e) s.2.fits s.2.becomes
+    (λ me' e. slot_view (unread (with_marks activated_marks)) m (slice_index t.words (active_index slot)) (active_index slot) slot me' (active_slot slot (active_index slot) refl) e.1) s.2.fits s.2.becomes
     (inr (Rise key, rise_is_rise slots limit t (met slots limit t t' g m s.2.there) key (last_marks slots limit t t' g m s.2.there slot s.1.0 (Some fresh_marks) s.1.1 s.1.2), λ c e. absurd (let x : Rise key ≡ Enter c = e in cc)))
 word_step slots limit t (marks_node slot) t' g r =
     let x : Marks = r.0 in
@@ -313,15 +313,15 @@ word_step slots limit t (marks_node slot) t' g r =
     let m : MasterView = s.0 in
     let state : SlotState = s.1.0.0 in
     let key : Key = last_key slot state in
-    master_goes slots limit t t' g m s.2.there (marks_node slot) slot (active_index slot) (plus (bit x.activated bias + doom)) (unread (with_marks doomed_marks)) (MasterBecomes (unread (with_marks doomed_marks)) (step 0 (active_index slot) 0 0 none) (seat.Master m, []))
+    master_goes slots limit t t' g m s.2.there (marks_node slot) slot (active_index slot) (plus (bit x.activated bias + doom)) (unread (with_marks doomed_marks)) (On active_index (MasterBecomes (unread (with_marks doomed_marks))) (step 0 (active_index slot) 0 0 none) (seat.Master m, []))
     (mark_allowed slots limit (length t.homes) 0 (seat.Master m, []) slot (active_index slot) state x (bit x.activated bias + doom) refl refl s.1.0.1 s.1.0.2 s.1.1 refl)
-    (λ me' e. slot_view (unread (with_marks doomed_marks)) m (slice_index t.words (active_index slot)) (active_index slot) slot me' (active_slot slot (active_index slot) refl) e) s.2.fits s.2.becomes
+    (λ me' e. slot_view (unread (with_marks doomed_marks)) m (slice_index t.words (active_index slot)) (active_index slot) slot me' (active_slot slot (active_index slot) refl) e.1) s.2.fits s.2.becomes
     (inr (Mark key, mark_is_mark slots limit t (met slots limit t t' g m s.2.there) key x (last_marks slots limit t t' g m s.2.there slot state (Some x) s.1.0.1 s.1.0.2) s.1.1, λ c e. absurd (let x : Mark key ≡ Enter c = e in cc)))
 word_step slots limit t (looks_over slot) t' g s =
     let m : MasterView = s.0 in
-    master_goes slots limit t t' g m s.2.there (looks_over slot) slot (active_index slot) same (with_look) (MasterBecomes (with_look) (step 0 (active_index slot) 0 0 none) (seat.Master m, []))
+    master_goes slots limit t t' g m s.2.there (looks_over slot) slot (active_index slot) same (with_look) (On active_index (MasterBecomes (with_look)) (step 0 (active_index slot) 0 0 none) (seat.Master m, []))
     (look_over_allowed slots limit (length t.homes) 0 (seat.Master m, []) slot (active_index slot) refl refl)
-    (λ me' e. slot_view (with_look) m (slice_index t.words (active_index slot)) (active_index slot) slot me' (active_slot slot (active_index slot) refl) e) s.2.fits s.2.becomes
+    (λ me' e. slot_view (with_look) m (slice_index t.words (active_index slot)) (active_index slot) slot me' (active_slot slot (active_index slot) refl) e.1) s.2.fits s.2.becomes
     (inl refl)
 word_step slots limit t (unlinks slot j) t' g both =
     let s = both.0 in
@@ -333,8 +333,8 @@ word_step slots limit t (unlinks slot j) t' g both =
     let k = met slots limit t t' g m s.2.there in
     let its = at slots limit t t' g j c lent.1 in
     let there : is_some (marks_of m c.key) ≡ true = ap (λ (l : List View). is_some (marks_of (master_in l) c.key)) (sym k.views) ∙ lent.4 in
-    master_goes slots limit t t' g m s.2.there (unlinks slot j) slot (hold_index slot) (minus linked) (unread without_node) (MasterBecomes (unread without_node) (step 0 (hold_index slot) 0 0 none) (seat.Master m, []))
+    master_goes slots limit t t' g m s.2.there (unlinks slot j) slot (hold_index slot) (minus linked) (unread without_node) (On hold_index (MasterBecomes (unread without_node)) (step 0 (hold_index slot) 0 0 none) (seat.Master m, []))
     (hold_allows slots limit (length t.homes) 0 (seat.Master m, []) slot (hold_index slot) (minus linked) (unread without_node) refl refl (unlink_owes m slot x.1.0 x.0 looked.0 x.1.1 x.1.2 looked.1 looked.2))
-    (λ me' e. slot_view (unread without_node) m (slice_index t.words (hold_index slot)) (hold_index slot) slot me' (hold_slot slot (hold_index slot) refl) e) s.2.fits s.2.becomes
+    (λ me' e. slot_view (unread without_node) m (slice_index t.words (hold_index slot)) (hold_index slot) slot me' (hold_slot slot (hold_index slot) refl) e.1) s.2.fits s.2.becomes
     (subst (λ (k : ℕ). Led (unlinks slot j) (bare m g.callers) (bare (without_node k m) g.callers)) lent.2
     (inr (Unlink j, unlink_is_unlink slots limit t k j c its lent.3 there, λ c e. absurd (let x : Unlink j ≡ Enter c = e in cc))))

@@ -6,7 +6,10 @@ use Rattle.kf_core.specs.declared.key.Node.{Node}
 use Rattle.kf_core.specs.declared.caller.Phase.{Phase}
 use Rattle.kf_core.specs.declared.caller.Phase.TheVariants.{Still, Turned, Running, Broken, Restored, Drained, Parted, Hiding, Hidden, Spent}
 use Rattle.kf_core.specs.Phases.{has_reference, is_waiting}
+use Rattle.kf_core.specs.declared.key.Node.TheVariants as node
 use Rattle.kf_words.specs.declared.seat.CallerSeat.{CallerSeat}
+use Rattle.kf_words.specs.declared.seat.Kind.{Kind}
+use Rattle.kf_words.specs.declared.seat.Kind.TheVariants as kind
 use Rattle.kf_words.specs.declared.view.CallerView.{CallerView}
 use Rattle.kf_words.specs.Layout.{active_index, hold_index, keeps_out, is_drained, has_hide, is_unused, has_linked}
 use Rattle.kf_words.specs.Steps.{caller_of, WasFound}
@@ -34,12 +37,18 @@ id_of h = record { table = h.table; seat = h.seat; node = h.node }
 abbrev pub view_of : CallerSeat → CallerView
 view_of s = caller_of s.token.me.0
 
+-- the node of this kind, with this tag where it is a file, and this target where it is a link
+abbrev pub node_of : Kind → ℕ → Key → Node
+node_of kind.Dir _ _ = node.Dir
+node_of (kind.File mode) tag _ = node.File mode tag
+node_of kind.Link _ target = node.Link target
+
 abbrev pub handle_of : CallerSeat → Handle
 handle_of s = record {
   table = s.token.table_id;
   seat = s.token.id;
   key = (view_of s).key;
-  node = s.node;
+  node = node_of s.kind s.tag s.target;
   phase = (view_of s).phase;
   steps = (view_of s).steps;
   tries = (view_of s).tries;

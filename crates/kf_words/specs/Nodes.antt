@@ -50,6 +50,10 @@ FoundFree m slot = Found IsFree m slot
 abbrev pub FoundRoom : MasterView → ℕ → Type 0
 FoundRoom m slot = Found (HasRoom m.limit) m slot
 
+-- what a load found with room still counts as found
+abbrev pub KeepsRooms : MasterView → MasterView → Type 0
+KeepsRooms m m' = (slot : ℕ) → FoundRoom m slot → FoundRoom m' slot
+
 abbrev pub FoundFull : MasterView → ℕ → Type 0
 FoundFull m slot = Found (λ word. m.limit ≤ holds_in word) m slot
 

@@ -264,72 +264,76 @@ pub record WasMade (kind : ℕ → Kind) (before after : CallerView) : Type 0 wh
   pub was : IsSeated found caller before
   pub is : IsSeated left caller after
 
--- what a caller's step tells: the view after it, and that a table made it
-abbrev pub Makes : (ℕ → Kind) → (Step (Unit {0}) → Seated → ℕ → Seated → Type 0) → Step (Unit {0}) → Seated → ℕ → Seated → Type 0
-Makes kind then st me found me' = then st me found me' × WasMade kind (caller_of me.0) (caller_of me'.0)
+-- what a caller's step tells: that it is on the word that this index has of the caller's slot, the view after it, and
+-- that a table made it
+abbrev pub Makes : (ℕ → ℕ) → (ℕ → Kind) → (Step (Unit {0}) → Seated → ℕ → Seated → Type 0)
+    → Step (Unit {0}) → Seated → ℕ → Seated → Type 0
+Makes index kind tells st me found me' =
+    (st.word ≡ index (caller_of me.0).key.slot)
+    × (tells st me found me' × WasMade kind (caller_of me.0) (caller_of me'.0))
 
 abbrev pub MakesTry : Step (Unit {0}) → Seated → ℕ → Seated → Type 0
-MakesTry = Makes tries (CallerBecomes after_try)
+MakesTry = Makes active_index tries (CallerBecomes after_try)
 
 abbrev pub WasATry : CallerView → CallerView → Type 0
 WasATry = WasMade tries
 
 abbrev pub MakesUndo : Step (Unit {0}) → Seated → ℕ → Seated → Type 0
-MakesUndo = Makes undoes (CallerBecomes (λ _. after_undo))
+MakesUndo = Makes active_index undoes (CallerBecomes (λ _. after_undo))
 
 abbrev pub WasAUndo : CallerView → CallerView → Type 0
 WasAUndo = WasMade undoes
 
 abbrev pub MakesLeave : Step (Unit {0}) → Seated → ℕ → Seated → Type 0
-MakesLeave = Makes leaves (CallerBecomes after_leave)
+MakesLeave = Makes active_index leaves (CallerBecomes after_leave)
 
 abbrev pub WasALeave : CallerView → CallerView → Type 0
 WasALeave = WasMade leaves
 
 abbrev pub MakesBreak : Step (Unit {0}) → Seated → ℕ → Seated → Type 0
-MakesBreak = Makes breaks (CallerBecomes after_break)
+MakesBreak = Makes active_index breaks (CallerBecomes after_break)
 
 abbrev pub WasABreak : CallerView → CallerView → Type 0
 WasABreak = WasMade breaks
 
 abbrev pub MakesRestore : Step (Unit {0}) → Seated → ℕ → Seated → Type 0
-MakesRestore = Makes restores (CallerBecomes after_restore)
+MakesRestore = Makes active_index restores (CallerBecomes after_restore)
 
 abbrev pub WasARestore : CallerView → CallerView → Type 0
 WasARestore = WasMade restores
 
 abbrev pub MakesLook : Step (Unit {0}) → Seated → ℕ → Seated → Type 0
-MakesLook = Makes looks (CallerBecomes after_look)
+MakesLook = Makes active_index looks (CallerBecomes after_look)
 
 abbrev pub WasALook : CallerView → CallerView → Type 0
 WasALook = WasMade looks
 
 abbrev pub MakesPart : Step (Unit {0}) → Seated → ℕ → Seated → Type 0
-MakesPart = Makes parts (CallerBecomes after_part)
+MakesPart = Makes hold_index parts (CallerBecomes after_part)
 
 abbrev pub WasAPart : CallerView → CallerView → Type 0
 WasAPart = WasMade parts
 
 abbrev pub MakesHide : Step (Unit {0}) → Seated → ℕ → Seated → Type 0
-MakesHide = Makes hides (CallerBecomes after_hide)
+MakesHide = Makes active_index hides (CallerBecomes after_hide)
 
 abbrev pub WasAHide : CallerView → CallerView → Type 0
 WasAHide = WasMade hides
 
 abbrev pub MakesLookHidden : Step (Unit {0}) → Seated → ℕ → Seated → Type 0
-MakesLookHidden = Makes looks_hidden (CallerBecomes after_look_hidden)
+MakesLookHidden = Makes active_index looks_hidden (CallerBecomes after_look_hidden)
 
 abbrev pub WasALookHidden : CallerView → CallerView → Type 0
 WasALookHidden = WasMade looks_hidden
 
 abbrev pub MakesShow : Step (Unit {0}) → Seated → ℕ → Seated → Type 0
-MakesShow = Makes shows ShowsKey
+MakesShow = Makes active_index shows ShowsKey
 
 abbrev pub WasAShow : CallerView → CallerView → Type 0
 WasAShow = WasMade shows
 
 abbrev pub MakesRelease : Step (Unit {0}) → Seated → ℕ → Seated → Type 0
-MakesRelease = Makes releases (CallerBecomes after_release)
+MakesRelease = Makes hold_index releases (CallerBecomes after_release)
 
 abbrev pub WasARelease : CallerView → CallerView → Type 0
 WasARelease = WasMade releases

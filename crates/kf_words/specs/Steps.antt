@@ -164,6 +164,10 @@ ShowsKey st me found me' = CallerBecomes after_show st me found me' × (has_hide
 abbrev pub MasterBecomes : (ℕ → ℕ → MasterView → MasterView) → Step (Unit {0}) → Seated → ℕ → Seated → Type 0
 MasterBecomes after st me found me' = me' ≡ (seat.Master (after (slot_of st.word) found (master_of me.0)), me.1)
 
+-- a step of the Master on the word that this index has of some slot
+abbrev pub On : (ℕ → ℕ) → (Step (Unit {0}) → Seated → ℕ → Seated → Type 0) → Step (Unit {0}) → Seated → ℕ → Seated → Type 0
+On index tells st me found me' = (st.word ≡ index (slot_of st.word)) × tells st me found me'
+
 -- a load of a hold word tells the last generation, and whether a node is linked
 abbrev pub TellsSlot : MasterView → ℕ → ℕ → Type 0
 TellsSlot m slot found = (found / one_generation ≡ (state_at m slot).generation) × (has_linked found ≡ is_some (state_at m slot).marks)

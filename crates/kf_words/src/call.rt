@@ -39,7 +39,7 @@ impl Call {
     pub fn node(&self) -> Node
         ensures { result ≡ self.now.node }
     {
-        self.seat.node
+        self.seat.node()
     }
 
     /// Running, Broken or Restored.
@@ -62,7 +62,7 @@ impl Call {
         let Call { mut seat, phase: _ } = self;
         let found = seat.drop_reference();
         seat.wake_if_unused(found);
-        Hold { seat }
+        Hold { seat: seat.moved() }
     }
 
     /// Gives the reference up inside the callback (`kernfs_break_active_protection`), in one word step.

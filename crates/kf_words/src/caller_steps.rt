@@ -14,6 +14,7 @@ use crate::plays::{
     Breaks, Hides, Leaves, Looks, LooksHidden, Parts, Releases, Restores, Shows, Tries, Undoes,
 };
 use crate::seat::CallerSeat;
+use crate::seat_parts::parts_of;
 use crate::table::WordTable;
 use crate::view::View;
 use atomic_table::Seat;
@@ -33,12 +34,15 @@ impl CallerSeat {
         requires words { (arc_value table).shared.table_id.words ≡ (arc_value table).shared.key.slots * line_words }
         requires slot { key.slot < (arc_value table).shared.key.slots }
         ensures token { result.token ≡ token }
-        ensures node { result.node ≡ node }
+        ensures node { (handle_of result).node ≡ node }
     {
+        let (kind, tag, target) = parts_of(node, key);
         CallerSeat {
             table,
             key,
-            node,
+            kind,
+            tag,
+            target,
             token,
         }
     }
@@ -51,7 +55,9 @@ impl CallerSeat {
         let CallerSeat {
             table: _,
             key: _,
-            node: _,
+            kind: _,
+            tag: _,
+            target: _,
             token: _,
         } = self;
     }

@@ -42,7 +42,7 @@ impl Hold {
     pub fn node(&self) -> Node
         ensures { result ≡ self.now.node }
     {
-        self.seat.node
+        self.seat.node()
     }
 
     /// Tries for an active reference (`kernfs_get_active`). A hold that comes back found that the node is not live, or its key hidden.
@@ -58,7 +58,7 @@ impl Hold {
         let Hold { mut seat } = self;
         if !keeps_out(seat.try_reference()) {
             return Ok(Call {
-                seat,
+                seat: seat.moved(),
                 phase: Phase::Running,
             });
         }

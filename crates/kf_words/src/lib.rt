@@ -16,6 +16,7 @@ mod nodes;
 mod plays;
 mod receipt;
 mod seat;
+mod seat_parts;
 mod seats;
 mod table;
 #[cfg(test)]

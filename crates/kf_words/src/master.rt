@@ -1,7 +1,7 @@
 //! The Master: the one seat that makes and unmakes nodes. Whoever owns it, as the tree lock does, gives the tree's commands.
 ghost use Rattle.std.specs.Prelude.{◌≡◌, ◌<◌, ◌≤◌, true, false, length, is_some, IfOk, IfErr, OnOk};
 ghost use Rattle.kf_core.specs.declared.refusal.Refusal.TheVariants as refusal_of;
-ghost use Rattle.kf_words.specs.Nodes.{KeepsNodes, IsNewHold, IsLastKey, WasPinned, PinRefused, HeldPinRefused, RoomFound, FoundFull, marks_of};
+ghost use Rattle.kf_words.specs.Nodes.{KeepsNodes, KeepsRooms, IsNewHold, IsLastKey, WasPinned, PinRefused, HeldPinRefused, RoomFound, FoundRoom, FoundFull, marks_of};
 
 use crate::call::Call;
 use crate::hold::Hold;
@@ -47,6 +47,9 @@ impl Master {
         ensures kept { KeepsNodes self.old self.new }
         ensures found { key.slot < length self.old.view.slots → RoomFound self.old.view key.slot result self.new.view }
         ensures beyond { length self.old.view.slots ≤ key.slot → (result ≡ false) × (self.new.view ≡ self.old.view) }
+        ensures room { result ≡ true → FoundRoom self.new.view key.slot }
+        ensures full { result ≡ false → key.slot < length self.old.view.slots → FoundFull self.new.view key.slot }
+        ensures rooms { KeepsRooms self.old.view self.new.view }
     {
         if key.slot as usize >= self.slots.len() {
             return false;

@@ -105,81 +105,90 @@ impl Play<(), View> for Releases {
 pub(crate) struct LoadsHold;
 
 impl Play<(), View> for LoadsHold {
-    ghost use Rattle.kf_words.specs.Steps.{LoadsHold};
+    ghost use Rattle.kf_words.specs.Layout.{hold_index};
+    ghost use Rattle.kf_words.specs.Steps.{On, LoadsHold};
 
-    ghost then = { LoadsHold };
+    ghost then = { On hold_index LoadsHold };
 }
 
 /// The Master counts one hold more, which has no seat yet.
 pub(crate) struct PinsHold;
 
 impl Play<(), View> for PinsHold {
-    ghost use Rattle.kf_words.specs.Steps.{MasterBecomes, unread, with_pin};
+    ghost use Rattle.kf_words.specs.Layout.{hold_index};
+    ghost use Rattle.kf_words.specs.Steps.{On, MasterBecomes, unread, with_pin};
 
-    ghost then = { MasterBecomes (unread with_pin) };
+    ghost then = { On hold_index (MasterBecomes (unread with_pin)) };
 }
 
 /// The Master takes back a hold that has no seat.
 pub(crate) struct UnpinsHold;
 
 impl Play<(), View> for UnpinsHold {
-    ghost use Rattle.kf_words.specs.Steps.{MasterBecomes, unread, without_pin};
+    ghost use Rattle.kf_words.specs.Layout.{hold_index};
+    ghost use Rattle.kf_words.specs.Steps.{On, MasterBecomes, unread, without_pin};
 
-    ghost then = { MasterBecomes (unread without_pin) };
+    ghost then = { On hold_index (MasterBecomes (unread without_pin)) };
 }
 
 /// The Master stores the active word of a node that is to be born.
 pub(crate) struct StoresFresh;
 
 impl Play<(), View> for StoresFresh {
-    ghost use Rattle.kf_words.specs.Steps.{MasterBecomes, unread, after_store};
+    ghost use Rattle.kf_words.specs.Layout.{active_index};
+    ghost use Rattle.kf_words.specs.Steps.{On, MasterBecomes, unread, after_store};
 
-    ghost then = { MasterBecomes (unread after_store) };
+    ghost then = { On active_index (MasterBecomes (unread after_store)) };
 }
 
 /// The Master gives a slot its next generation, and links a node there.
 pub(crate) struct Births;
 
 impl Play<(), View> for Births {
-    ghost use Rattle.kf_words.specs.Steps.{MasterBecomes, unread, with_birth};
+    ghost use Rattle.kf_words.specs.Layout.{hold_index};
+    ghost use Rattle.kf_words.specs.Steps.{On, MasterBecomes, unread, with_birth};
 
-    ghost then = { MasterBecomes (unread with_birth) };
+    ghost then = { On hold_index (MasterBecomes (unread with_birth)) };
 }
 
 /// The Master takes the bias off an active word: the node is activated.
 pub(crate) struct TakesBias;
 
 impl Play<(), View> for TakesBias {
-    ghost use Rattle.kf_words.specs.Steps.{MasterBecomes, unread, with_marks, activated_marks};
+    ghost use Rattle.kf_words.specs.Layout.{active_index};
+    ghost use Rattle.kf_words.specs.Steps.{On, MasterBecomes, unread, with_marks, activated_marks};
 
-    ghost then = { MasterBecomes (unread (with_marks activated_marks)) };
+    ghost then = { On active_index (MasterBecomes (unread (with_marks activated_marks))) };
 }
 
 /// The Master marks a node as doomed.
 pub(crate) struct MarksNode;
 
 impl Play<(), View> for MarksNode {
-    ghost use Rattle.kf_words.specs.Steps.{MasterBecomes, unread, with_marks, doomed_marks};
+    ghost use Rattle.kf_words.specs.Layout.{active_index};
+    ghost use Rattle.kf_words.specs.Steps.{On, MasterBecomes, unread, with_marks, doomed_marks};
 
-    ghost then = { MasterBecomes (unread (with_marks doomed_marks)) };
+    ghost then = { On active_index (MasterBecomes (unread (with_marks doomed_marks))) };
 }
 
 /// The Master loads an active word.
 pub(crate) struct LooksOver;
 
 impl Play<(), View> for LooksOver {
-    ghost use Rattle.kf_words.specs.Steps.{MasterBecomes, with_look};
+    ghost use Rattle.kf_words.specs.Layout.{active_index};
+    ghost use Rattle.kf_words.specs.Steps.{On, MasterBecomes, with_look};
 
-    ghost then = { MasterBecomes with_look };
+    ghost then = { On active_index (MasterBecomes with_look) };
 }
 
 /// The Master takes a node out of its slot.
 pub(crate) struct Unlinks;
 
 impl Play<(), View> for Unlinks {
-    ghost use Rattle.kf_words.specs.Steps.{MasterBecomes, unread, without_node};
+    ghost use Rattle.kf_words.specs.Layout.{hold_index};
+    ghost use Rattle.kf_words.specs.Steps.{On, MasterBecomes, unread, without_node};
 
-    ghost then = { MasterBecomes (unread without_node) };
+    ghost then = { On hold_index (MasterBecomes (unread without_node)) };
 }
 
 /// The hold that has no seat yet goes to a new one.

@@ -8,16 +8,29 @@ ghost use Rattle.kf_words.specs.declared.view.View.TheVariants as seat_of;
 use crate::table::WordTable;
 use crate::view::View;
 use atomic_table::Seat;
-use kf_core::{Key, Node};
+use kf_core::Key;
 use std::sync::Arc;
+
+/// What a node is, but for a file's tag and a link's target.
+#[derive(Clone, Copy)]
+pub(crate) enum Kind {
+    Dir,
+    File { mode: u16 },
+    Link,
+}
 
 /// A caller's seat at the table of words, with the key whose slot it holds and the node of that key.
 /// It lies in a `Hold`, `Call`, `Drained`, `Parted`, `Hiding` or `Hidden`, and ends when its slot is given back.
-/// The node stands first: a call moves what lies behind the slot through memory, between two atomic steps.
+///
+/// The node lies in three fields, since a value of sixteen bytes would go through memory at each atomic step.
 pub struct CallerSeat {
-    pub(crate) node: Node,
+    /// Of a file.
+    pub(crate) tag: u64,
     pub(crate) table: Arc<WordTable>,
+    /// Of a link.
+    pub(crate) target: Key,
     pub(crate) key: Key,
+    pub(crate) kind: Kind,
     pub(crate) token: Seat<(), View>,
     ghost of_table: { token.table_id ≡ (arc_value table).shared.table_id },
     ghost a_caller: { token.me ≡ (seat_of.Caller (caller_of token.me.0), []) },

@@ -1,26 +1,27 @@
 //! What a state tells: its commands, paths, listings, and what is told of a node. No call changes anything.
 
-ghost use Rattle.std.specs.Prelude.{◌≡◌, ◌↔◌, map, IfOk, IfErr, IsTrue, slice_get, MatchResult, None, Some, Ok, Err, true};
+ghost use Rattle.std.specs.Prelude.{◌≡◌, ◌↔◌, map, IfOk, IfErr, IsTrue, slice_get, MatchResult, None, Some, Ok, Err, true, length, IfSome};
 ghost use Rattle.std.specs.Option.{option_copied, option_map, ok_or};
-ghost use Rattle.kf_core.specs.Tree.{record_at, is_linked};
+ghost use Rattle.kf_core.specs.Tree.{record_at, is_linked, in_subtree};
 ghost use Rattle.kf_core.specs.PostOrder.{IsPostOrder};
-ghost use Rattle.kf_tree.specs.Causes.{Refuses, linked_cause, doom_cause, unlink_cause, list_cause, text_cause};
+ghost use Rattle.kf_tree.specs.Causes.{Refuses, create_cause, linked_cause, doom_cause, unlink_cause, list_cause, text_cause};
 ghost use Rattle.kf_tree.specs.Ends.{EndsWith};
 ghost use Rattle.kf_tree.specs.Links.{HasLinkText};
 ghost use Rattle.kf_tree.specs.Listing.{IsListing};
 ghost use Rattle.kf_tree.specs.Paths.{found, walked, seen, walked_parent};
 ghost use Rattle.kf_tree.specs.Stat.{stat_of};
+ghost use Rattle.kf_tree.specs.Subtrees.{key_in};
 ghost use Rattle.kf_tree.specs.TreeLogs.{IsKept};
 
 use super::State;
-use crate::causes::{check_doom, check_linked, check_list, check_text, check_unlink};
+use crate::causes::{check_create, check_doom, check_linked, check_list, check_text, check_unlink};
 use crate::links::link_text;
 use crate::listing::{copy_names, list_names};
 use crate::paths::{walk, walk_parent};
 use crate::post::post_order;
 use crate::shown::find_in;
 use crate::stat::{Stat, stat_of};
-use kf_core::{Command, Key, Refusal};
+use kf_core::{Command, Key, Node, Refusal};
 use kf_index::Name;
 
 impl State {
@@ -50,12 +51,55 @@ impl State {
         self.table.is_vacant(slot)
     }
 
+    /// The number of slots: each linked node has one below it.
+    pub fn slots(&self) -> u32
+        ensures known { result ≡ length self.now.tree }
+    {
+        self.table.len() as u32
+    }
+
+    /// The key of the linked node in a slot, where there is one.
+    pub fn key_in(&self, slot: u32) -> Option<Key>
+        ensures known { result ≡ key_in self.now.tree slot }
+        ensures here { IfSome result (λ key. key.slot ≡ slot) }
+    {
+        match self.table.in_slot(slot) {
+            Some(entry) => Some(entry.key),
+            None => None,
+        }
+    }
+
+    /// Whether following parents from the key meets the top, as a key itself does. It takes no memory, and one
+    /// step for each directory on the way up.
+    pub fn is_below(&self, top: Key, key: Key) -> bool
+        ensures known { result ≡ in_subtree self.now.tree top key }
+    {
+        self.table.is_below(top, key)
+    }
+
+    /// Why [`State::create`] would refuse this new record now, want of memory aside. It takes no memory.
+    pub fn may_create(
+        &self,
+        parent: Key,
+        name: &[u8],
+        node: Node,
+        next: Option<Key>,
+    ) -> Result<(), Refusal>
+        ensures checked { MatchResult result
+            (λ _. create_cause self.now.tree self.now.root parent name.now node next ≡ None)
+            (λ refusal. create_cause self.now.tree self.now.root parent name.now node next ≡ Some refusal) }
+    {
+        check_create(&self.table, self.root, parent, name, &node, next)?;
+        Ok(())
+    }
+
     /// Why [`State::doom`] would refuse this key now, want of memory aside: `NoEntry` (not linked), then `Invalid`
-    /// (the root). It takes no memory.
+    /// (the root). It takes no memory. What holds of every state is told here too.
     pub fn may_doom(&self, key: Key) -> Result<(), Refusal>
         ensures checked { MatchResult result
             (λ _. doom_cause self.now.tree self.now.root key ≡ None)
             (λ refusal. doom_cause self.now.tree self.now.root key ≡ Some refusal) }
+        ensures kept { IsKept self.now }
     {
         check_doom(&self.table, self.root, key)
     }

@@ -6,6 +6,7 @@ ghost use Rattle.std.specs.Prelude.{◌≡◌, slice_get, IfSome, Some, None};
 mod compaction;
 mod hiding;
 mod large;
+mod places;
 
 use super::State;
 use crate::Stat;

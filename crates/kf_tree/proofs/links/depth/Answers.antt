@@ -1,4 +1,4 @@
-use Rattle.std.proofs.Common.{arith, sym, ◌<◌, length}
+use Rattle.std.proofs.Common.{arith, sym}
 use Rattle.kf_tree.proofs.OneClimb.{counted_none, counted_more, counted_few, counted_all}
 use Rattle.kf_tree.proofs.links.depth.Goals as goal
 

@@ -1,4 +1,4 @@
-use Rattle.std.proofs.Common.{rules, ◌≡◌, ◌≢◌, ◌≤◌, arith, subst, sym}
+use Rattle.std.proofs.Common.{rules, ◌≡◌, ◌≢◌, arith, subst, sym}
 use Rattle.kf_tree.specs.Links.{IsOver}
 use Rattle.kf_tree.proofs.Over.{climbed_none, climbed_next, climbed_end}
 use Rattle.kf_tree.proofs.OneClimb.{beside_first, beside_up, other_up, not_over, deep, above_by}

@@ -1,4 +1,3 @@
-use Rattle.kf_tree.specs.Walks.{IsLastInPreOrder}
 use Rattle.kf_tree.proofs.PreOrder.{up_none, aside_next, up_next, up_smaller, up_last, if_none}
 use Rattle.kf_tree.proofs.walks.next_aside.Goals as goal
 

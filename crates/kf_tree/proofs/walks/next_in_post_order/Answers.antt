@@ -1,4 +1,4 @@
-use Rattle.std.proofs.Common.{rules, ◌≡◌, ◌≢◌}
+use Rattle.std.proofs.Common.{rules, ◌≢◌}
 use Rattle.kf_tree.proofs.Tours.{linked_sibling, on_to_sibling, up_to_parent}
 use Rattle.kf_tree.proofs.walks.next_in_post_order.Goals as goal
 

@@ -1,7 +1,7 @@
 use Rattle.std.proofs.Common.{subst}
 use Rattle.kf_tree.specs.Ends.{EndsWith}
 use Rattle.kf_shared.specs.Removal.{keys_of}
-use Rattle.kf_shared.specs.Receipts.{IsDoomList, AllDifferent}
+use Rattle.kf_shared.specs.Receipts.{IsDoomList}
 use Rattle.kf_shared.proofs.Pins.{invalid_self_root}
 use Rattle.kf_shared.proofs.Receipts.{receipts_end, receipts_listed, end_key, doomed_different}
 use Rattle.kf_shared.proofs.tree.SharedTree.remove_self.Goals as goal

@@ -1,5 +1,5 @@
-use Rattle.std.proofs.Common.{◌∙◌, ap, sym, subst, arith}
-use Rattle.std.specs.Prelude.{None, Some, vec_capacity, ◌+◌}
+use Rattle.std.proofs.Common.{subst, arith}
+use Rattle.std.specs.Prelude.{None, vec_capacity, ◌+◌}
 use Rattle.kf_core.specs.declared.command.Command.TheVariants.{Hide}
 use Rattle.kf_tree.specs.Causes.{hide_cause}
 use Rattle.kf_tree.specs.TreeLogs.{TreeLog, IsAccepted}

@@ -1,16 +1,22 @@
 use Rattle.std.proofs.Common.{◌≡◌, ℕ, rules, sym, ap, subst}
 use Rattle.kf_words.specs.Callers.{Handle, FoundThere, handle_of, view_of, seat_view}
 use Rattle.kf_words.specs.Runs.{WasLetInLive}
+use Rattle.kf_words.specs.declared.seat.CallerSeat.{CallerSeat}
 use Rattle.kf_words.specs.declared.view.CallerView.{CallerView}
 use Rattle.kf_words.proofs.Made.{was_live, try_found}
 use Rattle.kf_words.proofs.hold.Hold.enter.Goals as goal
 
 pub returns-then-not-keeps_out-clause-live : goal.returns-then-not-keeps_out-clause-live
-returns-then-not-keeps_out-clause-live c = subst (λ (h : Handle). WasLetInLive (seat_view h) (view_of c.try_reference.new.self)) c.self.view_is
-    (was_live _ _ c.try_reference.ensures.made (search rules))
+returns-then-not-keeps_out-clause-live c =
+    subst (λ (s : CallerSeat). WasLetInLive (seat_view c.args.self) (view_of s)) (sym c.moved.ensures.same)
+    (subst (λ (h : Handle). WasLetInLive (seat_view h) (view_of c.try_reference.new.self)) c.self.view_is
+    (was_live _ _ c.try_reference.ensures.made (search rules)))
 
 pub returns-then-not-keeps_out-clause-found : goal.returns-then-not-keeps_out-clause-found
-returns-then-not-keeps_out-clause-found c = subst (λ (h : Handle). FoundThere h (view_of c.try_reference.new.self).found) c.self.view_is (try_found _ _ c.try_reference.ensures.made)
+returns-then-not-keeps_out-clause-found c =
+    subst (λ (s : CallerSeat). FoundThere c.args.self (view_of s).found) (sym c.moved.ensures.same)
+    (subst (λ (h : Handle). FoundThere h (view_of c.try_reference.new.self).found) c.self.view_is
+    (try_found _ _ c.try_reference.ensures.made))
 
 pub returns-clause-found : goal.returns-clause-found
 returns-clause-found c =

@@ -16,7 +16,7 @@ load-requires c =
 pub invariant_of-self : goal.invariant_of-self
 invariant_of-self c =
     let self = c.args.self.now in
-    let now = told self.token.me c.load.new.seat.me c.args.slot c.hold_index-word.result c.load.result with_load self.a_master (hold_slot c.args.slot c.hold_index-word.result (sym c.hold_index-word.ensures.here)) c.load.ensures.2.0 in
+    let now = told self.token.me c.load.new.seat.me c.args.slot c.hold_index-word.result c.load.result with_load self.a_master (hold_slot c.args.slot c.hold_index-word.result (sym c.hold_index-word.ensures.here)) c.load.ensures.2.1.0 in
     record {
       of_table = c.load.ensures.0 ∙ self.of_table;
       a_master = keeps_master _ _ now;
@@ -27,10 +27,10 @@ invariant_of-self c =
 pub returns-clause-view : goal.returns-clause-view
 returns-clause-view c =
     let self = c.args.self.now in
-    ap (λ (x : Seated). master_of x.0) (told self.token.me c.load.new.seat.me c.args.slot c.hold_index-word.result c.load.result with_load self.a_master (hold_slot c.args.slot c.hold_index-word.result (sym c.hold_index-word.ensures.here)) c.load.ensures.2.0)
+    ap (λ (x : Seated). master_of x.0) (told self.token.me c.load.new.seat.me c.args.slot c.hold_index-word.result c.load.result with_load self.a_master (hold_slot c.args.slot c.hold_index-word.result (sym c.hold_index-word.ensures.here)) c.load.ensures.2.1.0)
 
 pub returns-clause-slot : goal.returns-clause-slot
 returns-clause-slot c =
     let self = c.args.self.now in
     let m : MasterView = master_of self.token.me.0 in
-    subst (λ (k : ℕ). TellsSlot m k c.load.result) (hold_slot c.args.slot c.hold_index-word.result (sym c.hold_index-word.ensures.here)) c.load.ensures.2.1
+    subst (λ (k : ℕ). TellsSlot m k c.load.result) (hold_slot c.args.slot c.hold_index-word.result (sym c.hold_index-word.ensures.here)) c.load.ensures.2.1.1

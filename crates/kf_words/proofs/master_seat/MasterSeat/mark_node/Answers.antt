@@ -20,7 +20,7 @@ fetch_add-requires c =
 pub invariant_of-self : goal.invariant_of-self
 invariant_of-self c =
     let self = c.args.self.now in
-    let now = told self.token.me c.fetch_add.new.seat.me c.args.slot c.active_index-word.result c.fetch_add.result (unread (with_marks doomed_marks)) self.a_master (active_slot c.args.slot c.active_index-word.result (sym c.active_index-word.ensures.here)) c.fetch_add.ensures.2 in
+    let now = told self.token.me c.fetch_add.new.seat.me c.args.slot c.active_index-word.result c.fetch_add.result (unread (with_marks doomed_marks)) self.a_master (active_slot c.args.slot c.active_index-word.result (sym c.active_index-word.ensures.here)) c.fetch_add.ensures.2.1 in
     record {
       of_table = c.fetch_add.ensures.0 ∙ self.of_table;
       a_master = keeps_master _ _ now;

@@ -18,7 +18,7 @@ fetch_add-requires c =
 pub invariant_of-self : goal.invariant_of-self
 invariant_of-self c =
     let self = c.args.self.now in
-    let now = told self.token.me c.fetch_add.new.seat.me c.args.slot c.hold_index-word.result c.fetch_add.result (unread with_pin) self.a_master (hold_slot c.args.slot c.hold_index-word.result (sym c.hold_index-word.ensures.here)) c.fetch_add.ensures.2 in
+    let now = told self.token.me c.fetch_add.new.seat.me c.args.slot c.hold_index-word.result c.fetch_add.result (unread with_pin) self.a_master (hold_slot c.args.slot c.hold_index-word.result (sym c.hold_index-word.ensures.here)) c.fetch_add.ensures.2.1 in
     record {
       of_table = c.fetch_add.ensures.0 ∙ self.of_table;
       a_master = keeps_master _ _ now;
@@ -29,4 +29,4 @@ invariant_of-self c =
 pub returns-clause-view : goal.returns-clause-view
 returns-clause-view c =
     let self = c.args.self.now in
-    ap (λ (x : Seated). master_of x.0) (told self.token.me c.fetch_add.new.seat.me c.args.slot c.hold_index-word.result c.fetch_add.result (unread with_pin) self.a_master (hold_slot c.args.slot c.hold_index-word.result (sym c.hold_index-word.ensures.here)) c.fetch_add.ensures.2)
+    ap (λ (x : Seated). master_of x.0) (told self.token.me c.fetch_add.new.seat.me c.args.slot c.hold_index-word.result c.fetch_add.result (unread with_pin) self.a_master (hold_slot c.args.slot c.hold_index-word.result (sym c.hold_index-word.ensures.here)) c.fetch_add.ensures.2.1)

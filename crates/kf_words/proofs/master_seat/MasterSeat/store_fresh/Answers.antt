@@ -15,7 +15,7 @@ store-requires c =
 pub invariant_of-self : goal.invariant_of-self
 invariant_of-self c =
     let self = c.args.self.now in
-    let now = told self.token.me c.store.new.seat.me c.args.slot c.active_index-word.result 0 (unread after_store) self.a_master (active_slot c.args.slot c.active_index-word.result (sym c.active_index-word.ensures.here)) c.store.ensures.2 in
+    let now = told self.token.me c.store.new.seat.me c.args.slot c.active_index-word.result 0 (unread after_store) self.a_master (active_slot c.args.slot c.active_index-word.result (sym c.active_index-word.ensures.here)) c.store.ensures.2.1 in
     record {
       of_table = c.store.ensures.0 ∙ self.of_table;
       a_master = keeps_master _ _ now;
@@ -26,5 +26,5 @@ invariant_of-self c =
 pub returns-clause-view : goal.returns-clause-view
 returns-clause-view c =
     let self = c.args.self.now in
-    let now = told self.token.me c.store.new.seat.me c.args.slot c.active_index-word.result 0 (unread after_store) self.a_master (active_slot c.args.slot c.active_index-word.result (sym c.active_index-word.ensures.here)) c.store.ensures.2 in
+    let now = told self.token.me c.store.new.seat.me c.args.slot c.active_index-word.result 0 (unread after_store) self.a_master (active_slot c.args.slot c.active_index-word.result (sym c.active_index-word.ensures.here)) c.store.ensures.2.1 in
     ap (λ (x : Seated). master_of x.0) now

@@ -20,7 +20,7 @@ fetch_sub-requires c =
 pub invariant_of-self : goal.invariant_of-self
 invariant_of-self c =
     let self = c.args.self.now in
-    let now = told self.token.me c.fetch_sub.new.seat.me c.args.slot c.active_index-word.result c.fetch_sub.result (unread (with_marks activated_marks)) self.a_master (active_slot c.args.slot c.active_index-word.result (sym c.active_index-word.ensures.here)) c.fetch_sub.ensures.2 in
+    let now = told self.token.me c.fetch_sub.new.seat.me c.args.slot c.active_index-word.result c.fetch_sub.result (unread (with_marks activated_marks)) self.a_master (active_slot c.args.slot c.active_index-word.result (sym c.active_index-word.ensures.here)) c.fetch_sub.ensures.2.1 in
     record {
       of_table = c.fetch_sub.ensures.0 ∙ self.of_table;
       a_master = keeps_master _ _ now;
@@ -31,5 +31,5 @@ invariant_of-self c =
 pub returns-clause-view : goal.returns-clause-view
 returns-clause-view c =
     let self = c.args.self.now in
-    let now = told self.token.me c.fetch_sub.new.seat.me c.args.slot c.active_index-word.result c.fetch_sub.result (unread (with_marks activated_marks)) self.a_master (active_slot c.args.slot c.active_index-word.result (sym c.active_index-word.ensures.here)) c.fetch_sub.ensures.2 in
+    let now = told self.token.me c.fetch_sub.new.seat.me c.args.slot c.active_index-word.result c.fetch_sub.result (unread (with_marks activated_marks)) self.a_master (active_slot c.args.slot c.active_index-word.result (sym c.active_index-word.ensures.here)) c.fetch_sub.ensures.2.1 in
     ap (λ (x : Seated). master_of x.0) now

@@ -1,0 +1,862 @@
+//! A plain program that answers the scripts of `kernfs_run` with the same bytes, to measure that one by:
+//! `rustc -O bench/plain.rs`, std alone, nothing proved. A directory is a `BTreeMap` of its names.
+//!
+//! `plain [--slots N] [--line-writes] < SCRIPT`. Replies are gathered and written before each read; after
+//! `--line-writes` each is written by itself, as `kernfs_run` does it.
+
+use std::cmp::Reverse;
+use std::collections::{BTreeMap, BinaryHeap};
+use std::io::{self, Read, Write};
+use std::process::ExitCode;
+
+/// The longest line that is a command, without its newline.
+const LINE_LIMIT: usize = 8192;
+/// The bytes of a page: a store is handed no more, and a show one byte less.
+const PAGE: usize = 4096;
+/// The most holds that a slot may have.
+const HOLDS: u32 = 65_535;
+const ROOT: u32 = 0;
+
+#[derive(Clone, Copy)]
+enum Refusal {
+    NoEntry,
+    Access,
+    Busy,
+    Exists,
+    NoDevice,
+    NotDir,
+    IsDir,
+    Invalid,
+    TooManyHolds,
+    NoSpace,
+    NameTooLong,
+    /// The line is no command.
+    Line,
+}
+
+impl Refusal {
+    fn text(self) -> &'static str {
+        match self {
+            Refusal::NoEntry => "err NoEntry 2",
+            Refusal::Access => "err Access 13",
+            Refusal::Busy => "err Busy 16",
+            Refusal::Exists => "err Exists 17",
+            Refusal::NoDevice => "err NoDevice 19",
+            Refusal::NotDir => "err NotDir 20",
+            Refusal::IsDir => "err IsDir 21",
+            Refusal::Invalid => "err Invalid 22",
+            Refusal::TooManyHolds => "err TooManyHolds 24",
+            Refusal::NoSpace => "err NoSpace 28",
+            Refusal::NameTooLong => "err NameTooLong 36",
+            Refusal::Line => "err Line 22",
+        }
+    }
+}
+
+#[derive(Clone, Copy, PartialEq, Eq)]
+struct Key {
+    slot: u32,
+    generation: u32,
+}
+
+enum Kind {
+    Dir {
+        children: BTreeMap<Box<[u8]>, u32>,
+        subdirs: u32,
+    },
+    File {
+        mode: u16,
+        text: Vec<u8>,
+    },
+    Link {
+        target: Key,
+    },
+}
+
+struct Node {
+    parent: u32,
+    name: Box<[u8]>,
+    kind: Kind,
+    activated: bool,
+    hidden: bool,
+}
+
+impl Node {
+    fn is_live(&self) -> bool {
+        self.activated && !self.hidden
+    }
+
+    fn is_dir(&self) -> bool {
+        matches!(self.kind, Kind::Dir { .. })
+    }
+}
+
+/// A slot is free where it has no node and no hold. The key of its last node stays known.
+struct Slot {
+    generation: u32,
+    holds: u32,
+    event: u64,
+    /// The key that is hidden, until it is shown again.
+    token: Option<Key>,
+    node: Option<Node>,
+}
+
+struct OpenFile {
+    key: Key,
+    reads: bool,
+    writes: bool,
+    /// What the last show gave, with the event number that was taken before it.
+    text: Option<Vec<u8>>,
+    number: u64,
+}
+
+struct Board {
+    slots: Vec<Slot>,
+    free: BinaryHeap<Reverse<u32>>,
+    files: [Option<OpenFile>; 26],
+    commands: usize,
+}
+
+/// Why a name is refused: first its length, then its bytes.
+fn check_name(name: &[u8]) -> Result<(), Refusal> {
+    if name.len() > 255 {
+        return Err(Refusal::NameTooLong);
+    }
+    let is_bad = name.is_empty() || name == b"." || name == b"..";
+    if is_bad || name.iter().any(|byte| *byte == b'/' || *byte == 0) {
+        return Err(Refusal::Invalid);
+    }
+    Ok(())
+}
+
+fn names_of(parts: &[u8]) -> impl Iterator<Item = &[u8]> {
+    parts.split(|byte| *byte == b'/')
+}
+
+impl Board {
+    fn new(slots: u32) -> Board {
+        let mut board = Board {
+            slots: Vec::new(),
+            free: (1..slots).map(Reverse).collect(),
+            files: [const { None }; 26],
+            commands: 0,
+        };
+        for _ in 0..slots {
+            board.slots.push(Slot {
+                generation: 0,
+                holds: 0,
+                event: 1,
+                token: None,
+                node: None,
+            });
+        }
+        board.slots[0].generation = 1;
+        board.slots[0].node = Some(Node {
+            parent: ROOT,
+            name: Box::from(&b""[..]),
+            kind: Kind::Dir {
+                children: BTreeMap::new(),
+                subdirs: 0,
+            },
+            activated: true,
+            hidden: false,
+        });
+        board
+    }
+
+    fn slot(&self, slot: u32) -> &Slot {
+        &self.slots[slot as usize]
+    }
+
+    fn slot_mut(&mut self, slot: u32) -> &mut Slot {
+        &mut self.slots[slot as usize]
+    }
+
+    /// The node of a slot that is known to have one.
+    fn node(&self, slot: u32) -> &Node {
+        self.slot(slot).node.as_ref().expect("a linked node")
+    }
+
+    fn node_mut(&mut self, slot: u32) -> &mut Node {
+        self.slot_mut(slot).node.as_mut().expect("a linked node")
+    }
+
+    fn key(&self, slot: u32) -> Key {
+        Key {
+            slot,
+            generation: self.slot(slot).generation,
+        }
+    }
+
+    /// The node of a key, where it is linked.
+    fn linked(&self, key: Key) -> Option<&Node> {
+        let slot = self.slot(key.slot);
+        slot.node
+            .as_ref()
+            .filter(|_| slot.generation == key.generation)
+    }
+
+    fn find(&self, dir: u32, name: &[u8], live_only: bool) -> Result<u32, Refusal> {
+        let Kind::Dir { children, .. } = &self.node(dir).kind else {
+            return Err(Refusal::NotDir);
+        };
+        let child = *children.get(name).ok_or(Refusal::NoEntry)?;
+        if live_only && !self.node(child).is_live() {
+            return Err(Refusal::NoEntry);
+        }
+        Ok(child)
+    }
+
+    fn walk(&self, path: &[u8], live_only: bool) -> Result<u32, Refusal> {
+        let parts = path.strip_prefix(b"/").ok_or(Refusal::Invalid)?;
+        if parts.is_empty() {
+            return Ok(ROOT);
+        }
+        if names_of(parts).any(|name| name.is_empty()) {
+            return Err(Refusal::Invalid);
+        }
+        names_of(parts).try_fold(ROOT, |dir, name| self.find(dir, name, live_only))
+    }
+
+    /// The directory part of a path, walked, and its last name.
+    fn walk_parent<'a>(&self, path: &'a [u8]) -> Result<(u32, &'a [u8]), Refusal> {
+        let parts = path.strip_prefix(b"/").ok_or(Refusal::Invalid)?;
+        let Some(at) = parts.iter().rposition(|byte| *byte == b'/') else {
+            let is_root = parts.is_empty();
+            return if is_root {
+                Err(Refusal::Invalid)
+            } else {
+                Ok((ROOT, parts))
+            };
+        };
+        if names_of(&parts[..at]).any(|name| name.is_empty()) {
+            return Err(Refusal::Invalid);
+        }
+        let dir = names_of(&parts[..at]).try_fold(ROOT, |dir, name| self.find(dir, name, false))?;
+        Ok((dir, &parts[at + 1..]))
+    }
+
+    /// Puts a node that stands nowhere yet into a directory.
+    fn enter_directory(&mut self, dir: u32, name: &[u8], child: u32, is_dir: bool) {
+        let Kind::Dir { children, subdirs } = &mut self.node_mut(dir).kind else {
+            unreachable!("a directory")
+        };
+        children.insert(Box::from(name), child);
+        *subdirs += u32::from(is_dir);
+    }
+
+    fn leave_directory(&mut self, dir: u32, name: &[u8], is_dir: bool) {
+        let Kind::Dir { children, subdirs } = &mut self.node_mut(dir).kind else {
+            unreachable!("a directory")
+        };
+        children.remove(name);
+        *subdirs -= u32::from(is_dir);
+    }
+
+    fn create(&mut self, dir: u32, name: &[u8], kind: Kind, live: bool) -> Result<Key, Refusal> {
+        check_name(name)?;
+        let Kind::Dir { children, .. } = &self.node(dir).kind else {
+            return Err(Refusal::NotDir);
+        };
+        if matches!(kind, Kind::Link { target } if target.slot == ROOT) {
+            return Err(Refusal::Invalid);
+        }
+        if children.contains_key(name) {
+            return Err(Refusal::Exists);
+        }
+        let Reverse(slot) = self.free.pop().ok_or(Refusal::NoSpace)?;
+        let node = Node {
+            parent: dir,
+            name: Box::from(name),
+            kind,
+            activated: live,
+            hidden: false,
+        };
+        self.enter_directory(dir, name, slot, node.is_dir());
+        let place = self.slot_mut(slot);
+        place.generation += 1;
+        place.node = Some(node);
+        self.commands += 1;
+        Ok(self.key(slot))
+    }
+
+    fn make(&mut self, path: &[u8], kind: Kind, live: bool) -> Result<Key, Refusal> {
+        let (dir, name) = self.walk_parent(path)?;
+        self.create(dir, name, kind, live)
+    }
+
+    fn make_link(&mut self, path: &[u8], target: &[u8]) -> Result<Key, Refusal> {
+        let (dir, name) = self.walk_parent(path)?;
+        let target = self.key(self.walk(target, false)?);
+        self.create(dir, name, Kind::Link { target }, true)
+    }
+
+    /// The slots of a subtree, each directory before what is in it.
+    fn subtree(&self, top: u32) -> Vec<u32> {
+        let mut slots = vec![top];
+        let mut seen = 0;
+        while seen < slots.len() {
+            if let Kind::Dir { children, .. } = &self.node(slots[seen]).kind {
+                slots.extend(children.values());
+            }
+            seen += 1;
+        }
+        slots
+    }
+
+    fn activate(&mut self, path: &[u8]) -> Result<(), Refusal> {
+        let top = self.walk(path, false)?;
+        for slot in self.subtree(top) {
+            self.node_mut(slot).activated = true;
+        }
+        self.commands += 1;
+        Ok(())
+    }
+
+    fn is_below(&self, top: u32, slot: u32) -> bool {
+        let mut current = slot;
+        while current != top && current != ROOT {
+            current = self.node(current).parent;
+        }
+        current == top
+    }
+
+    fn rename(&mut self, path: &[u8], dir: &[u8], name: &[u8]) -> Result<(), Refusal> {
+        let slot = self.walk(path, false)?;
+        let dir = self.walk(dir, false)?;
+        if slot == ROOT {
+            return Err(Refusal::Invalid);
+        }
+        check_name(name)?;
+        let Kind::Dir { children, .. } = &self.node(dir).kind else {
+            return Err(Refusal::NotDir);
+        };
+        let node = self.node(slot);
+        if !node.is_live() || !self.node(dir).is_live() {
+            return Err(Refusal::NoEntry);
+        }
+        if node.parent == dir && *node.name == *name {
+            return Ok(());
+        }
+        if self.is_below(slot, dir) {
+            return Err(Refusal::Invalid);
+        }
+        if children.contains_key(name) {
+            return Err(Refusal::Exists);
+        }
+        let is_dir = node.is_dir();
+        let node = self.node_mut(slot);
+        let old_parent = std::mem::replace(&mut node.parent, dir);
+        let old_name = std::mem::replace(&mut node.name, Box::from(name));
+        self.leave_directory(old_parent, &old_name, is_dir);
+        self.enter_directory(dir, name, slot, is_dir);
+        self.commands += 1;
+        Ok(())
+    }
+
+    fn remove(&mut self, path: &[u8]) -> Result<(), Refusal> {
+        let top = self.walk(path, false)?;
+        if top == ROOT {
+            return Err(Refusal::Invalid);
+        }
+        let slots = self.subtree(top);
+        if slots.iter().any(|slot| self.slot(*slot).holds >= HOLDS) {
+            return Err(Refusal::TooManyHolds);
+        }
+        let node = self.node_mut(top);
+        let (parent, name, is_dir) = (node.parent, std::mem::take(&mut node.name), node.is_dir());
+        self.leave_directory(parent, &name, is_dir);
+        for slot in &slots {
+            self.slot_mut(*slot).node = None;
+            self.free_if_unused(*slot);
+        }
+        self.commands += 1 + slots.len();
+        Ok(())
+    }
+
+    fn free_if_unused(&mut self, slot: u32) {
+        let place = self.slot(slot);
+        if place.node.is_none() && place.holds == 0 && place.generation < u32::MAX {
+            self.free.push(Reverse(slot));
+        }
+    }
+
+    fn pin(&mut self, slot: u32) -> Result<(), Refusal> {
+        let place = self.slot_mut(slot);
+        if place.holds >= HOLDS {
+            return Err(Refusal::TooManyHolds);
+        }
+        place.holds += 1;
+        Ok(())
+    }
+
+    fn release(&mut self, slot: u32) {
+        self.slot_mut(slot).holds -= 1;
+        self.free_if_unused(slot);
+    }
+
+    /// The slots from the root to a node, both counted.
+    fn way_to(&self, slot: u32) -> Vec<u32> {
+        let mut way = vec![slot];
+        let mut current = slot;
+        while current != ROOT {
+            current = self.node(current).parent;
+            way.push(current);
+        }
+        way.reverse();
+        way
+    }
+
+    fn read_link(&self, path: &[u8], reply: &mut Vec<u8>) -> Result<(), Refusal> {
+        let link = self.node(self.walk(path, true)?);
+        let Kind::Link { target } = link.kind else {
+            return Err(Refusal::Invalid);
+        };
+        self.linked(target).ok_or(Refusal::NoEntry)?;
+        let from = self.way_to(link.parent);
+        let to = self.way_to(target.slot);
+        let above = &to[..to.len() - 1];
+        let common = from.iter().zip(above).take_while(|(a, b)| a == b).count();
+        for _ in common..from.len() {
+            reply.extend_from_slice(b"../");
+        }
+        for slot in &to[common..] {
+            reply.extend_from_slice(&self.node(*slot).name);
+            reply.push(b'/');
+        }
+        reply.pop();
+        Ok(())
+    }
+
+    fn list(&self, path: &[u8], reply: &mut Vec<u8>) -> Result<(), Refusal> {
+        let Kind::Dir { children, .. } = &self.node(self.walk(path, true)?).kind else {
+            return Err(Refusal::NotDir);
+        };
+        let start = reply.len();
+        for (name, child) in children {
+            if self.node(*child).is_live() {
+                reply.extend_from_slice(name);
+                reply.push(b' ');
+            }
+        }
+        if reply.len() > start {
+            reply.pop();
+        }
+        Ok(())
+    }
+
+    fn stat(&self, path: &[u8], reply: &mut Vec<u8>) -> Result<(), Refusal> {
+        let node = self.node(self.walk(path, false)?);
+        let state = match (node.activated, node.hidden) {
+            (false, _) => "off",
+            (true, true) => "hidden",
+            (true, false) => "live",
+        };
+        match &node.kind {
+            Kind::Dir { subdirs, .. } => {
+                let links = subdirs + 2;
+                put(
+                    reply,
+                    format_args!("dir subdirs={subdirs} nlink={links} {state}"),
+                )
+            }
+            Kind::File { mode, .. } => put(reply, format_args!("file mode={mode:03o} {state}")),
+            Kind::Link { .. } => put(reply, format_args!("link {state}")),
+        }
+        Ok(())
+    }
+
+    fn open(
+        &mut self,
+        letter: usize,
+        path: &[u8],
+        reads: bool,
+        writes: bool,
+    ) -> Result<(), Refusal> {
+        if self.files[letter].is_some() {
+            return Err(Refusal::Busy);
+        }
+        let slot = self.walk(path, true)?;
+        if self.slot(slot).holds >= HOLDS {
+            return Err(Refusal::TooManyHolds);
+        }
+        let mode = match &self.node(slot).kind {
+            Kind::Dir { .. } => return Err(Refusal::IsDir),
+            Kind::Link { .. } => return Err(Refusal::Invalid),
+            Kind::File { mode, .. } => *mode,
+        };
+        if (reads && mode & 0o444 == 0) || (writes && mode & 0o222 == 0) {
+            return Err(Refusal::Access);
+        }
+        self.pin(slot)?;
+        self.files[letter] = Some(OpenFile {
+            key: self.key(slot),
+            reads,
+            writes,
+            text: None,
+            number: 0,
+        });
+        Ok(())
+    }
+
+    fn read(
+        &mut self,
+        letter: usize,
+        offset: u64,
+        most: usize,
+        reply: &mut Vec<u8>,
+    ) -> Result<(), Refusal> {
+        let file = self.files[letter].as_mut().ok_or(Refusal::Invalid)?;
+        if !file.reads {
+            return Err(Refusal::Access);
+        }
+        if offset == 0 || file.text.is_none() {
+            let slot = &self.slots[file.key.slot as usize];
+            let shown = live_text(slot, file.key).ok_or(Refusal::NoDevice)?;
+            file.number = slot.event;
+            let text = file.text.get_or_insert_default();
+            text.clear();
+            text.extend_from_slice(&shown[..shown.len().min(PAGE - 1)]);
+        }
+        let text = file.text.as_deref().unwrap_or_default();
+        let start = text.len().min(offset as usize);
+        let end = text.len().min(start + most);
+        reply.extend_from_slice(&text[start..end]);
+        Ok(())
+    }
+
+    fn write(&mut self, letter: usize, bytes: &[u8]) -> Result<usize, Refusal> {
+        let file = self.files[letter].as_ref().ok_or(Refusal::Invalid)?;
+        if !file.writes {
+            return Err(Refusal::Access);
+        }
+        let (key, slot) = (file.key, &mut self.slots[file.key.slot as usize]);
+        live_text(slot, key).ok_or(Refusal::NoDevice)?;
+        let stored = &bytes[..bytes.len().min(PAGE)];
+        if let (false, Some(Kind::File { text, .. })) = (
+            stored.is_empty(),
+            slot.node.as_mut().map(|node| &mut node.kind),
+        ) {
+            text.clear();
+            text.extend_from_slice(stored);
+        }
+        Ok(stored.len())
+    }
+
+    fn poll(&self, letter: usize) -> Result<bool, Refusal> {
+        let file = self.files[letter].as_ref().ok_or(Refusal::Invalid)?;
+        let slot = self.slot(file.key.slot);
+        Ok(live_text(slot, file.key).is_none() || slot.event != file.number)
+    }
+
+    fn notify(&mut self, path: &[u8]) -> Result<(), Refusal> {
+        let slot = self.walk(path, false)?;
+        check_file(self.node(slot))?;
+        let event = &mut self.slot_mut(slot).event;
+        *event = event.checked_add(1).ok_or(Refusal::NoSpace)?;
+        Ok(())
+    }
+
+    fn close(&mut self, letter: usize) -> Result<(), Refusal> {
+        let file = self.files[letter].take().ok_or(Refusal::Invalid)?;
+        self.release(file.key.slot);
+        Ok(())
+    }
+
+    fn hide(&mut self, path: &[u8]) -> Result<(), Refusal> {
+        let slot = self.walk(path, false)?;
+        if self.slot(slot).holds >= HOLDS {
+            return Err(Refusal::TooManyHolds);
+        }
+        let node = self.node(slot);
+        check_file(node)?;
+        if node.hidden {
+            return Err(Refusal::Busy);
+        }
+        self.pin(slot)?;
+        self.slot_mut(slot).token = Some(self.key(slot));
+        self.node_mut(slot).hidden = true;
+        self.commands += 1;
+        Ok(())
+    }
+
+    fn show(&mut self, path: &[u8]) -> Result<(), Refusal> {
+        let slot = self.walk(path, false)?;
+        if self.slot(slot).token != Some(self.key(slot)) {
+            return Err(Refusal::Invalid);
+        }
+        self.slot_mut(slot).token = None;
+        self.node_mut(slot).hidden = false;
+        self.release(slot);
+        self.commands += 1;
+        Ok(())
+    }
+
+    /// One command for each node but the root, and one for each hidden file.
+    fn compact(&mut self) {
+        let nodes = self.slots[1..].iter().filter_map(|slot| slot.node.as_ref());
+        self.commands = nodes.map(|node| 1 + usize::from(node.hidden)).sum();
+    }
+
+    /// Puts the reply to a line after what the buffer has.
+    fn answer(&mut self, line: &[u8], reply: &mut Vec<u8>) -> Result<(), Refusal> {
+        match cut(line) {
+            (b"file", rest) => {
+                let (path, rest) = cut(rest);
+                let (mode, text) = cut(rest);
+                let mode = mode_of(mode)
+                    .filter(|_| !path.is_empty())
+                    .ok_or(Refusal::Line)?;
+                let text = text.to_vec();
+                told_key(self.make(path, Kind::File { mode, text }, true)?, reply)
+            }
+            (b"write", rest) => {
+                let (letter, text) = cut(rest);
+                let count = self.write(letter_of(letter)?, text)?;
+                put(reply, format_args!("{count}"))
+            }
+            (b"plug", rest) => {
+                let is_named = !cut(rest).0.is_empty();
+                return Err(if is_named {
+                    Refusal::NoDevice
+                } else {
+                    Refusal::Line
+                });
+            }
+            _ => return self.answer_words(line, reply),
+        }
+        Ok(())
+    }
+
+    fn answer_words(&mut self, line: &[u8], reply: &mut Vec<u8>) -> Result<(), Refusal> {
+        let mut words: [&[u8]; 4] = [&[]; 4];
+        let mut count = 0;
+        for word in line.split(|byte| *byte == b' ') {
+            *words
+                .get_mut(count)
+                .filter(|_| !word.is_empty())
+                .ok_or(Refusal::Line)? = word;
+            count += 1;
+        }
+        let new_directory = || Kind::Dir {
+            children: BTreeMap::new(),
+            subdirs: 0,
+        };
+        match words[..count] {
+            [b"mkdir", path] => told_key(self.make(path, new_directory(), true)?, reply),
+            [b"mkdir", path, b"off"] => told_key(self.make(path, new_directory(), false)?, reply),
+            [b"link", path, target] => told_key(self.make_link(path, target)?, reply),
+            [b"activate", path] => done(self.activate(path)?, reply),
+            [b"ls", path] => self.list(path, reply)?,
+            [b"stat", path] => self.stat(path, reply)?,
+            [b"readlink", path] => self.read_link(path, reply)?,
+            [b"mv", path, dir, name] => done(self.rename(path, dir, name)?, reply),
+            [b"rm", path] => done(self.remove(path)?, reply),
+            [b"open", letter, path, want] => {
+                let letter = letter_of(letter)?;
+                let (reads, writes) = match want {
+                    b"r" => (true, false),
+                    b"w" => (false, true),
+                    b"rw" => (true, true),
+                    _ => return Err(Refusal::Line),
+                };
+                done(self.open(letter, path, reads, writes)?, reply)
+            }
+            [b"read", letter, offset, most] => {
+                let letter = letter_of(letter)?;
+                let offset = number_of(offset, 10, u64::from(u32::MAX))?;
+                let most = number_of(most, 5, 65_535)? as usize;
+                self.read(letter, offset, most, reply)?
+            }
+            [b"poll", letter] => {
+                let changed = self.poll(letter_of(letter)?)?;
+                reply.extend_from_slice(if changed { b"changed" } else { b"same" })
+            }
+            [b"notify", path] => done(self.notify(path)?, reply),
+            [b"close", letter] => done(self.close(letter_of(letter)?)?, reply),
+            [b"hide", path] => done(self.hide(path)?, reply),
+            [b"show", path] => done(self.show(path)?, reply),
+            [b"commands"] => put(reply, format_args!("{}", self.commands)),
+            [b"compact"] => done(self.compact(), reply),
+            [b"unplug", _] => return Err(Refusal::NoDevice),
+            [b"wait"] => done((), reply),
+            _ => return Err(Refusal::Line),
+        }
+        Ok(())
+    }
+}
+
+/// The text of a key's file, where that is live.
+fn live_text(slot: &Slot, key: Key) -> Option<&[u8]> {
+    let node = slot.node.as_ref()?;
+    match &node.kind {
+        Kind::File { text, .. } if slot.generation == key.generation && node.is_live() => {
+            Some(text)
+        }
+        _ => None,
+    }
+}
+
+fn check_file(node: &Node) -> Result<(), Refusal> {
+    match node.kind {
+        Kind::Dir { .. } => Err(Refusal::IsDir),
+        Kind::Link { .. } => Err(Refusal::Invalid),
+        Kind::File { .. } => Ok(()),
+    }
+}
+
+/// The bytes before the first space, and those behind it.
+fn cut(text: &[u8]) -> (&[u8], &[u8]) {
+    match text.iter().position(|byte| *byte == b' ') {
+        Some(at) => (&text[..at], &text[at + 1..]),
+        None => (text, &[]),
+    }
+}
+
+fn mode_of(word: &[u8]) -> Option<u16> {
+    let is_mode = word.len() == 3 && word.iter().all(|byte| (b'0'..=b'7').contains(byte));
+    is_mode.then(|| {
+        word.iter()
+            .fold(0, |mode, byte| mode * 8 + u16::from(byte - b'0'))
+    })
+}
+
+fn letter_of(word: &[u8]) -> Result<usize, Refusal> {
+    match word {
+        [letter @ b'a'..=b'z'] => Ok(usize::from(letter - b'a')),
+        _ => Err(Refusal::Line),
+    }
+}
+
+fn number_of(word: &[u8], digits: usize, greatest: u64) -> Result<u64, Refusal> {
+    if word.len() > digits || !word.iter().all(u8::is_ascii_digit) {
+        return Err(Refusal::Line);
+    }
+    let number = word
+        .iter()
+        .fold(0, |number, byte| number * 10 + u64::from(byte - b'0'));
+    if number > greatest {
+        Err(Refusal::Line)
+    } else {
+        Ok(number)
+    }
+}
+
+fn put(reply: &mut Vec<u8>, text: std::fmt::Arguments) {
+    reply.write_fmt(text).expect("a Vec takes all bytes");
+}
+
+fn done(_: (), reply: &mut Vec<u8>) {
+    reply.extend_from_slice(b"ok");
+}
+
+fn told_key(key: Key, reply: &mut Vec<u8>) {
+    put(reply, format_args!("ok {}.{}", key.slot, key.generation));
+}
+
+/// The script on its way to replies: the line that is being read, and the replies that are not written yet.
+struct Script {
+    board: Board,
+    line: Vec<u8>,
+    replies: Vec<u8>,
+    line_writes: bool,
+}
+
+impl Script {
+    fn end_line(&mut self, line: &[u8]) -> io::Result<()> {
+        if line.is_empty() {
+            return Ok(());
+        }
+        let start = self.replies.len();
+        let told = if line.len() > LINE_LIMIT {
+            Err(Refusal::Line)
+        } else {
+            self.board.answer(line, &mut self.replies)
+        };
+        if let Err(refusal) = told {
+            self.replies.truncate(start);
+            self.replies.extend_from_slice(refusal.text().as_bytes());
+        }
+        self.replies.push(b'\n');
+        if self.line_writes || self.replies.len() >= 1 << 16 {
+            self.write_replies()?;
+        }
+        Ok(())
+    }
+
+    /// Keeps the bytes of a line that goes on, no more than tell that it is too long.
+    fn keep(&mut self, bytes: &[u8]) {
+        let room = LINE_LIMIT + 1 - self.line.len();
+        self.line.extend_from_slice(&bytes[..bytes.len().min(room)]);
+    }
+
+    fn write_replies(&mut self) -> io::Result<()> {
+        io::stdout().lock().write_all(&self.replies)?;
+        io::stdout().lock().flush()?;
+        self.replies.clear();
+        Ok(())
+    }
+
+    fn take(&mut self, chunk: &[u8]) -> io::Result<()> {
+        let mut rest = chunk;
+        while let Some(at) = rest.iter().position(|byte| *byte == b'\n') {
+            if self.line.is_empty() {
+                self.end_line(&rest[..at])?;
+            } else {
+                self.keep(&rest[..at]);
+                let line = std::mem::take(&mut self.line);
+                self.end_line(&line)?;
+                self.line = line;
+                self.line.clear();
+            }
+            rest = &rest[at + 1..];
+        }
+        self.keep(rest);
+        Ok(())
+    }
+
+    fn run(&mut self) -> io::Result<()> {
+        let mut chunk = vec![0; 1 << 16];
+        let mut input = io::stdin().lock();
+        loop {
+            let count = input.read(&mut chunk)?;
+            if count == 0 {
+                let line = std::mem::take(&mut self.line);
+                self.end_line(&line)?;
+                return self.write_replies();
+            }
+            self.take(&chunk[..count])?;
+            self.write_replies()?;
+        }
+    }
+}
+
+fn main() -> ExitCode {
+    let mut slots = Some(1024);
+    let mut line_writes = false;
+    let mut words = std::env::args().skip(1);
+    while let Some(word) = words.next() {
+        match word.as_str() {
+            "--slots" => slots = words.next().and_then(|number| number.parse().ok()),
+            "--line-writes" => line_writes = true,
+            _ => slots = None,
+        }
+    }
+    let Some(slots) = slots.filter(|slots| (1..=4096).contains(slots)) else {
+        eprintln!("plain [--slots N] [--line-writes] < SCRIPT, with 1 to 4096 slots");
+        return ExitCode::from(2);
+    };
+    let mut script = Script {
+        board: Board::new(slots),
+        line: Vec::new(),
+        replies: Vec::new(),
+        line_writes,
+    };
+    match script.run() {
+        Ok(()) => ExitCode::SUCCESS,
+        Err(error) => {
+            eprintln!("plain: {error}");
+            ExitCode::FAILURE
+        }
+    }
+}

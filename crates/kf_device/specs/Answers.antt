@@ -1,0 +1,50 @@
+-- What the callbacks of a bus may answer.
+use Rattle.std.specs.Prelude.{◌≡◌, ◌⊎◌, ℕ, List, length, decimal, Option, None, Some, Result, Ok, Err, IfErr, MatchResult}
+use Rattle.kf_core.specs.declared.refusal.Refusal.{Refusal}
+use Rattle.kf_core.specs.declared.refusal.Refusal.TheVariants.{NoMemory}
+use Rattle.kf_files.specs.declared.ops.Fault.{Fault}
+use Rattle.kf_device.specs.declared.tags.DeviceFile.{DeviceFile}
+use Rattle.kf_device.specs.declared.tags.DeviceFile.TheVariants.{Value, Serial, Delete}
+use Rattle.kf_device.specs.declared.tags.DeviceTag.{DeviceTag}
+use Rattle.kf_device.specs.Faults.{unknown, fault_of}
+use Rattle.kf_device.specs.Tags.{meaning}
+
+-- a value is shown, or the bus keeps none; a serial is shown in decimal, or no such plug has begun;
+-- `delete` has no text
+abbrev pub ShowsFile : DeviceFile → ℕ → Result (List ℕ) Fault → Type 0
+ShowsFile Value serial answer = IfErr answer (λ fault. fault ≡ unknown)
+ShowsFile Serial serial answer = (answer ≡ Ok (decimal serial)) ⊎ (answer ≡ Err unknown)
+ShowsFile Delete serial answer = answer ≡ Err unknown
+
+abbrev pub ShowsMeant : Option DeviceTag → Result (List ℕ) Fault → Type 0
+ShowsMeant None answer = answer ≡ Err unknown
+ShowsMeant (Some tag) answer = ShowsFile tag.file tag.serial answer
+
+-- what a show may fill or answer, by tag
+abbrev pub MayShow : ℕ → Result (List ℕ) Fault → Type 0
+MayShow tag answer = ShowsMeant (meaning tag) answer
+
+-- all bytes were taken, or one of these faults was met
+abbrev pub TakesAll : (Fault → Type 0) → List ℕ → Result ℕ Fault → Type 0
+TakesAll MayFail bytes answer = MatchResult answer (λ count. count ≡ length bytes) MayFail
+
+-- of a value: the bus keeps none, or there was no memory
+abbrev pub ValueFault : Fault → Type 0
+ValueFault fault = (fault ≡ unknown) ⊎ (fault ≡ fault_of NoMemory)
+
+-- of `delete`: the fault has the number of the refusal that was met
+abbrev pub DeleteFault : Fault → Type 0
+DeleteFault fault = (refusal : Refusal) × (fault ≡ fault_of refusal)
+
+abbrev pub StoresFile : DeviceFile → List ℕ → Result ℕ Fault → Type 0
+StoresFile Value bytes answer = TakesAll ValueFault bytes answer
+StoresFile Serial bytes answer = answer ≡ Err unknown
+StoresFile Delete bytes answer = TakesAll DeleteFault bytes answer
+
+abbrev pub StoresMeant : Option DeviceTag → List ℕ → Result ℕ Fault → Type 0
+StoresMeant None bytes answer = answer ≡ Err unknown
+StoresMeant (Some tag) bytes answer = StoresFile tag.file bytes answer
+
+-- what a store may answer, by tag
+abbrev pub MayStore : ℕ → List ℕ → Result ℕ Fault → Type 0
+MayStore tag bytes answer = StoresMeant (meaning tag) bytes answer

@@ -1,0 +1,5 @@
+pub mod Tags
+pub mod Faults
+pub mod Answers
+pub mod Texts
+pub mod Removals

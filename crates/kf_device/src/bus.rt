@@ -1,0 +1,131 @@
+//! The bus: how devices are plugged and unplugged.
+ghost use Rattle.std.specs.Prelude.{◌≡◌, ◌≤◌, ◌^◌, IfOk, IfErr, Some, Err};
+ghost use Rattle.kf_core.specs.declared.refusal.Refusal.{Refusal};
+ghost use Rattle.kf_core.specs.declared.refusal.Refusal.TheVariants.{NoEntry, NoMemory};
+ghost use Rattle.kf_core.specs.Names.{name_fault};
+ghost use Rattle.kf_device.specs.Removals.{Unplugged, NotPlugged};
+
+use crate::devices::{Devices, Files};
+use crate::making::{Stopped, make};
+use crate::removal::{plug_at, remove, remove_at};
+use kf_core::{Key, Refusal};
+use kf_index::name_fault;
+use kf_shared::{Naming, SharedTree};
+use std::alloc::Global;
+use std::sync::{Mutex, Wait};
+
+/// Where devices have their directories.
+const DEVICES: &[u8] = b"/devices";
+
+/// Where devices have their links.
+const LINKS: &[u8] = b"/bus/devices";
+
+/// A bus with its devices (`struct bus_type`), and the callbacks of their files. Any number of threads may
+/// share it.
+///
+/// Its lock is a leaf: whoever has it takes no other lock and waits for nobody until it is let go.
+#[derive(Drop)]
+pub struct Bus {
+    pub(crate) devices: Mutex<Devices>,
+}
+
+impl Bus {
+    /// A bus on which no plug has begun.
+    ///
+    /// Refusal: NoMemory.
+    pub fn new(alloc: Global) -> Result<Bus, Refusal>
+        ensures refused { IfErr result (λ refusal. refusal ≡ NoMemory) }
+    {
+        Ok(Bus {
+            devices: Mutex::new(Devices::new(alloc)),
+        })
+    }
+
+    // Begins a plug, and keeps its texts. A value is never shown past its first 4,096 bytes, so no more are
+    // kept.
+    fn begin<R: Wait>(&self, rt: &R, name: &[u8], value: &[u8]) -> Result<u64, Refusal>
+        ensures few { IfOk result (λ serial. serial ≤ 2 ^ 60) }
+    {
+        let shown = value.len().min(4096);
+        let mut devices = self.devices.lock(rt);
+        let serial = devices.begin()?;
+        devices.add(serial, name, &value[..shown])?;
+        Ok(serial)
+    }
+
+    /// Plugs a device (`device_add`). It makes those of `/devices`, `/bus` and `/bus/devices` that are not
+    /// there, in this order, live; then `/devices/NAME` with its files `value` (0o644), `serial` (0o444)
+    /// and `delete` (0o200), which are all activated together; then the live link `/bus/devices/NAME`. All
+    /// that is done in one turn of the tree lock. It answers the key of `/devices/NAME`.
+    ///
+    /// Refusals: NameTooLong or Invalid (name), then NoSpace where 2^60 plugs have begun: they change
+    /// nothing. Then those of each step in its order, as `Editor::create` and `Editor::activate` have them,
+    /// and NoMemory: the base directories that were made stay, and the device's directory is removed again.
+    /// Only where that removal is refused too does it stay, and `unplug` removes it.
+    ///
+    /// It may never return: it waits for the tree lock and the lock of the bus, which its caller must not
+    /// have, and where its link is refused for the callbacks that run on the new files.
+    pub fn plug<N: Naming, R: Wait>(
+        &self,
+        rt: &R,
+        tree: &SharedTree<N>,
+        name: &[u8],
+        value: &[u8],
+    ) -> Result<Key, Refusal>
+        ensures name { (fault : Refusal) → name_fault name.now ≡ Some fault → result ≡ Err fault }
+    {
+        if let Some(fault) = name_fault(name) {
+            return Err(fault);
+        }
+        self.sweep(rt, tree);
+        let serial = self.begin(rt, name, value)?;
+        let mut files = Files::new();
+        let made = make(&mut tree.edit(rt), name, serial, &mut files);
+        let settled = match made {
+            Ok(key) => Ok(key),
+            Err(Stopped { refusal, made }) => {
+                if let Some(hold) = made {
+                    let _ = remove(rt, tree, hold);
+                }
+                Err(refusal)
+            }
+        };
+        self.devices.lock(rt).settle(serial, files);
+        if settled.is_err() {
+            self.forget_gone(rt, tree, serial);
+        }
+        settled
+    }
+
+    /// Unplugs a device (`device_del`): removes the link `/bus/devices/NAME`, then the directory
+    /// `/devices/NAME`, each where it is there. Each is looked for by its whole name, so a name that is not
+    /// lawful finds nothing.
+    ///
+    /// Refusals: NoEntry where neither is there; else TooManyHolds or NoMemory, as `SharedTree::remove` has
+    /// them. After one of these it may be called again.
+    ///
+    /// It may never return: it waits for the tree lock and the lock of the bus, which its caller must not
+    /// have, and for every callback that runs on the device's files, its caller's own among them.
+    pub fn unplug<N: Naming, R: Wait>(
+        &self,
+        rt: &R,
+        tree: &SharedTree<N>,
+        name: &[u8],
+    ) -> Result<(), Refusal>
+        ensures removed { IfOk result (λ _. Unplugged N.table name.now) }
+        ensures nothing { IfErr result (λ refusal. refusal ≡ NoEntry → NotPlugged N.table name.now) }
+    {
+        self.sweep(rt, tree);
+        let plug = plug_at(tree.edit(rt).state(), DEVICES, name);
+        let link = remove_at(rt, tree, LINKS, name)?;
+        let dir = remove_at(rt, tree, DEVICES, name)?;
+        if let Some(serial) = plug {
+            self.forget_gone(rt, tree, serial);
+        }
+        if link || dir {
+            Ok(())
+        } else {
+            Err(Refusal::NoEntry)
+        }
+    }
+}

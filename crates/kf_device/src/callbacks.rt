@@ -1,0 +1,170 @@
+//! The callbacks of a device's files.
+ghost use Rattle.std.specs.Prelude.{◌≡◌, ◌≢◌, ◌<◌, ◌≤◌, [], Err, Some, None, length, take, decimal, true, MatchResult, IfErr};
+ghost use Rattle.kf_core.specs.Phases.{has_reference};
+ghost use Rattle.kf_core.specs.declared.caller.Phase.TheVariants.{Running};
+ghost use Rattle.kf_words.specs.Callers.{IsSameSeat};
+ghost use Rattle.kf_files.specs.Files.{filled_by};
+ghost use Rattle.kf_device.specs.Faults.{unknown};
+ghost use Rattle.kf_device.specs.Answers.{MayShow, MayStore, TakesAll, ValueFault};
+ghost use Rattle.kf_device.specs.Tags.{meaning, is_delete};
+
+use crate::bus::Bus;
+use crate::faults::{fault_of, unknown};
+use crate::tags::{DeviceFile, DeviceTag, meaning};
+use itoa::Buffer;
+use kf_files::{Fault, Page, WaitOps};
+use kf_shared::{Naming, SharedTree};
+use kf_words::Call;
+use std::sync::Wait;
+
+// Fills an empty page with the first 4,096 bytes.
+fn put(page: &mut Page, bytes: &[u8])
+    requires empty { page.old.items ≡ [] }
+    ensures filled { page.new.items ≡ take 4096 bytes.now }
+{
+    let end = bytes.len().min(4096);
+    let _ = page.try_extend_from_slice(&bytes[..end]);
+}
+
+impl Bus {
+    // Shows the value of a device.
+    fn show_value<R: Wait>(&self, rt: &R, serial: u64, page: &mut Page) -> Result<(), Fault>
+        requires empty { page.old.items ≡ [] }
+        ensures refused { IfErr result (λ fault. fault ≡ unknown) }
+    {
+        let devices = self.devices.lock(rt);
+        match devices.value(serial) {
+            Some(bytes) => {
+                put(page, bytes);
+                Ok(())
+            }
+            None => Err(unknown()),
+        }
+    }
+
+    // Shows the number of a plug, in decimal.
+    fn show_serial<R: Wait>(&self, rt: &R, serial: u64, page: &mut Page) -> Result<(), Fault>
+        requires empty { page.old.items ≡ [] }
+        ensures shown { MatchResult result (λ _. page.new.items ≡ decimal serial) (λ fault. fault ≡ unknown) }
+    {
+        if !self.devices.lock(rt).has_begun(serial) {
+            return Err(unknown());
+        }
+        let mut buffer = Buffer::new();
+        put(page, buffer.format(serial).as_bytes());
+        Ok(())
+    }
+
+    // Puts other bytes in place of a device's value.
+    fn store_value<R: Wait>(&self, rt: &R, serial: u64, bytes: &[u8]) -> Result<usize, Fault>
+        ensures stored { TakesAll ValueFault bytes.now result }
+    {
+        match self.devices.lock(rt).set_value(serial, bytes) {
+            Ok(true) => Ok(bytes.len()),
+            Ok(false) => Err(unknown()),
+            Err(refusal) => Err(fault_of(refusal)),
+        }
+    }
+}
+
+impl WaitOps for Bus {
+    ghost may_show = { λ _ tag answer. MayShow tag answer };
+
+    ghost may_store = { λ _ tag bytes answer. MayStore tag bytes answer };
+
+    ghost may_begin = { λ _ tag bytes answer. answer ≡ Err unknown };
+
+    /// Shows a device's value, or the number of its plug in decimal. Any other tag is Fault 22.
+    fn show<N: Naming, R: Wait>(
+        &self,
+        rt: &R,
+        tree: &SharedTree<N>,
+        call: &mut Call,
+        tag: u64,
+        page: &mut Page,
+    ) -> Result<(), Fault>
+        requires table { call.old.table ≡ N.table }
+        requires running { call.old.phase ≡ Running }
+        requires empty { page.old.items ≡ [] }
+        ensures shown { MayShow tag (filled_by result page.new.items) }
+        ensures untouched { call.new ≡ call.old }
+        ensures seat { IsSameSeat call.old call.new }
+        ensures reference { has_reference call.new.phase ≡ true }
+    {
+        let _ = tree;
+        let _ = call;
+        match meaning(tag) {
+            Some(
+                DeviceTag {
+                    serial,
+                    file: DeviceFile::Value,
+                },
+            ) => self.show_value(rt, serial, page),
+            Some(
+                DeviceTag {
+                    serial,
+                    file: DeviceFile::Serial,
+                },
+            ) => self.show_serial(rt, serial, page),
+            Some(
+                DeviceTag {
+                    serial: _,
+                    file: DeviceFile::Delete,
+                },
+            )
+            | None => Err(unknown()),
+        }
+    }
+
+    /// Puts the bytes in place of a device's value, or deletes the device. Any other tag is Fault 22.
+    fn store<N: Naming, R: Wait>(
+        &self,
+        rt: &R,
+        tree: &SharedTree<N>,
+        call: &mut Call,
+        tag: u64,
+        bytes: &[u8],
+    ) -> Result<usize, Fault>
+        requires table { call.old.table ≡ N.table }
+        requires running { call.old.phase ≡ Running }
+        requires some { 0 < length bytes.now }
+        requires fits { length bytes.now ≤ 4096 }
+        ensures stored { MayStore tag bytes.now result }
+        ensures untouched { is_delete (meaning tag) ≢ true → call.new ≡ call.old }
+        ensures seat { IsSameSeat call.old call.new }
+        ensures reference { has_reference call.new.phase ≡ true }
+    {
+        match meaning(tag) {
+            Some(
+                DeviceTag {
+                    serial,
+                    file: DeviceFile::Value,
+                },
+            ) => self.store_value(rt, serial, bytes),
+            Some(
+                DeviceTag {
+                    serial,
+                    file: DeviceFile::Delete,
+                },
+            ) => {
+                self.delete(rt, tree, call, serial)?;
+                Ok(bytes.len())
+            }
+            Some(
+                DeviceTag {
+                    serial: _,
+                    file: DeviceFile::Serial,
+                },
+            )
+            | None => Err(unknown()),
+        }
+    }
+
+    /// A bus makes its own files: Fault 22.
+    fn first<R: Wait>(&self, rt: &R, tag: u64, bytes: &[u8]) -> Result<(), Fault> {
+        let _ = rt;
+        let _ = tag;
+        let _ = bytes;
+        Err(unknown())
+    }
+}

@@ -1,0 +1,202 @@
+//! The texts that a bus keeps of its devices, by the number of each plug.
+ghost use Rattle.std.specs.Prelude.{◌≡◌, ◌≢◌, ◌≤◌, ◌+◌, ◌^◌, ◌&&◌, nat_le, true, IfOk, IfErr, IfSome, IfNone, OnOk, OnErr, Some, None};
+ghost use Rattle.kf_core.specs.declared.refusal.Refusal.TheVariants.{NoMemory, NoSpace};
+
+use kf_core::{Key, Refusal};
+use kf_index::Name;
+use kf_tree::State;
+use std::alloc::Global;
+use std::collections::BTreeMap;
+use std::ops::Bound;
+
+/// The most plugs that may begin.
+const MOST: u64 = 1 << 60;
+
+/// The files of a device that ask for its texts, as far as they were made.
+#[derive(Clone, Copy, Debug, PartialEq, Eq)]
+pub(crate) struct Files {
+    pub(crate) value: Option<Key>,
+    pub(crate) delete: Option<Key>,
+}
+
+impl Files {
+    /// None was made yet.
+    pub(crate) fn new() -> Files {
+        Files {
+            value: None,
+            delete: None,
+        }
+    }
+
+    /// Whether one of them is in the tree, wherever it was moved. A file that has left it never comes back.
+    pub(crate) fn are_linked(&self, state: &State) -> bool {
+        is_linked(state, self.value) || is_linked(state, self.delete)
+    }
+}
+
+fn is_linked(state: &State, file: Option<Key>) -> bool {
+    match file {
+        Some(key) => state.stat(key).is_ok(),
+        None => false,
+    }
+}
+
+/// The texts of one device.
+#[derive(Drop)]
+struct Device {
+    name: Name,
+    value: Vec<u8>,
+    // None while its plug is under way.
+    files: Option<Files>,
+}
+
+/// The devices whose files may ask for their texts, and how many plugs have begun.
+#[derive(Drop)]
+pub(crate) struct Devices {
+    alloc: Global,
+    begun: u64,
+    // How many the last sweep left, less those that were forgotten since.
+    kept: usize,
+    devices: BTreeMap<u64, Device>,
+    ghost few: { begun ≤ 1152921504606846976 },
+}
+
+impl Devices {
+    ghost use Rattle.std.specs.Ordering.{nat_cmp};
+    ghost use Rattle.std.specs.BTreeMap.{get};
+    ghost use Rattle.kf_device.specs.Texts.{value_in, name_in};
+
+    /// No plug has begun.
+    pub(crate) fn new(alloc: Global) -> Devices
+        ensures none { result.begun ≡ 0 }
+    {
+        Devices {
+            alloc,
+            begun: 0,
+            kept: 0,
+            devices: BTreeMap::new(alloc),
+        }
+    }
+
+    /// Begins a plug, and answers its number: the first has 1. `NoSpace` after 2^60 of them.
+    pub(crate) fn begin(&mut self) -> Result<u64, Refusal>
+        ensures next { IfOk result (λ serial. (serial ≡ self.old.begun + 1) × (self.new.begun ≡ serial)) }
+        ensures few { IfOk result (λ serial. serial ≤ 2 ^ 60) }
+        ensures refused { IfErr result (λ refusal. refusal ≡ NoSpace) }
+        ensures full { OnErr result (self.old.begun ≡ 2 ^ 60) }
+        ensures unchanged { OnErr result (self.new ≡ self.old) }
+    {
+        if self.begun >= MOST {
+            return Err(Refusal::NoSpace);
+        }
+        self.begun += 1;
+        Ok(self.begun)
+    }
+
+    /// Whether a plug with this number has begun.
+    pub(crate) fn has_begun(&self, serial: u64) -> bool
+        ensures told { result ≡ (nat_le 1 serial && nat_le serial self.now.begun) }
+    {
+        1 <= serial && serial <= self.begun
+    }
+
+    /// Keeps the texts of a plug that is under way. `NoMemory` where that was refused.
+    pub(crate) fn add(&mut self, serial: u64, name: &[u8], value: &[u8]) -> Result<(), Refusal>
+        ensures name { OnOk result (name_in (get nat_cmp self.new.devices serial) ≡ Some name.now) }
+        ensures value { OnOk result (value_in (get nat_cmp self.new.devices serial) ≡ Some value.now) }
+    {
+        let device = Device {
+            name: Name::new(self.alloc, name)?,
+            value: value.to_vec(self.alloc)?,
+            files: None,
+        };
+        self.devices.insert(serial, device)?;
+        Ok(())
+    }
+
+    /// The plug is over, and has made these files.
+    pub(crate) fn settle(&mut self, serial: u64, files: Files) {
+        if let Some(device) = self.devices.get_mut(&serial) {
+            device.files = Some(files);
+        }
+    }
+
+    /// Forgets a device.
+    pub(crate) fn forget(&mut self, serial: u64)
+        ensures gone { get nat_cmp self.new.devices serial ≡ None }
+    {
+        if self.devices.remove(&serial).is_some() {
+            self.kept = self.kept.saturating_sub(1);
+        }
+    }
+
+    /// The bytes of a device's value.
+    pub(crate) fn value(&self, serial: u64) -> Option<&[u8]>
+        ensures own { IfSome result (λ bytes.
+            value_in (get nat_cmp self.now.devices serial) ≡ Some bytes.now) }
+        ensures none { IfNone result (value_in (get nat_cmp self.now.devices serial) ≡ None) }
+    {
+        Some(self.devices.get(&serial)?.value.as_slice())
+    }
+
+    /// A copy of a device's name.
+    pub(crate) fn name(&self, serial: u64) -> Option<Result<Name, Refusal>>
+        ensures own { IfSome result (λ copied. IfOk copied (λ name.
+            name_in (get nat_cmp self.now.devices serial) ≡ Some name)) }
+        ensures none { IfNone result (name_in (get nat_cmp self.now.devices serial) ≡ None) }
+    {
+        let name = &self.devices.get(&serial)?.name;
+        match name.clone() {
+            Ok(copy) => Some(Ok(copy)),
+            Err(_) => Some(Err(Refusal::NoMemory)),
+        }
+    }
+
+    /// The files of a device whose plug is over.
+    pub(crate) fn files(&self, serial: u64) -> Option<Files> {
+        self.devices.get(&serial)?.files
+    }
+
+    /// Puts other bytes in place of a device's value. False where there is no such device.
+    pub(crate) fn set_value(&mut self, serial: u64, bytes: &[u8]) -> Result<bool, Refusal>
+        ensures stored { IfOk result (λ known. known ≡ true →
+            value_in (get nat_cmp self.new.devices serial) ≡ Some bytes.now) }
+        ensures refused { IfErr result (λ refusal. refusal ≡ NoMemory) }
+    {
+        match self.devices.get_mut(&serial) {
+            Some(device) => {
+                device.value = bytes.to_vec(self.alloc)?;
+                Ok(true)
+            }
+            None => Ok(false),
+        }
+    }
+
+    /// How many devices it keeps.
+    #[cfg(test)]
+    pub(crate) fn len(&self) -> usize {
+        self.devices.len()
+    }
+
+    /// How many devices are to be looked at, where there are more than twice as many as the last sweep left.
+    pub(crate) fn due(&self) -> Option<usize> {
+        let count = self.devices.len();
+        (count > self.kept.saturating_mul(2)).then_some(count)
+    }
+
+    /// The next device above a number.
+    pub(crate) fn above(&self, serial: u64) -> Option<u64> {
+        let mut rest = self
+            .devices
+            .range((Bound::Excluded(serial), Bound::Unbounded));
+        match rest.next() {
+            Some((next, _)) => Some(*next),
+            None => None,
+        }
+    }
+
+    /// A sweep is over.
+    pub(crate) fn swept(&mut self) {
+        self.kept = self.devices.len();
+    }
+}

@@ -1,0 +1,22 @@
+//! Why a callback of a bus fails.
+ghost use Rattle.std.specs.Prelude.{◌≡◌};
+ghost use Rattle.kf_device.specs.Faults.{fault_of, unknown};
+
+use kf_core::Refusal;
+use kf_files::Fault;
+
+/// The bus knows no such file, or keeps no text for it.
+pub(crate) fn unknown() -> Fault
+    ensures value { result ≡ unknown }
+{
+    Fault { number: 22 }
+}
+
+/// A fault with the number of the refusal that was met.
+pub(crate) fn fault_of(refusal: Refusal) -> Fault
+    ensures value { result ≡ fault_of refusal }
+{
+    Fault {
+        number: refusal.number(),
+    }
+}

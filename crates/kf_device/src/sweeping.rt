@@ -1,0 +1,46 @@
+//! Forgetting devices that are gone, by whomever they were removed.
+//!
+//! A device is gone when the files that ask for its texts have left the tree: keys never come back, so
+//! nobody asks again. Neither lock is held while the other is taken.
+
+use crate::bus::Bus;
+use kf_shared::{Naming, SharedTree};
+use std::sync::Wait;
+
+impl Bus {
+    /// Forgets a device that is gone.
+    pub(crate) fn forget_gone<N: Naming, R: Wait>(
+        &self,
+        rt: &R,
+        tree: &SharedTree<N>,
+        serial: u64,
+    ) {
+        let files = self.devices.lock(rt).files(serial);
+        let Some(files) = files else {
+            return;
+        };
+        let linked = files.are_linked(tree.edit(rt).state());
+        if !linked {
+            self.devices.lock(rt).forget(serial);
+        }
+    }
+
+    /// Forgets all that are gone, where the list has grown to more than twice what the last sweep left. So
+    /// a bus keeps no more than a few devices that are gone, and a plug pays for no more than a few others.
+    pub(crate) fn sweep<N: Naming, R: Wait>(&self, rt: &R, tree: &SharedTree<N>) {
+        let due = self.devices.lock(rt).due();
+        let Some(count) = due else {
+            return;
+        };
+        let mut serial = 0;
+        for _ in 0..count {
+            let next = self.devices.lock(rt).above(serial);
+            match next {
+                Some(next) => serial = next,
+                None => break,
+            }
+            self.forget_gone(rt, tree, serial);
+        }
+        self.devices.lock(rt).swept();
+    }
+}

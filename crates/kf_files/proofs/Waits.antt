@@ -1,0 +1,22 @@
+-- Visits by a guard that keeps nothing, and what is told of them.
+use Rattle.std.proofs.Common.{◌≡◌, ◌⊎◌, ◌<◌, ℕ, List, Option, None, Some, Result, IsTrue, refl}
+use Rattle.kf_core.specs.Calls.{Called, Visit, unvisited, tried, Visits}
+use Rattle.kf_words.specs.Callers.{Handle}
+use Rattle.kf_files.specs.declared.ops.FileError.{FileError}
+use Rattle.kf_files.specs.Files.{FileState, Reads, Shown}
+use Rattle.kf_files.specs.Waiting.{lets_in, turns_away, lets_go, call_view, WaitVisits}
+
+module _ {G Done : Type 0} {idle idle' : Type 0} {does does' : Done → Type 0} (guard guard' : G) (hold hold' : Handle) (rests : idle → idle') (did : (d : Done) → does d → does' d) where
+  -- a visit by some guard that keeps nothing, of which less is said
+  pub visits_told : (v : Visit Done) → Visits {Guard = G} lets_in turns_away lets_go call_view idle does guard hold guard' hold' v → WaitVisits idle' does' hold hold' v
+  visits_told unvisited v = (refl, v.1, rests v.2)
+  visits_told (tried None) v = (v.0, rests v.1)
+  visits_told (tried (Some d)) v = record { call = v.call; ended = v.ended; inside = tt; entered = v.entered; running = v.running; did = did d v.did; given_back = v.given_back; left = v.left }
+
+-- what is said of a read's visit may be less
+pub reads_told : {V V' : Visit Shown → Type 0} {A : Result (List ℕ) FileError → Type 0} {state state' : FileState} {offset count : ℕ} → ((v : Visit Shown) → V v → V' v) → Reads V A state offset count state' → Reads V' A state offset count state'
+reads_told f r = record {
+  denied = λ no. let d = r.denied no in (f unvisited d.0, d.1, d.2);
+  buffered = λ text yes far is. let b = r.buffered text yes far is in (f unvisited b.0, b.1, b.2);
+  shown = λ yes anew. let s = r.shown yes anew in (s.0, f (tried s.0) s.1, s.2, s.3);
+}

@@ -1,0 +1,36 @@
+-- Visits to a node of a shared tree by one hold. Of callbacks only their answers are told.
+use Rattle.std.specs.Prelude.{◌≡◌, ℕ, List, [], ◌∷◌, take, Result, Ok}
+use Rattle.kf_core.specs.Calls.{CallView, Visit, Visits}
+use Rattle.kf_words.specs.Callers.{Handle, SeatId, id_of, seat_view, IsSameSeat, Entered, WasTurned, WasLeft}
+use Rattle.kf_words.specs.Runs.{WasLetInLive, WasATryUndone, WasALeave}
+use Rattle.kf_files.specs.declared.ops.Fault.{Fault}
+
+module _ {G : Type 0} where
+  -- one try, which found the key live, gave the call of this hold's seat
+  abbrev pub lets_in : G → Handle → Handle → G → Type 0
+  lets_in _ hold call _ =
+      IsSameSeat hold call × Entered hold call × WasLetInLive (seat_view hold) (seat_view call)
+
+  -- one try found a word that keeps it out, and was undone
+  abbrev pub turns_away : G → Handle → Handle → G → Type 0
+  turns_away _ hold back _ =
+      IsSameSeat hold back × WasTurned hold back × WasATryUndone (seat_view hold) (seat_view back)
+
+  -- one step ended the call
+  abbrev pub lets_go : G → Handle → Handle → G → Type 0
+  lets_go _ call hold _ =
+      IsSameSeat call hold × WasLeft call hold × WasALeave (seat_view call) (seat_view hold)
+
+-- the call as its callback sees it
+abbrev pub call_view : Handle → CallView SeatId
+call_view call = record { caller = id_of call; key = call.key; phase = call.phase }
+
+-- a visit by this hold. `idle` holds where nothing is done, and `does` of what is done
+abbrev pub WaitVisits : {Done : Type 0} → Type 0 → (Done → Type 0) → Handle → Handle → Visit Done → Type 0
+WaitVisits idle does hold hold' =
+    Visits {Guard = Unit {0}} lets_in turns_away lets_go call_view idle does tt hold tt hold'
+
+-- what a store of the first 4,096 bytes may answer; of no bytes there is none, and the answer is 0
+abbrev pub MayStore : (ℕ → List ℕ → Result ℕ Fault → Type 0) → ℕ → List ℕ → Result ℕ Fault → Type 0
+MayStore stores tag [] answer = answer ≡ Ok 0
+MayStore stores tag (byte ∷ bytes) answer = stores tag (take 4096 (byte ∷ bytes)) answer

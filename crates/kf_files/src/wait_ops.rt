@@ -1,0 +1,70 @@
+//! The callbacks of files of a shared tree, which may wait and may change the tree.
+
+ghost use Rattle.std.specs.Prelude.{◌≡◌, ◌<◌, ◌≤◌, ℕ, List, [], Result, length, true};
+ghost use Rattle.kf_core.specs.Phases.{has_reference};
+ghost use Rattle.kf_core.specs.declared.caller.Phase.TheVariants.{Running};
+ghost use Rattle.kf_words.specs.Callers.{IsSameSeat};
+ghost use Rattle.kf_files.specs.declared.ops.Fault.{Fault};
+ghost use Rattle.kf_files.specs.Files.{filled_by};
+
+use crate::ops::{Fault, Page};
+use kf_shared::{Naming, SharedTree};
+use kf_words::Call;
+use std::sync::Wait;
+
+/// The callbacks of files of a shared tree (`struct sysfs_ops`). Any number of threads may call them at
+/// once, with no lock held, so a callback may take the lock of its tree and may wait. A file's tag tells it
+/// from others.
+///
+/// A show or a store is made only under a running call, which it is lent. It may give up that reference and
+/// take it again, as `remove_self` does, and gives the call back with a reference. A callback that removes
+/// its own node, or one above it, without `remove_self` waits for itself.
+///
+/// Condition of each show and store: the call is Running, and of the table of the tree.
+pub trait WaitOps {
+    /// A show for this tag may fill a page with these bytes, or give this fault.
+    ghost may_show: { Self → ℕ → Result (List ℕ) Fault → Type 0 };
+
+    /// A store of these bytes for this tag may answer this.
+    ghost may_store: { Self → ℕ → List ℕ → Result ℕ Fault → Type 0 };
+
+    /// The first text of a file with this tag may be answered so.
+    ghost may_begin: { Self → ℕ → List ℕ → Result (Unit {0}) Fault → Type 0 };
+
+    /// Fills the empty page with the text.
+    fn show<N: Naming, R: Wait>(
+        &self,
+        rt: &R,
+        tree: &SharedTree<N>,
+        call: &mut Call,
+        tag: u64,
+        page: &mut Page,
+    ) -> Result<(), Fault>
+        requires table { call.old.table ≡ N.table }
+        requires running { call.old.phase ≡ Running }
+        requires empty { page.old.items ≡ [] }
+        ensures shown { may_show self.now tag (filled_by result page.new.items) }
+        ensures seat { IsSameSeat call.old call.new }
+        ensures reference { has_reference call.new.phase ≡ true };
+
+    /// Takes the bytes, 1 to 4,096 of them, and answers how many it took.
+    fn store<N: Naming, R: Wait>(
+        &self,
+        rt: &R,
+        tree: &SharedTree<N>,
+        call: &mut Call,
+        tag: u64,
+        bytes: &[u8],
+    ) -> Result<usize, Fault>
+        requires table { call.old.table ≡ N.table }
+        requires running { call.old.phase ≡ Running }
+        requires some { 0 < length bytes.now }
+        requires fits { length bytes.now ≤ 4096 }
+        ensures stored { may_store self.now tag bytes.now result }
+        ensures seat { IsSameSeat call.old call.new }
+        ensures reference { has_reference call.new.phase ≡ true };
+
+    /// Takes the first text of a new file, under no call.
+    fn first<R: Wait>(&self, rt: &R, tag: u64, bytes: &[u8]) -> Result<(), Fault>
+        ensures begun { may_begin self.now tag bytes.now result };
+}

@@ -1,0 +1,171 @@
+//! A file of a shared tree, whose callbacks may wait.
+
+ghost use Rattle.std.specs.Prelude.{◌≡◌, ◌≤◌, length, IfOk, IfErr, MatchResult};
+ghost use Rattle.kf_notify.specs.PostStates.{Took};
+ghost use Rattle.kf_files.specs.Files.{Opens, Reads, Writes, Polls, Gives, new_file, tag_of};
+ghost use Rattle.kf_files.specs.Opened.{hold_after, refusal_of};
+ghost use Rattle.kf_files.specs.Waiting.{WaitVisits, MayStore};
+
+use crate::contents::Want;
+use crate::open_file::OpenFile;
+use crate::ops::{Fault, FileError, Ops, Page};
+use crate::tree_seats::{TreeCall, TreeHold, TreeSeats};
+use crate::wait_ops::WaitOps;
+use kf_core::{Node, Refusal};
+use kf_notify::Post;
+use kf_shared::{Naming, SharedTree};
+use kf_words::Hold;
+use std::marker::Model;
+use std::sync::Wait;
+
+/// Waiting callbacks, with the tree and the runtime that they are lent.
+#[derive(Drop)]
+struct Lent<'a, W, N: Naming, R: Wait> {
+    ops: &'a W,
+    tree: &'a SharedTree<N>,
+    rt: &'a R,
+}
+
+impl<'a, W: WaitOps, N: Naming, R: Wait> Ops<TreeCall<N>> for Lent<'a, W, N, R> {
+    ghost use Rattle.std.specs.Prelude.{◌≡◌};
+
+    ghost shows = { λ lent tag filled lent'. W.may_show lent.ops.now tag filled × (lent' ≡ lent) };
+
+    ghost stores = { λ lent tag bytes answer lent'.
+        W.may_store lent.ops.now tag bytes answer × (lent' ≡ lent) };
+
+    fn show(&mut self, call: &mut TreeCall<N>, tag: u64, page: &mut Page) -> Result<(), Fault> {
+        self.ops.show(self.rt, self.tree, &mut call.call, tag, page)
+    }
+
+    fn store(&mut self, call: &mut TreeCall<N>, tag: u64, bytes: &[u8]) -> Result<usize, Fault> {
+        self.ops
+            .store(self.rt, self.tree, &mut call.call, tag, bytes)
+    }
+}
+
+/// A file of the shared tree of this name, opened by a hold on its node (`struct kernfs_open_file`). It
+/// keeps the hold and a post of its slot until it is closed. Tries and ends take no lock and wait for
+/// nobody: the runtime goes to callbacks alone.
+///
+/// Its contracts are those of [`OpenFile`], where a visit to the node tells the very try that was made: one
+/// that gave a call found the key live, one that did not found a word that keeps it out. Of a callback they
+/// tell what it may answer.
+pub struct WaitingFile<N: Naming> {
+    file: OpenFile<TreeSeats<N>>,
+}
+
+impl<N: Naming> Model for WaitingFile<N> {
+    ghost use Rattle.kf_words.specs.Callers.{Handle};
+    ghost use Rattle.kf_files.specs.Opened.{Opened};
+
+    ghost Value = { Opened Handle };
+
+    ghost view = { λ f. f.file };
+}
+
+impl<N: Naming> WaitingFile<N> {
+    /// Opens a file whose node is live (`kernfs_fop_open`). It starts with no text and the event number 0.
+    ///
+    /// Condition: the hold is of this tree's table.
+    ///
+    /// Refusals, in order: `IsDir` a directory, `Invalid` a link, `NoDevice` a node that is not live,
+    /// `Access` reading where the mode has no bit of 0o444, or writing where it has none of 0o222. A
+    /// refusal gives the hold and the post back.
+    pub fn open(
+        hold: Hold,
+        node: Node,
+        want: Want,
+        post: Post,
+    ) -> Result<WaitingFile<N>, (Hold, Post, Refusal)>
+        requires table { hold.table ≡ N.table }
+        ensures opens { Opens (WaitVisits (Unit {0}) (λ _. Unit {0}) hold (hold_after result))
+            node want (refusal_of result) }
+        ensures new { IfOk result (λ file. file.state ≡ new_file want) }
+        ensures tag { IfOk result (λ file. file.tag ≡ tag_of node) }
+        ensures post { MatchResult result (λ file. file.post ≡ post) (λ back. back.1 ≡ post) }
+        ensures back { IfErr result (λ back. back.0.table ≡ N.table) }
+    {
+        match OpenFile::open(&mut TreeSeats::new(), TreeHold::new(hold), node, want, post) {
+            Ok(file) => Ok(WaitingFile { file }),
+            Err((hold, post, refusal)) => Err((hold.into_hold(), post, refusal)),
+        }
+    }
+
+    /// Reads the text from the offset on into the front of `out`, and answers how many bytes that are
+    /// (`kernfs_fop_read_iter`). At offset 0, and where no text is buffered, the text is shown anew under a
+    /// call, after its event number was taken; else it is the buffered text, which needs no live node.
+    ///
+    /// Refusals, in order: `Access` where the file was not opened for reading, `NoDevice` where the node is
+    /// not live; both change nothing. A fault of show leaves no text. The rest of `out` stays, and all of
+    /// it after an error. It may never return, as its show may not.
+    pub fn read<W: WaitOps, R: Wait>(
+        &mut self,
+        rt: &R,
+        tree: &SharedTree<N>,
+        ops: &W,
+        offset: u64,
+        out: &mut [u8],
+    ) -> Result<usize, FileError>
+        ensures reads { Reads
+            (WaitVisits (self.new.post ≡ self.old.post)
+            (λ shown.
+            Took self.old.post shown.number self.new.post × W.may_show ops.now self.old.tag shown.filled)
+            self.old.hold self.new.hold)
+            (Gives out.old result out.new) self.old.state offset (length out.old) self.new.state }
+        ensures fits { IfOk result (λ count. count ≤ length out.new) }
+        ensures same { self.new ≡
+            record self.old { hold = self.new.hold; post = self.new.post; state = self.new.state } }
+    {
+        let mut shows = Lent { ops, tree, rt };
+        self.file
+            .read(&mut TreeSeats::new(), &mut shows, offset, out)
+    }
+
+    /// Hands the first 4,096 bytes to one store under a call, and answers what it answers
+    /// (`kernfs_fop_write_iter`). A write of no bytes answers 0 and calls nothing, but it needs a live node
+    /// too.
+    ///
+    /// Refusals, in order: `Access` where the file was not opened for writing, `NoDevice` where the node is
+    /// not live. The file stays as it was. It may never return, as its store may not.
+    pub fn write<W: WaitOps, R: Wait>(
+        &mut self,
+        rt: &R,
+        tree: &SharedTree<N>,
+        ops: &W,
+        bytes: &[u8],
+    ) -> Result<usize, FileError>
+        ensures writes { Writes
+            (WaitVisits (Unit {0}) (MayStore (W.may_store ops.now) self.old.tag bytes.now)
+            self.old.hold self.new.hold)
+            self.old.state result }
+        ensures same { self.new ≡ record self.old { hold = self.new.hold } }
+    {
+        let mut stores = Lent { ops, tree, rt };
+        self.file.write(&mut TreeSeats::new(), &mut stores, bytes)
+    }
+
+    /// Whether the file has changed since its last show (`kernfs_fop_poll`): the slot's event number is
+    /// another, or the node is not live. A file that was never shown has changed. The number that the file
+    /// keeps stays. It waits for nobody.
+    pub fn poll(&mut self) -> bool
+        ensures polls { Polls
+            (WaitVisits (self.new.post ≡ self.old.post) (λ now. Took self.old.post now self.new.post)
+            self.old.hold self.new.hold)
+            self.old.state result }
+        ensures same { self.new ≡ record self.old { hold = self.new.hold; post = self.new.post } }
+    {
+        self.file.poll(&mut TreeSeats::new())
+    }
+
+    /// Gives the hold and the post back (`kernfs_fop_release`).
+    pub fn close(self) -> (Hold, Post)
+        ensures hold { result.0 ≡ self.hold }
+        ensures post { result.1 ≡ self.post }
+        ensures table { result.0.table ≡ N.table }
+    {
+        let WaitingFile { file } = self;
+        let (hold, post) = file.close();
+        (hold.into_hold(), post)
+    }
+}

@@ -1,0 +1,76 @@
+-- What contracts see of posts and of their handles.
+use Rattle.std.specs.Prelude.{◌≡◌, ℕ, ◌+◌, ◌≤◌}
+pub use Rattle.atomic_table.specs.Seated.{TableId}
+use Rattle.kf_notify.specs.declared.seat.PostSeat.{PostSeat}
+use Rattle.kf_notify.specs.declared.view.View.{View}
+use Rattle.kf_notify.specs.Steps.{WasFound}
+
+-- which table of numbers, of how many slots, and the number that each slot had at first
+pub record Numbers : Type 0 where
+  pub table : TableId
+  pub slots : ℕ
+  pub start : ℕ
+
+pub record PostState : Type 0 where
+  pub numbers : Numbers
+  pub slot : ℕ
+  pub known : ℕ  -- the greatest number that it has seen or made
+  pub found : ℕ  -- what its last load found
+  pub steps : ℕ  -- how many steps it has made on its slot's word
+
+abbrev pub numbers_of : PostSeat → Numbers
+numbers_of s = record { table = s.token.table_id; slots = s.slots; start = s.token.me.0.start }
+
+abbrev pub post_of : PostSeat → PostState
+post_of s = record {
+  numbers = numbers_of s;
+  slot = s.token.me.0.slot;
+  known = s.token.me.0.known;
+  found = s.token.me.0.found;
+  steps = s.token.me.0.steps;
+}
+
+-- the view of the seat
+abbrev pub seat_view : PostState → View
+seat_view p = record {
+  slot = p.slot;
+  known = p.known;
+  start = p.numbers.start;
+  found = p.found;
+  steps = p.steps;
+}
+
+pub record IsSamePost (old new : PostState) : Type 0 where
+  pub numbers : new.numbers ≡ old.numbers
+  pub slot : new.slot ≡ old.slot
+
+-- a post of this slot, whose one load found its number, which is not below the first
+pub record IsNewPost (numbers : Numbers) (slot : ℕ) (post : PostState) : Type 0 where
+  pub numbers_are : post.numbers ≡ numbers
+  pub slot_is : post.slot ≡ slot
+  pub seen : post.known ≡ post.found
+  pub no_less : numbers.start ≤ post.found
+  pub one_step : post.steps ≡ 1
+
+-- one load found this number, which is not below any that the post had seen or made
+pub record Found (old : PostState) (number : ℕ) (new : PostState) : Type 0 where
+  pub found : new.found ≡ number
+  pub known : new.known ≡ number
+  pub no_less : old.known ≤ number
+  pub one_step : new.steps ≡ old.steps + 1
+
+-- one load found a number not below any that the post had seen or made; a second step raised it to the next
+pub record Made (old : PostState) (number : ℕ) (new : PostState) : Type 0 where
+  pub one_more : number ≡ new.found + 1
+  pub known : new.known ≡ number
+  pub no_less : old.known ≤ new.found
+  pub two_steps : new.steps ≡ old.steps + 2
+
+-- the post took this event number, by one load
+pub record Took (old : PostState) (number : ℕ) (new : PostState) : Type 0 where
+  pub same : IsSamePost old new
+  pub found : Found old number new
+
+-- once, while the rule held and this post's seat was as told, the number of its slot was as found
+abbrev pub FoundThere : PostState → ℕ → Type 0
+FoundThere p found = WasFound (seat_view p) p.slot found

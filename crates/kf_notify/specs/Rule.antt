@@ -1,0 +1,30 @@
+-- The rule of the table: what its words show of the views of all seats.
+use Rattle.std.specs.Prelude.{◌≡◌, ℕ, ◌≤◌, ◌<◌, length, slice_index}
+use mathlib.Core.Option.{some}
+use lib.ListN.{get_elem?}
+use Rattle.atomic_table.specs.Table.{State}
+use Rattle.kf_notify.specs.declared.view.View.{View}
+
+-- the words, and the views of all seats
+abbrev pub Table : Type 0
+Table = State (Unit {0}) View
+
+-- the seat of this number has this view
+abbrev pub IsSeated : Table → ℕ → View → Type 0
+IsSeated t seat v = get_elem? t.views seat ≡ some v
+
+-- the number of a slot
+abbrev pub number_at : Table → ℕ → ℕ
+number_at t slot = slice_index t.words slot
+
+-- the view of the first seat
+abbrev pub opened : ℕ → View
+opened start = record { slot = 0; known = 0; start = start; found = 0; steps = 0 }
+
+-- a slot's number is never below one that any seat has seen or made there, and none is below that of the opening
+pub record Shown (slots : ℕ) (t : Table) : Type 0 where
+  -- for each slot a word
+  pub wide : slots ≤ length t.words
+  pub known : (seat : ℕ) (v : View) → IsSeated t seat v → v.known ≤ number_at t v.slot
+  pub start : (seat : ℕ) (v : View) → IsSeated t seat v
+      → (slot : ℕ) → slot < slots → v.start ≤ number_at t slot

@@ -1,0 +1,39 @@
+-- What each step makes of the view of its own seat.
+use Rattle.std.specs.Prelude.{◌≡◌, ℕ, ◌+◌, ◌≤◌, ◌<◌}
+use Rattle.atomic_table.specs.Table.{Me, Step}
+use Rattle.kf_notify.specs.declared.view.View.{View}
+use Rattle.kf_notify.specs.Rule.{Table, Shown, IsSeated, number_at}
+
+abbrev pub Seated : Type 0
+Seated = Me (Unit {0}) View
+
+-- a load found this number of the slot
+abbrev pub loaded : ℕ → ℕ → View → View
+loaded slot found v =
+    record { slot = slot; known = found; start = v.start; found = found; steps = v.steps + 1 }
+
+-- the number of its slot was raised to this one
+abbrev pub raised : ℕ → View → View
+raised number v = record v { known = number; steps = v.steps + 1 }
+
+-- a new seat, which has made no step
+abbrev pub doubled : View → View
+doubled v = record v { steps = 0 }
+
+-- once, while the rule held and a seat had this view, the number of the slot was as found
+pub record WasFound (v : View) (slot found : ℕ) : Type 0 where
+  pub slots : ℕ
+  pub table : Table
+  pub shown : Shown slots table
+  pub seat : ℕ
+  pub there : IsSeated table seat v
+  pub within : slot < slots
+  pub as_found : number_at table slot ≡ found
+
+-- a load finds no less than what the seat knows of that slot
+abbrev pub MakesLoad : Step (Unit {0}) → Seated → ℕ → Seated → Type 0
+MakesLoad st me found me' = (me' ≡ (loaded st.word found me.0, me.1)) × (me.0.start ≤ found)
+    × (me.0.slot ≡ st.word → me.0.known ≤ found) × WasFound me.0 st.word found
+
+abbrev pub MakesRaise : Step (Unit {0}) → Seated → ℕ → Seated → Type 0
+MakesRaise st me found me' = (st.word ≡ me.0.slot) × (me' ≡ (raised st.first me.0, me.1))

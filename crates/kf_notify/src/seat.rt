@@ -1,0 +1,76 @@
+//! A seat at the table of numbers, and its steps, one by one.
+ghost use Rattle.std.specs.Prelude.{◌≡◌, ◌<◌, ◌≤◌, [], IfOk, IfErr};
+ghost use Rattle.std.specs.Arc.{arc_value};
+ghost use Rattle.kf_core.specs.declared.refusal.Refusal.TheVariants.{NoMemory};
+ghost use Rattle.kf_notify.specs.Steps.{loaded, raised, doubled, WasFound};
+
+use crate::plays::{Doubles, Loads, Raises};
+use crate::table::NumberTable;
+use crate::view::View;
+use atomic_table::Seat;
+use kf_core::Refusal;
+use std::sync::Arc;
+
+/// A seat at the table of numbers. The table has at least one word, and one for each slot.
+#[derive(Drop)]
+pub struct PostSeat {
+    pub(crate) table: Arc<NumberTable>,
+    pub(crate) token: Seat<(), View>,
+    pub(crate) slots: u32,
+    ghost of_table: { token.table_id ≡ (arc_value table).shared.table_id },
+    ghost bare: { token.me ≡ (token.me.0, []) },
+    ghost same_slots: { (arc_value table).shared.key.slots ≡ slots },
+    ghost all_slots: { slots ≤ token.table_id.words },
+    ghost some: { 0 < token.table_id.words },
+}
+
+impl PostSeat {
+    /// Loads the number of a slot.
+    pub(crate) fn load(&mut self, slot: u32) -> u64
+        requires slot { slot < self.old.slots }
+        ensures same { self.new.slots ≡ self.old.slots }
+        ensures table { self.new.token.table_id ≡ self.old.token.table_id }
+        ensures view { self.new.token.me.0 ≡ loaded slot result self.old.token.me.0 }
+        ensures start { self.old.token.me.0.start ≤ result }
+        ensures known { self.old.token.me.0.slot ≡ slot → self.old.token.me.0.known ≤ result }
+        ensures found { WasFound self.old.token.me.0 slot result }
+    {
+        self.table
+            .shared
+            .load::<Loads>(&mut self.token, slot as usize)
+    }
+
+    /// Raises the number of its slot to this one, where it is below.
+    pub(crate) fn raise(&mut self, slot: u32, number: u64)
+        requires slot { slot < self.old.slots }
+        requires own { self.old.token.me.0.slot ≡ slot }
+        ensures same { self.new.slots ≡ self.old.slots }
+        ensures table { self.new.token.table_id ≡ self.old.token.table_id }
+        ensures view { self.new.token.me.0 ≡ raised number self.old.token.me.0 }
+    {
+        self.table
+            .shared
+            .fetch_max::<Raises>(&mut self.token, slot as usize, number);
+    }
+
+    /// A new seat, which knows what this one knows.
+    ///
+    /// Refusal: `NoMemory` where sharing the table was refused, and then nothing changes.
+    pub(crate) fn another(&mut self) -> Result<PostSeat, Refusal>
+        ensures same { self.new.slots ≡ self.old.slots }
+        ensures table { self.new.token.table_id ≡ self.old.token.table_id }
+        ensures kept { self.new.token.me.0 ≡ self.old.token.me.0 }
+        ensures slots { IfOk result (λ seat. seat.slots ≡ self.old.slots) }
+        ensures shared { IfOk result (λ seat. seat.token.table_id ≡ self.old.token.table_id) }
+        ensures view { IfOk result (λ seat. seat.token.me.0 ≡ doubled self.old.token.me.0) }
+        ensures refused { IfErr result (λ why. why ≡ NoMemory) }
+    {
+        let table = Arc::try_clone(&self.table)?;
+        let token = self.table.shared.split_seat::<Doubles>(&mut self.token);
+        Ok(PostSeat {
+            table,
+            token,
+            slots: self.slots,
+        })
+    }
+}

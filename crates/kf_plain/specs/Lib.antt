@@ -1,0 +1,15 @@
+pub mod Agreement
+pub mod Nodes
+pub mod Visits
+pub mod Plain
+pub mod TextTable
+pub mod Settled
+pub mod Starved
+pub mod PlainTree
+pub mod PlainLooks
+pub mod PlainRemove
+pub mod PlainHide
+pub mod PlainFiles
+pub mod PlainStep
+pub mod Removals
+pub mod PlainInside

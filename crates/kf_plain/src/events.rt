@@ -1,0 +1,105 @@
+//! The event numbers of the slots, for one caller.
+
+ghost use Rattle.std.specs.Prelude.{◌≡◌, ◌+◌, ◌-◌, ◌^◌, ◌<◌, ℕ, List, length, replicate, slice_index, slice_set, IfOk, IfErr};
+ghost use Rattle.kf_core.specs.declared.refusal.Refusal.TheVariants.{NoMemory, NoSpace};
+
+use kf_core::{ActiveCall, Refusal};
+use kf_files::EventNumbers;
+use std::alloc::Global;
+use std::marker::Model;
+
+/// By slot, its event number (`kernfs_open_node.event`). It belongs to the slot, not to a node, and never goes back.
+#[derive(Drop)]
+pub struct EventTable {
+    numbers: Vec<u64>,
+}
+
+impl Model for EventTable {
+    ghost Value = { List ℕ };
+
+    ghost view = { λ t. t.numbers.items };
+}
+
+impl EventTable {
+    /// The numbers of so many slots, each 1. `NoMemory` where they could not be had.
+    pub fn new(alloc: Global, slots: u32) -> Result<EventTable, Refusal>
+        ensures numbers { IfOk result (λ table. table ≡ replicate slots 1) }
+        ensures refused { IfErr result (λ refusal. refusal ≡ NoMemory) }
+    {
+        Ok(EventTable {
+            numbers: vec![in alloc; 1; slots as usize]?,
+        })
+    }
+
+    /// The slot's number now. 0 where there is no such slot.
+    pub fn at(&self, slot: u32) -> u64
+        ensures number { result ≡ slice_index self.now slot }
+    {
+        self.numbers.get(slot as usize).copied().unwrap_or(0)
+    }
+
+    /// Raises the slot's number by one (`kernfs_notify`). `NoSpace` where it is 2^64 - 1, and then nothing changes.
+    ///
+    /// Condition: there is such a slot.
+    pub fn raise(&mut self, slot: u32) -> Result<(), Refusal>
+        requires slot { slot < length self.old }
+        ensures raised { IfOk result (λ _. self.new ≡ slice_set self.old slot (slice_index self.old slot + 1)) }
+        ensures room { IfOk result (λ _. slice_index self.old slot < 2 ^ 64 - 1) }
+        ensures refused { IfErr result (λ refusal. (refusal ≡ NoSpace)
+            × (slice_index self.old slot ≡ 2 ^ 64 - 1) × (self.new ≡ self.old)) }
+    {
+        let number = &mut self.numbers[slot as usize];
+        if *number == u64::MAX {
+            return Err(Refusal::NoSpace);
+        }
+        *number += 1;
+        Ok(())
+    }
+}
+
+/// The event number of one slot, as a file takes it. While it is lent, none is raised.
+#[derive(Drop)]
+pub struct SlotEvents<'a> {
+    pub table: &'a EventTable,
+    pub slot: u32,
+}
+
+impl<'a, C: ActiveCall> EventNumbers<C> for SlotEvents<'a> {
+    ghost gives = { λ old number new. (number ≡ slice_index old.table.now old.slot) × (new ≡ old) };
+
+    fn now(&mut self, _call: &C) -> u64 {
+        self.table.at(self.slot)
+    }
+}
+
+#[cfg(test)]
+mod tests {
+    use super::*;
+    use std::test::Fail;
+
+    /// The last number is reached, and then it is raised no more.
+    #[test]
+    fn the_number_ends(rt: HostRuntime) -> Result<(), Fail> {
+        let mut table = EventTable {
+            numbers: vec![in rt.alloc(); u64::MAX - 1; 1]?,
+        };
+        assert_eq!(rt; table.raise(0), Ok(()));
+        assert_eq!(rt; table.raise(0), Err(Refusal::NoSpace));
+        assert_eq!(rt; table.at(0), 18_446_744_073_709_551_615);
+        Ok(())
+    }
+
+    /// A slot's number is raised alone.
+    #[test]
+    fn a_number_belongs_to_its_slot(rt: HostRuntime) -> Result<(), Fail> {
+        let mut table = EventTable::new(rt.alloc(), 3)?;
+        assert_eq!(rt; table.at(2), 1);
+        table.raise(2)?;
+        table.raise(2)?;
+        assert_eq!(rt;
+            (table.at(0), table.at(1), table.at(2), table.at(3)),
+            (1, 1, 3, 0)
+        );
+        Ok(())
+    }
+}

@@ -1,0 +1,95 @@
+//! The tree beside the callers of its nodes: each change of the one is made in the other too.
+
+ghost use Rattle.std.specs.Prelude.{◌≡◌, ◌≤◌, ◌<◌, ◌-◌, ◌+◌, ◌^◌, List, [], ◌∷◌, ◌++◌, length, replicate, slice_get, slice_set, IfOk, IfErr, IfSome, IfNone, None, Some};
+ghost use Rattle.kf_core.specs.declared.key.Key.{Key};
+ghost use Rattle.kf_core.specs.declared.caller.Phase.TheVariants.{Still, Spent};
+ghost use Rattle.kf_core.specs.declared.refusal.Refusal.TheVariants.{NoMemory, NoEntry, TooManyHolds};
+ghost use Rattle.std.specs.Prelude.{true};
+ghost use Rattle.kf_core.specs.Tree.{is_linked};
+ghost use Rattle.kf_plain.specs.Nodes.{IsNext, PinRefused, Waits, hold_count, new_nodes};
+
+use kf_core::{Key, Limits, Refusal, World};
+use kf_tree::State;
+use std::alloc::Global;
+use std::marker::Model;
+
+mod commands;
+mod hiding;
+mod paths;
+mod subtrees;
+mod visits;
+
+pub use hiding::BoardToken;
+pub use visits::BoardFile;
+
+/// A tree with its stored commands, and the callers of its nodes. Contracts see the log, each slot's
+/// last generation, the limit of holds, and the callers. Both name the same linked, activated,
+/// doomed and hidden keys.
+#[derive(Drop)]
+pub struct Nodes {
+    state: State,
+    world: World,
+}
+
+impl Model for Nodes {
+    ghost use Rattle.kf_core.specs.Agrees.{AgreesHidden};
+    ghost use Rattle.kf_plain.specs.Nodes.{Nodes as NodesSeen, nodes_of, AreTied};
+
+    ghost Value = { NodesSeen };
+
+    ghost view = { λ n. nodes_of n.state n.world };
+
+    ghost invariant = { λ n. AreTied n.state n.world.world × AgreesHidden n.state.tree n.world.world };
+}
+
+impl Nodes {
+    /// The root alone, live, and no caller. Each slot's last generation is `start`, and the root's the next.
+    pub fn new_at(alloc: Global, limits: Limits, start: u32) -> Result<Nodes, Refusal>
+        requires start { start ≤ 2 ^ 32 - 2 }
+        ensures made { IfOk result (λ nodes. nodes ≡ new_nodes limits.slots limits.holds start) }
+        ensures refused { IfErr result (λ refusal. refusal ≡ NoMemory) }
+    {
+        let root = Key {
+            slot: 0,
+            generation: start + 1,
+        };
+        let state = State::new(alloc, limits, root)?;
+        let world = World::new_at(alloc, limits, start)?;
+        Ok(Nodes { state, world })
+    }
+
+    /// The tree with its stored commands.
+    pub fn state(&self) -> &State
+        ensures log { result.now ≡ self.now.log }
+    {
+        &self.state
+    }
+
+    /// The next key of the lowest free slot, the root's left out.
+    pub fn next_key(&self) -> Option<Key>
+        ensures next { IsNext self.now.log.tree self.now.last (hold_count self.now.callers) result }
+    {
+        self.world.free_key()
+    }
+
+    /// A new caller, which holds a linked node. Answers its number.
+    /// `NoEntry` (not linked), `TooManyHolds`, `NoMemory`; after a refusal nothing is changed.
+    pub fn pin(&mut self, key: Key) -> Result<usize, Refusal>
+        requires linked { is_linked self.old.log.tree key ≡ true }
+        ensures number { IfOk result (λ id. id ≡ length self.old.callers) }
+        ensures held { IfOk result (λ _. self.new ≡ record self.old { callers = self.old.callers ++ record { key = key; phase = Still } ∷ [] }) }
+        ensures room { IfOk result (λ _. hold_count self.old.callers key.slot < self.old.limit) }
+        ensures refused { IfErr result (λ refusal. PinRefused self.old key refusal × (self.new ≡ self.old)) }
+    {
+        self.world.pin(key)
+    }
+
+    /// Gives the hold of a waiting caller back.
+    pub fn release(&mut self, id: usize, key: Key)
+        requires waits { Waits self.old.callers id key }
+        ensures spent { self.new ≡ record self.old { callers = slice_set self.old.callers id (record { key = key; phase = Spent }) } }
+    {
+        let _ = key; // the contract alone names it
+        self.world.release(id);
+    }
+}

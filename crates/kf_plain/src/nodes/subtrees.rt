@@ -1,0 +1,184 @@
+//! The commands on whole subtrees: activation and removal, with one event per node.
+
+ghost use Rattle.std.specs.Prelude.{◌≡◌, ◌≢◌, ◌⊎◌, ◌∷◌, ◌++◌, [], ◌+◌, ◌^◌, ◌<◌, ◌≤◌, List, map, take, drop, length, IfOk, IfErr, Some, None, IsTrue, All, AllPairs, true, false};
+ghost use Rattle.kf_core.specs.declared.key.Key.{Key};
+ghost use Rattle.kf_core.specs.declared.caller.Phase.TheVariants.{Still};
+ghost use Rattle.kf_core.specs.declared.refusal.Refusal.TheVariants.{NoMemory, TooManyHolds};
+ghost use Rattle.kf_core.specs.declared.command.Command.TheVariants.{Activate, Doom, Unlink};
+ghost use Rattle.kf_core.specs.Bare.{IsCaller, is_linked as has_node, marks};
+ghost use Rattle.kf_core.specs.Marks.{fresh_marks};
+ghost use Rattle.kf_core.specs.Phases.{may_release};
+ghost use Rattle.kf_core.specs.PostOrder.{IsPostOrder};
+ghost use Rattle.kf_core.specs.Steps.{NoReference};
+ghost use Rattle.kf_core.specs.Tree.{is_linked};
+ghost use Rattle.kf_tree.specs.Causes.{Refuses, doom_cause, linked_cause, unlink_cause};
+ghost use Rattle.kf_tree.specs.TreeLogs.{IsAccepted, IsKept};
+ghost use Rattle.kf_plain.specs.Agreement.{Changed, SameMarks, doomed_if, is_fresh_key, risen_if};
+ghost use Rattle.kf_plain.specs.Nodes.{AllIdle, OnlyMarks, hold_count, is_full_below, last_of, logged, spent_on, with_spent};
+ghost use Rattle.kf_plain.specs.Removals.{AreChildrenFirst, Cleared, IsMarkedDoomed, IsMarkedUndoomed, PinsRefused, released, still_on, taken_out, with_callers};
+
+use super::Nodes;
+use kf_core::{Key, Refusal, World};
+use kf_tree::State;
+
+/// Whether a linked node is neither activated nor doomed.
+fn is_fresh(state: &State, key: Key) -> bool
+    ensures fresh { result ≡ is_fresh_key state.now.tree key }
+{
+    match state.stat(key) {
+        Ok(stat) => !stat.activated && !stat.doomed,
+        Err(_) => false,
+    }
+}
+
+/// Activates each of these nodes, none of which is activated or doomed.
+fn rise_each(world: &mut World, keys: &[Key])
+    requires different { AllPairs (λ a b. a ≢ b) keys.now }
+    requires fresh { All (λ key. marks world.old.world key ≡ Some fresh_marks) keys.now }
+    ensures risen { Changed risen_if keys.now world.old.world world.new.world }
+    ensures only { OnlyMarks world.old world.new }
+{
+    for key in keys {
+        world.activate(*key);
+    }
+}
+
+/// Gives back the holds of so many callers, from this number to the last.
+fn release_from(world: &mut World, first: usize, count: usize)
+    requires last { first + count ≡ length world.old.world.callers }
+    requires fits { first + count ≤ 2 ^ 64 }
+    requires held { All (λ c. IsTrue (may_release c.phase)) (drop first world.old.world.callers) }
+    ensures released { world.new ≡ with_callers world.old (take first world.old.world.callers ++ map released (drop first world.old.world.callers)) }
+{
+    for done in 0..count {
+        world.release(first + done);
+    }
+}
+
+/// A new hold of each of these linked nodes, in this order. Answers the number of the first caller.
+/// After a refusal the holds that were taken are given back.
+fn pin_each(world: &mut World, keys: &[Key]) -> Result<usize, Refusal>
+    requires some { 0 < length keys.now }
+    requires linked { All (λ key. IsTrue (has_node world.old.world key)) keys.now }
+    requires different { AllPairs (λ a b. a ≢ b) keys.now }
+    ensures number { IfOk result (λ first. first ≡ length world.old.world.callers) }
+    ensures fits { IfOk result (λ first. first + length keys.now ≤ 2 ^ 64) }
+    ensures held { IfOk result (λ _. world.new ≡ with_callers world.old (world.old.world.callers ++ map still_on keys.now)) }
+    ensures room { IfOk result (λ _. All (λ key. hold_count world.old.world.callers key.slot < world.old.limit) keys.now) }
+    ensures refused { IfErr result (λ refusal. PinsRefused world.old keys.now refusal
+        × ((spent : List Key) × (world.new ≡ with_callers world.old (world.old.world.callers ++ map spent_on spent)))) }
+{
+    let [head, rest @ ..] = keys else {
+        return Ok(0);
+    };
+    let first = world.pin(*head)?;
+    for (done, key) in rest.iter().enumerate() {
+        if let Err(refusal) = world.pin(*key) {
+            release_from(world, first, done + 1);
+            return Err(refusal);
+        }
+    }
+    Ok(first)
+}
+
+/// Dooms each of these nodes, none of which is doomed.
+fn doom_each(world: &mut World, keys: &[Key])
+    requires different { AllPairs (λ a b. a ≢ b) keys.now }
+    requires undoomed { All (λ key. IsMarkedUndoomed (marks world.old.world key)) keys.now }
+    ensures doomed { Changed doomed_if keys.now world.old.world world.new.world }
+    ensures only { OnlyMarks world.old world.new }
+{
+    for key in keys {
+        world.doom(*key);
+    }
+}
+
+/// Takes out a doomed node without linked children. The caller of this number holds it, and nobody has a reference to
+/// it, so each step succeeds: the drain is over at once.
+fn take_out(state: &mut State, world: &mut World, id: usize, key: Key)
+    requires still { IsCaller world.old.world id key Still }
+    requires unused { NoReference world.old.world key }
+    requires doomed { IsMarkedDoomed (marks world.old.world key) }
+    requires linked { is_linked state.old.tree key ≡ true }
+    requires no_cause { unlink_cause state.old.tree key ≡ None }
+    ensures accepted { IsAccepted state.old state.new (unlink_cause state.old.tree key) (Unlink key) }
+    ensures gone { world.new ≡ taken_out world.old id key }
+{
+    let _drained = world.look(id);
+    let _unlinked = state.unlink(key);
+    world.unlink(id);
+    let _parted = world.part(id);
+    world.release(id);
+}
+
+/// Takes out these doomed nodes, each after its children. The callers from this number on hold one each.
+fn take_out_each(state: &mut State, world: &mut World, first: usize, keys: &[Key])
+    requires kept { IsKept state.old }
+    requires not_ready { state.old.ready ≡ None }
+    requires same { SameMarks world.old.world state.old.tree }
+    requires doomed { All (λ key. IsMarkedDoomed (marks world.old.world key)) keys.now }
+    requires different { AllPairs (λ a b. a ≢ b) keys.now }
+    requires children { AreChildrenFirst state.old.tree keys.now }
+    requires idle { AllIdle world.old.world.callers }
+    requires held { drop first world.old.world.callers ≡ map still_on keys.now }
+    requires fits { first + length keys.now ≤ 2 ^ 64 }
+    ensures log { state.new ≡ logged state.old (map Unlink keys.now) }
+    ensures kept { IsKept state.new }
+    ensures same { SameMarks world.new.world state.new.tree }
+    ensures cleared { Cleared keys.now world.old.world world.new.world }
+    ensures last { last_of world.new.world.slots ≡ last_of world.old.world.slots }
+    ensures limit { world.new.limit ≡ world.old.limit }
+    ensures released { world.new.world.callers ≡ take first world.old.world.callers ++ map released (drop first world.old.world.callers) }
+{
+    for (done, key) in keys.iter().enumerate() {
+        take_out(state, world, first + done, *key);
+    }
+}
+
+impl Nodes {
+    /// Activates each node of the subtree that is not active yet (`kernfs_activate`).
+    /// Refused as `State::activate` is; after a refusal nothing is changed.
+    pub fn activate(&mut self, key: Key) -> Result<(), Refusal>
+        ensures no_cause { IfOk result (λ _. linked_cause self.old.log.tree key ≡ None) }
+        ensures activated { IfOk result (λ _. self.new ≡ record self.old { log = logged self.old.log (Activate key ∷ []) }) }
+        ensures refused { IfErr result (λ refusal. Refuses (linked_cause self.old.log.tree key) refusal × (self.new ≡ self.old)) }
+    {
+        let mut keys = self.state.post_order(key)?;
+        let state = &self.state;
+        keys.retain(|key| is_fresh(state, *key));
+        self.state.activate(key)?;
+        rise_each(&mut self.world, keys.as_slice());
+        Ok(())
+    }
+
+    /// Removes a subtree while nobody has a reference (`kernfs_remove`): pins its nodes, dooms them, and takes them out
+    /// one by one, each after all that is below it. Then no caller holds one of them that did not before.
+    ///
+    /// Refused are `NoEntry` (not linked) and `Invalid` (the root), `TooManyHolds` where a node has as many holds as
+    /// there may be, and `NoMemory`. After a refusal the tree is as before, and the holds that were taken are given back.
+    pub fn remove(&mut self, key: Key) -> Result<(), Refusal>
+        requires idle { AllIdle self.old.callers }
+        ensures no_cause { IfOk result (λ _. doom_cause self.old.log.tree self.old.log.root key ≡ None) }
+        ensures room { IfOk result (λ _. is_full_below self.old key ≡ false) }
+        ensures removed { IfOk result (λ _. (keys : List Key) × IsPostOrder self.old.log.tree key keys
+            × (self.new ≡ with_spent (record self.old { log = logged self.old.log (Doom key ∷ map Unlink keys) }) keys)) }
+        ensures refused { IfErr result (λ refusal.
+            ((doom_cause self.old.log.tree self.old.log.root key ≡ Some refusal)
+            ⊎ ((doom_cause self.old.log.tree self.old.log.root key ≡ None) × (refusal ≡ TooManyHolds) × (is_full_below self.old key ≡ true))
+            ⊎ ((doom_cause self.old.log.tree self.old.log.root key ≡ None) × (refusal ≡ NoMemory)))
+            × ((spent : List Key) × (self.new ≡ with_spent self.old spent))) }
+    {
+        if key == self.state.root() {
+            return Err(Refusal::Invalid);
+        }
+        let keys = self.state.post_order(key)?;
+        let first = pin_each(&mut self.world, keys.as_slice())?;
+        if let Err(refusal) = self.state.doom(key) {
+            release_from(&mut self.world, first, keys.len());
+            return Err(refusal);
+        }
+        doom_each(&mut self.world, keys.as_slice());
+        take_out_each(&mut self.state, &mut self.world, first, keys.as_slice());
+        Ok(())
+    }
+}

@@ -1,0 +1,122 @@
+//! Open files on the nodes, and visits to a node by the caller of one.
+
+ghost use Rattle.std.specs.Prelude.{◌≡◌, ◌≢◌, ◌⊎◌, ◌<◌, ◌≤◌, ◌++◌, ◌∷◌, [], ℕ, List, Bool, length, take, slice_get, slice_set, slice_index, IfOk, IfErr, IsTrue, None, Some, Ok, true};
+ghost use Rattle.kf_core.specs.declared.key.Key.{Key};
+ghost use Rattle.kf_core.specs.declared.caller.Phase.{Phase};
+ghost use Rattle.kf_core.specs.declared.caller.Phase.TheVariants.{Still, Spent};
+ghost use Rattle.kf_core.specs.declared.refusal.Refusal.TheVariants.{NoMemory, TooManyHolds};
+ghost use Rattle.kf_core.specs.Phases.{is_waiting};
+ghost use Rattle.kf_core.specs.Tree.{is_linked};
+ghost use Rattle.kf_tree.specs.Causes.{live_in};
+ghost use Rattle.kf_files.specs.Files.{Gives, Polls, Reads, Stored, Writes, new_file, tag_of};
+ghost use Rattle.kf_plain.specs.Nodes.{StillWaits, Waits, hold_count, with_spent};
+ghost use Rattle.kf_plain.specs.TextTable.{ShowsOf, StoresIn};
+ghost use Rattle.kf_plain.specs.Visits.{VisitsLive, file_cause};
+
+use super::Nodes;
+use crate::events::{EventTable, SlotEvents};
+use crate::text_table::TextTable;
+use kf_core::{Key, Node, Refusal, World};
+use kf_files::{FileError, HeldFile, Want};
+
+/// An open file, and the key of its node.
+#[derive(Drop)]
+pub struct BoardFile {
+    pub key: Key,
+    pub file: HeldFile<World>,
+}
+
+impl Nodes {
+    /// Opens a file by a new hold on its node, a linked one of this kind.
+    ///
+    /// Refused are `TooManyHolds`, then what [`HeldFile::open`] refuses, and `NoMemory`. After a refusal the hold is given back.
+    pub fn open(&mut self, key: Key, node: Node, want: Want) -> Result<BoardFile, Refusal>
+        requires linked { is_linked self.old.log.tree key ≡ true }
+        ensures room { IfOk result (λ _. hold_count self.old.callers key.slot < self.old.limit) }
+        ensures no_cause { IfOk result (λ _. file_cause node want (live_in self.old.log.tree key) ≡ None) }
+        ensures file { IfOk result (λ f. f ≡ record { key = key; file = record { hold = length self.old.callers; tag = tag_of node; state = new_file want } }) }
+        ensures held { IfOk result (λ _. (phase : Phase) × IsTrue (is_waiting phase) × (self.new ≡ record self.old { callers = self.old.callers ++ record { key = key; phase = phase } ∷ [] })) }
+        ensures refused { IfErr result (λ refusal.
+            (((refusal ≡ TooManyHolds) × (self.old.limit ≤ hold_count self.old.callers key.slot))
+            ⊎ ((hold_count self.old.callers key.slot < self.old.limit) × (file_cause node want (live_in self.old.log.tree key) ≡ Some refusal))
+            ⊎ (refusal ≡ NoMemory))
+            × ((spent : List Key) × (self.new ≡ with_spent self.old spent))) }
+    {
+        let id = self.world.pin(key)?;
+        match HeldFile::open(&mut self.world, id, node, want) {
+            Ok(file) => Ok(BoardFile { key, file }),
+            Err((id, refusal)) => {
+                self.world.release(id);
+                Err(refusal)
+            }
+        }
+    }
+
+    /// Reads a file, as [`HeldFile::read`] does.
+    pub fn read(
+        &mut self,
+        file: &mut BoardFile,
+        texts: &mut TextTable,
+        offset: u64,
+        out: &mut [u8],
+        events: &EventTable,
+    ) -> Result<usize, FileError>
+        requires waits { Waits self.old.callers file.old.file.hold file.old.key }
+        ensures reads { Reads (VisitsLive (live_in self.old.log.tree file.old.key) (Unit {0})
+            (λ shown. (shown.number ≡ slice_index events.now file.old.key.slot) × ShowsOf texts.old file.old.file.tag shown.filled texts.old))
+            (Gives out.old result out.new) file.old.file.state offset (length out.old) file.new.file.state }
+        ensures same_file { file.new ≡ record file.old { file = record file.old.file { state = file.new.file.state } } }
+        ensures same_texts { texts.new ≡ texts.old }
+        ensures same { self.new ≡ record self.old { callers = self.new.callers } }
+        ensures waiting { StillWaits self.old.callers file.old.file.hold file.old.key self.new.callers }
+    {
+        let mut numbers = SlotEvents {
+            table: events,
+            slot: file.key.slot,
+        };
+        file.file
+            .read(&mut self.world, texts, &mut numbers, offset, out)
+    }
+
+    /// Writes a file, as [`HeldFile::write`] does.
+    pub fn write(
+        &mut self,
+        file: &mut BoardFile,
+        texts: &mut TextTable,
+        bytes: &[u8],
+    ) -> Result<usize, FileError>
+        requires waits { Waits self.old.callers file.old.file.hold file.old.key }
+        ensures writes { Writes (VisitsLive (live_in self.old.log.tree file.old.key) (texts.new ≡ texts.old)
+            (Stored StoresIn texts.old file.old.file.tag bytes.now texts.new)) file.old.file.state result }
+        ensures same_file { file.new ≡ file.old }
+        ensures same { self.new ≡ record self.old { callers = self.new.callers } }
+        ensures waiting { StillWaits self.old.callers file.old.file.hold file.old.key self.new.callers }
+    {
+        file.file.write(&mut self.world, texts, bytes)
+    }
+
+    /// Whether a file has changed, as [`HeldFile::poll`] tells.
+    pub fn poll(&mut self, file: &mut BoardFile, events: &EventTable) -> bool
+        requires waits { Waits self.old.callers file.old.file.hold file.old.key }
+        ensures polls { Polls (VisitsLive (live_in self.old.log.tree file.old.key) (Unit {0}) (λ now. now ≡ slice_index events.now file.old.key.slot)) file.old.file.state result }
+        ensures same_file { file.new ≡ file.old }
+        ensures same { self.new ≡ record self.old { callers = self.new.callers } }
+        ensures waiting { StillWaits self.old.callers file.old.file.hold file.old.key self.new.callers }
+    {
+        let mut numbers = SlotEvents {
+            table: events,
+            slot: file.key.slot,
+        };
+        file.file.poll(&mut self.world, &mut numbers)
+    }
+
+    /// Closes a file, and gives its hold back.
+    pub fn close(&mut self, file: BoardFile)
+        requires waits { Waits self.old.callers file.file.hold file.key }
+        ensures spent { self.new ≡ record self.old { callers = slice_set self.old.callers file.file.hold (record { key = file.key; phase = Spent }) } }
+    {
+        let BoardFile { key, file } = file;
+        let id = file.close();
+        self.release(id, key);
+    }
+}

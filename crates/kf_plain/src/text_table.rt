@@ -1,0 +1,105 @@
+//! The texts of a board's files, by slot, and the callbacks that show and store them.
+
+ghost use Rattle.std.specs.Prelude.{◌≡◌, ◌<◌, ◌≤◌, ◌+◌, ◌++◌, List, ℕ, [], length, replicate, slice_set, take, IfOk, IfErr};
+ghost use Rattle.kf_core.specs.declared.refusal.Refusal.TheVariants.{NoMemory};
+ghost use Rattle.kf_plain.specs.TextTable.{ShowsOf, StoresIn};
+
+use kf_core::{ActiveCall, Refusal};
+use kf_files::{Fault, Ops, Page};
+use std::alloc::Global;
+use std::marker::Model;
+
+/// By slot, the text of its last file. A file's tag is the number of its slot.
+#[derive(Drop)]
+pub struct TextTable {
+    alloc: Global,
+    texts: Vec<Vec<u8>>,
+}
+
+impl Model for TextTable {
+    ghost use Rattle.std.specs.Prelude.{ℕ, List, map};
+
+    ghost Value = { List (List ℕ) };
+
+    ghost view = { λ t. map (λ text. text.items) t.texts.items };
+}
+
+/// Appends bytes for which there is room.
+fn append(page: &mut Page, bytes: &[u8])
+    requires room { length page.old.items + length bytes.now ≤ 4096 }
+    ensures items { page.new.items ≡ page.old.items ++ bytes.now }
+{
+    let _ = page.try_extend_from_slice(bytes);
+}
+
+/// Fills an empty page with the first 4,096 bytes of a text.
+fn fill(page: &mut Page, text: &[u8])
+    requires empty { page.old.items ≡ [] }
+    ensures filled { page.new.items ≡ take 4096 text.now }
+{
+    if text.len() <= 4096 {
+        append(page, text);
+    } else {
+        append(page, &text[..4096]);
+    }
+}
+
+impl TextTable {
+    /// An empty text for each of so many slots.
+    pub fn new(alloc: Global, slots: u32) -> Result<TextTable, Refusal>
+        ensures empty { IfOk result (λ table. table ≡ replicate slots []) }
+        ensures refused { IfErr result (λ refusal. refusal ≡ NoMemory) }
+    {
+        let mut texts = Vec::new(alloc);
+        for made in 0..slots {
+            prove!(made < slots);
+            texts.push(Vec::new(alloc)).map_err(|_| Refusal::NoMemory)?;
+        }
+        Ok(TextTable { alloc, texts })
+    }
+
+    /// A copy of the bytes, taken before anything is changed. `NoMemory` where it could not be had.
+    pub fn copy(&self, bytes: &[u8]) -> Result<Vec<u8>, Refusal>
+        ensures same { IfOk result (λ text. text.items ≡ bytes.now) }
+        ensures refused { IfErr result (λ refusal. refusal ≡ NoMemory) }
+    {
+        bytes.to_vec(self.alloc).map_err(|_| Refusal::NoMemory)
+    }
+
+    /// Puts a text in place of the slot's.
+    pub fn put(&mut self, slot: u32, text: Vec<u8>)
+        requires slot { slot < length self.old }
+        ensures text { self.new ≡ slice_set self.old slot text.items }
+    {
+        self.texts[slot as usize] = text;
+    }
+}
+
+impl<C: ActiveCall> Ops<C> for TextTable {
+    ghost shows = { ShowsOf };
+
+    ghost stores = { StoresIn };
+
+    fn show(&mut self, call: &mut C, tag: u64, page: &mut Page) -> Result<(), Fault> {
+        let _ = call;
+        match self.texts.get(tag as usize) {
+            Some(text) => {
+                fill(page, text.as_slice());
+                Ok(())
+            }
+            None => Ok(()),
+        }
+    }
+
+    fn store(&mut self, call: &mut C, tag: u64, bytes: &[u8]) -> Result<usize, Fault> {
+        let _ = call;
+        let Ok(text) = bytes.to_vec(self.alloc) else {
+            return Err(Fault { number: 12 });
+        };
+        if tag >= self.texts.len() as u64 {
+            return Ok(bytes.len());
+        }
+        self.texts[tag as usize] = text;
+        Ok(bytes.len())
+    }
+}

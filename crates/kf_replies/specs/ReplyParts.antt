@@ -1,0 +1,32 @@
+-- The replies that speak of the types of a tree, or of a file.
+use Rattle.std.specs.Prelude.{ℕ, not, List, decimal, Result, Ok, Err, if◌then◌else◌}
+use Rattle.kf_files.specs.declared.ops.FileError.{FileError}
+use Rattle.kf_files.specs.declared.ops.FileError.TheVariants.{Refused, Callback}
+use Rattle.kf_tree.specs.declared.stat.Stat.{Stat}
+use Rattle.kf_script.specs.declared.reply.NodeState.{NodeState}
+use Rattle.kf_script.specs.declared.reply.NodeState.TheVariants.{Removing, Off, Hidden, Live}
+use Rattle.kf_script.specs.ReplyText.{fault_text, refusal_text, stat_text}
+
+-- the state that is told of a node
+abbrev pub state_of : Stat → NodeState
+state_of s =
+    if s.doomed then Removing
+    else (if not s.activated then Off
+    else (if s.hidden then Hidden
+    else Live))
+
+abbrev pub told_text : Stat → List ℕ
+told_text s = stat_text s.node s.subdirs s.links (state_of s)
+
+-- what a read or a write met
+abbrev pub error_text : FileError → List ℕ
+error_text (Refused refusal) = refusal_text refusal
+error_text (Callback fault) = fault_text fault.number
+
+abbrev pub bytes_text : Result (List ℕ) FileError → List ℕ
+bytes_text (Ok bytes) = bytes
+bytes_text (Err error) = error_text error
+
+abbrev pub count_text : Result ℕ FileError → List ℕ
+count_text (Ok count) = decimal count
+count_text (Err error) = error_text error

@@ -1,0 +1,52 @@
+//! What is told of nodes.
+
+ghost use Rattle.std.specs.Prelude.{◌≡◌, map, IfErr, OnOk};
+ghost use Rattle.kf_core.specs.declared.refusal.Refusal.TheVariants.{NoMemory};
+ghost use Rattle.kf_script.specs.ReplyText.{names_text};
+ghost use Rattle.kf_replies.specs.ReplyParts.{state_of, told_text};
+
+use kf_core::Refusal;
+use kf_index::Name;
+use kf_script::{NodeState, Reply};
+use kf_tree::Stat;
+
+/// Tells names, with one space between two. Refuses `NoMemory` alone; the text is then unknown.
+pub fn tell_names(reply: &mut Reply, names: &[&Name]) -> Result<(), Refusal>
+    ensures text { OnOk result (reply.new ≡ names_text (map (λ n. n.now) names.now)) }
+    ensures refused { IfErr result (λ refusal. refusal ≡ NoMemory) }
+{
+    reply.clear();
+    let [first, later @ ..] = names else {
+        return Ok(());
+    };
+    reply.extend(first.bytes())?;
+    for name in later {
+        reply.extend(b" ")?;
+        reply.extend(name.bytes())?;
+    }
+    Ok(())
+}
+
+/// The state that is told of a node.
+fn state_of(stat: &Stat) -> NodeState
+    ensures told { result ≡ state_of stat.now }
+{
+    if stat.doomed {
+        return NodeState::Removing;
+    }
+    if !stat.activated {
+        return NodeState::Off;
+    }
+    if stat.hidden {
+        NodeState::Hidden
+    } else {
+        NodeState::Live
+    }
+}
+
+/// Tells what `stat` says of a node: its kind, what its kind has, and its state.
+pub fn tell_stat(reply: &mut Reply, stat: &Stat)
+    ensures told { reply.new ≡ told_text stat.now }
+{
+    reply.set_stat(stat.node, stat.subdirs, stat.links, state_of(stat));
+}

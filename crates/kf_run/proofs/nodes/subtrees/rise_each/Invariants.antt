@@ -1,8 +1,0 @@
-use Rattle.std.proofs.Common.{take}
-use Rattle.kf_run.specs.Agreement.{Changed, risen_if}
-use Rattle.kf_run.specs.Nodes.{OnlyMarks}
-use Rattle.kf_run.proofs.nodes.subtrees.rise_each.Given as goal
-
--- the first nodes have risen, and nothing else changed
-abbrev pub invariant-loop-key : goal.invariant-loop-key
-invariant-loop-key l = Changed risen_if (take l.key-index l.keys) l.fn.world.world l.world.world × OnlyMarks l.fn.world l.world

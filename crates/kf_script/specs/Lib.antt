@@ -1,0 +1,7 @@
+pub mod Lines
+pub mod Requests
+pub mod ReplyText
+pub mod Answers
+pub mod Progress
+pub mod Running
+pub mod Words

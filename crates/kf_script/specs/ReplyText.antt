@@ -1,0 +1,54 @@
+-- The texts of replies, without the newline that follows each.
+use Rattle.std.specs.Prelude.{ℕ, ◌+◌, ◌/◌, ◌%◌, Bool, List, [], ◌∷◌, ◌++◌, codes, decimal, if◌then◌else◌}
+use Rattle.std.specs.List.{join_with_byte}
+use Rattle.kf_core.specs.declared.key.Key.{Key}
+use Rattle.kf_core.specs.declared.key.Node.{Node}
+use Rattle.kf_core.specs.declared.key.Node.TheVariants.{Dir, File, Link}
+use Rattle.kf_core.specs.declared.refusal.Refusal.{Refusal}
+use Rattle.kf_core.specs.Refusals.{number_of, name_of}
+use Rattle.kf_script.specs.declared.reply.NodeState.{NodeState}
+use Rattle.kf_script.specs.declared.reply.NodeState.TheVariants.{Removing, Off, Hidden, Live}
+
+abbrev pub done_text : List ℕ
+done_text = codes "ok"
+
+-- a line that is too long or matches no command
+abbrev pub bad_line_text : List ℕ
+bad_line_text = codes "err Line 22"
+
+abbrev pub refusal_text : Refusal → List ℕ
+refusal_text refusal = codes "err " ++ name_of refusal ++ codes " " ++ decimal (number_of refusal)
+
+-- the fault of a callback
+abbrev pub fault_text : ℕ → List ℕ
+fault_text number = codes "err Callback " ++ decimal number
+
+abbrev pub key_text : Key → List ℕ
+key_text key = codes "ok " ++ decimal key.slot ++ codes "." ++ decimal key.generation
+
+abbrev pub poll_text : Bool → List ℕ
+poll_text changed = if changed then codes "changed" else codes "same"
+
+-- names with one space between two
+abbrev pub names_text : List (List ℕ) → List ℕ
+names_text names = join_with_byte 32 names
+
+-- ---- stat
+
+-- three octal digits
+abbrev pub octal : ℕ → List ℕ
+octal mode = (48 + mode / 64 % 8) ∷ (48 + mode / 8 % 8) ∷ (48 + mode % 8) ∷ []
+
+abbrev pub node_text : Node → ℕ → ℕ → List ℕ
+node_text Dir subdirs links = codes "dir subdirs=" ++ decimal subdirs ++ codes " nlink=" ++ decimal links ++ codes " "
+node_text (File mode tag) subdirs links = codes "file mode=" ++ octal mode ++ codes " "
+node_text (Link target) subdirs links = codes "link "
+
+abbrev pub state_text : NodeState → List ℕ
+state_text Removing = codes "removing"
+state_text Off = codes "off"
+state_text Hidden = codes "hidden"
+state_text Live = codes "live"
+
+abbrev pub stat_text : Node → ℕ → ℕ → NodeState → List ℕ
+stat_text node subdirs links state = node_text node subdirs links ++ state_text state

@@ -1,0 +1,20 @@
+//! What answers the requests of a script.
+
+ghost use Rattle.std.specs.Prelude.{Bool};
+ghost use Rattle.kf_script.specs.Answers.{Step};
+ghost use Rattle.kf_script.specs.Requests.{IsInRange, request_words};
+
+use super::reply::Reply;
+use super::request::Request;
+
+/// What answers the requests of a script, one at a time.
+pub trait Board {
+    /// What the board may answer: the board before, the request, whether memory was wanting for it,
+    /// the text of the reply, and the board after.
+    ghost step: { Step Self };
+
+    /// Answers a request: puts the text of the reply in place of what `reply` holds.
+    fn answer(&mut self, request: Request<'_>, reply: &mut Reply)
+        requires { IsInRange (request_words request) }
+        ensures { (starved : Bool) × step self.old (request_words request.entry) starved reply.new self.new };
+}

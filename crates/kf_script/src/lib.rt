@@ -1,0 +1,26 @@
+//! Scripts: lines in, replies out, over any board that answers requests.
+#![tactic(auto)]
+
+mod board;
+mod fault;
+mod grammar;
+mod line;
+mod output;
+mod reads;
+mod reply;
+mod request;
+mod script;
+
+pub use board::Board;
+pub use fault::RunFault;
+pub use grammar::parse;
+pub use line::LINE_LIMIT;
+pub use output::write_whole;
+pub use reply::{NodeState, Reply, SHORT_REPLY};
+pub use request::Request;
+pub use script::run_script;
+
+#[cfg(test)]
+mod fakes;
+#[cfg(test)]
+mod tests;

@@ -1,0 +1,72 @@
+//! The line that is being read.
+
+ghost use Rattle.std.specs.Prelude.{◌≡◌, ℕ, List, [], ◌∷◌, ◌++◌, ◌≤◌, Option, Some, None, IfOk, IfSome, length, take, vec_len, if◌then◌else◌};
+ghost use Rattle.std.specs.Option.{option_map, option_and_then};
+ghost use Rattle.kf_script.specs.Lines.{kept_line, line_limit};
+
+use std::alloc::{AllocError, Global};
+use std::marker::Model;
+
+/// The longest line that is read as a command, without its newline.
+pub const LINE_LIMIT: usize = 8192;
+
+/// The line that is being read: its bytes, as long as they are no more than the limit.
+#[derive(Drop)]
+pub struct LineBuffer {
+    bytes: Vec<u8>,
+    len: usize,
+    is_too_long: bool,
+}
+
+impl Model for LineBuffer {
+    ghost Value = { Option (List ℕ) };
+
+    ghost view = { λ l. if l.is_too_long then None else Some (take l.len l.bytes.items) };
+
+    ghost invariant = { λ l. (l.len ≤ 8192) × (vec_len l.bytes ≡ 8192) };
+}
+
+impl LineBuffer {
+    /// An empty line.
+    pub fn new(alloc: Global) -> Result<LineBuffer, AllocError>
+        ensures { IfOk result (λ line. line ≡ Some []) }
+    {
+        let bytes = vec![in alloc; 0u8; LINE_LIMIT]?;
+        Ok(LineBuffer {
+            bytes,
+            len: 0,
+            is_too_long: false,
+        })
+    }
+
+    /// The line so far, or `None` where it is too long.
+    pub fn get(&self) -> Option<&[u8]>
+        ensures line { option_map (λ line. line.now) result ≡ self.now }
+        ensures fits { IfSome result (λ line. length line.now ≤ line_limit) }
+    {
+        if self.is_too_long {
+            return None;
+        }
+        Some(&self.bytes[..self.len])
+    }
+
+    /// Adds a byte. A line of more than the limit is too long, whatever follows.
+    pub fn push(&mut self, byte: u8)
+        ensures { self.new ≡ option_and_then (λ line. kept_line (line ++ byte ∷ [])) self.old }
+    {
+        if self.len == LINE_LIMIT {
+            self.is_too_long = true;
+        } else {
+            self.bytes[self.len] = byte;
+            self.len += 1;
+        }
+    }
+
+    /// Begins the next line.
+    pub fn clear(&mut self)
+        ensures { self.new ≡ Some [] }
+    {
+        self.len = 0;
+        self.is_too_long = false;
+    }
+}

@@ -1,0 +1,262 @@
+//! The text of a reply.
+
+ghost use Rattle.std.specs.Prelude.{◌≡◌, ◌≤◌, ◌<◌, ◌+◌, ◌++◌, ◌∷◌, ℕ, List, [], length, decimal, vec_len, vec_capacity, IfOk, IfErr, OnOk};
+ghost use Rattle.kf_core.specs.Refusals.{name_of};
+ghost use Rattle.kf_script.specs.Progress.{Writes};
+ghost use Rattle.kf_script.specs.ReplyText.{done_text, bad_line_text, refusal_text, fault_text, key_text, poll_text, stat_text, octal as octal_text, node_text, state_text};
+
+use super::fault::RunFault;
+use super::output::write_whole;
+use itoa::Buffer;
+use kf_core::{Key, Node, Refusal};
+use std::alloc::{AllocError, Global};
+use std::io::Write;
+use std::marker::Model;
+
+/// The longest reply that needs no memory of its own, in bytes and without its newline.
+pub const SHORT_REPLY: usize = 4096;
+
+/// The state of a node, as `stat` tells it.
+#[derive(Clone, Copy, Debug)]
+pub enum NodeState {
+    /// It is doomed.
+    Removing,
+    /// It is not activated.
+    Off,
+    /// It is a file that is hidden.
+    Hidden,
+    /// It is live.
+    Live,
+}
+
+/// The text of one reply, built anew for each line in the same memory.
+///
+/// There is always room for a reply of [`SHORT_REPLY`] bytes and its newline.
+#[derive(Drop)]
+pub struct Reply {
+    text: Vec<u8>,
+}
+
+impl Model for Reply {
+    ghost Value = { List ℕ };
+
+    ghost view = { λ r. r.text.items };
+
+    ghost invariant = { λ r. (4097 ≤ vec_capacity r.text) × (vec_len r.text < vec_capacity r.text) };
+}
+
+impl Reply {
+    /// A reply without text.
+    pub fn new(alloc: Global) -> Result<Reply, AllocError>
+        ensures { IfOk result (λ reply. reply ≡ []) }
+    {
+        let text = Vec::with_capacity(alloc, SHORT_REPLY + 1)?;
+        Ok(Reply { text })
+    }
+
+    /// The text.
+    pub fn text(&self) -> &[u8]
+        ensures { result.now ≡ self.now }
+    {
+        self.text.as_slice()
+    }
+
+    /// `ok`.
+    pub fn set_done(&mut self)
+        ensures { self.new ≡ done_text }
+    {
+        self.clear();
+        self.push(b"ok");
+    }
+
+    /// `err Line 22`: the line is too long, or makes no request.
+    pub fn set_bad_line(&mut self)
+        ensures { self.new ≡ bad_line_text }
+    {
+        self.clear();
+        self.push(b"err Line 22");
+    }
+
+    /// `err NAME NUMBER`, the name and the number of a refusal.
+    pub fn set_refusal(&mut self, refusal: Refusal)
+        ensures { self.new ≡ refusal_text refusal }
+    {
+        self.clear();
+        self.push(b"err ");
+        self.push(name_bytes(refusal));
+        self.push(b" ");
+        self.push_number(usize::from(refusal.number()));
+    }
+
+    /// `err Callback NUMBER`, the number of a callback's fault.
+    pub fn set_fault(&mut self, number: u16)
+        ensures { self.new ≡ fault_text number }
+    {
+        self.clear();
+        self.push(b"err Callback ");
+        self.push_number(usize::from(number));
+    }
+
+    /// `ok SLOT.GENERATION`, the key of a new node.
+    pub fn set_key(&mut self, key: Key)
+        ensures { self.new ≡ key_text key }
+    {
+        self.clear();
+        self.push(b"ok ");
+        self.push_number(key.slot as usize);
+        self.push(b".");
+        self.push_number(key.generation as usize);
+    }
+
+    /// What is told of a node: its kind, of a directory how many directories are in it and how many links lead
+    /// to it, of a file its mode, and its state.
+    pub fn set_stat(&mut self, node: Node, subdirs: u32, links: u32, state: NodeState)
+        ensures { self.new ≡ stat_text node subdirs links state }
+    {
+        self.clear();
+        self.push_node(node, subdirs, links);
+        self.push(state.bytes());
+    }
+
+    /// A number in decimal.
+    pub fn set_number(&mut self, number: usize)
+        ensures { self.new ≡ decimal number }
+    {
+        self.clear();
+        self.push_number(number);
+    }
+
+    /// `changed` or `same`.
+    pub fn set_poll(&mut self, changed: bool)
+        ensures { self.new ≡ poll_text changed }
+    {
+        self.clear();
+        if changed {
+            self.push(b"changed");
+        } else {
+            self.push(b"same");
+        }
+    }
+
+    /// At most [`SHORT_REPLY`] bytes as they are.
+    pub fn set_bytes(&mut self, bytes: &[u8])
+        requires { length bytes.now ≤ 4096 }
+        ensures { self.new ≡ bytes.now }
+    {
+        self.clear();
+        self.push(bytes);
+    }
+
+    /// Any number of bytes as they are. Refuses `NoMemory` alone; the text is then unknown.
+    pub fn set_text(&mut self, bytes: &[u8]) -> Result<(), Refusal>
+        ensures text { OnOk result (self.new ≡ bytes.now) }
+        ensures refused { IfErr result (λ refusal. refusal ≡ Refusal.NoMemory) }
+    {
+        self.clear();
+        self.extend(bytes)
+    }
+
+    /// Writes the text and a newline in as few calls of write as the writer takes, and forgets the text.
+    pub fn write_line<W: Write>(&mut self, writer: &mut W) -> Result<(), RunFault>
+        ensures written { Writes (W.contents writer.old) (W.contents writer.new) result (self.old ++ 10 ∷ []) }
+        ensures fault { IfErr result (λ fault. fault ≡ RunFault.Write) }
+    {
+        let _ = self.text.push(b'\n');
+        let result = write_whole(writer, self.text.as_slice());
+        self.text.clear();
+        result
+    }
+
+    /// No text.
+    pub fn clear(&mut self)
+        ensures { self.new ≡ [] }
+    {
+        self.text.clear();
+    }
+
+    /// Appends bytes for which there is room.
+    fn push(&mut self, bytes: &[u8])
+        requires { length self.old + length bytes.now ≤ 4096 }
+        ensures text { self.new ≡ self.old ++ bytes.now }
+        ensures len { length self.new ≡ length self.old + length bytes.now }
+    {
+        let _ = self.text.extend_from_slice(bytes);
+    }
+
+    /// Appends any number of bytes as they are. Refuses `NoMemory` alone; the text is then unknown.
+    pub fn extend(&mut self, bytes: &[u8]) -> Result<(), Refusal>
+        ensures text { OnOk result (self.new ≡ self.old ++ bytes.now) }
+        ensures refused { IfErr result (λ refusal. refusal ≡ Refusal.NoMemory) }
+    {
+        if self.text.reserve(bytes.len() + 1).is_err() {
+            return Err(Refusal::NoMemory);
+        }
+        let _ = self.text.extend_from_slice(bytes);
+        Ok(())
+    }
+
+    /// Appends a number in decimal.
+    fn push_number(&mut self, number: usize)
+        requires { length self.old ≤ 4000 }
+        ensures text { self.new ≡ self.old ++ decimal number }
+        ensures len { length self.new ≤ length self.old + 20 }
+    {
+        let mut buffer = Buffer::new();
+        self.push(buffer.format(number).as_bytes());
+    }
+
+    /// Appends what is told of a node before its state.
+    fn push_node(&mut self, node: Node, subdirs: u32, links: u32)
+        requires { self.old ≡ [] }
+        ensures text { self.new ≡ node_text node subdirs links }
+        ensures len { length self.new ≤ 100 }
+    {
+        match node {
+            Node::Dir => {
+                self.push(b"dir subdirs=");
+                self.push_number(subdirs as usize);
+                self.push(b" nlink=");
+                self.push_number(links as usize);
+                self.push(b" ");
+            }
+            Node::File { mode, .. } => {
+                self.push(b"file mode=");
+                self.push(octal(mode).as_slice());
+                self.push(b" ");
+            }
+            Node::Link { .. } => self.push(b"link "),
+        }
+    }
+}
+
+fn name_bytes(refusal: Refusal) -> &'static [u8]
+    ensures name { result.now ≡ name_of refusal }
+    ensures short { length result.now ≤ 12 }
+{
+    refusal.name().as_bytes()
+}
+
+impl NodeState {
+    fn bytes(self) -> &'static [u8]
+        ensures text { result.now ≡ state_text self }
+        ensures short { length result.now ≤ 8 }
+    {
+        match self {
+            NodeState::Removing => b"removing",
+            NodeState::Off => b"off",
+            NodeState::Hidden => b"hidden",
+            NodeState::Live => b"live",
+        }
+    }
+}
+
+/// Three octal digits.
+fn octal(mode: u16) -> [u8; 3]
+    ensures { result ≡ octal_text mode }
+{
+    [
+        b'0' + (mode / 64 % 8) as u8,
+        b'0' + (mode / 8 % 8) as u8,
+        b'0' + (mode % 8) as u8,
+    ]
+}

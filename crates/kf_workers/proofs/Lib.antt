@@ -1,0 +1,5 @@
+pub mod Cuts
+pub mod Telling
+pub mod Turning
+pub mod Weaker
+pub mod Written

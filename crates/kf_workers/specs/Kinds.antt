@@ -1,0 +1,64 @@
+-- Whose each line of a script is.
+use Rattle.std.specs.Prelude.{ℕ, ◌+◌, ◌-◌, ◌*◌, Bool, true, false, List, [], ◌∷◌, nat_le, ◌==◌, ◌&&◌, length, flat_map, codes, Option, Some, None, if◌then◌else◌}
+use Rattle.std.specs.Str.{bytes_eq}
+use Rattle.kf_script.specs.Lines.{line_limit}
+use Rattle.kf_script.specs.Requests.{is_digit, first_word, rest}
+
+-- what a line is for: nothing, where it is not lawful; a round's end; or a command of one seat, 0 the owner's
+pub data Kind : Type 0 where
+  bad : Kind
+  ends_round : Kind
+  of_seat : (seat : ℕ) (command : List ℕ) → Kind
+
+-- a worker's number, 1 to so many, in decimal without leading zeros; of two digits at most
+abbrev pub worker_of : ℕ → List ℕ → Option ℕ
+worker_of most (a ∷ []) =
+    if nat_le 49 a && nat_le a 57 && nat_le (a - 48) most then Some (a - 48) else None
+worker_of most (a ∷ b ∷ []) =
+    if nat_le 49 a && nat_le a 57 && is_digit b && nat_le (10 * (a - 48) + (b - 48)) most
+    then Some (10 * (a - 48) + (b - 48)) else None
+worker_of most _ = None
+
+-- a worker may not wait for all
+abbrev pub kind_for : Option ℕ → List ℕ → Kind
+kind_for None command = bad
+kind_for (Some worker) command = if bytes_eq command (codes "wait") then bad else of_seat worker command
+
+-- what follows the `@` of a line: the worker's number, one space, and its command
+abbrev pub worker_line : ℕ → List ℕ → Kind
+worker_line workers words = kind_for (worker_of workers (first_word words)) (rest words)
+
+abbrev pub short_line : ℕ → List ℕ → Kind
+short_line workers [] = bad
+short_line workers (byte ∷ line) =
+    if byte == 64 then worker_line workers line
+    else (if bytes_eq (byte ∷ line) (codes "wait") then ends_round
+    else of_seat 0 (byte ∷ line))
+
+-- what a line is for, with so many workers
+abbrev pub kind_by : ℕ → List ℕ → Kind
+kind_by workers line = if nat_le (length line) line_limit then short_line workers line else bad
+
+abbrev pub is_end : Kind → Bool
+is_end ends_round = true
+is_end _ = false
+
+abbrev pub seat_in : Kind → ℕ
+seat_in bad = 0
+seat_in ends_round = 0
+seat_in (of_seat seat command) = seat
+
+abbrev pub command_in : Kind → List ℕ
+command_in bad = []
+command_in ends_round = []
+command_in (of_seat seat command) = command
+
+-- the command of a line, where it is this seat's
+abbrev pub own_command : ℕ → Kind → List (List ℕ)
+own_command who bad = []
+own_command who ends_round = []
+own_command who (of_seat seat command) = if seat == who then command ∷ [] else []
+
+-- the commands of one seat, in the order of the lines
+abbrev pub commands_of : ℕ → ℕ → List (List ℕ) → List (List ℕ)
+commands_of workers who lines = flat_map (λ line. own_command who (kind_by workers line)) lines

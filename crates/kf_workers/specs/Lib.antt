@@ -1,0 +1,10 @@
+pub mod Cutting
+pub mod Kinds
+pub mod KindViews
+pub mod Turns
+pub mod Seats
+pub mod Told
+pub mod Replies
+pub mod TextAnswers
+pub mod Serving
+pub mod RanWhole

@@ -1,0 +1,84 @@
+//! The board of the owner or of a worker.
+
+ghost use Rattle.std.specs.Prelude.{◌≡◌, vec_len, IfOk};
+
+use crate::common::Common;
+use crate::token::Token;
+use kf_core::{Limits, Refusal};
+use kf_files::{WaitOps, WaitingFile};
+use kf_notify::Posts;
+use kf_shared::Naming;
+use std::alloc::Global;
+use std::sync::Wait;
+
+mod answering;
+mod ending;
+mod files;
+mod hiding;
+mod looking;
+mod making;
+mod removing;
+
+/// How many files may be open on a board: one for each letter.
+const FILES: usize = 26;
+
+/// The board of one who runs lines on a shared tree: its open files by letter, its tokens of hidden files by slot, and a
+/// handle of its own of the event numbers.
+///
+/// It must be spent, by [`WorkerBoard::end`], which gives all its holds back.
+pub struct WorkerBoard<'x, W: WaitOps, N: Naming, R: Wait> {
+    rt: &'x R,
+    common: &'x Common<'x, W, N>,
+    posts: Posts,
+    files: Vec<Option<WaitingFile<N>>>,
+    tokens: Vec<Option<Token<N>>>,
+    ghost letters: { vec_len files ≡ 26 },
+}
+
+/// No file under any of the 26 letters.
+fn no_files<N: Naming>(alloc: Global) -> Result<Vec<Option<WaitingFile<N>>>, Refusal>
+    ensures { IfOk result (λ files. vec_len files ≡ 26) }
+{
+    let mut files = Vec::with_capacity(alloc, FILES)?;
+    for made in 0..FILES {
+        prove!(made < FILES);
+        files.push_reserved(None);
+    }
+    Ok(files)
+}
+
+/// No token in any of so many slots.
+fn no_tokens<N: Naming>(alloc: Global, slots: u32) -> Result<Vec<Option<Token<N>>>, Refusal> {
+    let mut tokens = Vec::with_capacity(alloc, slots as usize)?;
+    for made in 0..slots {
+        prove!(made < slots);
+        tokens.push_reserved(None);
+    }
+    Ok(tokens)
+}
+
+impl<'x, W: WaitOps, N: Naming, R: Wait> WorkerBoard<'x, W, N, R> {
+    /// A board without open files and tokens. `NoMemory` where it could not be had.
+    pub fn new(
+        rt: &'x R,
+        alloc: Global,
+        common: &'x Common<'x, W, N>,
+        posts: Posts,
+        limits: Limits,
+    ) -> Result<WorkerBoard<'x, W, N, R>, Refusal> {
+        let files = no_files(alloc)?;
+        match no_tokens(alloc, limits.slots()) {
+            Ok(tokens) => Ok(WorkerBoard {
+                rt,
+                common,
+                posts,
+                files,
+                tokens,
+            }),
+            Err(refusal) => {
+                ending::close_all(files);
+                Err(refusal)
+            }
+        }
+    }
+}

@@ -1,0 +1,106 @@
+//! What the board answers each request.
+
+ghost use Rattle.std.specs.Prelude.{◌<◌, ◌≤◌};
+ghost use Rattle.kf_workers.specs.Replies.{AreBytes, AreNames, IsCount, IsLinkText};
+
+use super::WorkerBoard;
+use crate::tell::{tell_changed, tell_done, tell_key, tell_seen};
+use kf_files::{FileError, WaitOps, Want};
+use kf_script::{Board, Reply, Request};
+use kf_shared::Naming;
+use std::sync::Wait;
+
+impl<W: WaitOps, N: Naming, R: Wait> WorkerBoard<'_, W, N, R> {
+    /// `ls`: the names.
+    fn answer_list(&self, path: &[u8], reply: &mut Reply)
+        ensures { AreNames reply.new }
+    {
+        if let Err(refusal) = self.list(path, reply) {
+            reply.set_refusal(refusal);
+        }
+    }
+
+    /// `readlink`: the text.
+    fn answer_read_link(&self, path: &[u8], reply: &mut Reply)
+        ensures { IsLinkText reply.new }
+    {
+        if let Err(refusal) = self.read_link(path, reply) {
+            reply.set_refusal(refusal);
+        }
+    }
+
+    /// `read`: the bytes.
+    fn answer_read(&mut self, file: usize, offset: u64, most: usize, reply: &mut Reply)
+        requires { file < 26 }
+        ensures { AreBytes most reply.new }
+    {
+        if let Err(refusal) = self.read(file, offset, most, reply) {
+            reply.set_refusal(refusal);
+        }
+    }
+
+    /// `write`: the number of bytes taken.
+    fn answer_write(&mut self, file: usize, text: &[u8], reply: &mut Reply)
+        requires { file < 26 }
+        ensures { IsCount reply.new }
+    {
+        if let Err(refusal) = self.write(file, text, reply) {
+            reply.set_refusal(refusal);
+        }
+    }
+}
+
+impl<W: WaitOps, N: Naming, R: Wait> Board for WorkerBoard<'_, W, N, R> {
+    ghost use Rattle.kf_workers.specs.Replies.{Suits};
+
+    ghost step = { λ before request starved reply now. Suits request reply };
+
+    fn answer(&mut self, request: Request<'_>, reply: &mut Reply) {
+        match request {
+            Request::MakeDirectory { path, is_live } => tell_key(
+                reply,
+                self.make_directory(path, is_live)
+                    .map_err(FileError::Refused),
+            ),
+            Request::MakeFile { path, mode, text } => {
+                tell_key(reply, self.make_file(path, mode, text));
+            }
+            Request::MakeLink { path, target } => tell_key(
+                reply,
+                self.make_link(path, target).map_err(FileError::Refused),
+            ),
+            Request::Activate { path } => tell_done(reply, self.activate(path)),
+            Request::ListNames { path } => self.answer_list(path, reply),
+            Request::Stat { path } => tell_seen(reply, self.stat(path)),
+            Request::ReadLink { path } => self.answer_read_link(path, reply),
+            Request::Move { path, dir, name } => tell_done(reply, self.move_node(path, dir, name)),
+            Request::Remove { path } => tell_done(reply, self.remove(path)),
+            Request::OpenFile {
+                file,
+                path,
+                reads,
+                writes,
+            } => {
+                let want = Want {
+                    read: reads,
+                    write: writes,
+                };
+                tell_done(reply, self.open(file, path, want));
+            }
+            Request::ReadFile { file, offset, most } => self.answer_read(file, offset, most, reply),
+            Request::WriteFile { file, text } => self.answer_write(file, text, reply),
+            Request::PollFile { file } => tell_changed(reply, self.poll(file)),
+            Request::Notify { path } => tell_done(reply, self.notify(path)),
+            Request::CloseFile { file } => tell_done(reply, self.close(file)),
+            Request::Hide { path } => tell_done(reply, self.hide(path)),
+            Request::Show { path } => tell_done(reply, self.show(path)),
+            Request::CountCommands => reply.set_number(self.count_commands()),
+            Request::Compact => tell_done(reply, self.compact()),
+            Request::Plug { name, text } => {
+                tell_key(reply, self.plug(name, text).map_err(FileError::Refused));
+            }
+            Request::Unplug { name } => tell_done(reply, self.unplug(name)),
+            Request::Wait => reply.set_done(),
+        }
+    }
+}

@@ -1,0 +1,38 @@
+//! The end of a board: all that it holds is given back.
+
+use super::WorkerBoard;
+use super::files::close_file;
+use kf_files::{WaitOps, WaitingFile};
+use kf_shared::Naming;
+use std::sync::Wait;
+
+/// Closes each file that is open.
+pub fn close_all<N: Naming>(mut files: Vec<Option<WaitingFile<N>>>) {
+    while let Some(place) = files.pop() {
+        if let Some(file) = place {
+            close_file(file);
+        }
+    }
+    files.destroy_empty();
+}
+
+impl<W: WaitOps, N: Naming, R: Wait> WorkerBoard<'_, W, N, R> {
+    /// Closes its files and shows the files that it hid, and gives all their holds back.
+    pub fn end(self) {
+        let WorkerBoard {
+            rt,
+            common,
+            posts: _,
+            files,
+            mut tokens,
+        } = self;
+        close_all(files);
+        while let Some(place) = tokens.pop() {
+            if let Some(token) = place {
+                let mut editor = common.tree.edit(rt);
+                editor.show(token.into_hidden()).release();
+            }
+        }
+        tokens.destroy_empty();
+    }
+}

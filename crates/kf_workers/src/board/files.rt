@@ -1,0 +1,160 @@
+//! The requests on open files, and notify.
+
+ghost use Rattle.std.specs.Prelude.{◌≡◌, ◌<◌, IfOk, OnOk};
+ghost use Rattle.kf_workers.specs.Replies.{AreBytes, IsCount};
+
+use super::WorkerBoard;
+use crate::tell::tell_read;
+use kf_core::{Key, Node, Refusal};
+use kf_files::{WaitOps, WaitingFile, Want};
+use kf_notify::Post;
+use kf_replies::tell_count;
+use kf_script::Reply;
+use kf_shared::Naming;
+use kf_words::Hold;
+use std::sync::Wait;
+
+/// Closes a file, and gives its hold back.
+pub fn close_file<N: Naming>(file: WaitingFile<N>) {
+    let (hold, _post) = file.close();
+    hold.release();
+}
+
+impl<W: WaitOps, N: Naming, R: Wait> WorkerBoard<'_, W, N, R> {
+    /// A hold of the live node at a path. One turn of the tree lock.
+    fn hold_live(&self, path: &[u8]) -> Result<Hold, Refusal>
+        ensures table { IfOk result (λ hold. hold.table ≡ N.table) }
+    {
+        let mut editor = self.common.tree.edit(self.rt);
+        let key = editor.state().lookup(path)?;
+        editor.hold(key)
+    }
+
+    /// A post of a slot of the tree. There is no slot without a number.
+    fn post(&mut self, slot: u32) -> Result<Post, Refusal> {
+        if slot >= self.posts.slots() {
+            return Err(Refusal::NoEntry);
+        }
+        self.posts.post(slot)
+    }
+
+    /// Opens the file of a hold. After a refusal the hold is given back.
+    fn open_held(&mut self, hold: Hold, want: Want) -> Result<WaitingFile<N>, Refusal>
+        requires table { hold.table ≡ N.table }
+    {
+        let node = hold.node();
+        let post = match self.post(hold.key().slot) {
+            Ok(post) => post,
+            Err(refusal) => {
+                hold.release();
+                return Err(refusal);
+            }
+        };
+        match WaitingFile::open(hold, node, want, post) {
+            Ok(file) => Ok(file),
+            Err((hold, _post, refusal)) => {
+                hold.release();
+                Err(refusal)
+            }
+        }
+    }
+
+    /// Opens the file at a path under a letter.
+    pub(super) fn open(&mut self, file: usize, path: &[u8], want: Want) -> Result<(), Refusal>
+        requires letter { file < 26 }
+    {
+        if self.files[file].is_some() {
+            return Err(Refusal::Busy);
+        }
+        let hold = self.hold_live(path)?;
+        let opened = self.open_held(hold, want)?;
+        if let Some(other) = self.files[file].replace(opened) {
+            close_file(other);
+        }
+        Ok(())
+    }
+
+    /// Closes the file of a letter.
+    pub(super) fn close(&mut self, file: usize) -> Result<(), Refusal>
+        requires letter { file < 26 }
+    {
+        match self.files[file].take() {
+            Some(opened) => {
+                close_file(opened);
+                Ok(())
+            }
+            None => Err(Refusal::Invalid),
+        }
+    }
+
+    /// Reads the file of a letter from an offset on: puts the bytes, at most 4,095, into the reply, or why there are none.
+    pub(super) fn read(
+        &mut self,
+        file: usize,
+        offset: u64,
+        most: usize,
+        reply: &mut Reply,
+    ) -> Result<(), Refusal>
+        requires letter { file < 26 }
+        ensures { OnOk result (AreBytes most reply.new) }
+    {
+        let Some(opened) = &mut self.files[file] else {
+            return Err(Refusal::Invalid);
+        };
+        let mut page = [0u8; 4096];
+        let out = &mut page[..most.min(4096)];
+        let serving = self.common.serving();
+        let told = opened.read(self.rt, &self.common.tree, &serving, offset, out);
+        tell_read(reply, told, out);
+        Ok(())
+    }
+
+    /// Writes a text into the file of a letter: puts the number that its store answered into the reply, or why there is none.
+    pub(super) fn write(
+        &mut self,
+        file: usize,
+        text: &[u8],
+        reply: &mut Reply,
+    ) -> Result<(), Refusal>
+        requires letter { file < 26 }
+        ensures { OnOk result (IsCount reply.new) }
+    {
+        let Some(opened) = &mut self.files[file] else {
+            return Err(Refusal::Invalid);
+        };
+        let serving = self.common.serving();
+        let told = opened.write(self.rt, &self.common.tree, &serving, text);
+        tell_count(reply, told);
+        Ok(())
+    }
+
+    /// Whether the file of a letter has changed since its last show.
+    pub(super) fn poll(&mut self, file: usize) -> Result<bool, Refusal>
+        requires letter { file < 26 }
+    {
+        match &mut self.files[file] {
+            Some(opened) => Ok(opened.poll()),
+            None => Err(Refusal::Invalid),
+        }
+    }
+
+    /// The key of the file at a path, live or not. One turn of the tree lock.
+    fn file_at(&self, path: &[u8]) -> Result<Key, Refusal> {
+        let editor = self.common.tree.edit(self.rt);
+        let key = editor.state().walk(path)?;
+        match editor.state().stat(key)?.node {
+            Node::Dir => Err(Refusal::IsDir),
+            Node::Link { .. } => Err(Refusal::Invalid),
+            Node::File { .. } => Ok(key),
+        }
+    }
+
+    /// Notifies the file at a path: each open file on its slot has changed.
+    pub(super) fn notify(&mut self, path: &[u8]) -> Result<(), Refusal> {
+        let key = self.file_at(path)?;
+        match self.post(key.slot)?.notify() {
+            Ok(_) => Ok(()),
+            Err(_) => Err(Refusal::NoSpace),
+        }
+    }
+}

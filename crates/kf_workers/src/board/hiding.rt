@@ -1,0 +1,73 @@
+//! The requests that hide a file, and show it again.
+
+ghost use Rattle.std.specs.Prelude.{◌≡◌, IfSome};
+
+use super::WorkerBoard;
+use crate::token::Token;
+use kf_core::{Key, Refusal};
+use kf_files::WaitOps;
+use kf_shared::{Editor, Naming};
+use std::sync::Wait;
+
+/// Shows the file of a token again, and gives its hold back.
+fn show_token<N: Naming>(editor: &mut Editor<'_, N>, token: Token<N>) {
+    editor.show(token.into_hidden()).release();
+}
+
+impl<W: WaitOps, N: Naming, R: Wait> WorkerBoard<'_, W, N, R> {
+    /// Shows the file of a token again. One turn of the tree lock.
+    pub(super) fn spend(&self, token: Token<N>) {
+        let mut editor = self.common.tree.edit(self.rt);
+        show_token(&mut editor, token);
+    }
+
+    /// Keeps a token in its slot. While it is kept the slot is not given again, so it is the slot's only one: where
+    /// another lay there, or there is no such slot, the file is shown again.
+    fn keep(&mut self, token: Token<N>) {
+        let slot = token.key().slot as usize;
+        let other = match self.tokens.get_mut(slot) {
+            Some(place) => place.replace(token),
+            None => Some(token),
+        };
+        if let Some(other) = other {
+            self.spend(other);
+        }
+    }
+
+    /// Hides the file at a path, waits for the callbacks there, and keeps its token.
+    pub(super) fn hide(&mut self, path: &[u8]) -> Result<(), Refusal> {
+        let hold = self.hold_at(path)?;
+        match self.common.tree.hide(self.rt, hold) {
+            Ok(hidden) => {
+                self.keep(Token::new(hidden));
+                Ok(())
+            }
+            Err((hold, refusal)) => {
+                hold.release();
+                Err(refusal)
+            }
+        }
+    }
+
+    /// Takes this board's token of a node out, where it has one.
+    fn take_token(tokens: &mut Vec<Option<Token<N>>>, key: Key) -> Option<Token<N>>
+        ensures own { IfSome result (λ token. token.key ≡ key) }
+    {
+        let place = tokens.get_mut(key.slot as usize)?;
+        match place {
+            Some(token) if token.key() == key => place.take(),
+            _ => None,
+        }
+    }
+
+    /// Shows the file at a path again, where this board has its token, and spends that. One turn of the tree lock.
+    pub(super) fn show(&mut self, path: &[u8]) -> Result<(), Refusal> {
+        let mut editor = self.common.tree.edit(self.rt);
+        let key = editor.state().walk(path)?;
+        let Some(token) = Self::take_token(&mut self.tokens, key) else {
+            return Err(Refusal::Invalid);
+        };
+        show_token(&mut editor, token);
+        Ok(())
+    }
+}

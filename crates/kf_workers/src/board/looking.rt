@@ -1,0 +1,50 @@
+//! The requests that only look: each in one turn of the tree lock.
+
+ghost use Rattle.std.specs.Prelude.{◌≡◌, OnOk};
+ghost use Rattle.kf_workers.specs.Replies.{AreNames, IsLinkText};
+
+use super::WorkerBoard;
+use kf_core::Refusal;
+use kf_files::WaitOps;
+use kf_replies::tell_names;
+use kf_script::Reply;
+use kf_shared::Naming;
+use kf_tree::Stat;
+use std::sync::Wait;
+
+/// The most names of a listing: those of all slots.
+const MOST_NAMES: usize = 4096;
+
+impl<W: WaitOps, N: Naming, R: Wait> WorkerBoard<'_, W, N, R> {
+    /// What is told of the node at a path, live or not.
+    pub(super) fn stat(&self, path: &[u8]) -> Result<Stat, Refusal> {
+        let editor = self.common.tree.edit(self.rt);
+        let key = editor.state().walk(path)?;
+        editor.state().stat(key)
+    }
+
+    /// Tells the names in a live directory.
+    pub(super) fn list(&self, path: &[u8], reply: &mut Reply) -> Result<(), Refusal>
+        ensures { OnOk result (AreNames reply.new) }
+    {
+        let editor = self.common.tree.edit(self.rt);
+        let dir = editor.state().lookup(path)?;
+        let names = editor.state().names(dir, None, MOST_NAMES)?;
+        tell_names(reply, names.as_slice())
+    }
+
+    /// Tells the text of a live link.
+    pub(super) fn read_link(&self, path: &[u8], reply: &mut Reply) -> Result<(), Refusal>
+        ensures { OnOk result (IsLinkText reply.new) }
+    {
+        let editor = self.common.tree.edit(self.rt);
+        let link = editor.state().lookup(path)?;
+        let text = editor.state().target_text(link)?;
+        reply.set_text(text.as_slice())
+    }
+
+    /// How many commands are stored.
+    pub(super) fn count_commands(&self) -> usize {
+        self.common.tree.edit(self.rt).state().commands().len()
+    }
+}

@@ -1,0 +1,87 @@
+//! The requests that make, activate and move nodes.
+
+use super::WorkerBoard;
+use kf_core::{Key, Node, Refusal};
+use kf_files::{FileError, WaitOps};
+use kf_shared::Naming;
+use std::sync::Wait;
+
+impl<W: WaitOps, N: Naming, R: Wait> WorkerBoard<'_, W, N, R> {
+    /// A directory at a path, activated where it is to be live. One turn of the tree lock.
+    pub(super) fn make_directory(&self, path: &[u8], is_live: bool) -> Result<Key, Refusal> {
+        let mut editor = self.common.tree.edit(self.rt);
+        let (dir, name) = editor.state().walk_parent(path)?;
+        editor.create(dir, name, Node::Dir, is_live)
+    }
+
+    /// A live link at a path to the node at another one. One turn of the tree lock.
+    pub(super) fn make_link(&self, path: &[u8], target: &[u8]) -> Result<Key, Refusal> {
+        let mut editor = self.common.tree.edit(self.rt);
+        let (dir, name) = editor.state().walk_parent(path)?;
+        let target = editor.state().walk(target)?;
+        editor.create(dir, name, Node::Link { target }, true)
+    }
+
+    /// The directory of a path's last component, and that.
+    fn parent_of<'a>(&self, path: &'a [u8]) -> Result<(Key, &'a [u8]), Refusal> {
+        self.common.tree.edit(self.rt).state().walk_parent(path)
+    }
+
+    /// A live file of this mode and tag.
+    fn add_file(&self, dir: Key, name: &[u8], mode: u16, tag: u64) -> Result<Key, Refusal> {
+        let mut editor = self.common.tree.edit(self.rt);
+        editor.create(dir, name, Node::File { mode, tag }, true)
+    }
+
+    /// A live file of this mode and text at a path: what is wrong with the path is told first, then the text is kept
+    /// under a new tag, then the file is made. Where that is refused its text goes again.
+    pub(super) fn make_file(&self, path: &[u8], mode: u16, text: &[u8]) -> Result<Key, FileError> {
+        let (dir, name) = self.parent_of(path).map_err(FileError::Refused)?;
+        let tag = self.common.new_tag().map_err(FileError::Refused)?;
+        self.common
+            .serving()
+            .first(self.rt, tag, text)
+            .map_err(FileError::Callback)?;
+        match self.add_file(dir, name, mode, tag) {
+            Ok(key) => {
+                self.common.made_file(self.rt, key, tag);
+                Ok(key)
+            }
+            Err(refusal) => {
+                self.common.let_go(self.rt, tag);
+                Err(FileError::Refused(refusal))
+            }
+        }
+    }
+
+    /// Activates the subtree at a path. One turn of the tree lock.
+    pub(super) fn activate(&self, path: &[u8]) -> Result<(), Refusal> {
+        let mut editor = self.common.tree.edit(self.rt);
+        let key = editor.state().walk(path)?;
+        editor.activate(key)
+    }
+
+    /// Moves the node at a path into the directory at another, under a name. One turn of the tree lock.
+    pub(super) fn move_node(&self, path: &[u8], dir: &[u8], name: &[u8]) -> Result<(), Refusal> {
+        let mut editor = self.common.tree.edit(self.rt);
+        let key = editor.state().walk(path)?;
+        let dir = editor.state().walk(dir)?;
+        editor.rename(key, dir, name)
+    }
+
+    /// Puts the canonical list of the tree in place of the stored commands. One turn of the tree lock.
+    pub(super) fn compact(&self) -> Result<(), Refusal> {
+        self.common.tree.edit(self.rt).compact()
+    }
+    /// Plugs a device on the run's bus. Answers the key of its directory.
+    pub(super) fn plug(&self, name: &[u8], text: &[u8]) -> Result<Key, Refusal> {
+        let common = self.common;
+        common.bus.plug(self.rt, &common.tree, name, text)
+    }
+
+    /// Unplugs a device from the run's bus, and waits for the callbacks of its files.
+    pub(super) fn unplug(&self, name: &[u8]) -> Result<(), Refusal> {
+        let common = self.common;
+        common.bus.unplug(self.rt, &common.tree, name)
+    }
+}

@@ -1,0 +1,107 @@
+//! What all seats of a run share.
+
+use crate::serving::{FIRST_DEVICE_TAG, Serving};
+use kf_core::{Key, Limits, Refusal};
+use kf_device::Bus;
+use kf_files::WaitOps;
+use kf_shared::{Naming, SharedTree};
+use std::alloc::Global;
+use std::sync::atomic::{AtomicU64, Ordering};
+use std::sync::{Mutex, Wait};
+
+/// The last file of a slot that a script made: its generation and its tag. Generation 0 is that of no node.
+#[derive(Clone, Copy)]
+struct LastFile {
+    generation: u32,
+    tag: u64,
+}
+
+/// What all seats of a run share: the tree, the bus, and the callbacks and tags of the files that scripts make.
+///
+/// No two of its locks are ever held at once: each is let go before another lock, a callback or a wait.
+#[derive(Drop)]
+pub struct Common<'x, W, N: Naming> {
+    pub tree: SharedTree<N>,
+    pub bus: Bus,
+    texts: &'x W,
+    next_tag: AtomicU64,
+    last_files: Mutex<Vec<LastFile>>,
+}
+
+impl<'x, W: WaitOps, N: Naming> Common<'x, W, N> {
+    /// A run's tree with no device and no tag given. `NoMemory` where it could not be had.
+    pub fn new(
+        alloc: Global,
+        tree: SharedTree<N>,
+        texts: &'x W,
+        limits: Limits,
+    ) -> Result<Common<'x, W, N>, Refusal> {
+        let bus = Bus::new(alloc)?;
+        let none = LastFile {
+            generation: 0,
+            tag: 0,
+        };
+        let last_files = vec![in alloc; none; limits.slots() as usize]?;
+        Ok(Common {
+            tree,
+            bus,
+            texts,
+            next_tag: AtomicU64::new(0),
+            last_files: Mutex::new(last_files),
+        })
+    }
+
+    /// The callbacks of all files.
+    pub fn serving(&self) -> Serving<'_, W, Bus> {
+        Serving {
+            texts: self.texts,
+            devices: &self.bus,
+        }
+    }
+
+    /// A tag that no file has had. `NoSpace` where all below those of devices were given.
+    pub fn new_tag(&self) -> Result<u64, Refusal> {
+        let tag = self.next_tag.fetch_add(1, Ordering::SeqCst);
+        if tag < FIRST_DEVICE_TAG {
+            Ok(tag)
+        } else {
+            Err(Refusal::NoSpace)
+        }
+    }
+
+    /// Lets the text of a file go that is not in the tree: an empty one takes its place, and no memory.
+    pub fn let_go<R: Wait>(&self, rt: &R, tag: u64) {
+        let _ = self.texts.first(rt, tag, b"");
+    }
+
+    /// Notes the tag of a new file, and answers that of an earlier file of its slot, which has left the tree. Where a
+    /// later file of the slot was noted before, it is the new one that has left meanwhile.
+    fn note(last_files: &mut Vec<LastFile>, key: Key, tag: u64) -> Option<u64> {
+        let last = last_files.get_mut(key.slot as usize)?;
+        if last.generation >= key.generation {
+            return Some(tag);
+        }
+        let earlier = *last;
+        *last = LastFile {
+            generation: key.generation,
+            tag,
+        };
+        if earlier.generation == 0 {
+            None
+        } else {
+            Some(earlier.tag)
+        }
+    }
+
+    /// Notes that a file was made, and lets the text of its slot's earlier file go: so at most one text is kept for each
+    /// slot, beside those of the lines that run.
+    pub fn made_file<R: Wait>(&self, rt: &R, key: Key, tag: u64) {
+        let gone = {
+            let mut last_files = self.last_files.lock(rt);
+            Self::note(&mut last_files, key, tag)
+        };
+        if let Some(gone) = gone {
+            self.let_go(rt, gone);
+        }
+    }
+}

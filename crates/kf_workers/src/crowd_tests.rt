@@ -1,0 +1,381 @@
+//! A crowd: four workers on six shared paths whose directories come and go, and on a file of each worker's own. Each reply
+//! is one that some order of the lines explains, as far as it is looked at here.
+
+ghost use Rattle.std.specs.Prelude.{◌≡◌, ◌<◌, ◌≤◌};
+
+use crate::fixtures::answers;
+use std::alloc::{AllocError, Global};
+use std::test::Fail;
+
+const WORKERS: usize = 4;
+
+const ROUNDS: usize = 100;
+
+const STEPS: usize = 20;
+
+/// What a worker does, on which of the shared paths, or with which number.
+#[derive(Clone, Copy)]
+struct Action {
+    kind: u64,
+    path: usize,
+    number: u64,
+    ghost shared: { path < 6 },
+    ghost small: { number < 1000 },
+}
+
+/// A number that looks like chance.
+fn mixed(round: usize, worker: usize, step: usize) -> u64 {
+    let mut mix = (round as u64)
+        .wrapping_mul(1_000_003)
+        .wrapping_add(worker as u64)
+        .wrapping_mul(10_007)
+        .wrapping_add(step as u64)
+        .wrapping_mul(0x9e37_79b9_7f4a_7c15);
+    mix ^= mix >> 29;
+    mix = mix.wrapping_mul(0xbf58_476d_1ce4_e5b9);
+    mix ^ (mix >> 32)
+}
+
+fn action_at(round: usize, worker: usize, step: usize) -> Action {
+    let mix = mixed(round, worker, step);
+    let number = (mix >> 32) % 1000;
+    Action {
+        kind: mix % 16,
+        path: ((mix >> 16) % 6) as usize,
+        number,
+    }
+}
+
+fn path_of(path: usize) -> &'static [u8] {
+    match path {
+        0 => b"/a",
+        1 => b"/a/x",
+        2 => b"/a/y",
+        3 => b"/b",
+        4 => b"/b/x",
+        _ => b"/b/y",
+    }
+}
+
+fn is_directory(path: usize) -> bool {
+    path == 0 || path == 3
+}
+
+fn letter_of(path: usize) -> &'static [u8] {
+    match path {
+        0 => b"a",
+        1 => b"b",
+        2 => b"c",
+        3 => b"d",
+        4 => b"e",
+        _ => b"f",
+    }
+}
+
+fn digit_of(worker: usize) -> &'static [u8] {
+    match worker {
+        0 => b"1",
+        1 => b"2",
+        2 => b"3",
+        _ => b"4",
+    }
+}
+
+/// Puts the parts and a newline behind the script.
+fn put(script: &mut Vec<u8>, parts: &[&[u8]]) -> Result<(), AllocError> {
+    for part in parts {
+        script.extend_from_slice(part)?;
+    }
+    script.push(b'\n')?;
+    Ok(())
+}
+
+/// A number below 1,000 in three digits.
+fn digits(number: u64) -> [u8; 3]
+    requires { number < 1000 }
+{
+    [
+        b'0' + (number / 100) as u8,
+        b'0' + (number / 10 % 10) as u8,
+        b'0' + (number % 10) as u8,
+    ]
+}
+
+fn put_action(script: &mut Vec<u8>, worker: usize, action: Action) -> Result<(), AllocError> {
+    let path = path_of(action.path);
+    let letter = letter_of(action.path);
+    let own = digit_of(worker);
+    script.extend_from_slice(b"@")?;
+    script.extend_from_slice(own)?;
+    script.extend_from_slice(b" ")?;
+    match action.kind {
+        0 | 1 if is_directory(action.path) => put(script, &[b"mkdir ", path]),
+        0 | 1 => put(script, &[b"file ", path, b" 666 ", path]),
+        2 => put(script, &[b"rm ", path]),
+        3 | 4 => put(script, &[b"open ", letter, b" ", path, b" rw"]),
+        5 | 6 => put(script, &[b"read ", letter, b" 0 99"]),
+        7 => put(script, &[b"write ", letter, b" ", path]),
+        8 => put(script, &[b"close ", letter]),
+        9 => put(script, &[b"ls ", path]),
+        10 => put(script, &[b"stat ", path]),
+        11 => put(script, &[b"notify ", path]),
+        12 => put(script, &[b"hide /own", own]),
+        13 => put(script, &[b"show /own", own]),
+        14 => put(script, &[b"write z ", digits(action.number).as_slice()]),
+        _ => put(script, &[b"read z 0 9"]),
+    }
+}
+
+/// What is known of a worker: the round in which each shared file that it has open was opened, or 0; the text of its
+/// own file, and whether that is hidden.
+#[derive(Clone, Copy)]
+struct Watched {
+    opened: [usize; 6],
+    own: [u8; 3],
+    is_hidden: bool,
+}
+
+fn is_one_of(reply: &[u8], some: &[&[u8]]) -> bool {
+    some.iter().any(|it| *it == reply)
+}
+
+/// Whether a reply about a shared path is one that some order explains. `removed` is the last round before this one in which the
+/// node at the path was removed.
+fn is_shared_reply(action: Action, reply: &[u8], opened: usize, removed: usize) -> bool {
+    let path = path_of(action.path);
+    let is_dir = is_directory(action.path);
+    let no_entry = b"err NoEntry 2".as_slice();
+    let no_device = b"err NoDevice 19".as_slice();
+    let invalid = b"err Invalid 22".as_slice();
+    let is_stale = removed > opened;
+    match action.kind {
+        0 | 1 => reply.starts_with(b"ok ") || is_one_of(reply, &[b"err Exists 17", no_entry]),
+        2 => is_one_of(reply, &[b"ok", no_entry]),
+        3 | 4 if opened != 0 => reply == b"err Busy 16".as_slice(),
+        3 | 4 if is_dir => is_one_of(reply, &[b"err IsDir 21", no_entry]),
+        3 | 4 => is_one_of(reply, &[b"ok", no_entry, no_device]),
+        5..=8 if opened == 0 => reply == invalid,
+        5 | 6 if is_stale => reply == no_device,
+        5 | 6 => is_one_of(reply, &[path, no_device]),
+        7 if is_stale => reply == no_device,
+        7 => is_one_of(reply, &[b"4", no_device]),
+        8 => reply == b"ok".as_slice(),
+        9 if is_dir => is_one_of(reply, &[b"", b"x", b"y", b"x y", no_entry]),
+        9 => is_one_of(reply, &[b"err NotDir 20", no_entry]),
+        10 if is_dir => reply.starts_with(b"dir subdirs=0 nlink=2 ") || reply == no_entry,
+        10 => is_one_of(
+            reply,
+            &[b"file mode=666 live", b"file mode=666 removing", no_entry],
+        ),
+        11 if is_dir => is_one_of(reply, &[b"err IsDir 21", no_entry]),
+        _ => is_one_of(reply, &[b"ok", no_entry]),
+    }
+}
+
+/// Whether a reply about a worker's own file is the one that its own lines explain.
+fn is_own_reply(action: Action, reply: &[u8], watched: &Watched) -> bool {
+    let is_hidden = watched.is_hidden;
+    match action.kind {
+        12 if is_hidden => reply == b"err Busy 16".as_slice(),
+        12 => reply == b"ok".as_slice(),
+        13 if is_hidden => reply == b"ok".as_slice(),
+        13 => reply == b"err Invalid 22".as_slice(),
+        _ if is_hidden => reply == b"err NoDevice 19".as_slice(),
+        14 => reply == b"3".as_slice(),
+        _ => reply == watched.own.as_slice(),
+    }
+}
+
+/// What is known of a worker after its line.
+fn watch(watched: &mut Watched, action: Action, reply: &[u8], round: usize) {
+    match action.kind {
+        3 | 4 if reply == b"ok".as_slice() => watched.opened[action.path] = round,
+        8 => watched.opened[action.path] = 0,
+        12 => watched.is_hidden = true,
+        13 => watched.is_hidden = false,
+        14 if !watched.is_hidden => watched.own = digits(action.number),
+        _ => {}
+    }
+}
+
+/// What has been removed by a line: the node at the path, and what was below it.
+fn note_removal(removed: &mut [usize; 6], action: Action, reply: &[u8], round: usize) {
+    if action.kind != 2 || reply != b"ok".as_slice() {
+        return;
+    }
+    removed[action.path] = round;
+    if action.path == 0 {
+        removed[1] = round;
+        removed[2] = round;
+    }
+    if action.path == 3 {
+        removed[4] = round;
+        removed[5] = round;
+    }
+}
+
+/// Looks at the replies of one worker in a round. True where each is explained.
+fn look_at(
+    watched: &mut Watched,
+    worker: usize,
+    round: usize,
+    replies: &[&[u8]],
+    removed: &[usize; 6],
+    removed_now: &mut [usize; 6],
+) -> bool
+    requires { worker < 4 }
+{
+    for step in 0..STEPS {
+        let Some(reply) = replies.get(step * WORKERS + worker) else {
+            return false;
+        };
+        let action = action_at(round, worker, step);
+        let explained = if action.kind < 12 {
+            is_shared_reply(
+                action,
+                reply,
+                watched.opened[action.path],
+                removed[action.path],
+            )
+        } else {
+            is_own_reply(action, reply, watched)
+        };
+        if !explained {
+            return false;
+        }
+        watch(watched, action, reply, round);
+        note_removal(removed_now, action, reply, round);
+    }
+    true
+}
+
+/// Whether the replies of all rounds are explained.
+fn are_explained(replies: &[&[u8]]) -> bool {
+    let none = Watched {
+        opened: [0; 6],
+        own: *b"new",
+        is_hidden: false,
+    };
+    let mut watched = [none; 4];
+    let mut removed = [0; 6];
+    for round in 1..=ROUNDS {
+        let from = (round - 1) * (STEPS * WORKERS + 1);
+        let Some(of_round) = replies.get(from..from + STEPS * WORKERS) else {
+            return false;
+        };
+        let mut removed_now = removed;
+        for worker in 0..4usize {
+            if !look_at(
+                &mut watched[worker],
+                worker,
+                round,
+                of_round,
+                &removed,
+                &mut removed_now,
+            ) {
+                return false;
+            }
+        }
+        removed = removed_now;
+    }
+    true
+}
+
+/// The files of the workers' own, each opened by its worker. Nine lines.
+fn put_begin(script: &mut Vec<u8>) -> Result<(), AllocError> {
+    for worker in 0..WORKERS {
+        put(script, &[b"file /own", digit_of(worker), b" 666 new"])?;
+    }
+    put(script, &[b"wait"])?;
+    for worker in 0..WORKERS {
+        let own = digit_of(worker);
+        put(script, &[b"@", own, b" open z /own", own, b" rw"])?;
+    }
+    put(script, &[b"wait"])
+}
+
+/// All is closed, shown and removed, and then each slot is given again.
+fn put_end(script: &mut Vec<u8>, slots: usize) -> Result<(), AllocError> {
+    for worker in 0..WORKERS {
+        let own = digit_of(worker);
+        for path in 0..6 {
+            put(script, &[b"@", own, b" close ", letter_of(path)])?;
+        }
+        put(script, &[b"@", own, b" close z"])?;
+        put(script, &[b"@", own, b" show /own", own])?;
+        put(script, &[b"@", own, b" rm /own", own])?;
+    }
+    put(script, &[b"wait"])?;
+    put(script, &[b"rm /a"])?;
+    put(script, &[b"rm /b"])?;
+    put(script, &[b"compact"])?;
+    put(script, &[b"ls /"])?;
+    put(script, &[b"commands"])?;
+    for made in 0..slots {
+        let number = (made % 1000) as u64;
+        put(script, &[b"mkdir /n", digits(number).as_slice()])?;
+    }
+    Ok(())
+}
+
+/// Whether the tree was left as it was made, with each of so many slots free but the root's.
+fn is_left_empty(replies: &[&[u8]], slots: usize) -> bool {
+    let [_, _, _, listed, commands, made @ ..] = replies else {
+        return false;
+    };
+    let [given @ .., last] = made else {
+        return false;
+    };
+    listed.is_empty()
+        && *commands == b"0".as_slice()
+        && given.len() + 1 == slots
+        && given.iter().all(|reply| reply.starts_with(b"ok "))
+        && *last == b"err NoSpace 28".as_slice()
+}
+
+/// The replies of a script, one for each line.
+fn lines_of(alloc: Global, text: &[u8]) -> Result<Vec<&[u8]>, AllocError> {
+    let mut lines = Vec::new(alloc);
+    let mut from = 0;
+    for (at, byte) in text.iter().enumerate() {
+        if *byte == b'\n' {
+            if let Some(line) = text.get(from..at) {
+                lines.push(line)?;
+            }
+            from = at + 1;
+        }
+    }
+    Ok(lines)
+}
+
+#[test]
+fn a_crowd_is_answered_in_some_order(rt: HostRuntime) -> Result<(), Fail> {
+    let slots = 64;
+    let mut script = Vec::new(rt.alloc());
+    put_begin(&mut script)?;
+    for round in 1..=ROUNDS {
+        for step in 0..STEPS {
+            for worker in 0..WORKERS {
+                put_action(&mut script, worker, action_at(round, worker, step))?;
+            }
+        }
+        put(&mut script, &[b"wait"])?;
+    }
+    put_end(&mut script, slots)?;
+    let Some(text) = answers(&rt, rt.alloc(), 64, 4, script.as_slice()) else {
+        panic!(&rt; "no memory")
+    };
+    let replies = lines_of(rt.alloc(), text.as_slice())?;
+    let begin = 10;
+    let rounds = ROUNDS * (STEPS * WORKERS + 1);
+    let end = begin + rounds + 9 * WORKERS + 1;
+    let Some(of_rounds) = replies.get(begin..begin + rounds) else {
+        panic!(&rt; "a reply is missing")
+    };
+    assert!(rt; are_explained(of_rounds));
+    let Some(of_end) = replies.get(end..) else {
+        panic!(&rt; "a reply is missing")
+    };
+    assert!(rt; is_left_empty(of_end, slots));
+    Ok(())
+}

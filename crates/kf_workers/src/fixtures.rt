@@ -1,0 +1,51 @@
+//! What the tests of scripts build on.
+
+ghost use Rattle.std.specs.Prelude.{◌≤◌};
+
+use crate::run::run_workers;
+use crate::texts::Texts;
+use kf_core::Limits;
+use std::alloc::{AllocError, Global};
+use std::sync::Wait;
+use std::thread::Threads;
+
+/// What a script is answered on a new tree of so many slots, by the owner and so many workers.
+pub fn answers<R: Threads + Wait + Sync>(
+    rt: &R,
+    alloc: Global,
+    slots: u32,
+    workers: u32,
+    script: &[u8],
+) -> Option<Vec<u8>>
+    requires some { 1 ≤ workers }
+    requires few { workers ≤ 16 }
+{
+    let limits = Limits::new(slots, 65535)?;
+    let texts = Texts::new(alloc).ok()?;
+    run_workers(rt, alloc, &texts, limits, workers, script).ok()
+}
+
+/// Whether the script is answered so, by the owner and one worker.
+pub fn is_answered<R: Threads + Wait + Sync>(
+    rt: &R,
+    alloc: Global,
+    slots: u32,
+    script: &[u8],
+    replies: &[u8],
+) -> bool {
+    answers(rt, alloc, slots, 1, script).is_some_and(|text| text.as_slice() == replies)
+}
+
+/// So many of one byte.
+pub fn many(alloc: Global, byte: u8, count: usize) -> Result<Vec<u8>, AllocError> {
+    vec![in alloc; byte; count]
+}
+
+/// The parts one after the other.
+pub fn joined(alloc: Global, parts: &[&[u8]]) -> Result<Vec<u8>, AllocError> {
+    let mut text = Vec::new(alloc);
+    for part in parts {
+        text.extend_from_slice(part)?;
+    }
+    Ok(text)
+}

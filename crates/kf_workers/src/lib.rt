@@ -1,0 +1,38 @@
+//! Many threads on one tree: a script run by its owner and its workers, round by round.
+#![tactic(auto)]
+
+mod board;
+mod common;
+mod cut;
+mod kind;
+mod reading;
+mod replies;
+mod round;
+mod rounds;
+mod run;
+mod seat;
+mod serving;
+mod tell;
+mod texts;
+mod token;
+mod whole;
+
+pub use reading::read_script;
+pub use run::run_workers;
+pub use texts::Texts;
+pub use whole::run_whole;
+
+#[cfg(test)]
+mod crowd_tests;
+#[cfg(test)]
+mod device_tests;
+#[cfg(test)]
+mod fixtures;
+#[cfg(test)]
+mod meeting_tests;
+#[cfg(test)]
+mod reading_tests;
+#[cfg(test)]
+mod round_tests;
+#[cfg(test)]
+mod scripts;

@@ -1,0 +1,58 @@
+//! A script read whole, as a run by many needs it.
+
+ghost use Rattle.std.specs.Prelude.{◌≡◌, ◌≢◌, ◌≤◌, ◌++◌, ℕ, List, IfErr, IfOk, OnOk, vec_len};
+ghost use Rattle.std.specs.Io.KnownBytes.{Consumes, IsAtEnd};
+
+use kf_script::RunFault;
+use std::alloc::Global;
+use std::io::Read;
+
+/// The longest script that is read whole, in bytes.
+const SCRIPT_LIMIT: usize = 1_048_576;
+
+/// The calls of read that are made for one script; one that is not at its end then is a read fault.
+const READ_LIMIT: u32 = 16_777_216;
+
+/// Bytes that one call of read may give.
+const CHUNK: usize = 4096;
+
+/// Reads once, and puts the bytes behind the script. Answers how many they were: 0 at the end of the input alone.
+fn read_more<R: Read>(reader: &mut R, script: &mut Vec<u8>) -> Result<usize, RunFault>
+    ensures more { OnOk result ((bytes : List ℕ)
+        × Consumes (R.remaining reader.old) (R.remaining reader.new) bytes
+        × (script.new.items ≡ script.old.items ++ bytes)) }
+    ensures end { IfOk result (λ count. count ≡ 0 → IsAtEnd (R.remaining reader.new)) }
+    ensures fits { OnOk result (vec_len script.new ≤ 1048576) }
+    ensures fault { IfErr result (λ fault. fault ≢ RunFault.Write) }
+{
+    let mut chunk = [0u8; CHUNK];
+    let Ok(count) = reader.read(&mut chunk) else {
+        return Err(RunFault::Read);
+    };
+    if script.len() > SCRIPT_LIMIT || count > SCRIPT_LIMIT - script.len() {
+        return Err(RunFault::Read);
+    }
+    match script.extend_from_slice(&chunk[..count]) {
+        Ok(()) => Ok(count),
+        Err(_) => Err(RunFault::Memory),
+    }
+}
+
+/// Reads a script to its end: all bytes that the reader gave.
+///
+/// Faults: `Read`, where a call of read failed, where the script has more than 1,048,576 bytes, or where it was not at its
+/// end after 16,777,216 calls of read; `Memory`, where memory for it was refused.
+pub fn read_script<R: Read>(alloc: Global, reader: &mut R) -> Result<Vec<u8>, RunFault>
+    ensures read { IfOk result (λ script. Consumes (R.remaining reader.old) (R.remaining reader.new) script.items) }
+    ensures end { OnOk result (IsAtEnd (R.remaining reader.new)) }
+    ensures fits { IfOk result (λ script. vec_len script ≤ 1048576) }
+    ensures fault { IfErr result (λ fault. fault ≢ RunFault.Write) }
+{
+    let mut script = Vec::new(alloc);
+    'reads: for _ in 0..READ_LIMIT {
+        if read_more(reader, &mut script)? == 0 {
+            return Ok(script);
+        }
+    }
+    Err(RunFault::Read)
+}

@@ -1,0 +1,162 @@
+//! The whole run.
+
+ghost use Rattle.std.specs.Prelude.{◌≡◌, ◌≤◌, ◌+◌, OnOk, IfOk, IfErr, vec_len};
+ghost use Rattle.kf_script.specs.Lines.{lines_of};
+ghost use Rattle.kf_workers.specs.Turns.{Replied};
+ghost use Rattle.kf_workers.specs.Replies.{Answers};
+
+use crate::board::WorkerBoard;
+use crate::common::Common;
+use crate::rounds::run_rounds;
+use crate::seat::Seat;
+use kf_core::{Limits, Refusal};
+use kf_files::WaitOps;
+use kf_notify::Posts;
+use kf_script::{Reply, RunFault};
+use kf_shared::{Naming, NewTree, SharedTree};
+use std::alloc::Global;
+use std::marker::Brand;
+use std::sync::Wait;
+use std::thread::Threads;
+
+/// Adds a seat with a new board.
+fn add_seat<'x, W: WaitOps, N: Naming, R: Wait>(
+    seats: &mut Vec<Seat<WorkerBoard<'x, W, N, R>>>,
+    rt: &'x R,
+    alloc: Global,
+    common: &'x Common<'x, W, N>,
+    posts: &mut Posts,
+    limits: Limits,
+) -> Result<(), Refusal>
+    ensures { OnOk result (vec_len seats.new ≡ vec_len seats.old + 1) }
+{
+    let reply = Reply::new(alloc)?;
+    let board = WorkerBoard::new(rt, alloc, common, posts.another()?, limits)?;
+    match seats.push(Seat::new(alloc, board, reply)) {
+        Ok(()) => Ok(()),
+        Err(refused) => {
+            refused.value.into_board().end();
+            Err(Refusal::NoMemory)
+        }
+    }
+}
+
+/// Adds the owner's seat and one for each worker.
+fn add_seats<'x, W: WaitOps, N: Naming, R: Wait>(
+    seats: &mut Vec<Seat<WorkerBoard<'x, W, N, R>>>,
+    rt: &'x R,
+    alloc: Global,
+    common: &'x Common<'x, W, N>,
+    limits: Limits,
+    workers: u32,
+) -> Result<(), Refusal>
+    requires none { vec_len seats.old ≡ 0 }
+    requires workers { workers ≤ 16 }
+    ensures { OnOk result (vec_len seats.new ≡ workers + 1) }
+{
+    let mut posts = Posts::new(alloc, limits.slots())?;
+    for made in 0..workers + 1 {
+        prove!(made <= workers);
+        add_seat(seats, rt, alloc, common, &mut posts, limits)?;
+    }
+    Ok(())
+}
+
+/// Ends each seat: its files are closed, and what it hid is shown.
+fn end_all<W: WaitOps, N: Naming, R: Wait>(mut seats: Vec<Seat<WorkerBoard<'_, W, N, R>>>) {
+    while let Some(seat) = seats.pop() {
+        seat.into_board().end();
+    }
+    seats.destroy_empty();
+}
+
+/// Runs a script on new seats, which are left for the caller to end.
+fn run_seats<'x, W: WaitOps + Sync, N: Naming + Send + Sync, R: Threads + Wait + Sync>(
+    seats: &mut Vec<Seat<WorkerBoard<'x, W, N, R>>>,
+    rt: &'x R,
+    alloc: Global,
+    common: &'x Common<'x, W, N>,
+    limits: Limits,
+    workers: u32,
+    script: &[u8],
+) -> Result<Vec<u8>, Refusal>
+    requires none { vec_len seats.old ≡ 0 }
+    requires workers { workers ≤ 16 }
+    ensures { IfOk result (λ out. Replied Answers workers (lines_of script.now) out.items) }
+{
+    add_seats(seats, rt, alloc, common, limits, workers)?;
+    let out = run_rounds(rt, alloc, seats.as_mut_slice(), workers as usize, script)?;
+    Ok(out)
+}
+
+/// Runs a script on a tree, and gives all back that its boards had.
+fn run_on<'x, W: WaitOps + Sync, N: Naming + Send + Sync, R: Threads + Wait + Sync>(
+    rt: &'x R,
+    alloc: Global,
+    common: &'x Common<'x, W, N>,
+    limits: Limits,
+    workers: u32,
+    script: &[u8],
+) -> Result<Vec<u8>, Refusal>
+    requires workers { workers ≤ 16 }
+    ensures { IfOk result (λ out. Replied Answers workers (lines_of script.now) out.items) }
+{
+    let mut seats = Vec::new(alloc);
+    let out = run_seats(&mut seats, rt, alloc, common, limits, workers, script);
+    end_all(seats);
+    out
+}
+
+/// Runs a script on a new tree, under the name of its table.
+fn run_named<W: WaitOps + Sync, N: Naming + Send + Sync, R: Threads + Wait + Sync>(
+    rt: &R,
+    alloc: Global,
+    new: NewTree,
+    texts: &W,
+    limits: Limits,
+    workers: u32,
+    script: &[u8],
+) -> Result<Vec<u8>, Refusal>
+    requires table { new.master.table ≡ N.table }
+    requires workers { workers ≤ 16 }
+    ensures { IfOk result (λ out. Replied Answers workers (lines_of script.now) out.items) }
+{
+    let common = Common::new(alloc, new.named::<N>(), texts, limits)?;
+    run_on(rt, alloc, &common, limits, workers, script)
+}
+
+/// Runs a script by its owner and 1 to 16 workers on a new tree with a new bus, and answers the replies to its lines, each
+/// with a newline, in the order of the lines.
+///
+/// A line `@W COMMAND` is worker W's; `wait` ends a round; every other line is the owner's. In a round the owner and each
+/// worker run their own lines in the order of the script, each in a thread of its own (where none can be made, the
+/// calling thread runs them). A `wait` is answered when every line above has its reply, and no line below begins before.
+/// Each of them has 26 files and its own tokens of hidden files, which stay over rounds. `texts` serves the files that
+/// the script makes, under tags below 2^63; the bus serves those of its devices. All holds are given back at the end.
+///
+/// It may never return: a removal waits for the callbacks in its subtree.
+///
+/// Condition: there are 1 to 16 workers.
+///
+/// Fault: `Memory`, where memory was refused for the run itself; for a line it is the line's reply.
+pub fn run_workers<W: WaitOps + Sync, R: Threads + Wait + Sync>(
+    rt: &R,
+    alloc: Global,
+    texts: &W,
+    limits: Limits,
+    workers: u32,
+    script: &[u8],
+) -> Result<Vec<u8>, RunFault>
+    requires some { 1 ≤ workers }
+    requires few { workers ≤ 16 }
+    ensures replied { IfOk result (λ out. Replied Answers workers (lines_of script.now) out.items) }
+    ensures fault { IfErr result (λ fault. fault ≡ RunFault.Memory) }
+{
+    let Ok(new) = SharedTree::<Brand>::new(alloc, limits) else {
+        return Err(RunFault::Memory);
+    };
+    match run_named::<W, Brand, R>(rt, alloc, new, texts, limits, workers, script) {
+        Ok(out) => Ok(out),
+        Err(_) => Err(RunFault::Memory),
+    }
+}

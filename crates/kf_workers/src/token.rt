@@ -1,0 +1,56 @@
+//! Hidden files of the tree of one name.
+
+ghost use Rattle.std.specs.Prelude.{◌≡◌};
+
+use kf_core::Key;
+use kf_shared::Naming;
+use kf_words::Hidden;
+use std::marker::{Model, PhantomData};
+
+/// What can show a hidden file of this tree again. It must be spent, by [`Token::into_hidden`].
+pub struct Token<N: Naming> {
+    hidden: Hidden,
+    name: PhantomData<N>,
+}
+
+impl<N: Naming> Model for Token<N> {
+    ghost use Rattle.std.specs.Prelude.{◌≡◌};
+    ghost use Rattle.kf_words.specs.Callers.{Handle};
+
+    ghost Value = { Handle };
+
+    ghost view = { λ t. t.hidden };
+
+    ghost invariant = { λ t. t.hidden.table ≡ N.table };
+}
+
+impl<N: Naming> Token<N> {
+    /// The token of a hidden file of this tree.
+    ///
+    /// Condition: it is of the table of the name.
+    pub fn new(hidden: Hidden) -> Token<N>
+        requires { hidden.table ≡ N.table }
+        ensures { result ≡ hidden }
+    {
+        Token {
+            hidden,
+            name: PhantomData,
+        }
+    }
+
+    /// The key of the file.
+    pub fn key(&self) -> Key
+        ensures { result ≡ self.now.key }
+    {
+        self.hidden.key()
+    }
+
+    /// What it is made of.
+    pub fn into_hidden(self) -> Hidden
+        ensures same { result ≡ self }
+        ensures table { result.table ≡ N.table }
+    {
+        let Token { hidden, name: _ } = self;
+        hidden
+    }
+}
