@@ -11,8 +11,3 @@ pub use kf_plain::PlainBoard;
 pub use kf_script::{RunFault, run_script};
 pub use kf_workers::{Texts, read_script, run_workers};
 pub use program::{run_asked, run_program};
-
-#[cfg(test)]
-mod fakes;
-#[cfg(test)]
-mod tests;
