@@ -1,6 +1,6 @@
 -- In every run a record is hidden exactly where a caller hides its key.
-use Rattle.std.proofs.Common.{◌≡◌, ◌≢◌, inl, inr, ℕ, zero, suc, List, [], ◌∷◌, refl, ap, sym, ◌∙◌, subst, Bool, true, false, cond, slice_set, map}
-use Rattle.std.specs.Prelude.{slice_get, Option, Some, None, ◌&&◌, replicate, if◌then◌else◌}
+use Rattle.std.proofs.Common.{◌≡◌, ◌≢◌, inl, inr, ℕ, zero, suc, List, [], ◌∷◌, refl, ap, sym, ◌∙◌, subst, Bool, true, false, cond, slice_set}
+use Rattle.std.specs.Prelude.{slice_get, Option, Some, None, ◌&&◌, if◌then◌else◌}
 use Rattle.std.proofs.lemmas.Option.{same_Some, none-some, slice_get_within}
 use Rattle.kf_core.specs.declared.key.Key.{Key}
 use Rattle.kf_core.specs.declared.caller.Phase.{Phase}
@@ -16,11 +16,11 @@ use Rattle.kf_core.specs.Marks.{fresh_marks, live_marks}
 use Rattle.kf_core.specs.Phases.{is_waiting, has_reference, is_hiding, may_release}
 use Rattle.kf_core.specs.Safe.{Safe}
 use Rattle.kf_core.specs.Steps.{with_phase, with_marks, with_caller, OnlySpent}
-use Rattle.kf_core.specs.Tree.{Tree, IsIn, is_linked}
+use Rattle.kf_core.specs.Tree.{Tree, is_linked}
 use Rattle.kf_core.specs.Commands.{change, activated_record, doomed_record, hidden_record, moved_record, new_record}
-use Rattle.kf_core.specs.Worlds.{World, Slot, bare, tree, opening, Step, Run}
-use Rattle.kf_core.proofs.Climbs.{keys_tell, same_key_self}
-use Rattle.kf_core.proofs.Lists.{after_set, after_write, slice_get-set_same, slice_get-set_other}
+use Rattle.kf_core.specs.Worlds.{World, bare, tree, opening, Step, Run}
+use Rattle.kf_core.proofs.Climbs.{keys_tell}
+use Rattle.kf_core.proofs.Lists.{after_set, after_write, slice_get-set_same}
 use Rattle.kf_core.proofs.Mapped.{mapped_from}
 use Rattle.kf_core.proofs.Keeping.{caller, one_key, step_keeps}
 use Rattle.kf_core.proofs.Hiding.{hides_set, hides_push, hider_hidden, none_hides, not_false, not_both, hiding_holds}

@@ -1,6 +1,6 @@
 -- Following parents in a tree: no way to a key is longer than there are records.
 use Rattle.std.proofs.Common.{◌≡◌, ◌≢◌, ◌⊎◌, inl, inr, ℕ, zero, suc, ◌+◌, ◌<◌, ◌≤◌, [], ◌∷◌, length, refl, ap, arith, sym, ◌∙◌, subst, Bool, true, false, cond, slice_set, ◌↔◌}
-use Rattle.std.specs.Prelude.{slice_get, Option, None, Some, nat_eq, ◌&&◌, IsTrue, is_some, count_by}
+use Rattle.std.specs.Prelude.{slice_get, Option, None, Some, IsTrue, is_some, count_by}
 use Rattle.std.specs.Option.{option_and_then}
 use Rattle.std.proofs.lemmas.Option.{same_Some, none-some, cond_some}
 use Rattle.std.proofs.lemmas.List.Sums.{count_by-le-length}

@@ -18,7 +18,7 @@ use Rattle.kf_core.specs.Safe.{Safe, NoneRunning}
 use Rattle.kf_core.specs.Steps.{with_phase, with_marks, with_caller, BareStep, NoReference, MayBeBorn, IsHeld}
 use Rattle.kf_core.proofs.Lists.{slice_get-set_same, slice_get-set_other, after_set, after_push}
 use Rattle.kf_core.proofs.SlotStates.{live_or_doomed, live_linked, doomed_if_gone, in_place, shown}
-use Rattle.kf_core.proofs.Hiding.{OneHides, hider_hidden, live_has_marks, live_is_shown, drain_unused, unused_why, hiding_holds, not_both, one_after_set, one_after_push}
+use Rattle.kf_core.proofs.Hiding.{OneHides, hider_hidden, live_has_marks, live_is_shown, drain_unused, unused_why, not_both, one_after_set, one_after_push}
 
 abbrev pub caller : Key → Phase → Caller
 caller key phase = record { key = key; phase = phase }

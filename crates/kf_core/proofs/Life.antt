@@ -12,9 +12,9 @@ use Rattle.kf_core.specs.Marks.{fresh_marks, live_marks}
 use Rattle.kf_core.specs.Phases.{has_reference}
 use Rattle.kf_core.specs.Bare.{IsCaller}
 use Rattle.kf_core.specs.Lawful.{root_record}
-use Rattle.kf_core.specs.Steps.{NoReference, OnlySpent}
+use Rattle.kf_core.specs.Steps.{NoReference}
 use Rattle.kf_core.specs.Commands.{hidden_record}
-use Rattle.kf_core.specs.Worlds.{World, bare, tree, opening, Step, Run, NoChild, MayMove}
+use Rattle.kf_core.specs.Worlds.{World, bare, tree, opening, Run, NoChild, MayMove}
 use Rattle.kf_core.specs.Life.{root, first, second, a, b, file_at, by, at, doomed_marks, whole_life}
 use Rattle.kf_core.proofs.Names.{lawful_without_fault}
 

@@ -1,6 +1,6 @@
 -- What lasts: a slot's generation never goes back, and a key that was drained stays so.
 use Rattle.std.proofs.Common.{◌≡◌, ◌≢◌, inl, inr, ℕ, ◌+◌, ◌≤◌, List, refl, ap, arith, sym, ◌∙◌, subst, Bool, true, false, cond}
-use Rattle.std.specs.Prelude.{slice_get, Option, None, Some, IsTrue}
+use Rattle.std.specs.Prelude.{slice_get, Option, None, Some, IsTrue, ◌&&◌, not}
 use Rattle.std.proofs.lemmas.Option.{same_Some, slice_get_within}
 use Rattle.std.proofs.lemmas.Bool.Decides.{eqb_tells}
 use Rattle.kf_core.specs.declared.key.Key.{Key}
@@ -11,12 +11,12 @@ use Rattle.kf_core.specs.declared.slot.Marks.{Marks}
 use Rattle.kf_core.specs.declared.slot.SlotState.{SlotState}
 use Rattle.kf_core.specs.declared.event.Event.{Event}
 use Rattle.kf_core.specs.declared.event.Event.TheVariants.{Born, Rise, Mark, Move, Pin, Enter, Leave, Break, Restore, Look, Unlink, Part, Hide, LookHidden, Show, Release, Undo}
-use Rattle.kf_core.specs.Bare.{BareWorld, marks_in, marks, is_live, is_doomed, IsCaller}
+use Rattle.kf_core.specs.Bare.{BareWorld, marks_in, marks, is_live, is_doomed, is_hidden, IsCaller}
 use Rattle.kf_core.specs.Marks.{fresh_marks, live_marks, are_doomed}
 use Rattle.kf_core.specs.Safe.{NoneRunning}
 use Rattle.kf_core.specs.Steps.{with_phase, with_marks, with_caller, BareStep, MayBeBorn}
 use Rattle.kf_core.proofs.Lists.{slice_get-set_same, slice_get-set_other, after_set, after_push}
-use Rattle.kf_core.proofs.SlotStates.{live_or_doomed, in_place}
+use Rattle.kf_core.proofs.SlotStates.{live_or_doomed, doomed_not_live, in_place}
 use Rattle.kf_core.proofs.Hiding.{live_has_marks}
 use Rattle.kf_core.proofs.Keeping.{OneNew, each_new, caller, slot_state, same_key, linked_marks}
 
@@ -25,6 +25,11 @@ pub record HasCome (w : BareWorld) (key : Key) : Type 0 where
   pub last : SlotState
   pub there : slice_get w.slots key.slot ≡ Some last
   pub come : key.generation ≤ last.generation
+
+-- the key is doomed for good
+pub record Lost (w : BareWorld) (key : Key) : Type 0 where
+  pub doomed : IsTrue (is_doomed w key)
+  pub come : HasCome w key
 
 -- the key is doomed for good, and nobody is running on it
 pub record Finished (w : BareWorld) (key : Key) : Type 0 where
@@ -91,20 +96,19 @@ doomed_written w key k m p is s d =
 pub doomed_elsewhere : (w : BareWorld) (key k : Key) (m : Option Marks) → k.slot ≢ key.slot → is_doomed w k ≡ true → is_doomed (with_marks w key m) k ≡ true
 doomed_elsewhere w key k m ne d = ap (λ (o : Option SlotState). are_doomed (marks_in o k.generation)) (slice_get-set_other w.slots key.slot k.slot (slot_state key.generation m) ne) ∙ d
 
-pub linked_finished : (w : BareWorld) (key k : Key) (m : Marks) (m' : Option Marks) → marks w key ≡ Some m → (m.doomed ≡ true → are_doomed m' ≡ true) → Finished w k → Finished (with_marks w key m') k
-linked_finished w key k m m' e dooms f = record {
+pub linked_lost : (w : BareWorld) (key k : Key) (m : Marks) (m' : Option Marks) → marks w key ≡ Some m → (m.doomed ≡ true → are_doomed m' ≡ true) → Lost w k → Lost (with_marks w key m') k
+linked_lost w key k m m' e dooms f = record {
   doomed = elim (eqb_tells k.slot key.slot) [
     | inl s ↦ doomed_written w key k m' (slot_state key.generation (Some m)) (in_place (slice_get w.slots key.slot) key.generation m e) s.1
         (λ g. dooms (let same : k ≡ key = same_key k key s.1 (sym g) in
         subst (λ (o : Option Marks). are_doomed o ≡ true) e (subst (λ x. is_doomed w x ≡ true) same f.doomed)))
     | inr n ↦ doomed_elsewhere w key k m' n.1 f.doomed
   ];
-  alone = f.alone;
   come = linked_come w key k m m' e f.come;
 }
 
-pub born_finished : (w : BareWorld) (key k : Key) → MayBeBorn w key → Finished w k → Finished (with_marks w key (Some fresh_marks)) k
-born_finished w key k may f = record {
+pub born_lost : (w : BareWorld) (key k : Key) → MayBeBorn w key → Lost w k → Lost (with_marks w key (Some fresh_marks)) k
+born_lost w key k may f = record {
   doomed = elim (eqb_tells k.slot key.slot) [
     | inl s ↦ doomed_written w key k (Some fresh_marks) (slot_state may.last None) may.unlinked s.1
         (λ g. absurd (let e : f.come.last ≡ slot_state may.last None = same_Some _ _ (sym f.come.there ∙ (ap (slice_get w.slots) s.1 ∙ may.unlinked)) in
@@ -114,9 +118,51 @@ born_finished w key k may f = record {
         omega arith))
     | inr n ↦ doomed_elsewhere w key k (Some fresh_marks) n.1 f.doomed
   ];
-  alone = f.alone;
   come = born_come w key k may f.come;
 }
+
+-- a step of callers alone
+caller_lost : (w : BareWorld) (cs : List Caller) (k : Key) → Lost w k → Lost (record { slots = w.slots; callers = cs }) k
+caller_lost w cs k f = record { doomed = f.doomed; come = record { last = f.come.last; there = f.come.there; come = f.come.come } }
+
+-- what is doomed for good stays so
+pub step_lost : (w : BareWorld) (e : Event) (w' : BareWorld) (k : Key) → BareStep w e w' → Lost w k → Lost w' k
+step_lost w (Born key parent name node) w' k s f = subst (λ x. Lost x k) (sym s.1) (born_lost w key k s.0 f)
+step_lost w (Rise key) w' k s f = subst (λ x. Lost x k) (sym s.1) (linked_lost w key k fresh_marks (Some live_marks) s.0 (λ d. d) f)
+step_lost w (Mark key) w' k s f = subst (λ x. Lost x k) (sym s.3) (linked_lost w key k s.0 (Some (record { activated = s.0.activated; doomed = true })) s.1 (λ _. refl) f)
+step_lost w (Move key dir name) w' k s f = subst (λ x. Lost x k) (sym s) f
+step_lost w (Pin c key) w' k s f = subst (λ x. Lost x k) (sym s.2) (caller_lost w (with_caller w key).callers k f)
+step_lost w (Enter c) w' k s f = subst (λ x. Lost x k) (sym s.4) (caller_lost w _ k f)
+step_lost w (Leave c) w' k s f = subst (λ x. Lost x k) (sym s.4) (caller_lost w _ k f)
+step_lost w (Break c) w' k s f = subst (λ x. Lost x k) (sym s.2) (caller_lost w _ k f)
+step_lost w (Restore c) w' k s f = subst (λ x. Lost x k) (sym s.2) (caller_lost w _ k f)
+step_lost w (Look c) w' k s f = subst (λ x. Lost x k) (sym s.1) (caller_lost w _ k f)
+step_lost w (Unlink c) w' k s f = subst (λ x. Lost x k) (sym s.3)
+    (let m : (m : Marks) × (marks w s.0 ≡ Some m) = linked_marks (marks w s.0) s.2 in linked_lost w s.0 k m.0 None m.1 (λ _. refl) f)
+step_lost w (Part c) w' k s f = subst (λ x. Lost x k) (sym s.1) (caller_lost w _ k f)
+step_lost w (Hide c) w' k s f = subst (λ x. Lost x k) (sym s.1) (caller_lost w _ k f)
+step_lost w (LookHidden c) w' k s f = subst (λ x. Lost x k) (sym s.1) (caller_lost w _ k f)
+step_lost w (Show c) w' k s f = subst (λ x. Lost x k) (sym s.2) (caller_lost w _ k f)
+step_lost w (Release c) w' k s f = subst (λ x. Lost x k) (sym s.4) (caller_lost w _ k f)
+step_lost w (Undo c) w' k s f = subst (λ x. Lost x k) (sym s) f
+
+-- a key that is doomed for good is not live
+pub lost_not_live : (w : BareWorld) (k : Key) → Lost w k → is_live w k ≡ false
+lost_not_live w k f = ap (λ b. b && not (is_hidden w k)) (doomed_not_live (marks w k) f.doomed)
+
+-- what is finished, is doomed for good
+lost : (w : BareWorld) (k : Key) → Finished w k → Lost w k
+lost w k f = record { doomed = f.doomed; come = f.come }
+
+pub linked_finished : (w : BareWorld) (key k : Key) (m : Marks) (m' : Option Marks) → marks w key ≡ Some m → (m.doomed ≡ true → are_doomed m' ≡ true) → Finished w k → Finished (with_marks w key m') k
+linked_finished w key k m m' e dooms f =
+    let d : Lost (with_marks w key m') k = linked_lost w key k m m' e dooms (lost w k f) in
+    record { doomed = d.doomed; alone = f.alone; come = d.come }
+
+pub born_finished : (w : BareWorld) (key k : Key) → MayBeBorn w key → Finished w k → Finished (with_marks w key (Some fresh_marks)) k
+born_finished w key k may f =
+    let d : Lost (with_marks w key (Some fresh_marks)) k = born_lost w key k may (lost w k f) in
+    record { doomed = d.doomed; alone = f.alone; come = d.come }
 
 -- a caller moves or comes, and is running only on a live key
 pub caller_finished : (w : BareWorld) (cs : List Caller) (key : Key) (phase : Phase) (k : Key) → OneNew w.callers key phase cs → (phase ≡ Running → is_live w key ≡ true) → Finished w k → Finished (record { slots = w.slots; callers = cs }) k

@@ -1,6 +1,6 @@
 -- Runs of the world: what each step keeps holds at the end.
 use Rattle.std.proofs.Common.{◌≡◌, ◌≢◌, ◌⊎◌, inl, inr, ℕ, ◌+◌, ◌≤◌, ◌<◌, Bool, true, false, cond, slice_set, List, [], ◌∷◌, refl, ap, arith, sym, ◌∙◌, subst}
-use Rattle.std.specs.Prelude.{slice_get, Option, None, Some, is_some, IsTrue}
+use Rattle.std.specs.Prelude.{slice_get, Option, None, Some, is_some, IsTrue, IsFalse}
 use Rattle.std.proofs.lemmas.Bool.Decides.{eqb_tells}
 use Rattle.std.proofs.lemmas.Option.{same_Some, none-some, slice_get_within}
 use Rattle.kf_core.specs.declared.key.Key.{Key}
@@ -14,15 +14,15 @@ use Rattle.kf_core.specs.declared.event.Event.{Event}
 use Rattle.kf_core.specs.declared.event.Event.TheVariants.{Born, Rise, Mark, Move, Pin, Enter, Leave, Break, Restore, Look, Unlink, Part, Release, Undo, Hide, LookHidden, Show}
 use Rattle.std.specs.Prelude.{replicate, map, zero, suc}
 use Rattle.kf_core.specs.Bare.{opening as bare_opening}
-use Rattle.kf_core.specs.Bare.{BareWorld, IsCaller, IsLast, is_linked, is_live, marks, marks_in}
+use Rattle.kf_core.specs.Bare.{BareWorld, IsCaller, IsLast, is_linked, is_live, is_doomed, marks, marks_in}
 use Rattle.kf_core.specs.Marks.{fresh_marks, live_marks}
 use Rattle.kf_core.specs.Safe.{Safe, NoneRunning, NoneHolding}
 use Rattle.kf_core.specs.Steps.{BareStep, BareRun, with_phase, with_marks, MayBeBorn}
 use Rattle.kf_core.specs.Worlds.{World, bare_slot, bare, opening, Step, Run}
 use Rattle.kf_core.proofs.Lists.{slice_get-set_same, slice_get-set_other, after_set, after_push}
-use Rattle.kf_core.proofs.SlotStates.{shown}
+use Rattle.kf_core.proofs.SlotStates.{shown, in_place}
 use Rattle.kf_core.proofs.Keeping.{step_keeps, slot_state, linked_last}
-use Rattle.kf_core.proofs.Passing.{HasCome, Finished, step_come, step_finished}
+use Rattle.kf_core.proofs.Passing.{HasCome, Finished, Lost, linked_come, doomed_written, lost_not_live, step_come, step_lost, step_finished}
 use Rattle.kf_core.proofs.Hiding.{drain_unused}
 
 -- what each step keeps, a run keeps
@@ -70,7 +70,7 @@ not_again w key again h may e =
     omega arith
 
 -- a linked node's slot has come to its generation
-linked_has_come : (w : BareWorld) (key : Key) → IsTrue (is_linked w key) → HasCome w key
+pub linked_has_come : (w : BareWorld) (key : Key) → IsTrue (is_linked w key) → HasCome w key
 linked_has_come w key linked =
     let last : IsLast w key.slot key.generation = linked_last w key (marks w key) refl linked in
     record { last = last.0; there = last.1; come = (let e : last.0.generation ≡ key.generation = last.2 in omega arith) }
@@ -208,3 +208,20 @@ step_starts w (LookHidden j) w' s = moves_no_runner w (LookHidden j) w' j s.0.ke
 step_starts w (Show j) w' s = moves_no_runner w (Show j) w' j s.0 Still (λ e. let x : Still ≡ Running = e in cc) s.2
 step_starts w (Release j) w' s = moves_no_runner w (Release j) w' j s.0 Spent (λ e. let x : Spent ≡ Running = e in cc) s.4
 step_starts w (Undo j) w' s = same_callers w (Undo j) w' (ap (λ (x : BareWorld). x.callers) s)
+
+-- a key that is linked and doomed is never live again
+pub doomed_for_good : (later : List Event) (v w : BareWorld) (key : Key) → IsTrue (is_linked v key) → IsTrue (is_doomed v key) → BareRun v later w → IsFalse (is_live w key)
+doomed_for_good later v w key linked doomed r =
+    lost_not_live w key (bare_run_keeps (λ x. Lost x key) (λ x e y t f. step_lost x e y key t f) later v w r (record { doomed = doomed; come = linked_has_come v key linked }))
+
+-- a key that was just marked is doomed for good
+marked_lost : (w w' : BareWorld) (key : Key) → BareStep w (Mark key) w' → Lost w' key
+marked_lost w w' key s = subst (λ x. Lost x key) (sym s.3) (record {
+  doomed = doomed_written w key key (Some (record { activated = s.0.activated; doomed = true })) (slot_state key.generation (Some s.0)) (in_place (slice_get w.slots key.slot) key.generation s.0 s.1) refl (λ _. refl);
+  come = linked_come w key key s.0 (Some (record { activated = s.0.activated; doomed = true })) s.1 (linked_has_come w key (ap is_some s.1));
+})
+
+-- from the mark of a key on it is never live
+pub marked_for_good : (later : List Event) (u v w : World) (key : Key) → Step u (Mark key) v → Run v later w → IsFalse (is_live (bare w) key)
+marked_for_good later u v w key s r =
+    lost_not_live (bare w) key (run_keeps (λ x. Lost x key) (λ x e y t f. step_lost x e y key t f) later v w r (marked_lost (bare u) (bare v) key s.bare_step))

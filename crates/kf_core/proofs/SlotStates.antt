@@ -13,6 +13,11 @@ pub live_or_doomed : (m : Option Marks) → are_live m ≡ true → are_doomed m
 live_or_doomed None l d = absurd (let e : false ≡ true = l in cc)
 live_or_doomed (Some m) l d = elim (m.doomed) as (λ b. (m.activated && not b) ≡ true → b ≡ true → ⊥) [ true ↦ λ x y. grind arith | false ↦ λ x y. cc ] l d
 
+-- what is doomed is not live
+pub doomed_not_live : (m : Option Marks) → are_doomed m ≡ true → are_live m ≡ false
+doomed_not_live None d = refl
+doomed_not_live (Some m) d = elim (m.doomed) as (λ b. b ≡ true → (m.activated && not b) ≡ false) [ true ↦ λ x. grind arith | false ↦ λ x. cc ] d
+
 -- what a live node's marks are
 pub live_undoomed : (o : Option Marks) → are_live o ≡ true → (m : Marks) × (o ≡ Some m) × (m.doomed ≡ false)
 live_undoomed None l = cc

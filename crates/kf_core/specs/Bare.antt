@@ -1,5 +1,5 @@
--- The world without the shape of the tree: each slot with its last generation and the marks of its linked node,
--- and each caller with its key and its phase. Which keys are hidden is told by the callers.
+-- The world without the shape of the tree: each slot with its last generation and the marks of its linked
+-- node, and each caller with its key and its phase. Which keys are hidden is told by the callers.
 use Rattle.std.specs.Prelude.{◌≡◌, ℕ, ◌+◌, Bool, true, false, not, ◌&&◌, ◌==◌, List, [], ◌∷◌, replicate, slice_get, slice_set, is_some, Option, None, Some, if◌then◌else◌}
 use Rattle.kf_core.specs.declared.key.Key.{Key}
 use Rattle.kf_core.specs.declared.caller.Phase.{Phase}
@@ -53,11 +53,14 @@ IsCaller w c key phase = slice_get w.callers c ≡ Some (record { key = key; pha
 
 -- the last generation of this slot
 abbrev pub IsLast : BareWorld → ℕ → ℕ → Type 0
-IsLast w slot generation = (state : SlotState) × (slice_get w.slots slot ≡ Some state) × (state.generation ≡ generation)
+IsLast w slot generation =
+    (state : SlotState) × (slice_get w.slots slot ≡ Some state) × (state.generation ≡ generation)
 
--- every slot has the last generation `start` and no node, but the root is linked and live at the next; nobody is there
+-- every slot has the last generation `start` and no node, but the root is linked and live at the next; nobody
+-- is there
 abbrev pub opening : ℕ → ℕ → BareWorld
 opening count start = record {
-  slots = slice_set (replicate count (record { generation = start; marks = None })) 0 (record { generation = start + 1; marks = Some live_marks });
+  slots = slice_set (replicate count (record { generation = start; marks = None })) 0
+      (record { generation = start + 1; marks = Some live_marks });
   callers = [];
 }

@@ -1,4 +1,5 @@
--- What contracts see of the plain list of slots and callers: the bare world, and the limit of holds of one slot.
+-- What contracts see of the plain list of slots and callers: the bare world, and the limit of holds of one
+-- slot.
 use Rattle.std.specs.Prelude.{◌≡◌, ℕ, ◌+◌, ◌-◌, ◌^◌, ◌<◌, ◌≤◌, not, ◌&&◌, ◌==◌, count_by, slice_get, None, Some}
 use Rattle.kf_core.specs.declared.key.Key.{Key}
 use Rattle.kf_core.specs.declared.event.Event.{Event}

@@ -18,14 +18,17 @@ module _ {CallerId : Type 0} where
     pub key : after.key ≡ before.key
     pub reference : IsTrue (has_reference after.phase)
 
--- what came of a visit: nobody tried for a call, or a try gave none, or this was done under the call that it gave
+-- what came of a visit: nobody tried for a call, or a try gave none, or this was done under the call that it
+-- gave
 pub data Visit (Done : Type 0) : Type 0 where
   unvisited : Visit Done
   tried : Option Done → Visit Done
 
 module _ {Guard Hold Call CallerId : Type 0} where
   -- one call from its start, where it is running, to its end, with what was done in between
-  pub record Called (enters : Guard → Hold → Call → Guard → Type 0) (leaves : Guard → Call → Hold → Guard → Type 0) (view : Call → CallView CallerId) (does : Type 0) (guard : Guard) (hold : Hold) (guard' : Guard) (hold' : Hold) : Type 0 where
+  pub record Called (enters : Guard → Hold → Call → Guard → Type 0)
+      (leaves : Guard → Call → Hold → Guard → Type 0) (view : Call → CallView CallerId) (does : Type 0)
+      (guard : Guard) (hold : Hold) (guard' : Guard) (hold' : Hold) : Type 0 where
     pub call : Call
     pub ended : Call
     pub inside : Guard
@@ -37,7 +40,12 @@ module _ {Guard Hold Call CallerId : Type 0} where
 
 module _ {Guard Hold Call CallerId Done : Type 0} where
   -- a visit by this hold. `idle` holds where nothing is done, and `does` of what is done
-  abbrev pub Visits : (Guard → Hold → Call → Guard → Type 0) → (Guard → Hold → Hold → Guard → Type 0) → (Guard → Call → Hold → Guard → Type 0) → (Call → CallView CallerId) → Type 0 → (Done → Type 0) → Guard → Hold → Guard → Hold → Visit Done → Type 0
-  Visits enters refuses leaves view idle does guard hold guard' hold' unvisited = (guard' ≡ guard) × (hold' ≡ hold) × idle
-  Visits enters refuses leaves view idle does guard hold guard' hold' (tried None) = refuses guard hold hold' guard' × idle
-  Visits enters refuses leaves view idle does guard hold guard' hold' (tried (Some d)) = Called enters leaves view (does d) guard hold guard' hold'
+  abbrev pub Visits : (Guard → Hold → Call → Guard → Type 0) → (Guard → Hold → Hold → Guard → Type 0)
+      → (Guard → Call → Hold → Guard → Type 0) → (Call → CallView CallerId) → Type 0 → (Done → Type 0) → Guard
+      → Hold → Guard → Hold → Visit Done → Type 0
+  Visits enters refuses leaves view idle does guard hold guard' hold' unvisited =
+      (guard' ≡ guard) × (hold' ≡ hold) × idle
+  Visits enters refuses leaves view idle does guard hold guard' hold' (tried None) =
+      refuses guard hold hold' guard' × idle
+  Visits enters refuses leaves view idle does guard hold guard' hold' (tried (Some d)) =
+      Called enters leaves view (does d) guard hold guard' hold'

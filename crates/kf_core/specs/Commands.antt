@@ -27,11 +27,19 @@ abbrev pub moved_record : Key → List ℕ → Record → Record
 moved_record dir name r = record r { parent = Some dir; name = name }
 
 abbrev pub new_record : Key → Key → List ℕ → Node → Bool → Record
-new_record key parent name node is_live = record { key = key; parent = Some parent; name = name; node = node; marks = record { activated = is_live; doomed = false }; hidden = false }
+new_record key parent name node is_live = record {
+  key = key;
+  parent = Some parent;
+  name = name;
+  node = node;
+  marks = record { activated = is_live; doomed = false };
+  hidden = false;
+}
 
 -- the tree after a command; applying one refuses nothing
 abbrev pub after : Tree → Command → Tree
-after t (Create key parent name node is_live) = slice_set t key.slot (Some (new_record key parent name node is_live))
+after t (Create key parent name node is_live) =
+    slice_set t key.slot (Some (new_record key parent name node is_live))
 after t (Activate key) = change (λ r. in_subtree t key r.key && not r.marks.doomed) activated_record t
 after t (Doom key) = change (λ r. in_subtree t key r.key) doomed_record t
 after t (Unlink key) = if is_linked t key then slice_set t key.slot None else t

@@ -22,7 +22,8 @@ hiders w slot = count_by (λ c. (c.key.slot == slot) && is_hiding c.phase) w.cal
 
 -- the counts of a slot
 abbrev pub CountsAre : BareWorld → ℕ → Counts → Type 0
-CountsAre w slot c = (c.holds ≡ holds w slot) × (c.references ≡ references w slot) × (c.hiders ≡ hiders w slot)
+CountsAre w slot c =
+    (c.holds ≡ holds w slot) × (c.references ≡ references w slot) × (c.hiders ≡ hiders w slot)
 
 -- the counts are those of their slots
 abbrev pub IsCounted : BareWorld → List Counts → Type 0
@@ -32,7 +33,8 @@ IsCounted w counts = (slot : ℕ) (c : Counts) → slice_get counts slot ≡ Som
 abbrev pub NoneFree : BareWorld → ℕ → Type 0
 NoneFree w below = (slot : ℕ) → 1 ≤ slot → slot < below → ¬ IsFree w slot
 
--- the world is safe, the counts of its slots are exact, and the search for a free slot skips none that is free
+-- the world is safe, the counts of its slots are exact, and the search for a free slot skips none that is
+-- free
 pub record IsKept (w : BareWorld) (counts : List Counts) (hint : Hint) : Type 0 where
   pub safe : Safe w
   pub few : length w.slots ≤ 4096

@@ -9,7 +9,8 @@ use Rattle.kf_core.specs.Tree.{Tree, record_at, IsIn, ancestor}
 
 -- the root: a live directory without a parent
 abbrev pub root_record : Key → Record
-root_record key = record { key = key; parent = None; name = []; node = Dir; marks = live_marks; hidden = false }
+root_record key =
+    record { key = key; parent = None; name = []; node = Dir; marks = live_marks; hidden = false }
 
 -- the record's parent is a directory of the tree, and asks this of the record
 pub record HasDirectory (t : Tree) (r : Record) (parent : Key) : Type 0 where
@@ -31,4 +32,5 @@ pub record Lawful (t : Tree) (root : Key) : Type 0 where
   -- siblings have different names
   pub siblings : (r s : Record) → IsIn t r → IsIn t s → r.parent ≡ s.parent → r.name ≡ s.name → r.key ≡ s.key
   -- following parents reaches the root within as many steps as there are records
-  pub reaches : (r : Record) → IsIn t r → (n : ℕ) × (n ≤ count_by is_some t) × (ancestor t n r.key ≡ Some root)
+  pub reaches : (r : Record) → IsIn t r → (n : ℕ) × (n ≤ count_by is_some t)
+      × (ancestor t n r.key ≡ Some root)

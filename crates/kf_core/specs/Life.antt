@@ -1,5 +1,5 @@
 -- A run with every kind of event: the whole life of a node, and of the next one in its slot.
-use Rattle.std.specs.Prelude.{ℕ, true, false, List, [], ◌∷◌, Option, None, Some}
+use Rattle.std.specs.Prelude.{ℕ, true, false, List, [], ◌∷◌, Option, Some}
 use Rattle.kf_core.specs.declared.key.Key.{Key}
 use Rattle.kf_core.specs.declared.key.Node.{Node}
 use Rattle.kf_core.specs.declared.key.Node.TheVariants.{File}
@@ -9,7 +9,7 @@ use Rattle.kf_core.specs.declared.slot.Marks.{Marks}
 use Rattle.kf_core.specs.declared.records.Record.{Record}
 use Rattle.kf_core.specs.declared.event.Event.{Event}
 use Rattle.kf_core.specs.declared.event.Event.TheVariants.{Born, Rise, Mark, Move, Pin, Enter, Leave, Break, Restore, Look, Unlink, Part, Hide, LookHidden, Show, Release, Undo}
-use Rattle.kf_core.specs.Worlds.{World, Slot}
+use Rattle.kf_core.specs.Worlds.{World}
 use Rattle.kf_core.specs.Lawful.{root_record}
 
 abbrev pub root : Key
@@ -34,7 +34,8 @@ file = File 420 7
 
 -- the file of this key and name in the root, with these marks
 abbrev pub file_at : Key → List ℕ → Marks → Record
-file_at key name marks = record { key = key; parent = Some root; name = name; node = file; marks = marks; hidden = false }
+file_at key name marks =
+    record { key = key; parent = Some root; name = name; node = file; marks = marks; hidden = false }
 
 -- a caller that came for the first node
 abbrev pub by : Phase → Caller
@@ -42,7 +43,11 @@ by phase = record { key = first; phase = phase }
 
 -- the root, slot 1 with its last generation and its record, and the callers
 abbrev pub at : ℕ → Option Record → List Caller → World
-at last linked callers = record { slots = record { last = 1; linked = Some (root_record root) } ∷ record { last = last; linked = linked } ∷ []; callers = callers }
+at last linked callers = record {
+  slots = record { last = 1; linked = Some (root_record root) }
+      ∷ record { last = last; linked = linked } ∷ [];
+  callers = callers;
+}
 
 abbrev pub doomed_marks : Marks
 doomed_marks = record { activated = true; doomed = true }

@@ -21,7 +21,8 @@ pub record IsLawfulName (name : List ℕ) : Type 0 where
 abbrev pub has_byte : List ℕ → ℕ → Bool
 has_byte name byte = list_any (λ b. b == byte) name
 
--- what is wrong with a name, in the order in which it is looked at: more than 255 bytes; else no byte, a slash, a zero byte, `.` or `..`
+-- what is wrong with a name, in the order in which it is looked at: more than 255 bytes; else no byte, a
+-- slash, a zero byte, `.` or `..`
 abbrev pub name_fault : List ℕ → Option Refusal
 name_fault name = first_cause (
     unless (nat_le (length name) 255) NameTooLong

@@ -20,14 +20,18 @@ NoneHolding w key = (c : ℕ) (phase : Phase) → IsCaller w c key phase → pha
 
 pub record Safe (w : BareWorld) : Type 0 where
   -- nobody is running on a key on which a caller is drained, parted or hidden
-  pub none_running : (c : ℕ) (key : Key) (phase : Phase) → IsCaller w c key phase → IsTrue (saw_unused phase) → NoneRunning w key
+  pub none_running : (c : ℕ) (key : Key) (phase : Phase) → IsCaller w c key phase → IsTrue (saw_unused phase)
+      → NoneRunning w key
   -- the key of a drained or parted caller is doomed
-  pub drain_doomed : (c : ℕ) (key : Key) (phase : Phase) → IsCaller w c key phase → IsTrue (saw_drain phase) → IsTrue (is_doomed w key)
+  pub drain_doomed : (c : ℕ) (key : Key) (phase : Phase) → IsCaller w c key phase → IsTrue (saw_drain phase)
+      → IsTrue (is_doomed w key)
   -- the key of a parted caller is not linked
   pub parted_gone : (c : ℕ) (key : Key) → IsCaller w c key Parted → IsFalse (is_linked w key)
   -- who holds a slot holds its last generation
-  pub held_last : (c : ℕ) (key : Key) (phase : Phase) → IsCaller w c key phase → phase ≢ Spent → IsLast w key.slot key.generation
+  pub held_last : (c : ℕ) (key : Key) (phase : Phase) → IsCaller w c key phase → phase ≢ Spent
+      → IsLast w key.slot key.generation
   -- who is running is so on a linked key
   pub running_linked : (c : ℕ) (key : Key) → IsCaller w c key Running → IsTrue (is_linked w key)
   -- at most one caller hides a key
-  pub one_hides : (c : ℕ) (key : Key) (phase : Phase) → IsCaller w c key phase → IsTrue (is_hiding phase) → OnlyHider w c key
+  pub one_hides : (c : ℕ) (key : Key) (phase : Phase) → IsCaller w c key phase → IsTrue (is_hiding phase)
+      → OnlyHider w c key

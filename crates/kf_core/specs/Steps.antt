@@ -12,19 +12,26 @@ use Rattle.kf_core.specs.Bare.{BareWorld, marks, is_linked, is_live, is_doomed, 
 
 -- the caller of this number is on the key, in this phase
 abbrev pub with_phase : BareWorld → ℕ → Key → Phase → BareWorld
-with_phase w c key phase = record { slots = w.slots; callers = slice_set w.callers c (record { key = key; phase = phase }) }
+with_phase w c key phase =
+    record { slots = w.slots; callers = slice_set w.callers c (record { key = key; phase = phase }) }
 
 -- the slot of the key has its generation, and these marks
 abbrev pub with_marks : BareWorld → Key → Option Marks → BareWorld
-with_marks w key m = record { slots = slice_set w.slots key.slot (record { generation = key.generation; marks = m }); callers = w.callers }
+with_marks w key m = record {
+  slots = slice_set w.slots key.slot
+      (record { generation = key.generation; marks = m });
+  callers = w.callers;
+}
 
 -- one caller more, which holds the key
 abbrev pub with_caller : BareWorld → Key → BareWorld
-with_caller w key = record { slots = w.slots; callers = w.callers ++ record { key = key; phase = Still } ∷ [] }
+with_caller w key =
+    record { slots = w.slots; callers = w.callers ++ record { key = key; phase = Still } ∷ [] }
 
 -- only spent callers are on the slot
 abbrev pub OnlySpent : BareWorld → ℕ → Type 0
-OnlySpent w slot = (c : ℕ) (key : Key) (phase : Phase) → IsCaller w c key phase → key.slot ≡ slot → phase ≡ Spent
+OnlySpent w slot =
+    (c : ℕ) (key : Key) (phase : Phase) → IsCaller w c key phase → key.slot ≡ slot → phase ≡ Spent
 
 -- nobody has a reference to the node
 abbrev pub NoReference : BareWorld → Key → Type 0
@@ -81,20 +88,25 @@ pub record MayLookHidden (w : BareWorld) (c : ℕ) : Type 0 where
 abbrev pub BareStep : BareWorld → Event → BareWorld → Type 0
 BareStep w (Born key parent name node) w' = MayBeBorn w key × (w' ≡ with_marks w key (Some fresh_marks))
 BareStep w (Rise key) w' = (marks w key ≡ Some fresh_marks) × (w' ≡ with_marks w key (Some live_marks))
-BareStep w (Mark key) w' = (m : Marks) × (marks w key ≡ Some m) × (m.doomed ≡ false) × (w' ≡ with_marks w key (Some (record { activated = m.activated; doomed = true })))
+BareStep w (Mark key) w' = (m : Marks) × (marks w key ≡ Some m) × (m.doomed ≡ false)
+    × (w' ≡ with_marks w key (Some (record { activated = m.activated; doomed = true })))
 BareStep w (Move key dir name) w' = w' ≡ w
 BareStep w (Pin c key) w' = (c ≡ length w.callers) × MayPin w key × (w' ≡ with_caller w key)
-BareStep w (Enter c) w' = (key : Key) × (phase : Phase) × IsCaller w c key phase × IsTrue (is_waiting phase) × (w' ≡ with_phase w c key (if is_live w key then Running else Turned))
-BareStep w (Leave c) w' = (key : Key) × (phase : Phase) × IsCaller w c key phase × IsTrue (has_reference phase) × (w' ≡ with_phase w c key Still)
+BareStep w (Enter c) w' = (key : Key) × (phase : Phase) × IsCaller w c key phase × IsTrue (is_waiting phase)
+    × (w' ≡ with_phase w c key (if is_live w key then Running else Turned))
+BareStep w (Leave c) w' = (key : Key) × (phase : Phase) × IsCaller w c key phase
+    × IsTrue (has_reference phase) × (w' ≡ with_phase w c key Still)
 BareStep w (Break c) w' = (key : Key) × IsCaller w c key Running × (w' ≡ with_phase w c key Broken)
 BareStep w (Restore c) w' = (key : Key) × IsCaller w c key Broken × (w' ≡ with_phase w c key Restored)
 BareStep w (Look c) w' = (may : MayLook w c) × (w' ≡ with_phase w c may.key Drained)
-BareStep w (Unlink c) w' = (key : Key) × IsCaller w c key Drained × IsTrue (is_linked w key) × (w' ≡ with_marks w key None)
+BareStep w (Unlink c) w' =
+    (key : Key) × IsCaller w c key Drained × IsTrue (is_linked w key) × (w' ≡ with_marks w key None)
 BareStep w (Part c) w' = (may : MayPart w c) × (w' ≡ with_phase w c may.key Parted)
 BareStep w (Hide c) w' = (may : MayHide w c) × (w' ≡ with_phase w c may.key Hiding)
 BareStep w (LookHidden c) w' = (may : MayLookHidden w c) × (w' ≡ with_phase w c may.key Hidden)
 BareStep w (Show c) w' = (key : Key) × IsCaller w c key Hidden × (w' ≡ with_phase w c key Still)
-BareStep w (Release c) w' = (key : Key) × (phase : Phase) × IsCaller w c key phase × IsTrue (may_release phase) × (w' ≡ with_phase w c key Spent)
+BareStep w (Release c) w' = (key : Key) × (phase : Phase) × IsCaller w c key phase
+    × IsTrue (may_release phase) × (w' ≡ with_phase w c key Spent)
 BareStep w (Undo c) w' = w' ≡ w
 
 -- these events, each a step from the bare world before it

@@ -22,8 +22,12 @@ pub record HasTurned (w : BoundedWorld) (id : ℕ) (w' : BoundedWorld) : Type 0 
   pub turned : IsCaller w'.world id key Turned
 
 module _ {Done : Type 0} where
-  -- a visit by the caller of this number on this key, with no step but its own: it was not made; or the node is not live, and the caller is Turned; or it is live, this was done, and the caller is Still
-  abbrev pub VisitsAlone : BoundedWorld → ℕ → Key → BoundedWorld → Type 0 → (Done → Type 0) → Visit Done → Type 0
+  -- a visit by the caller of this number on this key, with no step but its own: it was not made; or the node
+  -- is not live, and the caller is Turned; or it is live, this was done, and the caller is Still
+  abbrev pub VisitsAlone : BoundedWorld → ℕ → Key → BoundedWorld → Type 0 → (Done → Type 0) → Visit Done
+      → Type 0
   VisitsAlone w id key w' idle does unvisited = (w' ≡ w) × idle
-  VisitsAlone w id key w' idle does (tried None) = IsFalse (is_live w.world key) × (w' ≡ bounded (with_phase w.world id key Turned) w.limit) × idle
-  VisitsAlone w id key w' idle does (tried (Some d)) = IsTrue (is_live w.world key) × (w' ≡ bounded (with_phase w.world id key Still) w.limit) × does d
+  VisitsAlone w id key w' idle does (tried None) =
+      IsFalse (is_live w.world key) × (w' ≡ bounded (with_phase w.world id key Turned) w.limit) × idle
+  VisitsAlone w id key w' idle does (tried (Some d)) =
+      IsTrue (is_live w.world key) × (w' ≡ bounded (with_phase w.world id key Still) w.limit) × does d

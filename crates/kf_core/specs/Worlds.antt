@@ -1,5 +1,6 @@
--- The world: each slot with its last generation and the record of its linked node, and the callers.
--- One atomic step of it, and runs of steps. The struct `World` keeps the bare half of this, and the limit of holds.
+-- The world: each slot with its last generation and the record of its linked node, and the callers. One
+-- atomic step of it, and runs of steps. The struct `World` keeps the bare half of this, and the limit of
+-- holds.
 use Rattle.std.specs.Prelude.{◌≡◌, ◌≢◌, ℕ, ◌+◌, false, List, [], ◌∷◌, map, replicate, slice_get, slice_set, Option, None, Some, IsFalse}
 use Rattle.std.specs.Option.{option_map}
 use Rattle.kf_core.specs.declared.key.Key.{Key}
@@ -42,7 +43,11 @@ bare w = record { slots = map bare_slot w.slots; callers = w.callers }
 -- the root alone, in slot 0, live, and nobody there
 abbrev pub opening : ℕ → ℕ → World
 opening count start = record {
-  slots = slice_set (replicate count (record { last = start; linked = None })) 0 (record { last = start + 1; linked = Some (root_record (record { slot = 0; generation = start + 1 })) });
+  slots = slice_set (replicate count (record { last = start; linked = None })) 0
+      (record {
+        last = start + 1;
+        linked = Some (root_record (record { slot = 0; generation = start + 1 }));
+      });
   callers = [];
 }
 
@@ -71,10 +76,14 @@ abbrev pub TreeStep : World → Event → Tree → Type 0
 TreeStep w (Born key parent name node) t' = t' ≡ after (tree w) (Create key parent name node false)
 TreeStep w (Rise key) t' = t' ≡ change (λ r. same_key r.key key) activated_record (tree w)
 TreeStep w (Mark key) t' = t' ≡ change (λ r. same_key r.key key) doomed_record (tree w)
-TreeStep w (Move key dir name) t' = MayMove (tree w) key dir name × (t' ≡ after (tree w) (Rename key dir name))
-TreeStep w (Unlink c) t' = (key : Key) × (phase : Phase) × IsCaller (bare w) c key phase × NoChild (tree w) key × (t' ≡ after (tree w) (TakeOut key))
-TreeStep w (Hide c) t' = (key : Key) × (phase : Phase) × IsCaller (bare w) c key phase × (t' ≡ after (tree w) (HideNode key))
-TreeStep w (Show c) t' = (key : Key) × (phase : Phase) × IsCaller (bare w) c key phase × (t' ≡ after (tree w) (ShowNode key))
+TreeStep w (Move key dir name) t' =
+    MayMove (tree w) key dir name × (t' ≡ after (tree w) (Rename key dir name))
+TreeStep w (Unlink c) t' = (key : Key) × (phase : Phase) × IsCaller (bare w) c key phase
+    × NoChild (tree w) key × (t' ≡ after (tree w) (TakeOut key))
+TreeStep w (Hide c) t' =
+    (key : Key) × (phase : Phase) × IsCaller (bare w) c key phase × (t' ≡ after (tree w) (HideNode key))
+TreeStep w (Show c) t' =
+    (key : Key) × (phase : Phase) × IsCaller (bare w) c key phase × (t' ≡ after (tree w) (ShowNode key))
 TreeStep w (Pin c key) t' = t' ≡ tree w
 TreeStep w (Enter c) t' = t' ≡ tree w
 TreeStep w (Leave c) t' = t' ≡ tree w

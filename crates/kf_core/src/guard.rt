@@ -51,11 +51,14 @@ pub trait Guard {
     /// Tries for an active reference. The hold comes back where the node is not live.
     fn enter(&mut self, hold: Self::Hold) -> Result<Self::Call, Self::Hold>
         requires may_enter { may_enter self.old hold }
-        ensures tried { MatchResult result (λ call. enters self.old hold call self.new) (λ back. refuses self.old hold back self.new) }
+        ensures tried { MatchResult result (λ call. enters self.old hold call self.new)
+            (λ back. refuses self.old hold back self.new) }
         ensures running { IfOk result (λ call. (Self.Call.view_of call).phase ≡ Running) }
 
         // It may end, whatever a callback did with it.
-        ensures may_leave { IfOk result (λ call. (ended : Self.Call) → GivenBack (Self.Call.view_of call) (Self.Call.view_of ended) → may_leave self.new ended) }
+        ensures may_leave { IfOk result
+            (λ call. (ended : Self.Call) → GivenBack (Self.Call.view_of call) (Self.Call.view_of ended) →
+            may_leave self.new ended) }
         ensures may_enter { IfErr result (λ back. may_enter self.new back) };
 
     /// Ends the call, and gives the reference back.

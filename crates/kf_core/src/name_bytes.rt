@@ -5,7 +5,8 @@ ghost use Rattle.std.specs.Prelude.{◌≡◌, ℕ, List};
 use std::alloc::AllocError;
 use std::marker::Model;
 
-/// The bytes of a name. Contracts see the list of the bytes; what a lawful name is, is said where one is asked for.
+/// The bytes of a name. Contracts see the list of the bytes; what a lawful name is, is said where one is
+/// asked for.
 #[derive(Debug, Drop)]
 pub struct NameBytes {
     bytes: Vec<u8>,

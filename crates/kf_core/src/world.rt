@@ -1,7 +1,7 @@
 //! The plain list of slots and callers. Its methods are the atomic steps, and its questions take constant
 //! time, but for the search for a free slot.
 
-ghost use Rattle.std.specs.Prelude.{List, ℕ, ◌≡◌, ◌+◌, ◌-◌, ◌^◌, ◌≤◌, ◌<◌, replicate, slice_get, IfOk, IfErr, None};
+ghost use Rattle.std.specs.Prelude.{◌≡◌, ◌+◌, ◌-◌, ◌^◌, ◌≤◌, ◌<◌, replicate, slice_get, IfOk, IfErr, None};
 ghost use Rattle.std.specs.Option.{option_map};
 ghost use Rattle.kf_core.specs.declared.refusal.Refusal.TheVariants.{NoMemory};
 ghost use Rattle.kf_core.specs.Bare.{marks, marks_in, is_live, is_linked, is_doomed, is_hidden, opening};
@@ -42,7 +42,8 @@ impl Model for World {
 
     ghost view = { λ w. bounded (record { slots = w.slots.items; callers = w.callers.items }) w.limit };
 
-    ghost invariant = { λ w. IsKept (record { slots = w.slots.items; callers = w.callers.items }) w.counts.items w.hint };
+    ghost invariant = { λ w. IsKept
+        (record { slots = w.slots.items; callers = w.callers.items }) w.counts.items w.hint };
 }
 
 /// The marks of the node that a key names, where it is linked.
@@ -57,7 +58,8 @@ fn marks_at(slots: &[SlotState], key: Key) -> Option<Marks>
 
 /// So many slots of this last generation, with no node.
 fn empty_slots(alloc: Global, count: usize, generation: u32) -> Result<Vec<SlotState>, Refusal>
-    ensures made { IfOk result (λ slots. slots.items ≡ replicate count (record { generation = generation; marks = None })) }
+    ensures made { IfOk result
+        (λ slots. slots.items ≡ replicate count (record { generation = generation; marks = None })) }
     ensures err { IfErr result (λ refusal. refusal ≡ NoMemory) }
 {
     Ok(vec![in alloc; SlotState {
@@ -68,7 +70,8 @@ fn empty_slots(alloc: Global, count: usize, generation: u32) -> Result<Vec<SlotS
 
 /// The counts of so many slots on which nobody is.
 fn no_counts(alloc: Global, count: usize) -> Result<Vec<Counts>, Refusal>
-    ensures made { IfOk result (λ counts. counts.items ≡ replicate count (record { holds = 0; references = 0; hiders = 0 })) }
+    ensures made { IfOk result
+        (λ counts. counts.items ≡ replicate count (record { holds = 0; references = 0; hiders = 0 })) }
     ensures err { IfErr result (λ refusal. refusal ≡ NoMemory) }
 {
     Ok(vec![in alloc; Counts {

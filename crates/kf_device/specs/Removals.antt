@@ -1,5 +1,5 @@
 -- What a removal by name met and did, in trees that the lock kept. It does not say when that was.
-use Rattle.std.specs.Prelude.{◌≡◌, ◌≢◌, ℕ, Bool, true, false, ◌||◌, List, Result, Ok, codes, MatchBool}
+use Rattle.std.specs.Prelude.{◌≡◌, ◌≢◌, ℕ, Bool, true, ◌||◌, List, Result, Ok, codes, MatchBool}
 use Rattle.kf_core.specs.declared.key.Key.{Key}
 use Rattle.kf_core.specs.declared.refusal.Refusal.{Refusal}
 use Rattle.kf_tree.specs.Paths.{and_then, found, walked}

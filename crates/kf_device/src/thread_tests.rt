@@ -1,5 +1,5 @@
 //! Devices on a shared tree, in threads.
-ghost use Rattle.std.specs.Prelude.{◌≡◌, ◌<◌, ◌≤◌, length, true};
+ghost use Rattle.std.specs.Prelude.{◌≡◌, ◌<◌, true};
 ghost use Rattle.kf_core.specs.Phases.{has_reference};
 ghost use Rattle.kf_core.specs.declared.caller.Phase.TheVariants.{Running};
 ghost use Rattle.kf_words.specs.Callers.{IsSameSeat};

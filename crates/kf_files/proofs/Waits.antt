@@ -1,6 +1,6 @@
 -- Visits by a guard that keeps nothing, and what is told of them.
-use Rattle.std.proofs.Common.{◌≡◌, ◌⊎◌, ◌<◌, ℕ, List, Option, None, Some, Result, IsTrue, refl}
-use Rattle.kf_core.specs.Calls.{Called, Visit, unvisited, tried, Visits}
+use Rattle.std.proofs.Common.{ℕ, List, None, Some, Result, refl}
+use Rattle.kf_core.specs.Calls.{Visit, unvisited, tried, Visits}
 use Rattle.kf_words.specs.Callers.{Handle}
 use Rattle.kf_files.specs.declared.ops.FileError.{FileError}
 use Rattle.kf_files.specs.Files.{FileState, Reads, Shown}

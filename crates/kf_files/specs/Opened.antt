@@ -29,16 +29,16 @@ text_in true bytes = Some bytes
 text_in false bytes = None
 
 -- why an open was refused. None: it was not
-abbrev pub held_refusal : {Hold : Type 0} → Result (Held Hold) (Hold × Refusal) → Option Refusal
+abbrev pub held_refusal : {Hold Page : Type 0} → Result (Held Hold) (Hold × Page × Refusal) → Option Refusal
 held_refusal (Ok file) = None
-held_refusal (Err back) = Some back.1
+held_refusal (Err back) = Some back.2
 
 abbrev pub refusal_of : {Hold : Type 0} → Result (Opened Hold) (Hold × PostState × Refusal) → Option Refusal
 refusal_of (Ok file) = None
 refusal_of (Err back) = Some back.2
 
 -- the hold after an open, in the file or given back
-abbrev pub held_after : {Hold : Type 0} → Result (Held Hold) (Hold × Refusal) → Hold
+abbrev pub held_after : {Hold Page : Type 0} → Result (Held Hold) (Hold × Page × Refusal) → Hold
 held_after (Ok file) = file.hold
 held_after (Err back) = back.0
 

@@ -14,8 +14,8 @@ pub trait EventNumbers<C: ActiveCall> {
 
     /// The slot's event number now.
     ///
-    /// Condition: the call is running. So a number is taken after the try, and before a callback, which may break
-    /// and restore its call.
+    /// Condition: the call is running. So a number is taken after the try, and before a callback, which may
+    /// break and restore its call.
     fn now(&mut self, call: &C) -> u64
         requires running { (C.view_of call.now).phase ≡ Running }
         ensures given { gives self.old result self.new };

@@ -1,30 +1,32 @@
-//! A file opened by a hold on its node, over anything that gives event numbers.
+//! A file opened by a hold on its node, over anything that gives event numbers and holds its page.
 
-ghost use Rattle.std.specs.Prelude.{◌≡◌, ◌≤◌, length, IsSome, IfOk};
+ghost use Rattle.std.specs.Prelude.{◌≡◌, ◌≤◌, ℕ, length, IsSome, IfOk, OnOk};
 ghost use Rattle.kf_core.specs.Calls.{Visits, GivenBack};
 ghost use Rattle.kf_core.specs.declared.caller.Phase.TheVariants.{Running};
-ghost use Rattle.kf_files.specs.Files.{Opens, Reads, Writes, Polls, Shows, Gives, Stored, new_file, tag_of, allows};
+ghost use Rattle.kf_files.specs.Files.{Opens, Reads, Writes, Polls, Shows, Gives, Stored, new_file, tag_of, allows, slice, text_in_file, text_told};
 ghost use Rattle.kf_files.specs.Opened.{held_after, held_refusal};
 
 use crate::contents::{Contents, Want};
 use crate::event_numbers::EventNumbers;
 use crate::hold::put_back;
 use crate::ops::{Fault, FileError, Ops};
+use crate::page_holder::PageHolder;
 use kf_core::{ActiveCall, Guard, Node, Refusal};
 use std::marker::Model;
 
-/// A file opened by a hold on its node (`struct kernfs_open_file`). It keeps the hold until it is closed. What gives
-/// the event numbers of its slot lies elsewhere, and is lent to each call that may take one.
+/// A file opened by a hold on its node (`struct kernfs_open_file`). It keeps the hold and the page that it
+/// was given until it is closed. What gives the event numbers of its slot lies elsewhere, and is lent to each
+/// call that may take one.
 #[derive(Drop)]
-pub struct HeldFile<G: Guard> {
+pub struct HeldFile<G: Guard, P: PageHolder> {
     // Empty only while a call has the hold.
     hold: Option<G::Hold>,
     tag: u64,
-    contents: Contents,
+    contents: Contents<P>,
     ghost held: { IsSome hold },
 }
 
-impl<G: Guard> Model for HeldFile<G> {
+impl<G: Guard, P: PageHolder> Model for HeldFile<G, P> {
     ghost use Rattle.kf_files.specs.Opened.{Held, hold_in};
 
     ghost Value = { Held G.Hold };
@@ -57,17 +59,18 @@ fn store_front<C: ActiveCall, O: Ops<C>>(
     ops.store(call, tag, &bytes[..end])
 }
 
-impl<G: Guard> HeldFile<G> {
+impl<G: Guard, P: PageHolder> HeldFile<G, P> {
     /// Opens a file whose node is live (`kernfs_fop_open`). It starts with no text and the event number 0.
     /// Refused are, in this order: `IsDir` a directory, `Invalid` a link, `NoDevice` a node that is not live,
     /// `Access` reading where the mode has no bit of 0o444, or writing where it has none of 0o222.
-    /// A refusal gives the hold back.
+    /// A refusal gives the hold and the page back.
     pub fn open(
         guard: &mut G,
         hold: G::Hold,
         node: Node,
         want: Want,
-    ) -> Result<HeldFile<G>, (G::Hold, Refusal)>
+        page: P,
+    ) -> Result<HeldFile<G, P>, (G::Hold, P, Refusal)>
         requires may_enter { G.may_enter guard.old hold }
         ensures opens { Opens
             (Visits G.enters G.refuses G.leaves G.Call.view_of (Unit {0}) (λ _. Unit {0})
@@ -78,29 +81,30 @@ impl<G: Guard> HeldFile<G> {
         ensures may_enter { G.may_enter guard.new (held_after result) }
     {
         let (mode, tag) = match node {
-            Node::Dir => return Err((hold, Refusal::IsDir)),
-            Node::Link { target: _ } => return Err((hold, Refusal::Invalid)),
+            Node::Dir => return Err((hold, page, Refusal::IsDir)),
+            Node::Link { target: _ } => return Err((hold, page, Refusal::Invalid)),
             Node::File { mode, tag } => (mode, tag),
         };
         let hold = match guard.enter(hold) {
             Ok(call) => guard.leave(call),
-            Err(hold) => return Err((hold, Refusal::NoDevice)),
+            Err(hold) => return Err((hold, page, Refusal::NoDevice)),
         };
         if !allows(mode, want) {
-            return Err((hold, Refusal::Access));
+            return Err((hold, page, Refusal::Access));
         }
         Ok(HeldFile {
             hold: Some(hold),
             tag,
-            contents: Contents::new(want),
+            contents: Contents::new(want, page),
         })
     }
 
     /// Reads the text from the offset on into the front of `out`, and answers how many bytes that are
-    /// (`kernfs_fop_read_iter`). At offset 0, and where no text is buffered, the text is shown anew under a call,
-    /// after its event number was taken; else it is the buffered text, which needs no live node and takes no
-    /// number. `Access` where the file was not opened for reading, then `NoDevice` where the node is not live; both
-    /// change nothing. A fault of show leaves no text. The rest of `out` stays, and all of it after an error.
+    /// (`kernfs_fop_read_iter`). At offset 0, and where no text is buffered, the text is shown anew under a
+    /// call, after its event number was taken; else it is the buffered text, which needs no live node and
+    /// takes no number. `Access` where the file was not opened for reading, then `NoDevice` where the node is
+    /// not live; both change nothing. A fault of show leaves no text. The rest of `out` stays, and all of it
+    /// after an error.
     pub fn read<O: Ops<G::Call>, N: EventNumbers<G::Call>>(
         &mut self,
         guard: &mut G,
@@ -121,14 +125,53 @@ impl<G: Guard> HeldFile<G> {
         ensures same { self.new ≡ record self.old { hold = self.new.hold; state = self.new.state } }
         ensures may_enter { G.may_enter guard.new self.new.hold }
     {
+        match self.prepare(guard, ops, numbers, offset) {
+            Ok(()) => {
+                let text = self.text_from(offset, out.len());
+                out[..text.len()].copy_from_slice(text);
+                Ok(text.len())
+            }
+            Err(error) => Err(error),
+        }
+    }
+
+    /// Sees to the text of a read at this offset, which [`HeldFile::text_from`] then gives: the first half of
+    /// [`HeldFile::read`], for who has no buffer of its own.
+    pub fn prepare<O: Ops<G::Call>, N: EventNumbers<G::Call>>(
+        &mut self,
+        guard: &mut G,
+        ops: &mut O,
+        numbers: &mut N,
+        offset: u64,
+    ) -> Result<(), FileError>
+        requires may_enter { G.may_enter guard.old self.old.hold }
+        ensures reads { (count : ℕ) → Reads
+            (Visits G.enters G.refuses G.leaves G.Call.view_of
+            ((ops.new ≡ ops.old) × (numbers.new ≡ numbers.old))
+            (λ shown. N.gives numbers.old shown.number numbers.new
+            × O.shows ops.old self.old.tag shown.filled ops.new)
+            guard.old self.old.hold guard.new self.new.hold)
+            (λ answer. answer ≡ text_told self.new.state offset count result)
+            self.old.state offset count self.new.state }
+        ensures text { OnOk result (IsSome self.new.state.text) }
+        ensures same { self.new ≡ record self.old { hold = self.new.hold; state = self.new.state } }
+        ensures may_enter { G.may_enter guard.new self.new.hold }
+    {
         if !self.contents.want().read {
             return Err(FileError::Refused(Refusal::Access));
         }
-        if let Some(count) = self.contents.read_buffered(offset, out) {
-            return Ok(count);
+        if self.contents.serves(offset) {
+            return Ok(());
         }
-        self.show(guard, ops, numbers)?;
-        Ok(self.contents.read_shown(offset, out))
+        self.show(guard, ops, numbers)
+    }
+
+    /// At most so many bytes of the buffered text from the offset on.
+    pub fn text_from(&self, offset: u64, most: usize) -> &[u8]
+        requires text { IsSome self.now.state.text }
+        ensures bytes { result.now ≡ slice (text_in_file self.now.state) offset most }
+    {
+        self.contents.text_from(offset, most)
     }
 
     /// Tries for a call, and shows the text anew under it.
@@ -166,9 +209,9 @@ impl<G: Guard> HeldFile<G> {
     }
 
     /// Hands the first 4,096 bytes to one store under a call, and answers what it answers
-    /// (`kernfs_fop_write_iter`). A write of no bytes answers 0 and calls nothing, but it needs a live node too.
-    /// `Access` where the file was not opened for writing, then `NoDevice` where the node is not live. The file
-    /// stays as it was.
+    /// (`kernfs_fop_write_iter`). A write of no bytes answers 0 and calls nothing, but it needs a live node
+    /// too. `Access` where the file was not opened for writing, then `NoDevice` where the node is not live.
+    /// The file stays as it was.
     pub fn write<O: Ops<G::Call>>(
         &mut self,
         guard: &mut G,
@@ -204,9 +247,9 @@ impl<G: Guard> HeldFile<G> {
         }
     }
 
-    /// Whether the file has changed since its last show (`kernfs_fop_poll`): the slot's event number, taken under
-    /// a call, is another, or the node is not live. A file that was never shown has changed. The number that the
-    /// file keeps stays.
+    /// Whether the file has changed since its last show (`kernfs_fop_poll`): the slot's event number, taken
+    /// under a call, is another, or the node is not live. A file that was never shown has changed. The number
+    /// that the file keeps stays.
     pub fn poll<N: EventNumbers<G::Call>>(&mut self, guard: &mut G, numbers: &mut N) -> bool
         requires may_enter { G.may_enter guard.old self.old.hold }
         ensures polls { Polls
@@ -234,15 +277,15 @@ impl<G: Guard> HeldFile<G> {
         }
     }
 
-    /// Gives the hold back (`kernfs_fop_release`).
-    pub fn close(self) -> G::Hold
-        ensures hold { result ≡ self.hold }
+    /// Gives the hold and the page back (`kernfs_fop_release`).
+    pub fn close(self) -> (G::Hold, P)
+        ensures hold { result.0 ≡ self.hold }
     {
         let HeldFile {
             hold,
             tag: _,
-            contents: _,
+            contents,
         } = self;
-        hold.unwrap()
+        (hold.unwrap(), contents.into_page())
     }
 }

@@ -7,6 +7,9 @@ mod held_file;
 mod hold;
 mod open_file;
 mod ops;
+mod page_holder;
+#[cfg(test)]
+mod seats_tests;
 mod tree_seats;
 mod wait_ops;
 mod waiting_file;
@@ -20,6 +23,7 @@ pub use event_numbers::EventNumbers;
 pub use held_file::HeldFile;
 pub use open_file::OpenFile;
 pub use ops::{Fault, FileError, Ops, Page};
+pub use page_holder::PageHolder;
 pub use wait_ops::WaitOps;
 pub use waiting_file::WaitingFile;
 

@@ -8,16 +8,16 @@ ghost use Rattle.kf_files.specs.Opened.{hold_after, refusal_of};
 
 use crate::contents::Want;
 use crate::held_file::HeldFile;
-use crate::ops::{FileError, Ops};
+use crate::ops::{FileError, Ops, Page};
 use kf_core::{Guard, Node, Refusal};
 use kf_notify::Post;
 use std::marker::Model;
 
-/// A file opened by a hold on its node (`struct kernfs_open_file`). It keeps the hold and a post of its slot until
-/// it is closed.
+/// A file opened by a hold on its node (`struct kernfs_open_file`). It keeps the hold and a post of its slot
+/// until it is closed.
 #[derive(Drop)]
 pub struct OpenFile<G: Guard> {
-    file: HeldFile<G>,
+    file: HeldFile<G, Page>,
     post: Post,
 }
 
@@ -56,17 +56,18 @@ impl<G: Guard> OpenFile<G> {
         ensures post { MatchResult result (λ file. file.post ≡ post) (λ back. back.1 ≡ post) }
         ensures may_enter { G.may_enter guard.new (hold_after result) }
     {
-        match HeldFile::open(guard, hold, node, want) {
+        match HeldFile::open(guard, hold, node, want, Page::new()) {
             Ok(file) => Ok(OpenFile { file, post }),
-            Err((hold, why)) => Err((hold, post, why)),
+            Err((hold, _page, why)) => Err((hold, post, why)),
         }
     }
 
     /// Reads the text from the offset on into the front of `out`, and answers how many bytes that are
-    /// (`kernfs_fop_read_iter`). At offset 0, and where no text is buffered, the text is shown anew under a call,
-    /// after its event number was taken; else it is the buffered text, which needs no live node and takes no
-    /// number. `Access` where the file was not opened for reading, then `NoDevice` where the node is not live; both
-    /// change nothing. A fault of show leaves no text. The rest of `out` stays, and all of it after an error.
+    /// (`kernfs_fop_read_iter`). At offset 0, and where no text is buffered, the text is shown anew under a
+    /// call, after its event number was taken; else it is the buffered text, which needs no live node and
+    /// takes no number. `Access` where the file was not opened for reading, then `NoDevice` where the node is
+    /// not live; both change nothing. A fault of show leaves no text. The rest of `out` stays, and all of it
+    /// after an error.
     pub fn read<O: Ops<G::Call>>(
         &mut self,
         guard: &mut G,
@@ -91,9 +92,9 @@ impl<G: Guard> OpenFile<G> {
     }
 
     /// Hands the first 4,096 bytes to one store under a call, and answers what it answers
-    /// (`kernfs_fop_write_iter`). A write of no bytes answers 0 and calls nothing, but it needs a live node too.
-    /// `Access` where the file was not opened for writing, then `NoDevice` where the node is not live. The file
-    /// stays as it was.
+    /// (`kernfs_fop_write_iter`). A write of no bytes answers 0 and calls nothing, but it needs a live node
+    /// too. `Access` where the file was not opened for writing, then `NoDevice` where the node is not live.
+    /// The file stays as it was.
     pub fn write<O: Ops<G::Call>>(
         &mut self,
         guard: &mut G,
@@ -112,9 +113,9 @@ impl<G: Guard> OpenFile<G> {
         self.file.write(guard, ops, bytes)
     }
 
-    /// Whether the file has changed since its last show (`kernfs_fop_poll`): the slot's event number, taken under
-    /// a call, is another, or the node is not live. A file that was never shown has changed. The number that the
-    /// file keeps stays.
+    /// Whether the file has changed since its last show (`kernfs_fop_poll`): the slot's event number, taken
+    /// under a call, is another, or the node is not live. A file that was never shown has changed. The number
+    /// that the file keeps stays.
     pub fn poll(&mut self, guard: &mut G) -> bool
         requires may_enter { G.may_enter guard.old self.old.hold }
         ensures polls { Polls
@@ -134,6 +135,7 @@ impl<G: Guard> OpenFile<G> {
         ensures post { result.1 ≡ self.post }
     {
         let OpenFile { file, post } = self;
-        (file.close(), post)
+        let (hold, _page) = file.close();
+        (hold, post)
     }
 }

@@ -14,7 +14,7 @@ use std::process::Abort;
 use std::sync::atomic::{AtomicU64, Ordering};
 use std::sync::{Mutex, Wait};
 
-const BOTH: Want = Want {
+pub(crate) const BOTH: Want = Want {
     read: true,
     write: true,
 };

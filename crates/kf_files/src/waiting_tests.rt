@@ -9,6 +9,7 @@ use crate::waiting_fixtures::{
 use crate::{Fault, FileError};
 use kf_core::{Key, Refusal};
 use kf_shared::{Naming, NewTree, SharedTree};
+use kf_words::Hold;
 use std::alloc::Global;
 use std::marker::Brand;
 use std::process::Abort;
@@ -111,10 +112,18 @@ fn a_fault_of_a_show_ends_its_call(rt: HostRuntime) {
 // ---- a removal while a show runs
 
 /// The hold of a removal, and how many receipts it got, of other nodes than its own among them.
-struct Removal<N: Naming> {
+pub(crate) struct Removal<N: Naming> {
     hold: Option<TreeHold<N>>,
     receipts: usize,
     others: usize,
+}
+
+pub(crate) fn removal_by<N: Naming>(hold: TreeHold<N>) -> Removal<N> {
+    Removal {
+        hold: Some(hold),
+        receipts: 0,
+        others: 0,
+    }
 }
 
 fn removes<N: Naming, R: Wait>(
@@ -174,49 +183,32 @@ fn lets_go_late<N: Naming, R: Wait>(
     marked && !early
 }
 
-fn waits_for_a_show<N: Naming + Send + Sync, R: Abort + Threads + Wait + Sync>(
+/// Removes the node once the show is inside, and lets the show go late. False where the removal answered
+/// early.
+pub(crate) fn removes_under<N: Naming + Send + Sync, R: Threads + Wait + Sync>(
     rt: &R,
-    alloc: Global,
-    new: NewTree,
-)
-    requires { new.master.table ≡ N.table }
-{
-    let tree = new.named::<N>();
-    let key = file_of(rt, &tree, 7);
-    let mut posts = posts_of(rt, alloc);
-    let mut file = opened(rt, &tree, key, post_of(rt, &mut posts));
-    let second = held(rt, &tree, key).into_hold();
-    let mut removal = Removal {
-        hold: Some(held(rt, &tree, key)),
-        receipts: 0,
-        others: 0,
-    };
-    let ops = new_driver(Before::Waits(AtomicU64::new(0), AtomicU64::new(0)));
-    let Before::Waits(inside, let_go) = &ops.before else {
-        panic!(rt; "it waits")
-    };
+    tree: &SharedTree<N>,
+    key: Key,
+    removal: &mut Removal<N>,
+    inside: &AtomicU64,
+    let_go: &AtomicU64,
+) -> bool {
     let answered = AtomicU64::new(0);
-    let mut out = [0u8; 4];
-    let (told, (_, late)) = join(
+    let entered = wait_for(1, inside);
+    let (_, late) = join(
         rt,
-        || file.read(rt, &tree, &ops, 0, &mut out),
-        || {
-            let entered = wait_for(1, inside);
-            join(
-                rt,
-                || removes(rt, &tree, key, &mut removal, &answered),
-                || entered && lets_go_late(rt, &tree, key, let_go, &answered),
-            )
-        },
+        || removes(rt, tree, key, removal, &answered),
+        || entered && lets_go_late(rt, tree, key, let_go, &answered),
     );
-    assert_eq!(rt; told, Ok(1));
-    assert!(rt; late, "the removal answered while the show ran");
-    assert_eq!(rt; removal.receipts, 1);
-    assert_eq!(rt; removal.others, 0);
+    late
+}
+
+/// The removal got one receipt, of its node, and a hold that was taken before it gets no call any more.
+pub(crate) fn has_removed<N: Naming, R: Abort>(rt: &R, removal: Removal<N>, second: Hold) {
     let Removal {
         hold,
-        receipts: _,
-        others: _,
+        receipts,
+        others,
     } = removal;
     if let Some(hold) = hold {
         hold.into_hold().release();
@@ -229,7 +221,37 @@ fn waits_for_a_show<N: Naming + Send + Sync, R: Abort + Threads + Wait + Sync>(
         }
         Err(hold) => hold.release(),
     }
+    assert_eq!(rt; receipts, 1);
+    assert_eq!(rt; others, 0);
+}
+
+fn waits_for_a_show<N: Naming + Send + Sync, R: Abort + Threads + Wait + Sync>(
+    rt: &R,
+    alloc: Global,
+    new: NewTree,
+)
+    requires { new.master.table ≡ N.table }
+{
+    let tree = new.named::<N>();
+    let key = file_of(rt, &tree, 7);
+    let mut posts = posts_of(rt, alloc);
+    let mut file = opened(rt, &tree, key, post_of(rt, &mut posts));
+    let second = held(rt, &tree, key).into_hold();
+    let mut removal = removal_by(held(rt, &tree, key));
+    let ops = new_driver(Before::Waits(AtomicU64::new(0), AtomicU64::new(0)));
+    let Before::Waits(inside, let_go) = &ops.before else {
+        panic!(rt; "it waits")
+    };
+    let mut out = [0u8; 4];
+    let (told, late) = join(
+        rt,
+        || file.read(rt, &tree, &ops, 0, &mut out),
+        || removes_under(rt, &tree, key, &mut removal, inside, let_go),
+    );
     close(file);
+    has_removed(rt, removal, second);
+    assert_eq!(rt; told, Ok(1));
+    assert!(rt; late, "the removal answered while the show ran");
 }
 
 #[test]

@@ -25,7 +25,8 @@ IsAbove None name = Unit {0}
 IsAbove (Some bound) name = IsBefore bound name
 
 -- the entry with the least name above the bound
-pub record IsLeastAbove (entries : Entries) (bound : Option (List ℕ)) (name : List ℕ) (key : Key) : Type 0 where
+pub record IsLeastAbove (entries : Entries) (bound : Option (List ℕ)) (name : List ℕ)
+    (key : Key) : Type 0 where
   pub found : map_of.get entries name ≡ Some key
   pub above : IsAbove bound name
   pub least : (other : List ℕ) → IsSome (map_of.get entries other) → IsAbove bound other
@@ -35,8 +36,9 @@ pub record IsLeastAbove (entries : Entries) (bound : Option (List ℕ)) (name : 
 abbrev pub NoneAbove : Entries → Option (List ℕ) → Type 0
 NoneAbove entries bound = (name : List ℕ) → IsAbove bound name → map_of.get entries name ≡ None
 
--- the entries above the bound, one after another: each has the least name above the one before it, the first above
--- the bound, and no name is above the last
+-- the entries above the bound, one after another: each has the least name above the one before it, the first
+-- above the bound, and no name is above the last
 unfoldable pub AreAbove : Entries → Option (List ℕ) → List (List ℕ × Key) → Type 0
 AreAbove entries bound [] = NoneAbove entries bound
-AreAbove entries bound (entry ∷ later) = IsLeastAbove entries bound entry.0 entry.1 × AreAbove entries (Some entry.0) later
+AreAbove entries bound (entry ∷ later) =
+    IsLeastAbove entries bound entry.0 entry.1 × AreAbove entries (Some entry.0) later

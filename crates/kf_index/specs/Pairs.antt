@@ -20,10 +20,12 @@ pub record IsPlaceOf (pairs : Pairs) (name : List ℕ) (at : ℕ) : Type 0 where
 pub record IsGapFor (pairs : Pairs) (name : List ℕ) (at : ℕ) : Type 0 where
   pub within : at ≤ length pairs
   pub lower : (i : ℕ) (d : List ℕ × Key) → i < at → IsBefore (slice_index_or pairs i d).0 name
-  pub higher : (i : ℕ) (d : List ℕ × Key) → at ≤ i → i < length pairs → IsBefore name (slice_index_or pairs i d).0
+  pub higher : (i : ℕ) (d : List ℕ × Key) → at ≤ i → i < length pairs
+      → IsBefore name (slice_index_or pairs i d).0
 
 -- the names before this place are not above the bound, and those from it on are
 pub record IsFirstAbove (pairs : Pairs) (bound : Option (List ℕ)) (at : ℕ) : Type 0 where
   pub within : at ≤ length pairs
   pub not_above : (i : ℕ) (d : List ℕ × Key) → i < at → ¬ IsAbove bound (slice_index_or pairs i d).0
-  pub above : (i : ℕ) (d : List ℕ × Key) → at ≤ i → i < length pairs → IsAbove bound (slice_index_or pairs i d).0
+  pub above : (i : ℕ) (d : List ℕ × Key) → at ≤ i → i < length pairs
+      → IsAbove bound (slice_index_or pairs i d).0

@@ -1,6 +1,7 @@
 //! The sibling index of a directory: its entries in byte order of their names, found by binary search.
 
-ghost use Rattle.std.specs.Prelude.{◌≡◌, [], vec_capacity, None, IfOk, IfErr, OnOk, OnErr, IfSome, IfNone, if◌then◌else◌};
+ghost use Rattle.std.specs.Prelude.{◌≡◌, ◌<◌, ◌≤◌, ◌++◌, ◌∷◌, ℕ, List, [], length, insert, vec_capacity, None, IfOk, IfErr, OnOk, OnErr, IfSome, IfNone, if◌then◌else◌};
+ghost use Rattle.kf_core.specs.declared.key.Key.{Key};
 ghost use Rattle.std.specs.Option.{option_copied};
 ghost use Rattle.std.specs.FinMap as map;
 ghost use Rattle.kf_index.specs.Entries.{IsLeastAbove, NoneAbove, AreAbove};
@@ -8,7 +9,8 @@ ghost use Rattle.kf_index.specs.Pairs.{IsRising, IsPlaceOf, IsGapFor, IsFirstAbo
 
 use crate::name::Name;
 use kf_core::{Key, Refusal};
-use std::alloc::Global;
+use std::alloc::{AllocError, Global};
+use std::cmp::Ordering;
 use std::marker::Model;
 
 /// The entries of one directory: each name once, with the key of its node, in byte order of names.
@@ -40,7 +42,18 @@ fn search(entries: &[(Name, Key)], name: &[u8]) -> Result<usize, usize>
     ensures found { IfOk result (λ at. IsPlaceOf entries.now name.now at) }
     ensures absent { IfErr result (λ at. IsGapFor entries.now name.now at) }
 {
-    entries.binary_search_by(|(other, _)| other.bytes().cmp(&name))
+    // Not by a closure: a loop of our own keeps the name in registers and ends where it is met.
+    let mut low = 0;
+    let mut high = entries.len();
+    while low < high {
+        let middle = low + (high - low) / 2;
+        match entries[middle].0.bytes().cmp(&name) {
+            Ordering::Less => low = middle + 1,
+            Ordering::Equal => return Ok(middle),
+            Ordering::Greater => high = middle,
+        }
+    }
+    Err(low)
 }
 
 /// The place of the first name above the bound.
@@ -55,6 +68,27 @@ fn first_above(entries: &[(Name, Key)], bound: Option<&[u8]>) -> usize
             Err(at) => at,
         },
     }
+}
+
+/// Moves the last entry to a place, and those from there on up.
+fn last_to(entries: &mut [(Name, Key)], at: usize)
+    requires within { at < length entries.old }
+    ensures moved { (front : List (List ℕ × Key)) (last : List ℕ × Key) → entries.old ≡ front ++ last ∷ []
+        → entries.new ≡ insert front at last }
+{
+    entries[at..].rotate_right(1);
+}
+
+/// Adds an entry at a place, and moves those from there on up, all at once: `Vec::insert`, compiled by
+/// itself, moves them one by one.
+fn put_at(entries: &mut Vec<(Name, Key)>, at: usize, entry: (Name, Key)) -> Result<(), AllocError>
+    requires within { at ≤ length entries.old.items }
+    ensures put { OnOk result (entries.new.items ≡ insert entries.old.items at entry) }
+    ensures unchanged { OnErr result (entries.new.items ≡ entries.old.items) }
+{
+    entries.push(entry)?;
+    last_to(entries, at);
+    Ok(())
 }
 
 /// Gives the memory of the entries back, where there are none left.
@@ -100,7 +134,7 @@ impl Index {
         let Err(at) = search(&self.entries, name.bytes()) else {
             return Err(Refusal::Exists);
         };
-        let Ok(()) = self.entries.insert(at, (name, key)) else {
+        let Ok(()) = put_at(&mut self.entries, at, (name, key)) else {
             return Err(Refusal::NoMemory);
         };
         Ok(())

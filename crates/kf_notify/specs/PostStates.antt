@@ -16,6 +16,7 @@ pub record PostState : Type 0 where
   pub slot : ℕ
   pub known : ℕ  -- the greatest number that it has seen or made
   pub found : ℕ  -- what its last load found
+  pub made : ℕ  -- the last number that it has made; 0: none
   pub steps : ℕ  -- how many steps it has made on its slot's word
 
 abbrev pub numbers_of : PostSeat → Numbers
@@ -27,6 +28,7 @@ post_of s = record {
   slot = s.token.me.0.slot;
   known = s.token.me.0.known;
   found = s.token.me.0.found;
+  made = s.token.me.0.made;
   steps = s.token.me.0.steps;
 }
 
@@ -37,32 +39,41 @@ seat_view p = record {
   known = p.known;
   start = p.numbers.start;
   found = p.found;
+  made = p.made;
   steps = p.steps;
 }
+
+-- the seat has made no step on a slot's word, and so no number
+pub record IsIdle (s : PostSeat) : Type 0 where
+  pub no_step : s.token.me.0.steps ≡ 0
+  pub none_made : s.token.me.0.made ≡ 0
 
 pub record IsSamePost (old new : PostState) : Type 0 where
   pub numbers : new.numbers ≡ old.numbers
   pub slot : new.slot ≡ old.slot
 
--- a post of this slot, whose one load found its number, which is not below the first
+-- a post of this slot, which has made no number, and whose one load found a number not below the first
 pub record IsNewPost (numbers : Numbers) (slot : ℕ) (post : PostState) : Type 0 where
   pub numbers_are : post.numbers ≡ numbers
   pub slot_is : post.slot ≡ slot
   pub seen : post.known ≡ post.found
+  pub none_made : post.made ≡ 0
   pub no_less : numbers.start ≤ post.found
   pub one_step : post.steps ≡ 1
 
--- one load found this number, which is not below any that the post had seen or made
+-- one load found this number, which is not below any that the post had seen or made; the post made none
 pub record Found (old : PostState) (number : ℕ) (new : PostState) : Type 0 where
   pub found : new.found ≡ number
   pub known : new.known ≡ number
+  pub none_made : new.made ≡ old.made
   pub no_less : old.known ≤ number
   pub one_step : new.steps ≡ old.steps + 1
 
--- one load found a number not below any that the post had seen or made; a second step raised it to the next
+-- one load found a number not below any that the post had seen or made; a second step made the next of it
 pub record Made (old : PostState) (number : ℕ) (new : PostState) : Type 0 where
   pub one_more : number ≡ new.found + 1
   pub known : new.known ≡ number
+  pub made : new.made ≡ number
   pub no_less : old.known ≤ new.found
   pub two_steps : new.steps ≡ old.steps + 2
 

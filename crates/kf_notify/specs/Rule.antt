@@ -1,5 +1,5 @@
 -- The rule of the table: what its words show of the views of all seats.
-use Rattle.std.specs.Prelude.{◌≡◌, ℕ, ◌≤◌, ◌<◌, length, slice_index}
+use Rattle.std.specs.Prelude.{◌≡◌, ℕ, ◌+◌, ◌≤◌, ◌<◌, length, slice_index}
 use mathlib.Core.Option.{some}
 use lib.ListN.{get_elem?}
 use Rattle.atomic_table.specs.Table.{State}
@@ -19,12 +19,26 @@ number_at t slot = slice_index t.words slot
 
 -- the view of the first seat
 abbrev pub opened : ℕ → View
-opened start = record { slot = 0; known = 0; start = start; found = 0; steps = 0 }
+opened start = record { slot = 0; known = 0; start = start; found = 0; made = 0; steps = 0 }
 
--- a slot's number is never below one that any seat has seen or made there, and none is below that of the opening
-pub record Shown (slots : ℕ) (t : Table) : Type 0 where
+-- the greatest number that a seat knows is what its last load found, or the next, which it made
+pub record KnowsNext (v : View) : Type 0 where
+  pub found : v.found ≤ v.known
+  pub next : v.known ≤ v.found + 1
+  pub made : v.made ≤ v.known
+
+-- a seat of this slot made this number
+abbrev pub WasMade : Table → ℕ → ℕ → Type 0
+WasMade t slot number =
+    (seat : ℕ) × (v : View) × IsSeated t seat v × (v.slot ≡ slot) × (v.made ≡ number)
+
+-- A slot's number is never below one that any seat has seen or made there; none is below the first, and each
+-- above the first was made by a seat of its slot.
+pub record Shown (slots start : ℕ) (t : Table) : Type 0 where
   -- for each slot a word
   pub wide : slots ≤ length t.words
+  pub first : (seat : ℕ) (v : View) → IsSeated t seat v → v.start ≡ start
+  pub knows : (seat : ℕ) (v : View) → IsSeated t seat v → KnowsNext v
   pub known : (seat : ℕ) (v : View) → IsSeated t seat v → v.known ≤ number_at t v.slot
-  pub start : (seat : ℕ) (v : View) → IsSeated t seat v
-      → (slot : ℕ) → slot < slots → v.start ≤ number_at t slot
+  pub least : (slot : ℕ) → slot < slots → start ≤ number_at t slot
+  pub made : (slot : ℕ) → slot < slots → start < number_at t slot → WasMade t slot (number_at t slot)

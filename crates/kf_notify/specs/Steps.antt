@@ -10,21 +10,21 @@ Seated = Me (Unit {0}) View
 -- a load found this number of the slot
 abbrev pub loaded : ℕ → ℕ → View → View
 loaded slot found v =
-    record { slot = slot; known = found; start = v.start; found = found; steps = v.steps + 1 }
+    record { slot = slot; known = found; start = v.start; found = found; made = v.made; steps = v.steps + 1 }
 
 -- the number of its slot was raised to this one
 abbrev pub raised : ℕ → View → View
-raised number v = record v { known = number; steps = v.steps + 1 }
+raised number v = record v { known = number; made = number; steps = v.steps + 1 }
 
--- a new seat, which has made no step
+-- a new seat, which has made no number and no step
 abbrev pub doubled : View → View
-doubled v = record v { steps = 0 }
+doubled v = record v { made = 0; steps = 0 }
 
 -- once, while the rule held and a seat had this view, the number of the slot was as found
 pub record WasFound (v : View) (slot found : ℕ) : Type 0 where
   pub slots : ℕ
   pub table : Table
-  pub shown : Shown slots table
+  pub shown : Shown slots v.start table
   pub seat : ℕ
   pub there : IsSeated table seat v
   pub within : slot < slots

@@ -1,6 +1,5 @@
 //! A post: it reads and raises the event number of one slot.
-ghost use Rattle.std.specs.Prelude.{◌≡◌, ◌-◌, ◌^◌, ◌<◌, IfOk, IfErr, MatchResult};
-ghost use Rattle.std.specs.Arc.{arc_value};
+ghost use Rattle.std.specs.Prelude.{◌≡◌, ◌-◌, ◌^◌, ◌<◌, IfOk, IfErr};
 ghost use Rattle.kf_notify.specs.PostStates.{post_of, IsSamePost, Found, Made, FoundThere};
 
 use crate::seat::PostSeat;
@@ -46,9 +45,9 @@ impl Post {
         self.seat.load(self.slot)
     }
 
-    /// Raises the slot's event number to one more than a load found, which is above all that this post had seen
-    /// or made, and answers it (`kernfs_notify`). `Full` where the number found is 2^64 - 1, and then nothing
-    /// changes.
+    /// Raises the slot's event number to one more than a load found, which is above all that this post had
+    /// seen or made, and answers it (`kernfs_notify`). `Full` where the number found is 2^64 - 1, and then
+    /// nothing changes.
     pub fn notify(&mut self) -> Result<u64, Full>
         ensures same { IsSamePost self.old self.new }
         ensures made { IfOk result (λ number. Made self.old number self.new) }

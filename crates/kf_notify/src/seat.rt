@@ -1,5 +1,5 @@
 //! A seat at the table of numbers, and its steps, one by one.
-ghost use Rattle.std.specs.Prelude.{◌≡◌, ◌<◌, ◌≤◌, [], IfOk, IfErr};
+ghost use Rattle.std.specs.Prelude.{◌≡◌, ◌+◌, ◌<◌, ◌≤◌, [], IfOk, IfErr};
 ghost use Rattle.std.specs.Arc.{arc_value};
 ghost use Rattle.kf_core.specs.declared.refusal.Refusal.TheVariants.{NoMemory};
 ghost use Rattle.kf_notify.specs.Steps.{loaded, raised, doubled, WasFound};
@@ -26,8 +26,11 @@ pub struct PostSeat {
 
 impl PostSeat {
     /// Loads the number of a slot.
+    ///
+    /// Condition: a seat that has made a number stays with its slot.
     pub(crate) fn load(&mut self, slot: u32) -> u64
         requires slot { slot < self.old.slots }
+        requires stays { 0 < self.old.token.me.0.made → self.old.token.me.0.slot ≡ slot }
         ensures same { self.new.slots ≡ self.old.slots }
         ensures table { self.new.token.table_id ≡ self.old.token.table_id }
         ensures view { self.new.token.me.0 ≡ loaded slot result self.old.token.me.0 }
@@ -41,9 +44,12 @@ impl PostSeat {
     }
 
     /// Raises the number of its slot to this one, where it is below.
+    ///
+    /// Condition: it is the next of what the seat's last load found there. So no number is skipped.
     pub(crate) fn raise(&mut self, slot: u32, number: u64)
         requires slot { slot < self.old.slots }
         requires own { self.old.token.me.0.slot ≡ slot }
+        requires next { number ≡ self.old.token.me.0.found + 1 }
         ensures same { self.new.slots ≡ self.old.slots }
         ensures table { self.new.token.table_id ≡ self.old.token.table_id }
         ensures view { self.new.token.me.0 ≡ raised number self.old.token.me.0 }
@@ -53,7 +59,7 @@ impl PostSeat {
             .fetch_max::<Raises>(&mut self.token, slot as usize, number);
     }
 
-    /// A new seat, which knows what this one knows.
+    /// A new seat, which knows what this one knows, and has made no number.
     ///
     /// Refusal: `NoMemory` where sharing the table was refused, and then nothing changes.
     pub(crate) fn another(&mut self) -> Result<PostSeat, Refusal>

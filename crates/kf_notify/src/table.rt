@@ -11,13 +11,13 @@ pub struct Opening {
 }
 
 /// The rule of the table: between any two steps, no slot's number is below one that a seat has seen or made
-/// there.
+/// there, and each above the first was made by a seat of its slot.
 pub struct Rule;
 
 impl TableRule<(), View, Opening> for Rule {
     ghost use Rattle.kf_notify.specs.Rule.{Shown, opened};
 
-    ghost holds = { λ o. Shown o.slots };
+    ghost holds = { λ o. Shown o.slots o.start };
 
     ghost first = { λ o. opened o.start };
 }

@@ -1,5 +1,5 @@
 -- The tree's hidden marks stay those that the callers make.
-use Rattle.std.proofs.Common.{◌≡◌, inl, inr, ℕ, zero, suc, refl, ap, sym, ◌∙◌, subst, Bool, true, false, cond, List, [], ◌∷◌, ◌++◌, length, slice_set, replicate}
+use Rattle.std.proofs.Common.{◌≡◌, inl, inr, ℕ, zero, suc, refl, ap, sym, ◌∙◌, subst, Bool, true, false, cond, List, [], ◌∷◌, ◌++◌, slice_set, replicate}
 use Rattle.std.specs.Prelude.{Option, None, Some, slice_get, ◌&&◌, map, Result, Ok, Err, IfOk, IfErr}
 use Rattle.std.proofs.lemmas.Option.{same_Some, none-some}
 use Rattle.kf_core.specs.declared.key.Key.{Key}
@@ -20,7 +20,7 @@ use Rattle.kf_core.specs.Keys.{same_key}
 use Rattle.kf_core.specs.Lawful.{root_record}
 use Rattle.kf_core.specs.Phases.{is_hiding}
 use Rattle.kf_core.specs.Steps.{with_caller, OnlySpent}
-use Rattle.kf_core.specs.Tree.{Tree, IsIn, is_linked}
+use Rattle.kf_core.specs.Tree.{Tree, is_linked}
 use Rattle.kf_core.proofs.AgreeingHidden.{moved_told, changed_told, born_told, taken_told, waiting_shows, idle_shows}
 use Rattle.kf_core.proofs.Hiding.{hides_set, hides_push}
 use Rattle.kf_core.proofs.Lists.{after_set}

@@ -1,9 +1,7 @@
 -- Hiding a node, and showing it again, by the one caller: what the steps make of the tree and of the callers' world.
-use Rattle.std.proofs.Common.{◌≡◌, ◌≢◌, ◌⊎◌, inl, inr, ℕ, zero, suc, ◌+◌, ◌<◌, ◌≤◌, refl, ap, arith, sym, ◌∙◌, subst, Bool, true, false, cond, List, [], ◌∷◌, ◌++◌, length, slice_set}
-use Rattle.std.specs.Prelude.{Option, None, Some, slice_get, is_some, IsTrue, IsFalse, ◌==◌, ◌&&◌, not, MatchBool}
+use Rattle.std.proofs.Common.{◌≡◌, ◌≢◌, ◌⊎◌, inl, inr, ℕ, ◌+◌, ◌<◌, ◌≤◌, refl, ap, sym, ◌∙◌, subst, Bool, true, false, cond, List, [], ◌∷◌, ◌++◌, length, slice_set}
+use Rattle.std.specs.Prelude.{Option, None, Some, slice_get, is_some, IsTrue, IsFalse, ◌&&◌, not}
 use Rattle.std.specs.Option.{option_map, option_map_or}
-use Rattle.std.specs.Bool.{OnTrue}
-use Rattle.std.proofs.lemmas.Bool.{OnTrue_at}
 use Rattle.std.proofs.lemmas.Bool.Decides.{eqb_tells}
 use Rattle.std.proofs.lemmas.Option.{same_Some, none-some, slice_get_within}
 use Rattle.std.proofs.lemmas.List.{set-set}
@@ -21,14 +19,14 @@ use Rattle.kf_core.specs.declared.command.Command.TheVariants.{Hide, Show}
 use Rattle.kf_core.specs.declared.event.Event.TheVariants.{Pin, Release, LookHidden, Hide as HideStep, Show as ShowStep}
 use Rattle.kf_core.specs.Agrees.{AgreesHidden}
 use Rattle.kf_core.specs.Bare.{BareWorld, IsCaller, IsLast, marks, marks_in, hides, any_hides, is_hidden}
-use Rattle.kf_core.specs.Bounded.{BoundedWorld, bounded, Happens, May}
+use Rattle.kf_core.specs.Bounded.{BoundedWorld, Happens, May}
 use Rattle.kf_core.specs.Commands.{after, hidden_record}
 use Rattle.kf_core.specs.Keys.{same_key}
 use Rattle.kf_core.specs.Phases.{is_hiding, has_reference, is_waiting}
 use Rattle.kf_core.specs.Refusals.{unless, first_cause}
 use Rattle.kf_core.specs.Safe.{Safe}
-use Rattle.kf_core.specs.Steps.{with_phase, with_caller, MayLookHidden, NoReference}
-use Rattle.kf_core.specs.Tree.{Tree, IsIn, record_at, marks_of, is_linked}
+use Rattle.kf_core.specs.Steps.{with_phase, MayLookHidden}
+use Rattle.kf_core.specs.Tree.{Tree, record_at, is_linked}
 use Rattle.kf_core.proofs.AgreeingHidden.{put_told, elsewhere, shown_now}
 use Rattle.kf_core.proofs.Climbs.{keys_tell, same_key_self}
 use Rattle.kf_core.proofs.FoundRecords.{found_in}
@@ -39,10 +37,9 @@ use Rattle.kf_tree.specs.Causes.{Refuses, hide_cause, hidden_in, is_directory, i
 use Rattle.kf_tree.specs.TreeLogs.{TreeLog, IsAccepted, IsReadied}
 use Rattle.kf_plain.specs.Agreement.{SameMarks}
 use Rattle.kf_plain.specs.Nodes.{Nodes, nodes_of, last_of, AreTied, AllIdle, NoneHides, hidden_on, hold_count, spent_on, logged}
-use Rattle.kf_plain.specs.Removals.{with_callers}
 use Rattle.kf_plain.proofs.BoardVisits.{Visited, last_there, last_set}
-use Rattle.kf_plain.proofs.CallerSteps.{in_phase, has_released}
-use Rattle.kf_plain.proofs.Ties.{Logs, logs, log_after, tied_after}
+use Rattle.kf_plain.proofs.CallerSteps.{has_released}
+use Rattle.kf_plain.proofs.Ties.{Logs, log_after, tied_after}
 
 -- ---- the tree
 

@@ -1,9 +1,8 @@
 -- Who holds what, where the board takes a token or spends one.
-use Rattle.std.proofs.Common.{◌≡◌, ◌≢◌, ◌⊎◌, inl, inr, ℕ, ◌+◌, ◌<◌, refl, ap, arith, sym, ◌∙◌, subst, Bool, true, false, cond, List, [], ◌∷◌, ◌++◌, length, slice_set}
+use Rattle.std.proofs.Common.{◌≡◌, ◌≢◌, inl, inr, ℕ, ◌+◌, ◌<◌, refl, ap, arith, sym, ◌∙◌, subst, Bool, true, false, cond, List, [], ◌∷◌, ◌++◌, length, slice_set}
 use Rattle.std.specs.Prelude.{Option, None, Some, slice_get, map, count_by, ◌==◌, ◌&&◌, not}
 use Rattle.std.specs.Option.{option_map}
 use Rattle.std.proofs.lemmas.Option.{same_Some, none-some, slice_get_within, slice_get-map}
-use Rattle.std.proofs.lemmas.List.{map-set}
 use Rattle.std.proofs.lemmas.Bool.Decides.{eqb_tells}
 use Rattle.kf_core.specs.declared.key.Key.{Key}
 use Rattle.kf_core.specs.declared.caller.Caller.{Caller}
@@ -14,8 +13,8 @@ use Rattle.kf_core.proofs.Lists.{slice_get-set_same, slice_get-set_other, after_
 use Rattle.kf_plain.specs.declared.nodes.visits.BoardFile.{BoardFile}
 use Rattle.kf_plain.specs.declared.nodes.hiding.BoardToken.{BoardToken}
 use Rattle.kf_plain.specs.Nodes.{NoneHides, hidden_on, hold_count, spent_on}
-use Rattle.kf_plain.specs.Plain.{count_on, is_on, token_count}
-use Rattle.kf_plain.specs.PlainInside.{plain_files, plain_token, plain_tokens, IsHeldFile, IsHeldToken}
+use Rattle.kf_plain.specs.Plain.{is_on, token_count}
+use Rattle.kf_plain.specs.PlainInside.{plain_files, plain_token, plain_tokens, IsHeldToken}
 use Rattle.kf_plain.proofs.BoardVisits.{last_there}
 use Rattle.kf_plain.proofs.Counts.{count_push, count_set}
 use Rattle.kf_plain.proofs.Holding.{AreHeld, kept_left, not_the_hider, spent_counts}

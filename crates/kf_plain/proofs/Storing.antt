@@ -1,5 +1,5 @@
 -- A write on the board: what its store answered settles the request.
-use Rattle.std.proofs.Common.{◌≡◌, ℕ, Bool, true, false, List, [], ◌∷◌, Option, None, Some, Result, Ok, IsTrue, inl, inr, refl, sym, ap, subst, ◌∙◌, rules}
+use Rattle.std.proofs.Common.{◌≡◌, ℕ, Bool, true, false, List, [], ◌∷◌, Option, None, Some, Result, Ok, IsTrue, inl, inr, refl, sym, ap, subst, ◌∙◌}
 use Rattle.kf_core.specs.declared.refusal.Refusal.{Refusal}
 use Rattle.kf_core.specs.declared.refusal.Refusal.TheVariants.{Access, NoDevice}
 use Rattle.kf_core.specs.Refusals.{unless, first_cause}

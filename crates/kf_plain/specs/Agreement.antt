@@ -1,4 +1,5 @@
--- When the world of callers and the tree tell the same, and what a change of several nodes makes of the world.
+-- When the world of callers and the tree tell the same, and what a change of several nodes makes of the
+-- world.
 use Rattle.std.specs.Prelude.{◌≡◌, Bool, false, not, ◌&&◌, ◌||◌, List, Option, None, Some}
 use Rattle.std.specs.List.{list_any}
 use Rattle.std.specs.Option.{option_map}
@@ -24,7 +25,8 @@ risen_if chosen m = record { activated = (chosen && not m.doomed) || m.activated
 
 -- the marks of these keys are changed in this way, and all others are as they were
 abbrev pub Changed : (Bool → Marks → Marks) → List Key → BareWorld → BareWorld → Type 0
-Changed change keys old new = (key : Key) → marks new key ≡ option_map (change (contains_key keys key)) (marks old key)
+Changed change keys old new =
+    (key : Key) → marks new key ≡ option_map (change (contains_key keys key)) (marks old key)
 
 -- linked, and neither activated nor doomed
 abbrev pub is_fresh_marked : Option Marks → Bool

@@ -18,7 +18,8 @@ use Rattle.kf_core.specs.declared.refusal.Refusal.TheVariants.{TooManyHolds, NoM
 use Rattle.kf_core.specs.Commands.{replay, root_alone}
 use Rattle.kf_tree.specs.TreeLogs.{TreeLog, IsKept}
 
--- the tree with its stored commands, by slot its last generation, the limit of holds, and the callers by their number
+-- the tree with its stored commands, by slot its last generation, the limit of holds, and the callers by
+-- their number
 pub record Nodes : Type 0 where
   pub log : TreeLog
   pub last : List ℕ
@@ -29,7 +30,8 @@ abbrev pub last_of : List SlotState → List ℕ
 last_of slots = map (λ (s : SlotState). s.generation) slots
 
 abbrev pub nodes_of : TreeLog → BoundedWorld → Nodes
-nodes_of log w = record { log = log; last = last_of w.world.slots; limit = w.limit; callers = w.world.callers }
+nodes_of log w =
+    record { log = log; last = last_of w.world.slots; limit = w.limit; callers = w.world.callers }
 
 -- both name the same linked, activated and doomed keys
 pub record AreTied (log : TreeLog) (w : BareWorld) : Type 0 where
@@ -47,7 +49,8 @@ pub record OnlyMarks (old new : BoundedWorld) : Type 0 where
 
 -- the log after these commands, with which nothing is made ready
 abbrev pub logged : TreeLog → List Command → TreeLog
-logged log cs = record { root = log.root; tree = replay log.tree cs; commands = log.commands ++ cs; ready = None }
+logged log cs =
+    record { root = log.root; tree = replay log.tree cs; commands = log.commands ++ cs; ready = None }
 
 -- the same tree, with these stored commands
 abbrev pub listed : TreeLog → List Command → TreeLog
@@ -59,7 +62,8 @@ root_key start = record { slot = 0; generation = start + 1 }
 
 abbrev pub new_nodes : ℕ → ℕ → ℕ → Nodes
 new_nodes slots holds start = record {
-  log = record { root = root_key start; tree = root_alone slots (root_key start); commands = []; ready = None };
+  log =
+      record { root = root_key start; tree = root_alone slots (root_key start); commands = []; ready = None };
   last = slice_set (replicate slots start) 0 (start + 1);
   limit = holds;
   callers = [];
@@ -82,11 +86,14 @@ hold_count callers slot = count_by (λ c. (c.key.slot == slot) && not (is_spent 
 
 -- nobody has a reference
 abbrev pub AllIdle : List Caller → Type 0
-AllIdle callers = (id : ℕ) (key : Key) (phase : Phase) → slice_get callers id ≡ Some (record { key = key; phase = phase }) → IsFalse (has_reference phase)
+AllIdle callers = (id : ℕ) (key : Key) (phase : Phase)
+    → slice_get callers id ≡ Some (record { key = key; phase = phase }) → IsFalse (has_reference phase)
 
 -- the caller may have another phase, in which it waits too
 abbrev pub StillWaits : List Caller → ℕ → Key → List Caller → Type 0
-StillWaits callers id key callers' = (callers' ≡ callers) ⊎ ((phase : Phase) × IsTrue (is_waiting phase) × (callers' ≡ slice_set callers id (record { key = key; phase = phase })))
+StillWaits callers id key callers' = (callers' ≡ callers)
+    ⊎ ((phase : Phase) × IsTrue (is_waiting phase)
+    × (callers' ≡ slice_set callers id (record { key = key; phase = phase })))
 
 -- a hold of a linked node is refused: its slot has as many as there may be; or there was no memory
 abbrev pub PinRefused : Nodes → Key → Refusal → Type 0
@@ -104,7 +111,9 @@ hidden_on key = record { key = key; phase = Hidden }
 
 -- no caller on this slot hides a node
 abbrev pub NoneHides : List Caller → ℕ → Type 0
-NoneHides callers slot = (id : ℕ) (key : Key) (phase : Phase) → slice_get callers id ≡ Some (record { key = key; phase = phase }) → IsTrue (is_hiding phase) → key.slot ≢ slot
+NoneHides callers slot = (id : ℕ) (key : Key) (phase : Phase)
+    → slice_get callers id ≡ Some (record { key = key; phase = phase }) → IsTrue (is_hiding phase)
+    → key.slot ≢ slot
 
 -- callers came, and have released these keys; all else is as before
 abbrev pub with_spent : Nodes → List Key → Nodes
@@ -119,13 +128,15 @@ is_vacant (Some (Some r)) = false
 
 -- no linked node, no hold, and a generation left
 abbrev pub is_free : Tree → List ℕ → (ℕ → ℕ) → ℕ → Bool
-is_free tree last count slot = is_vacant (slice_get tree slot) && count slot == 0 && nat_lt (slice_index last slot) (2 ^ 32 - 1)
+is_free tree last count slot =
+    is_vacant (slice_get tree slot) && count slot == 0 && nat_lt (slice_index last slot) (2 ^ 32 - 1)
 
 -- the next key of the lowest free slot, the root's left out; none where no slot is free
 abbrev pub IsNext : Tree → List ℕ → (ℕ → ℕ) → Option Key → Type 0
 IsNext tree last count None = (slot : ℕ) → 1 ≤ slot → IsFalse (is_free tree last count slot)
 IsNext tree last count (Some key) =
-    (1 ≤ key.slot) × IsTrue (is_free tree last count key.slot) × (key.generation ≡ slice_index last key.slot + 1)
+    (1 ≤ key.slot) × IsTrue (is_free tree last count key.slot)
+    × (key.generation ≡ slice_index last key.slot + 1)
     × ((slot : ℕ) → 1 ≤ slot → slot < key.slot → IsFalse (is_free tree last count slot))
 
 -- ---- removals
@@ -133,7 +144,8 @@ IsNext tree last count (Some key) =
 -- the slot has a node of the subtree that has as many holds as there may be
 abbrev pub is_full_in : Nodes → Key → Option Record → Bool
 is_full_in n top None = false
-is_full_in n top (Some r) = in_subtree n.log.tree top r.key && not (nat_lt (hold_count n.callers r.key.slot) n.limit)
+is_full_in n top (Some r) =
+    in_subtree n.log.tree top r.key && not (nat_lt (hold_count n.callers r.key.slot) n.limit)
 
 abbrev pub is_full_below : Nodes → Key → Bool
 is_full_below n top = list_any (is_full_in n top) n.log.tree

@@ -25,7 +25,8 @@ pub record Plain : Type 0 where
 -- a new board: the root alone, and each slot's last generation is `start`
 abbrev pub new_board : ℕ → ℕ → ℕ → Plain
 new_board slots holds start = record {
-  log = record { root = root_key start; tree = root_alone slots (root_key start); commands = []; ready = None };
+  log =
+      record { root = root_key start; tree = root_alone slots (root_key start); commands = []; ready = None };
   last = slice_set (replicate slots start) 0 (start + 1);
   limit = holds;
   events = replicate slots 1;
@@ -66,7 +67,8 @@ has_room b slot = nat_lt (holder_count b slot) b.limit
 
 -- ---- slots
 
--- the next key of the lowest slot that has no linked node, no holder, and a generation left; the root's slot is left out
+-- the next key of the lowest slot that has no linked node, no holder, and a generation left; the root's slot
+-- is left out
 abbrev pub IsNextKey : Plain → Option Key → Type 0
 IsNextKey b next = IsNext b.log.tree b.last (holder_count b) next
 

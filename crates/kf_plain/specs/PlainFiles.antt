@@ -1,5 +1,6 @@
--- What the commands on files do: by the open file that a letter names, and by the texts and event numbers of the slots.
-use Rattle.std.specs.Prelude.{◌≡◌, ◌⊎◌, ℕ, ◌+◌, ◌-◌, ◌^◌, not, List, [], ◌∷◌, length, take, decimal, nat_lt, slice_set, slice_index, slice_index_or, is_some, Option, Some, None, Result, Ok, Err}
+-- What the commands on files do: by the open file that a letter names, and by the texts and event numbers of
+-- the slots.
+use Rattle.std.specs.Prelude.{◌≡◌, ◌⊎◌, ℕ, ◌+◌, ◌-◌, ◌^◌, not, List, [], ◌∷◌, length, take, nat_lt, slice_set, slice_index, slice_index_or, is_some, Option, Some, None, Result, Ok, Err}
 use Rattle.std.specs.Option.{ok_or}
 use Rattle.kf_core.specs.declared.key.Key.{Key}
 use Rattle.kf_core.specs.declared.records.Record.{Record}
@@ -34,15 +35,18 @@ open_cause_at log holds limit want key = first_cause (
 
 -- the live node at a path, where it may be opened
 abbrev pub opened_node : TreeLog → (ℕ → ℕ) → ℕ → List ℕ → Want → Result Key Refusal
-opened_node log holds limit path want = and_then (seen log.tree log.root path) (λ key. ok_unless (open_cause_at log holds limit want key) key)
+opened_node log holds limit path want =
+    and_then (seen log.tree log.root path) (λ key. ok_unless (open_cause_at log holds limit want key) key)
 
 -- the node that is opened under a letter, which is looked at first
 abbrev pub opened_key : Plain → ℕ → List ℕ → Want → Result Key Refusal
-opened_key b file path want = and_then (ok_unless (unless (not (is_some (file_at b file))) Busy) file) (λ _. opened_node b.log (holder_count b) b.limit path want)
+opened_key b file path want = and_then (ok_unless (unless (not (is_some (file_at b file))) Busy) file)
+    (λ _. opened_node b.log (holder_count b) b.limit path want)
 
 -- the node that an open takes its hold of, once the letter is free
 abbrev pub open_held : Plain → ℕ → List ℕ → Result Key Refusal
-open_held b file path = and_then (ok_unless (unless (not (is_some (file_at b file))) Busy) file) (λ _. seen b.log.tree b.log.root path)
+open_held b file path = and_then (ok_unless (unless (not (is_some (file_at b file))) Busy) file)
+    (λ _. seen b.log.tree b.log.root path)
 
 abbrev pub new_open : Key → Want → OpenPlainFile
 new_open key want = record { key = key; kept = new_file want }
@@ -63,7 +67,8 @@ stored_file b file = and_then (known_file b file) (λ opened. ok_unless (first_c
 -- the file that is notified; its slot's event number may be at its last
 abbrev pub notified_key : Plain → List ℕ → Result Key Refusal
 notified_key b path = and_then (walked b.log.tree b.log.root path) (λ key.
-    ok_unless (record_cause (λ mode. unless (nat_lt (slice_index b.events key.slot) (2 ^ 64 - 1)) NoSpace) (record_at b.log.tree key)) key)
+    ok_unless (record_cause (λ mode. unless (nat_lt (slice_index b.events key.slot) (2 ^ 64 - 1)) NoSpace)
+    (record_at b.log.tree key)) key)
 
 abbrev pub with_event : Plain → ℕ → Plain
 with_event b slot = record b { events = slice_set b.events slot (slice_index b.events slot + 1) }
@@ -73,9 +78,11 @@ with_event b slot = record b { events = slice_set b.events slot (slice_index b.e
 abbrev pub VisitsNode : {Done : Type 0} → Plain → Key → Type 0 → (Done → Type 0) → Visit Done → Type 0
 VisitsNode b key idle does visit = VisitsLive (live_in b.log.tree key) idle does visit
 
--- a show fills the page with the first 4,096 bytes of the slot's text, and the slot's event number was taken for it
+-- a show fills the page with the first 4,096 bytes of the slot's text, and the slot's event number was taken
+-- for it
 abbrev pub ShowsText : Plain → ℕ → Shown → Type 0
-ShowsText b slot shown = (shown.number ≡ slice_index b.events slot) × (shown.filled ≡ Ok (take 4096 (slice_index_or b.texts slot [])))
+ShowsText b slot shown = (shown.number ≡ slice_index b.events slot)
+    × (shown.filled ≡ Ok (take 4096 (slice_index_or b.texts slot [])))
 
 -- a store puts these bytes in place of the slot's whole text, and answers their number
 abbrev pub StoresText : Plain → ℕ → List ℕ → Result ℕ Fault → Plain → Type 0
@@ -83,4 +90,5 @@ StoresText b slot bytes answer now = (answer ≡ Ok (length bytes)) × (now ≡ 
 
 -- the same, or the fault for want of memory, which changes nothing
 abbrev pub StoresOnBoard : Plain → ℕ → List ℕ → Result ℕ Fault → Plain → Type 0
-StoresOnBoard b slot bytes answer now = StoresText b slot bytes answer now ⊎ ((answer ≡ Err (record { number = 12 })) × (now ≡ b))
+StoresOnBoard b slot bytes answer now =
+    StoresText b slot bytes answer now ⊎ ((answer ≡ Err (record { number = 12 })) × (now ≡ b))

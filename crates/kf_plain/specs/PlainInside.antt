@@ -79,7 +79,8 @@ pub record IsWhole (n : Nodes) (events : List ℕ) (texts : List (List ℕ)) (fi
   -- who holds a slot is the caller of an open file on it or of its token, and no two files have one caller
   pub idle : AllIdle n.callers
   pub held : (file : ℕ) (f : BoardFile) → slice_get files file ≡ Some (Some f) → IsHeldFile n.callers f
-  pub apart : (one other : ℕ) (f g : BoardFile) → slice_get files one ≡ Some (Some f) → slice_get files other ≡ Some (Some g) → f.file.hold ≡ g.file.hold → one ≡ other
+  pub apart : (one other : ℕ) (f g : BoardFile) → slice_get files one ≡ Some (Some f)
+      → slice_get files other ≡ Some (Some g) → f.file.hold ≡ g.file.hold → one ≡ other
   pub hidden : (slot : ℕ) (t : BoardToken) → slice_get tokens slot ≡ Some (Some t)
       → IsHeldToken n.callers slot t
   pub counted : (slot : ℕ) → hold_count n.callers slot

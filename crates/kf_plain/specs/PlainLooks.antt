@@ -14,11 +14,13 @@ use Rattle.kf_plain.specs.Settled.{ok_unless}
 
 -- what is told of the node at a path
 abbrev pub told_stat : Plain → List ℕ → Result Stat Refusal
-told_stat b path = and_then (walked b.log.tree b.log.root path) (λ key. ok_or (option_map (stat_of b.log.tree) (record_at b.log.tree key)) NoEntry)
+told_stat b path = and_then (walked b.log.tree b.log.root path)
+    (λ key. ok_or (option_map (stat_of b.log.tree) (record_at b.log.tree key)) NoEntry)
 
 -- the directory whose names are listed
 abbrev pub listed_dir : Plain → List ℕ → Result Key Refusal
-listed_dir b path = and_then (seen b.log.tree b.log.root path) (λ dir. ok_unless (list_cause b.log.tree dir) dir)
+listed_dir b path =
+    and_then (seen b.log.tree b.log.root path) (λ dir. ok_unless (list_cause b.log.tree dir) dir)
 
 -- as many names as a list has at most: more than any directory has children
 abbrev pub name_limit : ℕ
@@ -26,4 +28,5 @@ name_limit = 4096
 
 -- the link whose text is read
 abbrev pub read_link_key : Plain → List ℕ → Result Key Refusal
-read_link_key b path = and_then (seen b.log.tree b.log.root path) (λ link. ok_unless (text_cause b.log.tree link) link)
+read_link_key b path =
+    and_then (seen b.log.tree b.log.root path) (λ link. ok_unless (text_cause b.log.tree link) link)

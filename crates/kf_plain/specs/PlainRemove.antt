@@ -17,7 +17,8 @@ use Rattle.kf_plain.specs.Settled.{ok_unless}
 -- the slot has a node of the subtree that has as many holds as there may be, so none is left for its removal
 abbrev pub is_full_below : Tree → (ℕ → ℕ) → ℕ → Key → Option Record → Bool
 is_full_below tree holds limit top None = false
-is_full_below tree holds limit top (Some r) = in_subtree tree top r.key && not (nat_lt (holds r.key.slot) limit)
+is_full_below tree holds limit top (Some r) =
+    in_subtree tree top r.key && not (nat_lt (holds r.key.slot) limit)
 
 -- why a removal is refused: the node is the root, or one of the subtree has no room
 abbrev pub remove_cause : TreeLog → (ℕ → ℕ) → ℕ → Key → Option Refusal
@@ -27,11 +28,13 @@ remove_cause log holds limit key = first_cause (
     ∷ [])
 
 abbrev pub removed_key : TreeLog → (ℕ → ℕ) → ℕ → List ℕ → Result Key Refusal
-removed_key log holds limit path = and_then (walked log.tree log.root path) (λ key. ok_unless (remove_cause log holds limit key) key)
+removed_key log holds limit path =
+    and_then (walked log.tree log.root path) (λ key. ok_unless (remove_cause log holds limit key) key)
 
 -- the node whose subtree a removal takes its holds of
 abbrev pub remove_held : TreeLog → List ℕ → Result Key Refusal
-remove_held log path = and_then (walked log.tree log.root path) (λ key. ok_unless (doom_cause log.tree log.root key) key)
+remove_held log path =
+    and_then (walked log.tree log.root path) (λ key. ok_unless (doom_cause log.tree log.root key) key)
 
 -- the subtree is doomed, and then its nodes leave the tree in this order
 abbrev pub without : Plain → Key → List Key → Plain

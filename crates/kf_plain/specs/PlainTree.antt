@@ -28,7 +28,8 @@ new_spot log path node next = and_then (walked_parent log.tree log.root path) (�
 abbrev pub new_link_spot : TreeLog → List ℕ → List ℕ → Option Key → Result (Key × Spot) Refusal
 new_link_spot log path target next = and_then (walked_parent log.tree log.root path) (λ at.
     and_then (walked log.tree log.root target) (λ to.
-    ok_unless (create_cause log.tree log.root at.0 at.1 (Link to) next) (to, record { dir = at.0; name = at.1 })))
+    ok_unless (create_cause log.tree log.root at.0 at.1 (Link to) next)
+    (to, record { dir = at.0; name = at.1 })))
 
 -- the tag of a file is the number of its slot: by it its callbacks find its text
 abbrev pub file_node : ℕ → Option Key → Node
@@ -37,16 +38,22 @@ file_node mode (Some key) = File mode key.slot
 
 -- the nodes with one more, under this key
 abbrev pub with_born : Nodes → Key → Spot → Node → Bool → Nodes
-with_born n key spot node is_live = record n { log = logged n.log (Create key spot.dir spot.name node is_live ∷ []); last = slice_set n.last key.slot key.generation }
+with_born n key spot node is_live = record n {
+  log = logged n.log
+      (Create key spot.dir spot.name node is_live ∷ []);
+  last = slice_set n.last key.slot key.generation;
+}
 
 -- a node under this key; the slot's last generation is now that of the key
 abbrev pub with_node : Plain → Key → Spot → Node → Bool → Plain
-with_node b key spot node is_live = record (with_commands b (Create key spot.dir spot.name node is_live ∷ [])) { last = slice_set b.last key.slot key.generation }
+with_node b key spot node is_live = record (with_commands b
+    (Create key spot.dir spot.name node is_live ∷ [])) { last = slice_set b.last key.slot key.generation }
 
 -- ---- activating and moving
 
 abbrev pub activated_key : TreeLog → List ℕ → Result Key Refusal
-activated_key log path = and_then (walked log.tree log.root path) (λ key. ok_unless (linked_cause log.tree key) key)
+activated_key log path =
+    and_then (walked log.tree log.root path) (λ key. ok_unless (linked_cause log.tree key) key)
 
 -- the node that moves, and the directory that it moves into
 abbrev pub moved_key : TreeLog → List ℕ → List ℕ → List ℕ → Result (Key × Key) Refusal
@@ -55,8 +62,10 @@ moved_key log path dir name = and_then (walked log.tree log.root path) (λ key.
     ok_unless (rename_cause log.tree log.root key into name) (key, into)))
 
 abbrev pub moved_nodes : Nodes → Key → Key → List ℕ → Nodes
-moved_nodes n key into name = if is_there_already n.log.tree key into name then n else record n { log = logged n.log (Rename key into name ∷ []) }
+moved_nodes n key into name = if is_there_already n.log.tree key into name then n else record n
+    { log = logged n.log (Rename key into name ∷ []) }
 
 -- one that is there already stays, and nothing is stored
 abbrev pub with_move : Plain → Key → Key → List ℕ → Plain
-with_move b key into name = if is_there_already b.log.tree key into name then b else with_commands b (Rename key into name ∷ [])
+with_move b key into name =
+    if is_there_already b.log.tree key into name then b else with_commands b (Rename key into name ∷ [])

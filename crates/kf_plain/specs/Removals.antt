@@ -28,7 +28,8 @@ with_callers w callers = bounded (record { slots = w.world.slots; callers = call
 -- holds of these nodes are refused: one's slot has as many as there may be; or there was no memory
 abbrev pub PinsRefused : BoundedWorld → List Key → Refusal → Type 0
 PinsRefused w keys refusal =
-    ((refusal ≡ TooManyHolds) × ((key : Key) × Contains keys key × (w.limit ≤ hold_count w.world.callers key.slot)))
+    ((refusal ≡ TooManyHolds)
+    × ((key : Key) × Contains keys key × (w.limit ≤ hold_count w.world.callers key.slot)))
     ⊎ (refusal ≡ NoMemory)
 
 -- the marks of a linked node that is doomed, and of one that isn't
@@ -40,7 +41,8 @@ IsMarkedUndoomed found = (m : Marks) × (found ≡ Some m) × (m.doomed ≡ fals
 
 -- each node stands after its children
 abbrev pub AreChildrenFirst : Tree → List Key → Type 0
-AreChildrenFirst t keys = (i : ℕ) (d : Key) (r : Record) → i < length keys → IsIn t r → r.parent ≡ Some (slice_index_or keys i d) → IsTrue (contains_key (take i keys) r.key)
+AreChildrenFirst t keys = (i : ℕ) (d : Key) (r : Record) → i < length keys → IsIn t r
+    → r.parent ≡ Some (slice_index_or keys i d) → IsTrue (contains_key (take i keys) r.key)
 
 -- these nodes are not linked any more, and all others have the marks that they had
 abbrev pub Cleared : List Key → BareWorld → BareWorld → Type 0
@@ -48,4 +50,5 @@ Cleared keys old new = (key : Key) → marks new key ≡ if contains_key keys ke
 
 -- the node is not linked any more, and the caller has released it
 abbrev pub taken_out : BoundedWorld → ℕ → Key → BoundedWorld
-taken_out w id key = with_callers (bounded (with_marks w.world key None) w.limit) (slice_set w.world.callers id (spent_on key))
+taken_out w id key =
+    with_callers (bounded (with_marks w.world key None) w.limit) (slice_set w.world.callers id (spent_on key))

@@ -19,7 +19,8 @@ Settled (Err refusal) does before reply now = (reply ≡ refusal_text refusal) �
 abbrev pub Leads : {X : Type 0} → Result X Refusal → Type 0
 Leads {X} leads = (x : X) × (leads ≡ Ok x)
 
--- why a call was refused: what it leads to is refused with this; or memory was wanting, and nothing refuses it as far as `held`
+-- why a call was refused: what it leads to is refused with this; or memory was wanting, and nothing refuses
+-- it as far as `held`
 abbrev pub IsWhyFrom : {X Y : Type 0} → Result Y Refusal → Result X Refusal → Refusal → Type 0
 IsWhyFrom held leads refusal = (leads ≡ Err refusal) ⊎ ((refusal ≡ NoMemory) × Leads held)
 
@@ -28,7 +29,8 @@ abbrev pub IsWhy : {X : Type 0} → Result X Refusal → Refusal → Type 0
 IsWhy leads refusal = IsWhyFrom leads leads refusal
 
 -- a call of the board was refused, and nothing changed
-abbrev pub IsRefusedFrom : {X Y : Type 0} → Result Y Refusal → Result X Refusal → Plain → Refusal → Plain → Type 0
+abbrev pub IsRefusedFrom : {X Y : Type 0} → Result Y Refusal → Result X Refusal → Plain → Refusal → Plain
+    → Type 0
 IsRefusedFrom held leads before refusal now = IsWhyFrom held leads refusal × (now ≡ before)
 
 abbrev pub IsRefused : {X : Type 0} → Result X Refusal → Plain → Refusal → Plain → Type 0

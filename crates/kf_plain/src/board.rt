@@ -76,7 +76,8 @@ impl PlainBoard {
         PlainBoard::new_at(alloc, limits, 0)
     }
 
-    /// A board with the root alone, whose slots have had `start` generations. `NoMemory` where it could not be had.
+    /// A board with the root alone, whose slots have had `start` generations. `NoMemory` where it could not
+    /// be had.
     ///
     /// Condition: `start` is at most 2^32 - 2.
     pub fn new_at(alloc: Global, limits: Limits, start: u32) -> Result<PlainBoard, Refusal>

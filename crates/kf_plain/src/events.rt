@@ -8,7 +8,8 @@ use kf_files::EventNumbers;
 use std::alloc::Global;
 use std::marker::Model;
 
-/// By slot, its event number (`kernfs_open_node.event`). It belongs to the slot, not to a node, and never goes back.
+/// By slot, its event number (`kernfs_open_node.event`). It belongs to the slot, not to a node, and never
+/// goes back.
 #[derive(Drop)]
 pub struct EventTable {
     numbers: Vec<u64>,
@@ -38,12 +39,14 @@ impl EventTable {
         self.numbers.get(slot as usize).copied().unwrap_or(0)
     }
 
-    /// Raises the slot's number by one (`kernfs_notify`). `NoSpace` where it is 2^64 - 1, and then nothing changes.
+    /// Raises the slot's number by one (`kernfs_notify`). `NoSpace` where it is 2^64 - 1, and then nothing
+    /// changes.
     ///
     /// Condition: there is such a slot.
     pub fn raise(&mut self, slot: u32) -> Result<(), Refusal>
         requires slot { slot < length self.old }
-        ensures raised { IfOk result (λ _. self.new ≡ slice_set self.old slot (slice_index self.old slot + 1)) }
+        ensures raised { IfOk result
+            (λ _. self.new ≡ slice_set self.old slot (slice_index self.old slot + 1)) }
         ensures room { IfOk result (λ _. slice_index self.old slot < 2 ^ 64 - 1) }
         ensures refused { IfErr result (λ refusal. (refusal ≡ NoSpace)
             × (slice_index self.old slot ≡ 2 ^ 64 - 1) × (self.new ≡ self.old)) }

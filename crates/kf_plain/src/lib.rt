@@ -9,4 +9,6 @@ mod text_table;
 pub use board::PlainBoard;
 
 #[cfg(test)]
+mod file_scripts;
+#[cfg(test)]
 mod scripts;

@@ -1,6 +1,6 @@
 //! The tree beside the callers of its nodes: each change of the one is made in the other too.
 
-ghost use Rattle.std.specs.Prelude.{◌≡◌, ◌≤◌, ◌<◌, ◌-◌, ◌+◌, ◌^◌, List, [], ◌∷◌, ◌++◌, length, replicate, slice_get, slice_set, IfOk, IfErr, IfSome, IfNone, None, Some};
+ghost use Rattle.std.specs.Prelude.{◌≡◌, ◌≤◌, ◌<◌, ◌-◌, ◌+◌, ◌^◌, [], ◌∷◌, ◌++◌, length, slice_set, IfOk, IfErr};
 ghost use Rattle.kf_core.specs.declared.key.Key.{Key};
 ghost use Rattle.kf_core.specs.declared.caller.Phase.TheVariants.{Still, Spent};
 ghost use Rattle.kf_core.specs.declared.refusal.Refusal.TheVariants.{NoMemory, NoEntry, TooManyHolds};
@@ -9,6 +9,7 @@ ghost use Rattle.kf_core.specs.Tree.{is_linked};
 ghost use Rattle.kf_plain.specs.Nodes.{IsNext, PinRefused, Waits, hold_count, new_nodes};
 
 use kf_core::{Key, Limits, Refusal, World};
+use kf_files::Page;
 use kf_tree::State;
 use std::alloc::Global;
 use std::marker::Model;
@@ -29,6 +30,8 @@ pub use visits::BoardFile;
 pub struct Nodes {
     state: State,
     world: World,
+    // The pages of files that were closed, for the next ones.
+    pages: Vec<Box<Page>>,
 }
 
 impl Model for Nodes {
@@ -55,7 +58,11 @@ impl Nodes {
         };
         let state = State::new(alloc, limits, root)?;
         let world = World::new_at(alloc, limits, start)?;
-        Ok(Nodes { state, world })
+        Ok(Nodes {
+            state,
+            world,
+            pages: Vec::new(alloc),
+        })
     }
 
     /// The tree with its stored commands.
@@ -77,7 +84,11 @@ impl Nodes {
     pub fn pin(&mut self, key: Key) -> Result<usize, Refusal>
         requires linked { is_linked self.old.log.tree key ≡ true }
         ensures number { IfOk result (λ id. id ≡ length self.old.callers) }
-        ensures held { IfOk result (λ _. self.new ≡ record self.old { callers = self.old.callers ++ record { key = key; phase = Still } ∷ [] }) }
+        ensures held { IfOk result
+            (λ _. self.new ≡ record self.old {
+              callers = self.old.callers
+                  ++ record { key = key; phase = Still } ∷ [];
+            }) }
         ensures room { IfOk result (λ _. hold_count self.old.callers key.slot < self.old.limit) }
         ensures refused { IfErr result (λ refusal. PinRefused self.old key refusal × (self.new ≡ self.old)) }
     {
@@ -87,7 +98,11 @@ impl Nodes {
     /// Gives the hold of a waiting caller back.
     pub fn release(&mut self, id: usize, key: Key)
         requires waits { Waits self.old.callers id key }
-        ensures spent { self.new ≡ record self.old { callers = slice_set self.old.callers id (record { key = key; phase = Spent }) } }
+        ensures spent { self.new
+            ≡ record self.old {
+              callers = slice_set self.old.callers id
+                  (record { key = key; phase = Spent });
+            } }
     {
         let _ = key; // the contract alone names it
         self.world.release(id);

@@ -19,264 +19,274 @@ fn answers(alloc: Global, slots: u32, start: u32, script: &[u8]) -> Option<Vec<u
     Some(out)
 }
 
+/// A script and its replies, from lines `LINE -> REPLY`.
+fn script_and_replies(alloc: Global, lines: &[&str]) -> Option<(Vec<u8>, Vec<u8>)> {
+    let mut script = Vec::new(alloc);
+    let mut replies = Vec::new(alloc);
+    for line in lines {
+        let (asked, answered) = line.split_once(" -> ")?;
+        script.extend_from_slice(asked.as_bytes()).ok()?;
+        script.push(b'\n').ok()?;
+        replies.extend_from_slice(answered.as_bytes()).ok()?;
+        replies.push(b'\n').ok()?;
+    }
+    Some((script, replies))
+}
+
+/// Whether each line is answered so, on a new board.
+pub fn is_answered(alloc: Global, slots: u32, start: u32, lines: &[&str]) -> bool
+    requires { start < 4294967295 }
+{
+    let Some((script, replies)) = script_and_replies(alloc, lines) else {
+        return false;
+    };
+    answers(alloc, slots, start, script.as_slice()).is_some_and(|text| text.as_slice()
+        == replies.as_slice())
+}
+
 #[test]
 fn directories_files_and_their_listing(rt: HostRuntime) {
-    let text = answers(
-        rt.alloc(),
-        1024,
-        0,
-        b"mkdir /a\nmkdir /a/b\nfile /a/x 644 5\nls /a\nstat /a\n",
+    assert!(rt;
+        is_answered(
+            rt.alloc(),
+            1024,
+            0,
+            &[
+                "mkdir /a -> ok 1.1",
+                "mkdir /a/b -> ok 2.1",
+                "file /a/x 644 5 -> ok 3.1",
+                "ls /a -> b x",
+                "stat /a -> dir subdirs=1 nlink=3 live",
+            ]
+        )
     );
-    let want = b"ok 1.1\nok 2.1\nok 3.1\nb x\ndir subdirs=1 nlink=3 live\n";
-    assert!(rt; text.is_some_and(|text| text.as_slice() == want.as_slice()));
 }
 
 #[test]
 fn names_are_taken_until_removed(rt: HostRuntime) {
-    let text = answers(
-        rt.alloc(),
-        1024,
-        0,
-        b"mkdir /a\nmkdir /a\nrm /a\nls /\nrm /a\n",
+    assert!(rt;
+        is_answered(
+            rt.alloc(),
+            1024,
+            0,
+            &[
+                "mkdir /a -> ok 1.1",
+                "mkdir /a -> err Exists 17",
+                "rm /a -> ok",
+                "ls / -> ",
+                "rm /a -> err NoEntry 2",
+            ]
+        )
     );
-    let want = b"ok 1.1\nerr Exists 17\nok\n\nerr NoEntry 2\n";
-    assert!(rt; text.is_some_and(|text| text.as_slice() == want.as_slice()));
 }
 
 #[test]
 fn what_is_not_activated_is_not_listed(rt: HostRuntime) {
-    let text = answers(
-        rt.alloc(),
-        1024,
-        0,
-        b"mkdir /a off\nls /\nmkdir /a\nactivate /a\nls /\n",
+    assert!(rt;
+        is_answered(
+            rt.alloc(),
+            1024,
+            0,
+            &[
+                "mkdir /a off -> ok 1.1",
+                "ls / -> ",
+                "mkdir /a -> err Exists 17",
+                "activate /a -> ok",
+                "ls / -> a",
+            ]
+        )
     );
-    let want = b"ok 1.1\n\nerr Exists 17\nok\na\n";
-    assert!(rt; text.is_some_and(|text| text.as_slice() == want.as_slice()));
-}
-
-#[test]
-fn a_show_is_the_text_of_its_time(rt: HostRuntime) {
-    let text = answers(
-        rt.alloc(),
-        1024,
-        0,
-        b"file /t 644 abcd\nopen f /t r\nopen g /t w\nread f 0 4\nwrite g wxyz\nread f 2 4\nread f 0 4\n",
-    );
-    let want = b"ok 1.1\nok\nok\nabcd\n4\ncd\nwxyz\n";
-    assert!(rt; text.is_some_and(|text| text.as_slice() == want.as_slice()));
-}
-
-#[test]
-fn a_removed_file_serves_what_it_has(rt: HostRuntime) {
-    let text = answers(
-        rt.alloc(),
-        1024,
-        0,
-        b"file /t 644 abcd\nopen f /t rw\nwrite f\nread f 0 4\nrm /t\nread f 1 4\nread f 0 4\nwrite f\nread f 2 4\n",
-    );
-    let want = b"ok 1.1\nok\n0\nabcd\nok\nbcd\nerr NoDevice 19\nerr NoDevice 19\ncd\n";
-    assert!(rt; text.is_some_and(|text| text.as_slice() == want.as_slice()));
-}
-
-#[test]
-fn poll_tells_of_notify_and_removal(rt: HostRuntime) {
-    let text = answers(
-        rt.alloc(),
-        1024,
-        0,
-        b"file /t 644 v\nopen f /t r\npoll f\nread f 0 9\npoll f\nnotify /t\npoll f\nrm /t\npoll f\n",
-    );
-    let want = b"ok 1.1\nok\nchanged\nv\nsame\nok\nchanged\nok\nchanged\n";
-    assert!(rt; text.is_some_and(|text| text.as_slice() == want.as_slice()));
 }
 
 #[test]
 fn moves_keep_the_counts_of_directories(rt: HostRuntime) {
-    let text = answers(
-        rt.alloc(),
-        1024,
-        0,
-        b"mkdir /a\nmkdir /b\nmkdir /a/c\nmv /a / a\ncommands\nmv /a / b\nmv /a /a/c z\nmv / /a r\nmv /a/c /b d\nstat /a\nstat /b\ncommands\n",
+    assert!(rt;
+        is_answered(
+            rt.alloc(),
+            1024,
+            0,
+            &[
+                "mkdir /a -> ok 1.1",
+                "mkdir /b -> ok 2.1",
+                "mkdir /a/c -> ok 3.1",
+                "mv /a / a -> ok",
+                "commands -> 3",
+                "mv /a / b -> err Exists 17",
+                "mv /a /a/c z -> err Invalid 22",
+                "mv / /a r -> err Invalid 22",
+                "mv /a/c /b d -> ok",
+                "stat /a -> dir subdirs=0 nlink=2 live",
+                "stat /b -> dir subdirs=1 nlink=3 live",
+                "commands -> 4",
+            ]
+        )
     );
-    let want =
-        b"ok 1.1\nok 2.1\nok 3.1\nok\n3\nerr Exists 17\nerr Invalid 22\nerr Invalid 22\nok\ndir subdirs=0 nlink=2 live\ndir subdirs=1 nlink=3 live\n4\n";
-    assert!(rt; text.is_some_and(|text| text.as_slice() == want.as_slice()));
 }
 
 #[test]
 fn link_texts(rt: HostRuntime) {
-    let text = answers(
-        rt.alloc(),
-        1024,
-        0,
-        b"mkdir /devices\nmkdir /devices/d0\nmkdir /bus\nmkdir /bus/devices\nlink /bus/devices/d0 /devices/d0\nreadlink /bus/devices/d0\nlink /devices/e /devices/d0\nreadlink /devices/e\nlink /devices/d0/up /devices\nreadlink /devices/d0/up\nrm /devices/d0\nreadlink /devices/e\nstat /devices/e\nlink /r /\n",
+    assert!(rt;
+        is_answered(
+            rt.alloc(),
+            1024,
+            0,
+            &[
+                "mkdir /devices -> ok 1.1",
+                "mkdir /devices/d0 -> ok 2.1",
+                "mkdir /bus -> ok 3.1",
+                "mkdir /bus/devices -> ok 4.1",
+                "link /bus/devices/d0 /devices/d0 -> ok 5.1",
+                "readlink /bus/devices/d0 -> ../../devices/d0",
+                "link /devices/e /devices/d0 -> ok 6.1",
+                "readlink /devices/e -> d0",
+                "link /devices/d0/up /devices -> ok 7.1",
+                "readlink /devices/d0/up -> ../../devices",
+                "rm /devices/d0 -> ok",
+                "readlink /devices/e -> err NoEntry 2",
+                "stat /devices/e -> link live",
+                "link /r / -> err Invalid 22",
+            ]
+        )
     );
-    let want =
-        b"ok 1.1\nok 2.1\nok 3.1\nok 4.1\nok 5.1\n../../devices/d0\nok 6.1\nd0\nok 7.1\n../../devices\nok\nerr NoEntry 2\nlink live\nerr Invalid 22\n";
-    assert!(rt; text.is_some_and(|text| text.as_slice() == want.as_slice()));
-}
-
-#[test]
-fn an_open_file_keeps_its_slot(rt: HostRuntime) {
-    let text = answers(
-        rt.alloc(),
-        2,
-        0,
-        b"file /a 644 x\nopen f /a r\nrm /a\nfile /b 644 y\nclose f\nfile /b 644 y\n",
-    );
-    let want = b"ok 1.1\nok\nok\nerr NoSpace 28\nok\nok 1.2\n";
-    assert!(rt; text.is_some_and(|text| text.as_slice() == want.as_slice()));
 }
 
 #[test]
 fn a_slot_ends_with_its_last_generation(rt: HostRuntime) {
-    let text = answers(
-        rt.alloc(),
-        2,
-        4294967294,
-        b"file /a 644 x\nrm /a\nfile /a 644 x\n",
+    assert!(rt;
+        is_answered(
+            rt.alloc(),
+            2,
+            4294967294,
+            &[
+                "file /a 644 x -> ok 1.4294967295",
+                "rm /a -> ok",
+                "file /a 644 x -> err NoSpace 28",
+            ]
+        )
     );
-    let want = b"ok 1.4294967295\nok\nerr NoSpace 28\n";
-    assert!(rt; text.is_some_and(|text| text.as_slice() == want.as_slice()));
-}
-
-#[test]
-fn refusals_of_open_read_and_write(rt: HostRuntime) {
-    let text = answers(
-        rt.alloc(),
-        1024,
-        0,
-        b"file /f 200 x\nopen f /f r\nopen f / r\nopen f /f/x r\nopen f /nope r\nread f 0 1\nopen f /f w\nopen f /f w\nread f 0 1\n",
-    );
-    let want =
-        b"ok 1.1\nerr Access 13\nerr IsDir 21\nerr NotDir 20\nerr NoEntry 2\nerr Invalid 22\nok\nerr Busy 16\nerr Access 13\n";
-    assert!(rt; text.is_some_and(|text| text.as_slice() == want.as_slice()));
 }
 
 #[test]
 fn nothing_below_an_inactive_directory_is_found(rt: HostRuntime) {
-    let text = answers(
-        rt.alloc(),
-        1024,
-        0,
-        b"mkdir /p off\nfile /p/x 444 t\nopen f /p/x r\nstat /p\nstat /p/x\nactivate /p\nopen f /p/x r\nread f 3 2\nclose f\n",
+    assert!(rt;
+        is_answered(
+            rt.alloc(),
+            1024,
+            0,
+            &[
+                "mkdir /p off -> ok 1.1",
+                "file /p/x 444 t -> ok 2.1",
+                "open f /p/x r -> err NoEntry 2",
+                "stat /p -> dir subdirs=0 nlink=2 off",
+                "stat /p/x -> file mode=444 live",
+                "activate /p -> ok",
+                "open f /p/x r -> ok",
+                "read f 3 2 -> ",
+                "close f -> ok",
+            ]
+        )
     );
-    let want =
-        b"ok 1.1\nok 2.1\nerr NoEntry 2\ndir subdirs=0 nlink=2 off\nfile mode=444 live\nok\nok\n\nok\n";
-    assert!(rt; text.is_some_and(|text| text.as_slice() == want.as_slice()));
 }
 
 #[test]
 fn names_stand_in_byte_order(rt: HostRuntime) {
-    let text = answers(
-        rt.alloc(),
-        1024,
-        0,
-        b"mkdir /b\nmkdir /a\nmkdir /ab\nfile /B 444\nls /\n",
+    assert!(rt;
+        is_answered(
+            rt.alloc(),
+            1024,
+            0,
+            &[
+                "mkdir /b -> ok 1.1",
+                "mkdir /a -> ok 2.1",
+                "mkdir /ab -> ok 3.1",
+                "file /B 444 -> ok 4.1",
+                "ls / -> B a ab b",
+            ]
+        )
     );
-    let want = b"ok 1.1\nok 2.1\nok 3.1\nok 4.1\nB a ab b\n";
-    assert!(rt; text.is_some_and(|text| text.as_slice() == want.as_slice()));
 }
 
 #[test]
 fn activation_of_a_subtree(rt: HostRuntime) {
-    let text = answers(
-        rt.alloc(),
-        1024,
-        0,
-        b"mkdir /p off\nstat /p\nmv /p / q\nmkdir /p/c off\nactivate /p\nstat /p/c\nreadlink /p\n",
+    assert!(rt;
+        is_answered(
+            rt.alloc(),
+            1024,
+            0,
+            &[
+                "mkdir /p off -> ok 1.1",
+                "stat /p -> dir subdirs=0 nlink=2 off",
+                "mv /p / q -> err NoEntry 2",
+                "mkdir /p/c off -> ok 2.1",
+                "activate /p -> ok",
+                "stat /p/c -> dir subdirs=0 nlink=2 live",
+                "readlink /p -> err Invalid 22",
+            ]
+        )
     );
-    let want =
-        b"ok 1.1\ndir subdirs=0 nlink=2 off\nerr NoEntry 2\nok 2.1\nok\ndir subdirs=0 nlink=2 live\nerr Invalid 22\n";
-    assert!(rt; text.is_some_and(|text| text.as_slice() == want.as_slice()));
 }
 
 #[test]
 fn freed_slots_are_given_again(rt: HostRuntime) {
-    let text = answers(
-        rt.alloc(),
-        4,
-        0,
-        b"mkdir /a\nmkdir /b\nrm /a\nmkdir /c\nmkdir /d\nmkdir /e\n",
+    assert!(rt;
+        is_answered(
+            rt.alloc(),
+            4,
+            0,
+            &[
+                "mkdir /a -> ok 1.1",
+                "mkdir /b -> ok 2.1",
+                "rm /a -> ok",
+                "mkdir /c -> ok 1.2",
+                "mkdir /d -> ok 3.1",
+                "mkdir /e -> err NoSpace 28",
+            ]
+        )
     );
-    let want = b"ok 1.1\nok 2.1\nok\nok 1.2\nok 3.1\nerr NoSpace 28\n";
-    assert!(rt; text.is_some_and(|text| text.as_slice() == want.as_slice()));
 }
 
 #[test]
 fn compact_stores_what_makes_the_tree(rt: HostRuntime) {
-    let text = answers(
-        rt.alloc(),
-        1024,
-        0,
-        b"mkdir /a\nfile /a/x 644 v\nmkdir /b off\nmv /a/x / y\nrm /b\ncommands\ncompact\ncommands\nls /\nmkdir /c\ncommands\n",
+    assert!(rt;
+        is_answered(
+            rt.alloc(),
+            1024,
+            0,
+            &[
+                "mkdir /a -> ok 1.1",
+                "file /a/x 644 v -> ok 2.1",
+                "mkdir /b off -> ok 3.1",
+                "mv /a/x / y -> ok",
+                "rm /b -> ok",
+                "commands -> 6",
+                "compact -> ok",
+                "commands -> 2",
+                "ls / -> a y",
+                "mkdir /c -> ok 3.2",
+                "commands -> 3",
+            ]
+        )
     );
-    let want = b"ok 1.1\nok 2.1\nok 3.1\nok\nok\n6\nok\n2\na y\nok 3.2\n3\n";
-    assert!(rt; text.is_some_and(|text| text.as_slice() == want.as_slice()));
-}
-
-#[test]
-fn a_hidden_file_is_refused_until_it_is_shown(rt: HostRuntime) {
-    let text = answers(
-        rt.alloc(),
-        1024,
-        0,
-        b"file /t 644 v\nopen f /t r\nhide /t\nread f 0 1\nls /\nstat /t\nhide /t\nshow /t\nread f 0 1\nshow /t\nhide /\n",
-    );
-    let want =
-        b"ok 1.1\nok\nok\nerr NoDevice 19\n\nfile mode=644 hidden\nerr Busy 16\nok\nv\nerr Invalid 22\nerr IsDir 21\n";
-    assert!(rt; text.is_some_and(|text| text.as_slice() == want.as_slice()));
-}
-
-#[test]
-fn a_token_keeps_its_slot(rt: HostRuntime) {
-    let text = answers(
-        rt.alloc(),
-        1024,
-        0,
-        b"file /t 644 v\nhide /t\nrm /t\nfile /t 644 w\nshow /t\n",
-    );
-    let want = b"ok 1.1\nok\nok\nok 2.1\nerr Invalid 22\n";
-    assert!(rt; text.is_some_and(|text| text.as_slice() == want.as_slice()));
-}
-
-#[test]
-fn compact_stores_what_is_hidden(rt: HostRuntime) {
-    let text = answers(
-        rt.alloc(),
-        1024,
-        0,
-        b"file /t 644 v\nhide /t\ncompact\ncommands\ncompact\ncommands\nshow /t\ncommands\n",
-    );
-    let want = b"ok 1.1\nok\nok\n2\nok\n2\nok\n3\n";
-    assert!(rt; text.is_some_and(|text| text.as_slice() == want.as_slice()));
-}
-
-#[test]
-fn files_alone_are_hidden(rt: HostRuntime) {
-    let text = answers(
-        rt.alloc(),
-        2,
-        0,
-        b"hide /t\nfile /t 644 v\nhide /t\nshow /t\nrm /t\nfile /u 644 w\nhide /u\nrm /u\nfile /v 644\nhide\nshow /t /u\n",
-    );
-    let want =
-        b"err NoEntry 2\nok 1.1\nok\nok\nok\nok 1.2\nok\nok\nerr NoSpace 28\nerr Line 22\nerr Line 22\n";
-    assert!(rt; text.is_some_and(|text| text.as_slice() == want.as_slice()));
 }
 
 #[test]
 fn one_caller_has_no_devices_and_no_workers(rt: HostRuntime) {
-    let text = answers(
-        rt.alloc(),
-        1024,
-        0,
-        b"plug d0 on\nunplug d0\n@1 ls /\nwait\nplug . x\nunplug /\ncommands\n",
+    assert!(rt;
+        is_answered(
+            rt.alloc(),
+            1024,
+            0,
+            &[
+                "plug d0 on -> err NoDevice 19",
+                "unplug d0 -> err NoDevice 19",
+                "@1 ls / -> err Line 22",
+                "wait -> ok",
+                "plug . x -> err NoDevice 19",
+                "unplug / -> err NoDevice 19",
+                "commands -> 0",
+            ]
+        )
     );
-    let want =
-        b"err NoDevice 19\nerr NoDevice 19\nerr Line 22\nok\nerr NoDevice 19\nerr NoDevice 19\n0\n";
-    assert!(rt; text.is_some_and(|text| text.as_slice() == want.as_slice()));
 }
 
 /// Bytes, then so many of one byte, then more bytes.

@@ -20,7 +20,8 @@ pub fn tell_error(reply: &mut Reply, error: FileError)
 pub fn tell_bytes(reply: &mut Reply, told: Result<usize, FileError>, out: &[u8])
     requires fits { IfOk told (λ count. count ≤ length out.now) }
     requires page { length out.now ≤ 4096 }
-    ensures told { MatchResult told (λ count. reply.new ≡ take count out.now) (λ error. reply.new ≡ error_text error) }
+    ensures told { MatchResult told (λ count. reply.new ≡ take count out.now)
+        (λ error. reply.new ≡ error_text error) }
 {
     match told {
         Ok(count) => reply.set_bytes(&out[..count]),

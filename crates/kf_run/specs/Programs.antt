@@ -17,9 +17,11 @@ pub record Ran (slots : ℕ) (input left old new : Option (List ℕ)) : Type 0 w
   pub ended : IsAtEnd left
   pub answered : Answered PlainStep (new_board slots 65535 0) last (lines_of read) old new
 
--- The run on a new board of so many slots stopped for this reason: a read failed, and the lines that had ended were answered;
--- a write failed, and what was written is a prefix of the replies; or there was no memory, and nothing was read or written.
-abbrev pub StoppedFor : RunFault → ℕ → Option (List ℕ) → Option (List ℕ) → Option (List ℕ) → Option (List ℕ) → Type 0
+-- The run on a new board of so many slots stopped for this reason: a read failed, and the lines that had
+-- ended were answered; a write failed, and what was written is a prefix of the replies; or there was no
+-- memory, and nothing was read or written.
+abbrev pub StoppedFor : RunFault → ℕ → Option (List ℕ) → Option (List ℕ) → Option (List ℕ) → Option (List ℕ)
+    → Type 0
 StoppedFor Read slots input left old new = (last : Plain) × (read : List ℕ) × Consumes input left read
     × Answered PlainStep (new_board slots 65535 0) last (ended_lines_of read) old new
 StoppedFor Write slots input left old new = (last : Plain) × (read : List ℕ) × Consumes input left read
@@ -42,6 +44,7 @@ pub record RanBy (workers slots : ℕ) (input left old new : Option (List ℕ)) 
   pub by_many : 0 < workers → RanWhole workers input left old new
 
 -- its run stopped for this reason
-pub record StoppedBy (reason : RunFault) (workers slots : ℕ) (input left old new : Option (List ℕ)) : Type 0 where
+pub record StoppedBy (reason : RunFault) (workers slots : ℕ)
+    (input left old new : Option (List ℕ)) : Type 0 where
   pub alone : workers ≡ 0 → StoppedFor reason slots input left old new
   pub by_many : 0 < workers → StoppedWhole reason workers input left old new

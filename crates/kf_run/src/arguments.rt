@@ -1,6 +1,6 @@
 //! What the words of the command line ask for.
 
-ghost use Rattle.std.specs.Prelude.{◌≡◌, ◌≤◌, ◌↔◌, IfOk, IfSome, IsSome};
+ghost use Rattle.std.specs.Prelude.{◌≡◌, ◌≤◌, ◌↔◌, IfSome, IsSome};
 
 use clap::error::ErrorKind;
 use clap::{Arg, Command, Error, value_parser};
@@ -23,8 +23,8 @@ const HOLDS: u32 = 65_535;
 /// The most workers.
 const WORKERS: u32 = 16;
 
-/// What is to be run: on a tree of which limits, by how many workers beside the owner, and which file's script. Without a
-/// file, or with `-`, the script is standard input.
+/// What is to be run: on a tree of which limits, by how many workers beside the owner, and which file's
+/// script. Without a file, or with `-`, the script is standard input.
 #[derive(Drop)]
 pub struct Asked<'a> {
     pub limits: Limits,

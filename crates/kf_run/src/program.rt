@@ -25,8 +25,10 @@ pub(crate) fn answer_error<W: Write, F: Write>(
     fault: &mut F,
 ) -> u8
     ensures status { result ≤ 2 }
-    ensures fault { result ≡ 1 → (reason : RunFault) × Named reason (F.contents fault.old) (F.contents fault.new)
-        × (((reason ≡ RunFault.Memory) × Keeps (W.contents out.old) (W.contents out.new)) ⊎ (reason ≡ RunFault.Write)) }
+    ensures fault { result ≡ 1 → (reason : RunFault)
+        × Named reason (F.contents fault.old) (F.contents fault.new)
+        × (((reason ≡ RunFault.Memory) × Keeps (W.contents out.old) (W.contents out.new))
+        ⊎ (reason ≡ RunFault.Write)) }
     ensures refused { result ≡ 2 → Keeps (W.contents out.old) (W.contents out.new) }
     ensures quiet { result ≡ 0 → Keeps (F.contents fault.old) (F.contents fault.new) }
 {
@@ -109,8 +111,8 @@ fn run_by<H: Threads + Wait + Sync, R: Read, W: Write>(
     }
 }
 
-/// Runs the script of the reader as it was asked for, and answers the program's status: 0, or 1 after a fault, named on
-/// `fault`.
+/// Runs the script of the reader as it was asked for, and answers the program's status: 0, or 1 after a
+/// fault, named on `fault`.
 pub fn run_asked<H: Threads + Wait + Sync, R: Read, W: Write, F: Write>(
     rt: &H,
     alloc: Global,
@@ -122,8 +124,10 @@ pub fn run_asked<H: Threads + Wait + Sync, R: Read, W: Write, F: Write>(
     ensures status { result ≤ 1 }
     ensures ran { result ≡ 0 → RanBy asked.now.workers asked.now.limits.slots
         (R.remaining reader.old) (R.remaining reader.new) (W.contents out.old) (W.contents out.new) }
-    ensures fault { result ≡ 1 → (reason : RunFault) × Named reason (F.contents fault.old) (F.contents fault.new)
-        × StoppedBy reason asked.now.workers asked.now.limits.slots (R.remaining reader.old) (R.remaining reader.new)
+    ensures fault { result ≡ 1 → (reason : RunFault)
+        × Named reason (F.contents fault.old) (F.contents fault.new)
+        × StoppedBy reason asked.now.workers asked.now.limits.slots (R.remaining reader.old)
+        (R.remaining reader.new)
         (W.contents out.old) (W.contents out.new) }
     ensures quiet { result ≡ 0 → Keeps (F.contents fault.old) (F.contents fault.new) }
 {
@@ -153,8 +157,10 @@ pub fn run_program<H: Threads + Wait + Sync, S: AsStr, R: Read, W: Write, F: Wri
         ((workers slots : ℕ) × RanBy workers slots (R.remaining reader.old) (R.remaining reader.new)
         (W.contents out.old) (W.contents out.new))
         ⊎ Keeps (R.remaining reader.old) (R.remaining reader.new) }
-    ensures fault { result ≡ 1 → (reason : RunFault) × Named reason (F.contents fault.old) (F.contents fault.new)
-        × (((workers slots : ℕ) × StoppedBy reason workers slots (R.remaining reader.old) (R.remaining reader.new)
+    ensures fault { result ≡ 1 → (reason : RunFault)
+        × Named reason (F.contents fault.old) (F.contents fault.new)
+        × (((workers slots : ℕ)
+        × StoppedBy reason workers slots (R.remaining reader.old) (R.remaining reader.new)
         (W.contents out.old) (W.contents out.new))
         ⊎ ((reason ≡ RunFault.Memory) × Keeps (R.remaining reader.old) (R.remaining reader.new)
         × Keeps (W.contents out.old) (W.contents out.new))

@@ -1,3 +1,3 @@
-pub mod Spaces
 pub mod Digits
 pub mod Running
+pub mod Places

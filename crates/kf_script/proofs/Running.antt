@@ -1,15 +1,14 @@
 -- Lemmas on lines, replies and how far a run has come.
-use Rattle.std.proofs.Common.{◌≡◌, ℕ, ◌+◌, ◌<◌, Bool, false, List, [], ◌∷◌, ◌++◌, length, map, filter, Option, Some, None, Result, Ok, Err, MatchResult, OnOk, IsErrOf, arith, refl, sym, ap, subst, ◌∙◌, append_assoc, append-nil, drop, take, take-append-drop, get_or, add-one, rules, inl, inr}
+use Rattle.std.proofs.Common.{◌≡◌, ℕ, ◌+◌, ◌≤◌, Bool, All, false, List, [], ◌∷◌, ◌++◌, length, map, filter, Option, Some, None, Result, Ok, Err, MatchResult, OnOk, IsErrOf, arith, refl, sym, ap, subst, ◌∙◌, append_assoc, append-nil, rules, inl, inr}
 use Rattle.std.specs.List.{slice_split}
 use Rattle.std.specs.Option.{option_and_then}
 use Rattle.std.specs.Prelude.{nat_le, ◌==◌}
 use Rattle.std.specs.Io.KnownBytes.{Appends, Consumes, IsAtEnd}
 use Rattle.std.proofs.KnownBytes.{Appends-trans, Appends-nil}
-use Rattle.std.proofs.Math.Seq.{drop-cons}
 use Rattle.std.proofs.lemmas.List.Splits.{slice_split_at, slice_split_none}
 use Rattle.std.proofs.lemmas.List.Concat.{flat_map-append}
-use Rattle.std.proofs.lemmas.List.Elements.{All-push}
-use Rattle.std.proofs.lemmas.Bool.Decides.{leb_tells, eqb_tells}
+use Rattle.std.proofs.lemmas.List.Elements.{All-append}
+use Rattle.std.proofs.lemmas.Bool.Decides.{leb_tells}
 use Rattle.std.proofs.Common.{length-append}
 use Rattle.kf_script.specs.Lines.{is_newline, has_bytes, lines_of, front, ended_lines_of, kept_line}
 use Rattle.kf_script.specs.Requests.{request_of}
@@ -150,22 +149,23 @@ answered-empty step board line old result x e r =
 
 -- ---- one byte
 
--- what the line buffer keeps after one more byte
-pub kept-push : (line : List ℕ) (byte : ℕ) → option_and_then (λ l. kept_line (l ++ byte ∷ [])) (kept_line line) ≡ kept_line (line ++ byte ∷ [])
-kept-push line byte =
-    let more : length (line ++ byte ∷ []) ≡ length line + 1 = simp length-append in
+-- what the line buffer keeps after more bytes
+pub kept-extend : (line bytes : List ℕ) → option_and_then (λ l. kept_line (l ++ bytes)) (kept_line line) ≡ kept_line (line ++ bytes)
+kept-extend line bytes =
+    let more : length (line ++ bytes) ≡ length line + length bytes = simp length-append in
     elim (leb_tells (length line) 8192) [
       | inl (is, fits) ↦ rw is refl
-      | inr (is, long) ↦ elim (leb_tells (length (line ++ byte ∷ [])) 8192) [
+      | inr (is, long) ↦ elim (leb_tells (length (line ++ bytes)) 8192) [
         | inl (is_more, fits) ↦ absurd (omega arith)
         | inr (is_more, longer) ↦ rw (is, is_more) refl
       ]
     ]
 
-pub no_newline : (byte : ℕ) → (byte ≡ 10 → ⊥) → is_newline byte ≡ false
-no_newline byte h = elim (eqb_tells byte 10) [
-  | inl (is, same) ↦ absurd (h same)
-  | inr (is, other) ↦ is
+-- a line that stands whole in what was read, where the buffer is empty
+pub kept-whole : (bytes : List ℕ) (line : Option (List ℕ)) → line ≡ Some [] → length bytes ≤ 8192 → option_and_then (λ l. kept_line (l ++ bytes)) line ≡ Some bytes
+kept-whole bytes line e fits = elim (leb_tells (length bytes) 8192) [
+  | inl (is, small) ↦ rw e (rw is refl)
+  | inr (is, long) ↦ absurd (omega arith)
 ]
 
 -- nothing was read
@@ -179,15 +179,15 @@ running-start old e = record {
   answered = answered-none old;
 }
 
--- a byte that is no newline belongs to the line
-pub running-byte : {Board : Type 0} {step : Step Board} {first now : Board} {read : List ℕ} {line old new : Option (List ℕ)} (byte : ℕ) → is_newline byte ≡ false
-    → Running step first now read line old new → Running step first now (read ++ byte ∷ []) (option_and_then (λ l. kept_line (l ++ byte ∷ [])) line) old new
-running-byte {read = read} byte plain s = record {
+-- bytes without a newline belong to the line
+pub running-bytes : {Board : Type 0} {step : Step Board} {first now : Board} {read : List ℕ} {line old new : Option (List ℕ)} (bytes : List ℕ) → All (λ byte. is_newline byte ≡ false) bytes
+    → Running step first now read line old new → Running step first now (read ++ bytes) (option_and_then (λ l. kept_line (l ++ bytes)) line) old new
+running-bytes {read = read} bytes plain s = record {
   ended = s.ended;
-  pending = s.pending ++ byte ∷ [];
-  cut = λ more. ap (slice_split is_newline) (append_assoc read (byte ∷ []) more) ∙ s.cut (byte ∷ more) ∙ ap (λ l. s.ended ++ slice_split is_newline l) (sym (append_assoc s.pending (byte ∷ []) more));
-  unended = All-push (λ b. is_newline b ≡ false) s.pending byte s.unended plain;
-  buffered = ap (option_and_then (λ l. kept_line (l ++ byte ∷ []))) s.buffered ∙ kept-push s.pending byte;
+  pending = s.pending ++ bytes;
+  cut = λ more. ap (slice_split is_newline) (append_assoc read bytes more) ∙ s.cut (bytes ++ more) ∙ ap (λ l. s.ended ++ slice_split is_newline l) (sym (append_assoc s.pending bytes more));
+  unended = All-append (λ b. is_newline b ≡ false) s.pending bytes s.unended plain;
+  buffered = ap (option_and_then (λ l. kept_line (l ++ bytes))) s.buffered ∙ kept-extend s.pending bytes;
   answered = s.answered;
 }
 
@@ -217,6 +217,15 @@ running-newline {step = step} {first = first} next {read = read} {old = old} las
     ap (filter has_bytes) (ended-cut s more) ∙ filter-append (s.ended ++ s.pending ∷ []) (slice_split is_newline more) ∙ ap (λ l. l ++ lines_of more) (filter-append s.ended (s.pending ∷ [])) in
     subst (λ l. CutShort step first next l old after) (sym whole) (cut-more (lines_of more) (answered-cut s.answered a))
 
+-- bytes and a newline came, and the line that they end was answered or stopped by a fault
+pub running-line : {Board T E : Type 0} {step : Step Board} {first now : Board} (next : Board) {read : List ℕ} {line old new : Option (List ℕ)} (bytes : List ℕ) (last after : Option (List ℕ)) (result : Result T E)
+    → Running step first now read line old new → All (λ byte. is_newline byte ≡ false) bytes
+    → ((whole : List ℕ) → option_and_then (λ l. kept_line (l ++ bytes)) line ≡ kept_line whole → AnsweredOrCut step now next (ended_line whole) new after result) → last ≡ Some []
+    → MatchResult result (λ _. Running step first next (read ++ (bytes ++ 10 ∷ [])) last old after) (λ _. Stopped step first next (read ++ (bytes ++ 10 ∷ [])) old after)
+running-line {step = step} {first = first} next {read = read} {old = old} bytes last after result s plain answered e =
+    let t = running-bytes bytes plain s in
+    subst (λ l. MatchResult result (λ _. Running step first next l last old after) (λ _. Stopped step first next l old after)) (append_assoc read bytes (10 ∷ [])) (running-newline next last after result t (answered t.pending t.buffered) e)
+
 -- more bytes were read after the fault
 pub stopped-more : {Board : Type 0} {step : Step Board} {first now : Board} (read : List ℕ) {old new : Option (List ℕ)} (more : List ℕ)
     → Stopped step first now read old new → Stopped step first now (read ++ more) old new
@@ -227,14 +236,6 @@ pub stopped-here : {Board : Type 0} {step : Step Board} {first now : Board} (rea
     → Stopped step first now read old new → CutShort step first now (lines_of read) old new
 stopped-here {step = step} {first = first} {now = now} read {old = old} {new = new} s =
     subst (λ l. CutShort step first now (lines_of l) old new) (append-nil read) (s [])
-
--- the bytes up to one, that one, and those after it
-pub around : (read bytes : List ℕ) (i d : ℕ) → i < length bytes → ((read ++ take i bytes) ++ get_or bytes i d ∷ []) ++ drop (i + 1) bytes ≡ read ++ bytes
-around read bytes i d h =
-    append_assoc (read ++ take i bytes) (get_or bytes i d ∷ []) (drop (i + 1) bytes)
-    ∙ append_assoc read (take i bytes) (get_or bytes i d ∷ drop (i + 1) bytes)
-    ∙ ap (λ l. read ++ (take i bytes ++ l)) (rw add-one (sym (drop-cons bytes i d h)))
-    ∙ ap (λ l. read ++ l) (take-append-drop i bytes)
 
 -- ---- the end of a run
 

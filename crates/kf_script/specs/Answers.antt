@@ -12,20 +12,24 @@ pub record Turn : Type 0 where
 abbrev pub line_of : Turn → List ℕ
 line_of turn = turn.line
 
--- What a board may answer a request: the board before, the request, whether memory was wanting, the reply, and the board after.
+-- What a board may answer a request: the board before, the request, whether memory was wanting, the reply,
+-- and the board after.
 abbrev pub Step : Type 0 → Type 1
 Step Board = Board → RequestWords → Bool → List ℕ → Board → Type 0
 
 -- A line that makes no request changes nothing and takes no memory.
-abbrev pub AnswersRequest : {Board : Type 0} → Step Board → Board → Option RequestWords → Bool → List ℕ → Board → Type 0
-AnswersRequest step before None starved reply now = (starved ≡ false) × (reply ≡ bad_line_text) × (now ≡ before)
+abbrev pub AnswersRequest : {Board : Type 0} → Step Board → Board → Option RequestWords → Bool → List ℕ
+    → Board → Type 0
+AnswersRequest step before None starved reply now =
+    (starved ≡ false) × (reply ≡ bad_line_text) × (now ≡ before)
 AnswersRequest step before (Some request) starved reply now = step before request starved reply now
 
 -- The lines are answered in order, and lead from the one board to the other.
 abbrev pub Answers : {Board : Type 0} → Step Board → Board → List Turn → Board → Type 0
 Answers step before [] now = now ≡ before
 Answers {Board} step before (turn ∷ turns) now =
-    (next : Board) × AnswersRequest step before (request_of turn.line) turn.starved turn.reply next × Answers step next turns now
+    (next : Board) × AnswersRequest step before (request_of turn.line) turn.starved turn.reply next
+    × Answers step next turns now
 
 -- a reply, and a newline
 abbrev pub reply_line : Turn → List ℕ

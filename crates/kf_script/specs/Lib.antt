@@ -4,4 +4,3 @@ pub mod ReplyText
 pub mod Answers
 pub mod Progress
 pub mod Running
-pub mod Words

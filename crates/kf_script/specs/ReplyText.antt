@@ -40,7 +40,8 @@ abbrev pub octal : ℕ → List ℕ
 octal mode = (48 + mode / 64 % 8) ∷ (48 + mode / 8 % 8) ∷ (48 + mode % 8) ∷ []
 
 abbrev pub node_text : Node → ℕ → ℕ → List ℕ
-node_text Dir subdirs links = codes "dir subdirs=" ++ decimal subdirs ++ codes " nlink=" ++ decimal links ++ codes " "
+node_text Dir subdirs links =
+    codes "dir subdirs=" ++ decimal subdirs ++ codes " nlink=" ++ decimal links ++ codes " "
 node_text (File mode tag) subdirs links = codes "file mode=" ++ octal mode ++ codes " "
 node_text (Link target) subdirs links = codes "link "
 

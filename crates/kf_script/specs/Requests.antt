@@ -1,7 +1,7 @@
 -- What a line asks for.
-use Rattle.std.specs.Prelude.{ℕ, ◌+◌, ◌-◌, ◌*◌, ◌≤◌, ◌<◌, Bool, true, false, ◌&&◌, List, [], ◌∷◌, length, fold, nat_le, ◌==◌, codes, Option, Some, None, ⊤, if◌then◌else◌}
+use Rattle.std.specs.Prelude.{ℕ, not, drop, position, ◌+◌, ◌-◌, ◌*◌, ◌≤◌, ◌<◌, Bool, true, false, ◌&&◌, List, [], ◌∷◌, length, fold, nat_le, ◌==◌, codes, Option, Some, None, ⊤, if◌then◌else◌}
 use Rattle.std.specs.Option.{option_map, option_and_then}
-use Rattle.std.specs.List.{before_first, after_first, list_all, slice_split}
+use Rattle.std.specs.List.{before_first, after_first, list_all}
 use Rattle.std.specs.Str.{bytes_eq}
 use Rattle.kf_script.specs.Lines.{has_bytes, line_limit}
 use Rattle.kf_script.specs.declared.request.Request.{Request}
@@ -72,10 +72,6 @@ IsInRange _ = ⊤
 abbrev pub is_space : ℕ → Bool
 is_space byte = byte == 32
 
--- the words of a line, between which stands one space, where none is empty
-abbrev pub words_of : List ℕ → Option (List (List ℕ))
-words_of line = if list_all has_bytes (slice_split is_space line) then Some (slice_split is_space line) else None
-
 -- the word before the first space, and the text after that space (empty where there is none)
 abbrev pub first_word : List ℕ → List ℕ
 first_word line = before_first is_space line
@@ -83,12 +79,30 @@ first_word line = before_first is_space line
 abbrev pub rest : List ℕ → List ℕ
 rest line = after_first is_space line
 
+-- what stands behind the first word: nothing, or what follows its space
+abbrev pub behind : List ℕ → Option (List ℕ)
+behind line = option_map (λ at. drop (at + 1) line) (position is_space line)
+
+-- the next word of what stands behind a word, and what stands behind that one
+abbrev pub next_word : Option (List ℕ) → Option (List ℕ)
+next_word later = option_map first_word later
+
+abbrev pub behind_next : Option (List ℕ) → Option (List ℕ)
+behind_next later = option_and_then behind later
+
+-- ---- the kinds of words
+
+-- a path or a name: any word that is not empty
+abbrev pub path_of : List ℕ → Option (List ℕ)
+path_of word = if has_bytes word then Some word else None
+
 -- three octal digits
 abbrev pub is_octal : ℕ → Bool
 is_octal byte = nat_le 48 byte && nat_le byte 55
 
 abbrev pub mode_of : List ℕ → Option ℕ
-mode_of (a ∷ b ∷ c ∷ []) = if is_octal a && is_octal b && is_octal c then Some (64 * (a - 48) + 8 * (b - 48) + (c - 48)) else None
+mode_of (a ∷ b ∷ c ∷ []) =
+    if is_octal a && is_octal b && is_octal c then Some (64 * (a - 48) + 8 * (b - 48) + (c - 48)) else None
 mode_of _ = None
 
 -- decimal digits: at least one, no more than so many, and no greater number than the greatest
@@ -101,7 +115,8 @@ number_of digits = fold (λ number digit. number * 10 + (digit - 48)) 0 digits
 
 abbrev pub decimal_of : ℕ → ℕ → List ℕ → Option ℕ
 decimal_of most greatest word =
-    if has_bytes word && nat_le (length word) most && list_all is_digit word && nat_le (number_of word) greatest
+    if has_bytes word && nat_le (length word) most && list_all is_digit word && nat_le
+    (number_of word) greatest
     then Some (number_of word) else None
 
 -- the letter of a file
@@ -109,92 +124,109 @@ abbrev pub file_of : List ℕ → Option ℕ
 file_of (letter ∷ []) = if nat_le 97 letter && nat_le letter 122 then Some (letter - 97) else None
 file_of _ = None
 
--- ---- the rows of the grammar
+-- an offset in at most ten digits, and a length in at most five
+abbrev pub offset_of : List ℕ → Option ℕ
+offset_of word = decimal_of 10 4294967295 word
 
--- a command with no word after it
-abbrev pub bare_request : List ℕ → Option RequestWords
-bare_request command =
-    if bytes_eq command (codes "commands") then Some count_commands
-    else (if bytes_eq command (codes "compact") then Some compact
-    else (if bytes_eq command (codes "wait") then Some wait
-    else None))
-
--- a command with one word after it
-abbrev pub one_word_request : List ℕ → List ℕ → Option RequestWords
-one_word_request command word =
-    if bytes_eq command (codes "mkdir") then Some (make_directory word true)
-    else (if bytes_eq command (codes "activate") then Some (activate word)
-    else (if bytes_eq command (codes "ls") then Some (list_names word)
-    else (if bytes_eq command (codes "stat") then Some (stat word)
-    else (if bytes_eq command (codes "readlink") then Some (read_link word)
-    else (if bytes_eq command (codes "rm") then Some (remove word)
-    else (if bytes_eq command (codes "notify") then Some (notify word)
-    else (if bytes_eq command (codes "poll") then option_map poll_file (file_of word)
-    else (if bytes_eq command (codes "close") then option_map close_file (file_of word)
-    else (if bytes_eq command (codes "hide") then Some (hide word)
-    else (if bytes_eq command (codes "show") then Some (show word)
-    else (if bytes_eq command (codes "unplug") then Some (unplug word)
-    else None)))))))))))
-
--- a command with two words after it
-abbrev pub two_word_request : List ℕ → List ℕ → List ℕ → Option RequestWords
-two_word_request command first second =
-    if bytes_eq command (codes "mkdir") then (if bytes_eq second (codes "off") then Some (make_directory first false) else None)
-    else (if bytes_eq command (codes "link") then Some (make_link first second)
-    else None)
+abbrev pub length_of : List ℕ → Option ℕ
+length_of word = decimal_of 5 65535 word
 
 -- what a file is opened for: reading, writing
-abbrev pub open_request : ℕ → List ℕ → List ℕ → Option RequestWords
-open_request file path want =
-    if bytes_eq want (codes "r") then Some (open_file file path true false)
-    else (if bytes_eq want (codes "w") then Some (open_file file path false true)
-    else (if bytes_eq want (codes "rw") then Some (open_file file path true true)
+abbrev pub want_of : List ℕ → Option (Bool × Bool)
+want_of word =
+    if bytes_eq word (codes "r") then Some (true, false)
+    else (if bytes_eq word (codes "w") then Some (false, true)
+    else (if bytes_eq word (codes "rw") then Some (true, true)
     else None))
 
--- an offset of at most ten digits, and a length of at most five
-abbrev pub read_request : ℕ → List ℕ → List ℕ → Option RequestWords
-read_request file offset most =
-    option_and_then (λ from. option_map (read_file file from) (decimal_of 5 65535 most)) (decimal_of 10 4294967295 offset)
+-- ---- what stands behind a command
 
--- a command with three words after it
-abbrev pub three_word_request : List ℕ → List ℕ → List ℕ → List ℕ → Option RequestWords
-three_word_request command first second third =
-    if bytes_eq command (codes "mv") then Some (move first second third)
-    else (if bytes_eq command (codes "open") then option_and_then (λ file. open_request file second third) (file_of first)
-    else (if bytes_eq command (codes "read") then option_and_then (λ file. read_request file second third) (file_of first)
-    else None))
+-- a request, made of what stands behind its command, where that is as it should be
+abbrev pub Reads : Type 0
+Reads = Option (List ℕ) → Option RequestWords
 
--- the request of a list of words
-abbrev pub words_request : List (List ℕ) → Option RequestWords
-words_request (command ∷ []) = bare_request command
-words_request (command ∷ word ∷ []) = one_word_request command word
-words_request (command ∷ first ∷ second ∷ []) = two_word_request command first second
-words_request (command ∷ first ∷ second ∷ third ∷ []) = three_word_request command first second third
-words_request _ = None
+-- a word of this kind comes next, and then what follows it
+abbrev pub word : {Value : Type 0} → (List ℕ → Option Value) → (Value → Reads) → Reads
+word kind following later =
+    option_and_then (λ value. following value (behind_next later)) (option_and_then kind (next_word later))
 
--- a path, a mode and a text
-abbrev pub file_request : List ℕ → Option RequestWords
-file_request words =
-    if has_bytes (first_word words)
-    then option_map (λ mode. make_file (first_word words) mode (rest (rest words))) (mode_of (first_word (rest words)))
-    else None
+-- nothing more comes
+abbrev pub is_over : Option (List ℕ) → Bool
+is_over None = true
+is_over (Some later) = false
 
--- a file and a text
-abbrev pub write_request : List ℕ → Option RequestWords
-write_request words = option_map (λ file. write_file file (rest words)) (file_of (first_word words))
+abbrev pub ends : RequestWords → Reads
+ends request later = if is_over later then Some request else None
 
--- a name and a text
-abbrev pub plug_request : List ℕ → Option RequestWords
-plug_request words = if has_bytes (first_word words) then Some (plug (first_word words) (rest words)) else None
+-- nothing more comes, or this word alone, which the request tells
+abbrev pub last_word : List ℕ → Option (List ℕ) → Option Bool
+last_word last None = Some false
+last_word last (Some later) = if bytes_eq later last then Some true else None
 
--- the request of a line that is not too long
-abbrev pub short_line_request : List ℕ → Option RequestWords
-short_line_request line =
-    if bytes_eq (first_word line) (codes "file") then file_request (rest line)
-    else (if bytes_eq (first_word line) (codes "write") then write_request (rest line)
-    else (if bytes_eq (first_word line) (codes "plug") then plug_request (rest line)
-    else option_and_then words_request (words_of line)))
+abbrev pub ends_or : List ℕ → (Bool → RequestWords) → Reads
+ends_or last request later = option_map request (last_word last later)
+
+-- all that comes, its spaces too, is a text; it is empty where nothing comes
+abbrev pub whole_text : Option (List ℕ) → List ℕ
+whole_text None = []
+whole_text (Some later) = later
+
+abbrev pub text : (List ℕ → RequestWords) → Reads
+text request later = Some (request (whole_text later))
+
+-- ---- the grammar
+
+-- a row: the word of a command, and what stands behind it
+pub record Row : Type 0 where
+  pub command : List ℕ
+  pub reads : Reads
+
+abbrev pub row : List ℕ → Reads → Row
+row command reads = record { command = command; reads = reads }
+
+-- one row for each command
+abbrev pub rows : List Row
+rows =
+    row (codes "mkdir") (word path_of
+    (λ path. ends_or (codes "off") (λ is_off. make_directory path (not is_off))))
+    ∷ row (codes "file") (word path_of (λ path. word mode_of (λ mode. text (make_file path mode))))
+    ∷ row (codes "link") (word path_of (λ path. word path_of (λ target. ends (make_link path target))))
+    ∷ row (codes "activate") (word path_of (λ path. ends (activate path)))
+    ∷ row (codes "ls") (word path_of (λ path. ends (list_names path)))
+    ∷ row (codes "stat") (word path_of (λ path. ends (stat path)))
+    ∷ row (codes "readlink") (word path_of (λ path. ends (read_link path)))
+    ∷ row (codes "mv") (word path_of
+    (λ path. word path_of (λ dir. word path_of (λ name. ends (move path dir name)))))
+    ∷ row (codes "rm") (word path_of (λ path. ends (remove path)))
+    ∷ row (codes "open")
+    (word file_of (λ file. word path_of
+    (λ path. word want_of (λ want. ends (open_file file path want.0 want.1)))))
+    ∷ row (codes "read")
+    (word file_of (λ file. word offset_of
+    (λ offset. word length_of (λ most. ends (read_file file offset most)))))
+    ∷ row (codes "write") (word file_of (λ file. text (write_file file)))
+    ∷ row (codes "poll") (word file_of (λ file. ends (poll_file file)))
+    ∷ row (codes "notify") (word path_of (λ path. ends (notify path)))
+    ∷ row (codes "close") (word file_of (λ file. ends (close_file file)))
+    ∷ row (codes "hide") (word path_of (λ path. ends (hide path)))
+    ∷ row (codes "show") (word path_of (λ path. ends (show path)))
+    ∷ row (codes "commands") (ends count_commands)
+    ∷ row (codes "compact") (ends compact)
+    ∷ row (codes "plug") (word path_of (λ name. text (plug name)))
+    ∷ row (codes "unplug") (word path_of (λ name. ends (unplug name)))
+    ∷ row (codes "wait") (ends wait)
+    ∷ []
+
+-- what the row of a command reads, of such rows
+abbrev pub row_of : List Row → List ℕ → Reads
+row_of [] command later = None
+row_of (row ∷ rows) command later =
+    if bytes_eq command row.command then row.reads later else row_of rows command later
+
+-- what this command makes of what stands behind it, where it is one
+abbrev pub reads_of : List ℕ → Reads
+reads_of command later = row_of rows command later
 
 -- the request of a line, where it makes one
 abbrev pub request_of : List ℕ → Option RequestWords
-request_of line = if nat_le (length line) line_limit then short_line_request line else None
+request_of line = if nat_le (length line) line_limit then reads_of (first_word line) (behind line) else None

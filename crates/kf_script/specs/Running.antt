@@ -5,22 +5,30 @@ use Rattle.kf_script.specs.Lines.{is_newline, has_bytes, lines_of, kept_line}
 use Rattle.kf_script.specs.Answers.{Step}
 use Rattle.kf_script.specs.Progress.{Answered, CutShort}
 
--- The bytes `read` came so far. The lines that ended have their replies, and the line buffer keeps the pending one.
-pub record Running {Board : Type 0} (step : Step Board) (first now : Board) (read : List ℕ) (line old new : Option (List ℕ)) : Type 0 where
+-- The bytes `read` came so far. The lines that ended have their replies, and the line buffer keeps the
+-- pending one.
+pub record Running {Board : Type 0} (step : Step Board) (first now : Board) (read : List ℕ)
+    (line old new : Option (List ℕ)) : Type 0 where
   pub ended : List (List ℕ)
   pub pending : List ℕ
-  pub cut : (more : List ℕ) → slice_split is_newline (read ++ more) ≡ ended ++ slice_split is_newline (pending ++ more)
+  pub cut : (more : List ℕ)
+      → slice_split is_newline (read ++ more) ≡ ended ++ slice_split is_newline (pending ++ more)
   pub unended : All (λ byte. is_newline byte ≡ false) pending
   pub buffered : line ≡ kept_line pending
   pub answered : Answered step first now (filter has_bytes ended) old new
 
 -- A write failed after the bytes `read`, and whatever follows them is not answered.
-abbrev pub Stopped : {Board : Type 0} → Step Board → Board → Board → List ℕ → Option (List ℕ) → Option (List ℕ) → Type 0
-Stopped step first now read old new = (more : List ℕ) → CutShort step first now (lines_of (read ++ more)) old new
+abbrev pub Stopped : {Board : Type 0} → Step Board → Board → Board → List ℕ → Option (List ℕ)
+    → Option (List ℕ) → Type 0
+Stopped step first now read old new =
+    (more : List ℕ) → CutShort step first now (lines_of (read ++ more)) old new
 
 -- The lines were answered, or a write failed.
-abbrev pub AnsweredOrCut : {Board T E : Type 0} → Step Board → Board → Board → List (List ℕ) → Option (List ℕ) → Option (List ℕ) → Result T E → Type 0
-AnsweredOrCut step first now lines old new result = MatchResult result (λ _. Answered step first now lines old new) (λ _. CutShort step first now lines old new)
+abbrev pub AnsweredOrCut : {Board T E : Type 0} → Step Board → Board → Board → List (List ℕ) → Option (List ℕ)
+    → Option (List ℕ) → Result T E → Type 0
+AnsweredOrCut step first now lines old new result =
+    MatchResult result (λ _. Answered step first now lines old new)
+    (λ _. CutShort step first now lines old new)
 
 -- a line that has ended, as the lines that get a reply: itself, or none where it is empty
 abbrev pub ended_line : List ℕ → List (List ℕ)

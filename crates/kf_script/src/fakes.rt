@@ -1,6 +1,6 @@
 //! Readers, writers and a board for tests.
 
-ghost use Rattle.std.specs.Prelude.{◌≡◌, ◌<◌, Some, codes};
+ghost use Rattle.std.specs.Prelude.{◌≡◌, ◌<◌, Some};
 ghost use Rattle.kf_script.specs.ReplyText.{done_text};
 
 use super::board::Board;

@@ -4,12 +4,16 @@
 mod board;
 mod fault;
 mod grammar;
+mod kinds;
 mod line;
 mod output;
 mod reads;
 mod reply;
 mod request;
+mod rows;
 mod script;
+mod search;
+mod words;
 
 pub use board::Board;
 pub use fault::RunFault;

@@ -1,6 +1,6 @@
 //! The line that is being read.
 
-ghost use Rattle.std.specs.Prelude.{◌≡◌, ℕ, List, [], ◌∷◌, ◌++◌, ◌≤◌, Option, Some, None, IfOk, IfSome, length, take, vec_len, if◌then◌else◌};
+ghost use Rattle.std.specs.Prelude.{◌≡◌, ℕ, List, [], ◌++◌, ◌≤◌, Option, Some, None, true, IfOk, IfSome, length, vec_len, vec_capacity, if◌then◌else◌};
 ghost use Rattle.std.specs.Option.{option_map, option_and_then};
 ghost use Rattle.kf_script.specs.Lines.{kept_line, line_limit};
 
@@ -14,16 +14,15 @@ pub const LINE_LIMIT: usize = 8192;
 #[derive(Drop)]
 pub struct LineBuffer {
     bytes: Vec<u8>,
-    len: usize,
     is_too_long: bool,
 }
 
 impl Model for LineBuffer {
     ghost Value = { Option (List ℕ) };
 
-    ghost view = { λ l. if l.is_too_long then None else Some (take l.len l.bytes.items) };
+    ghost view = { λ l. if l.is_too_long then None else Some l.bytes.items };
 
-    ghost invariant = { λ l. (l.len ≤ 8192) × (vec_len l.bytes ≡ 8192) };
+    ghost invariant = { λ l. (vec_len l.bytes ≤ 8192) × (8192 ≤ vec_capacity l.bytes) };
 }
 
 impl LineBuffer {
@@ -31,10 +30,9 @@ impl LineBuffer {
     pub fn new(alloc: Global) -> Result<LineBuffer, AllocError>
         ensures { IfOk result (λ line. line ≡ Some []) }
     {
-        let bytes = vec![in alloc; 0u8; LINE_LIMIT]?;
+        let bytes = Vec::with_capacity(alloc, LINE_LIMIT)?;
         Ok(LineBuffer {
             bytes,
-            len: 0,
             is_too_long: false,
         })
     }
@@ -47,18 +45,24 @@ impl LineBuffer {
         if self.is_too_long {
             return None;
         }
-        Some(&self.bytes[..self.len])
+        Some(self.bytes.as_slice())
     }
 
-    /// Adds a byte. A line of more than the limit is too long, whatever follows.
-    pub fn push(&mut self, byte: u8)
-        ensures { self.new ≡ option_and_then (λ line. kept_line (line ++ byte ∷ [])) self.old }
+    /// Whether it has no bytes yet.
+    pub fn is_empty(&self) -> bool
+        ensures { result ≡ true → self.now ≡ Some [] }
     {
-        if self.len == LINE_LIMIT {
+        !self.is_too_long && self.bytes.is_empty()
+    }
+
+    /// Adds bytes. A line of more than the limit is too long, whatever follows.
+    pub fn extend(&mut self, bytes: &[u8])
+        ensures { self.new ≡ option_and_then (λ line. kept_line (line ++ bytes.now)) self.old }
+    {
+        if bytes.len() > LINE_LIMIT - self.bytes.len() {
             self.is_too_long = true;
         } else {
-            self.bytes[self.len] = byte;
-            self.len += 1;
+            let _ = self.bytes.extend_from_slice(bytes);
         }
     }
 
@@ -66,7 +70,7 @@ impl LineBuffer {
     pub fn clear(&mut self)
         ensures { self.new ≡ Some [] }
     {
-        self.len = 0;
+        self.bytes.clear();
         self.is_too_long = false;
     }
 }

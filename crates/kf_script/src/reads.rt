@@ -1,57 +1,65 @@
-//! Reading, with the calls counted.
+//! The script's input: the one way to the reader, with each call of read counted.
 
-ghost use Rattle.std.specs.Prelude.{◌≡◌, ◌≤◌, ◌<◌, ◌+◌, ◌-◌, ℕ, List, length, take, MatchResult, OnErr, IfErr, IfOk};
+ghost use Rattle.std.specs.Prelude.{◌≡◌, ◌≤◌, ◌<◌, ◌+◌, length, take, MatchResult, OnErr, IfErr, IfOk, IsErrOf};
 ghost use Rattle.std.specs.Io.KnownBytes.{Consumes, IsAtEnd, Keeps};
 
 use super::fault::RunFault;
 use std::io::Read;
-use std::marker::Model;
 
 /// The calls of read that one run may make; after that many it is a read fault.
 pub const READ_LIMIT: u32 = 16_777_216;
 
-/// The number of calls of read that a run has made.
+/// The reader of one run. While this has it nothing else can read, so no call of read goes uncounted, and
+/// after a call that failed there is none.
 #[derive(Drop)]
-pub struct ReadCount {
-    calls: u32,
+pub struct Input<'a, R> {
+    reader: &'a mut R,
+    /// The calls of read that may still be made; none after one that failed.
+    left: u32,
 }
 
-impl Model for ReadCount {
-    ghost Value = { ℕ };
-
-    ghost view = { λ count. count.calls };
-
-    ghost invariant = { λ count. count.calls ≤ 16777216 };
-}
-
-impl ReadCount {
-    /// No call yet.
-    pub fn new() -> ReadCount
-        ensures { result ≡ 0 }
+impl<'a, R: Read> Input<'a, R> {
+    /// Takes the reader for one run of so many calls of read.
+    pub fn new(reader: &'a mut R, calls: u32) -> Input<'a, R>
+        ensures lent { result.reader.ghost_name ≡ reader.entry.ghost_name }
+        ensures reader { result.reader.now ≡ reader.old }
+        ensures left { result.left ≡ calls }
     {
-        ReadCount { calls: 0 }
+        Input {
+            reader,
+            left: calls,
+        }
     }
 
-    /// Reads once and counts it, where the limit allows it. The number of bytes is 0 at the end of the input alone.
-    pub fn read<R: Read>(&mut self, reader: &mut R, chunk: &mut [u8]) -> Result<usize, RunFault>
+    /// Reads once and counts it, where a call is left. The number of bytes is 0 at the end of the input
+    /// alone.
+    pub fn read(&mut self, chunk: &mut [u8]) -> Result<usize, RunFault>
         requires { 0 < length chunk.old }
-        ensures counted { self.new ≤ self.old + 1 }
-        ensures few { self.new ≤ 16777216 }
-        ensures more { IfOk result (λ _. self.new ≡ self.old + 1) }
+        ensures lent { self.new.reader.ghost_name ≡ self.old.reader.ghost_name }
+        ensures counted { IfOk result (λ _. self.new.left + 1 ≡ self.old.left) }
+        ensures stopped { OnErr result (self.new.left ≡ 0) }
+        ensures unread { self.old.left ≡ 0 → IsErrOf result RunFault.Read
+            × (self.new.reader.now ≡ self.old.reader.now) }
         ensures inside { IfOk result (λ count. count ≤ length chunk.new) }
         ensures bytes { MatchResult result
-            (λ count. Consumes (R.remaining reader.old) (R.remaining reader.new) (take count chunk.new)
-            × (count ≡ 0 → IsAtEnd (R.remaining reader.new)))
-            (λ _. Keeps (R.remaining reader.old) (R.remaining reader.new)) }
+            (λ count. Consumes (R.remaining self.old.reader.now) (R.remaining self.new.reader.now)
+            (take count chunk.new)
+            × (count ≡ 0 → IsAtEnd (R.remaining self.new.reader.now)))
+            (λ _. Keeps (R.remaining self.old.reader.now) (R.remaining self.new.reader.now)) }
         ensures fault { IfErr result (λ fault. fault ≡ RunFault.Read) }
     {
-        if self.calls == READ_LIMIT {
+        if self.left == 0 {
             return Err(RunFault::Read);
         }
-        self.calls += 1;
-        match reader.read(chunk) {
-            Ok(count) => Ok(count),
-            Err(_) => Err(RunFault::Read),
+        match self.reader.read(chunk) {
+            Ok(count) => {
+                self.left -= 1;
+                Ok(count)
+            }
+            Err(_) => {
+                self.left = 0;
+                Err(RunFault::Read)
+            }
         }
     }
 }

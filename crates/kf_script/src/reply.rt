@@ -6,7 +6,7 @@ ghost use Rattle.kf_script.specs.Progress.{Writes};
 ghost use Rattle.kf_script.specs.ReplyText.{done_text, bad_line_text, refusal_text, fault_text, key_text, poll_text, stat_text, octal as octal_text, node_text, state_text};
 
 use super::fault::RunFault;
-use super::output::write_whole;
+use super::output::Output;
 use itoa::Buffer;
 use kf_core::{Key, Node, Refusal};
 use std::alloc::{AllocError, Global};
@@ -108,8 +108,8 @@ impl Reply {
         self.push_number(key.generation as usize);
     }
 
-    /// What is told of a node: its kind, of a directory how many directories are in it and how many links lead
-    /// to it, of a file its mode, and its state.
+    /// What is told of a node: its kind, of a directory how many directories are in it and how many links
+    /// lead to it, of a file its mode, and its state.
     pub fn set_stat(&mut self, node: Node, subdirs: u32, links: u32, state: NodeState)
         ensures { self.new ≡ stat_text node subdirs links state }
     {
@@ -156,13 +156,15 @@ impl Reply {
         self.extend(bytes)
     }
 
-    /// Writes the text and a newline in as few calls of write as the writer takes, and forgets the text.
-    pub fn write_line<W: Write>(&mut self, writer: &mut W) -> Result<(), RunFault>
-        ensures written { Writes (W.contents writer.old) (W.contents writer.new) result (self.old ++ 10 ∷ []) }
+    /// Writes the text and a newline, and forgets the text.
+    pub fn write_line<W: Write>(&mut self, output: &mut Output<'_, W>) -> Result<(), RunFault>
+        ensures written { Writes (W.contents output.old.writer.now) (W.contents output.new.writer.now) result
+            (self.old ++ 10 ∷ []) }
+        ensures lent { output.new.writer.ghost_name ≡ output.old.writer.ghost_name }
         ensures fault { IfErr result (λ fault. fault ≡ RunFault.Write) }
     {
         let _ = self.text.push(b'\n');
-        let result = write_whole(writer, self.text.as_slice());
+        let result = output.write(self.text.as_slice());
         self.text.clear();
         result
     }
@@ -188,7 +190,8 @@ impl Reply {
         ensures text { OnOk result (self.new ≡ self.old ++ bytes.now) }
         ensures refused { IfErr result (λ refusal. refusal ≡ Refusal.NoMemory) }
     {
-        if self.text.reserve(bytes.len() + 1).is_err() {
+        let room = self.text.capacity() - self.text.len();
+        if room <= bytes.len() && self.text.reserve(bytes.len() + 1).is_err() {
             return Err(Refusal::NoMemory);
         }
         let _ = self.text.extend_from_slice(bytes);

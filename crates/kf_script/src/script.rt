@@ -1,8 +1,9 @@
 //! Running a script: its lines are answered one by one while it is read.
 
-ghost use Rattle.std.specs.Prelude.{◌≡◌, ◌≤◌, ℕ, List, Bool, [], ◌∷◌, ◌++◌, Option, length, MatchResult, OnOk, IfErr, IsErrOf};
-ghost use Rattle.std.specs.Io.KnownBytes.{Appends, Consumes, IsAtEnd, Keeps};
-ghost use Rattle.kf_script.specs.Lines.{kept_line, line_limit, lines_of, ended_lines_of};
+ghost use Rattle.std.specs.Prelude.{◌≡◌, ◌≤◌, ℕ, List, Bool, [], ◌∷◌, ◌++◌, Option, Some, All, false, length, MatchResult, OnOk, IfErr, IfSome, IsErrOf};
+ghost use Rattle.std.specs.Option.{option_map};
+ghost use Rattle.std.specs.Io.KnownBytes.{Consumes, IsAtEnd, Keeps};
+ghost use Rattle.kf_script.specs.Lines.{is_newline, kept_line, line_limit, lines_of, ended_lines_of};
 ghost use Rattle.kf_script.specs.Requests.{request_of};
 ghost use Rattle.kf_script.specs.Answers.{AnswersRequest};
 ghost use Rattle.kf_script.specs.Progress.{Answered, CutShort};
@@ -11,9 +12,11 @@ ghost use Rattle.kf_script.specs.Running.{Running, Stopped, AnsweredOrCut, ended
 use super::board::Board;
 use super::fault::RunFault;
 use super::grammar::parse;
-use super::line::LineBuffer;
-use super::reads::ReadCount;
+use super::line::{LINE_LIMIT, LineBuffer};
+use super::output::Output;
+use super::reads::{Input, READ_LIMIT};
 use super::reply::Reply;
+use super::search::place_of;
 use std::alloc::Global;
 use std::io::{Read, Write};
 
@@ -23,7 +26,8 @@ const CHUNK: usize = 4096;
 /// Puts the reply to a line into the buffer.
 fn answer_line<B: Board>(board: &mut B, reply: &mut Reply, line: &[u8])
     requires { length line.now ≤ line_limit }
-    ensures { (starved : Bool) × AnswersRequest B.step board.old (request_of line.now) starved reply.new board.new }
+    ensures { (starved : Bool)
+        × AnswersRequest B.step board.old (request_of line.now) starved reply.new board.new }
 {
     match parse(line) {
         Some(request) => board.answer(request, reply),
@@ -31,48 +35,55 @@ fn answer_line<B: Board>(board: &mut B, reply: &mut Reply, line: &[u8])
     }
 }
 
-/// Answers the line that has ended, where it has bytes.
+/// Answers a line that has ended, where it has bytes; without a line, one that was too long.
 fn end_line<B: Board, W: Write>(
     board: &mut B,
     reply: &mut Reply,
-    line: &LineBuffer,
-    writer: &mut W,
+    line: Option<&[u8]>,
+    output: &mut Output<'_, W>,
 ) -> Result<(), RunFault>
-    ensures answered { (bytes : List ℕ) → line.now ≡ kept_line bytes →
-        AnsweredOrCut B.step board.old board.new (ended_line bytes) (W.contents writer.old) (W.contents writer.new) result }
+    requires { IfSome line (λ line. length line.now ≤ line_limit) }
+    ensures answered { (bytes : List ℕ) → option_map (λ line. line.now) line.entry ≡ kept_line bytes →
+        AnsweredOrCut B.step board.old board.new (ended_line bytes)
+        (W.contents output.old.writer.now) (W.contents output.new.writer.now) result }
+    ensures lent { output.new.writer.ghost_name ≡ output.old.writer.ghost_name }
     ensures fault { IfErr result (λ fault. fault ≡ RunFault.Write) }
 {
-    let Some(bytes) = line.get() else {
+    let Some(bytes) = line else {
         reply.set_bad_line();
-        return reply.write_line(writer);
+        return reply.write_line(output);
     };
     if bytes.is_empty() {
         return Ok(());
     }
     answer_line(board, reply, bytes);
-    reply.write_line(writer)
+    reply.write_line(output)
 }
 
-/// Takes one byte of the script.
-fn take_byte<B: Board, W: Write>(
+/// Takes the bytes before a newline, and answers the line that they end.
+fn take_line<B: Board, W: Write>(
     board: &mut B,
     reply: &mut Reply,
     line: &mut LineBuffer,
-    writer: &mut W,
-    byte: u8,
+    output: &mut Output<'_, W>,
+    bytes: &[u8],
 ) -> Result<(), RunFault>
+    requires { All (λ byte. is_newline byte ≡ false) bytes.now }
     ensures runs { (first : B) (read : List ℕ) (start : Option (List ℕ)) →
-        Running B.step first board.old read line.old start (W.contents writer.old) →
+        Running B.step first board.old read line.old start (W.contents output.old.writer.now) →
         MatchResult result
-        (λ _. Running B.step first board.new (read ++ byte ∷ []) line.new start (W.contents writer.new))
-        (λ _. Stopped B.step first board.new (read ++ byte ∷ []) start (W.contents writer.new)) }
+        (λ _. Running B.step first board.new (read ++ (bytes.now ++ 10 ∷ [])) line.new start
+        (W.contents output.new.writer.now))
+        (λ _. Stopped B.step first board.new (read ++ (bytes.now ++ 10 ∷ [])) start
+        (W.contents output.new.writer.now)) }
+    ensures lent { output.new.writer.ghost_name ≡ output.old.writer.ghost_name }
     ensures fault { IfErr result (λ fault. fault ≡ RunFault.Write) }
 {
-    if byte != b'\n' {
-        line.push(byte);
-        return Ok(());
+    if line.is_empty() && bytes.len() <= LINE_LIMIT {
+        return end_line(board, reply, Some(bytes), output);
     }
-    let result = end_line(board, reply, line, writer);
+    line.extend(bytes);
+    let result = end_line(board, reply, line.get(), output);
     line.clear();
     result
 }
@@ -82,43 +93,92 @@ fn take_bytes<B: Board, W: Write>(
     board: &mut B,
     reply: &mut Reply,
     line: &mut LineBuffer,
-    writer: &mut W,
+    output: &mut Output<'_, W>,
     bytes: &[u8],
 ) -> Result<(), RunFault>
     ensures runs { (first : B) (read : List ℕ) (start : Option (List ℕ)) →
-        Running B.step first board.old read line.old start (W.contents writer.old) →
+        Running B.step first board.old read line.old start (W.contents output.old.writer.now) →
         MatchResult result
-        (λ _. Running B.step first board.new (read ++ bytes.now) line.new start (W.contents writer.new))
-        (λ _. Stopped B.step first board.new (read ++ bytes.now) start (W.contents writer.new)) }
+        (λ _. Running B.step first board.new (read ++ bytes.now) line.new start
+        (W.contents output.new.writer.now))
+        (λ _. Stopped B.step first board.new (read ++ bytes.now) start (W.contents output.new.writer.now)) }
+    ensures lent { output.new.writer.ghost_name ≡ output.old.writer.ghost_name }
     ensures fault { IfErr result (λ fault. fault ≡ RunFault.Write) }
 {
-    for byte in bytes {
-        take_byte(board, reply, line, writer, *byte)?;
+    let mut rest = bytes;
+    while let Some(at) = place_of(b'\n', rest) {
+        take_line(board, reply, line, output, &rest[..at])?;
+        rest = &rest[at + 1..];
     }
+    line.extend(rest);
     Ok(())
+}
+
+/// Reads to the end of the input and answers each line.
+fn read_lines<B: Board, R: Read, W: Write>(
+    board: &mut B,
+    reply: &mut Reply,
+    line: &mut LineBuffer,
+    input: &mut Input<'_, R>,
+    output: &mut Output<'_, W>,
+) -> Result<(), RunFault>
+    requires { line.old ≡ Some [] }
+    ensures ok { OnOk result
+        ((read : List ℕ) × Consumes (R.remaining input.old.reader.now) (R.remaining input.new.reader.now) read
+        × IsAtEnd (R.remaining input.new.reader.now)
+        × Answered B.step board.old board.new (lines_of read) (W.contents output.old.writer.now)
+        (W.contents output.new.writer.now)) }
+    ensures read { IsErrOf result RunFault.Read → (read : List ℕ)
+        × Consumes (R.remaining input.old.reader.now) (R.remaining input.new.reader.now) read
+        × Answered B.step board.old board.new (ended_lines_of read) (W.contents output.old.writer.now)
+        (W.contents output.new.writer.now) }
+    ensures write { IsErrOf result RunFault.Write → (read : List ℕ)
+        × Consumes (R.remaining input.old.reader.now) (R.remaining input.new.reader.now) read
+        × CutShort B.step board.old board.new (lines_of read) (W.contents output.old.writer.now)
+        (W.contents output.new.writer.now) }
+    ensures lent { (input.new.reader.ghost_name ≡ input.old.reader.ghost_name)
+        × (output.new.writer.ghost_name ≡ output.old.writer.ghost_name) }
+    ensures fault { ¬ IsErrOf result RunFault.Memory }
+{
+    let mut chunk = [0u8; CHUNK];
+    'reads: loop {
+        let count = match input.read(&mut chunk) {
+            Ok(0) => return end_line(board, reply, line.get(), output),
+            Ok(count) => count,
+            Err(_) => return Err(RunFault::Read),
+        };
+        take_bytes(board, reply, line, output, &chunk[..count])?;
+    }
 }
 
 /// Answers each line of a script with one reply.
 ///
 /// Where it answers `Ok`, the script was read to its end and each of its lines has its reply, however the
-/// reader cut it. After [`RunFault::Read`] each line that had ended has its reply. After [`RunFault::Write`] what
-/// was written is a prefix of the replies. [`RunFault::Memory`] comes before the first read, with nothing read,
-/// written or changed. It makes at most 16,777,216 calls of read.
+/// reader cut it. After [`RunFault::Read`] each line that had ended has its reply. After [`RunFault::Write`]
+/// what was written is a prefix of the replies. [`RunFault::Memory`] comes before the first read, with
+/// nothing read, written or changed. It makes at most 16,777,216 calls of read.
 pub fn run_script<B: Board, R: Read, W: Write>(
     alloc: Global,
     board: &mut B,
     reader: &mut R,
     writer: &mut W,
 ) -> Result<(), RunFault>
-    ensures ok { OnOk result ((read : List ℕ) × Consumes (R.remaining reader.old) (R.remaining reader.new) read
+    ensures ok { OnOk result
+        ((read : List ℕ) × Consumes (R.remaining reader.old) (R.remaining reader.new) read
         × IsAtEnd (R.remaining reader.new)
-        × Answered B.step board.old board.new (lines_of read) (W.contents writer.old) (W.contents writer.new)) }
-    ensures read { IsErrOf result RunFault.Read → (read : List ℕ) × Consumes (R.remaining reader.old) (R.remaining reader.new) read
-        × Answered B.step board.old board.new (ended_lines_of read) (W.contents writer.old) (W.contents writer.new) }
-    ensures write { IsErrOf result RunFault.Write → (read : List ℕ) × Consumes (R.remaining reader.old) (R.remaining reader.new) read
-        × CutShort B.step board.old board.new (lines_of read) (W.contents writer.old) (W.contents writer.new) }
+        × Answered B.step board.old board.new (lines_of read) (W.contents writer.old)
+        (W.contents writer.new)) }
+    ensures read { IsErrOf result RunFault.Read → (read : List ℕ)
+        × Consumes (R.remaining reader.old) (R.remaining reader.new) read
+        × Answered B.step board.old board.new (ended_lines_of read) (W.contents writer.old)
+        (W.contents writer.new) }
+    ensures write { IsErrOf result RunFault.Write → (read : List ℕ)
+        × Consumes (R.remaining reader.old) (R.remaining reader.new) read
+        × CutShort B.step board.old board.new (lines_of read) (W.contents writer.old)
+        (W.contents writer.new) }
     ensures memory { IsErrOf result RunFault.Memory → (board.new ≡ board.old)
-        × Keeps (R.remaining reader.old) (R.remaining reader.new) × Keeps (W.contents writer.old) (W.contents writer.new) }
+        × Keeps (R.remaining reader.old) (R.remaining reader.new)
+        × Keeps (W.contents writer.old) (W.contents writer.new) }
 {
     let Ok(mut line) = LineBuffer::new(alloc) else {
         return Err(RunFault::Memory);
@@ -126,14 +186,7 @@ pub fn run_script<B: Board, R: Read, W: Write>(
     let Ok(mut reply) = Reply::new(alloc) else {
         return Err(RunFault::Memory);
     };
-    let mut calls = ReadCount::new();
-    let mut chunk = [0u8; CHUNK];
-    'reads: loop {
-        let count = match calls.read(reader, &mut chunk) {
-            Ok(0) => return end_line(board, &mut reply, &line, writer),
-            Ok(count) => count,
-            Err(_) => return Err(RunFault::Read),
-        };
-        take_bytes(board, &mut reply, &mut line, writer, &chunk[..count])?;
-    }
+    let mut input = Input::new(reader, READ_LIMIT);
+    let mut output = Output::new(writer);
+    read_lines(board, &mut reply, &mut line, &mut input, &mut output)
 }

@@ -2,8 +2,11 @@
 
 use super::fakes::{ChunkReader, FailingWriter, NewlineReader, OkBoard};
 use super::fault::RunFault;
+use super::output::Output;
+use super::reads::Input;
 use super::script::run_script;
 use std::alloc::{AllocError, Global};
+use std::io::Read;
 
 /// What is written for a script that is read a few bytes a call, and how the run ended.
 fn run(
@@ -79,6 +82,40 @@ fn the_last_call_of_read_that_a_run_may_make(rt: HostRuntime) {
     let (result, calls) = run_newlines(rt.alloc(), 16_777_216);
     assert!(rt; matches!(result, Err(RunFault::Read)));
     assert_eq!(rt; calls, 16_777_216);
+}
+
+#[test]
+fn no_more_calls_of_read_than_are_left(rt: HostRuntime) {
+    let mut reader = NewlineReader {
+        newlines: 9,
+        calls: 0,
+    };
+    let mut input = Input::new(&mut reader, 2);
+    let mut chunk = [0u8; 4];
+    assert!(rt; matches!(input.read(&mut chunk), Ok(1)));
+    assert!(rt; matches!(input.read(&mut chunk), Ok(1)));
+    assert!(rt; matches!(input.read(&mut chunk), Err(RunFault::Read)));
+    assert!(rt; matches!(input.read(&mut chunk), Err(RunFault::Read)));
+    assert_eq!(rt; reader.calls, 2);
+}
+
+#[test]
+fn no_call_of_read_after_a_fault(rt: HostRuntime) {
+    let mut reader = ChunkReader::new(b"ls /", 4, 0);
+    let mut input = Input::new(&mut reader, 9);
+    let mut chunk = [0u8; 4];
+    assert!(rt; matches!(input.read(&mut chunk), Err(RunFault::Read)));
+    assert!(rt; matches!(input.read(&mut chunk), Err(RunFault::Read)));
+    assert!(rt; matches!(reader.read(&mut chunk), Ok(4)));
+}
+
+#[test]
+fn no_call_of_write_after_a_fault(rt: HostRuntime) {
+    let mut writer = FailingWriter::new(Vec::new(rt.alloc()), 100, 0);
+    let mut output = Output::new(&mut writer);
+    assert!(rt; matches!(output.write(b"ok\n"), Err(RunFault::Write)));
+    assert!(rt; matches!(output.write(b"ok\n"), Err(RunFault::Write)));
+    assert!(rt; writer.kept.is_empty());
 }
 
 /// `ls /` with so many bytes in all, and then another line.

@@ -9,17 +9,16 @@ use Rattle.kf_core.specs.declared.key.Node.TheVariants.{Dir}
 use Rattle.kf_core.specs.declared.records.Record.{Record}
 use Rattle.kf_core.specs.Bare.{opening}
 use Rattle.kf_core.specs.Commands.{root_alone}
-use Rattle.kf_core.specs.Lawful.{root_record}
-use Rattle.kf_core.specs.Tree.{Tree, record_at, marks_of}
+use Rattle.kf_core.specs.Tree.{record_at, marks_of}
 use Rattle.kf_core.proofs.Opened.{same_opening, length_opening}
 use Rattle.kf_core.proofs.FoundRecords.{found_in}
-use Rattle.kf_core.proofs.Lists.{after_set, length_set}
+use Rattle.kf_core.proofs.Lists.{length_set}
 use Rattle.kf_tree.specs.TreeLogs.{TreeLog, IsNew}
 use Rattle.kf_words.specs.declared.view.MasterView.{MasterView}
 use Rattle.kf_words.specs.Steps.{opened}
 use Rattle.kf_words.specs.Nodes.{MasterState}
 use Rattle.kf_shared.specs.Agreement.{HasNodes, marks_at}
-use Rattle.kf_shared.specs.Locked.{Locked, IsTied}
+use Rattle.kf_shared.specs.Locked.{IsTied}
 
 no_record : (n slot : ℕ) (r : Record) → slice_get (replicate n (let o : Option Record = None in o)) slot ≡ Some (Some r) → ⊥
 no_record zero slot r h = none-some _ h

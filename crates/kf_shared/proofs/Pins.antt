@@ -1,6 +1,6 @@
 -- Holds of the nodes of a subtree, and why they are refused.
 use Rattle.std.proofs.Common.{◌≡◌, ◌≢◌, ◌⊎◌, inl, inr, refl, ap, sym, ◌∙◌, subst, Bool, true, false, List, [], ◌∷◌, ◌++◌}
-use Rattle.std.specs.Prelude.{Option, None, Some, Result, Ok, Err, IfErr, Contains, MatchBool, not}
+use Rattle.std.specs.Prelude.{Option, None, Some, Contains, MatchBool, not}
 use Rattle.std.proofs.lemmas.Bool.{MatchBool-at_false}
 use Rattle.std.proofs.lemmas.Option.{none-some, same_Some}
 use Rattle.std.proofs.lemmas.List.Elements.{Contains-append_left}

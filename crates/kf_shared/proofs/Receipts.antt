@@ -1,6 +1,6 @@
 -- The receipts of a removal are those of its holds.
-use Rattle.std.proofs.Common.{◌≡◌, ◌⊎◌, inl, inr, ℕ, zero, suc, ◌+◌, ◌<◌, refl, ap, arith, sym, ◌∙◌, subst, Bool, true, false, List, [], ◌∷◌, ◌++◌, length}
-use Rattle.std.specs.Prelude.{All, MatchBool, map}
+use Rattle.std.proofs.Common.{◌≡◌, zero, suc, ◌+◌, refl, ap, arith, sym, ◌∙◌, subst, Bool, true, false, List, [], ◌∷◌, ◌++◌, length}
+use Rattle.std.specs.Prelude.{MatchBool, map}
 use Rattle.std.proofs.lemmas.List.{append_assoc}
 use Rattle.kf_core.specs.declared.key.Key.{Key}
 use Rattle.kf_core.specs.PostOrder.{IsPostOrder}
@@ -11,8 +11,8 @@ use Rattle.kf_tree.specs.Causes.{doom_cause}
 use Rattle.kf_tree.specs.Ends.{EndsWith}
 use Rattle.kf_tree.specs.TreeLogs.{IsAccepted}
 use Rattle.kf_words.specs.Callers.{TableId, Handle, IsSameSeat}
-use Rattle.kf_shared.specs.Locked.{Locked, IsWhole}
-use Rattle.kf_shared.specs.Removal.{keys_of, IsStill, AreHolds, DoomHolds, DoomDone, DoomMarked}
+use Rattle.kf_shared.specs.Locked.{Locked}
+use Rattle.kf_shared.specs.Removal.{keys_of, AreHolds, DoomHolds, DoomDone, DoomMarked}
 use Rattle.kf_shared.specs.Receipts.{AreOf, AllDifferent, Owner, owner, owners_of, EndsAt, IsDoomList, WasDoomed}
 
 owners_more : (xs ys : List Handle) → owners_of (xs ++ ys) ≡ owners_of xs ++ owners_of ys

@@ -1,15 +1,15 @@
 -- Where the node of a slot is found in a tree, and the room that loads found for its holds.
-use Rattle.std.proofs.Common.{◌≡◌, ◌≢◌, ◌⊎◌, inl, inr, ℕ, zero, suc, ◌+◌, ◌<◌, ◌≤◌, refl, ap, sym, ◌∙◌, subst, arith, Bool, true, false, List, length}
+use Rattle.std.proofs.Common.{◌≡◌, ◌⊎◌, inl, inr, ℕ, zero, suc, ◌+◌, ◌<◌, ◌≤◌, refl, ap, sym, ◌∙◌, subst, arith, Bool, true, false, List, length}
 use Rattle.std.specs.Prelude.{Option, None, Some, is_some, slice_get, if◌then◌else◌}
 use Rattle.std.specs.Option.{option_map, option_and_then}
 use Rattle.std.proofs.lemmas.Option.{same_Some, none-some, slice_get_within}
 use Rattle.kf_core.specs.declared.key.Key.{Key}
 use Rattle.kf_core.specs.declared.records.Record.{Record}
 use Rattle.kf_core.specs.declared.refusal.Refusal.{Refusal}
-use Rattle.kf_core.specs.declared.refusal.Refusal.TheVariants.{NoMemory, TooManyHolds}
+use Rattle.kf_core.specs.declared.refusal.Refusal.TheVariants.{TooManyHolds}
 use Rattle.kf_core.specs.Keys.{same_key}
 use Rattle.kf_core.specs.declared.slot.SlotState.{SlotState}
-use Rattle.kf_core.specs.Tree.{Tree, with_key, is_linked, in_subtree, parent_of}
+use Rattle.kf_core.specs.Tree.{Tree, with_key, is_linked, parent_of}
 use Rattle.kf_core.proofs.Climbs.{same_key_is, same_key_self, meets_here}
 use Rattle.kf_tree.specs.Subtrees.{key_in}
 use Rattle.kf_words.specs.declared.view.MasterView.{MasterView}

@@ -1,12 +1,12 @@
 -- While the lock is free the tree tells what the words do, so what lasts over runs of the words is told of the tree.
-use Rattle.std.proofs.Common.{◌≡◌, ◌≢◌, inl, inr, ℕ, ◌+◌, ◌≤◌, Bool, true, false, cond, not, ◌&&◌, refl, sym, ap, ◌∙◌, subst, ⊎_elim, arith, ne_eqb}
-use Rattle.std.specs.Prelude.{slice_get, Option, None, Some, is_some, ◌==◌, if◌then◌else◌}
+use Rattle.std.proofs.Common.{◌≡◌, inl, inr, ℕ, ◌+◌, ◌≤◌, Bool, true, false, cond, not, ◌&&◌, refl, sym, ap, ◌∙◌, subst, ⊎_elim, arith, ne_eqb}
+use Rattle.std.specs.Prelude.{slice_get, Option, None, Some, is_some, if◌then◌else◌}
 use Rattle.std.specs.Option.{option_map}
 use Rattle.std.proofs.lemmas.Option.{none-some, same_Some, slice_get_within}
 use Rattle.std.proofs.lemmas.Bool.Decides.{eqb_tells}
 use Rattle.kf_core.specs.declared.caller.Caller.{Caller}
 use Rattle.kf_core.specs.declared.caller.Phase.{Phase}
-use Rattle.kf_core.specs.declared.caller.Phase.TheVariants.{Turned, Running, Parted, Hidden, Spent}
+use Rattle.kf_core.specs.declared.caller.Phase.TheVariants.{Turned, Running, Hidden}
 use Rattle.kf_core.specs.declared.event.Event.TheVariants.{Enter}
 use Rattle.kf_core.specs.declared.key.Key.{Key}
 use Rattle.kf_core.specs.declared.slot.Marks.{Marks}
@@ -15,20 +15,18 @@ use Rattle.kf_core.specs.declared.records.Record.{Record}
 use Rattle.kf_core.specs.Marks.{are_live, are_doomed}
 use Rattle.kf_core.specs.Bare.{BareWorld, IsCaller, marks, marks_in, is_hidden, is_live}
 use Rattle.kf_core.specs.Bare.{is_linked as is_linked_in}
-use Rattle.kf_core.specs.Lawful.{Lawful}
 use Rattle.kf_core.specs.Agrees.{Agrees}
 use Rattle.kf_core.specs.Steps.{BareStep}
-use Rattle.kf_core.specs.Tree.{Tree, record_at, is_linked, in_subtree, ancestor, marks_of}
+use Rattle.kf_core.specs.Tree.{record_at, is_linked}
 use Rattle.kf_core.proofs.Climbs.{same_parts}
 use Rattle.kf_core.proofs.Lists.{slice_get-set_same}
-use Rattle.kf_core.proofs.FoundRecords.{in_found, met_linked, subtree_to, linked_here}
-use Rattle.kf_core.proofs.Passing.{HasCome, Finished, step_come, step_finished}
-use Rattle.kf_core.proofs.Runs.{bare_run_keeps, seen_finished}
-use Rattle.kf_words.proofs.Runs.{safe_now, rule_kept, run_is_run, run_is_safe, passed_for_good, born_unheld, try_enters, taken_live, opens_well}
+use Rattle.kf_core.proofs.Passing.{HasCome, Finished, Lost, step_come, step_lost, step_finished}
+use Rattle.kf_core.proofs.Runs.{bare_run_keeps, seen_finished, linked_has_come}
+use Rattle.kf_words.proofs.Runs.{safe_now, rule_kept, run_is_run, run_is_safe, marked_keeps_out, passed_for_good, born_unheld, try_enters, taken_live, opens_well}
 use Rattle.kf_words.specs.Runs.{Table, world, opened_table, WasLetIn}
 use Rattle.kf_words.specs.declared.view.MasterView.{MasterView}
 use Rattle.kf_shared.specs.Locked.{Locked}
-use Rattle.kf_shared.specs.Running.{IsFreeLock, StartsWell, IsReplay, TreeAgrees, lets_in, StartsLive, RunsLinked, RemovedForGood, PartedForGood, HiddenIsStill, HeldNotGiven, HeldIsLast, GoneForGood, TakenWhileLive}
+use Rattle.kf_shared.specs.Running.{IsFreeLock, StartsWell, IsReplay, TreeAgrees, lets_in, StartsLive, RunsLinked, MarkedForGood, RemovedForGood, PartedForGood, HiddenIsStill, HeldNotGiven, HeldIsLast, GoneForGood, TakenWhileLive}
 use Rattle.kf_shared.proofs.Gone.{Gone, step_gone, parted_gone}
 
 pub starts_well : StartsWell
@@ -69,20 +67,11 @@ has_marks (Some r) = refl
 same_linked : (u : Table) (s : Locked) → IsFreeLock u s → (key : Key) → is_linked s.state.tree key ≡ is_linked_in (world u) key
 same_linked u s free key = sym (has_marks (record_at s.state.tree key)) ∙ ap is_some (agrees u s free key)
 
--- what is above a linked node is linked
-above_linked : (t : Tree) (root top key : Key) → Lawful t root → is_linked t key ≡ true → in_subtree t top key ≡ true → is_linked t top ≡ true
-above_linked t root top key lawful linked below =
-    let r = linked_here t key linked in
-    let n = subtree_to t root lawful top key below in
-    let up : ancestor t n.0 r.0.key ≡ Some top = ap (ancestor t n.0) r.2 ∙ n.1 in
-    let s = met_linked t root lawful n.0 r.0 top r.1 up in
-    ap is_some (subst (λ (k : Key). record_at t k ≡ Some s.0) s.2 (in_found t s.0 s.1))
-
 pub runs_linked : RunsLinked
-runs_linked slots limit t u kinds s h r free top key gone below c runs =
+runs_linked slots limit t u kinds s h r free key gone c runs =
     let safe = run_is_safe slots limit t u kinds h r in
     let linked : is_linked s.state.tree key ≡ true = same_linked u s free key ∙ safe.running_linked c key runs in
-    let x : true ≡ false = sym (above_linked s.state.tree s.state.root top key free.whole.kept.lawful linked below) ∙ gone in cc
+    let x : true ≡ false = sym linked ∙ gone in cc
 
 dead : (o : Option Marks) → are_doomed o ≡ true → are_live o ≡ false
 dead None e = refl
@@ -93,6 +82,12 @@ dead (Some m) e = off m.activated m.doomed e
     off false true e = refl
     off true false e = absurd (let x : false ≡ true = e in cc)
     off false false e = refl
+
+pub marked_for_good : MarkedForGood
+marked_for_good slots limit t u kinds s h r free key linked doomed =
+    let events = run_is_run slots limit t u kinds h r in
+    let lost : Lost (world u) key = bare_run_keeps (λ (x : BareWorld). Lost x key) (λ x e y q f. step_lost x e y key q f) events.0 (world t) (world u) events.1 (record { doomed = doomed; come = linked_has_come (world t) key linked }) in
+    ((marked_keeps_out slots limit t u kinds h r key linked doomed).1, ap are_live (agrees u s free key) ∙ dead (marks (world u) key) lost.doomed)
 
 pub removed_for_good : RemovedForGood
 removed_for_good slots limit t u kinds s h r free c key phase there past =

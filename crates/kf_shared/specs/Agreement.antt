@@ -22,7 +22,8 @@ SameMarks slots tree = (key : Key) → marks_at slots key ≡ marks_of tree key
 
 -- the node of each linked record is the one that was born last in its slot
 abbrev pub HasNodes : List Node → Tree → Type 0
-HasNodes nodes tree = (key : Key) (r : Record) → record_at tree key ≡ Some r → slice_get nodes key.slot ≡ Some r.node
+HasNodes nodes tree =
+    (key : Key) (r : Record) → record_at tree key ≡ Some r → slice_get nodes key.slot ≡ Some r.node
 
 abbrev pub contains_key : List Key → Key → Bool
 contains_key keys key = list_any (λ k. same_key k key) keys
@@ -36,7 +37,8 @@ risen_if chosen m = record { activated = (chosen && not m.doomed) || m.activated
 
 -- the marks of these keys are changed in this way, and all others are as they were
 abbrev pub Changed : (Bool → Marks → Marks) → List Key → List SlotState → List SlotState → Type 0
-Changed change keys old new = (key : Key) → marks_at new key ≡ option_map (change (contains_key keys key)) (marks_at old key)
+Changed change keys old new =
+    (key : Key) → marks_at new key ≡ option_map (change (contains_key keys key)) (marks_at old key)
 
 -- the Master has the table, the nodes and the slots that it had
 pub record OnlyMarks (old new : MasterState) : Type 0 where

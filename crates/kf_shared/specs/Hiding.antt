@@ -23,7 +23,8 @@ kind_cause (Link target) = Some Invalid
 abbrev pub hold_cause : Tree → Handle → Option Refusal
 hold_cause t hold = first_cause (kind_cause hold.node ∷ hide_cause t hold.key ∷ [])
 
--- there was a cause, or no memory, and the hold is as it was; or there was none, and its step found the key hidden by another caller
+-- there was a cause, or no memory, and the hold is as it was; or there was none, and its step found the key
+-- hidden by another caller
 abbrev pub HideRefused : Tree → Handle → Handle → Refusal → Type 0
 HideRefused t hold back refusal =
     (Refuses (hold_cause t hold) refusal × (back ≡ hold))
@@ -31,7 +32,8 @@ HideRefused t hold back refusal =
 
 -- the key is shown, and that is stored; where it is not linked and hidden the tree is as before
 abbrev pub ShowDone : Locked → Locked → Key → Type 0
-ShowDone old new key = MatchBool (hidden_in old.state.tree key) (IsAccepted old.state new.state None (Show key)) (new.state ≡ old.state)
+ShowDone old new key = MatchBool (hidden_in old.state.tree key)
+    (IsAccepted old.state new.state None (Show key)) (new.state ≡ old.state)
 
 -- what the lock kept when a hold's hiding was refused, and after that
 pub record HidingRefused (table : TableId) (hold back : Handle) (refusal : Refusal) : Type 0 where

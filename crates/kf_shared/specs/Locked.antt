@@ -31,7 +31,8 @@ pub record IsTied (table : TableId) (s : Locked) : Type 0 where
   pub all_nodes : length s.master.nodes ≡ length s.state.tree
   pub claims : length s.claims ≡ length s.state.tree
 
--- what holds whenever the lock is free: the tree is lawful and the replay of its commands, and the Master names the same keys
+-- what holds whenever the lock is free: the tree is lawful and the replay of its commands, and the Master
+-- names the same keys
 pub record IsWhole (table : TableId) (s : Locked) : Type 0 where
   pub kept : IsKept s.state
   pub tied : IsTied table s
@@ -41,18 +42,21 @@ pub record HasFound (m : MasterView) (next : Option Key) (m' : MasterView) : Typ
   pub searched : Searched m (option_map (λ (key : Key). key.slot) next) m'
   pub vacant : IfSome next (λ key. IsVacant m' key)
 
--- the slots from 1 up were loaded until one was found free, and these loads are kept from the birth that came then, which was there
+-- the slots from 1 up were loaded until one was found free, and these loads are kept from the birth that came
+-- then, which was there
 abbrev pub BornLowest : MasterView → MasterView → ℕ → Type 0
 BornLowest old new slot = (found : MasterView) × FoundFirst old slot found × (new.at_birth ≡ found.loads)
 
 -- the node was linked in the directory, under the next key that was found, and that is stored
 abbrev pub Created : Locked → Locked → Key → List ℕ → Node → Bool → Key → Type 0
 Created old new parent name node live key =
-    IsAccepted old.state new.state (create_cause old.state.tree old.state.root parent name node (Some key)) (Create key parent name node live)
+    IsAccepted old.state new.state (create_cause old.state.tree old.state.root parent name node (Some key))
+    (Create key parent name node live)
 
 -- there was a cause against it, with the next key that was found, or no memory
 abbrev pub CreateRefused : Locked → Locked → Key → List ℕ → Node → Refusal → Type 0
-CreateRefused old new parent name node refusal = (next : Option Key) × HasFound old.master.view next new.master.view
+CreateRefused old new parent name node refusal =
+    (next : Option Key) × HasFound old.master.view next new.master.view
     × IsRefused old.state new.state (create_cause old.state.tree old.state.root parent name node next) refusal
 
 -- why a node may not be moved
@@ -61,7 +65,8 @@ move_cause s key dir name = rename_cause s.state.tree s.state.root key dir name
 
 -- the node was taken out of the tree, and that is stored; or it was not linked, and nothing was done
 abbrev pub UnlinkDone : Locked → Locked → Key → Bool → Type 0
-UnlinkDone old new key unlinked = MatchBool unlinked (IsAccepted old.state new.state (unlink_cause old.state.tree key) (Unlink key)) (new ≡ old)
+UnlinkDone old new key unlinked = MatchBool unlinked
+    (IsAccepted old.state new.state (unlink_cause old.state.tree key) (Unlink key)) (new ≡ old)
 
 -- a new hold of this linked node
 pub record IsNewHold (table : TableId) (t : Tree) (key : Key) (hold : Handle) : Type 0 where
@@ -70,11 +75,14 @@ pub record IsNewHold (table : TableId) (t : Tree) (key : Key) (hold : Handle) : 
   pub node : option_map (λ r. r.node) (record_at t key) ≡ Some hold.node
   pub still : hold.phase ≡ Still
 
--- the node is not linked, and nothing changed; or one load found as many holds as there may be; or there was no memory
+-- the node is not linked, and nothing changed; or one load found as many holds as there may be; or there was
+-- no memory
 abbrev pub HoldRefused : Locked → Locked → Key → Refusal → Type 0
-HoldRefused old new key refusal = MatchBool (is_linked old.state.tree key) (PinRefused old.master.view key.slot refusal new.master.view) ((refusal ≡ NoEntry) × (new ≡ old))
+HoldRefused old new key refusal = MatchBool (is_linked old.state.tree key)
+    (PinRefused old.master.view key.slot refusal new.master.view) ((refusal ≡ NoEntry) × (new ≡ old))
 
--- the root, the tree, its commands and the claims are as before, and of the Master the table, the nodes and the slots
+-- the root, the tree, its commands and the claims are as before, and of the Master the table, the nodes and
+-- the slots
 pub record Unchanged (old new : Locked) : Type 0 where
   pub root : new.state.root ≡ old.state.root
   pub tree : new.state.tree ≡ old.state.tree
@@ -86,7 +94,8 @@ pub record Unchanged (old new : Locked) : Type 0 where
 abbrev pub UnlinkRefused : Locked → Locked → Key → Refusal → Type 0
 UnlinkRefused old new key refusal =
     ((unlink_cause old.state.tree key ≡ Some refusal) × (new ≡ old))
-    ⊎ ((unlink_cause old.state.tree key ≡ None) × (refusal ≡ Busy) × UnlinkAnswer old.master.view key.slot false new.master.view × Unchanged old new)
+    ⊎ ((unlink_cause old.state.tree key ≡ None) × (refusal ≡ Busy)
+    × UnlinkAnswer old.master.view key.slot false new.master.view × Unchanged old new)
 
 abbrev pub is_some_of : Option ℕ → ℕ → Bool
 is_some_of None n = false

@@ -1,5 +1,5 @@
 -- What the receipts of a removal tell, and what it found and made while it had the lock.
-use Rattle.std.specs.Prelude.{◌≡◌, ◌≢◌, ℕ, Bool, not, List, [], ◌∷◌, ◌++◌, map, All, AllPairs, MatchBool, slice_set}
+use Rattle.std.specs.Prelude.{◌≡◌, ◌≢◌, Bool, not, List, [], ◌∷◌, ◌++◌, map, All, AllPairs, MatchBool, slice_set}
 use Rattle.kf_core.specs.declared.key.Key.{Key}
 use Rattle.kf_core.specs.declared.refusal.Refusal.{Refusal}
 use Rattle.kf_core.specs.PostOrder.{IsPostOrder}
@@ -29,7 +29,8 @@ owners_of handles = map owner handles
 
 -- the last is of the very seat of this hold
 abbrev pub EndsAt : List Handle → Handle → Type 0
-EndsAt handles hold = (front : List Handle) × (last : Handle) × (handles ≡ front ++ last ∷ []) × IsSameSeat hold last
+EndsAt handles hold =
+    (front : List Handle) × (last : Handle) × (handles ≡ front ++ last ∷ []) × IsSameSeat hold last
 
 -- the keys of the node's subtree, in post-order; where the node is not linked, its own alone
 abbrev pub IsDoomList : Tree → Key → List Key → Type 0

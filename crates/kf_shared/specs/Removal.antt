@@ -26,17 +26,23 @@ IsStill table hold = (hold.table ≡ table) × (hold.phase ≡ Still)
 abbrev pub AreHolds : TableId → Handle → List Handle → Type 0
 AreHolds table hold holds = (front : List Handle) × (holds ≡ front ++ hold ∷ []) × All (IsStill table) front
 
--- one hold for each node of the subtree, in post-order; where the node is no longer linked, the given hold alone
+-- one hold for each node of the subtree, in post-order; where the node is no longer linked, the given hold
+-- alone
 abbrev pub DoomHolds : Tree → Handle → List Handle → Type 0
-DoomHolds t hold holds = MatchBool (is_linked t hold.key) (IsPostOrder t hold.key (keys_of holds)) (holds ≡ hold ∷ [])
+DoomHolds t hold holds =
+    MatchBool (is_linked t hold.key) (IsPostOrder t hold.key (keys_of holds)) (holds ≡ hold ∷ [])
 
--- the node and all below it are doomed, and that is stored; where it is no longer linked the tree is as before
+-- the node and all below it are doomed, and that is stored; where it is no longer linked the tree is as
+-- before
 abbrev pub DoomMarked : Locked → Locked → Key → Type 0
-DoomMarked old new key = MatchBool (is_linked old.state.tree key) (IsAccepted old.state new.state (doom_cause old.state.tree old.state.root key) (Doom key)) (new.state ≡ old.state)
+DoomMarked old new key = MatchBool (is_linked old.state.tree key)
+    (IsAccepted old.state new.state (doom_cause old.state.tree old.state.root key) (Doom key))
+    (new.state ≡ old.state)
 
 -- and in that case no word step is made either
 abbrev pub DoomDone : Locked → Locked → Key → Type 0
-DoomDone old new key = MatchBool (is_linked old.state.tree key) (IsAccepted old.state new.state (doom_cause old.state.tree old.state.root key) (Doom key)) (new ≡ old)
+DoomDone old new key = MatchBool (is_linked old.state.tree key)
+    (IsAccepted old.state new.state (doom_cause old.state.tree old.state.root key) (Doom key)) (new ≡ old)
 
 -- a load found as many holds of a node of the subtree as there may be
 abbrev pub FoundFullIn : Tree → Key → MasterView → Type 0

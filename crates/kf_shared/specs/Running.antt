@@ -2,19 +2,20 @@
 use Rattle.std.specs.Prelude.{◌≡◌, ◌≢◌, ℕ, ◌<◌, ◌≤◌, Bool, true, false, not, ◌&&◌, List, length, IsTrue, if◌then◌else◌}
 use Rattle.kf_core.specs.declared.key.Key.{Key}
 use Rattle.kf_core.specs.declared.caller.Phase.{Phase}
-use Rattle.kf_core.specs.declared.caller.Phase.TheVariants.{Turned, Running, Drained, Parted, Hidden, Spent}
+use Rattle.kf_core.specs.declared.caller.Phase.TheVariants.{Turned, Running, Parted, Hidden, Spent}
 use Rattle.kf_core.specs.Marks.{are_live}
-use Rattle.kf_core.specs.Phases.{saw_drain, is_hiding}
-use Rattle.kf_core.specs.Bare.{IsCaller, IsLast, is_hidden}
+use Rattle.kf_core.specs.Phases.{saw_drain}
+use Rattle.kf_core.specs.Bare.{IsCaller, IsLast, is_doomed, is_hidden}
+use Rattle.kf_core.specs.Bare.{is_linked as is_linked_in}
 use Rattle.kf_core.specs.Safe.{NoneRunning, NoneHolding}
 use Rattle.kf_core.specs.Steps.{OnlySpent}
-use Rattle.kf_core.specs.Tree.{Tree, is_linked, in_subtree, marks_of}
+use Rattle.kf_core.specs.Tree.{Tree, is_linked, marks_of}
 use Rattle.kf_core.specs.Agrees.{Agrees}
 use Rattle.kf_core.specs.Commands.{replay, root_alone}
 use Rattle.kf_words.specs.Rule.{Shown}
 use Rattle.kf_words.specs.Steps.{opened}
 use Rattle.kf_words.specs.Callers.{TableId}
-use Rattle.kf_words.specs.Runs.{Table, Kind, tries, births, WordStep, WordRun, WasLetIn, OverRuns, world, master_in, opened_table}
+use Rattle.kf_words.specs.Runs.{Table, Kind, tries, births, WordStep, WordRun, WasLetIn, TryIsRefused, OverRuns, world, master_in, opened_table}
 use Rattle.kf_shared.specs.Locked.{Locked, IsWhole}
 
 -- the lock is free: its value has all that it keeps, and its Master is the one of this table
@@ -25,16 +26,20 @@ pub record IsFreeLock (u : Table) (s : Locked) : Type 0 where
 
 -- in each run of any seats, from each table that meets the rule, where at its end the lock is free
 abbrev pub WhileFree : (ℕ → ℕ → Table → Table → Locked → Type 0) → Type 0
-WhileFree Law = (slots limit : ℕ) (t u : Table) (kinds : List Kind) (s : Locked) → Shown slots limit t → WordRun t kinds u → IsFreeLock u s → Law slots limit t u s
+WhileFree Law = (slots limit : ℕ) (t u : Table) (kinds : List Kind) (s : Locked) → Shown slots limit t
+    → WordRun t kinds u → IsFreeLock u s → Law slots limit t u s
 
 -- a new tree goes with a table that meets the rule, where nobody is there but its Master
 abbrev pub StartsWell : Type 0
-StartsWell = (slots limit start : ℕ) (s : Locked) (table : TableId) → 1 ≤ slots → limit ≤ 65535 → IsWhole table s → s.master.view ≡ opened limit slots start
+StartsWell = (slots limit start : ℕ) (s : Locked) (table : TableId) → 1 ≤ slots → limit ≤ 65535
+    → IsWhole table s → s.master.view ≡ opened limit slots start
     → Shown slots limit (opened_table limit slots start) × IsFreeLock (opened_table limit slots start) s
 
 -- the tree is the replay of its stored commands
 abbrev pub IsReplay : Type 0
-IsReplay = WhileFree (λ slots limit t u s. s.state.tree ≡ replay (root_alone (length s.state.tree) s.state.root) s.state.commands)
+IsReplay = WhileFree
+    (λ slots limit t u s. s.state.tree
+    ≡ replay (root_alone (length s.state.tree) s.state.root) s.state.commands)
 
 -- the tree and the words tell the same of each key: whether it is linked, activated, doomed
 abbrev pub TreeAgrees : Type 0
@@ -44,42 +49,68 @@ TreeAgrees = WhileFree (λ slots limit t u s. Agrees s.state.tree (world u))
 abbrev pub lets_in : Tree → Table → Key → Bool
 lets_in tree u key = are_live (marks_of tree key) && not (is_hidden (world u) key)
 
--- a try, where it is the next step, lets its caller run exactly where the tree has its node live, and no caller hides it
+-- a try, where it is the next step, lets its caller run exactly where the tree has its node live, and no
+-- caller hides it
 abbrev pub StartsLive : Type 0
-StartsLive = WhileFree (λ slots limit t u s. (j : ℕ) (key : Key) (phase : Phase) (v : Table) → IsCaller (world u) j key phase → WordStep u (tries j) v
+StartsLive = WhileFree
+    (λ slots limit t u s. (j : ℕ) (key : Key) (phase : Phase) (v : Table) → IsCaller (world u) j key phase
+    → WordStep u (tries j) v
     → IsCaller (world v) j key (if lets_in s.state.tree u key then Running else Turned))
 
--- in each run from a new tree's table, whoever runs at its end was let in by a try of it, which found its key live
+-- in each run from a new tree's table, whoever runs at its end was let in by a try of it, which found its key
+-- live
 abbrev pub TakenWhileLive : Type 0
-TakenWhileLive = (slots limit start : ℕ) (u : Table) (kinds : List Kind) → 1 ≤ slots → limit ≤ 65535 → WordRun (opened_table limit slots start) kinds u
-    → (c : ℕ) (key : Key) → IsCaller (world u) c key Running → WasLetIn (opened_table limit slots start) kinds u c key
+TakenWhileLive = (slots limit start : ℕ) (u : Table) (kinds : List Kind) → 1 ≤ slots → limit ≤ 65535
+    → WordRun (opened_table limit slots start) kinds u
+    → (c : ℕ) (key : Key) → IsCaller (world u) c key Running
+    → WasLetIn (opened_table limit slots start) kinds u c key
 
--- nobody is running on a node that is not linked in the tree, nor on one below such a node
+-- nobody is running on a node that is not linked in the tree
 abbrev pub RunsLinked : Type 0
-RunsLinked = WhileFree (λ slots limit t u s. (top key : Key) → is_linked s.state.tree top ≡ false → in_subtree s.state.tree top key ≡ true → NoneRunning (world u) key)
+RunsLinked = WhileFree
+    (λ slots limit t u s. (key : Key) → is_linked s.state.tree key ≡ false → NoneRunning (world u) key)
 
--- where at the start of the run somebody had the receipt of a node, drained or parted, nobody is running on that node at its end, and the tree does not have it live
+-- where at the start of the run a linked node was marked, a try there is refused, and the tree does not have
+-- it live
+abbrev pub MarkedForGood : Type 0
+MarkedForGood = WhileFree (λ slots limit t u s. (key : Key) → IsTrue (is_linked_in (world t) key)
+    → IsTrue (is_doomed (world t) key) → TryIsRefused u key × (are_live (marks_of s.state.tree key) ≡ false))
+
+-- where at the start of the run somebody had the receipt of a node, drained or parted, nobody is running on
+-- that node at its end, and the tree does not have it live
 abbrev pub RemovedForGood : Type 0
-RemovedForGood = WhileFree (λ slots limit t u s. (c : ℕ) (key : Key) (phase : Phase) → IsCaller (world t) c key phase → IsTrue (saw_drain phase)
+RemovedForGood = WhileFree
+    (λ slots limit t u s. (c : ℕ) (key : Key) (phase : Phase) → IsCaller (world t) c key phase
+    → IsTrue (saw_drain phase)
     → NoneRunning (world u) key × (are_live (marks_of s.state.tree key) ≡ false))
 
 -- and where that receipt was parted, the tree does not have the node
 abbrev pub PartedForGood : Type 0
-PartedForGood = WhileFree (λ slots limit t u s. (c : ℕ) (key : Key) → IsCaller (world t) c key Parted → is_linked s.state.tree key ≡ false)
+PartedForGood = WhileFree
+    (λ slots limit t u s. (c : ℕ) (key : Key) → IsCaller (world t) c key Parted
+    → is_linked s.state.tree key ≡ false)
 
 -- while a caller has a key hidden, nobody is running on it
 abbrev pub HiddenIsStill : Type 0
-HiddenIsStill = OverRuns (λ slots limit t u. (c : ℕ) (key : Key) → IsCaller (world u) c key Hidden → NoneRunning (world u) key)
+HiddenIsStill = OverRuns
+    (λ slots limit t u. (c : ℕ) (key : Key) → IsCaller (world u) c key Hidden → NoneRunning (world u) key)
 
 -- a birth, where it is the next step, finds only spent callers on its slot
 abbrev pub HeldNotGiven : Type 0
-HeldNotGiven = OverRuns (λ slots limit t u. (slot : ℕ) (v : Table) → WordStep u (births slot) v → OnlySpent (world u) slot)
+HeldNotGiven =
+    OverRuns (λ slots limit t u. (slot : ℕ) (v : Table) → WordStep u (births slot) v
+    → OnlySpent (world u) slot)
 
 -- so in the slot of a key that somebody holds the tree has no other key
 abbrev pub HeldIsLast : Type 0
-HeldIsLast = WhileFree (λ slots limit t u s. (c : ℕ) (key other : Key) (phase : Phase) → IsCaller (world u) c key phase → phase ≢ Spent → is_linked s.state.tree other ≡ true → other.slot ≡ key.slot → other ≡ key)
+HeldIsLast = WhileFree
+    (λ slots limit t u s. (c : ℕ) (key other : Key) (phase : Phase) → IsCaller (world u) c key phase
+    → phase ≢ Spent → is_linked s.state.tree other ≡ true → other.slot ≡ key.slot → other ≡ key)
 
--- a key whose slot had a later generation at the start of the run has nobody on it but spent callers, and the tree does not have it
+-- a key whose slot had a later generation at the start of the run has nobody on it but spent callers, and the
+-- tree does not have it
 abbrev pub GoneForGood : Type 0
-GoneForGood = WhileFree (λ slots limit t u s. (key : Key) (generation : ℕ) → IsLast (world t) key.slot generation → key.generation < generation
+GoneForGood = WhileFree
+    (λ slots limit t u s. (key : Key) (generation : ℕ) → IsLast (world t) key.slot generation
+    → key.generation < generation
     → NoneHolding (world u) key × (is_linked s.state.tree key ≡ false))

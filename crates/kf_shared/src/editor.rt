@@ -1,5 +1,5 @@
 //! The guard of the tree lock.
-ghost use Rattle.std.specs.Prelude.{◌≡◌, ◌≤◌, ◌+◌, IfOk, IfErr, OnOk, OnErr, Some, None, true, false, not, Option, MatchBool, vec_capacity, vec_len, slice_set};
+ghost use Rattle.std.specs.Prelude.{◌≡◌, ◌≤◌, ◌+◌, IfOk, IfErr, OnOk, OnErr, None, true, false, not, vec_capacity, vec_len, slice_set};
 ghost use Rattle.kf_core.specs.declared.key.Key.{Key};
 ghost use Rattle.kf_core.specs.declared.command.Command.TheVariants.{Activate, Rename, Hide};
 ghost use Rattle.kf_core.specs.declared.refusal.Refusal.TheVariants as refusal_of;
@@ -37,8 +37,8 @@ impl<'a, N: Naming> Model for Editor<'a, N> {
 }
 
 impl<N: Naming> Editor<'_, N> {
-    /// The tree with its stored commands. What holds whenever the lock is got is told here: the tree is lawful and the
-    /// replay of its commands, and the words name the same linked, activated and doomed keys.
+    /// The tree with its stored commands. What holds whenever the lock is got is told here: the tree is
+    /// lawful and the replay of its commands, and the words name the same linked, activated and doomed keys.
     pub fn state(&self) -> &State
         ensures same { result.now ≡ self.now.state }
         ensures whole { IsWhole N.table self.now }
@@ -46,12 +46,12 @@ impl<N: Naming> Editor<'_, N> {
         self.guard.state()
     }
 
-    /// Links a node in a directory, live where it is asked to be, under the next key of the lowest slot that was found
-    /// free (`kernfs_create_dir_ns`, `__kernfs_create_file`, `kernfs_create_link`).
+    /// Links a node in a directory, live where it is asked to be, under the next key of the lowest slot that
+    /// was found free (`kernfs_create_dir_ns`, `__kernfs_create_file`, `kernfs_create_link`).
     ///
-    /// Refusals, in order: NoEntry (parent not linked), NameTooLong or Invalid (name), NotDir, NoEntry (parent doomed),
-    /// NoEntry (a link's target is not linked), Invalid (it is the root), Exists, NoSpace (no slot was found free),
-    /// NoMemory. After a refusal the tree is as before.
+    /// Refusals, in order: NoEntry (parent not linked), NameTooLong or Invalid (name), NotDir, NoEntry
+    /// (parent doomed), NoEntry (a link's target is not linked), Invalid (it is the root), Exists, NoSpace
+    /// (no slot was found free), NoMemory. After a refusal the tree is as before.
     pub fn create(
         &mut self,
         parent: Key,
@@ -62,7 +62,8 @@ impl<N: Naming> Editor<'_, N> {
         ensures accepted { IfOk result (λ key. Created self.old self.new parent name.now node live key) }
         ensures next { IfOk result (λ key. IsVacant self.old.master.view key) }
         ensures lowest { IfOk result (λ key. BornLowest self.old.master.view self.new.master.view key.slot) }
-        ensures refused { IfErr result (λ refusal. CreateRefused self.old self.new parent name.now node refusal) }
+        ensures refused { IfErr result
+            (λ refusal. CreateRefused self.old self.new parent name.now node refusal) }
         ensures same { OnErr result (Unchanged self.old self.new) }
         ensures claims { self.new.claims ≡ self.old.claims }
     {
@@ -73,26 +74,35 @@ impl<N: Naming> Editor<'_, N> {
     ///
     /// Refusals, in order: NoEntry (not linked), NoMemory. After a refusal the tree is as before.
     pub fn activate(&mut self, key: Key) -> Result<(), Refusal>
-        ensures accepted { IfOk result (λ _. IsAccepted self.old.state self.new.state (linked_cause self.old.state.tree key) (Activate key)) }
-        ensures refused { IfErr result (λ refusal. IsRefused self.old.state self.new.state (linked_cause self.old.state.tree key) refusal) }
+        ensures accepted { IfOk result
+            (λ _. IsAccepted self.old.state self.new.state (linked_cause self.old.state.tree key)
+            (Activate key)) }
+        ensures refused { IfErr result
+            (λ refusal. IsRefused self.old.state self.new.state
+            (linked_cause self.old.state.tree key) refusal) }
         ensures claims { self.new.claims ≡ self.old.claims }
         ensures same { OnErr result (self.new ≡ self.old) }
     {
         self.guard.activate(key)
     }
 
-    /// Moves a node into a directory, under a name (`kernfs_rename_ns`). One that is there already stays, and nothing is
-    /// stored.
+    /// Moves a node into a directory, under a name (`kernfs_rename_ns`). One that is there already stays, and
+    /// nothing is stored.
     ///
-    /// Refusals, in order: Invalid (the root), NoEntry (either is not linked), NameTooLong or Invalid (name), NotDir,
-    /// NoEntry (either is not live); where it is not there already, Invalid (the directory is in the node's own subtree),
-    /// Exists, NoMemory. After a refusal the tree is as before.
+    /// Refusals, in order: Invalid (the root), NoEntry (either is not linked), NameTooLong or Invalid (name),
+    /// NotDir, NoEntry (either is not live); where it is not there already, Invalid (the directory is in the
+    /// node's own subtree), Exists, NoMemory. After a refusal the tree is as before.
     pub fn rename(&mut self, key: Key, dir: Key, name: &[u8]) -> Result<(), Refusal>
         ensures no_cause { IfOk result (λ _. move_cause self.old key dir name.now ≡ None) }
-        ensures stays { IfOk result (λ _. is_there_already self.old.state.tree key dir name.now ≡ true → self.new.state ≡ self.old.state) }
+        ensures stays { IfOk result
+            (λ _. is_there_already self.old.state.tree key dir name.now ≡ true →
+            self.new.state ≡ self.old.state) }
         ensures accepted { IfOk result (λ _. is_there_already self.old.state.tree key dir name.now ≡ false →
-            IsAccepted self.old.state self.new.state (move_cause self.old key dir name.now) (Rename key dir name.now)) }
-        ensures refused { IfErr result (λ refusal. IsRefused self.old.state self.new.state (move_cause self.old key dir name.now) refusal) }
+            IsAccepted self.old.state self.new.state (move_cause self.old key dir name.now)
+            (Rename key dir name.now)) }
+        ensures refused { IfErr result
+            (λ refusal. IsRefused self.old.state self.new.state
+            (move_cause self.old key dir name.now) refusal) }
         ensures same_place { IfErr result (λ refusal. refusal ≡ refusal_of.NoMemory →
             is_there_already self.old.state.tree key dir name.now ≡ false) }
         ensures claims { self.new.claims ≡ self.old.claims }
@@ -103,8 +113,8 @@ impl<N: Naming> Editor<'_, N> {
 
     /// A new hold of a linked node (`kernfs_get`).
     ///
-    /// Refusals, in order: NoEntry (not linked), TooManyHolds (the slot was found to have as many holds as there may be),
-    /// NoMemory. After a refusal the slot has the holds that it had.
+    /// Refusals, in order: NoEntry (not linked), TooManyHolds (the slot was found to have as many holds as
+    /// there may be), NoMemory. After a refusal the slot has the holds that it had.
     pub fn hold(&mut self, key: Key) -> Result<Hold, Refusal>
         ensures hold { IfOk result (λ hold. IsNewHold N.table self.old.state.tree key hold) }
         ensures refused { IfErr result (λ refusal. HoldRefused self.old self.new key refusal) }
@@ -115,14 +125,15 @@ impl<N: Naming> Editor<'_, N> {
         self.guard.hold(key)
     }
 
-    /// Dooms the subtree of the hold's node, and gives a hold for each of its nodes: each after all that is below it,
-    /// siblings in byte order of names, the given hold last (the marking half of `kernfs_remove`). Where the node is no
-    /// longer linked, the given hold alone comes back and nothing is stored.
+    /// Dooms the subtree of the hold's node, and gives a hold for each of its nodes: each after all that is
+    /// below it, siblings in byte order of names, the given hold last (the marking half of `kernfs_remove`).
+    /// Where the node is no longer linked, the given hold alone comes back and nothing is stored.
     ///
     /// Condition: the hold is of this table.
     ///
-    /// Refusals, in order: Invalid (the root), TooManyHolds (a node below was found to have as many holds as there may
-    /// be), NoMemory (each was found to have room). After a refusal nothing is marked, and the hold comes back.
+    /// Refusals, in order: Invalid (the root), TooManyHolds (a node below was found to have as many holds as
+    /// there may be), NoMemory (each was found to have room). After a refusal nothing is marked, and the hold
+    /// comes back.
     pub fn doom(&mut self, hold: Hold) -> Result<Vec<Hold>, (Hold, Refusal)>
         requires table { hold.table ≡ N.table }
         ensures order { IfOk result (λ holds. DoomHolds self.old.state.tree hold holds.items) }
@@ -140,13 +151,15 @@ impl<N: Naming> Editor<'_, N> {
     ///
     /// Condition: the receipt is of this table.
     ///
-    /// Refusals of a linked node, in order: Invalid (not doomed), Busy (it has a linked child, or its word was found in
-    /// use). After a refusal nothing is changed. It takes no memory.
+    /// Refusals of a linked node, in order: Invalid (not doomed), Busy (it has a linked child, or its word
+    /// was found in use). After a refusal nothing is changed. It takes no memory.
     pub fn unlink(&mut self, drained: &Drained) -> Result<bool, Refusal>
         requires table { drained.now.table ≡ N.table }
         ensures linked { IfOk result (λ unlinked. is_linked self.old.state.tree drained.now.key ≡ unlinked) }
         ensures accepted { IfOk result (λ unlinked. UnlinkDone self.old self.new drained.now.key unlinked) }
-        ensures drained { IfOk result (λ unlinked. unlinked ≡ true → UnlinkAnswer self.old.master.view drained.now.key.slot true self.new.master.view) }
+        ensures drained { IfOk result
+            (λ unlinked. unlinked ≡ true →
+            UnlinkAnswer self.old.master.view drained.now.key.slot true self.new.master.view) }
         ensures still_linked { IfErr result (λ _. is_linked self.old.state.tree drained.now.key ≡ true) }
         ensures refused { IfErr result (λ refusal. UnlinkRefused self.old self.new drained.now.key refusal) }
         ensures claims { self.new.claims ≡ self.old.claims }
@@ -154,18 +167,20 @@ impl<N: Naming> Editor<'_, N> {
         self.guard.unlink(drained)
     }
 
-    /// Hides a file: until it is shown again each try for a reference to it is refused. The callbacks that run there go on,
-    /// and `wait_hidden` waits for them; call it with the lock let go.
+    /// Hides a file: until it is shown again each try for a reference to it is refused. The callbacks that
+    /// run there go on, and `wait_hidden` waits for them; call it with the lock let go.
     ///
     /// Condition: the hold is of this table.
     ///
-    /// Refusals, in order: IsDir, Invalid (a link), by the hold's own node; NoEntry (not linked, or doomed), Busy (hidden),
-    /// NoMemory. After a refusal the tree is as before and the hold comes back; where it was Busy because the word had the
-    /// key hidden, and the tree had not, the hold has made one step.
+    /// Refusals, in order: IsDir, Invalid (a link), by the hold's own node; NoEntry (not linked, or doomed),
+    /// Busy (hidden), NoMemory. After a refusal the tree is as before and the hold comes back; where it was
+    /// Busy because the word had the key hidden, and the tree had not, the hold has made one step.
     pub fn hide(&mut self, hold: Hold) -> Result<Hiding, (Hold, Refusal)>
         requires table { hold.table ≡ N.table }
         ensures hiding { IfOk result (λ hiding. IsSameSeat hold hiding × WasHidden hold hiding) }
-        ensures accepted { IfOk result (λ _. IsAccepted self.old.state self.new.state (hold_cause self.old.state.tree hold) (Hide hold.key)) }
+        ensures accepted { IfOk result
+            (λ _. IsAccepted self.old.state self.new.state (hold_cause self.old.state.tree hold)
+            (Hide hold.key)) }
         ensures refused { IfErr result (λ r. HideRefused self.old.state.tree hold r.0 r.1) }
         ensures same { OnErr result (Unchanged self.old self.new) }
         ensures words { self.new.master ≡ self.old.master }
@@ -174,8 +189,9 @@ impl<N: Naming> Editor<'_, N> {
         self.guard.hide(hold)
     }
 
-    /// Shows a hidden file again. From now on a try is let in where the node is linked, activated and not doomed, whatever
-    /// became of it meanwhile. Where the node has left the tree nothing is stored. It refuses nothing and takes no memory.
+    /// Shows a hidden file again. From now on a try is let in where the node is linked, activated and not
+    /// doomed, whatever became of it meanwhile. Where the node has left the tree nothing is stored. It
+    /// refuses nothing and takes no memory.
     ///
     /// Condition: the token is of this table.
     pub fn show(&mut self, hidden: Hidden) -> Hold
@@ -188,8 +204,8 @@ impl<N: Naming> Editor<'_, N> {
         self.guard.show(hidden)
     }
 
-    /// Puts the canonical list of commands of this tree in place of the stored ones. The tree, its keys, the words
-    /// and all holds stay.
+    /// Puts the canonical list of commands of this tree in place of the stored ones. The tree, its keys, the
+    /// words and all holds stay.
     ///
     /// Refusal: NoMemory. Then nothing is changed.
     pub fn compact(&mut self) -> Result<(), Refusal>
@@ -213,7 +229,8 @@ impl<N: Naming> Editor<'_, N> {
         ensures holds { IfOk result (λ holds. AreHolds N.table hold holds.items) }
         ensures done { IfOk result (λ _. DoomDone self.old self.new hold.key) }
         ensures whole { IsWhole N.table self.new }
-        ensures room { IfOk result (λ holds. vec_len receipts.new + vec_len holds ≤ vec_capacity receipts.new) }
+        ensures room { IfOk result
+            (λ holds. vec_len receipts.new + vec_len holds ≤ vec_capacity receipts.new) }
         ensures receipts { receipts.new.items ≡ receipts.old.items }
         ensures back { IfErr result (λ r. r.0 ≡ hold) }
         ensures refused { IfErr result (λ r. DoomRefused self.old self.new hold.key r.1) }
@@ -236,14 +253,18 @@ impl<N: Naming> Editor<'_, N> {
         ensures seat { IsSameSeat call.old call.new }
         ensures broken { OnOk result (call.new.phase ≡ phase_of.Broken) }
         ensures kept { OnErr result (call.new ≡ call.old) }
-        ensures holds { IfOk result (λ r. (hold : Handle) × IsStill N.table hold × (hold.key ≡ call.old.key) × AreHolds N.table hold r.1.items × DoomHolds self.old.state.tree hold r.1.items) }
+        ensures holds { IfOk result
+            (λ r. (hold : Handle) × IsStill N.table hold × (hold.key ≡ call.old.key)
+            × AreHolds N.table hold r.1.items × DoomHolds self.old.state.tree hold r.1.items) }
         ensures first { IfOk result (λ r. r.0 ≡ not (is_claimed self.old.claims call.old.key)) }
-        ensures claimed { OnOk result (self.new.claims ≡ slice_set self.old.claims call.old.key.slot call.old.key.generation) }
+        ensures claimed { OnOk result
+            (self.new.claims ≡ slice_set self.old.claims call.old.key.slot call.old.key.generation) }
         ensures done { IfOk result (λ _. DoomMarked self.old self.new call.old.key) }
         ensures whole { IsWhole N.table self.new }
         ensures room { IfOk result (λ r. vec_len receipts.new + vec_len r.1 ≤ vec_capacity receipts.new) }
         ensures receipts { receipts.new.items ≡ receipts.old.items }
-        ensures refused { IfErr result (λ refusal. SelfRemovalRefused self.old self.new call.old.key refusal) }
+        ensures refused { IfErr result
+            (λ refusal. SelfRemovalRefused self.old self.new call.old.key refusal) }
         ensures same { OnErr result (Unchanged self.old self.new) }
     {
         let started = self.guard.start_self_removal(call, receipts);

@@ -1,4 +1,5 @@
-//! What the tests of the shared tree build on: each helper stops the test where its call does not answer as asked.
+//! What the tests of the shared tree build on: each helper stops the test where its call does not answer as
+//! asked.
 ghost use Rattle.std.specs.Prelude.{◌≡◌};
 ghost use Rattle.kf_core.specs.declared.caller.Phase.TheVariants as phase_of;
 ghost use Rattle.kf_words.specs.Callers.{IsSameSeat};
@@ -112,6 +113,14 @@ pub(crate) fn no_hold<N: Naming, R: Abort + Wait>(
         }
         Err(refusal) => assert_eq!(rt; refusal, why),
     }
+}
+
+/// There is no slot for a node more.
+pub(crate) fn no_slot<N: Naming, R: Abort + Wait>(rt: &R, tree: &SharedTree<N>) {
+    let mut editor = tree.edit(rt);
+    let root = editor.state().root();
+    let beyond = editor.create(root, b"one more", FILE, true);
+    assert_eq!(rt; beyond, Err(Refusal::NoSpace));
 }
 
 pub(crate) fn doom<N: Naming, R: Abort + Wait>(

@@ -12,14 +12,15 @@ use kf_words::{Hidden, Hold, wait_hidden};
 use std::sync::Wait;
 
 impl<N: Naming> SharedTree<N> {
-    /// Hides a file, and waits, with the lock let go, until nobody has a reference to it: then no callback runs there, save
-    /// one that broke its own protection, and none starts until the file is shown. It may never return: it waits for
-    /// every callback that runs on the file, its caller's own among them.
+    /// Hides a file, and waits, with the lock let go, until nobody has a reference to it: then no callback
+    /// runs there, save one that broke its own protection, and none starts until the file is shown. It may
+    /// never return: it waits for every callback that runs on the file, its caller's own among them.
     ///
     /// Condition: the hold is of this tree's table.
     ///
-    /// Refusals, in order, all before the wait: IsDir, Invalid (a link), by the hold's own node; NoEntry (not linked, or
-    /// doomed), Busy (hidden), NoMemory. After a refusal the tree is as before, and the hold comes back.
+    /// Refusals, in order, all before the wait: IsDir, Invalid (a link), by the hold's own node; NoEntry (not
+    /// linked, or doomed), Busy (hidden), NoMemory. After a refusal the tree is as before, and the hold comes
+    /// back.
     pub fn hide<R: Wait>(&self, rt: &R, hold: Hold) -> Result<Hidden, (Hold, Refusal)>
         requires table { hold.table ≡ N.table }
         ensures same { IfOk result (λ hidden. IsSameSeat hold hidden) }

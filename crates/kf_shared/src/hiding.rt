@@ -28,7 +28,9 @@ impl<N: Naming> Locked<N> {
     pub fn hide(&mut self, hold: Hold) -> Result<Hiding, (Hold, Refusal)>
         requires table { hold.table ≡ N.table }
         ensures hiding { IfOk result (λ hiding. IsSameSeat hold hiding × WasHidden hold hiding) }
-        ensures accepted { IfOk result (λ _. IsAccepted self.old.state self.new.state (hold_cause self.old.state.tree hold) (Hide hold.key)) }
+        ensures accepted { IfOk result
+            (λ _. IsAccepted self.old.state self.new.state (hold_cause self.old.state.tree hold)
+            (Hide hold.key)) }
         ensures refused { IfErr result (λ r. HideRefused self.old.state.tree hold r.0 r.1) }
         ensures same { OnErr result (Unchanged self.old self.new) }
         ensures words { self.new.master ≡ self.old.master }

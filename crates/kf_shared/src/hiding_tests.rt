@@ -130,13 +130,13 @@ fn commands_are_compacted_under_a_removal(rt: HostRuntime) {
 
 // ---- hiding waits for a call
 
-struct Token<N: Naming> {
-    hidden: Hidden,
-    name: PhantomData<N>,
+pub(crate) struct Token<N: Naming> {
+    pub(crate) hidden: Hidden,
+    pub(crate) name: PhantomData<N>,
     ghost of_table: { hidden.table ≡ N.table },
 }
 
-fn token_of<N: Naming>(hidden: Hidden) -> Token<N>
+pub(crate) fn token_of<N: Naming>(hidden: Hidden) -> Token<N>
     requires { hidden.table ≡ N.table }
 {
     Token {

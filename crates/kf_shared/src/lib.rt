@@ -11,6 +11,8 @@ mod hiding;
 #[cfg(test)]
 mod hiding_tests;
 #[cfg(test)]
+mod kept_tests;
+#[cfg(test)]
 mod large_tests;
 mod laws;
 mod locked;

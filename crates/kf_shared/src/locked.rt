@@ -1,5 +1,5 @@
 //! What the tree lock keeps, and its commands on one node.
-ghost use Rattle.std.specs.Prelude.{◌≡◌, IfOk, IfErr, OnErr, Some, None, true, false, not, Option, MatchBool, slice_set};
+ghost use Rattle.std.specs.Prelude.{◌≡◌, IfOk, IfErr, OnErr, Some, None, true, false, not, slice_set};
 ghost use Rattle.kf_core.specs.declared.key.Key.{Key};
 ghost use Rattle.kf_core.specs.declared.command.Command.TheVariants.{Activate, Rename};
 ghost use Rattle.kf_core.specs.declared.refusal.Refusal.TheVariants as refusal_of;
@@ -35,7 +35,8 @@ impl<N: Naming> Model for Locked<N> {
 
     ghost view = { λ s. record { state = s.state; master = s.master; claims = s.claims.items } };
 
-    ghost invariant = { λ s. IsTied N.table (record { state = s.state; master = s.master; claims = s.claims.items }) };
+    ghost invariant = { λ s. IsTied N.table
+        (record { state = s.state; master = s.master; claims = s.claims.items }) };
 }
 
 impl<N: Naming> Locked<N> {
@@ -59,7 +60,8 @@ impl<N: Naming> Locked<N> {
         ensures accepted { IfOk result (λ key. Created self.old self.new parent name.now node live key) }
         ensures next { IfOk result (λ key. IsVacant self.old.master.view key) }
         ensures lowest { IfOk result (λ key. BornLowest self.old.master.view self.new.master.view key.slot) }
-        ensures refused { IfErr result (λ refusal. CreateRefused self.old self.new parent name.now node refusal) }
+        ensures refused { IfErr result
+            (λ refusal. CreateRefused self.old self.new parent name.now node refusal) }
         ensures same { OnErr result (Unchanged self.old self.new) }
         ensures claims { self.new.claims ≡ self.old.claims }
     {
@@ -75,8 +77,12 @@ impl<N: Naming> Locked<N> {
 
     /// Activates each node of the subtree that is not doomed.
     pub fn activate(&mut self, key: Key) -> Result<(), Refusal>
-        ensures accepted { IfOk result (λ _. IsAccepted self.old.state self.new.state (linked_cause self.old.state.tree key) (Activate key)) }
-        ensures refused { IfErr result (λ refusal. IsRefused self.old.state self.new.state (linked_cause self.old.state.tree key) refusal) }
+        ensures accepted { IfOk result
+            (λ _. IsAccepted self.old.state self.new.state (linked_cause self.old.state.tree key)
+            (Activate key)) }
+        ensures refused { IfErr result
+            (λ refusal. IsRefused self.old.state self.new.state
+            (linked_cause self.old.state.tree key) refusal) }
         ensures claims { self.new.claims ≡ self.old.claims }
         ensures same { OnErr result (self.new ≡ self.old) }
     {
@@ -89,10 +95,15 @@ impl<N: Naming> Locked<N> {
     /// Moves a node into a directory, under a name.
     pub fn rename(&mut self, key: Key, dir: Key, name: &[u8]) -> Result<(), Refusal>
         ensures no_cause { IfOk result (λ _. move_cause self.old key dir name.now ≡ None) }
-        ensures stays { IfOk result (λ _. is_there_already self.old.state.tree key dir name.now ≡ true → self.new.state ≡ self.old.state) }
+        ensures stays { IfOk result
+            (λ _. is_there_already self.old.state.tree key dir name.now ≡ true →
+            self.new.state ≡ self.old.state) }
         ensures accepted { IfOk result (λ _. is_there_already self.old.state.tree key dir name.now ≡ false →
-            IsAccepted self.old.state self.new.state (move_cause self.old key dir name.now) (Rename key dir name.now)) }
-        ensures refused { IfErr result (λ refusal. IsRefused self.old.state self.new.state (move_cause self.old key dir name.now) refusal) }
+            IsAccepted self.old.state self.new.state (move_cause self.old key dir name.now)
+            (Rename key dir name.now)) }
+        ensures refused { IfErr result
+            (λ refusal. IsRefused self.old.state self.new.state
+            (move_cause self.old key dir name.now) refusal) }
         ensures same_place { IfErr result (λ refusal. refusal ≡ refusal_of.NoMemory →
             is_there_already self.old.state.tree key dir name.now ≡ false) }
         ensures claims { self.new.claims ≡ self.old.claims }
@@ -120,7 +131,9 @@ impl<N: Naming> Locked<N> {
         requires table { drained.now.table ≡ N.table }
         ensures linked { IfOk result (λ unlinked. is_linked self.old.state.tree drained.now.key ≡ unlinked) }
         ensures accepted { IfOk result (λ unlinked. UnlinkDone self.old self.new drained.now.key unlinked) }
-        ensures drained { IfOk result (λ unlinked. unlinked ≡ true → UnlinkAnswer self.old.master.view drained.now.key.slot true self.new.master.view) }
+        ensures drained { IfOk result
+            (λ unlinked. unlinked ≡ true →
+            UnlinkAnswer self.old.master.view drained.now.key.slot true self.new.master.view) }
         ensures still_linked { IfErr result (λ _. is_linked self.old.state.tree drained.now.key ≡ true) }
         ensures refused { IfErr result (λ refusal. UnlinkRefused self.old self.new drained.now.key refusal) }
         ensures claims { self.new.claims ≡ self.old.claims }

@@ -1,5 +1,5 @@
 //! The events of the words for several nodes, one after the other.
-ghost use Rattle.std.specs.Prelude.{◌≡◌, ◌<◌, All, is_some, true, [], ◌∷◌, length, take};
+ghost use Rattle.std.specs.Prelude.{◌≡◌, All, is_some, true, [], ◌∷◌};
 ghost use Rattle.kf_shared.specs.Agreement.{marks_at, Changed, OnlyMarks, doomed_if, risen_if};
 
 use kf_core::Key;

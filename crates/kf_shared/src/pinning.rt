@@ -1,5 +1,5 @@
 //! Holds of several nodes.
-ghost use Rattle.std.specs.Prelude.{◌≡◌, ◌⊎◌, ◌<◌, ◌+◌, ◌≤◌, List, All, is_some, true, false, [], ◌∷◌, length, map, take, IfOk, IfErr, Contains, vec_capacity, vec_len};
+ghost use Rattle.std.specs.Prelude.{◌≡◌, ◌⊎◌, ◌<◌, ◌+◌, All, is_some, true, false, [], ◌∷◌, length, IfOk, IfErr, Contains, vec_capacity, vec_len};
 ghost use Rattle.kf_core.specs.declared.key.Key.{Key};
 ghost use Rattle.kf_core.specs.declared.refusal.Refusal.TheVariants as refusal_of;
 ghost use Rattle.kf_words.specs.Nodes.{KeepsNodes, KeepsRooms, FoundFull};
@@ -26,7 +26,10 @@ pub fn pin_each(master: &mut Master, alloc: Global, keys: &[Key]) -> Result<Vec<
     ensures keys { IfOk result (λ holds. keys_of holds.items ≡ keys.now) }
     ensures still { IfOk result (λ holds. All (IsStill master.old.table) holds.items) }
     ensures room { IfOk result (λ holds. vec_len holds < vec_capacity holds) }
-    ensures refused { IfErr result (λ refusal. (refusal ≡ refusal_of.NoMemory) ⊎ ((refusal ≡ refusal_of.TooManyHolds) × ((key : Key) × Contains keys.now key × FoundFull master.new.view key.slot))) }
+    ensures refused { IfErr result
+        (λ refusal. (refusal ≡ refusal_of.NoMemory)
+        ⊎ ((refusal ≡ refusal_of.TooManyHolds)
+        × ((key : Key) × Contains keys.now key × FoundFull master.new.view key.slot))) }
 {
     let Ok(mut holds) = Vec::with_capacity(alloc, keys.len() + 1) else {
         return Err(Refusal::NoMemory);
@@ -60,8 +63,8 @@ fn finds_full_below(state: &State, master: &mut Master, top: Key, slot: u32) -> 
     state.is_below(top, key)
 }
 
-/// What a removal answers where memory was refused: TooManyHolds where a node below the top is found full, and
-/// NoMemory where each is found to have room. It takes no memory.
+/// What a removal answers where memory was refused: TooManyHolds where a node below the top is found full,
+/// and NoMemory where each is found to have room. It takes no memory.
 pub fn full_or_no_memory(state: &State, master: &mut Master, top: Key) -> Refusal
     requires slots { length master.old.view.slots ≡ length state.now.tree }
     ensures kept { KeepsNodes master.old master.new }

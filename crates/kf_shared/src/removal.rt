@@ -21,8 +21,8 @@ use kf_core::{Key, Refusal};
 use kf_words::{Call, Hold, Parted};
 
 impl<N: Naming> Locked<N> {
-    /// Why the doom of a linked node is refused, where memory was: TooManyHolds where a node below is found full, and
-    /// NoMemory where each is found to have room.
+    /// Why the doom of a linked node is refused, where memory was: TooManyHolds where a node below is found
+    /// full, and NoMemory where each is found to have room.
     fn full_or_no_memory(&mut self, key: Key) -> Refusal
         requires linked { is_linked self.old.state.tree key ≡ true }
         requires not_root { same_key key self.old.state.root ≡ false }
@@ -33,7 +33,8 @@ impl<N: Naming> Locked<N> {
         full_or_no_memory(&self.state, &mut self.master, key)
     }
 
-    /// The refusal of a self-removal, where want of memory comes after a node that is found full, its own among them.
+    /// The refusal of a self-removal, where want of memory comes after a node that is found full, its own
+    /// among them.
     fn memory_last(&mut self, key: Key, refusal: Refusal) -> Refusal
         requires last { refusal ≡ refusal_of.NoMemory → IsLastKey self.old.master.view key }
         ensures memory { refusal ≡ refusal_of.NoMemory →
@@ -86,7 +87,9 @@ impl<N: Naming> Locked<N> {
         requires not_root { same_key hold.key self.old.state.root ≡ false }
         requires room { vec_len pins < vec_capacity pins }
         ensures holds { IfOk result (λ holds. holds.items ≡ pins.items ++ hold ∷ []) }
-        ensures done { IfOk result (λ _. IsAccepted self.old.state self.new.state (doom_cause self.old.state.tree self.old.state.root hold.key) (Doom hold.key)) }
+        ensures done { IfOk result
+            (λ _. IsAccepted self.old.state self.new.state
+            (doom_cause self.old.state.tree self.old.state.root hold.key) (Doom hold.key)) }
         ensures back { IfErr result (λ r. (r.0 ≡ hold) × (r.1 ≡ refusal_of.NoMemory)) }
         ensures same { OnErr result (self.new ≡ self.old) }
         ensures claims { self.new.claims ≡ self.old.claims }
@@ -105,7 +108,8 @@ impl<N: Naming> Locked<N> {
         }
     }
 
-    /// Dooms the subtree of the hold's node, and gives a hold for each of its nodes, in post-order, the given one last.
+    /// Dooms the subtree of the hold's node, and gives a hold for each of its nodes, in post-order, the given
+    /// one last.
     pub fn doom(&mut self, hold: Hold) -> Result<Vec<Hold>, (Hold, Refusal)>
         requires table { hold.table ≡ N.table }
         ensures order { IfOk result (λ holds. DoomHolds self.old.state.tree hold holds.items) }
@@ -139,7 +143,8 @@ impl<N: Naming> Locked<N> {
         ensures order { IfOk result (λ holds. DoomHolds self.old.state.tree hold holds.items) }
         ensures holds { IfOk result (λ holds. AreHolds N.table hold holds.items) }
         ensures done { IfOk result (λ _. DoomDone self.old self.new hold.key) }
-        ensures room { IfOk result (λ holds. vec_len receipts.new + vec_len holds ≤ vec_capacity receipts.new) }
+        ensures room { IfOk result
+            (λ holds. vec_len receipts.new + vec_len holds ≤ vec_capacity receipts.new) }
         ensures receipts { receipts.new.items ≡ receipts.old.items }
         ensures back { IfErr result (λ r. r.0 ≡ hold) }
         ensures refused { IfErr result (λ r. DoomRefused self.old self.new hold.key r.1) }
@@ -179,13 +184,17 @@ impl<N: Naming> Locked<N> {
         ensures seat { IsSameSeat call.old call.new }
         ensures broken { OnOk result (call.new.phase ≡ phase_of.Broken) }
         ensures kept { OnErr result (call.new ≡ call.old) }
-        ensures holds { IfOk result (λ r. (hold : Handle) × IsStill N.table hold × (hold.key ≡ call.old.key) × AreHolds N.table hold r.1.items × DoomHolds self.old.state.tree hold r.1.items) }
+        ensures holds { IfOk result
+            (λ r. (hold : Handle) × IsStill N.table hold × (hold.key ≡ call.old.key)
+            × AreHolds N.table hold r.1.items × DoomHolds self.old.state.tree hold r.1.items) }
         ensures first { IfOk result (λ r. r.0 ≡ not (is_claimed self.old.claims call.old.key)) }
-        ensures claimed { OnOk result (self.new.claims ≡ slice_set self.old.claims call.old.key.slot call.old.key.generation) }
+        ensures claimed { OnOk result
+            (self.new.claims ≡ slice_set self.old.claims call.old.key.slot call.old.key.generation) }
         ensures done { IfOk result (λ _. DoomMarked self.old self.new call.old.key) }
         ensures room { IfOk result (λ r. vec_len receipts.new + vec_len r.1 ≤ vec_capacity receipts.new) }
         ensures receipts { receipts.new.items ≡ receipts.old.items }
-        ensures refused { IfErr result (λ refusal. SelfRemovalRefused self.old self.new call.old.key refusal) }
+        ensures refused { IfErr result
+            (λ refusal. SelfRemovalRefused self.old self.new call.old.key refusal) }
         ensures same { OnErr result (Unchanged self.old self.new) }
     {
         let key = call.key();

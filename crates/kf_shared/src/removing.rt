@@ -14,10 +14,11 @@ use kf_words::{Call, Hold, Parted, wait_drained};
 use std::sync::Wait;
 
 impl<N: Naming> SharedTree<N> {
-    /// Waits until the hold's node is drained, takes it out of the tree under the lock, waiting on while that is refused,
-    /// and parts (`kernfs_drain`, then `kernfs_unlink_sibling`). The holds of one doom are finished in their order:
-    /// another order may wait for itself. It takes no memory, and may never return: it waits, with the lock let go, for every
-    /// callback that runs on the node, its caller's own among them, and for the lock, which its caller must not have.
+    /// Waits until the hold's node is drained, takes it out of the tree under the lock, waiting on while that
+    /// is refused, and parts (`kernfs_drain`, then `kernfs_unlink_sibling`). The holds of one doom are
+    /// finished in their order: another order may wait for itself. It takes no memory, and may never return:
+    /// it waits, with the lock let go, for every callback that runs on the node, its caller's own among them,
+    /// and for the lock, which its caller must not have.
     ///
     /// Condition: the hold is of this tree's table.
     pub fn finish<R: Wait>(&self, rt: &R, hold: Hold) -> Parted
@@ -62,15 +63,17 @@ impl<N: Naming> SharedTree<N> {
     }
 
     /// Dooms the subtree of the hold's node, and waits until each of its nodes is drained and out of the tree
-    /// (`kernfs_remove`). The receipts stand in the order of the doom: each node after all that is below it, siblings in
-    /// byte order of names, the given hold's last. Where the node is no longer linked, the receipt is for it alone.
-    /// It may never return: it waits, with the lock let go, for every callback that runs in the subtree, its caller's own
-    /// among them (which takes `remove_self`), and for the lock, which its caller must not have.
+    /// (`kernfs_remove`). The receipts stand in the order of the doom: each node after all that is below it,
+    /// siblings in byte order of names, the given hold's last. Where the node is no longer linked, the
+    /// receipt is for it alone. It may never return: it waits, with the lock let go, for every callback that
+    /// runs in the subtree, its caller's own among them (which takes `remove_self`), and for the lock, which
+    /// its caller must not have.
     ///
     /// Condition: the hold is of this tree's table.
     ///
-    /// Refusals, in order: Invalid (the root), TooManyHolds (a node below was found to have as many holds as there may
-    /// be), NoMemory (each was found to have room). After a refusal nothing is marked, and the hold comes back as it was.
+    /// Refusals, in order: Invalid (the root), TooManyHolds (a node below was found to have as many holds as
+    /// there may be), NoMemory (each was found to have room). After a refusal nothing is marked, and the hold
+    /// comes back as it was.
     pub fn remove<R: Wait>(&self, rt: &R, hold: Hold) -> Result<Vec<Parted>, (Hold, Refusal)>
         requires table { hold.table ≡ N.table }
         ensures tables { IfOk result (λ receipts. AreOf N.table receipts.items) }
@@ -95,18 +98,19 @@ impl<N: Naming> SharedTree<N> {
         }
     }
 
-    /// Removes the node of a call from within its own callback (`kernfs_remove_self`). Under the lock it takes holds of
-    /// its own of the subtree's nodes, dooms them, claims the node, and breaks the call's protection; it waits as `remove`
-    /// does; then, under the lock, it restores the call. True for the first self-removal of the node, also where a plain
-    /// removal is under way; every other answers false, after its own waiting. The last receipt is for the call's node.
-    /// It may never return: it waits for every other callback that runs in the subtree, and for the lock, which its caller
-    /// must not have. A callback that runs on two nodes, one above the other, waits for itself where it removes the upper.
+    /// Removes the node of a call from within its own callback (`kernfs_remove_self`). Under the lock it
+    /// takes holds of its own of the subtree's nodes, dooms them, claims the node, and breaks the call's
+    /// protection; it waits as `remove` does; then, under the lock, it restores the call. True for the first
+    /// self-removal of the node, also where a plain removal is under way; every other answers false, after
+    /// its own waiting. The last receipt is for the call's node. It may never return: it waits for every
+    /// other callback that runs in the subtree, and for the lock, which its caller must not have. A callback
+    /// that runs on two nodes, one above the other, waits for itself where it removes the upper.
     ///
     /// Conditions: the call is Running, and of this tree's table. After an answer it is Restored.
     ///
-    /// Refusals, in order: Invalid (the root), NoEntry (the slot has had a later node), TooManyHolds (a node of the subtree
-    /// was found to have as many holds as there may be), NoMemory (each was found to have room). After a refusal the call is
-    /// as it was, nothing is marked, and the node is not claimed.
+    /// Refusals, in order: Invalid (the root), NoEntry (the slot has had a later node), TooManyHolds (a node
+    /// of the subtree was found to have as many holds as there may be), NoMemory (each was found to have
+    /// room). After a refusal the call is as it was, nothing is marked, and the node is not claimed.
     pub fn remove_self<R: Wait>(
         &self,
         rt: &R,

@@ -68,7 +68,8 @@ fn the_last_generation_is_given_once(rt: HostRuntime) {
     last_generation::<Brand, _>(&rt, made(&rt, rt.alloc(), 2, 4, 4294967294));
 }
 
-/// Two holds of each node at most. `by_hand` says whether the last removal is a doom, and then a finish of each hold.
+/// Two holds of each node at most. `by_hand` says whether the last removal is a doom, and then a finish of
+/// each hold.
 fn full_below<N: Naming, R: Abort + Wait>(rt: &R, new: NewTree, by_hand: bool)
     requires { new.master.table ≡ N.table }
 {

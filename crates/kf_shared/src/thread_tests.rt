@@ -275,7 +275,7 @@ fn overlap<N: Naming + Send + Sync, R: Abort + Threads + Wait + Sync>(rt: &R, ne
 }
 
 #[test]
-fn two_removals_of_one_node_both_answer(rt: HostRuntime) {
+fn a_removal_and_one_of_its_child_both_answer(rt: HostRuntime) {
     overlap::<Brand, _>(&rt, made(&rt, rt.alloc(), 4, 8, 0));
 }
 
@@ -318,8 +318,11 @@ pub(crate) fn self_removal_of<N: Naming, R: Abort + Wait>(
     }
 }
 
-/// The node's receipt, and whether it was the first.
-pub(crate) fn first_of<N: Naming, R: Abort>(rt: &R, removal: SelfRemoval<N>, key: Key) -> bool {
+/// What a self-removal answered: whether it was the first, and its receipts.
+pub(crate) fn self_ended<N: Naming, R: Abort>(
+    rt: &R,
+    removal: SelfRemoval<N>,
+) -> (bool, Vec<Parted>) {
     let SelfRemoval {
         inside,
         first,
@@ -330,9 +333,15 @@ pub(crate) fn first_of<N: Naming, R: Abort>(rt: &R, removal: SelfRemoval<N>, key
         panic!(rt; "the self-removal was not begun");
     }
     match receipts {
-        Some(receipts) => told(rt, receipts, &[key]),
+        Some(receipts) => (first, receipts),
         None => panic!(rt; "the self-removal was refused"),
     }
+}
+
+/// The node's receipt, and whether it was the first.
+pub(crate) fn first_of<N: Naming, R: Abort>(rt: &R, removal: SelfRemoval<N>, key: Key) -> bool {
+    let (first, receipts) = self_ended(rt, removal);
+    told(rt, receipts, &[key]);
     first
 }
 

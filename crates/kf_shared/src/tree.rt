@@ -31,7 +31,8 @@ impl Model for NewTree {
 
     ghost view = { λ s. record { state = s.state; master = s.master; claims = s.claims.items } };
 
-    ghost invariant = { λ s. IsTied s.master.table (record { state = s.state; master = s.master; claims = s.claims.items }) };
+    ghost invariant = { λ s. IsTied s.master.table
+        (record { state = s.state; master = s.master; claims = s.claims.items }) };
 }
 
 /// No slot's node is claimed: generation 0 is that of no node.
@@ -79,7 +80,8 @@ impl SharedTree<Brand> {
     ///
     /// Refusal: NoMemory.
     pub fn new(alloc: Global, limits: Limits) -> Result<NewTree, Refusal>
-        ensures tree { IfOk result (λ tree. IsNew limits.slots (record { slot = 0; generation = 1 }) tree.state) }
+        ensures tree { IfOk result
+            (λ tree. IsNew limits.slots (record { slot = 0; generation = 1 }) tree.state) }
         ensures words { IfOk result (λ tree. tree.master.view ≡ opened limits.holds limits.slots 0) }
         ensures claims { IfOk result (λ tree. tree.claims ≡ replicate limits.slots 0) }
         ensures refused { IfErr result (λ refusal. refusal ≡ refusal_of.NoMemory) }
@@ -94,7 +96,8 @@ impl SharedTree<Brand> {
     /// Refusal: NoMemory.
     pub fn new_at(alloc: Global, limits: Limits, start: u32) -> Result<NewTree, Refusal>
         requires { start ≤ 4294967294 }
-        ensures tree { IfOk result (λ tree. IsNew limits.slots (record { slot = 0; generation = start + 1 }) tree.state) }
+        ensures tree { IfOk result
+            (λ tree. IsNew limits.slots (record { slot = 0; generation = start + 1 }) tree.state) }
         ensures words { IfOk result (λ tree. tree.master.view ≡ opened limits.holds limits.slots start) }
         ensures claims { IfOk result (λ tree. tree.claims ≡ replicate limits.slots 0) }
         ensures refused { IfErr result (λ refusal. refusal ≡ refusal_of.NoMemory) }
@@ -116,12 +119,13 @@ impl SharedTree<Brand> {
 }
 
 impl<N: Naming> SharedTree<N> {
-    /// Waits for the one lock. Whenever it is got, the tree is lawful and the replay of its commands, and the words name
-    /// the same linked, activated and doomed keys.
+    /// Waits for the one lock. Whenever it is got, the tree is lawful and the replay of its commands, and the
+    /// words name the same linked, activated and doomed keys.
     ///
-    /// The lock is not reentrant: one who has an [`Editor`] and calls `edit`, `finish`, `remove`, `remove_self`, `hide` or
-    /// `show` of the same tree waits for itself. So may one who waits under it for a drain or a hidden file: nobody
-    /// can mark a node meanwhile, and a callback that is waited for may want the lock. Under it may be called what takes no runtime: the editor's commands, and each call of a
+    /// The lock is not reentrant: one who has an [`Editor`] and calls `edit`, `finish`, `remove`,
+    /// `remove_self`, `hide` or `show` of the same tree waits for itself. So may one who waits under it for a
+    /// drain or a hidden file: nobody can mark a node meanwhile, and a callback that is waited for may want
+    /// the lock. Under it may be called what takes no runtime: the editor's commands, and each call of a
     /// hold, call, receipt or token.
     pub fn edit<R: Wait>(&self, rt: &R) -> Editor<'_, N>
         ensures { IsWhole N.table result }

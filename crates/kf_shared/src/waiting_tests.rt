@@ -200,8 +200,8 @@ fn finish_in<N: Naming, R: Wait>(
     }
 }
 
-/// Lets the finish begin while the lock is held, and restores the call before the lock is let go: the finish has seen the node
-/// drained by then, and its unlink finds the node in use.
+/// Lets the finish begin while the lock is held, and restores the call before the lock is let go: the finish
+/// has seen the node drained by then, and its unlink finds the node in use.
 fn restore_under_the_lock<N: Naming, R: Wait + Clock>(
     rt: &R,
     tree: &SharedTree<N>,

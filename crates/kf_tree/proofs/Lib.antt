@@ -1,5 +1,6 @@
 pub mod Created
 pub mod Unlinked
+pub mod Unnamed
 pub mod Marked
 pub mod Renamed
 pub mod Doomed

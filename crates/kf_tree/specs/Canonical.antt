@@ -26,14 +26,16 @@ collected f (key ∷ keys) = f key ++ collected f keys
 -- the creation of a record as it is; the root's is none
 abbrev pub creation : Option Record → List Command
 creation None = []
-creation (Some r) = option_map_or (λ parent. Create r.key parent r.name r.node r.marks.activated ∷ []) r.parent []
+creation (Some r) =
+    option_map_or (λ parent. Create r.key parent r.name r.node r.marks.activated ∷ []) r.parent []
 
 abbrev pub create_of : Tree → Key → List Command
 create_of t key = creation (record_at t key)
 
 -- whether a record is doomed, and its directory is not
 abbrev pub is_doomed_top : Tree → Key → Bool
-is_doomed_top t key = option_map_or (λ r. r.marks.doomed && not (option_map_or (doomed_in t) r.parent false)) (record_at t key) false
+is_doomed_top t key = option_map_or (λ r. r.marks.doomed && not (option_map_or (doomed_in t) r.parent false))
+    (record_at t key) false
 
 abbrev pub doom_of : Tree → Key → List Command
 doom_of t key = if is_doomed_top t key then Doom key ∷ [] else []
@@ -41,7 +43,8 @@ doom_of t key = if is_doomed_top t key then Doom key ∷ [] else []
 abbrev pub hide_of : Tree → Key → List Command
 hide_of t key = if hidden_in t key then Hide key ∷ [] else []
 
--- a creation of each record but the root, a doom of the top of each doomed subtree, and a hiding of each hidden record, all in pre-order
+-- a creation of each record but the root, a doom of the top of each doomed subtree, and a hiding of each
+-- hidden record, all in pre-order
 abbrev pub IsCanonical : Tree → List Command → Type 0
 IsCanonical t commands = (keys : List Key) × IsPreOrder t keys
     × (commands ≡ collected (create_of t) keys ++ (collected (doom_of t) keys ++ collected (hide_of t) keys))

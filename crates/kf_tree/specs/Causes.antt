@@ -44,7 +44,8 @@ has_child t dir = list_any (is_under dir (λ r. true)) t
 
 -- whether the key's record is in this directory under this name
 abbrev pub is_there_already : Tree → Key → Key → List ℕ → Bool
-is_there_already t key dir name = option_map_or (λ r. is_key dir r.parent && bytes_eq r.name name) (record_at t key) false
+is_there_already t key dir name =
+    option_map_or (λ r. is_key dir r.parent && bytes_eq r.name name) (record_at t key) false
 
 abbrev pub target_of : Node → Option Key
 target_of Dir = None

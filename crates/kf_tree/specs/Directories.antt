@@ -1,4 +1,5 @@
--- What is kept of each directory beside its record, by slot: an index of its children and the number of child directories.
+-- What is kept of each directory beside its record, by slot: an index of its children and the number of child
+-- directories.
 use Rattle.std.specs.Prelude.{◌≡◌, ℕ, ◌+◌, ◌-◌, ◌^◌, ◌<◌, ◌↔◌, Bool, true, false, ◌&&◌, ◌==◌, List, length, slice_get, slice_set, slice_index_or, Option, None, Some, count_by, if◌then◌else◌}
 use Rattle.std.specs.Option.{option_and_then, option_map_or}
 use Rattle.std.specs.FinMap as map_of
@@ -14,11 +15,16 @@ empty_directory = record { index = map_of.empty; subdirs = 0 }
 
 -- the directory with one more child
 abbrev pub with_child : List ℕ → Key → Bool → Directory → Directory
-with_child name key is_subdir d = record { index = map_of.insert d.index name key; subdirs = if is_subdir then d.subdirs + 1 else d.subdirs }
+with_child name key is_subdir d =
+    record {
+      index = map_of.insert d.index name key;
+      subdirs = if is_subdir then d.subdirs + 1 else d.subdirs;
+    }
 
 -- the directory without the child of this name
 abbrev pub without_child : List ℕ → Bool → Directory → Directory
-without_child name is_subdir d = record { index = map_of.remove d.index name; subdirs = if is_subdir then d.subdirs - 1 else d.subdirs }
+without_child name is_subdir d =
+    record { index = map_of.remove d.index name; subdirs = if is_subdir then d.subdirs - 1 else d.subdirs }
 
 -- the key under a name in the index of a slot
 abbrev pub entry_at : List Directory → ℕ → List ℕ → Option Key
@@ -31,17 +37,20 @@ subdirs_at directories slot = option_map_or (λ d. d.subdirs) (slice_get directo
 -- what is kept, with one more child of the directory in this slot
 abbrev pub with_entry : ℕ → List ℕ → Key → Bool → List Directory → List Directory
 with_entry slot name key is_subdir directories =
-    slice_set directories slot (with_child name key is_subdir (slice_index_or directories slot empty_directory))
+    slice_set directories slot
+    (with_child name key is_subdir (slice_index_or directories slot empty_directory))
 
 -- what is kept, with the record in its directory, where it has one
 abbrev pub with_record : Record → List Directory → List Directory
-with_record r directories = option_map_or (λ parent. with_entry parent.slot r.name r.key (is_dir r.node) directories) r.parent directories
+with_record r directories = option_map_or
+    (λ parent. with_entry parent.slot r.name r.key (is_dir r.node) directories) r.parent directories
 
 -- what is kept, without the child of this name, where there is a parent
 abbrev pub without_entry : Option Key → List ℕ → Bool → List Directory → List Directory
 without_entry None name is_subdir directories = directories
 without_entry (Some parent) name is_subdir directories =
-    slice_set directories parent.slot (without_child name is_subdir (slice_index_or directories parent.slot empty_directory))
+    slice_set directories parent.slot
+    (without_child name is_subdir (slice_index_or directories parent.slot empty_directory))
 
 -- what is kept, without the record
 abbrev pub without_record : Option Record → List Directory → List Directory
@@ -84,9 +93,11 @@ pub record IsEntry (t : Tree) (slot : ℕ) (name : List ℕ) (key : Key) : Type 
   pub in_slot : dir.slot ≡ slot
   pub named : child.name ≡ name
 
--- the index of each slot leads from the names of its linked children to their keys, and to nothing else; its child directories are counted
+-- the index of each slot leads from the names of its linked children to their keys, and to nothing else; its
+-- child directories are counted
 pub record AreKept (t : Tree) (directories : List Directory) : Type 0 where
   pub as_many : length directories ≡ length t
   pub few : length t < 2 ^ 32
-  pub entries : (slot : ℕ) (name : List ℕ) (key : Key) → (entry_at directories slot name ≡ Some key) ↔ IsEntry t slot name key
+  pub entries : (slot : ℕ) (name : List ℕ) (key : Key) → (entry_at directories slot name ≡ Some key)
+      ↔ IsEntry t slot name key
   pub counted : (slot : ℕ) → slot < length t → subdirs_at directories slot ≡ count_by (is_subdir_in slot) t

@@ -16,7 +16,8 @@ abbrev pub ups : ℕ → List ℕ
 ups zero = []
 ups (suc n) = 46 ∷ 46 ∷ 47 ∷ ups n
 
--- from the link's directory up to the first base over the target, and by the names that lead from there to the target
+-- from the link's directory up to the first base over the target, and by the names that lead from there to
+-- the target
 pub record IsLinkText (t : Tree) (root dir target : Key) (text : List ℕ) : Type 0 where
   pub up : ℕ
   pub base : Key

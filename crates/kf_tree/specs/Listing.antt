@@ -12,9 +12,11 @@ pub record IsListed (t : Tree) (dir : Key) (bound : Option (List ℕ)) (name : L
   pub above : IsAbove bound name
 
 -- the first names of live children above the bound, in byte order
-pub record IsListing (t : Tree) (dir : Key) (bound : Option (List ℕ)) (limit : ℕ) (names : List (List ℕ)) : Type 0 where
+pub record IsListing (t : Tree) (dir : Key) (bound : Option (List ℕ)) (limit : ℕ)
+    (names : List (List ℕ)) : Type 0 where
   pub listed : All (IsListed t dir bound) names
   pub in_order : AllPairs IsBefore names
   pub few : length names ≤ limit
   -- one is left out only where the limit is reached by names before it
-  pub first : (name : List ℕ) → IsListed t dir bound name → Contains names name ⊎ ((length names ≡ limit) × All (λ shown. IsBefore shown name) names)
+  pub first : (name : List ℕ) → IsListed t dir bound name → Contains names name
+      ⊎ ((length names ≡ limit) × All (λ shown. IsBefore shown name) names)

@@ -20,7 +20,8 @@ pub record IsNext (t : Tree) (dir : Key) (bound : Option (List ℕ)) (c : Record
   pub is_in : IsIn t c
   pub parent : c.parent ≡ Some dir
   pub is_above : above bound c.name ≡ true
-  pub least : (s : Record) → IsIn t s → s.parent ≡ Some dir → above bound s.name ≡ true → before s.name c.name ≡ false
+  pub least : (s : Record) → IsIn t s → s.parent ≡ Some dir → above bound s.name ≡ true
+      → before s.name c.name ≡ false
 
 -- no child is above the bound
 abbrev pub NoneAbove : Tree → Key → Option (List ℕ) → Type 0
@@ -29,4 +30,6 @@ NoneAbove t dir bound = (s : Record) → IsIn t s → s.parent ≡ Some dir → 
 -- the children above the bound one after another, each by its name and key, and none is above the last
 unfoldable pub AreNext : Tree → Key → Option (List ℕ) → List (List ℕ × Key) → Type 0
 AreNext t dir bound [] = NoneAbove t dir bound
-AreNext t dir bound (entry ∷ later) = ((c : Record) × IsNext t dir bound c × (c.name ≡ entry.0) × (c.key ≡ entry.1)) × AreNext t dir (Some entry.0) later
+AreNext t dir bound (entry ∷ later) =
+    ((c : Record) × IsNext t dir bound c × (c.name ≡ entry.0) × (c.key ≡ entry.1))
+    × AreNext t dir (Some entry.0) later

@@ -33,7 +33,8 @@ child t dir name = option_and_then (λ slot. slot) (first (is_under dir (λ r. b
 
 abbrev pub entry_key : Option Record → Option Record → Result Key Refusal
 entry_key None entry = Err NoEntry
-entry_key (Some dir) entry = if is_dir dir.node then ok_or (option_and_then (λ r. Some r.key) entry) NoEntry else Err NotDir
+entry_key (Some dir) entry =
+    if is_dir dir.node then ok_or (option_and_then (λ r. Some r.key) entry) NoEntry else Err NotDir
 
 -- what a name in a directory leads to
 abbrev pub found : Tree → Key → List ℕ → Result Key Refusal
@@ -102,7 +103,9 @@ final (name ∷ next ∷ names) = final (next ∷ names)
 -- the names before the last, where none of them is empty, and the last, which may be
 abbrev pub but_last : List (List ℕ) → Option (List (List ℕ) × List ℕ)
 but_last [] = None
-but_last (name ∷ names) = if list_any is_empty (front (name ∷ names)) then None else Some (front (name ∷ names), final (name ∷ names))
+but_last (name ∷ names) =
+    if list_any is_empty (front (name ∷ names)) then None else Some
+    (front (name ∷ names), final (name ∷ names))
 
 -- those of a path; `/` has no last name
 abbrev pub parent_names : List ℕ → Option (List (List ℕ) × List ℕ)
@@ -110,4 +113,5 @@ parent_names path = option_and_then (λ bytes. but_last (parts bytes)) (after_sl
 
 -- the node of all names but the last, and the last
 abbrev pub walked_parent : Tree → Key → List ℕ → Result (Key × List ℕ) Refusal
-walked_parent t root path = and_then (ok_or (parent_names path) Invalid) (λ p. and_then (walk t root p.0) (λ dir. Ok (dir, p.1)))
+walked_parent t root path =
+    and_then (ok_or (parent_names path) Invalid) (λ p. and_then (walk t root p.0) (λ dir. Ok (dir, p.1)))

@@ -12,7 +12,8 @@ use Rattle.kf_tree.specs.Causes.{Refuses}
 pub record TreeLog : Type 0 where
   pub root : Key
   pub tree : List (Option Record)  -- by slot
-  pub commands : List Command  -- the canonical list at the last compaction, if any, then what was accepted since
+  -- the canonical list at the last compaction, if any, then what was accepted since
+  pub commands : List Command
   pub ready : Option Key  -- the key whose hiding has its memory, from `may_hide` to the next change
 
 -- the tree is lawful, and the replay of its commands

@@ -17,7 +17,8 @@ pub record IsFirstBelow (t : Tree) (top first : Key) : Type 0 where
 pub record IsNextInPostOrder (t : Tree) (top key next : Key) : Type 0 where
   pub linked : IsTrue (is_linked t next)
   pub below : IsTrue (in_subtree t top next)
-  pub follows : (k : Key) → IsTrue (is_linked t k) → StandsBefore t k next ↔ ((k ≡ key) ⊎ StandsBefore t k key)
+  pub follows : (k : Key) → IsTrue (is_linked t k) → StandsBefore t k next
+      ↔ ((k ≡ key) ⊎ StandsBefore t k key)
 
 -- in pre-order, before the next stand the key and what stands before the key, and nothing else
 pub record IsNextInPreOrder (t : Tree) (key next : Key) : Type 0 where

@@ -16,7 +16,8 @@ later_parts (Some text) = slice_split is_slash text
 abbrev pub name_at : Tree → Key → List ℕ
 name_at t key = option_map_or (λ r. r.name) (record_at t key) []
 
--- the base is the first over the target on the way up from the directory, and the text grew by `../` for each step
+-- the base is the first over the target on the way up from the directory, and the text grew by `../` for each
+-- step
 pub record HasUps (t : Tree) (root dir target base : Key) (old new : List ℕ) : Type 0 where
   pub up : ℕ
   pub is_base : ancestor t up dir ≡ Some base

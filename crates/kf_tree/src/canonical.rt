@@ -89,7 +89,8 @@ fn push_creates(
     keys: &[Key],
     commands: &mut Vec<Command>,
 ) -> Result<(), AllocError>
-    ensures pushed { OnOk result (commands.new.items ≡ commands.old.items ++ collected (create_of table.now) keys.now) }
+    ensures pushed { OnOk result
+        (commands.new.items ≡ commands.old.items ++ collected (create_of table.now) keys.now) }
 {
     for key in keys {
         push_create(alloc, table, *key, commands)?;
@@ -98,7 +99,8 @@ fn push_creates(
 }
 
 fn push_dooms(table: &Table, keys: &[Key], commands: &mut Vec<Command>) -> Result<(), AllocError>
-    ensures pushed { OnOk result (commands.new.items ≡ commands.old.items ++ collected (doom_of table.now) keys.now) }
+    ensures pushed { OnOk result
+        (commands.new.items ≡ commands.old.items ++ collected (doom_of table.now) keys.now) }
 {
     for key in keys {
         push_doom(table, *key, commands)?;
@@ -107,7 +109,8 @@ fn push_dooms(table: &Table, keys: &[Key], commands: &mut Vec<Command>) -> Resul
 }
 
 fn push_hides(table: &Table, keys: &[Key], commands: &mut Vec<Command>) -> Result<(), AllocError>
-    ensures pushed { OnOk result (commands.new.items ≡ commands.old.items ++ collected (hide_of table.now) keys.now) }
+    ensures pushed { OnOk result
+        (commands.new.items ≡ commands.old.items ++ collected (hide_of table.now) keys.now) }
 {
     for key in keys {
         push_hide(table, *key, commands)?;

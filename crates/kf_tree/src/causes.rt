@@ -97,7 +97,8 @@ pub(crate) fn check_unlink(table: &Table, key: Key) -> Result<bool, Refusal>
 
 /// Why a key is not there.
 pub(crate) fn check_linked(table: &Table, key: Key) -> Result<(), Refusal>
-    ensures checked { MatchResult result (λ _. linked_cause table.now key ≡ None) (λ cause. linked_cause table.now key ≡ Some cause) }
+    ensures checked { MatchResult result (λ _. linked_cause table.now key ≡ None)
+        (λ cause. linked_cause table.now key ≡ Some cause) }
 {
     if table.record(key).is_none() {
         return Err(Refusal::NoEntry);
@@ -107,7 +108,8 @@ pub(crate) fn check_linked(table: &Table, key: Key) -> Result<(), Refusal>
 
 /// Why a key may not be doomed.
 pub(crate) fn check_doom(table: &Table, root: Key, key: Key) -> Result<(), Refusal>
-    ensures checked { MatchResult result (λ _. doom_cause table.now root key ≡ None) (λ cause. doom_cause table.now root key ≡ Some cause) }
+    ensures checked { MatchResult result (λ _. doom_cause table.now root key ≡ None)
+        (λ cause. doom_cause table.now root key ≡ Some cause) }
 {
     if table.record(key).is_none() {
         return Err(Refusal::NoEntry);
@@ -120,7 +122,8 @@ pub(crate) fn check_doom(table: &Table, root: Key, key: Key) -> Result<(), Refus
 
 /// Why a key may not be hidden.
 pub(crate) fn check_hide(table: &Table, key: Key) -> Result<(), Refusal>
-    ensures checked { MatchResult result (λ _. hide_cause table.now key ≡ None) (λ cause. hide_cause table.now key ≡ Some cause) }
+    ensures checked { MatchResult result (λ _. hide_cause table.now key ≡ None)
+        (λ cause. hide_cause table.now key ≡ Some cause) }
 {
     let Some(entry) = table.record(key) else {
         return Err(Refusal::NoEntry);
@@ -156,7 +159,8 @@ pub(crate) fn check_rename(
 ) -> Result<bool, Refusal>
     requires lawful { (root : Key) × Lawful table.now root }
     ensures checked { MatchResult result
-        (λ moves. (rename_cause table.now root key dir name.now ≡ None) × (moves ≡ not (is_there_already table.now key dir name.now)))
+        (λ moves. (rename_cause table.now root key dir name.now ≡ None)
+        × (moves ≡ not (is_there_already table.now key dir name.now)))
         (λ cause. rename_cause table.now root key dir name.now ≡ Some cause) }
 {
     if key == root {
@@ -191,7 +195,8 @@ pub(crate) fn check_rename(
 
 /// Why a directory may not be listed.
 pub(crate) fn check_list(table: &Table, dir: Key) -> Result<(), Refusal>
-    ensures checked { MatchResult result (λ _. list_cause table.now dir ≡ None) (λ cause. list_cause table.now dir ≡ Some cause) }
+    ensures checked { MatchResult result (λ _. list_cause table.now dir ≡ None)
+        (λ cause. list_cause table.now dir ≡ Some cause) }
 {
     let Some(entry) = table.record(dir) else {
         return Err(Refusal::NoEntry);
@@ -206,7 +211,8 @@ pub(crate) fn check_list(table: &Table, dir: Key) -> Result<(), Refusal>
 pub(crate) fn check_text(table: &Table, key: Key) -> Result<(Key, Key), Refusal>
     requires lawful { (root : Key) × Lawful table.now root }
     ensures checked { MatchResult result
-        (λ found. (text_cause table.now key ≡ None) × (parent_of table.now key ≡ Some found.0) × (link_target table.now key ≡ Some found.1))
+        (λ found. (text_cause table.now key ≡ None) × (parent_of table.now key ≡ Some found.0)
+        × (link_target table.now key ≡ Some found.1))
         (λ cause. text_cause table.now key ≡ Some cause) }
 {
     let Some(entry) = table.record(key) else {

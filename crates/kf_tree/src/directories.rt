@@ -86,7 +86,8 @@ pub(crate) fn enter(
     is_subdir: bool,
 ) -> Result<(), Refusal>
     requires room { HasRoom directories.old.items slot name.now }
-    ensures entered { OnOk result (directories.new.items ≡ with_entry slot name.now key is_subdir directories.old.items) }
+    ensures entered { OnOk result
+        (directories.new.items ≡ with_entry slot name.now key is_subdir directories.old.items) }
     ensures unchanged { OnErr result (directories.new.items ≡ directories.old.items) }
     ensures refused { IfErr result (λ refusal. refusal ≡ Refusal.NoMemory) }
 {
@@ -94,7 +95,8 @@ pub(crate) fn enter(
     directories[slot as usize].enter(name, key, is_subdir)
 }
 
-/// Enters a record's name into the index of its directory, where it has one. After a refusal all is as before.
+/// Enters a record's name into the index of its directory, where it has one. After a refusal all is as
+/// before.
 pub(crate) fn enter_record(directories: &mut Vec<Directory>, entry: &Record) -> Result<(), Refusal>
     requires lawful { MayEnter directories.old.items entry.now }
     ensures entered { OnOk result (directories.new.items ≡ with_record entry.now directories.old.items) }

@@ -1,6 +1,6 @@
 //! What takes memory: slots, names, and room for commands.
 
-ghost use Rattle.std.specs.Prelude.{◌≡◌, ◌≤◌, ◌<◌, ◌+◌, ◌^◌, ◌++◌, ◌∷◌, [], replicate, vec_len, vec_capacity, length, None, IfOk, IfErr, OnOk};
+ghost use Rattle.std.specs.Prelude.{◌≡◌, ◌≤◌, ◌<◌, ◌+◌, ◌^◌, ◌++◌, ◌∷◌, [], replicate, vec_capacity, length, None, IfOk, IfErr, OnOk};
 
 use kf_core::{Command, NameBytes, Record, Refusal};
 use std::alloc::Global;

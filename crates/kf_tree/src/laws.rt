@@ -10,8 +10,9 @@ ghost use Rattle.kf_tree.specs.Canonical.{IsCanonical};
 ghost use Rattle.kf_tree.specs.Links.{HasLinkText};
 ghost use Rattle.kf_tree.specs.Listing.{IsListing};
 
-/// The contracts say of a listing, a post-order, a list of commands and a link's text what each has to be, and not
-/// how it is found. There is one such answer and no other, so each of these calls has its answer fixed.
+/// The contracts say of a listing, a post-order, a list of commands and a link's text what each has to be,
+/// and not how it is found. There is one such answer and no other, so each of these calls has its answer
+/// fixed.
 pub fn answers_are_unique()
     // A directory has one listing above a bound, for each limit.
     ensures listing { (t : Tree) (dir : Key) (bound : Option (List ℕ)) (limit : ℕ) (a b : List (List ℕ)) →

@@ -17,7 +17,8 @@ use std::alloc::{AllocError, Global};
 fn over_target(table: &Table, root: Key, target: Key) -> Key
     requires rooted { Lawful table.now root }
     requires linked { IsTrue (is_linked table.now target) }
-    ensures over { (parent_of table.now target ≡ Some result) ⊎ ((parent_of table.now target ≡ None) × (result ≡ root)) }
+    ensures over { (parent_of table.now target ≡ Some result)
+        ⊎ ((parent_of table.now target ≡ None) × (result ≡ root)) }
     ensures linked { IsTrue (is_linked table.now result) }
 {
     match table.parent(target) {
@@ -53,8 +54,8 @@ fn parent_below(table: &Table, key: Key) -> Key
     }
 }
 
-/// Pushes `../` for each step up from the directory to the first base over the target, and gives that base. A second
-/// way up, from the target's directory, is climbed beside it, always the deeper of the two first.
+/// Pushes `../` for each step up from the directory to the first base over the target, and gives that base. A
+/// second way up, from the target's directory, is climbed beside it, always the deeper of the two first.
 fn push_ups(
     table: &Table,
     root: Key,
@@ -65,7 +66,8 @@ fn push_ups(
     requires rooted { Lawful table.now root }
     requires linked { IsTrue (is_linked table.now target) }
     requires there { IsTrue (is_linked table.now dir) }
-    ensures climbed { IfOk result (λ base. HasUps table.now root dir target base text.old.items text.new.items) }
+    ensures climbed { IfOk result
+        (λ base. HasUps table.now root dir target base text.old.items text.new.items) }
 {
     let mut base = dir;
     let mut other = over_target(table, root, target);
@@ -97,7 +99,8 @@ fn keys_below(alloc: Global, table: &Table, base: Key, target: Key) -> Result<Ve
     requires lawful { (root : Key) × Lawful table.now root }
     requires linked { IsTrue (is_linked table.now target) }
     requires below { (n : ℕ) × (ancestor table.now n target ≡ Some base) }
-    ensures lead { IfOk result (λ keys. walk table.now base (reverse (map (name_at table.now) keys.items)) ≡ Ok target) }
+    ensures lead { IfOk result
+        (λ keys. walk table.now base (reverse (map (name_at table.now) keys.items)) ≡ Ok target) }
 {
     let mut keys = Vec::new(alloc);
     let mut current = target;
@@ -110,7 +113,8 @@ fn keys_below(alloc: Global, table: &Table, base: Key, target: Key) -> Result<Ve
 
 /// Pushes the name of a key's record, and a slash where another name follows.
 fn push_name(table: &Table, key: Key, last: bool, text: &mut Vec<u8>) -> Result<(), AllocError>
-    ensures pushed { OnOk result (text.new.items ≡ text.old.items ++ (name_at table.now key ++ (if last then [] else 47 ∷ []))) }
+    ensures pushed { OnOk result
+        (text.new.items ≡ text.old.items ++ (name_at table.now key ++ (if last then [] else 47 ∷ []))) }
 {
     if let Some(entry) = table.record(key) {
         text.extend_from_slice(entry.name.bytes())?;
@@ -123,7 +127,9 @@ fn push_name(table: &Table, key: Key, last: bool, text: &mut Vec<u8>) -> Result<
 
 /// Pushes the names of the keys from the last to the first, joined by slashes.
 fn push_names(table: &Table, mut keys: Vec<Key>, text: &mut Vec<u8>) -> Result<(), AllocError>
-    ensures pushed { OnOk result (text.new.items ≡ text.old.items ++ join_with_byte 47 (reverse (map (name_at table.now) keys.items))) }
+    ensures pushed { OnOk result
+        (text.new.items ≡ text.old.items
+        ++ join_with_byte 47 (reverse (map (name_at table.now) keys.items))) }
 {
     'down: while let Some(key) = keys.pop() {
         push_name(table, key, keys.is_empty(), text)?;

@@ -31,7 +31,8 @@ fn push_live<'t>(
     key: Key,
 ) -> Result<(), Refusal>
     ensures pushed { OnOk result (map (λ n. n.now) names.new.items ≡
-        (if live_in table.now key then map (λ n. n.now) names.old.items ++ name.now ∷ [] else map (λ n. n.now) names.old.items)) }
+        (if live_in table.now key then map (λ n. n.now) names.old.items ++ name.now
+        ∷ [] else map (λ n. n.now) names.old.items)) }
     ensures refused { IfErr result (λ refusal. refusal ≡ Refusal.NoMemory) }
 {
     if !has_live(table, key) {
@@ -52,7 +53,8 @@ pub(crate) fn list_names<'t>(
     limit: usize,
 ) -> Result<Vec<&'t Name>, Refusal>
     requires lawful { (root : Key) × Lawful table.now root }
-    ensures listed { IfOk result (λ names. IsListing table.now dir (option_copied after.entry) limit (map (λ n. n.now) names.items)) }
+    ensures listed { IfOk result
+        (λ names. IsListing table.now dir (option_copied after.entry) limit (map (λ n. n.now) names.items)) }
     ensures refused { IfErr result (λ refusal. refusal ≡ Refusal.NoMemory) }
 {
     let mut names = Vec::new(alloc);

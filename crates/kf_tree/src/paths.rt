@@ -1,7 +1,7 @@
-//! Walks along paths, name by name, without memory.
+//! Walks along paths, name by name, without memory and in one pass.
 
-ghost use Rattle.std.specs.Prelude.{◌≡◌, ◌∷◌, ◌<◌, position, IfSome, Some, None, Ok, Err, length, MatchResult};
-ghost use Rattle.std.specs.Option.{option_map, option_copied};
+ghost use Rattle.std.specs.Prelude.{◌≡◌, ◌∷◌, ◌<◌, false, position, IfSome, Some, None, Ok, Err, OnOk, length, MatchResult};
+ghost use Rattle.std.specs.Option.{option_map};
 ghost use Rattle.std.specs.List.{list_any, slice_split};
 ghost use Rattle.kf_core.specs.declared.key.Key.{Key};
 ghost use Rattle.kf_core.specs.Lawful.{Lawful};
@@ -21,7 +21,8 @@ fn find_slash(text: &[u8]) -> Option<usize>
 
 /// The first part of the text, and what follows its slash.
 fn first_part(text: &[u8]) -> (&[u8], Option<&[u8]>)
-    ensures parts { slice_split is_slash text.now ≡ result.0.now ∷ later_parts (option_map (λ rest. rest.now) result.1) }
+    ensures parts { slice_split is_slash text.now ≡ result.0.now
+        ∷ later_parts (option_map (λ rest. rest.now) result.1) }
     ensures shorter { IfSome result.1 (λ rest. length rest.now < length text.now) }
 {
     match find_slash(text) {
@@ -30,7 +31,7 @@ fn first_part(text: &[u8]) -> (&[u8], Option<&[u8]>)
     }
 }
 
-/// Whether a part is empty.
+/// Whether a part is empty. It is asked only of a path that leads nowhere.
 fn has_empty_part(parts: &[u8]) -> bool
     ensures known { result ≡ list_any is_empty (slice_split is_slash parts.now) }
 {
@@ -45,10 +46,12 @@ fn has_empty_part(parts: &[u8]) -> bool
     false
 }
 
-/// What the parts lead to one after another, from a key on.
+/// What the parts lead to one after another, from a key on. No node has an empty name, so they lead nowhere
+/// where one is empty.
 fn walk_parts(table: &Table, start: Key, parts: &[u8], live_only: bool) -> Result<Key, Refusal>
     requires lawful { (root : Key) × Lawful table.now root }
     ensures walked { result ≡ walk (shown live_only table.now) start (slice_split is_slash parts.now) }
+    ensures named { OnOk result (list_any is_empty (slice_split is_slash parts.now) ≡ false) }
 {
     let mut dir = start;
     let mut rest = Some(parts);
@@ -74,10 +77,11 @@ pub(crate) fn walk(table: &Table, root: Key, path: &[u8], live_only: bool) -> Re
     if parts.is_empty() {
         return Ok(root);
     }
-    if has_empty_part(parts) {
-        return Err(Refusal::Invalid);
+    match walk_parts(table, root, parts, live_only) {
+        Ok(key) => Ok(key),
+        Err(_) if has_empty_part(parts) => Err(Refusal::Invalid),
+        Err(refusal) => Err(refusal),
     }
-    walk_parts(table, root, parts, live_only)
 }
 
 /// Whether a part but the last is empty.
@@ -98,8 +102,10 @@ fn has_empty_front(parts: &[u8]) -> bool
 fn walk_front<'a>(table: &Table, start: Key, parts: &'a [u8]) -> Result<(Key, &'a [u8]), Refusal>
     requires lawful { (root : Key) × Lawful table.now root }
     ensures walked { MatchResult result
-        (λ found. (walk table.now start (front (slice_split is_slash parts.now)) ≡ Ok found.0) × (final (slice_split is_slash parts.now) ≡ found.1.now))
+        (λ found. (walk table.now start (front (slice_split is_slash parts.now)) ≡ Ok found.0)
+        × (final (slice_split is_slash parts.now) ≡ found.1.now))
         (λ refusal. walk table.now start (front (slice_split is_slash parts.now)) ≡ Err refusal) }
+    ensures named { OnOk result (list_any is_empty (front (slice_split is_slash parts.now)) ≡ false) }
 {
     let mut dir = start;
     let mut text = parts;
@@ -130,8 +136,12 @@ pub(crate) fn walk_parent<'a>(
     let [b'/', parts @ ..] = path else {
         return Err(Refusal::Invalid);
     };
-    if parts.is_empty() || has_empty_front(parts) {
+    if parts.is_empty() {
         return Err(Refusal::Invalid);
     }
-    walk_front(table, root, parts)
+    match walk_front(table, root, parts) {
+        Ok(found) => Ok(found),
+        Err(_) if has_empty_front(parts) => Err(Refusal::Invalid),
+        Err(refusal) => Err(refusal),
+    }
 }

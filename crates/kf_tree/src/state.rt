@@ -172,7 +172,8 @@ impl State {
     /// (name), `NotDir`, `NoEntry` (either is not live); where it is not there already, `Invalid` (the
     /// directory is in the record's own subtree), `Exists`, `NoMemory`. After a refusal nothing is changed.
     pub fn rename(&mut self, key: Key, dir: Key, name: &[u8]) -> Result<(), Refusal>
-        ensures no_cause { IfOk result (λ _. rename_cause self.old.tree self.old.root key dir name.now ≡ None) }
+        ensures no_cause { IfOk result
+            (λ _. rename_cause self.old.tree self.old.root key dir name.now ≡ None) }
         ensures stays { IfOk result (λ _.
             is_there_already self.old.tree key dir name.now ≡ true → self.new ≡ self.old) }
         ensures accepted { IfOk result (λ _. is_there_already self.old.tree key dir name.now ≡ false →

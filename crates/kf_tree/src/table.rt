@@ -1,6 +1,6 @@
 //! The records of a tree by slot.
 
-ghost use Rattle.std.specs.Prelude.{◌≡◌, ◌≤◌, ◌<◌, ◌↔◌, Some, None, true, false, IsTrue, IfSome, IfNone, IfOk, IfErr, OnOk, OnErr, length, slice_get, slice_set};
+ghost use Rattle.std.specs.Prelude.{◌≡◌, ◌≤◌, ◌<◌, ◌↔◌, Some, None, true, false, IsTrue, IfOk, IfErr, OnOk, OnErr, length, slice_get, slice_set};
 ghost use Rattle.std.specs.Option.{option_copied, option_and_then};
 ghost use Rattle.kf_core.specs.declared.key.Key.{Key};
 ghost use Rattle.kf_core.specs.Tree.{record_at, parent_of, is_linked, in_subtree};
@@ -22,8 +22,8 @@ use kf_index::Name;
 use std::alloc::Global;
 use std::marker::Model;
 
-/// The records of a tree by slot, and beside each the index of its children and the number of child directories.
-/// Contracts see the tree.
+/// The records of a tree by slot, and beside each the index of its children and the number of child
+/// directories. Contracts see the tree.
 #[derive(Drop)]
 pub(crate) struct Table {
     records: Vec<Option<Record>>,
@@ -143,7 +143,8 @@ impl Table {
         self.in_slot(key.slot)
     }
 
-    /// The names and keys of the children above the bound, or of all where there is no bound, in byte order of names.
+    /// The names and keys of the children above the bound, or of all where there is no bound, in byte order
+    /// of names.
     pub(crate) fn children_above(&self, dir: Key, bound: Option<&[u8]>) -> &[(Name, Key)]
         requires lawful { (root : Key) × Lawful self.now root }
         ensures listed { AreNext self.now dir (option_copied bound.entry) result.now }
@@ -227,7 +228,8 @@ impl Table {
     pub(crate) fn move_to(&mut self, key: Key, dir: Key, name: NameBytes) -> Result<(), Refusal>
         requires linked { IsTrue (is_linked self.old key) }
         requires lawful { (root : Key) × Lawful self.old root }
-        requires lawful_after { (root : Key) × Lawful (with_changed_slot (moved_record dir name) self.old key.slot) root }
+        requires lawful_after { (root : Key)
+            × Lawful (with_changed_slot (moved_record dir name) self.old key.slot) root }
         requires elsewhere { is_there_already self.old key dir name ≡ false }
         ensures moved { OnOk result (self.new ≡ with_changed_slot (moved_record dir name) self.old key.slot) }
         ensures unchanged { OnErr result (self.new ≡ self.old) }

@@ -15,7 +15,7 @@ use Rattle.kf_core.specs.Safe.{Safe}
 use Rattle.kf_core.specs.Steps.{BareStep, BareRun, OnlySpent}
 use Rattle.kf_core.proofs.Lists.{slice_get-set_same}
 use Rattle.kf_core.proofs.Hiding.{hider_not_live}
-use Rattle.kf_core.proofs.Runs.{bare_for_good, bare_passed, step_starts}
+use Rattle.kf_core.proofs.Runs.{doomed_for_good, bare_for_good, bare_passed, step_starts}
 use Rattle.kf_words.specs.declared.view.CallerView.{CallerView}
 use Rattle.kf_words.specs.declared.view.MasterView.{MasterView}
 use Rattle.kf_words.specs.declared.view.View.{View}
@@ -23,7 +23,7 @@ use Rattle.kf_words.specs.declared.view.View.TheVariants as seat
 use Rattle.kf_words.specs.Layout.{active_index}
 use Rattle.kf_words.specs.Rule.{Shown, seats, bare}
 use Rattle.kf_words.specs.Steps.{after_try}
-use Rattle.kf_words.specs.Runs.{Table, Kind, tries, world, WordStep, WordRun, OpensWell, RuleKept, RunIsRun, RunIsSafe, DrainedForGood, HiddenKeepsOut, PassedForGood, BornUnheld, LetInLive, WasLetIn, TakenLive}
+use Rattle.kf_words.specs.Runs.{Table, Kind, tries, world, WordStep, WordRun, OpensWell, RuleKept, RunIsRun, RunIsSafe, DrainedForGood, MarkedKeepsOut, HiddenKeepsOut, PassedForGood, BornUnheld, LetInLive, WasLetIn, TakenLive}
 use Rattle.kf_words.proofs.Seating.{seats-set}
 use Rattle.kf_words.proofs.MasterAllowed.{state_there}
 use Rattle.kf_words.proofs.Opening.{opening_shown}
@@ -123,6 +123,15 @@ enter_refused w w' j key phase s there dead =
     ap (λ (x : BareWorld). slice_get x.callers j) s.4 ∙ new
     ∙ ap (λ (k : Key). let x : Caller = record { key = k; phase = after } in Some x) (sym its)
     ∙ ap (λ (p : Phase). let x : Caller = record { key = key; phase = p } in Some x) turned
+
+pub marked_keeps_out : MarkedKeepsOut
+marked_keeps_out slots limit t u kinds g r key linked doomed =
+    let k = rule_kept slots limit t u kinds g r in
+    let events = run_is_run slots limit t u kinds g r in
+    let dead = doomed_for_good events.0 (world t) (world u) key linked doomed events.1 in (
+      dead,
+      λ j old v tried s. enter_refused (world u) (world v) j key old (try_enters slots limit u v k j s) tried dead,
+    )
 
 pub hidden_keeps_out : HiddenKeepsOut
 hidden_keeps_out slots limit t u kinds g r c key phase there hiding =

@@ -89,19 +89,23 @@ IsIn phase c = (c.phase ≡ phase) × (c.undo_due ≡ false)
 
 -- its one step was a try, which found a word that lets it in
 abbrev pub Entered : Handle → Handle → Type 0
-Entered before after = (after.phase ≡ Running) × (after.steps ≡ before.steps + 1) × (keeps_out after.found ≡ false) × (after.tries ≡ before.tries + 1)
+Entered before after = (after.phase ≡ Running) × (after.steps ≡ before.steps + 1)
+    × (keeps_out after.found ≡ false) × (after.tries ≡ before.tries + 1)
 
 -- its try found a word that keeps it out, and a second step undid the try
 abbrev pub WasTurned : Handle → Handle → Type 0
-WasTurned before after = (after.phase ≡ Turned) × (after.steps ≡ before.steps + 2) × (keeps_out after.found ≡ true) × (after.tries ≡ before.tries + 1)
+WasTurned before after = (after.phase ≡ Turned) × (after.steps ≡ before.steps + 2)
+    × (keeps_out after.found ≡ true) × (after.tries ≡ before.tries + 1)
 
 -- its one step found the word drained
 abbrev pub SawDrained : Handle → Handle → Type 0
-SawDrained before after = (after.phase ≡ Drained) × (after.steps ≡ before.steps + 1) × (is_drained after.found ≡ true)
+SawDrained before after =
+    (after.phase ≡ Drained) × (after.steps ≡ before.steps + 1) × (is_drained after.found ≡ true)
 
 -- its one step found another word
 abbrev pub SawUse : Handle → Handle → Type 0
-SawUse before after = (after.phase ≡ before.phase) × (after.steps ≡ before.steps + 1) × (is_drained after.found ≡ false)
+SawUse before after =
+    (after.phase ≡ before.phase) × (after.steps ≡ before.steps + 1) × (is_drained after.found ≡ false)
 
 -- one step ended the call
 abbrev pub WasLeft : Handle → Handle → Type 0
@@ -117,31 +121,38 @@ WasRestored before after = (after.phase ≡ Restored) × (after.steps ≡ before
 
 -- its one step found no node linked
 abbrev pub SawParted : Handle → Handle → Type 0
-SawParted before after = (after.phase ≡ Parted) × (after.steps ≡ before.steps + 1) × (has_linked after.found ≡ false)
+SawParted before after =
+    (after.phase ≡ Parted) × (after.steps ≡ before.steps + 1) × (has_linked after.found ≡ false)
 
 -- its one step found the node linked
 abbrev pub SawLinked : Handle → Handle → Type 0
-SawLinked before after = (after.phase ≡ before.phase) × (after.steps ≡ before.steps + 1) × (has_linked after.found ≡ true)
+SawLinked before after =
+    (after.phase ≡ before.phase) × (after.steps ≡ before.steps + 1) × (has_linked after.found ≡ true)
 
 -- its one step set the bit of a hidden key
 abbrev pub WasHidden : Handle → Handle → Type 0
-WasHidden before after = (after.phase ≡ Hiding) × (after.steps ≡ before.steps + 1) × (has_hide after.found ≡ false)
+WasHidden before after =
+    (after.phase ≡ Hiding) × (after.steps ≡ before.steps + 1) × (has_hide after.found ≡ false)
 
 -- its one step found the bit set
 abbrev pub FoundHidden : Handle → Handle → Type 0
-FoundHidden before after = (after.phase ≡ before.phase) × (after.steps ≡ before.steps + 1) × (has_hide after.found ≡ true)
+FoundHidden before after =
+    (after.phase ≡ before.phase) × (after.steps ≡ before.steps + 1) × (has_hide after.found ≡ true)
 
 -- its one step found nobody who uses the node
 abbrev pub SawUnused : Handle → Handle → Type 0
-SawUnused before after = (after.phase ≡ Hidden) × (after.steps ≡ before.steps + 1) × (is_unused after.found ≡ true)
+SawUnused before after =
+    (after.phase ≡ Hidden) × (after.steps ≡ before.steps + 1) × (is_unused after.found ≡ true)
 
 -- its one step found somebody
 abbrev pub SawUser : Handle → Handle → Type 0
-SawUser before after = (after.phase ≡ before.phase) × (after.steps ≡ before.steps + 1) × (is_unused after.found ≡ false)
+SawUser before after =
+    (after.phase ≡ before.phase) × (after.steps ≡ before.steps + 1) × (is_unused after.found ≡ false)
 
 -- one step took the bit of a hidden key off, which it found set
 abbrev pub WasShown : Handle → Handle → Type 0
-WasShown before after = (after.phase ≡ Still) × (after.steps ≡ before.steps + 1) × (has_hide after.found ≡ true)
+WasShown before after =
+    (after.phase ≡ Still) × (after.steps ≡ before.steps + 1) × (has_hide after.found ≡ true)
 
 -- one step gave the hold of the slot back
 abbrev pub WasReleased : Handle → Handle → Type 0
@@ -149,7 +160,14 @@ WasReleased before after = (after.phase ≡ Spent) × (after.steps ≡ before.st
 
 -- the view of the seat
 abbrev pub seat_view : Handle → CallerView
-seat_view h = record { key = h.key; phase = h.phase; steps = h.steps; tries = h.tries; found = h.found; undo_due = h.undo_due }
+seat_view h = record {
+  key = h.key;
+  phase = h.phase;
+  steps = h.steps;
+  tries = h.tries;
+  found = h.found;
+  undo_due = h.undo_due;
+}
 
 -- once, while the rule held and this seat was as told, the active word of its slot was as found
 abbrev pub FoundThere : Handle → ℕ → Type 0

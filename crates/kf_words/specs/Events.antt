@@ -23,11 +23,14 @@ use Rattle.kf_words.specs.Nodes.{marks_of}
 
 -- whatever the words show, of the caller of each number
 abbrev pub OfEachCaller : (List ℕ → MasterView → List CallerView → ℕ → CallerView → Type 0) → Type 0
-OfEachCaller Law = (slots limit : ℕ) (t : State (Unit {0}) View) (shown : Shown slots limit t) (j : ℕ) (c : CallerView) → slice_get shown.callers j ≡ Some c → Law t.words shown.master shown.callers j c
+OfEachCaller Law = (slots limit : ℕ) (t : State (Unit {0}) View) (shown : Shown slots limit t) (j : ℕ)
+    (c : CallerView) → slice_get shown.callers j ≡ Some c → Law t.words shown.master shown.callers j c
 
 -- whatever the words show, of the Master
 abbrev pub OfTheMaster : (MasterView → List CallerView → Type 0) → Type 0
-OfTheMaster Law = (slots limit : ℕ) (t : State (Unit {0}) View) (shown : Shown slots limit t) → Law shown.master shown.callers
+OfTheMaster Law =
+    (slots limit : ℕ) (t : State (Unit {0}) View) (shown : Shown slots limit t)
+    → Law shown.master shown.callers
 
 -- a new view of the caller of this number makes this event of the world
 abbrev pub Moves : MasterView → List CallerView → ℕ → CallerView → Event → Type 0
@@ -39,70 +42,105 @@ Changes m cs m' event = BareStep (bare m cs) event (bare m' cs)
 
 -- a try, which finds the active word as it is, is an Enter: the caller runs exactly where its node is live
 abbrev pub TryIsEnter : Type 0
-TryIsEnter = OfEachCaller (λ words m cs j c. IsAtRest c → Moves m cs j (after_try (active_word words c.key.slot) c) (Enter j))
+TryIsEnter = OfEachCaller
+    (λ words m cs j c. IsAtRest c → Moves m cs j (after_try (active_word words c.key.slot) c) (Enter j))
 
 -- the second step of a refused try is an Undo
 abbrev pub UndoIsUndo : Type 0
-UndoIsUndo = OfEachCaller (λ words m cs j c. c.phase ≡ Turned → c.undo_due ≡ true → Moves m cs j (after_undo c) (Undo j))
+UndoIsUndo =
+    OfEachCaller (λ words m cs j c. c.phase ≡ Turned → c.undo_due ≡ true
+    → Moves m cs j (after_undo c) (Undo j))
 
 -- a look that finds the word drained is a Look
 abbrev pub LookIsLook : Type 0
-LookIsLook = OfEachCaller (λ words m cs j c. IsAtRest c → is_drained (active_word words c.key.slot) ≡ true → Moves m cs j (after_look (active_word words c.key.slot) c) (Look j))
+LookIsLook = OfEachCaller
+    (λ words m cs j c. IsAtRest c → is_drained (active_word words c.key.slot) ≡ true
+    → Moves m cs j (after_look (active_word words c.key.slot) c) (Look j))
 
 -- a load that finds no node linked is a Part
 abbrev pub PartIsPart : Type 0
-PartIsPart = OfEachCaller (λ words m cs j c. IsIn Drained c → has_linked (hold_word words c.key.slot) ≡ false → Moves m cs j (after_part (hold_word words c.key.slot) c) (Part j))
+PartIsPart = OfEachCaller
+    (λ words m cs j c. IsIn Drained c → has_linked (hold_word words c.key.slot) ≡ false
+    → Moves m cs j (after_part (hold_word words c.key.slot) c) (Part j))
 
 -- the end of a call is a Leave, and so on: each at any word that it finds
 abbrev pub LeaveIsLeave : Type 0
-LeaveIsLeave = OfEachCaller (λ words m cs j c. HasReference c → (found : ℕ) → Moves m cs j (after_leave found c) (Leave j))
+LeaveIsLeave =
+    OfEachCaller (λ words m cs j c. HasReference c → (found : ℕ)
+    → Moves m cs j (after_leave found c) (Leave j))
 
 abbrev pub BreakIsBreak : Type 0
-BreakIsBreak = OfEachCaller (λ words m cs j c. IsIn Running c → (found : ℕ) → Moves m cs j (after_break found c) (Break j))
+BreakIsBreak =
+    OfEachCaller (λ words m cs j c. IsIn Running c → (found : ℕ)
+    → Moves m cs j (after_break found c) (Break j))
 
 abbrev pub RestoreIsRestore : Type 0
-RestoreIsRestore = OfEachCaller (λ words m cs j c. IsIn Broken c → (found : ℕ) → Moves m cs j (after_restore found c) (Restore j))
+RestoreIsRestore = OfEachCaller
+    (λ words m cs j c. IsIn Broken c → (found : ℕ) → Moves m cs j (after_restore found c) (Restore j))
 
 abbrev pub ReleaseIsRelease : Type 0
-ReleaseIsRelease = OfEachCaller (λ words m cs j c. may_release c.phase ≡ true → (found : ℕ) → Moves m cs j (after_release found c) (Release j))
+ReleaseIsRelease = OfEachCaller
+    (λ words m cs j c. may_release c.phase ≡ true → (found : ℕ)
+    → Moves m cs j (after_release found c) (Release j))
 
 -- the bit of a hidden key set where the word had it clear is a Hide
 abbrev pub HideIsHide : Type 0
-HideIsHide = OfEachCaller (λ words m cs j c. IsAtRest c → has_hide (active_word words c.key.slot) ≡ false → Moves m cs j (after_hide (active_word words c.key.slot) c) (Hide j))
+HideIsHide = OfEachCaller
+    (λ words m cs j c. IsAtRest c → has_hide (active_word words c.key.slot) ≡ false
+    → Moves m cs j (after_hide (active_word words c.key.slot) c) (Hide j))
 
 -- a load by a hider that finds nobody who uses the node is a LookHidden
 abbrev pub LookHiddenIsLook : Type 0
-LookHiddenIsLook = OfEachCaller (λ words m cs j c. IsIn Hiding c → is_unused (active_word words c.key.slot) ≡ true → Moves m cs j (after_look_hidden (active_word words c.key.slot) c) (LookHidden j))
+LookHiddenIsLook = OfEachCaller
+    (λ words m cs j c. IsIn Hiding c → is_unused (active_word words c.key.slot) ≡ true
+    → Moves m cs j (after_look_hidden (active_word words c.key.slot) c) (LookHidden j))
 
 -- the bit taken off is a Show
 abbrev pub ShowIsShow : Type 0
-ShowIsShow = OfEachCaller (λ words m cs j c. IsIn Hidden c → (found : ℕ) → Moves m cs j (after_show found c) (Show j))
+ShowIsShow =
+    OfEachCaller (λ words m cs j c. IsIn Hidden c → (found : ℕ) → Moves m cs j (after_show found c) (Show j))
 
 -- a look that finds another word, and a load that finds a node linked, leave the world as it is
 abbrev pub MissIsNothing : Type 0
-MissIsNothing = OfEachCaller (λ words m cs j c. (found : ℕ) → (is_drained found ≡ false → bare m (slice_set cs j (after_look found c)) ≡ bare m cs) × (has_linked found ≡ true → bare m (slice_set cs j (after_part found c)) ≡ bare m cs)
-    × (has_hide found ≡ true → bare m (slice_set cs j (after_hide found c)) ≡ bare m cs) × (is_unused found ≡ false → bare m (slice_set cs j (after_look_hidden found c)) ≡ bare m cs))
+MissIsNothing = OfEachCaller
+    (λ words m cs j c. (found : ℕ)
+    → (is_drained found ≡ false → bare m (slice_set cs j (after_look found c)) ≡ bare m cs)
+    × (has_linked found ≡ true → bare m (slice_set cs j (after_part found c)) ≡ bare m cs)
+    × (has_hide found ≡ true → bare m (slice_set cs j (after_hide found c)) ≡ bare m cs)
+    × (is_unused found ≡ false → bare m (slice_set cs j (after_look_hidden found c)) ≡ bare m cs))
 
 -- the bias taken off the active word of a fresh node is a Rise, and the mark of one not doomed a Mark
 abbrev pub RiseIsRise : Type 0
-RiseIsRise = OfTheMaster (λ m cs. (key : Key) → marks_of m key ≡ Some fresh_marks → Changes m cs (with_marks activated_marks key.slot m) (Rise key))
+RiseIsRise = OfTheMaster
+    (λ m cs. (key : Key) → marks_of m key ≡ Some fresh_marks
+    → Changes m cs (with_marks activated_marks key.slot m) (Rise key))
 
 abbrev pub MarkIsMark : Type 0
-MarkIsMark = OfTheMaster (λ m cs. (key : Key) (x : Marks) → marks_of m key ≡ Some x → x.doomed ≡ false → Changes m cs (with_marks doomed_marks key.slot m) (Mark key))
+MarkIsMark = OfTheMaster
+    (λ m cs. (key : Key) (x : Marks) → marks_of m key ≡ Some x → x.doomed ≡ false
+    → Changes m cs (with_marks doomed_marks key.slot m) (Mark key))
 
 -- a birth in the slot where the last step stored a new active word is a Born of the slot's next key
 abbrev pub BirthIsBorn : Type 0
-BirthIsBorn = OfTheMaster (λ m cs. (slot : ℕ) (state : SlotState) (parent : Key) (name : NameBytes) (node : Node) → m.fresh ≡ Some slot → slice_get m.slots slot ≡ Some state
-    → Changes m cs (with_birth slot m) (Born (record { slot = slot; generation = state.generation + 1 }) parent name node))
+BirthIsBorn = OfTheMaster
+    (λ m cs. (slot : ℕ) (state : SlotState) (parent : Key) (name : NameBytes) (node : Node)
+    → m.fresh ≡ Some slot → slice_get m.slots slot ≡ Some state
+    → Changes m cs (with_birth slot m)
+    (Born (record { slot = slot; generation = state.generation + 1 }) parent name node))
 
 -- the node of a drained caller taken out of its slot is an Unlink
 abbrev pub UnlinkIsUnlink : Type 0
-UnlinkIsUnlink = OfTheMaster (λ m cs. (j : ℕ) (c : CallerView) → slice_get cs j ≡ Some c → c.phase ≡ Drained → is_some (marks_of m c.key) ≡ true → Changes m cs (without_node c.key.slot m) (Unlink j))
+UnlinkIsUnlink = OfTheMaster
+    (λ m cs. (j : ℕ) (c : CallerView) → slice_get cs j ≡ Some c → c.phase ≡ Drained
+    → is_some (marks_of m c.key) ≡ true → Changes m cs (without_node c.key.slot m) (Unlink j))
 
 -- a hold that gets its seat is a Pin of the slot's last key, where that may be pinned
 abbrev pub SplitIsPin : Type 0
-SplitIsPin = OfTheMaster (λ m cs. (slot : ℕ) (state : SlotState) → m.pinning ≡ Some slot → slice_get m.slots slot ≡ Some state → MayPin (bare m cs) (last_key slot state)
-    → BareStep (bare m cs) (Pin (length cs) (last_key slot state)) (bare (after_split m) (cs ++ hold_for m m.pinning ∷ [])))
+SplitIsPin = OfTheMaster
+    (λ m cs. (slot : ℕ) (state : SlotState) → m.pinning ≡ Some slot → slice_get m.slots slot ≡ Some state
+    → MayPin (bare m cs) (last_key slot state)
+    → BareStep (bare m cs) (Pin (length cs) (last_key slot state))
+    (bare (after_split m) (cs ++ hold_for m m.pinning ∷ [])))
 
 -- so it is of the key of whoever holds the slot
 abbrev pub HeldSplitIsPin : Type 0
@@ -111,5 +149,8 @@ HeldSplitIsPin = OfEachCaller (λ words m cs j c. c.phase ≢ Spent → m.pinnin
 
 -- the Master's other steps leave the world as it is
 abbrev pub RestIsNothing : Type 0
-RestIsNothing = OfTheMaster (λ m cs. (slot found : ℕ) → (bare (with_load slot found m) cs ≡ bare m cs) × (bare (with_look slot found m) cs ≡ bare m cs)
-    × (bare (with_pin slot m) cs ≡ bare m cs) × (bare (without_pin slot m) cs ≡ bare m cs) × (bare (after_store slot m) cs ≡ bare m cs))
+RestIsNothing = OfTheMaster
+    (λ m cs. (slot found : ℕ) → (bare (with_load slot found m) cs ≡ bare m cs)
+    × (bare (with_look slot found m) cs ≡ bare m cs)
+    × (bare (with_pin slot m) cs ≡ bare m cs) × (bare (without_pin slot m) cs ≡ bare m cs)
+    × (bare (after_store slot m) cs ≡ bare m cs))

@@ -15,39 +15,58 @@ use Rattle.kf_words.specs.Rule.{Shown, bare, last_key}
 
 -- the world that the views name is safe
 abbrev pub AlwaysSafe : Type 0
-AlwaysSafe = (slots limit : ℕ) (t : State (Unit {0}) View) (shown : Shown slots limit t) → Safe (bare shown.master shown.callers)
+AlwaysSafe = (slots limit : ℕ) (t : State (Unit {0}) View) (shown : Shown slots limit t)
+    → Safe (bare shown.master shown.callers)
 
 -- a slot's active word lets a try in exactly where the slot's last key is live
 abbrev pub LetsInTheLive : Type 0
-LetsInTheLive = (slots limit : ℕ) (t : State (Unit {0}) View) (shown : Shown slots limit t) (slot : ℕ) (state : SlotState) → slice_get shown.master.slots slot ≡ Some state
-    → keeps_out (active_word t.words slot) ≡ not (is_live (bare shown.master shown.callers) (last_key slot state))
+LetsInTheLive = (slots limit : ℕ) (t : State (Unit {0}) View) (shown : Shown slots limit t) (slot : ℕ)
+    (state : SlotState) → slice_get shown.master.slots slot ≡ Some state
+    → keeps_out (active_word t.words slot)
+    ≡ not (is_live (bare shown.master shown.callers) (last_key slot state))
 
--- it has bias exactly where that key is not linked, activated and undoomed, and hide exactly where a caller hides it
+-- it has bias exactly where that key is not linked, activated and undoomed, and hide exactly where a caller
+-- hides it
 abbrev pub TellsTheHidden : Type 0
-TellsTheHidden = (slots limit : ℕ) (t : State (Unit {0}) View) (shown : Shown slots limit t) (slot : ℕ) (state : SlotState) → slice_get shown.master.slots slot ≡ Some state
-    → (has_bias (active_word t.words slot) ≡ not (are_live state.marks)) × (has_hide (active_word t.words slot) ≡ is_hidden (bare shown.master shown.callers) (last_key slot state))
+TellsTheHidden = (slots limit : ℕ) (t : State (Unit {0}) View) (shown : Shown slots limit t) (slot : ℕ)
+    (state : SlotState) → slice_get shown.master.slots slot ≡ Some state
+    → (has_bias (active_word t.words slot) ≡ not (are_live state.marks))
+    × (has_hide (active_word t.words slot)
+    ≡ is_hidden (bare shown.master shown.callers) (last_key slot state))
 
 -- while a caller hides its key a try there is refused, and once it is hidden nobody is running there
 abbrev pub HiddenIsRefused : Type 0
-HiddenIsRefused = (slots limit : ℕ) (t : State (Unit {0}) View) (shown : Shown slots limit t) (j : ℕ) (c : CallerView) → slice_get shown.callers j ≡ Some c → is_hiding c.phase ≡ true
-    → (keeps_out (active_word t.words c.key.slot) ≡ true) × (c.phase ≡ Hidden → NoneRunning (bare shown.master shown.callers) c.key)
+HiddenIsRefused = (slots limit : ℕ) (t : State (Unit {0}) View) (shown : Shown slots limit t) (j : ℕ)
+    (c : CallerView) → slice_get shown.callers j ≡ Some c → is_hiding c.phase ≡ true
+    → (keeps_out (active_word t.words c.key.slot) ≡ true)
+    × (c.phase ≡ Hidden → NoneRunning (bare shown.master shown.callers) c.key)
 
--- the step by which a hidden caller shows its key again takes the bit off and leaves the rest, and the word then lets a try in exactly where the key is linked, activated and undoomed, also where it was activated or doomed meanwhile
+-- the step by which a hidden caller shows its key again takes the bit off and leaves the rest, and the word
+-- then lets a try in exactly where the key is linked, activated and undoomed, also where it was activated or
+-- doomed meanwhile
 abbrev pub ShownLetsIn : Type 0
-ShownLetsIn = (slots limit : ℕ) (t : State (Unit {0}) View) (shown : Shown slots limit t) (j : ℕ) (c : CallerView) → slice_get shown.callers j ≡ Some c → c.phase ≡ Hidden
-    → (has_hide (active_word t.words c.key.slot) ≡ true) × (keeps_out (active_word t.words c.key.slot - hide) ≡ not (are_live (marks (bare shown.master shown.callers) c.key)))
+ShownLetsIn = (slots limit : ℕ) (t : State (Unit {0}) View) (shown : Shown slots limit t) (j : ℕ)
+    (c : CallerView) → slice_get shown.callers j ≡ Some c → c.phase ≡ Hidden
+    → (has_hide (active_word t.words c.key.slot) ≡ true)
+    × (keeps_out (active_word t.words c.key.slot - hide)
+    ≡ not (are_live (marks (bare shown.master shown.callers) c.key)))
 
 -- where it is drained, the key is doomed and nobody has a reference to it
 abbrev pub DrainedIsUnused : Type 0
-DrainedIsUnused = (slots limit : ℕ) (t : State (Unit {0}) View) (shown : Shown slots limit t) (slot : ℕ) (state : SlotState) → slice_get shown.master.slots slot ≡ Some state
-    → is_drained (active_word t.words slot) ≡ true → (are_doomed state.marks ≡ true) × NoReference (bare shown.master shown.callers) (last_key slot state)
+DrainedIsUnused = (slots limit : ℕ) (t : State (Unit {0}) View) (shown : Shown slots limit t) (slot : ℕ)
+    (state : SlotState) → slice_get shown.master.slots slot ≡ Some state
+    → is_drained (active_word t.words slot) ≡ true → (are_doomed state.marks ≡ true)
+    × NoReference (bare shown.master shown.callers) (last_key slot state)
 
 -- where the slot's hold word is free, no node is linked there and nobody holds the slot
 abbrev pub FreeIsUnheld : Type 0
-FreeIsUnheld = (slots limit : ℕ) (t : State (Unit {0}) View) (shown : Shown slots limit t) (slot : ℕ) (state : SlotState) → slice_get shown.master.slots slot ≡ Some state
-    → IsFree (hold_word t.words slot) → (state.marks ≡ None) × OnlySpent (bare shown.master shown.callers) slot
+FreeIsUnheld = (slots limit : ℕ) (t : State (Unit {0}) View) (shown : Shown slots limit t) (slot : ℕ)
+    (state : SlotState) → slice_get shown.master.slots slot ≡ Some state
+    → IsFree (hold_word t.words slot) → (state.marks ≡ None)
+    × OnlySpent (bare shown.master shown.callers) slot
 
 -- a slot's hold word has the bit of a linked node exactly where one is linked there
 abbrev pub TellsTheLinked : Type 0
-TellsTheLinked = (slots limit : ℕ) (t : State (Unit {0}) View) (shown : Shown slots limit t) (slot : ℕ) (state : SlotState) → slice_get shown.master.slots slot ≡ Some state
+TellsTheLinked = (slots limit : ℕ) (t : State (Unit {0}) View) (shown : Shown slots limit t) (slot : ℕ)
+    (state : SlotState) → slice_get shown.master.slots slot ≡ Some state
     → has_linked (hold_word t.words slot) ≡ is_some state.marks

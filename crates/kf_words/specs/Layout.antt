@@ -1,8 +1,10 @@
--- The two words of a slot: where they stand, where their bits stand, and what is tested of a word that was found.
+-- The two words of a slot: where they stand, where their bits stand, and what is tested of a word that was
+-- found.
 use Rattle.std.specs.Prelude.{◌≡◌, ℕ, ◌+◌, ◌*◌, ◌/◌, ◌%◌, ◌<◌, ◌||◌, ◌&&◌, Bool, true, false, ◌==◌, List, [], ◌∷◌, slice_index, slice_set}
 use Rattle.std.specs.List.{repeat}
 
--- each slot has a cache line of eight words to itself: its active word, behind that its hold word, and six that nobody uses
+-- each slot has a cache line of eight words to itself: its active word, behind that its hold word, and six
+-- that nobody uses
 abbrev pub line_words : ℕ
 line_words = 8
 
@@ -23,7 +25,8 @@ active_word words slot = slice_index words (active_index slot)
 abbrev pub hold_word : List ℕ → ℕ → ℕ
 hold_word words slot = slice_index words (hold_index slot)
 
--- in an active word, above the number of its users: the bit of a node that is not at once linked, activated and undoomed, the bit of a doomed node, and the bit of a hidden key
+-- in an active word, above the number of its users: the bit of a node that is not at once linked, activated
+-- and undoomed, the bit of a doomed node, and the bit of a hidden key
 abbrev pub bias : ℕ
 bias = 4294967296
 
@@ -88,6 +91,8 @@ HasRoom limit word = holds_in word < limit
 abbrev pub empty_line : ℕ → List ℕ
 empty_line start = bias ∷ start * one_generation ∷ 0 ∷ 0 ∷ 0 ∷ 0 ∷ 0 ∷ 0 ∷ []
 
--- the lines at the opening: no slot has had more than `start` generations, but for the root's, which has a live node of the next
+-- the lines at the opening: no slot has had more than `start` generations, but for the root's, which has a
+-- live node of the next
 abbrev pub opening_words : ℕ → ℕ → List ℕ
-opening_words slots start = slice_set (slice_set (repeat slots (empty_line start)) (active_index 0) 0) (hold_index 0) ((start + 1) * one_generation + linked)
+opening_words slots start = slice_set (slice_set (repeat slots (empty_line start)) (active_index 0) 0)
+    (hold_index 0) ((start + 1) * one_generation + linked)

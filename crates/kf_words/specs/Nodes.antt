@@ -42,7 +42,8 @@ pub record KeepsNodes (old new : MasterState) : Type 0 where
 
 -- a load of the slot's hold word, since the Master's last other step on a hold word, found such a word
 abbrev pub Found : (ℕ → Type 0) → MasterView → ℕ → Type 0
-Found Such m slot = (i : ℕ) × (load : Load) × (slice_get m.loads i ≡ Some load) × (load.slot ≡ slot) × Such load.word
+Found Such m slot =
+    (i : ℕ) × (load : Load) × (slice_get m.loads i ≡ Some load) × (load.slot ≡ slot) × Such load.word
 
 abbrev pub FoundFree : MasterView → ℕ → Type 0
 FoundFree m slot = Found IsFree m slot
@@ -65,7 +66,8 @@ pub record IsVacant (m : MasterView) (key : Key) : Type 0 where
 
 -- no node is linked in the slot, and a generation is left
 abbrev pub HasNext : MasterView → ℕ → Type 0
-HasNext m slot = (last : ℕ) × (slice_get m.slots slot ≡ Some (record { generation = last; marks = None })) × (last < 4294967295)
+HasNext m slot = (last : ℕ) × (slice_get m.slots slot ≡ Some (record { generation = last; marks = None }))
+    × (last < 4294967295)
 
 -- a node may be born with this key: its slot is vacant, and was found free
 pub record MayBear (m : MasterView) (key : Key) : Type 0 where
@@ -104,11 +106,13 @@ Searched m (Some slot) m' = FoundFirst m slot m'
 
 -- one load told whether the slot has room
 abbrev pub RoomFound : MasterView → ℕ → Bool → MasterView → Type 0
-RoomFound m slot answer m' = (found : ℕ) × (m' ≡ with_load slot found m) × (IsTrue answer ↔ HasRoom m.limit found)
+RoomFound m slot answer m' =
+    (found : ℕ) × (m' ≡ with_load slot found m) × (IsTrue answer ↔ HasRoom m.limit found)
 
 -- one load found room, and the hold that was then counted went to a new seat
 abbrev pub WasPinned : MasterView → ℕ → MasterView → Type 0
-WasPinned m slot m' = (found : ℕ) × HasRoom m.limit found × (m' ≡ after_split (with_pin slot (with_load slot found m)))
+WasPinned m slot m' =
+    (found : ℕ) × HasRoom m.limit found × (m' ≡ after_split (with_pin slot (with_load slot found m)))
 
 -- one load found as many holds as there may be
 abbrev pub WasFull : MasterView → ℕ → MasterView → Type 0
@@ -116,7 +120,8 @@ WasFull m slot m' = (found : ℕ) × (m.limit ≤ holds_in found) × (m' ≡ wit
 
 -- one load found room, and the hold that was then counted was taken back
 abbrev pub WasUnpinned : MasterView → ℕ → MasterView → Type 0
-WasUnpinned m slot m' = (found : ℕ) × HasRoom m.limit found × (m' ≡ without_pin slot (with_pin slot (with_load slot found m)))
+WasUnpinned m slot m' =
+    (found : ℕ) × HasRoom m.limit found × (m' ≡ without_pin slot (with_pin slot (with_load slot found m)))
 
 abbrev pub PinRefused : MasterView → ℕ → Refusal → MasterView → Type 0
 PinRefused m slot TooManyHolds m' = WasFull m slot m'
@@ -134,7 +139,8 @@ PinRefused m slot NameTooLong m' = ⊥
 
 -- the key has the last generation of its slot
 abbrev pub IsLastKey : MasterView → Key → Type 0
-IsLastKey m key = option_map (λ (state : SlotState). state.generation) (slice_get m.slots key.slot) ≡ Some key.generation
+IsLastKey m key =
+    option_map (λ (state : SlotState). state.generation) (slice_get m.slots key.slot) ≡ Some key.generation
 
 -- before any step where the key is not the last of its slot, and else as a pin is
 abbrev pub HeldPinRefused : MasterView → Key → Refusal → MasterView → Type 0
@@ -161,7 +167,8 @@ pub record IsNewHold (m : MasterState) (key : Key) (hold : Handle) : Type 0 wher
 
 -- true exactly where one load of the active word found it drained; a second step then took the node out
 abbrev pub UnlinkAnswer : MasterView → ℕ → Bool → MasterView → Type 0
-UnlinkAnswer m slot true m' = (found : ℕ) × (is_drained found ≡ true) × (m' ≡ without_node slot (with_look slot found m))
+UnlinkAnswer m slot true m' =
+    (found : ℕ) × (is_drained found ≡ true) × (m' ≡ without_node slot (with_look slot found m))
 UnlinkAnswer m slot false m' = (found : ℕ) × (is_drained found ≡ false) × (m' ≡ with_look slot found m)
 
 -- the slot has a node with these marks
@@ -170,7 +177,8 @@ HasMarks m slot x = (state : SlotState) × (slice_get m.slots slot ≡ Some stat
 
 -- the last step found the slot's active word drained
 abbrev pub HasLooked : MasterView → ℕ → Type 0
-HasLooked m slot = (found : ℕ) × (m.looked ≡ Some (record { slot = slot; word = found })) × (is_drained found ≡ true)
+HasLooked m slot =
+    (found : ℕ) × (m.looked ≡ Some (record { slot = slot; word = found })) × (is_drained found ≡ true)
 
 -- what the Master keeps at run time is what its view says, between any two calls
 pub record IsMirrored (m : MasterView) (slots : List SlotState) (nodes : List Node) (holds : ℕ) : Type 0 where

@@ -24,7 +24,8 @@ abbrev pub tally : (CallerView → Bool) → List CallerView → ℕ
 tally p [] = 0
 tally p (c ∷ cs) = bit (p c) 1 + tally p cs
 
--- the caller counts in the active word of this slot: it has a reference, or a refused try of it is not yet undone
+-- the caller counts in the active word of this slot: it has a reference, or a refused try of it is not yet
+-- undone
 abbrev pub is_user : ℕ → CallerView → Bool
 is_user slot c = (c.key.slot == slot) && (has_reference c.phase || c.undo_due)
 
@@ -50,13 +51,16 @@ abbrev pub pins_in : Option ℕ → ℕ → ℕ
 pins_in None slot = 0
 pins_in (Some s) slot = bit (s == slot) 1
 
--- the active word has so many users, bias unless the node has the marks of a live one, doom where a linked node is doomed, and hide where a caller hides the key, who is the only one
+-- the active word has so many users, bias unless the node has the marks of a live one, doom where a linked
+-- node is doomed, and hide where a caller hides the key, who is the only one
 abbrev pub ShowsMarks : ℕ → Option Marks → ℕ → ℕ → Type 0
-ShowsMarks word marks n h = (d : Bool) × (word ≡ n + bit (not (are_live marks)) bias + bit d doom + h * hide) × (IsTrue (is_some marks) → d ≡ are_doomed marks) × (h ≤ 1)
+ShowsMarks word marks n h = (d : Bool) × (word ≡ n + bit (not (are_live marks)) bias + bit d doom + h * hide)
+    × (IsTrue (is_some marks) → d ≡ are_doomed marks) × (h ≤ 1)
 
 -- the hold word has the last generation, the bit of a linked node, and so many holds, which are not too many
 abbrev pub ShowsHolds : ℕ → ℕ → SlotState → ℕ → Type 0
-ShowsHolds limit word state n = (word ≡ state.generation * one_generation + bit (is_some state.marks) linked + n) × (n ≤ limit)
+ShowsHolds limit word state n =
+    (word ≡ state.generation * one_generation + bit (is_some state.marks) linked + n) × (n ≤ limit)
 
 -- a slot found free is free, and one found with room has room
 abbrev pub StillHolds : ℕ → ℕ → ℕ → Type 0
@@ -81,16 +85,21 @@ module _ (words : List ℕ) (m : MasterView) (cs : List CallerView) where
     pub few : m.limit ≤ 65535
     -- each pin has its seat
     pub pinned : length cs ≡ m.pins
-    pub marks : (slot : ℕ) (state : SlotState) → slice_get m.slots slot ≡ Some state → ShowsMarks (active_word words slot) state.marks (users slot cs) (hiders slot cs)
-    pub holds : (slot : ℕ) (state : SlotState) → slice_get m.slots slot ≡ Some state → ShowsHolds m.limit (hold_word words slot) state (holders slot cs + pins_in m.pinning slot)
+    pub marks : (slot : ℕ) (state : SlotState) → slice_get m.slots slot ≡ Some state
+        → ShowsMarks (active_word words slot) state.marks (users slot cs) (hiders slot cs)
+    pub holds : (slot : ℕ) (state : SlotState) → slice_get m.slots slot ≡ Some state
+        → ShowsHolds m.limit (hold_word words slot) state (holders slot cs + pins_in m.pinning slot)
     -- who has a try to undo was turned away
     pub tries : (j : ℕ) (c : CallerView) → get_elem? cs j ≡ some c → c.undo_due ≡ true → c.phase ≡ Turned
     -- what the Master found still holds
-    pub loads : (i : ℕ) (load : Load) → slice_get m.loads i ≡ Some load → StillHolds m.limit load.word (hold_word words load.slot)
+    pub loads : (i : ℕ) (load : Load) → slice_get m.loads i ≡ Some load
+        → StillHolds m.limit load.word (hold_word words load.slot)
     -- the active word that the Master's last step stored is still as stored, in a free slot
-    pub fresh : (slot : ℕ) → m.fresh ≡ Some slot → (slot < length m.slots) × (active_word words slot ≡ bias) × IsFree (hold_word words slot)
+    pub fresh : (slot : ℕ) → m.fresh ≡ Some slot → (slot < length m.slots) × (active_word words slot ≡ bias)
+        × IsFree (hold_word words slot)
     -- where the Master's last step found a drained word, the node is doomed, and nobody is running on it
-    pub looked : (load : Load) (state : SlotState) → m.looked ≡ Some load → IsTrue (is_drained load.word) → slice_get m.slots load.slot ≡ Some state
+    pub looked : (load : Load) (state : SlotState) → m.looked ≡ Some load → IsTrue (is_drained load.word)
+        → slice_get m.slots load.slot ≡ Some state
         → (are_doomed state.marks ≡ true) × NoneRunning (bare m cs) (last_key load.slot state)
     pub safe : Safe (bare m cs)
 

@@ -1,5 +1,5 @@
 -- One atomic step of the table as a whole, by any of its seats, and runs of such steps.
-use Rattle.std.specs.Prelude.{◌≡◌, ◌≢◌, ◌⊎◌, ℕ, suc, ◌+◌, ◌-◌, ◌%◌, ◌^◌, ◌<◌, ◌≤◌, bit_or, true, false, List, [], ◌∷◌, ◌++◌, map, length, slice_index, slice_set, Some, None, is_some, IsTrue}
+use Rattle.std.specs.Prelude.{◌≡◌, ◌≢◌, ◌⊎◌, ℕ, suc, ◌+◌, ◌-◌, ◌%◌, ◌^◌, ◌<◌, ◌≤◌, bit_or, true, false, List, [], ◌∷◌, ◌++◌, map, length, slice_index, slice_set, Some, None, is_some, IsTrue, IsFalse}
 use mathlib.Core.Option.{some}
 use lib.ListN.{get_elem?}
 use Rattle.atomic_table.specs.Table.{State, Step, stepped, keeps}
@@ -11,7 +11,7 @@ use Rattle.kf_core.specs.declared.event.Event.{Event}
 use Rattle.kf_core.specs.declared.slot.Marks.{Marks}
 use Rattle.kf_core.specs.Marks.{fresh_marks}
 use Rattle.kf_core.specs.Phases.{may_release, saw_drain, is_hiding}
-use Rattle.kf_core.specs.Bare.{BareWorld, IsCaller, IsLast, is_live}
+use Rattle.kf_core.specs.Bare.{BareWorld, IsCaller, IsLast, is_linked, is_doomed, is_live}
 use Rattle.kf_core.specs.Bare.{opening as bare_opening}
 use Rattle.kf_core.specs.Safe.{Safe, NoneRunning, NoneHolding}
 use Rattle.kf_core.specs.Steps.{BareRun, OnlySpent}
@@ -90,15 +90,20 @@ pub record Plays (t : Table) (place word : ℕ) (f : ℕ → ℕ) (before after 
 abbrev pub IsSeated : Table → ℕ → CallerView → Type 0
 IsSeated t j c = get_elem? t.views (suc j) ≡ some (seat.Caller c)
 
--- a step of the caller of this number on a word of its slot, where its own view allows it; what it finds goes into its view
-abbrev pub CallerPlays : (ℕ → CallerView → CallerView) → (CallerView → Type 0) → (ℕ → ℕ) → (ℕ → ℕ) → Table → ℕ → Table → Type 0
+-- a step of the caller of this number on a word of its slot, where its own view allows it; what it finds goes
+-- into its view
+abbrev pub CallerPlays : (ℕ → CallerView → CallerView) → (CallerView → Type 0) → (ℕ → ℕ) → (ℕ → ℕ) → Table → ℕ
+    → Table → Type 0
 CallerPlays after May index f t j t' = (c : CallerView) × May c
-    × Plays t (suc j) (index c.key.slot) f (seat.Caller c) (seat.Caller (after (slice_index t.words (index c.key.slot)) c)) t'
+    × Plays t (suc j) (index c.key.slot) f (seat.Caller c)
+    (seat.Caller (after (slice_index t.words (index c.key.slot)) c)) t'
 
 -- a step of the Master on a word of this slot, where its own view allows it; what it finds goes into its view
-abbrev pub MasterPlays : (ℕ → ℕ → MasterView → MasterView) → (MasterView → Type 0) → (ℕ → ℕ) → (ℕ → ℕ) → Table → ℕ → Table → Type 0
+abbrev pub MasterPlays : (ℕ → ℕ → MasterView → MasterView) → (MasterView → Type 0) → (ℕ → ℕ) → (ℕ → ℕ) → Table
+    → ℕ → Table → Type 0
 MasterPlays after May index f t slot t' = (m : MasterView) × May m
-    × Plays t 0 (index slot) f (seat.Master m) (seat.Master (after slot (slice_index t.words (index slot)) m)) t'
+    × Plays t 0 (index slot) f (seat.Master m)
+    (seat.Master (after slot (slice_index t.words (index slot)) m)) t'
 
 -- the pinned hold of this slot goes to a new seat, behind all others
 abbrev pub MasterSplits : (MasterView → Type 0) → Table → ℕ → Table → Type 0
@@ -146,8 +151,8 @@ IsUndoomed slot x m = HasMarks m slot x × (x.doomed ≡ false)
 abbrev pub SeesDrained : ℕ → MasterView → Type 0
 SeesDrained slot m = ((x : Marks) × HasMarks m slot x) × HasLooked m slot
 
--- one atomic step of the table, by any seat: what it makes of the view, what the view must say before it, which of
--- the slot's two words it is on, and what it makes of that
+-- one atomic step of the table, by any seat: what it makes of the view, what the view must say before it,
+-- which of the slot's two words it is on, and what it makes of that
 abbrev pub WordStep : Table → Kind → Table → Type 0
 WordStep t (tries j) t' = CallerPlays after_try IsAtRest active_index (plus 1) t j t'
 WordStep t (undoes j) t' = CallerPlays (λ _. after_undo) HasUndoDue active_index (minus 1) t j t'
@@ -162,18 +167,25 @@ WordStep t (shows j) t' = CallerPlays after_show (IsIn Hidden) active_index (min
 WordStep t (releases j) t' = CallerPlays after_release MayRelease hold_index (minus 1) t j t'
 WordStep t (loads_hold slot) t' = MasterPlays with_load (λ m. slot < length m.slots) hold_index same t slot t'
 WordStep t (pins_hold slot) t' = MasterPlays (unread with_pin) (SeesRoom slot) hold_index (plus 1) t slot t'
-WordStep t (unpins_hold slot) t' = MasterPlays (unread without_pin) (HasPin slot) hold_index (minus 1) t slot t'
+WordStep t (unpins_hold slot) t' =
+    MasterPlays (unread without_pin) (HasPin slot) hold_index (minus 1) t slot t'
 WordStep t (splits_linked slot) t' = MasterSplits (λ m. is_some (state_at m slot).marks ≡ true) t slot t'
 WordStep t (splits_held slot j) t' = MasterSplits (λ m. HoldsSlot t slot j) t slot t'
-WordStep t (stores_fresh slot) t' = MasterPlays (unread after_store) (SeesFree slot) active_index (λ _. bias) t slot t'
-WordStep t (births slot) t' = MasterPlays (unread with_birth) (HasFresh slot) hold_index (plus (one_generation + linked)) t slot t'
+WordStep t (stores_fresh slot) t' =
+    MasterPlays (unread after_store) (SeesFree slot) active_index (λ _. bias) t slot t'
+WordStep t (births slot) t' =
+    MasterPlays (unread with_birth) (HasFresh slot) hold_index (plus (one_generation + linked)) t slot t'
 WordStep t (takes_bias slot) t' =
-    MasterPlays (unread (with_marks activated_marks)) (λ m. HasMarks m slot fresh_marks) active_index (minus bias) t slot t'
+    MasterPlays (unread (with_marks activated_marks)) (λ m. HasMarks m slot fresh_marks) active_index
+    (minus bias) t slot t'
 WordStep t (marks_node slot) t' = (x : Marks)
-    × MasterPlays (unread (with_marks doomed_marks)) (IsUndoomed slot x) active_index (plus (bit x.activated bias + doom)) t slot t'
-WordStep t (looks_over slot) t' = MasterPlays with_look (λ m. slot < length m.slots) active_index same t slot t'
+    × MasterPlays (unread (with_marks doomed_marks)) (IsUndoomed slot x) active_index
+    (plus (bit x.activated bias + doom)) t slot t'
+WordStep t (looks_over slot) t' =
+    MasterPlays with_look (λ m. slot < length m.slots) active_index same t slot t'
 WordStep t (unlinks slot j) t' =
-    MasterPlays (unread without_node) (SeesDrained slot) hold_index (minus linked) t slot t' × IsDrainedOn t slot j
+    MasterPlays (unread without_node) (SeesDrained slot) hold_index (minus linked) t slot t'
+    × IsDrainedOn t slot j
 
 -- these steps, one after another
 abbrev pub WordRun : Table → List Kind → Table → Type 0
@@ -182,16 +194,19 @@ WordRun t (kind ∷ kinds) t' = (between : Table) × WordStep t kind between × 
 
 -- the table at the opening
 abbrev pub opened_table : ℕ → ℕ → ℕ → Table
-opened_table limit slots start = table_opening (opening_words slots start) [] (seat.Master (opened limit slots start))
+opened_table limit slots start =
+    table_opening (opening_words slots start) [] (seat.Master (opened limit slots start))
 
 -- the table opens with the rule, and as the opening world
 abbrev pub OpensWell : Type 0
 OpensWell = (slots limit start : ℕ) → 1 ≤ slots → limit ≤ 65535
-    → Shown slots limit (opened_table limit slots start) × (world (opened_table limit slots start) ≡ bare_opening slots start)
+    → Shown slots limit (opened_table limit slots start)
+    × (world (opened_table limit slots start) ≡ bare_opening slots start)
 
 -- in each run of any seats, from each table that meets the rule
 abbrev pub OverRuns : (ℕ → ℕ → Table → Table → Type 0) → Type 0
-OverRuns Law = (slots limit : ℕ) (t u : Table) (kinds : List Kind) → Shown slots limit t → WordRun t kinds u → Law slots limit t u
+OverRuns Law = (slots limit : ℕ) (t u : Table) (kinds : List Kind) → Shown slots limit t → WordRun t kinds u
+    → Law slots limit t u
 
 -- the table at its end meets the rule
 abbrev pub RuleKept : Type 0
@@ -215,10 +230,17 @@ abbrev pub TryIsRefused : Table → Key → Type 0
 TryIsRefused u key = (j : ℕ) (phase : Phase) (v : Table)
     → IsCaller (world u) j key phase → WordStep u (tries j) v → IsCaller (world v) j key Turned
 
--- while a caller hides a key, at its end, a try there is refused, and once it is hidden nobody is running there
+-- a key that is linked and doomed at its start is not live at its end, and a try there is refused
+abbrev pub MarkedKeepsOut : Type 0
+MarkedKeepsOut = OverRuns (λ slots limit t u. (key : Key) → IsTrue (is_linked (world t) key)
+    → IsTrue (is_doomed (world t) key) → IsFalse (is_live (world u) key) × TryIsRefused u key)
+
+-- while a caller hides a key, at its end, a try there is refused, and once it is hidden nobody is running
+-- there
 abbrev pub HiddenKeepsOut : Type 0
 HiddenKeepsOut = OverRuns (λ slots limit t u. (c : ℕ) (key : Key) (phase : Phase)
-    → IsCaller (world u) c key phase → IsTrue (is_hiding phase) → TryIsRefused u key × (phase ≡ Hidden → NoneRunning (world u) key))
+    → IsCaller (world u) c key phase → IsTrue (is_hiding phase) → TryIsRefused u key
+    × (phase ≡ Hidden → NoneRunning (world u) key))
 
 -- a key whose slot has a later generation at its start has nobody on it but spent callers, at its end
 abbrev pub PassedForGood : Type 0
@@ -227,7 +249,9 @@ PassedForGood = OverRuns (λ slots limit t u. (key : Key) (generation : ℕ)
 
 -- a birth after it finds only spent callers on its slot
 abbrev pub BornUnheld : Type 0
-BornUnheld = OverRuns (λ slots limit t u. (slot : ℕ) (v : Table) → WordStep u (births slot) v → OnlySpent (world u) slot)
+BornUnheld =
+    OverRuns (λ slots limit t u. (slot : ℕ) (v : Table) → WordStep u (births slot) v
+    → OnlySpent (world u) slot)
 
 -- a try after it lets a caller run only where its key is live
 abbrev pub LetInLive : Type 0
@@ -250,7 +274,8 @@ pub record WasLetIn (t : Table) (kinds : List Kind) (u : Table) (c : ℕ) (key :
 -- who runs at its end ran at its start, or was let in while its key was live
 abbrev pub TakenLive : Type 0
 TakenLive = (slots limit : ℕ) (t u : Table) (kinds : List Kind) → Shown slots limit t → WordRun t kinds u
-    → (c : ℕ) (key : Key) → IsCaller (world u) c key Running → IsCaller (world t) c key Running ⊎ WasLetIn t kinds u c key
+    → (c : ℕ) (key : Key) → IsCaller (world u) c key Running → IsCaller (world t) c key Running
+    ⊎ WasLetIn t kinds u c key
 
 -- a table that met the rule made this kind of step, with the caller's view before it and after it
 pub record WasMade (kind : ℕ → Kind) (before after : CallerView) : Type 0 where
@@ -264,8 +289,8 @@ pub record WasMade (kind : ℕ → Kind) (before after : CallerView) : Type 0 wh
   pub was : IsSeated found caller before
   pub is : IsSeated left caller after
 
--- what a caller's step tells: that it is on the word that this index has of the caller's slot, the view after it, and
--- that a table made it
+-- what a caller's step tells: that it is on the word that this index has of the caller's slot, the view after
+-- it, and that a table made it
 abbrev pub Makes : (ℕ → ℕ) → (ℕ → Kind) → (Step (Unit {0}) → Seated → ℕ → Seated → Type 0)
     → Step (Unit {0}) → Seated → ℕ → Seated → Type 0
 Makes index kind tells st me found me' =

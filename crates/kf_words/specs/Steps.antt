@@ -21,14 +21,30 @@ abbrev pub Seated : Type 0
 Seated = Me (Unit {0}) View
 
 abbrev pub no_caller : CallerView
-no_caller = record { key = record { slot = 0; generation = 0 }; phase = Spent; steps = 0; tries = 0; found = 0; undo_due = false }
+no_caller = record {
+  key = record { slot = 0; generation = 0 };
+  phase = Spent;
+  steps = 0;
+  tries = 0;
+  found = 0;
+  undo_due = false;
+}
 
 abbrev pub caller_of : View → CallerView
 caller_of (seat.Caller c) = c
 caller_of (seat.Master m) = no_caller
 
 abbrev pub no_master : MasterView
-no_master = record { limit = 0; slots = []; pins = 0; pinning = None; fresh = None; loads = []; at_birth = []; looked = None }
+no_master = record {
+  limit = 0;
+  slots = [];
+  pins = 0;
+  pinning = None;
+  fresh = None;
+  loads = [];
+  at_birth = [];
+  looked = None;
+}
 
 abbrev pub master_of : View → MasterView
 master_of (seat.Master m) = m
@@ -36,14 +52,22 @@ master_of (seat.Caller c) = no_master
 
 -- one word step more, which found this word
 abbrev pub after_step : Phase → Bool → ℕ → CallerView → CallerView
-after_step phase undo_due found c = record { key = c.key; phase = phase; steps = c.steps + 1; tries = c.tries; found = found; undo_due = undo_due }
+after_step phase undo_due found c = record {
+  key = c.key;
+  phase = phase;
+  steps = c.steps + 1;
+  tries = c.tries;
+  found = found;
+  undo_due = undo_due;
+}
 
 abbrev pub with_try : CallerView → CallerView
 with_try c = record c { tries = c.tries + 1 }
 
 -- a try: the caller runs where the word lets it in, and else has to undo the try
 abbrev pub after_try : ℕ → CallerView → CallerView
-after_try found c = if keeps_out found then after_step Turned true found (with_try c) else after_step Running false found (with_try c)
+after_try found c = if keeps_out found then after_step Turned true found
+    (with_try c) else after_step Running false found (with_try c)
 
 -- the second step of a refused try, which leaves what the first found
 abbrev pub after_undo : CallerView → CallerView
@@ -61,15 +85,18 @@ abbrev pub after_restore : ℕ → CallerView → CallerView
 after_restore found c = after_step Restored false found c
 
 abbrev pub after_look : ℕ → CallerView → CallerView
-after_look found c = if is_drained found then after_step Drained false found c else after_step c.phase c.undo_due found c
+after_look found c =
+    if is_drained found then after_step Drained false found c else after_step c.phase c.undo_due found c
 
 -- a caller hides its key, where nobody does yet
 abbrev pub after_hide : ℕ → CallerView → CallerView
-after_hide found c = if has_hide found then after_step c.phase c.undo_due found c else after_step Hiding false found c
+after_hide found c =
+    if has_hide found then after_step c.phase c.undo_due found c else after_step Hiding false found c
 
 -- it sees that nobody uses the node
 abbrev pub after_look_hidden : ℕ → CallerView → CallerView
-after_look_hidden found c = if is_unused found then after_step Hidden false found c else after_step c.phase c.undo_due found c
+after_look_hidden found c =
+    if is_unused found then after_step Hidden false found c else after_step c.phase c.undo_due found c
 
 -- it shows its key again
 abbrev pub after_show : ℕ → CallerView → CallerView
@@ -80,7 +107,8 @@ abbrev pub after_release : ℕ → CallerView → CallerView
 after_release found c = after_step Spent false found c
 
 abbrev pub after_part : ℕ → CallerView → CallerView
-after_part found c = if has_linked found then after_step c.phase c.undo_due found c else after_step Parted false found c
+after_part found c =
+    if has_linked found then after_step c.phase c.undo_due found c else after_step Parted false found c
 
 abbrev pub no_state : SlotState
 no_state = record { generation = 0; marks = None }
@@ -100,7 +128,8 @@ remarked change state = record { generation = state.generation; marks = option_m
 
 -- the node of one slot got other marks
 abbrev pub with_marks : (Marks → Marks) → ℕ → MasterView → MasterView
-with_marks change slot m = record (on_active m) { slots = slice_set m.slots slot (remarked change (state_at m slot)) }
+with_marks change slot m =
+    record (on_active m) { slots = slice_set m.slots slot (remarked change (state_at m slot)) }
 
 abbrev pub activated_marks : Marks → Marks
 activated_marks m = record { activated = true; doomed = m.doomed }
@@ -137,7 +166,8 @@ after_store slot m = record (on_active m) { fresh = Some slot }
 
 abbrev pub with_birth : ℕ → MasterView → MasterView
 with_birth slot m = record (on_hold m) {
-  slots = slice_set m.slots slot (record { generation = (state_at m slot).generation + 1; marks = Some fresh_marks });
+  slots = slice_set m.slots slot
+      (record { generation = (state_at m slot).generation + 1; marks = Some fresh_marks });
   at_birth = m.loads;
 }
 
@@ -146,7 +176,10 @@ abbrev pub with_look : ℕ → ℕ → MasterView → MasterView
 with_look slot found m = record (on_active m) { looked = Some (record { slot = slot; word = found }) }
 
 abbrev pub without_node : ℕ → MasterView → MasterView
-without_node slot m = record (on_hold m) { slots = slice_set m.slots slot (record { generation = (state_at m slot).generation; marks = None }) }
+without_node slot m = record (on_hold m) {
+  slots = slice_set m.slots slot
+      (record { generation = (state_at m slot).generation; marks = None });
+}
 
 -- a step that does not read what it finds
 abbrev pub unread : (ℕ → MasterView → MasterView) → ℕ → ℕ → MasterView → MasterView
@@ -162,24 +195,29 @@ ShowsKey st me found me' = CallerBecomes after_show st me found me' × (has_hide
 
 -- and its Master, whose view changes by the slot of the word
 abbrev pub MasterBecomes : (ℕ → ℕ → MasterView → MasterView) → Step (Unit {0}) → Seated → ℕ → Seated → Type 0
-MasterBecomes after st me found me' = me' ≡ (seat.Master (after (slot_of st.word) found (master_of me.0)), me.1)
+MasterBecomes after st me found me' =
+    me' ≡ (seat.Master (after (slot_of st.word) found (master_of me.0)), me.1)
 
 -- a step of the Master on the word that this index has of some slot
-abbrev pub On : (ℕ → ℕ) → (Step (Unit {0}) → Seated → ℕ → Seated → Type 0) → Step (Unit {0}) → Seated → ℕ → Seated → Type 0
+abbrev pub On : (ℕ → ℕ) → (Step (Unit {0}) → Seated → ℕ → Seated → Type 0) → Step (Unit {0}) → Seated → ℕ
+    → Seated → Type 0
 On index tells st me found me' = (st.word ≡ index (slot_of st.word)) × tells st me found me'
 
 -- a load of a hold word tells the last generation, and whether a node is linked
 abbrev pub TellsSlot : MasterView → ℕ → ℕ → Type 0
-TellsSlot m slot found = (found / one_generation ≡ (state_at m slot).generation) × (has_linked found ≡ is_some (state_at m slot).marks)
+TellsSlot m slot found = (found / one_generation ≡ (state_at m slot).generation)
+    × (has_linked found ≡ is_some (state_at m slot).marks)
 
 abbrev pub LoadsHold : Step (Unit {0}) → Seated → ℕ → Seated → Type 0
-LoadsHold st me found me' = MasterBecomes with_load st me found me' × TellsSlot (master_of me.0) (slot_of st.word) found
+LoadsHold st me found me' =
+    MasterBecomes with_load st me found me' × TellsSlot (master_of me.0) (slot_of st.word) found
 
 -- the Master's view at the opening: only the root has a node
 abbrev pub opened : ℕ → ℕ → ℕ → MasterView
 opened limit slots start = record no_master {
   limit = limit;
-  slots = slice_set (replicate slots (record { generation = start; marks = None })) 0 (record { generation = start + 1; marks = Some live_marks });
+  slots = slice_set (replicate slots (record { generation = start; marks = None })) 0
+      (record { generation = start + 1; marks = Some live_marks });
 }
 
 -- once, while the rule held and this caller was among the callers, the word was as found

@@ -24,7 +24,8 @@ impl Model for Call {
 
     ghost view = { λ c. handle_of c.seat };
 
-    ghost invariant = { λ c. ((view_of c.seat).phase ≡ c.phase) × (is_in_call c.phase ≡ true) × ((view_of c.seat).undo_due ≡ false) };
+    ghost invariant = { λ c. ((view_of c.seat).phase ≡ c.phase) × (is_in_call c.phase ≡ true)
+        × ((view_of c.seat).undo_due ≡ false) };
 }
 
 impl Call {
@@ -79,7 +80,8 @@ impl Call {
         self.seat.wake_if_unused(found);
     }
 
-    /// Takes a reference again, whatever became of the node (`kernfs_unbreak_active_protection`), in one word step.
+    /// Takes a reference again, whatever became of the node (`kernfs_unbreak_active_protection`), in one word
+    /// step.
     ///
     /// Condition: Broken.
     pub fn restore(&mut self)

@@ -3,7 +3,7 @@ ghost use Rattle.std.specs.Prelude.{◌≡◌, ◌*◌, ◌<◌, [], true, false
 ghost use Rattle.std.specs.Arc.{arc_value};
 ghost use Rattle.kf_core.specs.Phases.{may_release};
 ghost use Rattle.kf_core.specs.declared.caller.Phase.TheVariants as phase_of;
-ghost use Rattle.kf_words.specs.Steps.{caller_of, after_try, after_undo, after_leave, after_break, after_restore, after_look, after_part, after_hide, after_look_hidden, after_show, after_release};
+ghost use Rattle.kf_words.specs.Steps.{caller_of, after_try, after_undo, after_leave, after_break, after_restore, after_look, after_part, after_hide, after_look_hidden, after_show};
 ghost use Rattle.kf_words.specs.Callers.{IsSameSeat, IsAtRest, HasReference, IsIn, WasReleased, handle_of, view_of};
 ghost use Rattle.kf_words.specs.Layout.{line_words, active_index, hold_index, has_hide};
 ghost use Rattle.kf_words.specs.Runs.{WasATry, WasAUndo, WasALeave, WasABreak, WasARestore, WasALook, WasAPart, WasAHide, WasALookHidden, WasAShow, WasARelease};
@@ -31,7 +31,8 @@ impl CallerSeat {
         requires table { token.table_id ≡ (arc_value table).shared.table_id }
         requires caller { token.me ≡ (seat_of.Caller (caller_of token.me.0), []) }
         requires key { (caller_of token.me.0).key ≡ key }
-        requires words { (arc_value table).shared.table_id.words ≡ (arc_value table).shared.key.slots * line_words }
+        requires words { (arc_value table).shared.table_id.words
+            ≡ (arc_value table).shared.key.slots * line_words }
         requires slot { key.slot < (arc_value table).shared.key.slots }
         ensures token { result.token ≡ token }
         ensures node { (handle_of result).node ≡ node }
@@ -47,8 +48,9 @@ impl CallerSeat {
         }
     }
 
-    /// The one place in this crate that takes a seat apart, and only where its hold was given back: the view says Spent after the step
-    /// of `release_seat` alone. That each `release` comes here is by tests: no contract can speak of a value that is gone.
+    /// The one place in this crate that takes a seat apart, and only where its hold was given back: the view
+    /// says Spent after the step of `release_seat` alone. That each `release` comes here is by tests: no
+    /// contract can speak of a value that is gone.
     pub(crate) fn end(self)
         requires { (view_of self).phase ≡ phase_of.Spent }
     {
@@ -218,7 +220,8 @@ impl CallerSeat {
     }
 }
 
-/// Gives a seat's hold of its slot back, which is one word step. The `release` of each value that holds a slot calls it.
+/// Gives a seat's hold of its slot back, which is one word step. The `release` of each value that holds a
+/// slot calls it.
 pub fn release_seat(seat: &mut CallerSeat)
     requires idle { may_release (handle_of seat.old).phase ≡ true }
     requires settled { (handle_of seat.old).undo_due ≡ false }

@@ -29,9 +29,9 @@ impl CallerSeat {
             .park_timeout(rt, word, users, Duration::from_millis(1));
     }
 
-    /// Sleeps while the word has as many users as `seen`. Where the node is doomed the last of them wakes a sleeper. The mark wakes
-    /// nobody and changes none of the bits that a sleep compares when it begins, so before it, and with no user there, a sleep
-    /// ends by itself.
+    /// Sleeps while the word has as many users as `seen`. Where the node is doomed the last of them wakes a
+    /// sleeper. The mark wakes nobody and changes none of the bits that a sleep compares when it begins, so
+    /// before it, and with no user there, a sleep ends by itself.
     fn rest<R: Wait>(&self, rt: &R, seen: u64) {
         if seen & DOOM != 0 && seen & USERS != 0 {
             self.park(rt, seen);
@@ -42,9 +42,10 @@ impl CallerSeat {
 }
 
 impl Drained {
-    /// Sleeps while somebody uses the node again: a caller that broke its protection and restored it, or one whose refused try
-    /// is not yet taken back. With no user there it sleeps for a millisecond at most. It may return for no reason, makes no word
-    /// step, and passes on a wake that was meant for another sleeper too.
+    /// Sleeps while somebody uses the node again: a caller that broke its protection and restored it, or one
+    /// whose refused try is not yet taken back. With no user there it sleeps for a millisecond at most. It
+    /// may return for no reason, makes no word step, and passes on a wake that was meant for another sleeper
+    /// too.
     pub fn rest<R: Wait>(&self, rt: &R) {
         let word = self.seat.active_index();
         let seen = self.seat.table.shared.peek(word);

@@ -28,8 +28,8 @@ impl Model for Hiding {
     ghost invariant = { λ h. IsIn phase_of.Hiding (view_of h.seat) };
 }
 
-/// Hides its key, and saw that nobody had a reference to the node. While it is out no call of the node is Running:
-/// a callback that still runs there gave its protection up before. It must be spent, by `show`.
+/// Hides its key, and saw that nobody had a reference to the node. While it is out no call of the node is
+/// Running: a callback that still runs there gave its protection up before. It must be spent, by `show`.
 pub struct Hidden {
     pub(crate) seat: CallerSeat,
 }
@@ -54,13 +54,16 @@ impl Hiding {
         self.seat.key
     }
 
-    /// Looks, in one word step, whether nobody uses the node: no reference, and no refused try not yet taken back.
+    /// Looks, in one word step, whether nobody uses the node: no reference, and no refused try not yet taken
+    /// back.
     pub fn look(self) -> Result<Hidden, Hiding>
         ensures same { MatchResult result (λ saw. IsSameSeat self saw) (λ back. IsSameSeat self back) }
         ensures hidden { IfOk result (λ saw. SawUnused self saw) }
         ensures not_yet { IfErr result (λ back. SawUser self back) }
-        ensures found { MatchResult result (λ saw. FoundThere self saw.found) (λ back. FoundThere self back.found) }
-        ensures made { MatchResult result (λ saw. WasALookHidden (seat_view self) (seat_view saw)) (λ back. WasALookHidden (seat_view self) (seat_view back)) }
+        ensures found { MatchResult result (λ saw. FoundThere self saw.found)
+            (λ back. FoundThere self back.found) }
+        ensures made { MatchResult result (λ saw. WasALookHidden (seat_view self) (seat_view saw))
+            (λ back. WasALookHidden (seat_view self) (seat_view back)) }
     {
         let Hiding { mut seat } = self;
         if is_unused(seat.load_hidden()) {
@@ -81,8 +84,8 @@ impl Hidden {
         self.seat.key
     }
 
-    /// Shows the key again, in one word step: the bit of the hidden key goes, and all other bits stay as they are.
-    /// Called under the lock of the tree.
+    /// Shows the key again, in one word step: the bit of the hidden key goes, and all other bits stay as they
+    /// are. Called under the lock of the tree.
     pub fn show(self) -> Hold
         ensures same { IsSameSeat self result }
         ensures hold { WasShown self result }

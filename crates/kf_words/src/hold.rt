@@ -45,14 +45,17 @@ impl Hold {
         self.seat.node()
     }
 
-    /// Tries for an active reference (`kernfs_get_active`). A hold that comes back found that the node is not live, or its key hidden.
-    /// It takes one word step where it answers a call, and two where it gives the hold back.
+    /// Tries for an active reference (`kernfs_get_active`). A hold that comes back found that the node is not
+    /// live, or its key hidden. It takes one word step where it answers a call, and two where it gives the
+    /// hold back.
     pub fn enter(self) -> Result<Call, Hold>
         ensures same { MatchResult result (λ call. IsSameSeat self call) (λ hold. IsSameSeat self hold) }
         ensures call { IfOk result (λ call. Entered self call) }
         ensures refused { IfErr result (λ hold. WasTurned self hold) }
-        ensures found { MatchResult result (λ call. FoundThere self call.found) (λ hold. FoundThere self hold.found) }
-        ensures made { MatchResult result (λ call. WasATry (seat_view self) (seat_view call)) (λ hold. WasATryUndone (seat_view self) (seat_view hold)) }
+        ensures found { MatchResult result (λ call. FoundThere self call.found)
+            (λ hold. FoundThere self hold.found) }
+        ensures made { MatchResult result (λ call. WasATry (seat_view self) (seat_view call))
+            (λ hold. WasATryUndone (seat_view self) (seat_view hold)) }
         ensures live { IfOk result (λ call. WasLetInLive (seat_view self) (seat_view call)) }
     {
         let Hold { mut seat } = self;
@@ -67,14 +70,16 @@ impl Hold {
         Err(Hold { seat })
     }
 
-    /// Looks, in one word step, whether the node is doomed and nobody uses it. Gives the hold back where it is not so,
-    /// also while a refused try is not yet taken back (one look of `kernfs_drain`).
+    /// Looks, in one word step, whether the node is doomed and nobody uses it. Gives the hold back where it
+    /// is not so, also while a refused try is not yet taken back (one look of `kernfs_drain`).
     pub fn look(self) -> Result<Drained, Hold>
         ensures same { MatchResult result (λ saw. IsSameSeat self saw) (λ hold. IsSameSeat self hold) }
         ensures drained { IfOk result (λ saw. SawDrained self saw) }
         ensures not_yet { IfErr result (λ hold. SawUse self hold) }
-        ensures found { MatchResult result (λ saw. FoundThere self saw.found) (λ hold. FoundThere self hold.found) }
-        ensures made { MatchResult result (λ saw. WasALook (seat_view self) (seat_view saw)) (λ hold. WasALook (seat_view self) (seat_view hold)) }
+        ensures found { MatchResult result (λ saw. FoundThere self saw.found)
+            (λ hold. FoundThere self hold.found) }
+        ensures made { MatchResult result (λ saw. WasALook (seat_view self) (seat_view saw))
+            (λ hold. WasALook (seat_view self) (seat_view hold)) }
     {
         let Hold { mut seat } = self;
         if is_drained(seat.load()) {
@@ -85,13 +90,14 @@ impl Hold {
         }
     }
 
-    /// Hides the key, in one word step: until it is shown again, each try is refused. Err where a caller hides it already.
-    /// Called under the lock of the tree.
+    /// Hides the key, in one word step: until it is shown again, each try is refused. Err where a caller
+    /// hides it already. Called under the lock of the tree.
     pub fn hide(self) -> Result<Hiding, Hold>
         ensures same { MatchResult result (λ hiding. IsSameSeat self hiding) (λ hold. IsSameSeat self hold) }
         ensures hiding { IfOk result (λ hiding. WasHidden self hiding) }
         ensures already { IfErr result (λ hold. FoundHidden self hold) }
-        ensures made { MatchResult result (λ hiding. WasAHide (seat_view self) (seat_view hiding)) (λ hold. WasAHide (seat_view self) (seat_view hold)) }
+        ensures made { MatchResult result (λ hiding. WasAHide (seat_view self) (seat_view hiding))
+            (λ hold. WasAHide (seat_view self) (seat_view hold)) }
     {
         let Hold { mut seat } = self;
         if has_hide(seat.set_hide()) {

@@ -1,17 +1,18 @@
 //! What the words tell at every moment, and which event each step is.
 ghost use Rattle.kf_words.specs.Laws.{AlwaysSafe, LetsInTheLive, DrainedIsUnused, FreeIsUnheld, TellsTheLinked, TellsTheHidden, HiddenIsRefused, ShownLetsIn};
 ghost use Rattle.kf_words.specs.Events.{TryIsEnter, UndoIsUndo, LookIsLook, PartIsPart, LeaveIsLeave, BreakIsBreak, RestoreIsRestore, ReleaseIsRelease, HideIsHide, LookHiddenIsLook, ShowIsShow, MissIsNothing, RiseIsRise, MarkIsMark, BirthIsBorn, UnlinkIsUnlink, SplitIsPin, HeldSplitIsPin, RestIsNothing};
-ghost use Rattle.kf_words.specs.Runs.{OpensWell, RuleKept, RunIsRun, RunIsSafe, DrainedForGood, HiddenKeepsOut, PassedForGood, BornUnheld, LetInLive, TakenLive};
+ghost use Rattle.kf_words.specs.Runs.{OpensWell, RuleKept, RunIsRun, RunIsSafe, MarkedKeepsOut, DrainedForGood, HiddenKeepsOut, PassedForGood, BornUnheld, LetInLive, TakenLive};
 
-/// What the words tell between any two steps of any number of seats, for as long as the table lives. It does nothing:
-/// the rule of the table, which each step keeps, is the premise, and its clauses say what follows.
+/// What the words tell between any two steps of any number of seats, for as long as the table lives. It does
+/// nothing: the rule of the table, which each step keeps, is the premise, and its clauses say what follows.
 ///
-/// The world of the seats is safe: nobody is running on a key on which another saw the drain, and who holds a slot holds
-/// its last generation. A try is let in exactly where the last key of the slot is live, and refused while a caller hides
-/// the key; once that caller saw nobody there, nobody is running there, and after the step by which it shows the key again
-/// the word lets a try in exactly where the key is linked, activated and undoomed. Where the active word is drained, the key
-/// is doomed and nobody has a reference to it. Where the hold word is free, no node is linked in the slot and nobody holds
-/// it, and a hold word has the bit of a linked node exactly where one is linked.
+/// The world of the seats is safe: nobody is running on a key on which another saw the drain, and who holds a
+/// slot holds its last generation. A try is let in exactly where the last key of the slot is live, and
+/// refused while a caller hides the key; once that caller saw nobody there, nobody is running there, and
+/// after the step by which it shows the key again the word lets a try in exactly where the key is linked,
+/// activated and undoomed. Where the active word is drained, the key is doomed and nobody has a reference to
+/// it. Where the hold word is free, no node is linked in the slot and nobody holds it, and a hold word has
+/// the bit of a linked node exactly where one is linked.
 pub fn words_tell()
     ensures always_safe { AlwaysSafe }
     ensures lets_in_the_live { LetsInTheLive }
@@ -23,17 +24,18 @@ pub fn words_tell()
     ensures shown_lets_in { ShownLetsIn }
 {}
 
-/// Which event each step of a seat is, on the world that the views name, whatever the words show. It does nothing: the
-/// rule of the table is the premise, and its clauses say what the new view of the seat that steps makes of the world.
+/// Which event each step of a seat is, on the world that the views name, whatever the words show. It does
+/// nothing: the rule of the table is the premise, and its clauses say what the new view of the seat that
+/// steps makes of the world.
 ///
-/// A caller's try is an Enter, which runs exactly where the node is live, and the step that takes a refused one back an Undo.
-/// A look that finds the word drained is a Look, and a load that finds no node linked a Part. The bit of a hidden key set where
-/// it was clear is a Hide, a load by a hider that finds nobody a LookHidden, and the bit taken off a Show. Any other such
-/// step leaves the world as it is. The ends of calls, protection broken and restored, and holds given back are Leave, Break,
-/// Restore and Release.
-/// Of the Master, a birth is a Born of the slot's next key, activation and mark are a Rise and a Mark, a node taken out is an Unlink of
-/// any drained caller of it, and a hold that gets its seat is a Pin of a new caller, on a linked key or one that somebody holds.
-/// Its other steps leave the world as it is.
+/// A caller's try is an Enter, which runs exactly where the node is live, and the step that takes a refused
+/// one back an Undo. A look that finds the word drained is a Look, and a load that finds no node linked a
+/// Part. The bit of a hidden key set where it was clear is a Hide, a load by a hider that finds nobody a
+/// LookHidden, and the bit taken off a Show. Any other such step leaves the world as it is. The ends of
+/// calls, protection broken and restored, and holds given back are Leave, Break, Restore and Release. Of the
+/// Master, a birth is a Born of the slot's next key, activation and mark are a Rise and a Mark, a node taken
+/// out is an Unlink of any drained caller of it, and a hold that gets its seat is a Pin of a new caller, on a
+/// linked key or one that somebody holds. Its other steps leave the world as it is.
 pub fn words_step()
     ensures try_is_enter { TryIsEnter }
     ensures undo_is_undo { UndoIsUndo }
@@ -56,19 +58,23 @@ pub fn words_step()
     ensures rest_is_nothing { RestIsNothing }
 {}
 
-/// What holds over every run of steps of any number of seats, in any order, from any table that meets the rule. It does nothing:
-/// a step is one of the kinds that `words_step` names, made where the view of its own seat allows it.
+/// What holds over every run of steps of any number of seats, in any order, from any table that meets the
+/// rule. It does nothing: a step is one of the kinds that `words_step` names, made where the view of its own
+/// seat allows it.
 ///
-/// The table opens with the rule, as the opening world. Each step keeps the rule, and each run of steps is a run of events, so the
-/// world stays safe. While a caller is drained or parted on a key, nobody is running on that key, nor ever after. While a caller hides
-/// a key, a try there is refused, and once it is hidden nobody is running there until it is shown. Once a slot was given
-/// again, only spent callers are on its earlier keys, ever after. A birth finds only spent callers on its slot, and a try
-/// lets a caller run only where its key is live. So whoever runs ran at the start, or was let in by a try of the run while its key was live.
+/// The table opens with the rule, as the opening world. Each step keeps the rule, and each run of steps is a
+/// run of events, so the world stays safe. Once a key was marked, each try there is refused, ever after.
+/// While a caller is drained or parted on a key, nobody is running on that key, nor ever after. While a
+/// caller hides a key, a try there is refused, and once it is hidden nobody is running there until it is
+/// shown. Once a slot was given again, only spent callers are on its earlier keys, ever after. A birth finds
+/// only spent callers on its slot, and a try lets a caller run only where its key is live. So whoever runs
+/// ran at the start, or was let in by a try of the run while its key was live.
 pub fn words_run()
     ensures opens_well { OpensWell }
     ensures rule_kept { RuleKept }
     ensures run_is_run { RunIsRun }
     ensures run_is_safe { RunIsSafe }
+    ensures marked_keeps_out { MarkedKeepsOut }
     ensures drained_for_good { DrainedForGood }
     ensures hidden_keeps_out { HiddenKeepsOut }
     ensures passed_for_good { PassedForGood }

@@ -1,11 +1,12 @@
-//! Where the words of a slot stand, the numbers of which active words and hold words are made, and the tests on a word that was found.
+//! Where the words of a slot stand, the numbers of which active words and hold words are made, and the tests
+//! on a word that was found.
 ghost use Rattle.std.specs.Prelude.{◌≡◌, ◌+◌, ◌↔◌, IsTrue};
 ghost use Rattle.kf_words.specs.Layout.{active_index, hold_index, keeps_out, has_bias, has_hide, is_drained, is_unused, wants_wake, has_linked, bit, bias, doom, IsFree, HasRoom};
 
 use kf_core::Marks;
 
-/// The words of a cache line. Each slot has a line to itself, so that calls of one node never wait for those of another:
-/// its active word, behind that its hold word, and six words that nobody uses.
+/// The words of a cache line. Each slot has a line to itself, so that calls of one node never wait for those
+/// of another: its active word, behind that its hold word, and six words that nobody uses.
 pub(crate) const LINE_WORDS: usize = 8;
 
 /// In an active word: the node is not at once linked, activated and undoomed, so a try for a reference fails.

@@ -1,5 +1,5 @@
-//! Two words for each slot, which any number of threads change in single atomic steps: the active word counts active
-//! references and tries not yet undone, the hold word counts the holds that keep the slot.
+//! Two words for each slot, which any number of threads change in single atomic steps: the active word counts
+//! active references and tries not yet undone, the hold word counts the holds that keep the slot.
 #![tactic(auto)]
 
 mod call;

@@ -1,4 +1,5 @@
-//! The Master: the one seat that makes and unmakes nodes. Whoever owns it, as the tree lock does, gives the tree's commands.
+//! The Master: the one seat that makes and unmakes nodes. Whoever owns it, as the tree lock does, gives the
+//! tree's commands.
 ghost use Rattle.std.specs.Prelude.{◌≡◌, ◌<◌, ◌≤◌, true, false, length, is_some, IfOk, IfErr, OnOk};
 ghost use Rattle.kf_core.specs.declared.refusal.Refusal.TheVariants as refusal_of;
 ghost use Rattle.kf_words.specs.Nodes.{KeepsNodes, KeepsRooms, IsNewHold, IsLastKey, WasPinned, PinRefused, HeldPinRefused, RoomFound, FoundRoom, FoundFull, marks_of};
@@ -26,7 +27,11 @@ impl Model for Master {
 
     ghost Value = { MasterState };
 
-    ghost view = { λ m. record { table = m.steps.token.table_id; view = master_view m.steps; nodes = m.nodes.items } };
+    ghost view = { λ m. record {
+      table = m.steps.token.table_id;
+      view = master_view m.steps;
+      nodes = m.nodes.items;
+    } };
 
     ghost invariant = { λ m. IsMirrored (master_view m.steps) m.slots.items m.nodes.items m.holds };
 }
@@ -42,13 +47,17 @@ impl Master {
         }
     }
 
-    /// Whether the slot of a key may have one hold more, in one word step. False, with no step, where the table has no such slot.
+    /// Whether the slot of a key may have one hold more, in one word step. False, with no step, where the
+    /// table has no such slot.
     pub fn room(&mut self, key: Key) -> bool
         ensures kept { KeepsNodes self.old self.new }
-        ensures found { key.slot < length self.old.view.slots → RoomFound self.old.view key.slot result self.new.view }
-        ensures beyond { length self.old.view.slots ≤ key.slot → (result ≡ false) × (self.new.view ≡ self.old.view) }
+        ensures found { key.slot < length self.old.view.slots →
+            RoomFound self.old.view key.slot result self.new.view }
+        ensures beyond { length self.old.view.slots ≤ key.slot → (result ≡ false)
+            × (self.new.view ≡ self.old.view) }
         ensures room { result ≡ true → FoundRoom self.new.view key.slot }
-        ensures full { result ≡ false → key.slot < length self.old.view.slots → FoundFull self.new.view key.slot }
+        ensures full { result ≡ false → key.slot < length self.old.view.slots →
+            FoundFull self.new.view key.slot }
         ensures rooms { KeepsRooms self.old.view self.new.view }
     {
         if key.slot as usize >= self.slots.len() {
@@ -62,16 +71,17 @@ impl Master {
     ///
     /// Condition: the node is linked.
     ///
-    /// Refusals, in order: TooManyHolds where the slot has as many holds as there may be; NoMemory where the table can have no
-    /// owner more (its `Arc` is at its last count).
-    /// After each the slot has the holds that it had.
+    /// Refusals, in order: TooManyHolds where the slot has as many holds as there may be; NoMemory where the
+    /// table can have no owner more (its `Arc` is at its last count). After each the slot has the holds that
+    /// it had.
     pub fn pin(&mut self, key: Key) -> Result<Hold, Refusal>
         requires { is_some (marks_of self.old.view key) ≡ true }
         ensures kept { KeepsNodes self.old self.new }
         ensures hold { IfOk result (λ hold. IsNewHold self.old key hold) }
         ensures pinned { OnOk result (WasPinned self.old.view key.slot self.new.view) }
         ensures refused { IfErr result (λ why. PinRefused self.old.view key.slot why self.new.view) }
-        ensures full { IfErr result (λ why. why ≡ refusal_of.TooManyHolds → FoundFull self.new.view key.slot) }
+        ensures full { IfErr result
+            (λ why. why ≡ refusal_of.TooManyHolds → FoundFull self.new.view key.slot) }
     {
         self.pin_last(key)
     }
@@ -80,14 +90,17 @@ impl Master {
     ///
     /// Condition: the call is of this table.
     ///
-    /// Refusals, in order: NoEntry where the slot has had a later node, before any word step; TooManyHolds and NoMemory as of `pin`.
+    /// Refusals, in order: NoEntry where the slot has had a later node, before any word step; TooManyHolds
+    /// and NoMemory as of `pin`.
     pub fn pin_held(&mut self, call: &Call) -> Result<Hold, Refusal>
         requires { call.now.table ≡ self.old.table }
         ensures kept { KeepsNodes self.old self.new }
         ensures hold { IfOk result (λ hold. IsNewHold self.old call.now.key hold) }
-        ensures pinned { OnOk result (IsLastKey self.old.view call.now.key × WasPinned self.old.view call.now.key.slot self.new.view) }
+        ensures pinned { OnOk result
+            (IsLastKey self.old.view call.now.key × WasPinned self.old.view call.now.key.slot self.new.view) }
         ensures refused { IfErr result (λ why. HeldPinRefused self.old.view call.now.key why self.new.view) }
-        ensures full { IfErr result (λ why. why ≡ refusal_of.TooManyHolds → FoundFull self.new.view call.now.key.slot) }
+        ensures full { IfErr result
+            (λ why. why ≡ refusal_of.TooManyHolds → FoundFull self.new.view call.now.key.slot) }
     {
         let key = call.key();
         match self.slots.get(key.slot as usize) {
@@ -103,7 +116,8 @@ impl Master {
         ensures hold { IfOk result (λ hold. IsNewHold self.old key hold) }
         ensures pinned { OnOk result (WasPinned self.old.view key.slot self.new.view) }
         ensures refused { IfErr result (λ why. PinRefused self.old.view key.slot why self.new.view) }
-        ensures full { IfErr result (λ why. why ≡ refusal_of.TooManyHolds → FoundFull self.new.view key.slot) }
+        ensures full { IfErr result
+            (λ why. why ≡ refusal_of.TooManyHolds → FoundFull self.new.view key.slot) }
     {
         let found = self.steps.load_hold(key.slot);
         if !has_room(found, self.holds) {

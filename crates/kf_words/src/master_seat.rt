@@ -17,6 +17,7 @@ pub(crate) struct MasterSeat {
     pub(crate) token: Seat<(), View>,
     ghost of_table: { token.table_id ≡ (arc_value table).shared.table_id },
     ghost a_master: { token.me ≡ (seat_of.Master (master_of token.me.0), []) },
-    ghost lines: { (arc_value table).shared.table_id.words ≡ (arc_value table).shared.key.slots * line_words },
+    ghost lines: { (arc_value table).shared.table_id.words
+        ≡ (arc_value table).shared.key.slots * line_words },
     ghost all_slots: { length (master_of token.me.0).slots ≡ (arc_value table).shared.key.slots },
 }

@@ -1,8 +1,8 @@
 //! The steps of the Master's seat, one by one.
-ghost use Rattle.std.specs.Prelude.{◌≡◌, ◌<◌, ◌≤◌, IfSome, [], length, Some, None, true, false};
+ghost use Rattle.std.specs.Prelude.{◌≡◌, ◌<◌, ◌≤◌, IfSome, [], length, Some, None, false};
 ghost use Rattle.std.specs.Arc.{arc_value};
 ghost use Rattle.kf_core.specs.Marks.{fresh_marks};
-ghost use Rattle.kf_words.specs.Layout.{active_index, hold_index, is_drained};
+ghost use Rattle.kf_words.specs.Layout.{active_index, hold_index};
 ghost use Rattle.kf_words.specs.Rule.{last_key};
 ghost use Rattle.kf_words.specs.Steps.{with_load, with_pin, without_pin, after_split, new_hold, state_at, with_look, without_node, after_store, with_birth, TellsSlot, with_marks, activated_marks, doomed_marks};
 ghost use Rattle.kf_core.specs.declared.slot.Marks.{Marks};
@@ -83,7 +83,8 @@ impl MasterSeat {
         ensures table { self.new.token.table_id ≡ self.old.token.table_id }
         ensures view { master_view self.new ≡ after_split (master_view self.old) }
         ensures same_table { result.table_id ≡ self.old.token.table_id }
-        ensures hold { result.me ≡ (seat_of.Caller (new_hold (last_key slot (state_at (master_view self.old) slot))), []) }
+        ensures hold { result.me
+            ≡ (seat_of.Caller (new_hold (last_key slot (state_at (master_view self.old) slot))), []) }
     {
         let _ = slot; // the contract alone names it
         self.table.shared.split_seat::<SplitsHold>(&mut self.token)
@@ -127,8 +128,8 @@ impl MasterSeat {
             .fetch_sub::<TakesBias>(&mut self.token, word, BIAS);
     }
 
-    /// Marks the node of a slot, which has these marks, as doomed. It wakes nobody: one who waits for a node that is not doomed yet
-    /// sleeps for a millisecond at most.
+    /// Marks the node of a slot, which has these marks, as doomed. It wakes nobody: one who waits for a node
+    /// that is not doomed yet sleeps for a millisecond at most.
     pub(crate) fn mark_node(&mut self, slot: u32, marks: Marks)
         requires marks { HasMarks (master_view self.old) slot marks }
         requires undoomed { marks.doomed ≡ false }

@@ -12,8 +12,8 @@ use crate::receipt::Drained;
 use kf_core::{Key, Marks, Node, SlotState};
 
 impl Master {
-    /// The lowest slot from 1 up that is found free, with its next generation. None where no slot was found free.
-    /// It takes one word step for each slot that it looks at.
+    /// The lowest slot from 1 up that is found free, with its next generation. None where no slot was found
+    /// free. It takes one word step for each slot that it looks at.
     pub fn free_key(&mut self) -> Option<Key>
         ensures kept { KeepsNodes self.old self.new }
         ensures searched { Searched self.old.view (option_map (λ key. key.slot) result) self.new.view }
@@ -68,7 +68,8 @@ impl Master {
         };
     }
 
-    /// Marks a linked node as doomed: from now on each try for a reference fails (the first half of `__kernfs_remove`).
+    /// Marks a linked node as doomed: from now on each try for a reference fails (the first half of
+    /// `__kernfs_remove`).
     ///
     /// Condition: the node is linked and not doomed.
     pub fn doom(&mut self, key: Key)
@@ -76,7 +77,8 @@ impl Master {
         ensures table { self.new.table ≡ self.old.table }
         ensures nodes { self.new.nodes ≡ self.old.nodes }
         ensures view { self.new.view ≡ with_marks doomed_marks key.slot self.old.view }
-        ensures slots { (x : Marks) → marks_of self.old.view key ≡ Some x → self.new.view.slots ≡ slots_with self.old.view.slots key (Some (doomed_marks x)) }
+        ensures slots { (x : Marks) → marks_of self.old.view key ≡ Some x →
+            self.new.view.slots ≡ slots_with self.old.view.slots key (Some (doomed_marks x)) }
     {
         if let Some(marks) = self.marks(key) {
             self.steps.mark_node(key.slot, marks);
@@ -90,8 +92,9 @@ impl Master {
         }
     }
 
-    /// Takes a node out of the tree, where its active word is found drained (`kernfs_unlink_sibling`).
-    /// False where it was not: a refused try may be in flight there, or a caller that broke its protection has a reference again.
+    /// Takes a node out of the tree, where its active word is found drained (`kernfs_unlink_sibling`). False
+    /// where it was not: a refused try may be in flight there, or a caller that broke its protection has a
+    /// reference again.
     ///
     /// Condition: the receipt is of this table, and its node is linked.
     pub fn unlink(&mut self, drained: &Drained) -> bool
@@ -100,7 +103,8 @@ impl Master {
         ensures table { self.new.table ≡ self.old.table }
         ensures nodes { self.new.nodes ≡ self.old.nodes }
         ensures answer { UnlinkAnswer self.old.view drained.now.key.slot result self.new.view }
-        ensures slots { self.new.view.slots ≡ (if result then slots_with self.old.view.slots drained.now.key None else self.old.view.slots) }
+        ensures slots { self.new.view.slots
+            ≡ (if result then slots_with self.old.view.slots drained.now.key None else self.old.view.slots) }
     {
         let key = drained.key();
         if !is_drained(self.steps.look_over(key.slot)) {

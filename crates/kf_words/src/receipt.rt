@@ -10,9 +10,9 @@ use crate::seat::CallerSeat;
 use kf_core::Key;
 use std::marker::Model;
 
-/// Saw that the node is doomed and that nobody had a reference to it. While it is out, no call of the node is Running:
-/// a callback that still runs there gave its protection up before the drain was seen, even if it has a reference again.
-/// It must be spent, by `parted` or `release`.
+/// Saw that the node is doomed and that nobody had a reference to it. While it is out, no call of the node is
+/// Running: a callback that still runs there gave its protection up before the drain was seen, even if it has
+/// a reference again. It must be spent, by `parted` or `release`.
 pub struct Drained {
     pub(crate) seat: CallerSeat,
 }
@@ -58,8 +58,10 @@ impl Drained {
         ensures same { MatchResult result (λ gone. IsSameSeat self gone) (λ back. IsSameSeat self back) }
         ensures gone { IfOk result (λ gone. SawParted self gone) }
         ensures linked { IfErr result (λ back. SawLinked self back) }
-        ensures found { MatchResult result (λ gone. FoundInHold self gone.found) (λ back. FoundInHold self back.found) }
-        ensures made { MatchResult result (λ gone. WasAPart (seat_view self) (seat_view gone)) (λ back. WasAPart (seat_view self) (seat_view back)) }
+        ensures found { MatchResult result (λ gone. FoundInHold self gone.found)
+            (λ back. FoundInHold self back.found) }
+        ensures made { MatchResult result (λ gone. WasAPart (seat_view self) (seat_view gone))
+            (λ back. WasAPart (seat_view self) (seat_view back)) }
     {
         let Drained { mut seat } = self;
         if has_linked(seat.load_hold()) {

@@ -19,8 +19,8 @@ pub(crate) enum Kind {
     Link,
 }
 
-/// A caller's seat at the table of words, with the key whose slot it holds and the node of that key.
-/// It lies in a `Hold`, `Call`, `Drained`, `Parted`, `Hiding` or `Hidden`, and ends when its slot is given back.
+/// A caller's seat at the table of words, with the key whose slot it holds and the node of that key. It lies
+/// in a `Hold`, `Call`, `Drained`, `Parted`, `Hiding` or `Hidden`, and ends when its slot is given back.
 ///
 /// The node lies in three fields, since a value of sixteen bytes would go through memory at each atomic step.
 pub struct CallerSeat {
@@ -35,6 +35,7 @@ pub struct CallerSeat {
     ghost of_table: { token.table_id ≡ (arc_value table).shared.table_id },
     ghost a_caller: { token.me ≡ (seat_of.Caller (caller_of token.me.0), []) },
     ghost same_key: { (caller_of token.me.0).key ≡ key },
-    ghost lines: { (arc_value table).shared.table_id.words ≡ (arc_value table).shared.key.slots * line_words },
+    ghost lines: { (arc_value table).shared.table_id.words
+        ≡ (arc_value table).shared.key.slots * line_words },
     ghost in_table: { key.slot < (arc_value table).shared.key.slots },
 }

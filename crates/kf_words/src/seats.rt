@@ -37,13 +37,16 @@ impl Guard for Seats {
 
     ghost may_enter = { λ _ _. Unit {0} };
 
-    ghost enters = { λ _ hold call _. IsSameSeat hold call × Entered hold call × WasLetInLive (seat_view hold) (seat_view call) };
+    ghost enters = { λ _ hold call _. IsSameSeat hold call × Entered hold call
+        × WasLetInLive (seat_view hold) (seat_view call) };
 
-    ghost refuses = { λ _ hold back _. IsSameSeat hold back × WasTurned hold back × WasATryUndone (seat_view hold) (seat_view back) };
+    ghost refuses = { λ _ hold back _. IsSameSeat hold back × WasTurned hold back
+        × WasATryUndone (seat_view hold) (seat_view back) };
 
     ghost may_leave = { λ _ call. has_reference call.phase ≡ true };
 
-    ghost leaves = { λ _ call hold _. IsSameSeat call hold × WasLeft call hold × WasALeave (seat_view call) (seat_view hold) };
+    ghost leaves = { λ _ call hold _. IsSameSeat call hold × WasLeft call hold
+        × WasALeave (seat_view call) (seat_view hold) };
 
     fn enter(&mut self, hold: Hold) -> Result<Call, Hold> {
         hold.enter()

@@ -222,7 +222,8 @@ fn the_last_generation_is_given_once(rt: HostRuntime) {
     assert_eq!(rt; master.free_key(), None);
 }
 
-/// A slot with two holds at most, until its node has left. `parts` says whether the second hold sees that before it goes.
+/// A slot with two holds at most, until its node has left. `parts` says whether the second hold sees that
+/// before it goes.
 fn slot_is_given_again<R: Abort>(rt: &R, alloc: Global, parts: bool) {
     let mut master = made(rt, alloc, 2, 2, 0);
     let key = born(rt, &mut master, 1, 1);

@@ -10,7 +10,8 @@ use std::sync::atomic::{AtomicU64, Ordering};
 use std::thread::{self, Threads, for_each_mut, join};
 use std::time::Duration;
 
-/// Enters and leaves until refused, at most 10,000 times, through the guard; counts the thread once it has entered.
+/// Enters and leaves until refused, at most 10,000 times, through the guard; counts the thread once it has
+/// entered.
 fn turns(mut hold: Hold, entered: &AtomicU64) -> Hold {
     let mut guard = Seats;
     for turn in 0..10_000 {
@@ -123,7 +124,8 @@ fn all_drain<R: Threads + Wait + Sync>(rt: &R, holds: &mut Vec<Option<Hold>>, th
     );
 }
 
-/// Ends the call. Where `breaks` says so it breaks its protection first, and answers whether so many came through before it ends.
+/// Ends the call. Where `breaks` says so it breaks its protection first, and answers whether so many came
+/// through before it ends.
 pub(crate) fn let_through(mut call: Call, breaks: bool, count: u64, through: &AtomicU64) -> bool {
     let mut enough = true;
     match call.phase() {
@@ -288,8 +290,8 @@ fn leave_among_tries<R: Threads + Sync>(
     );
 }
 
-/// A hold waits for the drain, and the call is left among refused tries. If a try is not yet undone when the call is left,
-/// the waiter is woken by an undo or by nobody.
+/// A hold waits for the drain, and the call is left among refused tries. If a try is not yet undone when the
+/// call is left, the waiter is woken by an undo or by nobody.
 fn one_waits_among_tries<R: Abort + Threads + Wait + Sync>(rt: &R, alloc: Global) {
     let mut master = made(rt, alloc, 2, 8, 0);
     let key = born(rt, &mut master, 1, 1);
@@ -339,7 +341,8 @@ pub(crate) fn hide_in<R: Wait>(
     Some(hidden)
 }
 
-// Leaves the call after many looks at the count, and tells whether it stood at 0 until then and was raised after.
+// Leaves the call after many looks at the count, and tells whether it stood at 0 until then and was raised
+// after.
 fn leave_late(running: &mut Option<Call>, through: &AtomicU64) -> bool {
     let mut early = false;
     for _ in 0..10_000 {

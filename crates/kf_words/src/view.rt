@@ -1,9 +1,11 @@
-//! What each seat at the table of words knows. The rule of the table speaks of these types, so they are types of the code, but no value of them is ever made.
+//! What each seat at the table of words knows. The rule of the table speaks of these types, so they are types
+//! of the code, but no value of them is ever made.
 use kf_core::{Key, Phase, SlotState};
 use std::collections::LinkedList;
 
-/// A caller's seat: its key and phase, how many word steps it has made and how many of them were tries, the word that the last
-/// of them found (the second step of a refused try left out), and whether that second step is still due.
+/// A caller's seat: its key and phase, how many word steps it has made and how many of them were tries, the
+/// word that the last of them found (the second step of a refused try left out), and whether that second step
+/// is still due.
 pub struct CallerView {
     pub key: Key,
     pub phase: Phase,

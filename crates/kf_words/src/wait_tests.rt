@@ -76,7 +76,8 @@ fn comes<R: Clock>(rt: &R, count: u64, counter: &AtomicU64) -> bool {
     false
 }
 
-/// Marks each node at about the moment at which its waiter falls asleep, and tells whether all waiters came through by themselves.
+/// Marks each node at about the moment at which its waiter falls asleep, and tells whether all waiters came
+/// through by themselves.
 fn mark_in_turn<R: Abort + Clock>(
     rt: &R,
     master: &mut Master,
@@ -128,8 +129,8 @@ fn naps<R: Abort + Threads + Wait + Clock + Sync>(rt: &R, alloc: Global, count: 
     see_drained(rt, others);
 }
 
-/// A waiter for an idle node may fall asleep just as the node is marked, and the mark wakes nobody. So it may sleep for a
-/// short time alone.
+/// A waiter for an idle node may fall asleep just as the node is marked, and the mark wakes nobody. So it may
+/// sleep for a short time alone.
 #[test]
 fn a_waiter_for_an_idle_node_never_misses_the_mark(rt: HostRuntime) {
     for _ in 0..4 {
@@ -300,8 +301,8 @@ fn no_call_runs_while_a_token_is_out(rt: HostRuntime) {
     see_drained(&rt, holds);
 }
 
-/// Ends the last call where both wait, and later marks the node. Tells whether the hider came through by the call's end, and
-/// the other by the mark.
+/// Ends the last call where both wait, and later marks the node. Tells whether the hider came through by the
+/// call's end, and the other by the mark.
 fn end_and_mark<R: Abort + Clock>(
     rt: &R,
     master: &mut Master,
@@ -322,8 +323,8 @@ fn end_and_mark<R: Abort + Clock>(
     hidden && drained
 }
 
-/// A waiter for the drain and a hider sleep on one word, which one first is `hider_first`. The one wake of the last call's end
-/// is the hider's, whoever takes it.
+/// A waiter for the drain and a hider sleep on one word, which one first is `hider_first`. The one wake of
+/// the last call's end is the hider's, whoever takes it.
 fn two_kinds_wait<R: Abort + Threads + Wait + Clock + Sync>(
     rt: &R,
     alloc: Global,

@@ -15,8 +15,8 @@ use std::alloc::{AllocError, Global};
 use std::marker::Model;
 use std::sync::Arc;
 
-/// A table of words: for each slot a line with an active word and a hold word. Contracts see which table it is.
-/// It keeps the table; the Master and the holds that it gives do all else.
+/// A table of words: for each slot a line with an active word and a hold word. Contracts see which table it
+/// is. It keeps the table; the Master and the holds that it gives do all else.
 #[derive(Drop)]
 pub struct Words {
     table: Arc<WordTable>,

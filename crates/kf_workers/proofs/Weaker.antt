@@ -1,11 +1,11 @@
 -- Turns that may be answered so may be answered in every wider way.
-use Rattle.std.proofs.Common.{ℕ, List, map, All}
-use Rattle.std.specs.Prelude.{Option, None, Some, ◌≡◌}
+use Rattle.std.proofs.Common.{ℕ, List}
+use Rattle.std.specs.Prelude.{Option, None, Some}
 use Rattle.kf_script.specs.Answers.{Step, AnswersRequest}
 use Rattle.kf_script.specs.Requests.{RequestWords, request_of}
-use Rattle.kf_workers.specs.Kinds.{Kind, bad, ends_round, of_seat, kind_by}
+use Rattle.kf_workers.specs.Kinds.{Kind, bad, ends_round, of_seat}
 use Rattle.kf_workers.specs.Replies.{Suits, Answers, AnswersTo}
-use Rattle.kf_workers.specs.Turns.{Turn, IsReply, IsTurn, MayReply, RepliedAfter}
+use Rattle.kf_workers.specs.Turns.{IsReply, MayReply, RepliedAfter}
 
 module _ (may wider : List ℕ → List ℕ → Type 0) (widens : (command reply : List ℕ) → may command reply → wider command reply) where
   reply_wider : (kind : Kind) (reply : List ℕ) → IsReply may kind reply → IsReply wider kind reply

@@ -8,7 +8,8 @@ use Rattle.kf_script.specs.Lines.{lines_of}
 use Rattle.kf_workers.specs.Replies.{Answers}
 use Rattle.kf_workers.specs.Turns.{Replied}
 
--- The script was read to its end, and the replies to its lines were written, one each, in the order of the lines.
+-- The script was read to its end, and the replies to its lines were written, one each, in the order of the
+-- lines.
 pub record RanWhole (workers : ℕ) (input left old new : Option (List ℕ)) : Type 0 where
   pub script : List ℕ
   pub took : Consumes input left script
@@ -28,7 +29,8 @@ pub record CutWhole (workers : ℕ) (input left old new : Option (List ℕ)) : T
   pub written : Appends old new part
 
 -- The run stopped for this reason: but after a failed write nothing was written.
-abbrev pub StoppedWhole : RunFault → ℕ → Option (List ℕ) → Option (List ℕ) → Option (List ℕ) → Option (List ℕ) → Type 0
+abbrev pub StoppedWhole : RunFault → ℕ → Option (List ℕ) → Option (List ℕ) → Option (List ℕ) → Option (List ℕ)
+    → Type 0
 StoppedWhole Read workers input left old new = Keeps old new
 StoppedWhole Write workers input left old new = CutWhole workers input left old new
 StoppedWhole Memory workers input left old new = Keeps old new

@@ -1,4 +1,5 @@
--- What a board of the shared tree may reply to each request, whatever others did to the tree before and meanwhile.
+-- What a board of the shared tree may reply to each request, whatever others did to the tree before and
+-- meanwhile.
 use Rattle.std.specs.Prelude.{ℕ, Bool, List, ◌≡◌, ◌≤◌, length, decimal, Result, IfOk, Option, None, Some}
 use Rattle.kf_core.specs.declared.key.Key.{Key}
 use Rattle.kf_core.specs.declared.refusal.Refusal.{Refusal}
@@ -29,11 +30,13 @@ IsStat reply = (told : Result Stat Refusal) × (reply ≡ stat_told told)
 -- a link's text in some tree, or a refusal
 abbrev pub IsLinkText : List ℕ → Type 0
 IsLinkText reply = (told : Result (List ℕ) Refusal)
-    × IfOk told (λ text. (tree : Tree) × (root link : Key) × HasLinkText tree root link text) × (reply ≡ text_told told)
+    × IfOk told (λ text. (tree : Tree) × (root link : Key) × HasLinkText tree root link text)
+    × (reply ≡ text_told told)
 
 -- at most so many bytes, or why there are none
 abbrev pub AreBytes : ℕ → List ℕ → Type 0
-AreBytes most reply = (told : Result ℕ FileError) × (buffer : List ℕ) × (length buffer ≤ most) × (reply ≡ read_told told buffer)
+AreBytes most reply =
+    (told : Result ℕ FileError) × (buffer : List ℕ) × (length buffer ≤ most) × (reply ≡ read_told told buffer)
 
 -- the number that a store answered, or why there is none
 abbrev pub IsCount : List ℕ → Type 0

@@ -10,13 +10,17 @@ abbrev pub OfDevices : Bool → Type 0 → Type 0 → Type 0
 OfDevices true devices texts = devices
 OfDevices false devices texts = texts
 
-abbrev pub shown_by : (ℕ → Result (List ℕ) Fault → Type 0) → (ℕ → Result (List ℕ) Fault → Type 0) → ℕ → Result (List ℕ) Fault → Type 0
-shown_by texts devices tag filled = OfDevices (nat_le first_device_tag tag) (devices tag filled) (texts tag filled)
+abbrev pub shown_by : (ℕ → Result (List ℕ) Fault → Type 0) → (ℕ → Result (List ℕ) Fault → Type 0) → ℕ
+    → Result (List ℕ) Fault → Type 0
+shown_by texts devices tag filled =
+    OfDevices (nat_le first_device_tag tag) (devices tag filled) (texts tag filled)
 
-abbrev pub stored_by : (ℕ → List ℕ → Result ℕ Fault → Type 0) → (ℕ → List ℕ → Result ℕ Fault → Type 0) → ℕ → List ℕ → Result ℕ Fault → Type 0
+abbrev pub stored_by : (ℕ → List ℕ → Result ℕ Fault → Type 0) → (ℕ → List ℕ → Result ℕ Fault → Type 0) → ℕ
+    → List ℕ → Result ℕ Fault → Type 0
 stored_by texts devices tag bytes answer =
     OfDevices (nat_le first_device_tag tag) (devices tag bytes answer) (texts tag bytes answer)
 
-abbrev pub begun_by : (ℕ → List ℕ → Result (Unit {0}) Fault → Type 0) → (ℕ → List ℕ → Result (Unit {0}) Fault → Type 0) → ℕ → List ℕ → Result (Unit {0}) Fault → Type 0
+abbrev pub begun_by : (ℕ → List ℕ → Result (Unit {0}) Fault → Type 0)
+    → (ℕ → List ℕ → Result (Unit {0}) Fault → Type 0) → ℕ → List ℕ → Result (Unit {0}) Fault → Type 0
 begun_by texts devices tag bytes answer =
     OfDevices (nat_le first_device_tag tag) (devices tag bytes answer) (texts tag bytes answer)

@@ -8,7 +8,8 @@ use Rattle.kf_workers.specs.Kinds.{Kind, bad, ends_round, of_seat, kind_by, comm
 -- what some board may reply to a command, whatever became of the board before
 abbrev pub MayReply : {Board : Type 0} → Step Board → List ℕ → List ℕ → Type 0
 MayReply {Board} step command reply =
-    (before now : Board) × (starved : Bool) × AnswersRequest step before (request_of command) starved reply now
+    (before now : Board) × (starved : Bool)
+    × AnswersRequest step before (request_of command) starved reply now
 
 -- one line and its reply
 pub record Turn : Type 0 where
@@ -35,7 +36,8 @@ abbrev pub IsTurn : (List ℕ → List ℕ → Type 0) → ℕ → Turn → Type
 IsTurn may workers turn = IsReply may (kind_by workers turn.line) turn.reply
 
 -- the replies to these lines, one each, in their order, stand behind the bytes
-pub record RepliedAfter (may : List ℕ → List ℕ → Type 0) (workers : ℕ) (lines : List (List ℕ)) (old new : List ℕ) : Type 0 where
+pub record RepliedAfter (may : List ℕ → List ℕ → Type 0) (workers : ℕ) (lines : List (List ℕ))
+    (old new : List ℕ) : Type 0 where
   pub turns : List Turn
   pub lines_are : map line_of turns ≡ lines
   pub each : All (IsTurn may workers) turns

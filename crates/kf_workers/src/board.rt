@@ -22,8 +22,8 @@ mod removing;
 /// How many files may be open on a board: one for each letter.
 const FILES: usize = 26;
 
-/// The board of one who runs lines on a shared tree: its open files by letter, its tokens of hidden files by slot, and a
-/// handle of its own of the event numbers.
+/// The board of one who runs lines on a shared tree: its open files by letter, its tokens of hidden files by
+/// slot, and a handle of its own of the event numbers.
 ///
 /// It must be spent, by [`WorkerBoard::end`], which gives all its holds back.
 pub struct WorkerBoard<'x, W: WaitOps, N: Naming, R: Wait> {

@@ -16,7 +16,8 @@ struct LastFile {
     tag: u64,
 }
 
-/// What all seats of a run share: the tree, the bus, and the callbacks and tags of the files that scripts make.
+/// What all seats of a run share: the tree, the bus, and the callbacks and tags of the files that scripts
+/// make.
 ///
 /// No two of its locks are ever held at once: each is let go before another lock, a callback or a wait.
 #[derive(Drop)]
@@ -74,8 +75,8 @@ impl<'x, W: WaitOps, N: Naming> Common<'x, W, N> {
         let _ = self.texts.first(rt, tag, b"");
     }
 
-    /// Notes the tag of a new file, and answers that of an earlier file of its slot, which has left the tree. Where a
-    /// later file of the slot was noted before, it is the new one that has left meanwhile.
+    /// Notes the tag of a new file, and answers that of an earlier file of its slot, which has left the tree.
+    /// Where a later file of the slot was noted before, it is the new one that has left meanwhile.
     fn note(last_files: &mut Vec<LastFile>, key: Key, tag: u64) -> Option<u64> {
         let last = last_files.get_mut(key.slot as usize)?;
         if last.generation >= key.generation {
@@ -93,8 +94,8 @@ impl<'x, W: WaitOps, N: Naming> Common<'x, W, N> {
         }
     }
 
-    /// Notes that a file was made, and lets the text of its slot's earlier file go: so at most one text is kept for each
-    /// slot, beside those of the lines that run.
+    /// Notes that a file was made, and lets the text of its slot's earlier file go: so at most one text is
+    /// kept for each slot, beside those of the lines that run.
     pub fn made_file<R: Wait>(&self, rt: &R, key: Key, tag: u64) {
         let gone = {
             let mut last_files = self.last_files.lock(rt);

@@ -1,7 +1,7 @@
-//! A crowd: four workers on six shared paths whose directories come and go, and on a file of each worker's own. Each reply
-//! is one that some order of the lines explains, as far as it is looked at here.
+//! A crowd: four workers on six shared paths whose directories come and go, and on a file of each worker's
+//! own. Each reply is one that some order of the lines explains, as far as it is looked at here.
 
-ghost use Rattle.std.specs.Prelude.{◌≡◌, ◌<◌, ◌≤◌};
+ghost use Rattle.std.specs.Prelude.{◌<◌};
 
 use crate::fixtures::answers;
 use std::alloc::{AllocError, Global};
@@ -126,8 +126,8 @@ fn put_action(script: &mut Vec<u8>, worker: usize, action: Action) -> Result<(),
     }
 }
 
-/// What is known of a worker: the round in which each shared file that it has open was opened, or 0; the text of its
-/// own file, and whether that is hidden.
+/// What is known of a worker: the round in which each shared file that it has open was opened, or 0; the text
+/// of its own file, and whether that is hidden.
 #[derive(Clone, Copy)]
 struct Watched {
     opened: [usize; 6],
@@ -139,8 +139,8 @@ fn is_one_of(reply: &[u8], some: &[&[u8]]) -> bool {
     some.iter().any(|it| *it == reply)
 }
 
-/// Whether a reply about a shared path is one that some order explains. `removed` is the last round before this one in which the
-/// node at the path was removed.
+/// Whether a reply about a shared path is one that some order explains. `removed` is the last round before
+/// this one in which the node at the path was removed.
 fn is_shared_reply(action: Action, reply: &[u8], opened: usize, removed: usize) -> bool {
     let path = path_of(action.path);
     let is_dir = is_directory(action.path);

@@ -1,60 +1,127 @@
 //! Scripts with devices, and with the lines that one caller's board refuses.
 
-use crate::fixtures::{answers, is_answered, joined};
+use crate::fixtures::{answers, are_answered, is_answered, joined};
 use std::test::Fail;
 
 #[test]
 fn a_device_is_plugged_read_and_deleted(rt: HostRuntime) {
-    let script =
-        b"plug d0 on\nreadlink /bus/devices/d0\nls /devices/d0\nopen f /devices/d0/value rw\nwrite f off\nread f 0 9\nopen s /devices/d0/serial r\nread s 0 9\nwait\n@1 open d /devices/d0/delete w\n@1 write d 1\nwait\nread f 0 9\nls /devices\nls /bus/devices\nunplug d0\n";
-    let replies =
-        b"ok 4.1\n../../devices/d0\ndelete serial value\nok\n3\noff\nok\n1\nok\nok\n1\nok\nerr NoDevice 19\n\n\nerr NoEntry 2\n";
-    assert!(rt; is_answered(&rt, rt.alloc(), 1024, script, replies));
+    assert!(rt;
+        are_answered(
+            &rt,
+            rt.alloc(),
+            1024,
+            1,
+            &[
+                "plug d0 on -> ok 4.1",
+                "readlink /bus/devices/d0 -> ../../devices/d0",
+                "ls /devices/d0 -> delete serial value",
+                "open f /devices/d0/value rw -> ok",
+                "write f off -> 3",
+                "read f 0 9 -> off",
+                "open s /devices/d0/serial r -> ok",
+                "read s 0 9 -> 1",
+                "wait -> ok",
+                "@1 open d /devices/d0/delete w -> ok",
+                "@1 write d 1 -> 1",
+                "wait -> ok",
+                "read f 0 9 -> err NoDevice 19",
+                "ls /devices -> ",
+                "ls /bus/devices -> ",
+                "unplug d0 -> err NoEntry 2",
+            ]
+        )
+    );
 }
 
 #[test]
 fn each_plug_is_counted_and_gives_a_new_key(rt: HostRuntime) {
-    let script =
-        b"plug d0 a\nplug d0 b\nunplug d0\nunplug d0\nplug d0 c\nopen s /devices/d0/serial r\nread s 0 9\n";
-    let replies = b"ok 4.1\nerr Exists 17\nok\nerr NoEntry 2\nok 4.2\nok\n3\n";
-    assert!(rt; is_answered(&rt, rt.alloc(), 1024, script, replies));
+    assert!(rt;
+        are_answered(
+            &rt,
+            rt.alloc(),
+            1024,
+            1,
+            &[
+                "plug d0 a -> ok 4.1",
+                "plug d0 b -> err Exists 17",
+                "unplug d0 -> ok",
+                "unplug d0 -> err NoEntry 2",
+                "plug d0 c -> ok 4.2",
+                "open s /devices/d0/serial r -> ok",
+                "read s 0 9 -> 3",
+            ]
+        )
+    );
 }
 
 #[test]
 fn a_plug_without_slots_leaves_its_bases(rt: HostRuntime) {
-    let script = b"plug d0 on\ncommands\nls /\nls /devices\nmkdir /x\n";
-    let replies = b"err NoSpace 28\n13\nbus devices\n\nok 4.2\n";
-    assert!(rt; is_answered(&rt, rt.alloc(), 8, script, replies));
+    assert!(rt;
+        are_answered(
+            &rt,
+            rt.alloc(),
+            8,
+            1,
+            &[
+                "plug d0 on -> err NoSpace 28",
+                "commands -> 13",
+                "ls / -> bus devices",
+                "ls /devices -> ",
+                "mkdir /x -> ok 4.2",
+            ]
+        )
+    );
 }
 
 #[test]
 fn a_plug_and_an_unplug(rt: HostRuntime) {
     assert!(rt;
-        is_answered(
+        are_answered(
             &rt,
             rt.alloc(),
             1024,
-            b"plug d0 on\nunplug d0\n",
-            b"ok 4.1\nok\n"
+            1,
+            &["plug d0 on -> ok 4.1", "unplug d0 -> ok",]
         )
     );
     assert!(rt;
-        is_answered(
+        are_answered(
             &rt,
             rt.alloc(),
             1024,
-            b"plug a/b on\nplug . x\nunplug a/b\n",
-            b"err Invalid 22\nerr Invalid 22\nerr NoEntry 2\n"
+            1,
+            &[
+                "plug a/b on -> err Invalid 22",
+                "plug . x -> err Invalid 22",
+                "unplug a/b -> err NoEntry 2",
+            ]
         )
     );
 }
 
 #[test]
 fn a_file_and_a_device_keep_their_own_texts(rt: HostRuntime) {
-    let script =
-        b"plug d0 device\nfile /f 644 file\nopen f /f rw\nopen v /devices/d0/value rw\nread f 0 9\nread v 0 9\nwrite f x\nread v 0 9\nwrite v y\nread f 0 9\nread v 0 9\n";
-    let replies = b"ok 4.1\nok 9.1\nok\nok\nfile\ndevice\n1\ndevice\n1\nx\ny\n";
-    assert!(rt; is_answered(&rt, rt.alloc(), 1024, script, replies));
+    assert!(rt;
+        are_answered(
+            &rt,
+            rt.alloc(),
+            1024,
+            1,
+            &[
+                "plug d0 device -> ok 4.1",
+                "file /f 644 file -> ok 9.1",
+                "open f /f rw -> ok",
+                "open v /devices/d0/value rw -> ok",
+                "read f 0 9 -> file",
+                "read v 0 9 -> device",
+                "write f x -> 1",
+                "read v 0 9 -> device",
+                "write v y -> 1",
+                "read f 0 9 -> x",
+                "read v 0 9 -> y",
+            ]
+        )
+    );
 }
 
 #[test]

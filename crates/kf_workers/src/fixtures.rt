@@ -36,6 +36,38 @@ pub fn is_answered<R: Threads + Wait + Sync>(
     answers(rt, alloc, slots, 1, script).is_some_and(|text| text.as_slice() == replies)
 }
 
+/// A script and its replies, from lines `LINE -> REPLY`.
+fn script_and_replies(alloc: Global, lines: &[&str]) -> Option<(Vec<u8>, Vec<u8>)> {
+    let mut script = Vec::new(alloc);
+    let mut replies = Vec::new(alloc);
+    for line in lines {
+        let (asked, answered) = line.split_once(" -> ")?;
+        script.extend_from_slice(asked.as_bytes()).ok()?;
+        script.push(b'\n').ok()?;
+        replies.extend_from_slice(answered.as_bytes()).ok()?;
+        replies.push(b'\n').ok()?;
+    }
+    Some((script, replies))
+}
+
+/// Whether each line is answered so, by the owner and so many workers.
+pub fn are_answered<R: Threads + Wait + Sync>(
+    rt: &R,
+    alloc: Global,
+    slots: u32,
+    workers: u32,
+    lines: &[&str],
+) -> bool
+    requires some { 1 ≤ workers }
+    requires few { workers ≤ 16 }
+{
+    let Some((script, replies)) = script_and_replies(alloc, lines) else {
+        return false;
+    };
+    answers(rt, alloc, slots, workers, script.as_slice()).is_some_and(|text| text.as_slice()
+        == replies.as_slice())
+}
+
 /// So many of one byte.
 pub fn many(alloc: Global, byte: u8, count: usize) -> Result<Vec<u8>, AllocError> {
     vec![in alloc; byte; count]

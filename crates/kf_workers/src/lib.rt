@@ -27,6 +27,8 @@ mod crowd_tests;
 #[cfg(test)]
 mod device_tests;
 #[cfg(test)]
+mod file_scripts;
+#[cfg(test)]
 mod fixtures;
 #[cfg(test)]
 mod meeting_tests;

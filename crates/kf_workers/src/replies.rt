@@ -47,7 +47,8 @@ pub fn put_replies<B: Board>(
 ) -> Result<(), AllocError>
     requires workers { workers ≤ 16 }
     requires seats { length seats.old ≡ workers + 1 }
-    requires told { EachTells (MayReply B.step) workers (map (λ line. line.now) lines.now) (untakens seats.old) }
+    requires told { EachTells (MayReply B.step) workers (map (λ line. line.now) lines.now)
+        (untakens seats.old) }
     ensures { OnOk result (RepliedAfter (MayReply B.step) workers (map (λ line. line.now) lines.now)
         out.old.items out.new.items) }
 {

@@ -72,7 +72,8 @@ fn is_for_one(lines: &[&[u8]], workers: usize) -> bool
     true
 }
 
-/// Each of the seats runs the lines of its own: with more than one thread each in its own, where that can be made.
+/// Each of the seats runs the lines of its own: with more than one thread each in its own, where that can be
+/// made.
 fn run_each<B: Board + Send, R: Threads + Sync>(
     rt: &R,
     alloc: Global,
@@ -95,8 +96,8 @@ fn run_each<B: Board + Send, R: Threads + Sync>(
     );
 }
 
-/// Each of the seats runs the lines of its own in their order, in a thread of its own where one can be made. Where
-/// no two of them have lines, the calling thread runs them.
+/// Each of the seats runs the lines of its own in their order, in a thread of its own where one can be made.
+/// Where no two of them have lines, the calling thread runs them.
 pub fn run_round<B: Board + Send, R: Threads + Sync>(
     rt: &R,
     alloc: Global,
@@ -106,7 +107,8 @@ pub fn run_round<B: Board + Send, R: Threads + Sync>(
 )
     requires workers { workers ≤ 16 }
     requires seats { 0 < length seats.old }
-    ensures told { EachTells (MayReply B.step) workers (map (λ line. line.now) lines.now) (untakens seats.new) }
+    ensures told { EachTells (MayReply B.step) workers (map (λ line. line.now) lines.now)
+        (untakens seats.new) }
     ensures len { length seats.new ≡ length seats.old }
 {
     let threads = if is_for_one(lines, workers) {

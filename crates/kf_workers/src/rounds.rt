@@ -12,8 +12,8 @@ use kf_script::Board;
 use std::alloc::{AllocError, Global};
 use std::thread::Threads;
 
-/// Runs a script by its owner, the first of the seats, and its workers, round by round, and answers the replies in
-/// the order of the lines.
+/// Runs a script by its owner, the first of the seats, and its workers, round by round, and answers the
+/// replies in the order of the lines.
 pub fn run_rounds<B: Board + Send, R: Threads + Sync>(
     rt: &R,
     alloc: Global,

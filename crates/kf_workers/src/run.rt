@@ -125,14 +125,15 @@ fn run_named<W: WaitOps + Sync, N: Naming + Send + Sync, R: Threads + Wait + Syn
     run_on(rt, alloc, &common, limits, workers, script)
 }
 
-/// Runs a script by its owner and 1 to 16 workers on a new tree with a new bus, and answers the replies to its lines, each
-/// with a newline, in the order of the lines.
+/// Runs a script by its owner and 1 to 16 workers on a new tree with a new bus, and answers the replies to
+/// its lines, each with a newline, in the order of the lines.
 ///
-/// A line `@W COMMAND` is worker W's; `wait` ends a round; every other line is the owner's. In a round the owner and each
-/// worker run their own lines in the order of the script, each in a thread of its own (where none can be made, the
-/// calling thread runs them). A `wait` is answered when every line above has its reply, and no line below begins before.
-/// Each of them has 26 files and its own tokens of hidden files, which stay over rounds. `texts` serves the files that
-/// the script makes, under tags below 2^63; the bus serves those of its devices. All holds are given back at the end.
+/// A line `@W COMMAND` is worker W's; `wait` ends a round; every other line is the owner's. In a round the
+/// owner and each worker run their own lines in the order of the script, each in a thread of its own (where
+/// none can be made, the calling thread runs them). A `wait` is answered when every line above has its reply,
+/// and no line below begins before. Each of them has 26 files and its own tokens of hidden files, which stay
+/// over rounds. `texts` serves the files that the script makes, under tags below 2^63; the bus serves those
+/// of its devices. All holds are given back at the end.
 ///
 /// It may never return: a removal waits for the callbacks in its subtree.
 ///

@@ -8,7 +8,8 @@ use std::sync::Wait;
 /// The lowest tag of a device's file. Lower ones are those of the files that scripts make.
 pub const FIRST_DEVICE_TAG: u64 = 1 << 63;
 
-/// The callbacks of all files of a run: those of scripts' files by the one, those of devices' files by the other.
+/// The callbacks of all files of a run: those of scripts' files by the one, those of devices' files by the
+/// other.
 #[derive(Drop)]
 pub struct Serving<'a, W, B> {
     pub texts: &'a W,
@@ -20,9 +21,11 @@ impl<'a, W: WaitOps, B: WaitOps> WaitOps for Serving<'a, W, B> {
 
     ghost may_show = { λ serving. shown_by (W.may_show serving.texts.now) (B.may_show serving.devices.now) };
 
-    ghost may_store = { λ serving. stored_by (W.may_store serving.texts.now) (B.may_store serving.devices.now) };
+    ghost may_store = { λ serving. stored_by (W.may_store serving.texts.now)
+        (B.may_store serving.devices.now) };
 
-    ghost may_begin = { λ serving. begun_by (W.may_begin serving.texts.now) (B.may_begin serving.devices.now) };
+    ghost may_begin = { λ serving. begun_by (W.may_begin serving.texts.now)
+        (B.may_begin serving.devices.now) };
 
     fn show<N: Naming, R: Wait>(
         &self,

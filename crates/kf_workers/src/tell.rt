@@ -1,6 +1,6 @@
 //! The replies that this board alone tells so.
 
-ghost use Rattle.std.specs.Prelude.{◌≡◌, ◌≤◌, Bool, length, IfOk};
+ghost use Rattle.std.specs.Prelude.{◌≡◌, ◌≤◌, length, IfOk};
 ghost use Rattle.kf_workers.specs.Told.{changed_told, done_told, key_told, read_told, stat_told};
 
 use kf_core::{Key, Refusal};

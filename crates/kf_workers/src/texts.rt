@@ -13,7 +13,8 @@ use std::sync::{Mutex, Wait};
 
 /// The texts of files by tag, and the callbacks that show and store them. Any number of threads may share it.
 ///
-/// Its lock is held only while a text is copied, put in place or let go; nobody waits meanwhile for anything else.
+/// Its lock is held only while a text is copied, put in place or let go; nobody waits meanwhile for anything
+/// else.
 #[derive(Drop)]
 pub struct Texts {
     alloc: Global,
@@ -81,8 +82,8 @@ impl WaitOps for Texts {
         }
     }
 
-    /// Puts the bytes in place of the whole text, and answers their number. Fault 12 where memory was refused, 22
-    /// where the tag has no text.
+    /// Puts the bytes in place of the whole text, and answers their number. Fault 12 where memory was
+    /// refused, 22 where the tag has no text.
     fn store<N: Naming, R: Wait>(
         &self,
         rt: &R,
@@ -106,7 +107,8 @@ impl WaitOps for Texts {
         }
     }
 
-    /// Keeps the text of a new file, in place of an earlier one under the tag. Fault 12 where memory was refused.
+    /// Keeps the text of a new file, in place of an earlier one under the tag. Fault 12 where memory was
+    /// refused.
     fn first<R: Wait>(&self, rt: &R, tag: u64, bytes: &[u8]) -> Result<(), Fault> {
         let Ok(copy) = bytes.to_vec(self.alloc) else {
             return Err(no_memory());

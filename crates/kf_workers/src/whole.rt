@@ -13,15 +13,16 @@ use std::io::{Read, Write};
 use std::sync::Wait;
 use std::thread::Threads;
 
-/// Reads a script to its end, runs it by its owner and 1 to 16 workers on a new tree, as [`run_workers`] does, and then
-/// writes its replies. The texts of its files are kept by [`Texts`].
+/// Reads a script to its end, runs it by its owner and 1 to 16 workers on a new tree, as [`run_workers`]
+/// does, and then writes its replies. The texts of its files are kept by [`Texts`].
 ///
 /// It may never return, as `run_workers` may not.
 ///
 /// Condition: there are 1 to 16 workers.
 ///
-/// Faults, with nothing written but after `Write`: `Read`, as of [`read_script`]; `Memory`, where memory was refused for the
-/// script, the texts, the boards or the replies; `Write`, where a call of write failed or took no byte.
+/// Faults, with nothing written but after `Write`: `Read`, as of [`read_script`]; `Memory`, where memory was
+/// refused for the script, the texts, the boards or the replies; `Write`, where a call of write failed or
+/// took no byte.
 #[tactic(auto, using(crate::proofs::Written::kept_whole))]
 pub fn run_whole<H: Threads + Wait + Sync, R: Read, W: Write>(
     rt: &H,

@@ -1,8 +1,8 @@
-//! Removal among threads: a reader uses an attribute again and again until it is refused, while its directory is
-//! removed. When `remove` has answered, no reader is inside and none comes in any more.
+//! Removal among threads: a reader uses an attribute again and again until it is refused, while its directory
+//! is removed. When `remove` has answered, no reader is inside and none comes in any more.
 #![tactic(auto)]
 
-ghost use Rattle.std.specs.Prelude.{◌≡◌, IfOk};
+ghost use Rattle.std.specs.Prelude.{◌≡◌};
 ghost use Rattle.kf_core.specs.declared.caller.Phase.TheVariants as phase_of;
 
 use anyhow::Context;

@@ -2,7 +2,6 @@
 //! and a reader-writer lock, by one thread and by several. Without `run` it does nothing.
 #![tactic(auto)]
 
-ghost use Rattle.std.specs.Prelude.{◌≡◌};
 ghost use Rattle.kf_words.specs.Callers.{IsSameSeat};
 
 use kf_core::{Key, Limits, Marks, Node};

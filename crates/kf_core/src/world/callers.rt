@@ -25,7 +25,8 @@ impl World {
     fn put_phase(&mut self, id: usize, caller: Caller, phase: Phase)
         requires there { IsCaller self.old.world id caller.key caller.phase }
         requires holds { caller.phase ≢ Spent }
-        requires step { (event : Event) × BareStep self.old.world event (with_phase self.old.world id caller.key phase) }
+        requires step { (event : Event)
+            × BareStep self.old.world event (with_phase self.old.world id caller.key phase) }
         ensures { self.new ≡ bounded (with_phase self.old.world id caller.key phase) self.old.limit }
     {
         let slot = caller.key.slot as usize;
@@ -108,7 +109,8 @@ impl World {
     pub fn enter(&mut self, id: usize) -> bool
         requires may { May self.old (Enter id) }
         ensures step { Happens self.old (Enter id) self.new }
-        ensures told { (key : Key) (phase : Phase) → IsCaller self.old.world id key phase → result ≡ is_live self.old.world key }
+        ensures told { (key : Key) (phase : Phase) → IsCaller self.old.world id key phase →
+            result ≡ is_live self.old.world key }
     {
         let caller = self.callers[id];
         let live = self.is_live(caller.key);
@@ -170,7 +172,9 @@ impl World {
     /// Whether a caller of this key and phase may see the drain.
     fn sees_drain(&self, key: Key, phase: Phase) -> bool
         requires there { (id : ℕ) × IsCaller self.now.world id key phase }
-        ensures { IsTrue result ↔ (IsTrue (is_waiting phase) × IsTrue (is_doomed self.now.world key) × NoReference self.now.world key) }
+        ensures { IsTrue result
+            ↔ (IsTrue (is_waiting phase) × IsTrue (is_doomed self.now.world key)
+            × NoReference self.now.world key) }
     {
         if !phase.is_waiting() {
             return false;
@@ -199,10 +203,12 @@ impl World {
     /// Hides the node of a waiting caller: it is not live until the caller shows it again. The caller is then
     /// Hiding. False, and nothing changes, where a caller hides the node already.
     pub fn hide(&mut self, id: usize) -> bool
-        requires waits { (key : Key) × (phase : Phase) × IsCaller self.old.world id key phase × IsTrue (is_waiting phase) }
+        requires waits { (key : Key) × (phase : Phase) × IsCaller self.old.world id key phase
+            × IsTrue (is_waiting phase) }
         ensures step { OnTrue result (Happens self.old (Hide id) self.new) }
         ensures same { OnFalse result (self.new ≡ self.old) }
-        ensures told { (key : Key) (phase : Phase) → IsCaller self.old.world id key phase → result ≡ not (is_hidden self.old.world key) }
+        ensures told { (key : Key) (phase : Phase) → IsCaller self.old.world id key phase →
+            result ≡ not (is_hidden self.old.world key) }
     {
         let caller = self.callers[id];
         if self.is_hidden(caller.key) {

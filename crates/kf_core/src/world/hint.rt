@@ -31,7 +31,8 @@ pub(super) fn block_of(slot: u32) -> usize
 impl Hint {
     /// For a world of so many slots. The search looks at each from 1 up.
     pub(super) fn new(alloc: Global, slots: u32) -> Result<Hint, Refusal>
-        ensures looks { IfOk result (λ hint. (slot : ℕ) → 1 ≤ slot → ¬ Skips hint.lowest hint.full.items slot) }
+        ensures looks { IfOk result
+            (λ hint. (slot : ℕ) → 1 ≤ slot → ¬ Skips hint.lowest hint.full.items slot) }
         ensures covered { IfOk result (λ hint. slots / 64 < length hint.full.items) }
         ensures err { IfErr result (λ refusal. refusal ≡ NoMemory) }
     {
@@ -45,7 +46,8 @@ impl Hint {
     pub(super) fn note(&mut self, slot: u32, free: bool)
         requires within { slot / 64 < length self.old.full.items }
         ensures looks { IsTrue free → 1 ≤ slot → ¬ Skips self.new.lowest self.new.full.items slot }
-        ensures skips { (other : ℕ) → Skips self.new.lowest self.new.full.items other → Skips self.old.lowest self.old.full.items other }
+        ensures skips { (other : ℕ) → Skips self.new.lowest self.new.full.items other →
+            Skips self.old.lowest self.old.full.items other }
         ensures as_many { length self.new.full.items ≡ length self.old.full.items }
     {
         if !free {
@@ -60,7 +62,8 @@ impl Hint {
     /// From now on the search begins at this slot, and passes over each block from the old begin to it.
     pub(super) fn raise(&mut self, lowest: u32)
         requires from_one { 1 ≤ lowest }
-        ensures skips { (slot : ℕ) → Skips self.new.lowest self.new.full.items slot → (slot < lowest) ⊎ Skips self.old.lowest self.old.full.items slot }
+        ensures skips { (slot : ℕ) → Skips self.new.lowest self.new.full.items slot → (slot < lowest)
+            ⊎ Skips self.old.lowest self.old.full.items slot }
         ensures as_many { length self.new.full.items ≡ length self.old.full.items }
     {
         let end = block_of(lowest).min(self.full.len());

@@ -16,7 +16,8 @@ impl World {
     /// The slot of the key gets its generation, and these marks.
     fn put_marks(&mut self, key: Key, marks: Option<Marks>)
         requires within { key.slot < length self.old.world.slots }
-        requires step { (event : Event) × BareStep self.old.world event (with_marks self.old.world key marks) }
+        requires step { (event : Event)
+            × BareStep self.old.world event (with_marks self.old.world key marks) }
         requires taken { ¬ IsFree (with_marks self.old.world key marks) key.slot }
         ensures { self.new ≡ bounded (with_marks self.old.world key marks) self.old.limit }
     {
@@ -31,7 +32,8 @@ impl World {
     /// Condition: the slot has no linked node and only spent callers, and the key is its next.
     pub fn born(&mut self, key: Key)
         requires may { MayBeBorn self.old.world key }
-        ensures step { (parent : Key) (name : List ℕ) (node : Node) → Happens self.old (Born key parent name node) self.new }
+        ensures step { (parent : Key) (name : List ℕ) (node : Node) →
+            Happens self.old (Born key parent name node) self.new }
     {
         self.put_marks(
             key,

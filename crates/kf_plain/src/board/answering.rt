@@ -1,8 +1,8 @@
 //! What the board answers each request.
 
-ghost use Rattle.std.specs.Prelude.{◌≡◌, ◌<◌, Bool};
+ghost use Rattle.std.specs.Prelude.{◌<◌, Bool};
 ghost use Rattle.kf_plain.specs.PlainStep.{PlainStep};
-ghost use Rattle.kf_script.specs.Requests.{make_directory as make_directory_words, make_file as make_file_words, make_link as make_link_words, activate as activate_words, list_names as list_names_words, stat as stat_words, read_link as read_link_words, move as move_words, remove as remove_words, open_file as open_file_words, notify as notify_words, close_file as close_file_words, read_file as read_file_words, write_file as write_file_words, poll_file as poll_file_words, count_commands as count_commands_words, compact as compact_words, hide as hide_words, show as show_words};
+ghost use Rattle.kf_script.specs.Requests.{make_directory as make_directory_words, make_file as make_file_words, make_link as make_link_words, activate as activate_words, list_names as list_names_words, stat as stat_words, read_link as read_link_words, move as move_words, remove as remove_words, open_file as open_file_words, notify as notify_words, close_file as close_file_words, read_file as read_file_words, write_file as write_file_words, poll_file as poll_file_words, compact as compact_words, hide as hide_words, show as show_words};
 
 use super::PlainBoard;
 use kf_core::Refusal;
@@ -13,7 +13,8 @@ use kf_script::{Board, Reply, Request};
 impl PlainBoard {
     /// `mkdir`: the new key.
     fn answer_make_directory(&mut self, path: &[u8], is_live: bool, reply: &mut Reply)
-        ensures { (starved : Bool) × PlainStep self.old (make_directory_words path.now is_live) starved reply.new self.new }
+        ensures { (starved : Bool)
+            × PlainStep self.old (make_directory_words path.now is_live) starved reply.new self.new }
     {
         match self.make_directory(path, is_live) {
             Ok(key) => reply.set_key(key),
@@ -23,7 +24,8 @@ impl PlainBoard {
 
     /// `file`: the new key.
     fn answer_make_file(&mut self, path: &[u8], mode: u16, text: &[u8], reply: &mut Reply)
-        ensures { (starved : Bool) × PlainStep self.old (make_file_words path.now mode text.now) starved reply.new self.new }
+        ensures { (starved : Bool)
+            × PlainStep self.old (make_file_words path.now mode text.now) starved reply.new self.new }
     {
         match self.make_file(path, mode, text) {
             Ok(key) => reply.set_key(key),
@@ -33,7 +35,8 @@ impl PlainBoard {
 
     /// `link`: the new key.
     fn answer_make_link(&mut self, path: &[u8], target: &[u8], reply: &mut Reply)
-        ensures { (starved : Bool) × PlainStep self.old (make_link_words path.now target.now) starved reply.new self.new }
+        ensures { (starved : Bool)
+            × PlainStep self.old (make_link_words path.now target.now) starved reply.new self.new }
     {
         match self.make_link(path, target) {
             Ok(key) => reply.set_key(key),
@@ -53,7 +56,8 @@ impl PlainBoard {
 
     /// `ls`: the names.
     fn answer_list(&mut self, path: &[u8], reply: &mut Reply)
-        ensures { (starved : Bool) × PlainStep self.old (list_names_words path.now) starved reply.new self.new }
+        ensures { (starved : Bool)
+            × PlainStep self.old (list_names_words path.now) starved reply.new self.new }
     {
         if let Err(refusal) = self.list(path, reply) {
             reply.set_refusal(refusal);
@@ -72,7 +76,8 @@ impl PlainBoard {
 
     /// `readlink`: the text.
     fn answer_read_link(&mut self, path: &[u8], reply: &mut Reply)
-        ensures { (starved : Bool) × PlainStep self.old (read_link_words path.now) starved reply.new self.new }
+        ensures { (starved : Bool)
+            × PlainStep self.old (read_link_words path.now) starved reply.new self.new }
     {
         if let Err(refusal) = self.read_link(path, reply) {
             reply.set_refusal(refusal);
@@ -81,7 +86,8 @@ impl PlainBoard {
 
     /// `mv`: done.
     fn answer_move(&mut self, path: &[u8], dir: &[u8], name: &[u8], reply: &mut Reply)
-        ensures { (starved : Bool) × PlainStep self.old (move_words path.now dir.now name.now) starved reply.new self.new }
+        ensures { (starved : Bool)
+            × PlainStep self.old (move_words path.now dir.now name.now) starved reply.new self.new }
     {
         match self.move_node(path, dir, name) {
             Ok(()) => reply.set_done(),
@@ -102,7 +108,9 @@ impl PlainBoard {
     /// `open`: done.
     fn answer_open(&mut self, file: usize, path: &[u8], want: Want, reply: &mut Reply)
         requires { file < 26 }
-        ensures { (starved : Bool) × PlainStep self.old (open_file_words file path.now want.read want.write) starved reply.new self.new }
+        ensures { (starved : Bool)
+            × PlainStep self.old
+            (open_file_words file path.now want.read want.write) starved reply.new self.new }
     {
         match self.open(file, path, want) {
             Ok(()) => reply.set_done(),
@@ -113,7 +121,8 @@ impl PlainBoard {
     /// `read`: the bytes.
     fn answer_read(&mut self, file: usize, offset: u64, most: usize, reply: &mut Reply)
         requires { file < 26 }
-        ensures { (starved : Bool) × PlainStep self.old (read_file_words file offset most) starved reply.new self.new }
+        ensures { (starved : Bool)
+            × PlainStep self.old (read_file_words file offset most) starved reply.new self.new }
     {
         if let Err(refusal) = self.read(file, offset, most, reply) {
             reply.set_refusal(refusal);
@@ -123,7 +132,8 @@ impl PlainBoard {
     /// `write`: the number of bytes taken.
     fn answer_write(&mut self, file: usize, text: &[u8], reply: &mut Reply)
         requires { file < 26 }
-        ensures { (starved : Bool) × PlainStep self.old (write_file_words file text.now) starved reply.new self.new }
+        ensures { (starved : Bool)
+            × PlainStep self.old (write_file_words file text.now) starved reply.new self.new }
     {
         if let Err(refusal) = self.write(file, text, reply) {
             reply.set_refusal(refusal);

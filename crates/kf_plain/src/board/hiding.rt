@@ -17,7 +17,8 @@ impl PlainBoard {
             × (self.new ≡ with_hidden self.old key)) }
         ensures refused { IfErr result (λ refusal.
             IsRefusedFrom (hide_held self.old.log path.now)
-            (hidden_key self.old.log (holder_count self.old) self.old.limit path.now) self.old refusal self.new) }
+            (hidden_key self.old.log
+            (holder_count self.old) self.old.limit path.now) self.old refusal self.new) }
     {
         match self.nodes.hide_at(path) {
             Ok(token) => {

@@ -1,6 +1,6 @@
 //! The requests that only look.
 
-ghost use Rattle.std.specs.Prelude.{◌≡◌, ℕ, List, length, None, Some, IfOk, IfErr, decimal};
+ghost use Rattle.std.specs.Prelude.{◌≡◌, ℕ, List, length, None, IfOk, IfErr};
 ghost use Rattle.kf_tree.specs.Links.{HasLinkText};
 ghost use Rattle.kf_tree.specs.Listing.{IsListing};
 ghost use Rattle.kf_core.specs.declared.key.Key.{Key};
@@ -27,7 +27,8 @@ impl PlainBoard {
     /// Tells the names in a live directory.
     pub(super) fn list(&self, path: &[u8], reply: &mut Reply) -> Result<(), Refusal>
         ensures listed { IfOk result (λ _. (dir : Key) × (listed_dir self.now path.now ≡ Ok dir)
-            × ((names : List (List ℕ)) × IsListing self.now.log.tree dir None name_limit names × (reply.new ≡ names_text names))) }
+            × ((names : List (List ℕ)) × IsListing self.now.log.tree dir None name_limit names
+            × (reply.new ≡ names_text names))) }
         ensures refused { IfErr result (λ refusal. IsWhy (listed_dir self.now path.now) refusal) }
     {
         let state = self.nodes.state();
@@ -38,7 +39,9 @@ impl PlainBoard {
 
     /// Tells the text of a live link.
     pub(super) fn read_link(&self, path: &[u8], reply: &mut Reply) -> Result<(), Refusal>
-        ensures read { IfOk result (λ _. (link : Key) × (read_link_key self.now path.now ≡ Ok link) × HasLinkText self.now.log.tree self.now.log.root link reply.new) }
+        ensures read { IfOk result
+            (λ _. (link : Key) × (read_link_key self.now path.now ≡ Ok link)
+            × HasLinkText self.now.log.tree self.now.log.root link reply.new) }
         ensures refused { IfErr result (λ refusal. IsWhy (read_link_key self.now path.now) refusal) }
     {
         let state = self.nodes.state();

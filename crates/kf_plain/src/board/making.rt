@@ -18,8 +18,11 @@ impl PlainBoard {
     /// A directory at a path, activated where it is to be live.
     pub(super) fn make_directory(&mut self, path: &[u8], is_live: bool) -> Result<Key, Refusal>
         ensures made { IfOk result (λ key. IsNextKey self.old (Some key)
-            × ((spot : Spot) × (new_spot self.old.log path.now Dir (Some key) ≡ Ok spot) × (self.new ≡ with_node self.old key spot Dir is_live))) }
-        ensures refused { IfErr result (λ refusal. (next : Option Key) × IsNextKey self.old next × IsRefused (new_spot self.old.log path.now Dir next) self.old refusal self.new) }
+            × ((spot : Spot) × (new_spot self.old.log path.now Dir (Some key) ≡ Ok spot)
+            × (self.new ≡ with_node self.old key spot Dir is_live))) }
+        ensures refused { IfErr result
+            (λ refusal. (next : Option Key) × IsNextKey self.old next
+            × IsRefused (new_spot self.old.log path.now Dir next) self.old refusal self.new) }
     {
         let next = self.nodes.next_key();
         self.nodes.create_at(path, Node::Dir, is_live, next)
@@ -28,9 +31,13 @@ impl PlainBoard {
     /// A live file of this mode and text at a path.
     pub(super) fn make_file(&mut self, path: &[u8], mode: u16, text: &[u8]) -> Result<Key, Refusal>
         ensures made { IfOk result (λ key. IsNextKey self.old (Some key)
-            × ((spot : Spot) × (new_spot self.old.log path.now (file_node mode (Some key)) (Some key) ≡ Ok spot)
-            × (self.new ≡ with_text (with_node self.old key spot (file_node mode (Some key)) true) key.slot text.now))) }
-        ensures refused { IfErr result (λ refusal. (next : Option Key) × IsNextKey self.old next × IsRefused (new_spot self.old.log path.now (file_node mode next) next) self.old refusal self.new) }
+            × ((spot : Spot) × (new_spot self.old.log path.now (file_node mode (Some key)) (Some key)
+            ≡ Ok spot)
+            × (self.new ≡ with_text
+            (with_node self.old key spot (file_node mode (Some key)) true) key.slot text.now))) }
+        ensures refused { IfErr result
+            (λ refusal. (next : Option Key) × IsNextKey self.old next
+            × IsRefused (new_spot self.old.log path.now (file_node mode next) next) self.old refusal self.new) }
     {
         let next = self.nodes.next_key();
         let copy = self.copy_text(path, file_node(mode, next), next, text)?;
@@ -41,8 +48,8 @@ impl PlainBoard {
         Ok(key)
     }
 
-    /// A copy of a new file's text, taken before anything is changed. Where there is no memory for it, any other cause
-    /// to refuse the file comes first.
+    /// A copy of a new file's text, taken before anything is changed. Where there is no memory for it, any
+    /// other cause to refuse the file comes first.
     fn copy_text(
         &self,
         path: &[u8],
@@ -65,8 +72,11 @@ impl PlainBoard {
     /// A live link at a path to the node at another one.
     pub(super) fn make_link(&mut self, path: &[u8], target: &[u8]) -> Result<Key, Refusal>
         ensures made { IfOk result (λ key. IsNextKey self.old (Some key)
-            × ((link : Key × Spot) × (new_link_spot self.old.log path.now target.now (Some key) ≡ Ok link) × (self.new ≡ with_node self.old key link.1 (Link link.0) true))) }
-        ensures refused { IfErr result (λ refusal. (next : Option Key) × IsNextKey self.old next × IsRefused (new_link_spot self.old.log path.now target.now next) self.old refusal self.new) }
+            × ((link : Key × Spot) × (new_link_spot self.old.log path.now target.now (Some key) ≡ Ok link)
+            × (self.new ≡ with_node self.old key link.1 (Link link.0) true))) }
+        ensures refused { IfErr result
+            (λ refusal. (next : Option Key) × IsNextKey self.old next
+            × IsRefused (new_link_spot self.old.log path.now target.now next) self.old refusal self.new) }
     {
         let next = self.nodes.next_key();
         self.nodes.link_at(path, target, next)
@@ -74,23 +84,32 @@ impl PlainBoard {
 
     /// Activates the subtree at a path.
     pub(super) fn activate(&mut self, path: &[u8]) -> Result<(), Refusal>
-        ensures activated { IfOk result (λ _. (key : Key) × (activated_key self.old.log path.now ≡ Ok key) × (self.new ≡ with_commands self.old (Activate key ∷ []))) }
-        ensures refused { IfErr result (λ refusal. IsRefused (activated_key self.old.log path.now) self.old refusal self.new) }
+        ensures activated { IfOk result
+            (λ _. (key : Key) × (activated_key self.old.log path.now ≡ Ok key)
+            × (self.new ≡ with_commands self.old (Activate key ∷ []))) }
+        ensures refused { IfErr result
+            (λ refusal. IsRefused (activated_key self.old.log path.now) self.old refusal self.new) }
     {
         self.nodes.activate_at(path)
     }
 
     /// Moves the node at a path into the directory at another, under a name.
     pub(super) fn move_node(&mut self, path: &[u8], dir: &[u8], name: &[u8]) -> Result<(), Refusal>
-        ensures moved { IfOk result (λ _. (keys : Key × Key) × (moved_key self.old.log path.now dir.now name.now ≡ Ok keys) × (self.new ≡ with_move self.old keys.0 keys.1 name.now)) }
-        ensures refused { IfErr result (λ refusal. IsRefused (moved_key self.old.log path.now dir.now name.now) self.old refusal self.new) }
+        ensures moved { IfOk result
+            (λ _. (keys : Key × Key) × (moved_key self.old.log path.now dir.now name.now ≡ Ok keys)
+            × (self.new ≡ with_move self.old keys.0 keys.1 name.now)) }
+        ensures refused { IfErr result
+            (λ refusal. IsRefused
+            (moved_key self.old.log path.now dir.now name.now) self.old refusal self.new) }
     {
         self.nodes.move_at(path, dir, name)
     }
 
     /// Puts the canonical list of the tree in place of the stored commands.
     pub(super) fn compact(&mut self) -> Result<(), Refusal>
-        ensures compacted { IfOk result (λ _. (commands : List Command) × IsCanonical self.old.log.tree commands × (self.new ≡ with_list self.old commands)) }
+        ensures compacted { IfOk result
+            (λ _. (commands : List Command) × IsCanonical self.old.log.tree commands
+            × (self.new ≡ with_list self.old commands)) }
         ensures refused { IfErr result (λ refusal. (refusal ≡ NoMemory) × (self.new ≡ self.old)) }
     {
         self.nodes.compact()

@@ -1,12 +1,11 @@
 //! The tree commands, each with the events of the callers' world that go with it.
 
-ghost use Rattle.std.specs.Prelude.{◌≡◌, List, [], ◌∷◌, slice_set, IfOk, IfErr, None, Some, true, false, if◌then◌else◌};
+ghost use Rattle.std.specs.Prelude.{◌≡◌, List, [], ◌∷◌, slice_set, IfOk, IfErr, None, Some, if◌then◌else◌};
 ghost use Rattle.kf_core.specs.declared.command.Command.{Command};
-ghost use Rattle.kf_core.specs.declared.command.Command.TheVariants.{Create, Activate, Rename};
+ghost use Rattle.kf_core.specs.declared.command.Command.TheVariants.{Create, Rename};
 ghost use Rattle.kf_core.specs.declared.refusal.Refusal.TheVariants.{NoMemory};
-ghost use Rattle.kf_core.specs.PostOrder.{IsPostOrder};
 ghost use Rattle.kf_tree.specs.Canonical.{IsCanonical};
-ghost use Rattle.kf_tree.specs.Causes.{Refuses, create_cause, linked_cause, rename_cause, is_there_already};
+ghost use Rattle.kf_tree.specs.Causes.{Refuses, create_cause, rename_cause, is_there_already};
 ghost use Rattle.kf_plain.specs.Nodes.{IsNext, hold_count, listed, logged};
 
 use super::Nodes;
@@ -25,12 +24,15 @@ impl Nodes {
     ) -> Result<Key, Refusal>
         requires next { IsNext self.old.log.tree self.old.last (hold_count self.old.callers) next }
         ensures given { IfOk result (λ key. next ≡ Some key) }
-        ensures no_cause { IfOk result (λ _. create_cause self.old.log.tree self.old.log.root parent name.now node next ≡ None) }
+        ensures no_cause { IfOk result
+            (λ _. create_cause self.old.log.tree self.old.log.root parent name.now node next ≡ None) }
         ensures made { IfOk result (λ key. self.new ≡ record self.old {
           log = logged self.old.log (Create key parent name.now node is_live ∷ []);
           last = slice_set self.old.last key.slot key.generation;
         }) }
-        ensures refused { IfErr result (λ refusal. Refuses (create_cause self.old.log.tree self.old.log.root parent name.now node next) refusal × (self.new ≡ self.old)) }
+        ensures refused { IfErr result
+            (λ refusal. Refuses (create_cause self.old.log.tree self.old.log.root parent name.now node next)
+            refusal × (self.new ≡ self.old)) }
     {
         let key = self.state.create(parent, name, node, is_live, next)?;
         self.world.born(key);
@@ -43,10 +45,14 @@ impl Nodes {
     /// Moves a node into a directory, under a name.
     /// Refused as `State::rename` is; after a refusal nothing is changed.
     pub fn rename(&mut self, key: Key, dir: Key, name: &[u8]) -> Result<(), Refusal>
-        ensures no_cause { IfOk result (λ _. rename_cause self.old.log.tree self.old.log.root key dir name.now ≡ None) }
-        ensures moved { IfOk result (λ _. self.new ≡ if is_there_already self.old.log.tree key dir name.now then self.old
+        ensures no_cause { IfOk result
+            (λ _. rename_cause self.old.log.tree self.old.log.root key dir name.now ≡ None) }
+        ensures moved { IfOk result
+            (λ _. self.new ≡ if is_there_already self.old.log.tree key dir name.now then self.old
             else record self.old { log = logged self.old.log (Rename key dir name.now ∷ []) }) }
-        ensures refused { IfErr result (λ refusal. Refuses (rename_cause self.old.log.tree self.old.log.root key dir name.now) refusal × (self.new ≡ self.old)) }
+        ensures refused { IfErr result
+            (λ refusal. Refuses (rename_cause self.old.log.tree self.old.log.root key dir name.now) refusal
+            × (self.new ≡ self.old)) }
     {
         self.state.rename(key, dir, name)
     }
@@ -54,7 +60,8 @@ impl Nodes {
     /// Puts the canonical list of this tree in place of the stored commands, as `State::compact` does.
     /// `NoMemory` alone; then nothing is changed.
     pub fn compact(&mut self) -> Result<(), Refusal>
-        ensures compacted { IfOk result (λ _. (commands : List Command) × IsCanonical self.old.log.tree commands
+        ensures compacted { IfOk result
+            (λ _. (commands : List Command) × IsCanonical self.old.log.tree commands
             × (self.new ≡ record self.old { log = listed self.old.log commands })) }
         ensures refused { IfErr result (λ refusal. (refusal ≡ NoMemory) × (self.new ≡ self.old)) }
     {

@@ -21,11 +21,11 @@ pub struct BoardToken {
 }
 
 impl Nodes {
-    /// Hides a linked file by a new hold on it (`kernfs_show` with false) while nobody has a reference, so it is
-    /// hidden at once. Answers the token, which alone can show it again.
+    /// Hides a linked file by a new hold on it (`kernfs_show` with false) while nobody has a reference, so it
+    /// is hidden at once. Answers the token, which alone can show it again.
     ///
-    /// Refused are `TooManyHolds`, then what `State::may_hide` refuses, and `NoMemory`. After a refusal the hold is
-    /// given back.
+    /// Refused are `TooManyHolds`, then what `State::may_hide` refuses, and `NoMemory`. After a refusal the
+    /// hold is given back.
     pub fn hide(&mut self, key: Key) -> Result<BoardToken, Refusal>
         requires linked { is_linked self.old.log.tree key ≡ true }
         requires idle { AllIdle self.old.callers }

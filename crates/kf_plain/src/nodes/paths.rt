@@ -1,6 +1,6 @@
 //! The tree commands by paths.
 
-ghost use Rattle.std.specs.Prelude.{◌≡◌, ◌⊎◌, ◌++◌, [], ◌∷◌, List, length, map, IsTrue, Ok, Err, IfOk, IfErr, MatchResult, true};
+ghost use Rattle.std.specs.Prelude.{◌≡◌, ◌++◌, [], ◌∷◌, List, map, IsTrue, Ok, Err, IfOk, IfErr, MatchResult, true};
 ghost use Rattle.kf_core.specs.declared.key.Key.{Key};
 ghost use Rattle.kf_core.specs.declared.key.Node.TheVariants.{Link};
 ghost use Rattle.kf_core.specs.declared.command.Command.TheVariants.{Activate, Doom, Unlink};
@@ -30,14 +30,18 @@ impl Nodes {
     ) -> Result<Key, Refusal>
         requires next { IsNext self.old.log.tree self.old.last (hold_count self.old.callers) next }
         ensures given { IfOk result (λ key. next ≡ Some key) }
-        ensures made { IfOk result (λ key. (spot : Spot) × (new_spot self.old.log path.now node next ≡ Ok spot) × (self.new ≡ with_born self.old key spot node is_live)) }
-        ensures refused { IfErr result (λ refusal. IsWhy (new_spot self.old.log path.now node next) refusal × (self.new ≡ self.old)) }
+        ensures made { IfOk result
+            (λ key. (spot : Spot) × (new_spot self.old.log path.now node next ≡ Ok spot)
+            × (self.new ≡ with_born self.old key spot node is_live)) }
+        ensures refused { IfErr result
+            (λ refusal. IsWhy (new_spot self.old.log path.now node next) refusal × (self.new ≡ self.old)) }
     {
         let (dir, name) = self.state().walk_parent(path)?;
         self.create(dir, name, node, is_live, next)
     }
 
-    /// Whether a new node can be linked at a path under the next key, want of memory aside. It takes no memory.
+    /// Whether a new node can be linked at a path under the next key, want of memory aside. It takes no
+    /// memory.
     pub fn may_create_at(&self, path: &[u8], node: Node, next: Option<Key>) -> Result<(), Refusal>
         ensures checked { MatchResult result (λ _. Leads (new_spot self.now.log path.now node next))
             (λ refusal. new_spot self.now.log path.now node next ≡ Err refusal) }
@@ -50,8 +54,12 @@ impl Nodes {
     pub fn link_at(&mut self, path: &[u8], target: &[u8], next: Option<Key>) -> Result<Key, Refusal>
         requires next { IsNext self.old.log.tree self.old.last (hold_count self.old.callers) next }
         ensures given { IfOk result (λ key. next ≡ Some key) }
-        ensures made { IfOk result (λ key. (link : Key × Spot) × (new_link_spot self.old.log path.now target.now next ≡ Ok link) × (self.new ≡ with_born self.old key link.1 (Link link.0) true)) }
-        ensures refused { IfErr result (λ refusal. IsWhy (new_link_spot self.old.log path.now target.now next) refusal × (self.new ≡ self.old)) }
+        ensures made { IfOk result
+            (λ key. (link : Key × Spot) × (new_link_spot self.old.log path.now target.now next ≡ Ok link)
+            × (self.new ≡ with_born self.old key link.1 (Link link.0) true)) }
+        ensures refused { IfErr result
+            (λ refusal. IsWhy (new_link_spot self.old.log path.now target.now next) refusal
+            × (self.new ≡ self.old)) }
     {
         let (dir, name) = self.state().walk_parent(path)?;
         let target = self.state().walk(target)?;
@@ -60,8 +68,11 @@ impl Nodes {
 
     /// Activates the subtree at a path.
     pub fn activate_at(&mut self, path: &[u8]) -> Result<(), Refusal>
-        ensures activated { IfOk result (λ _. (key : Key) × (activated_key self.old.log path.now ≡ Ok key) × (self.new ≡ record self.old { log = logged self.old.log (Activate key ∷ []) })) }
-        ensures refused { IfErr result (λ refusal. IsWhy (activated_key self.old.log path.now) refusal × (self.new ≡ self.old)) }
+        ensures activated { IfOk result
+            (λ _. (key : Key) × (activated_key self.old.log path.now ≡ Ok key)
+            × (self.new ≡ record self.old { log = logged self.old.log (Activate key ∷ []) })) }
+        ensures refused { IfErr result
+            (λ refusal. IsWhy (activated_key self.old.log path.now) refusal × (self.new ≡ self.old)) }
     {
         let key = self.state().walk(path)?;
         self.activate(key)
@@ -69,8 +80,12 @@ impl Nodes {
 
     /// Moves the node at a path into the directory at another, under a name.
     pub fn move_at(&mut self, path: &[u8], dir: &[u8], name: &[u8]) -> Result<(), Refusal>
-        ensures moved { IfOk result (λ _. (keys : Key × Key) × (moved_key self.old.log path.now dir.now name.now ≡ Ok keys) × (self.new ≡ moved_nodes self.old keys.0 keys.1 name.now)) }
-        ensures refused { IfErr result (λ refusal. IsWhy (moved_key self.old.log path.now dir.now name.now) refusal × (self.new ≡ self.old)) }
+        ensures moved { IfOk result
+            (λ _. (keys : Key × Key) × (moved_key self.old.log path.now dir.now name.now ≡ Ok keys)
+            × (self.new ≡ moved_nodes self.old keys.0 keys.1 name.now)) }
+        ensures refused { IfErr result
+            (λ refusal. IsWhy (moved_key self.old.log path.now dir.now name.now) refusal
+            × (self.new ≡ self.old)) }
     {
         let key = self.state().walk(path)?;
         let into = self.state().walk(dir)?;
@@ -80,9 +95,12 @@ impl Nodes {
     /// Removes the subtree at a path.
     pub fn remove_at(&mut self, path: &[u8]) -> Result<(), Refusal>
         requires idle { AllIdle self.old.callers }
-        ensures removed { IfOk result (λ _. (key : Key) × (removed_key self.old.log (hold_count self.old.callers) self.old.limit path.now ≡ Ok key)
+        ensures removed { IfOk result
+            (λ _. (key : Key) × (removed_key self.old.log
+            (hold_count self.old.callers) self.old.limit path.now ≡ Ok key)
             × ((keys : List Key) × IsPostOrder self.old.log.tree key keys
-            × (self.new ≡ with_spent (record self.old { log = logged self.old.log (Doom key ∷ map Unlink keys) }) keys))) }
+            × (self.new ≡ with_spent
+            (record self.old { log = logged self.old.log (Doom key ∷ map Unlink keys) }) keys))) }
         ensures refused { IfErr result (λ refusal.
             IsWhyFrom (remove_held self.old.log path.now)
             (removed_key self.old.log (hold_count self.old.callers) self.old.limit path.now) refusal
@@ -95,7 +113,12 @@ impl Nodes {
     /// Opens the live file at a path.
     pub fn open_at(&mut self, path: &[u8], want: Want) -> Result<BoardFile, Refusal>
         ensures opened { IfOk result (λ f. IsOpened self.old path.now want f) }
-        ensures held { IfOk result (λ f. (phase : Phase) × IsTrue (is_waiting phase) × (self.new ≡ record self.old { callers = self.old.callers ++ record { key = f.key; phase = phase } ∷ [] })) }
+        ensures held { IfOk result
+            (λ f. (phase : Phase) × IsTrue (is_waiting phase)
+            × (self.new ≡ record self.old {
+              callers = self.old.callers
+                  ++ record { key = f.key; phase = phase } ∷ [];
+            })) }
         ensures refused { IfErr result (λ refusal.
             IsWhyFrom (seen self.old.log.tree self.old.log.root path.now)
             (opened_node self.old.log (hold_count self.old.callers) self.old.limit path.now want) refusal

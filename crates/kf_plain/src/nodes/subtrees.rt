@@ -48,7 +48,9 @@ fn release_from(world: &mut World, first: usize, count: usize)
     requires last { first + count ≡ length world.old.world.callers }
     requires fits { first + count ≤ 2 ^ 64 }
     requires held { All (λ c. IsTrue (may_release c.phase)) (drop first world.old.world.callers) }
-    ensures released { world.new ≡ with_callers world.old (take first world.old.world.callers ++ map released (drop first world.old.world.callers)) }
+    ensures released { world.new
+        ≡ with_callers world.old
+        (take first world.old.world.callers ++ map released (drop first world.old.world.callers)) }
 {
     for done in 0..count {
         world.release(first + done);
@@ -63,10 +65,13 @@ fn pin_each(world: &mut World, keys: &[Key]) -> Result<usize, Refusal>
     requires different { AllPairs (λ a b. a ≢ b) keys.now }
     ensures number { IfOk result (λ first. first ≡ length world.old.world.callers) }
     ensures fits { IfOk result (λ first. first + length keys.now ≤ 2 ^ 64) }
-    ensures held { IfOk result (λ _. world.new ≡ with_callers world.old (world.old.world.callers ++ map still_on keys.now)) }
-    ensures room { IfOk result (λ _. All (λ key. hold_count world.old.world.callers key.slot < world.old.limit) keys.now) }
+    ensures held { IfOk result
+        (λ _. world.new ≡ with_callers world.old (world.old.world.callers ++ map still_on keys.now)) }
+    ensures room { IfOk result
+        (λ _. All (λ key. hold_count world.old.world.callers key.slot < world.old.limit) keys.now) }
     ensures refused { IfErr result (λ refusal. PinsRefused world.old keys.now refusal
-        × ((spent : List Key) × (world.new ≡ with_callers world.old (world.old.world.callers ++ map spent_on spent)))) }
+        × ((spent : List Key)
+        × (world.new ≡ with_callers world.old (world.old.world.callers ++ map spent_on spent)))) }
 {
     let [head, rest @ ..] = keys else {
         return Ok(0);
@@ -93,8 +98,8 @@ fn doom_each(world: &mut World, keys: &[Key])
     }
 }
 
-/// Takes out a doomed node without linked children. The caller of this number holds it, and nobody has a reference to
-/// it, so each step succeeds: the drain is over at once.
+/// Takes out a doomed node without linked children. The caller of this number holds it, and nobody has a
+/// reference to it, so each step succeeds: the drain is over at once.
 fn take_out(state: &mut State, world: &mut World, id: usize, key: Key)
     requires still { IsCaller world.old.world id key Still }
     requires unused { NoReference world.old.world key }
@@ -128,7 +133,8 @@ fn take_out_each(state: &mut State, world: &mut World, first: usize, keys: &[Key
     ensures cleared { Cleared keys.now world.old.world world.new.world }
     ensures last { last_of world.new.world.slots ≡ last_of world.old.world.slots }
     ensures limit { world.new.limit ≡ world.old.limit }
-    ensures released { world.new.world.callers ≡ take first world.old.world.callers ++ map released (drop first world.old.world.callers) }
+    ensures released { world.new.world.callers ≡ take first world.old.world.callers
+        ++ map released (drop first world.old.world.callers) }
 {
     for (done, key) in keys.iter().enumerate() {
         take_out(state, world, first + done, *key);
@@ -140,8 +146,10 @@ impl Nodes {
     /// Refused as `State::activate` is; after a refusal nothing is changed.
     pub fn activate(&mut self, key: Key) -> Result<(), Refusal>
         ensures no_cause { IfOk result (λ _. linked_cause self.old.log.tree key ≡ None) }
-        ensures activated { IfOk result (λ _. self.new ≡ record self.old { log = logged self.old.log (Activate key ∷ []) }) }
-        ensures refused { IfErr result (λ refusal. Refuses (linked_cause self.old.log.tree key) refusal × (self.new ≡ self.old)) }
+        ensures activated { IfOk result
+            (λ _. self.new ≡ record self.old { log = logged self.old.log (Activate key ∷ []) }) }
+        ensures refused { IfErr result
+            (λ refusal. Refuses (linked_cause self.old.log.tree key) refusal × (self.new ≡ self.old)) }
     {
         let mut keys = self.state.post_order(key)?;
         let state = &self.state;
@@ -151,20 +159,24 @@ impl Nodes {
         Ok(())
     }
 
-    /// Removes a subtree while nobody has a reference (`kernfs_remove`): pins its nodes, dooms them, and takes them out
-    /// one by one, each after all that is below it. Then no caller holds one of them that did not before.
+    /// Removes a subtree while nobody has a reference (`kernfs_remove`): pins its nodes, dooms them, and
+    /// takes them out one by one, each after all that is below it. Then no caller holds one of them that did
+    /// not before.
     ///
-    /// Refused are `NoEntry` (not linked) and `Invalid` (the root), `TooManyHolds` where a node has as many holds as
-    /// there may be, and `NoMemory`. After a refusal the tree is as before, and the holds that were taken are given back.
+    /// Refused are `NoEntry` (not linked) and `Invalid` (the root), `TooManyHolds` where a node has as many
+    /// holds as there may be, and `NoMemory`. After a refusal the tree is as before, and the holds that were
+    /// taken are given back.
     pub fn remove(&mut self, key: Key) -> Result<(), Refusal>
         requires idle { AllIdle self.old.callers }
         ensures no_cause { IfOk result (λ _. doom_cause self.old.log.tree self.old.log.root key ≡ None) }
         ensures room { IfOk result (λ _. is_full_below self.old key ≡ false) }
         ensures removed { IfOk result (λ _. (keys : List Key) × IsPostOrder self.old.log.tree key keys
-            × (self.new ≡ with_spent (record self.old { log = logged self.old.log (Doom key ∷ map Unlink keys) }) keys)) }
+            × (self.new ≡ with_spent
+            (record self.old { log = logged self.old.log (Doom key ∷ map Unlink keys) }) keys)) }
         ensures refused { IfErr result (λ refusal.
             ((doom_cause self.old.log.tree self.old.log.root key ≡ Some refusal)
-            ⊎ ((doom_cause self.old.log.tree self.old.log.root key ≡ None) × (refusal ≡ TooManyHolds) × (is_full_below self.old key ≡ true))
+            ⊎ ((doom_cause self.old.log.tree self.old.log.root key ≡ None) × (refusal ≡ TooManyHolds)
+            × (is_full_below self.old key ≡ true))
             ⊎ ((doom_cause self.old.log.tree self.old.log.root key ≡ None) × (refusal ≡ NoMemory)))
             × ((spent : List Key) × (self.new ≡ with_spent self.old spent))) }
     {

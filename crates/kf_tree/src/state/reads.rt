@@ -69,8 +69,8 @@ impl State {
         }
     }
 
-    /// Whether following parents from the key meets the top, as a key itself does. It takes no memory, and one
-    /// step for each directory on the way up.
+    /// Whether following parents from the key meets the top, as a key itself does. It takes no memory, and
+    /// one step for each directory on the way up.
     pub fn is_below(&self, top: Key, key: Key) -> bool
         ensures known { result ≡ in_subtree self.now.tree top key }
     {
@@ -93,8 +93,8 @@ impl State {
         Ok(())
     }
 
-    /// Why [`State::doom`] would refuse this key now, want of memory aside: `NoEntry` (not linked), then `Invalid`
-    /// (the root). It takes no memory. What holds of every state is told here too.
+    /// Why [`State::doom`] would refuse this key now, want of memory aside: `NoEntry` (not linked), then
+    /// `Invalid` (the root). It takes no memory. What holds of every state is told here too.
     pub fn may_doom(&self, key: Key) -> Result<(), Refusal>
         ensures checked { MatchResult result
             (λ _. doom_cause self.now.tree self.now.root key ≡ None)

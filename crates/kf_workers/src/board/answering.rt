@@ -1,6 +1,6 @@
 //! What the board answers each request.
 
-ghost use Rattle.std.specs.Prelude.{◌<◌, ◌≤◌};
+ghost use Rattle.std.specs.Prelude.{◌<◌};
 ghost use Rattle.kf_workers.specs.Replies.{AreBytes, AreNames, IsCount, IsLinkText};
 
 use super::WorkerBoard;

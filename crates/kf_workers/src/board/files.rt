@@ -87,7 +87,8 @@ impl<W: WaitOps, N: Naming, R: Wait> WorkerBoard<'_, W, N, R> {
         }
     }
 
-    /// Reads the file of a letter from an offset on: puts the bytes, at most 4,095, into the reply, or why there are none.
+    /// Reads the file of a letter from an offset on: puts the bytes, at most 4,095, into the reply, or why
+    /// there are none.
     pub(super) fn read(
         &mut self,
         file: usize,
@@ -109,7 +110,8 @@ impl<W: WaitOps, N: Naming, R: Wait> WorkerBoard<'_, W, N, R> {
         Ok(())
     }
 
-    /// Writes a text into the file of a letter: puts the number that its store answered into the reply, or why there is none.
+    /// Writes a text into the file of a letter: puts the number that its store answered into the reply, or
+    /// why there is none.
     pub(super) fn write(
         &mut self,
         file: usize,

@@ -21,8 +21,8 @@ impl<W: WaitOps, N: Naming, R: Wait> WorkerBoard<'_, W, N, R> {
         show_token(&mut editor, token);
     }
 
-    /// Keeps a token in its slot. While it is kept the slot is not given again, so it is the slot's only one: where
-    /// another lay there, or there is no such slot, the file is shown again.
+    /// Keeps a token in its slot. While it is kept the slot is not given again, so it is the slot's only one:
+    /// where another lay there, or there is no such slot, the file is shown again.
     fn keep(&mut self, token: Token<N>) {
         let slot = token.key().slot as usize;
         let other = match self.tokens.get_mut(slot) {
@@ -60,7 +60,8 @@ impl<W: WaitOps, N: Naming, R: Wait> WorkerBoard<'_, W, N, R> {
         }
     }
 
-    /// Shows the file at a path again, where this board has its token, and spends that. One turn of the tree lock.
+    /// Shows the file at a path again, where this board has its token, and spends that. One turn of the tree
+    /// lock.
     pub(super) fn show(&mut self, path: &[u8]) -> Result<(), Refusal> {
         let mut editor = self.common.tree.edit(self.rt);
         let key = editor.state().walk(path)?;

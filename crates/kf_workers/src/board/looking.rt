@@ -1,6 +1,6 @@
 //! The requests that only look: each in one turn of the tree lock.
 
-ghost use Rattle.std.specs.Prelude.{◌≡◌, OnOk};
+ghost use Rattle.std.specs.Prelude.{OnOk};
 ghost use Rattle.kf_workers.specs.Replies.{AreNames, IsLinkText};
 
 use super::WorkerBoard;

@@ -33,8 +33,8 @@ impl<W: WaitOps, N: Naming, R: Wait> WorkerBoard<'_, W, N, R> {
         editor.create(dir, name, Node::File { mode, tag }, true)
     }
 
-    /// A live file of this mode and text at a path: what is wrong with the path is told first, then the text is kept
-    /// under a new tag, then the file is made. Where that is refused its text goes again.
+    /// A live file of this mode and text at a path: what is wrong with the path is told first, then the text
+    /// is kept under a new tag, then the file is made. Where that is refused its text goes again.
     pub(super) fn make_file(&self, path: &[u8], mode: u16, text: &[u8]) -> Result<Key, FileError> {
         let (dir, name) = self.parent_of(path).map_err(FileError::Refused)?;
         let tag = self.common.new_tag().map_err(FileError::Refused)?;

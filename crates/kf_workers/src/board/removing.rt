@@ -27,7 +27,8 @@ impl<W: WaitOps, N: Naming, R: Wait> WorkerBoard<'_, W, N, R> {
         editor.hold(key)
     }
 
-    /// Removes the subtree at a path, and waits for all callbacks there. Files that are open on its nodes stay open.
+    /// Removes the subtree at a path, and waits for all callbacks there. Files that are open on its nodes
+    /// stay open.
     pub(super) fn remove(&self, path: &[u8]) -> Result<(), Refusal> {
         let hold = self.hold_at(path)?;
         match self.common.tree.remove(self.rt, hold) {

@@ -1,9 +1,12 @@
 -- Each world of a run from a safe one is safe, what is finished stays so, and no generation comes back.
-use Rattle.kf_core.proofs.Runs.{bare_safe, bare_for_good, bare_passed, step_starts}
+use Rattle.kf_core.proofs.Runs.{bare_safe, doomed_for_good, bare_for_good, bare_passed, step_starts}
 use Rattle.kf_core.proofs.laws.no_call_after_drain.Goals as goal
 
 pub returns-clause-safe : goal.returns-clause-safe
 returns-clause-safe c = bare_safe
+
+pub returns-clause-marked : goal.returns-clause-marked
+returns-clause-marked c = doomed_for_good
 
 pub returns-clause-for_good : goal.returns-clause-for_good
 returns-clause-for_good c = bare_for_good

@@ -1,7 +1,7 @@
 -- Each world of a run is safe, and what is finished stays so.
 use Rattle.kf_core.specs.Worlds.{bare}
 use Rattle.kf_core.proofs.Hiding.{hider_not_live}
-use Rattle.kf_core.proofs.Runs.{run_safe, finished_for_good}
+use Rattle.kf_core.proofs.Runs.{run_safe, finished_for_good, marked_for_good}
 use Rattle.kf_core.proofs.laws.no_call_after_removal.Goals as goal
 
 pub returns-clause-none_running : goal.returns-clause-none_running
@@ -18,6 +18,9 @@ returns-clause-linked c slots start events w r = (run_safe slots start events w 
 
 pub returns-clause-hidden : goal.returns-clause-hidden
 returns-clause-hidden c slots start events w r d key phase there hiding = (hider_not_live (bare w) d key phase there hiding, (run_safe slots start events w r).one_hides d key phase there hiding)
+
+pub returns-clause-marked : goal.returns-clause-marked
+returns-clause-marked c count start before later u v w key r = marked_for_good later u v w key
 
 pub returns-clause-for_good : goal.returns-clause-for_good
 returns-clause-for_good c = finished_for_good

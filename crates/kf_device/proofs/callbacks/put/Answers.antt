@@ -1,4 +1,4 @@
-use Rattle.std.proofs.Common.{◌≡◌, ◌≤◌, ◌+◌, length, take, arith, refl, ◌∙◌}
+use Rattle.std.proofs.Common.{◌≤◌, ◌+◌, length, take, arith, refl, ◌∙◌}
 use Rattle.std.specs.Prelude.{Result, Ok, Err, IsOk, OnOk}
 use Rattle.std.proofs.lemmas.List.{take_min, length-take}
 use Rattle.std.proofs.Math.Nat.{min_comm}

@@ -1,13 +1,31 @@
-use Rattle.std.proofs.Common.{rules}
+use Rattle.std.proofs.Common.{◌+◌, ◌-◌, ◌/◌, get_or, ap, sym, ◌∙◌, arith}
 use Rattle.std.specs.Ordering.{nat_cmp}
 use Rattle.std.specs.Cmp.Lexicographic.{slice_cmp}
-use Rattle.std.proofs.lemmas.Fn.{always_returns_same}
-use Rattle.kf_index.proofs.Searched.{searched}
+use Rattle.kf_index.proofs.Searched.{turned, lower_to, higher_from, place_here}
 use Rattle.kf_index.proofs.index.search.Goals as goal
 
--- the closure compares a pair's name with the one looked for
-pub returns : goal.returns
-returns c =
-    let facts = c.binary_search_by.ensures in
-    let by_name = facts.position (λ pair. slice_cmp nat_cmp pair.0 c.args.name.now) (always_returns_same _ _ _ (λ a r f called. search rules)) in
-    searched _ c.requires.rising c.args.name.now _ facts.bound by_name
+pub loop-low-preserved-in-Less : goal.loop-low-preserved-in-Less
+loop-low-preserved-in-Less c =
+    let (low, high, lower, higher) = c.loop-low.invariant in
+    let told = ap (λ n. slice_cmp nat_cmp n c.args.name.now) (sym c.bytes.ensures.same) ∙ sym c.cmp.ensures in (
+      omega (arith, c.loop-low-test.true),
+      high,
+      lower_to _ c.requires.rising _ _ c.index-entries-middle.result (omega (arith, high, c.loop-low-test.true)) (told ∙ c.in-Less.is),
+      higher,
+    )
+
+pub returns-in-Equal-clause-found : goal.returns-in-Equal-clause-found
+returns-in-Equal-clause-found c =
+    let (low, high, lower, higher) = c.loop-low.invariant in
+    let told = ap (λ n. slice_cmp nat_cmp n c.args.name.now) (sym c.bytes.ensures.same) ∙ sym c.cmp.ensures in
+    place_here _ c.requires.rising _ _ c.index-entries-middle.result (omega (arith, high, c.loop-low-test.true)) (told ∙ c.in-Equal.is)
+
+pub loop-low-preserved : goal.loop-low-preserved
+loop-low-preserved c =
+    let (low, high, lower, higher) = c.loop-low.invariant in
+    let told = ap (λ n. slice_cmp nat_cmp n c.args.name.now) (sym c.bytes.ensures.same) ∙ sym c.cmp.ensures in (
+      omega (arith, c.loop-low-test.true),
+      omega (arith, high, c.loop-low-test.true),
+      lower,
+      higher_from _ c.requires.rising _ _ c.index-entries-middle.result (omega (arith, high, c.loop-low-test.true)) (turned (get_or c.args.entries.now (c.loop-low.low + (c.loop-low.high - c.loop-low.low) / 2) c.index-entries-middle.result).0 c.args.name.now (told ∙ c.in-Greater.is)),
+    )

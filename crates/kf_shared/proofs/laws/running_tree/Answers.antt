@@ -1,4 +1,5 @@
-use Rattle.kf_shared.proofs.Running.{starts_well, is_replay, tree_agrees, starts_live, taken_while_live, runs_linked, removed_for_good, parted_for_good, hidden_is_still, held_not_given, held_is_last, gone_for_good}
+-- The clauses of the running tree, each by the lemma of its name.
+use Rattle.kf_shared.proofs.Running.{starts_well, is_replay, tree_agrees, starts_live, taken_while_live, runs_linked, marked_for_good, removed_for_good, parted_for_good, hidden_is_still, held_not_given, held_is_last, gone_for_good}
 use Rattle.kf_shared.proofs.laws.running_tree.Goals as goal
 
 pub returns-clause-starts_well : goal.returns-clause-starts_well
@@ -18,6 +19,9 @@ returns-clause-taken_while_live c = taken_while_live
 
 pub returns-clause-runs_linked : goal.returns-clause-runs_linked
 returns-clause-runs_linked c = runs_linked
+
+pub returns-clause-marked_for_good : goal.returns-clause-marked_for_good
+returns-clause-marked_for_good c = marked_for_good
 
 pub returns-clause-removed_for_good : goal.returns-clause-removed_for_good
 returns-clause-removed_for_good c = removed_for_good

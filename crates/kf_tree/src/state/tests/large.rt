@@ -1,4 +1,5 @@
-//! Every slot in one directory, and every slot in one chain of directories: a call that gives up on a large tree fails.
+//! Every slot in one directory, and every slot in one chain of directories: a call that gives up on a large
+//! tree fails.
 
 use super::super::State;
 use super::{ROOT, new_state, vacant};
@@ -21,8 +22,8 @@ fn name_of(slot: u32) -> [u8; 3] {
     ]
 }
 
-/// A directory in each slot but the root's, none of them activated: in slot 1 one below the root, and the others below
-/// that one, or each below the one before. The top of them.
+/// A directory in each slot but the root's, none of them activated: in slot 1 one below the root, and the
+/// others below that one, or each below the one before. The top of them.
 fn fill(state: &mut State, generation: u32, chain: bool) -> Result<Key, Refusal> {
     let mut top = ROOT;
     let mut parent = ROOT;

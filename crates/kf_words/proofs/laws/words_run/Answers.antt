@@ -1,4 +1,5 @@
-use Rattle.kf_words.proofs.Runs.{opens_well, rule_kept, run_is_run, run_is_safe, drained_for_good, hidden_keeps_out, passed_for_good, born_unheld, let_in_live, taken_live}
+-- The clauses on runs of the words, each by the lemma of its name.
+use Rattle.kf_words.proofs.Runs.{opens_well, rule_kept, run_is_run, run_is_safe, marked_keeps_out, drained_for_good, hidden_keeps_out, passed_for_good, born_unheld, let_in_live, taken_live}
 use Rattle.kf_words.proofs.laws.words_run.Goals as goal
 
 pub returns-clause-opens_well : goal.returns-clause-opens_well
@@ -12,6 +13,9 @@ returns-clause-run_is_run c = run_is_run
 
 pub returns-clause-run_is_safe : goal.returns-clause-run_is_safe
 returns-clause-run_is_safe c = run_is_safe
+
+pub returns-clause-marked_keeps_out : goal.returns-clause-marked_keeps_out
+returns-clause-marked_keeps_out c = marked_keeps_out
 
 pub returns-clause-drained_for_good : goal.returns-clause-drained_for_good
 returns-clause-drained_for_good c = drained_for_good

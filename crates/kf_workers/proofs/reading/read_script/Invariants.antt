@@ -1,4 +1,3 @@
-use Rattle.std.proofs.Common.{◌≤◌, vec_len}
 use Rattle.std.specs.Io.KnownBytes.{Consumes}
 use Rattle.kf_workers.proofs.reading.read_script.Given as goal
 

@@ -1,3 +1,4 @@
+-- The replies of a part of the lines, put into their places.
 use Rattle.std.proofs.Common.{◌≡◌, ◌<◌, ◌+◌, ◌∙◌, ◌++◌, ◌∷◌, suc, [], List, ℕ, map, take, drop, get_or, length, arith, subst, sym, ap}
 use Rattle.std.proofs.lemmas.List.{get_or-map, length-map}
 use Rattle.std.proofs.Math.Seq.{take-suc, drop-cons}

@@ -9,5 +9,5 @@ pub of_words-requires : goal.of_words-requires
 of_words-requires c =
     let count : ℕ = max c.args.slots 1 in
     let items : c.in_ok-words.words.items ≡ replicate count c.args.start = search rules in
-    subst (λ (words : List ℕ). Shown c.args.slots (opening words [] (opened c.args.start))) (sym (c.as_slice.ensures.value ∙ items))
+    subst (λ (words : List ℕ). Shown c.args.slots c.args.start (opening words [] (opened c.args.start))) (sym (c.as_slice.ensures.value ∙ items))
     (opening_shown c.args.slots count c.args.start (omega arith))

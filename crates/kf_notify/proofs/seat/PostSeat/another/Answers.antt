@@ -3,4 +3,4 @@ use Rattle.kf_notify.proofs.Allowed.{split_allowed}
 use Rattle.kf_notify.proofs.seat.PostSeat.another.Goals as goal
 
 pub split_seat-token-requires : goal.split_seat-token-requires
-split_seat-token-requires c = (search rules, search rules, split_allowed _ _ _)
+split_seat-token-requires c = (search rules, search rules, split_allowed _ _ _ _)

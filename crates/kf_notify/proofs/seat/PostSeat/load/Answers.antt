@@ -3,4 +3,4 @@ use Rattle.kf_notify.proofs.Allowed.{load_allowed}
 use Rattle.kf_notify.proofs.seat.PostSeat.load.Goals as goal
 
 pub load-requires : goal.load-requires
-load-requires c = (search rules, search rules, load_allowed _ _ _ _ _ (search rules))
+load-requires c = (search rules, search rules, load_allowed _ _ _ _ _ _ (search rules) c.requires.stays)

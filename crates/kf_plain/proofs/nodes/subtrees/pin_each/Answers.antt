@@ -1,3 +1,4 @@
+-- Each node of a list is pinned: what is held so far.
 use Rattle.std.proofs.Common.{rules, ◌≡◌, ◌∙◌, ℕ, ◌+◌, ◌-◌, ◌<◌, ◌≤◌, ap, arith, subst, length, take, drop, List, slice_index_or}
 use Rattle.std.specs.Prelude.{All}
 use Rattle.std.proofs.lemmas.List.{length-drop, get_or-drop, take_all}

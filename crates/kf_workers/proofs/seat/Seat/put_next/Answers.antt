@@ -1,3 +1,4 @@
+-- The reply to the next line of a seat is put behind the others.
 use Rattle.std.proofs.Common.{◌≡◌, ◌<◌, ◌∙◌, ◌+◌, ◌∷◌, ◌++◌, suc, [], ℕ, length, get_or, drop, rules, arith, subst, sym, ap}
 use Rattle.std.proofs.Math.Seq.{drop-cons}
 use Rattle.std.proofs.lemmas.List.{get_or-map, length-map}

@@ -1,0 +1,13 @@
+use Rattle.std.proofs.Common.{◌-◌, ◌<◌, ◌≤◌, ℕ, List, length, get_or}
+use Rattle.kf_core.specs.declared.key.Key.{Key}
+use Rattle.kf_core.specs.Names.{IsBefore}
+use Rattle.kf_index.proofs.index.search.Given as goal
+
+-- lower names stand before `low`, and higher ones from `high` on
+abbrev pub invariant-loop-low : goal.invariant-loop-low
+invariant-loop-low l = (l.low ≤ l.high) × (l.high ≤ length l.entries)
+    × ((i : ℕ) (d : List ℕ × Key) → i < l.low → IsBefore (get_or l.entries i d).0 l.name)
+    × ((i : ℕ) (d : List ℕ × Key) → l.high ≤ i → i < length l.entries → IsBefore l.name (get_or l.entries i d).0)
+
+abbrev pub decreases-loop-low : goal.decreases-loop-low
+decreases-loop-low l = l.high - l.low

@@ -1,0 +1,220 @@
+//! What stands behind each command: the words of its row, one after the other, and the request that they
+//! make.
+
+ghost use Rattle.std.specs.Prelude.{◌≡◌, codes, IfSome};
+ghost use Rattle.std.specs.Option.{option_map};
+ghost use Rattle.kf_script.specs.Requests.{request_words, IsInRange, reads_of};
+
+use super::request::Request;
+use super::words::Words;
+
+pub fn make_directory(mut words: Words<'_>) -> Option<Request<'_>>
+    ensures value { option_map request_words result ≡ reads_of (codes "mkdir") words.entry }
+    ensures range { IfSome result (λ request. IsInRange (request_words request)) }
+{
+    let path = words.path()?;
+    let is_off = words.last(b"off")?;
+    Some(Request::MakeDirectory {
+        path,
+        is_live: !is_off,
+    })
+}
+
+pub fn make_file(mut words: Words<'_>) -> Option<Request<'_>>
+    ensures value { option_map request_words result ≡ reads_of (codes "file") words.entry }
+    ensures range { IfSome result (λ request. IsInRange (request_words request)) }
+{
+    let path = words.path()?;
+    let mode = words.mode()?;
+    let text = words.text();
+    Some(Request::MakeFile { path, mode, text })
+}
+
+pub fn make_link(mut words: Words<'_>) -> Option<Request<'_>>
+    ensures value { option_map request_words result ≡ reads_of (codes "link") words.entry }
+    ensures range { IfSome result (λ request. IsInRange (request_words request)) }
+{
+    let path = words.path()?;
+    let target = words.path()?;
+    words.end()?;
+    Some(Request::MakeLink { path, target })
+}
+
+pub fn activate(mut words: Words<'_>) -> Option<Request<'_>>
+    ensures value { option_map request_words result ≡ reads_of (codes "activate") words.entry }
+    ensures range { IfSome result (λ request. IsInRange (request_words request)) }
+{
+    let path = words.path()?;
+    words.end()?;
+    Some(Request::Activate { path })
+}
+
+pub fn list_names(mut words: Words<'_>) -> Option<Request<'_>>
+    ensures value { option_map request_words result ≡ reads_of (codes "ls") words.entry }
+    ensures range { IfSome result (λ request. IsInRange (request_words request)) }
+{
+    let path = words.path()?;
+    words.end()?;
+    Some(Request::ListNames { path })
+}
+
+pub fn stat(mut words: Words<'_>) -> Option<Request<'_>>
+    ensures value { option_map request_words result ≡ reads_of (codes "stat") words.entry }
+    ensures range { IfSome result (λ request. IsInRange (request_words request)) }
+{
+    let path = words.path()?;
+    words.end()?;
+    Some(Request::Stat { path })
+}
+
+pub fn read_link(mut words: Words<'_>) -> Option<Request<'_>>
+    ensures value { option_map request_words result ≡ reads_of (codes "readlink") words.entry }
+    ensures range { IfSome result (λ request. IsInRange (request_words request)) }
+{
+    let path = words.path()?;
+    words.end()?;
+    Some(Request::ReadLink { path })
+}
+
+pub fn move_node(mut words: Words<'_>) -> Option<Request<'_>>
+    ensures value { option_map request_words result ≡ reads_of (codes "mv") words.entry }
+    ensures range { IfSome result (λ request. IsInRange (request_words request)) }
+{
+    let path = words.path()?;
+    let dir = words.path()?;
+    let name = words.path()?;
+    words.end()?;
+    Some(Request::Move { path, dir, name })
+}
+
+pub fn remove(mut words: Words<'_>) -> Option<Request<'_>>
+    ensures value { option_map request_words result ≡ reads_of (codes "rm") words.entry }
+    ensures range { IfSome result (λ request. IsInRange (request_words request)) }
+{
+    let path = words.path()?;
+    words.end()?;
+    Some(Request::Remove { path })
+}
+
+pub fn open(mut words: Words<'_>) -> Option<Request<'_>>
+    ensures value { option_map request_words result ≡ reads_of (codes "open") words.entry }
+    ensures range { IfSome result (λ request. IsInRange (request_words request)) }
+{
+    let file = words.file()?;
+    let path = words.path()?;
+    let (reads, writes) = words.want()?;
+    words.end()?;
+    Some(Request::OpenFile {
+        file,
+        path,
+        reads,
+        writes,
+    })
+}
+
+pub fn read(mut words: Words<'_>) -> Option<Request<'_>>
+    ensures value { option_map request_words result ≡ reads_of (codes "read") words.entry }
+    ensures range { IfSome result (λ request. IsInRange (request_words request)) }
+{
+    let file = words.file()?;
+    let offset = words.offset()?;
+    let most = words.length()? as usize;
+    words.end()?;
+    Some(Request::ReadFile { file, offset, most })
+}
+
+pub fn write(mut words: Words<'_>) -> Option<Request<'_>>
+    ensures value { option_map request_words result ≡ reads_of (codes "write") words.entry }
+    ensures range { IfSome result (λ request. IsInRange (request_words request)) }
+{
+    let file = words.file()?;
+    let text = words.text();
+    Some(Request::WriteFile { file, text })
+}
+
+pub fn poll(mut words: Words<'_>) -> Option<Request<'_>>
+    ensures value { option_map request_words result ≡ reads_of (codes "poll") words.entry }
+    ensures range { IfSome result (λ request. IsInRange (request_words request)) }
+{
+    let file = words.file()?;
+    words.end()?;
+    Some(Request::PollFile { file })
+}
+
+pub fn notify(mut words: Words<'_>) -> Option<Request<'_>>
+    ensures value { option_map request_words result ≡ reads_of (codes "notify") words.entry }
+    ensures range { IfSome result (λ request. IsInRange (request_words request)) }
+{
+    let path = words.path()?;
+    words.end()?;
+    Some(Request::Notify { path })
+}
+
+pub fn close(mut words: Words<'_>) -> Option<Request<'_>>
+    ensures value { option_map request_words result ≡ reads_of (codes "close") words.entry }
+    ensures range { IfSome result (λ request. IsInRange (request_words request)) }
+{
+    let file = words.file()?;
+    words.end()?;
+    Some(Request::CloseFile { file })
+}
+
+pub fn hide(mut words: Words<'_>) -> Option<Request<'_>>
+    ensures value { option_map request_words result ≡ reads_of (codes "hide") words.entry }
+    ensures range { IfSome result (λ request. IsInRange (request_words request)) }
+{
+    let path = words.path()?;
+    words.end()?;
+    Some(Request::Hide { path })
+}
+
+pub fn show(mut words: Words<'_>) -> Option<Request<'_>>
+    ensures value { option_map request_words result ≡ reads_of (codes "show") words.entry }
+    ensures range { IfSome result (λ request. IsInRange (request_words request)) }
+{
+    let path = words.path()?;
+    words.end()?;
+    Some(Request::Show { path })
+}
+
+pub fn count_commands(words: Words<'_>) -> Option<Request<'_>>
+    ensures value { option_map request_words result ≡ reads_of (codes "commands") words.entry }
+    ensures range { IfSome result (λ request. IsInRange (request_words request)) }
+{
+    words.end()?;
+    Some(Request::CountCommands)
+}
+
+pub fn compact(words: Words<'_>) -> Option<Request<'_>>
+    ensures value { option_map request_words result ≡ reads_of (codes "compact") words.entry }
+    ensures range { IfSome result (λ request. IsInRange (request_words request)) }
+{
+    words.end()?;
+    Some(Request::Compact)
+}
+
+pub fn plug(mut words: Words<'_>) -> Option<Request<'_>>
+    ensures value { option_map request_words result ≡ reads_of (codes "plug") words.entry }
+    ensures range { IfSome result (λ request. IsInRange (request_words request)) }
+{
+    let name = words.path()?;
+    let text = words.text();
+    Some(Request::Plug { name, text })
+}
+
+pub fn unplug(mut words: Words<'_>) -> Option<Request<'_>>
+    ensures value { option_map request_words result ≡ reads_of (codes "unplug") words.entry }
+    ensures range { IfSome result (λ request. IsInRange (request_words request)) }
+{
+    let name = words.path()?;
+    words.end()?;
+    Some(Request::Unplug { name })
+}
+
+pub fn wait(words: Words<'_>) -> Option<Request<'_>>
+    ensures value { option_map request_words result ≡ reads_of (codes "wait") words.entry }
+    ensures range { IfSome result (λ request. IsInRange (request_words request)) }
+{
+    words.end()?;
+    Some(Request::Wait)
+}

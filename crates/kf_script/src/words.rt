@@ -1,0 +1,128 @@
+//! The words of a line, taken one by one.
+
+ghost use Rattle.std.specs.Prelude.{◌≡◌, ◌≤◌, ◌<◌, ℕ, List, Option, Some, None, IfSome, if◌then◌else◌};
+ghost use Rattle.std.specs.Option.{option_map, option_and_then};
+ghost use Rattle.kf_script.specs.Requests.{next_word, behind_next, is_over, last_word, whole_text, path_of, mode_of, file_of, offset_of, length_of, want_of};
+
+use super::kinds::{file_in, length_in, mode_in, offset_in, path_in, want_in};
+use super::search::place_of;
+use std::marker::Model;
+
+/// What stands behind a word of a line: nothing, or what follows its space.
+#[derive(Drop)]
+pub struct Words<'a> {
+    later: Option<&'a [u8]>,
+}
+
+impl<'a> Model for Words<'a> {
+    ghost Value = { Option (List ℕ) };
+
+    ghost view = { λ words. option_map (λ later. later.now) words.later };
+}
+
+impl<'a> Words<'a> {
+    /// A line, of which no word was taken yet.
+    pub fn new(line: &'a [u8]) -> Words<'a>
+        ensures { result ≡ Some line.now }
+    {
+        Words { later: Some(line) }
+    }
+
+    /// Takes the next word, which may be empty: what stands before the next space.
+    pub fn next(&mut self) -> Option<&'a [u8]>
+        ensures word { option_map (λ word. word.now) result ≡ next_word self.old }
+        ensures later { self.new ≡ behind_next self.old }
+    {
+        let text = self.later?;
+        match place_of(b' ', text) {
+            Some(at) => {
+                self.later = Some(&text[at + 1..]);
+                Some(&text[..at])
+            }
+            None => {
+                self.later = None;
+                Some(text)
+            }
+        }
+    }
+
+    /// Takes a path or a name.
+    pub fn path(&mut self) -> Option<&'a [u8]>
+        ensures value { option_map (λ word. word.now) result ≡ option_and_then path_of (next_word self.old) }
+        ensures later { self.new ≡ behind_next self.old }
+    {
+        path_in(self.next()?)
+    }
+
+    /// Takes a mode.
+    pub fn mode(&mut self) -> Option<u16>
+        ensures value { result ≡ option_and_then mode_of (next_word self.old) }
+        ensures later { self.new ≡ behind_next self.old }
+        ensures range { IfSome result (λ mode. mode ≤ 511) }
+    {
+        mode_in(self.next()?)
+    }
+
+    /// Takes the letter of a file.
+    pub fn file(&mut self) -> Option<usize>
+        ensures value { result ≡ option_and_then file_of (next_word self.old) }
+        ensures later { self.new ≡ behind_next self.old }
+        ensures range { IfSome result (λ file. file < 26) }
+    {
+        file_in(self.next()?)
+    }
+
+    /// Takes an offset.
+    pub fn offset(&mut self) -> Option<u64>
+        ensures value { result ≡ option_and_then offset_of (next_word self.old) }
+        ensures later { self.new ≡ behind_next self.old }
+        ensures range { IfSome result (λ offset. offset ≤ 4294967295) }
+    {
+        offset_in(self.next()?)
+    }
+
+    /// Takes a length.
+    pub fn length(&mut self) -> Option<u64>
+        ensures value { result ≡ option_and_then length_of (next_word self.old) }
+        ensures later { self.new ≡ behind_next self.old }
+        ensures range { IfSome result (λ length. length ≤ 65535) }
+    {
+        length_in(self.next()?)
+    }
+
+    /// Takes what a file is opened for: reading, writing.
+    pub fn want(&mut self) -> Option<(bool, bool)>
+        ensures value { result ≡ option_and_then want_of (next_word self.old) }
+        ensures later { self.new ≡ behind_next self.old }
+    {
+        want_in(self.next()?)
+    }
+
+    /// Whether nothing more comes.
+    pub fn end(&self) -> Option<()>
+        ensures { result ≡ (if is_over self.now then Some tt else None) }
+    {
+        match self.later {
+            None => Some(()),
+            Some(_) => None,
+        }
+    }
+
+    /// Whether this word comes last and alone, or nothing more comes. None where something else comes.
+    pub fn last(&self, last: &[u8]) -> Option<bool>
+        ensures { result ≡ last_word last.now self.now }
+    {
+        match self.later {
+            None => Some(false),
+            Some(word) if word == last => Some(true),
+            Some(_) => None,
+        }
+    }
+
+    /// All that comes, its spaces too.
+    pub fn text(&self) -> &'a [u8]
+        ensures { result.now ≡ whole_text self.now }
+    {
+        self.later.unwrap_or(&[])
+    }
+}

@@ -1,0 +1,50 @@
+//! A script over a board of one's own: it keeps no tree, makes nodes up and counts what it was asked.
+#![tactic(auto)]
+
+ghost use Rattle.std.specs.Prelude.{◌≤◌};
+
+use kf_core::{Key, Refusal};
+use kf_script::{Board, Reply, Request, run_script};
+use std::alloc::Global;
+
+/// How many nodes were asked for.
+#[derive(Drop)]
+struct Counter {
+    nodes: u32,
+}
+
+impl Board for Counter {
+    ghost step = { λ before _ _ _ after. before.nodes ≤ after.nodes };
+
+    /// Answers a request for a node with the next key, `commands` with their number, all others with
+    /// `Invalid`.
+    fn answer(&mut self, request: Request<'_>, reply: &mut Reply) {
+        match request {
+            Request::MakeDirectory { .. } | Request::MakeFile { .. } => {
+                self.nodes = self.nodes.saturating_add(1);
+                reply.set_key(Key {
+                    slot: self.nodes,
+                    generation: 1,
+                });
+            }
+            Request::CountCommands => reply.set_number(self.nodes as usize),
+            _ => reply.set_refusal(Refusal::Invalid),
+        }
+    }
+}
+
+fn run<R: Print>(rt: &R, alloc: Global, mut script: &[u8]) -> anyhow::Result<()> {
+    let mut board = Counter { nodes: 0 };
+    let mut replies = Vec::new(alloc);
+    run_script(alloc, &mut board, &mut script, &mut replies)?;
+    print!(rt; "{}", String::from_utf8_lossy(alloc, replies.as_slice())?)?;
+    Ok(())
+}
+
+fn main(rt: HostRuntime) -> anyhow::Result<()> {
+    run(
+        &rt,
+        rt.alloc(),
+        b"mkdir /a\nfile /a/x 644 v\ncommands\nls /\nfrob\n",
+    )
+}

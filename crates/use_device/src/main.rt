@@ -1,0 +1,105 @@
+//! Devices on a bus: two are plugged, one is unplugged by its name, and one by its own attribute `delete`.
+#![tactic(auto)]
+
+ghost use Rattle.std.specs.Prelude.{◌≡◌};
+
+use anyhow::Context;
+use kf_core::{Key, Limits, Refusal};
+use kf_device::Bus;
+use kf_files::{WaitingFile, Want};
+use kf_notify::Posts;
+use kf_shared::{Naming, NewTree, SharedTree};
+use std::alloc::Global;
+use std::marker::Brand;
+use std::sync::Wait;
+
+const SLOTS: u32 = 32;
+
+/// For writing alone.
+const WRITE: Want = Want {
+    read: false,
+    write: true,
+};
+
+/// Prints the names in a directory.
+fn print_names<N: Naming, R: Wait + Print>(
+    rt: &R,
+    alloc: Global,
+    tree: &SharedTree<N>,
+    path: &[u8],
+) -> anyhow::Result<()> {
+    let editor = tree.edit(rt);
+    let dir = editor.state().lookup(path)?;
+    let names = editor.state().list(dir, None, 100)?;
+    println!(rt;
+        "{} in {}",
+        names.len(),
+        String::from_utf8_lossy(alloc, path)?
+    )?;
+    for name in names {
+        println!(rt; "  {}", String::from_utf8_lossy(alloc, name.bytes())?)?;
+    }
+    Ok(())
+}
+
+/// Writes `1` into a device's `delete`: its callback removes the device that it belongs to.
+fn delete<N: Naming, R: Wait>(
+    rt: &R,
+    posts: &mut Posts,
+    tree: &SharedTree<N>,
+    bus: &Bus,
+    path: &[u8],
+) -> Result<usize, Refusal>
+    requires { posts.old.slots ≡ 32 }
+{
+    let mut editor = tree.edit(rt);
+    let key: Key = editor.state().lookup(path)?;
+    let hold = editor.hold(key)?;
+    drop(editor);
+    let node = hold.node();
+    let post = match posts.post(key.slot) {
+        Ok(post) => post,
+        Err(refusal) => {
+            hold.release();
+            return Err(refusal);
+        }
+    };
+    let mut file = match WaitingFile::<N>::open(hold, node, WRITE, post) {
+        Ok(file) => file,
+        Err((hold, _, refusal)) => {
+            hold.release();
+            return Err(refusal);
+        }
+    };
+    let taken = file.write(rt, tree, bus, b"1");
+    let (hold, _) = file.close();
+    hold.release();
+    taken.ok().ok_or(Refusal::NoDevice)
+}
+
+fn run<N: Naming, R: Wait + Print>(rt: &R, alloc: Global, new: NewTree) -> anyhow::Result<()>
+    requires { new.master.table ≡ N.table }
+{
+    let tree = new.named::<N>();
+    let bus = Bus::new(alloc)?;
+    let mut posts = Posts::new(alloc, SLOTS)?;
+    bus.plug(rt, &tree, b"fan0", b"on")?;
+    bus.plug(rt, &tree, b"fan1", b"off")?;
+    print_names(rt, alloc, &tree, b"/bus/devices")?;
+    print_names(rt, alloc, &tree, b"/devices/fan0")?;
+    bus.unplug(rt, &tree, b"fan0")?;
+    print_names(rt, alloc, &tree, b"/devices")?;
+    let taken = delete(rt, &mut posts, &tree, &bus, b"/devices/fan1/delete")?;
+    println!(rt; "a store of {taken} byte deleted fan1")?;
+    print_names(rt, alloc, &tree, b"/devices")?;
+    Ok(())
+}
+
+fn main(rt: HostRuntime) -> anyhow::Result<()> {
+    let limits = Limits::new(SLOTS, 100).context("32 slots and 100 holds are within the limits")?;
+    run::<Brand, _>(
+        &rt,
+        rt.alloc(),
+        SharedTree::<Brand>::new(rt.alloc(), limits)?,
+    )
+}

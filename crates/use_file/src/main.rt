@@ -1,0 +1,138 @@
+//! An open file with callbacks of one's own: the attribute `limit` of a fan is a number, which a read shows
+//! in decimal and a write replaces.
+#![tactic(auto)]
+
+ghost use Rattle.std.specs.Prelude.{◌≡◌, Ok, decimal};
+
+use anyhow::Context;
+use itoa::Buffer;
+use kf_core::{Limits, Node, Refusal};
+use kf_files::{Fault, FileError, OpenFile, Ops, Page, Want};
+use kf_notify::{Post, Posts};
+use kf_shared::{Naming, NewTree, SharedTree};
+use kf_words::{Call, Seats};
+use std::alloc::Global;
+use std::marker::Brand;
+use std::sync::Wait;
+
+/// For reading and for writing.
+const BOTH: Want = Want {
+    read: true,
+    write: true,
+};
+
+/// What a store of no number answers (`EINVAL`).
+const NO_NUMBER: Fault = Fault { number: 22 };
+
+/// What the driver keeps: the number that its attribute shows.
+#[derive(Drop)]
+struct FanDriver {
+    limit: u32,
+}
+
+impl Ops<Call> for FanDriver {
+    ghost shows = { λ before _ filled after. (after ≡ before) × (filled ≡ Ok (decimal before.limit)) };
+
+    ghost stores = { λ _ _ _ _ _. Unit {0} };
+
+    /// Fills the page with the number.
+    fn show(&mut self, call: &mut Call, tag: u64, page: &mut Page) -> Result<(), Fault> {
+        let _ = call;
+        let _ = tag;
+        let mut buffer = Buffer::new();
+        let _ = page.try_extend_from_slice(buffer.format(self.limit).as_bytes());
+        Ok(())
+    }
+
+    /// Takes the number, where the bytes spell one.
+    fn store(&mut self, call: &mut Call, tag: u64, bytes: &[u8]) -> Result<usize, Fault> {
+        let _ = call;
+        let _ = tag;
+        let text = str::from_utf8(bytes).ok().ok_or(NO_NUMBER)?;
+        self.limit = text.parse().ok().ok_or(NO_NUMBER)?;
+        Ok(bytes.len())
+    }
+}
+
+/// The file `/limit`, opened.
+fn open<N: Naming, R: Wait>(
+    rt: &R,
+    tree: &SharedTree<N>,
+    post: Post,
+) -> Result<OpenFile<Seats>, Refusal> {
+    let mut editor = tree.edit(rt);
+    let root = editor.state().root();
+    let node = Node::File {
+        mode: 0o644,
+        tag: 1,
+    };
+    let key = editor.create(root, b"limit", node, true)?;
+    let hold = editor.hold(key)?;
+    match OpenFile::open(&mut Seats, hold, node, BOTH, post) {
+        Ok(file) => Ok(file),
+        Err((hold, _, refusal)) => {
+            hold.release();
+            Err(refusal)
+        }
+    }
+}
+
+/// Prints what a read of the file gives.
+fn print_text<R: Print>(
+    rt: &R,
+    alloc: Global,
+    file: &mut OpenFile<Seats>,
+    driver: &mut FanDriver,
+) -> anyhow::Result<()> {
+    let mut out = [0u8; 16];
+    match file.read(&mut Seats, driver, 0, &mut out) {
+        Ok(count) => println!(rt;
+            "the limit is {}",
+            String::from_utf8_lossy(alloc, &out[..count])?
+        )?,
+        Err(FileError::Callback(fault)) => println!(rt; "the driver's fault {}", fault.number)?,
+        Err(FileError::Refused(refusal)) => println!(rt; "{refusal}")?,
+    }
+    Ok(())
+}
+
+/// Reads, writes and reads again.
+fn try_out<R: Print>(
+    rt: &R,
+    alloc: Global,
+    file: &mut OpenFile<Seats>,
+    driver: &mut FanDriver,
+) -> anyhow::Result<()> {
+    print_text(rt, alloc, file, driver)?;
+    for text in [b"85".as_slice(), b"hot".as_slice()] {
+        match file.write(&mut Seats, driver, text) {
+            Ok(count) => println!(rt; "a store took {count} bytes")?,
+            Err(FileError::Callback(fault)) => println!(rt; "the driver's fault {}", fault.number)?,
+            Err(FileError::Refused(refusal)) => println!(rt; "{refusal}")?,
+        }
+    }
+    print_text(rt, alloc, file, driver)?;
+    println!(rt; "changed since: {}", file.poll(&mut Seats))?;
+    Ok(())
+}
+
+fn run<N: Naming, R: Wait + Print>(rt: &R, alloc: Global, new: NewTree) -> anyhow::Result<()>
+    requires { new.master.table ≡ N.table }
+{
+    let tree = new.named::<N>();
+    let post = Posts::new(alloc, 16)?.post(1)?;
+    let mut file = open(rt, &tree, post)?;
+    let told = try_out(rt, alloc, &mut file, &mut FanDriver { limit: 70 });
+    let (hold, _) = file.close();
+    hold.release();
+    told
+}
+
+fn main(rt: HostRuntime) -> anyhow::Result<()> {
+    let limits = Limits::new(16, 100).context("16 slots and 100 holds are within the limits")?;
+    run::<Brand, _>(
+        &rt,
+        rt.alloc(),
+        SharedTree::<Brand>::new(rt.alloc(), limits)?,
+    )
+}

@@ -1,0 +1,116 @@
+/* Loaded before the C library (LD_PRELOAD): memory, reads and writes that fail where the environment says so.
+
+   FAIL_MEMORY=N   the Nth request for memory is refused, that one alone
+   FAIL_READ=N     the Nth read fails, and the next are well again
+   FAIL_WRITE=N    the Nth write fails, and the next are well again
+   EMPTY_WRITE=N   the Nth write takes no byte
+   READ_MOST=N     a read gives N bytes at most
+   WRITE_MOST=N    a write takes N bytes at most
+   NEWLINES=N      the input is N newlines, one a read, and then its end
+   FAIL_REPORT=F   at the end the file F has what was counted: requests, reads, writes, and how often one failed
+
+   Requests are counted from the first one that the program makes after main has begun to run. */
+#define _GNU_SOURCE
+#include <dlfcn.h>
+#include <errno.h>
+#include <fcntl.h>
+#include <stdatomic.h>
+#include <stdio.h>
+#include <stdlib.h>
+#include <string.h>
+#include <sys/syscall.h>
+#include <unistd.h>
+
+static atomic_ulong requests, reads, writes, failed;
+static unsigned long fail_memory, fail_read, fail_write, empty_write, read_most, write_most, newlines;
+static const char *report;
+static atomic_int is_on;
+
+extern void *__libc_malloc(size_t size);
+extern void *__libc_calloc(size_t count, size_t size);
+extern void *__libc_realloc(void *at, size_t size);
+extern void *__libc_memalign(size_t line, size_t size);
+
+static unsigned long number(const char *name) {
+    const char *text = getenv(name);
+    return text ? strtoul(text, NULL, 10) : 0;
+}
+
+__attribute__((constructor)) static void begin(void) {
+    fail_memory = number("FAIL_MEMORY");
+    fail_read = number("FAIL_READ");
+    fail_write = number("FAIL_WRITE");
+    empty_write = number("EMPTY_WRITE");
+    read_most = number("READ_MOST");
+    write_most = number("WRITE_MOST");
+    newlines = number("NEWLINES");
+    report = getenv("FAIL_REPORT");
+    atomic_store(&is_on, 1);
+}
+
+__attribute__((destructor)) static void tell(void) {
+    char text[128];
+    if (!report)
+        return;
+    int file = open(report, O_WRONLY | O_CREAT | O_TRUNC, 0600);
+    int size = snprintf(text, sizeof text, "%lu %lu %lu %lu\n", atomic_load(&requests), atomic_load(&reads),
+                        atomic_load(&writes), atomic_load(&failed));
+    if (file >= 0 && syscall(SYS_write, file, text, (size_t)size) == size)
+        close(file);
+}
+
+/* A program may end at once, with no destructor run. */
+__attribute__((noreturn)) void _exit(int status) {
+    tell();
+    for (;;)
+        syscall(SYS_exit_group, status);
+}
+
+/* Whether this request is the one to be refused. */
+static int is_refused(void) {
+    if (!atomic_load(&is_on) || atomic_fetch_add(&requests, 1) + 1 != fail_memory)
+        return 0;
+    atomic_fetch_add(&failed, 1);
+    errno = ENOMEM;
+    return 1;
+}
+
+void *malloc(size_t size) { return is_refused() ? NULL : __libc_malloc(size); }
+void *calloc(size_t count, size_t size) { return is_refused() ? NULL : __libc_calloc(count, size); }
+void *realloc(void *at, size_t size) { return is_refused() ? NULL : __libc_realloc(at, size); }
+void *memalign(size_t line, size_t size) { return is_refused() ? NULL : __libc_memalign(line, size); }
+void *aligned_alloc(size_t line, size_t size) { return is_refused() ? NULL : __libc_memalign(line, size); }
+
+int posix_memalign(void **to, size_t line, size_t size) {
+    void *at = is_refused() ? NULL : __libc_memalign(line, size);
+    if (at)
+        *to = at;
+    return at ? 0 : ENOMEM;
+}
+
+ssize_t read(int file, void *to, size_t size) {
+    unsigned long turn = atomic_fetch_add(&reads, 1) + 1;
+    if (turn == fail_read) {
+        atomic_fetch_add(&failed, 1);
+        errno = EIO;
+        return -1;
+    }
+    if (newlines && size) {
+        *(char *)to = '\n';
+        return turn <= newlines;
+    }
+    return syscall(SYS_read, file, to, read_most && size > read_most ? read_most : size);
+}
+
+ssize_t write(int file, const void *from, size_t size) {
+    /* what goes to standard error is told whole */
+    if (file == 2)
+        return syscall(SYS_write, file, from, size);
+    unsigned long turn = atomic_fetch_add(&writes, 1) + 1;
+    if (turn == fail_write || turn == empty_write) {
+        atomic_fetch_add(&failed, 1);
+        errno = EIO;
+        return turn == fail_write ? -1 : 0;
+    }
+    return syscall(SYS_write, file, from, write_most && size > write_most ? write_most : size);
+}
