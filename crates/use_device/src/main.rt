@@ -54,6 +54,10 @@ fn delete<N: Naming, R: Wait>(
 {
     let mut editor = tree.edit(rt);
     let key: Key = editor.state().lookup(path)?;
+    // there are event numbers for so many slots
+    if key.slot >= SLOTS {
+        return Err(Refusal::NoSpace);
+    }
     let hold = editor.hold(key)?;
     drop(editor);
     let node = hold.node();
