@@ -8,8 +8,6 @@ mod hold;
 mod open_file;
 mod ops;
 mod page_holder;
-#[cfg(test)]
-mod seats_tests;
 mod tree_seats;
 mod wait_ops;
 mod waiting_file;
