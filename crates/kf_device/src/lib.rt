@@ -8,6 +8,8 @@ mod devices;
 mod faults;
 #[cfg(test)]
 mod fixtures;
+#[cfg(test)]
+mod hostile_tests;
 mod making;
 mod removal;
 mod sweeping;
