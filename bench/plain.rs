@@ -1,8 +1,9 @@
 //! A plain program that answers the scripts of `kernfs_run` with the same bytes, to measure that one by:
 //! `rustc -O bench/plain.rs`, std alone, nothing proved. A directory is a `BTreeMap` of its names.
 //!
-//! `plain [--slots N] [--line-writes] < SCRIPT`. Replies are gathered and written before each read; after
-//! `--line-writes` each is written by itself, as `kernfs_run` does it.
+//! `plain [--slots N] [--line-writes] [--keep-commands] < SCRIPT`. Replies are gathered and written before each
+//! read; after `--line-writes` each is written by itself, as `kernfs_run` does it. Commands are counted; after
+//! `--keep-commands` they are kept too, as `kernfs_run` keeps them.
 
 use std::cmp::Reverse;
 use std::collections::{BTreeMap, BinaryHeap};
@@ -114,7 +115,7 @@ struct Board {
     slots: Vec<Slot>,
     free: BinaryHeap<Reverse<u32>>,
     files: [Option<OpenFile>; 26],
-    commands: usize,
+    commands: Commands,
 }
 
 /// Why a name is refused: first its length, then its bytes.
@@ -134,12 +135,15 @@ fn names_of(parts: &[u8]) -> impl Iterator<Item = &[u8]> {
 }
 
 impl Board {
-    fn new(slots: u32) -> Board {
+    fn new(slots: u32, keep_commands: bool) -> Board {
         let mut board = Board {
             slots: Vec::new(),
             free: (1..slots).map(Reverse).collect(),
             files: [const { None }; 26],
-            commands: 0,
+            commands: Commands {
+                count: 0,
+                kept: keep_commands.then(Vec::new),
+            },
         };
         for _ in 0..slots {
             board.slots.push(Slot {
@@ -276,7 +280,7 @@ impl Board {
         let place = self.slot_mut(slot);
         place.generation += 1;
         place.node = Some(node);
-        self.commands += 1;
+        self.commands.add(|| creation(&self.slots, slot));
         Ok(self.key(slot))
     }
 
@@ -309,7 +313,8 @@ impl Board {
         for slot in self.subtree(top) {
             self.node_mut(slot).activated = true;
         }
-        self.commands += 1;
+        let key = self.key(top);
+        self.commands.add(|| Command::Activate(key));
         Ok(())
     }
 
@@ -350,7 +355,12 @@ impl Board {
         let old_name = std::mem::replace(&mut node.name, Box::from(name));
         self.leave_directory(old_parent, &old_name, is_dir);
         self.enter_directory(dir, name, slot, is_dir);
-        self.commands += 1;
+        let (key, dir) = (self.key(slot), self.key(dir));
+        self.commands.add(|| Command::Rename {
+            key,
+            dir,
+            name: Box::from(name),
+        });
         Ok(())
     }
 
@@ -366,11 +376,14 @@ impl Board {
         let node = self.node_mut(top);
         let (parent, name, is_dir) = (node.parent, std::mem::take(&mut node.name), node.is_dir());
         self.leave_directory(parent, &name, is_dir);
+        let key = self.key(top);
+        self.commands.add(|| Command::Doom(key));
         for slot in &slots {
+            let key = self.key(*slot);
             self.slot_mut(*slot).node = None;
+            self.commands.add(|| Command::Unlink(key));
             self.free_if_unused(*slot);
         }
-        self.commands += 1 + slots.len();
         Ok(())
     }
 
@@ -576,7 +589,8 @@ impl Board {
         self.pin(slot)?;
         self.slot_mut(slot).token = Some(self.key(slot));
         self.node_mut(slot).hidden = true;
-        self.commands += 1;
+        let key = self.key(slot);
+        self.commands.add(|| Command::Hide(key));
         Ok(())
     }
 
@@ -587,15 +601,25 @@ impl Board {
         }
         self.slot_mut(slot).token = None;
         self.node_mut(slot).hidden = false;
+        let key = self.key(slot);
         self.release(slot);
-        self.commands += 1;
+        self.commands.add(|| Command::Show(key));
         Ok(())
     }
 
-    /// One command for each node but the root, and one for each hidden file.
+    /// One command for each node but the root, directories before what is in them, and one for each hidden
+    /// file.
     fn compact(&mut self) {
         let nodes = self.slots[1..].iter().filter_map(|slot| slot.node.as_ref());
-        self.commands = nodes.map(|node| 1 + usize::from(node.hidden)).sum();
+        self.commands.count = nodes.map(|node| 1 + usize::from(node.hidden)).sum();
+        if self.commands.kept.is_none() {
+            return;
+        }
+        let slots = self.subtree(ROOT);
+        let created = slots[1..].iter().map(|slot| creation(&self.slots, *slot));
+        let hidden = slots.iter().filter(|slot| self.node(**slot).hidden);
+        let hidden = hidden.map(|slot| Command::Hide(self.key(*slot)));
+        self.commands.kept = Some(created.chain(hidden).collect());
     }
 
     /// Puts the reply to a line after what the buffer has.
@@ -676,13 +700,29 @@ impl Board {
             [b"close", letter] => done(self.close(letter_of(letter)?)?, reply),
             [b"hide", path] => done(self.hide(path)?, reply),
             [b"show", path] => done(self.show(path)?, reply),
-            [b"commands"] => put(reply, format_args!("{}", self.commands)),
+            [b"commands"] => put(reply, format_args!("{}", self.commands.count)),
             [b"compact"] => done(self.compact(), reply),
             [b"unplug", _] => return Err(Refusal::NoDevice),
             [b"wait"] => done((), reply),
             _ => return Err(Refusal::Line),
         }
         Ok(())
+    }
+}
+
+/// The command that makes the node of a slot.
+fn creation(slots: &[Slot], slot: u32) -> Command {
+    let key = |slot: u32| Key {
+        slot,
+        generation: slots[slot as usize].generation,
+    };
+    let node = slots[slot as usize].node.as_ref().expect("a linked node");
+    Command::Create {
+        key: key(slot),
+        dir: key(node.parent),
+        name: node.name.clone(),
+        made: Made::of(&node.kind),
+        live: node.activated,
     }
 }
 
@@ -752,6 +792,61 @@ fn done(_: (), reply: &mut Vec<u8>) {
 
 fn told_key(key: Key, reply: &mut Vec<u8>) {
     put(reply, format_args!("ok {}.{}", key.slot, key.generation));
+}
+
+/// A change of the tree. A list of them makes the tree again.
+#[allow(dead_code)]
+enum Command {
+    Create {
+        key: Key,
+        dir: Key,
+        name: Box<[u8]>,
+        made: Made,
+        live: bool,
+    },
+    Activate(Key),
+    Rename {
+        key: Key,
+        dir: Key,
+        name: Box<[u8]>,
+    },
+    Doom(Key),
+    Unlink(Key),
+    Hide(Key),
+    Show(Key),
+}
+
+/// What a new node is.
+#[allow(dead_code)]
+enum Made {
+    Dir,
+    File(u16),
+    Link(Key),
+}
+
+impl Made {
+    fn of(kind: &Kind) -> Made {
+        match kind {
+            Kind::Dir { .. } => Made::Dir,
+            Kind::File { mode, .. } => Made::File(*mode),
+            Kind::Link { target } => Made::Link(*target),
+        }
+    }
+}
+
+/// The commands so far: how many, and which, if they are kept.
+struct Commands {
+    count: usize,
+    kept: Option<Vec<Command>>,
+}
+
+impl Commands {
+    fn add(&mut self, command: impl FnOnce() -> Command) {
+        self.count += 1;
+        if let Some(kept) = &mut self.kept {
+            kept.push(command());
+        }
+    }
 }
 
 /// The script on its way to replies: the line that is being read, and the replies that are not written yet.
@@ -833,21 +928,24 @@ impl Script {
 
 fn main() -> ExitCode {
     let mut slots = Some(1024);
-    let mut line_writes = false;
+    let (mut line_writes, mut keep_commands) = (false, false);
     let mut words = std::env::args().skip(1);
     while let Some(word) = words.next() {
         match word.as_str() {
             "--slots" => slots = words.next().and_then(|number| number.parse().ok()),
             "--line-writes" => line_writes = true,
+            "--keep-commands" => keep_commands = true,
             _ => slots = None,
         }
     }
     let Some(slots) = slots.filter(|slots| (1..=4096).contains(slots)) else {
-        eprintln!("plain [--slots N] [--line-writes] < SCRIPT, with 1 to 4096 slots");
+        eprintln!(
+            "plain [--slots N] [--line-writes] [--keep-commands] < SCRIPT, with 1 to 4096 slots"
+        );
         return ExitCode::from(2);
     };
     let mut script = Script {
-        board: Board::new(slots),
+        board: Board::new(slots, keep_commands),
         line: Vec::new(),
         replies: Vec::new(),
         line_writes,

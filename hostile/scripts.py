@@ -5,8 +5,10 @@ ONE_CALLER, ONE_WORKER = (), ("--workers", "1")
 # By name, what is run by one caller and by the owner of a tree with one worker.
 BY_BOTH = {
     "nodes": "mkdir /a ; mkdir /a/b ; file /a/x 644 5 ; ls /a ; stat /a ; commands ; mkdir /a/c ; ls /a ; ls /",
-    "removal": "mkdir /a ; mkdir /a ; file /a/x 644 v ; rm /a ; ls / ; rm /a ; mkdir /a ; commands ; stat /a ; ls /",
-    "forest": "mkdir /p ; mkdir /p/q ; file /p/q/x 444 1 ; file /p/y 444 2 ; rm /p/q ; ls /p ; rm /p ; commands ; ls /",
+    "removal": "mkdir /a ; mkdir /a ; file /a/x 644 v ; rm /a ; ls / ; rm /a ; mkdir /a ; file /a/x 644 w ; commands ; "
+    "stat /a ; ls /",
+    "forest": "mkdir /p ; mkdir /p/q ; file /p/q/x 444 1 ; file /p/y 444 2 ; rm /p/q ; ls /p ; rm /p ; "
+    "commands ; mkdir /r ; mkdir /s ; mkdir /t ; mkdir /u ; ls /",
     "activation": "mkdir /a off ; mkdir /a/b off ; ls / ; mkdir /a ; activate /a ; ls / ; ls /a ; stat /a/b ; commands",
     "pages": "file /t 644 abcd ; open f /t r ; open g /t w ; read f 0 4 ; write g wxyz ; read f 2 4 ; read f 0 4",
     "old text": "file /t 644 abcd ; open f /t rw ; write f ; read f 0 4 ; rm /t ; read f 1 4 ; read f 0 4 ; write f ; read f 2 4",
