@@ -1,6 +1,8 @@
 //! Open files of attributes: pages, the callbacks that show and store, and when a file has changed.
 #![tactic(auto)]
 
+#[cfg(test)]
+mod callback_tests;
 mod contents;
 mod event_numbers;
 mod held_file;
@@ -8,6 +10,8 @@ mod hold;
 mod open_file;
 mod ops;
 mod page_holder;
+#[cfg(test)]
+mod seats_tests;
 mod tree_seats;
 mod wait_ops;
 mod waiting_file;

@@ -3,8 +3,8 @@ ghost use Rattle.std.specs.Prelude.{◌≡◌};
 
 use crate::tree_seats::TreeHold;
 use crate::waiting_fixtures::{
-    Before, close, file_of, held, made, new_driver, opened, post_of, posts_of, release_all,
-    wait_for,
+    Before, Latch, close, failing, file_of, held, made, new_driver, new_latch, opened, post_of,
+    posts_of, release_all, remove, wait_for,
 };
 use crate::{Fault, FileError};
 use kf_core::{Key, Refusal};
@@ -23,12 +23,12 @@ fn notifies_itself<N: Naming, R: Abort + Wait>(rt: &R, alloc: Global, new: NewTr
     requires { new.master.table ≡ N.table }
 {
     let tree = new.named::<N>();
-    let key = file_of(rt, &tree, 7);
+    let key = file_of(rt, &tree, b"t");
     let mut posts = posts_of(rt, alloc);
     let mut file = opened(rt, &tree, key, post_of(rt, &mut posts));
     assert!(rt; file.poll(), "a file that was never shown has changed");
-    let quiet = new_driver(Before::Nothing);
-    let loud = new_driver(Before::Notifies(Mutex::new(post_of(rt, &mut posts))));
+    let quiet = new_driver(Before::Nothing, b"v");
+    let loud = new_driver(Before::Notifies(Mutex::new(post_of(rt, &mut posts))), b"v");
     let mut out = [0u8; 4];
     assert_eq!(rt; file.read(rt, &tree, &quiet, 0, &mut out), Ok(1));
     assert!(rt; !file.poll(), "nothing was notified");
@@ -47,30 +47,24 @@ fn outlives_its_node<N: Naming, R: Abort + Wait>(rt: &R, alloc: Global, new: New
     requires { new.master.table ≡ N.table }
 {
     let tree = new.named::<N>();
-    let key = file_of(rt, &tree, 7);
+    let key = file_of(rt, &tree, b"t");
     let mut posts = posts_of(rt, alloc);
     let mut file = opened(rt, &tree, key, post_of(rt, &mut posts));
-    let quiet = new_driver(Before::Nothing);
+    let quiet = new_driver(Before::Nothing, b"v");
     let mut out = [0u8; 4];
     assert_eq!(rt; file.write(rt, &tree, &quiet, b""), Ok(0));
-    assert_eq!(rt; quiet.stores.load(Ordering::SeqCst), 0);
+    assert_eq!(rt; quiet.calls(), (0, 0));
     assert_eq!(rt; file.write(rt, &tree, &quiet, &[b'q'; 5000]), Ok(4096));
-    assert_eq!(rt; quiet.stores.load(Ordering::SeqCst), 1);
+    assert_eq!(rt; quiet.calls(), (0, 1));
     assert_eq!(rt; file.read(rt, &tree, &quiet, 0, &mut out), Ok(1));
-    match tree.remove(rt, held(rt, &tree, key).into_hold()) {
-        Ok(receipts) => release_all(receipts),
-        Err((hold, _)) => {
-            hold.release();
-            panic!(rt; "not removed")
-        }
-    }
+    assert_eq!(rt; remove(rt, &tree, key), 1);
     let gone = Err(FileError::Refused(Refusal::NoDevice));
     assert_eq!(rt; file.read(rt, &tree, &quiet, 1, &mut out), Ok(0));
     assert_eq!(rt; file.read(rt, &tree, &quiet, 0, &mut out), gone);
     assert_eq!(rt; file.write(rt, &tree, &quiet, b""), gone);
     assert_eq!(rt; file.write(rt, &tree, &quiet, b"x"), gone);
     assert!(rt; file.poll(), "a file whose node is gone has changed");
-    assert_eq!(rt; quiet.stores.load(Ordering::SeqCst), 1);
+    assert_eq!(rt; quiet.calls(), (1, 1));
     close(file);
 }
 
@@ -84,23 +78,18 @@ fn faults<N: Naming, R: Abort + Wait>(rt: &R, alloc: Global, new: NewTree)
     requires { new.master.table ≡ N.table }
 {
     let tree = new.named::<N>();
-    let key = file_of(rt, &tree, 8);
+    let key = file_of(rt, &tree, b"t");
     let mut posts = posts_of(rt, alloc);
     let mut file = opened(rt, &tree, key, post_of(rt, &mut posts));
-    let quiet = new_driver(Before::Nothing);
+    let faulty = failing(5);
     let mut out = [0u8; 4];
     let fault = Err(FileError::Callback(Fault { number: 5 }));
-    assert_eq!(rt; file.read(rt, &tree, &quiet, 0, &mut out), fault);
+    assert_eq!(rt; file.read(rt, &tree, &faulty, 0, &mut out), fault);
     assert!(rt; !file.poll(), "its number was taken");
-    assert_eq!(rt; file.read(rt, &tree, &quiet, 3, &mut out), fault);
+    assert_eq!(rt; file.read(rt, &tree, &faulty, 3, &mut out), fault);
+    assert_eq!(rt; faulty.calls(), (2, 0));
     close(file);
-    match tree.remove(rt, held(rt, &tree, key).into_hold()) {
-        Ok(receipts) => release_all(receipts),
-        Err((hold, _)) => {
-            hold.release();
-            panic!(rt; "not removed")
-        }
-    }
+    assert_eq!(rt; remove(rt, &tree, key), 1);
 }
 
 #[test]
@@ -190,15 +179,14 @@ pub(crate) fn removes_under<N: Naming + Send + Sync, R: Threads + Wait + Sync>(
     tree: &SharedTree<N>,
     key: Key,
     removal: &mut Removal<N>,
-    inside: &AtomicU64,
-    let_go: &AtomicU64,
+    latch: &Latch,
 ) -> bool {
     let answered = AtomicU64::new(0);
-    let entered = wait_for(1, inside);
+    let entered = wait_for(1, &latch.inside);
     let (_, late) = join(
         rt,
         || removes(rt, tree, key, removal, &answered),
-        || entered && lets_go_late(rt, tree, key, let_go, &answered),
+        || entered && lets_go_late(rt, tree, key, &latch.let_go, &answered),
     );
     late
 }
@@ -233,20 +221,20 @@ fn waits_for_a_show<N: Naming + Send + Sync, R: Abort + Threads + Wait + Sync>(
     requires { new.master.table ≡ N.table }
 {
     let tree = new.named::<N>();
-    let key = file_of(rt, &tree, 7);
+    let key = file_of(rt, &tree, b"t");
     let mut posts = posts_of(rt, alloc);
     let mut file = opened(rt, &tree, key, post_of(rt, &mut posts));
     let second = held(rt, &tree, key).into_hold();
     let mut removal = removal_by(held(rt, &tree, key));
-    let ops = new_driver(Before::Waits(AtomicU64::new(0), AtomicU64::new(0)));
-    let Before::Waits(inside, let_go) = &ops.before else {
+    let ops = new_driver(Before::Waits(new_latch()), b"v");
+    let Before::Waits(latch) = &ops.before else {
         panic!(rt; "it waits")
     };
     let mut out = [0u8; 4];
     let (told, late) = join(
         rt,
         || file.read(rt, &tree, &ops, 0, &mut out),
-        || removes_under(rt, &tree, key, &mut removal, inside, let_go),
+        || removes_under(rt, &tree, key, &mut removal, latch),
     );
     close(file);
     has_removed(rt, removal, second);
