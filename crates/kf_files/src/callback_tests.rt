@@ -137,9 +137,9 @@ fn stores_fault<N: Naming, R: Abort + Wait>(rt: &R, alloc: Global, new: NewTree)
     assert!(rt; gives(rt, &tree, &mut file, &shown, 0, b"wxyz"));
     assert_eq!(rt; file.write(rt, &tree, &faulty, b"q"), Err(fault(7)));
     assert_eq!(rt; faulty.calls(), (0, 1));
-    assert!(rt; gives(rt, &tree, &mut file, &shown, 2, b"yz"));
+    assert!(rt; gives(rt, &tree, &mut file, &greedy, 2, b"yz"));
     assert_eq!(rt; file.write(rt, &tree, &greedy, b"q"), Ok(9));
-    assert_eq!(rt; shown.calls(), (1, 0));
+    assert_eq!(rt; greedy.calls(), (0, 1));
     close(file);
 }
 
