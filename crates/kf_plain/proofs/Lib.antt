@@ -9,7 +9,16 @@ pub mod BoardVisits
 pub mod Compacting
 pub mod HideAndShow
 pub mod Making
+pub mod BoardTags
 pub mod Wholes
+pub mod BoardShows
+pub mod BoardCommands
+pub mod BoardTexts
+pub mod BoardRemovals
+pub mod BoardOpens
+pub mod BoardTokens
+pub mod LetterVisits
+pub mod NewBoard
 pub mod Marking
 pub mod Risen
 pub mod Holding

@@ -9,6 +9,6 @@ mod text_table;
 pub use board::PlainBoard;
 
 #[cfg(test)]
-mod file_scripts;
+mod file_script_tests;
 #[cfg(test)]
-mod scripts;
+mod script_tests;

@@ -11,6 +11,17 @@ use std::convert::AsStr;
 /// The program's version.
 const VERSION: &str = "0.1.0";
 
+/// What the program does, as help tells it.
+const ABOUT: &str = "Runs a script on an attribute tree that behaves like Linux kernfs.\n\n\
+    The script has one command a line, and each line is answered by one line on\n\
+    standard output: as soon as it was read, or, with workers, when all was run.";
+
+/// What the program's status says, as help tells it.
+const STATUSES: &str =
+    "Status: 0 where the script was run, whatever its replies; 1 after a fault of\n\
+    reading, writing or memory, which standard error names; 2 where the arguments\n\
+    are refused or the script cannot be opened.";
+
 /// The number of slots where the words name none, as clap reads it and as help shows it.
 const DEFAULT_SLOTS: &str = "1024";
 
@@ -53,12 +64,8 @@ fn command<'a>(alloc: Global) -> Result<Command<'a>, Error> {
     );
     let command = Command::new(alloc, "kernfs_run")
         .version(VERSION)
-        .about(
-            "Runs a script on an attribute tree that behaves like Linux kernfs.\n\nThe script has one command a line, and each line is answered by one line on\nstandard output: as soon as it was read, or, with workers, when all was run.",
-        )
-        .after_help(
-            "Status: 0 where the script was run, whatever its replies; 1 after a fault of\nreading, writing or memory, which standard error names; 2 where the arguments\nare refused or the script cannot be opened.",
-        )
+        .about(ABOUT)
+        .after_help(STATUSES)
         .arg(slots)?
         .arg(workers)?
         .arg(script)?;

@@ -1,3 +1,4 @@
 pub mod Digits
 pub mod Running
 pub mod Places
+pub mod Spelled

@@ -11,6 +11,7 @@ use super::rows::{
     make_link, move_node, notify, open, plug, poll, read, read_link, remove, show, stat, unplug,
     wait, write,
 };
+use super::spelling::spells;
 use super::words::Words;
 
 /// What a command makes of the words behind it: the rows of the grammar, in the order of the definition.
@@ -19,28 +20,28 @@ fn request<'a>(command: &[u8], words: Words<'a>) -> Option<Request<'a>>
     ensures range { IfSome result (λ request. IsInRange (request_words request)) }
 {
     match command {
-        word if word == b"mkdir".as_slice() => make_directory(words),
-        word if word == b"file".as_slice() => make_file(words),
-        word if word == b"link".as_slice() => make_link(words),
-        word if word == b"activate".as_slice() => activate(words),
-        word if word == b"ls".as_slice() => list_names(words),
-        word if word == b"stat".as_slice() => stat(words),
-        word if word == b"readlink".as_slice() => read_link(words),
-        word if word == b"mv".as_slice() => move_node(words),
-        word if word == b"rm".as_slice() => remove(words),
-        word if word == b"open".as_slice() => open(words),
-        word if word == b"read".as_slice() => read(words),
-        word if word == b"write".as_slice() => write(words),
-        word if word == b"poll".as_slice() => poll(words),
-        word if word == b"notify".as_slice() => notify(words),
-        word if word == b"close".as_slice() => close(words),
-        word if word == b"hide".as_slice() => hide(words),
-        word if word == b"show".as_slice() => show(words),
-        word if word == b"commands".as_slice() => count_commands(words),
-        word if word == b"compact".as_slice() => compact(words),
-        word if word == b"plug".as_slice() => plug(words),
-        word if word == b"unplug".as_slice() => unplug(words),
-        word if word == b"wait".as_slice() => wait(words),
+        word if spells(word, b"mkdir") => make_directory(words),
+        word if spells(word, b"file") => make_file(words),
+        word if spells(word, b"link") => make_link(words),
+        word if spells(word, b"activate") => activate(words),
+        word if spells(word, b"ls") => list_names(words),
+        word if spells(word, b"stat") => stat(words),
+        word if spells(word, b"readlink") => read_link(words),
+        word if spells(word, b"mv") => move_node(words),
+        word if spells(word, b"rm") => remove(words),
+        word if spells(word, b"open") => open(words),
+        word if spells(word, b"read") => read(words),
+        word if spells(word, b"write") => write(words),
+        word if spells(word, b"poll") => poll(words),
+        word if spells(word, b"notify") => notify(words),
+        word if spells(word, b"close") => close(words),
+        word if spells(word, b"hide") => hide(words),
+        word if spells(word, b"show") => show(words),
+        word if spells(word, b"commands") => count_commands(words),
+        word if spells(word, b"compact") => compact(words),
+        word if spells(word, b"plug") => plug(words),
+        word if spells(word, b"unplug") => unplug(words),
+        word if spells(word, b"wait") => wait(words),
         _ => None,
     }
 }

@@ -13,6 +13,7 @@ mod request;
 mod rows;
 mod script;
 mod search;
+mod spelling;
 mod words;
 
 pub use board::Board;

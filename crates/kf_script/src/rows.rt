@@ -1,5 +1,5 @@
 //! What stands behind each command: the words of its row, one after the other, and the request that they
-//! make.
+//! make. Each is inlined, so that words stay in registers and a request is made where it is wanted.
 
 ghost use Rattle.std.specs.Prelude.{◌≡◌, codes, IfSome};
 ghost use Rattle.std.specs.Option.{option_map};
@@ -8,6 +8,7 @@ ghost use Rattle.kf_script.specs.Requests.{request_words, IsInRange, reads_of};
 use super::request::Request;
 use super::words::Words;
 
+#[inline(always)]
 pub fn make_directory(mut words: Words<'_>) -> Option<Request<'_>>
     ensures value { option_map request_words result ≡ reads_of (codes "mkdir") words.entry }
     ensures range { IfSome result (λ request. IsInRange (request_words request)) }
@@ -20,6 +21,7 @@ pub fn make_directory(mut words: Words<'_>) -> Option<Request<'_>>
     })
 }
 
+#[inline(always)]
 pub fn make_file(mut words: Words<'_>) -> Option<Request<'_>>
     ensures value { option_map request_words result ≡ reads_of (codes "file") words.entry }
     ensures range { IfSome result (λ request. IsInRange (request_words request)) }
@@ -30,6 +32,7 @@ pub fn make_file(mut words: Words<'_>) -> Option<Request<'_>>
     Some(Request::MakeFile { path, mode, text })
 }
 
+#[inline(always)]
 pub fn make_link(mut words: Words<'_>) -> Option<Request<'_>>
     ensures value { option_map request_words result ≡ reads_of (codes "link") words.entry }
     ensures range { IfSome result (λ request. IsInRange (request_words request)) }
@@ -40,6 +43,7 @@ pub fn make_link(mut words: Words<'_>) -> Option<Request<'_>>
     Some(Request::MakeLink { path, target })
 }
 
+#[inline(always)]
 pub fn activate(mut words: Words<'_>) -> Option<Request<'_>>
     ensures value { option_map request_words result ≡ reads_of (codes "activate") words.entry }
     ensures range { IfSome result (λ request. IsInRange (request_words request)) }
@@ -49,6 +53,7 @@ pub fn activate(mut words: Words<'_>) -> Option<Request<'_>>
     Some(Request::Activate { path })
 }
 
+#[inline(always)]
 pub fn list_names(mut words: Words<'_>) -> Option<Request<'_>>
     ensures value { option_map request_words result ≡ reads_of (codes "ls") words.entry }
     ensures range { IfSome result (λ request. IsInRange (request_words request)) }
@@ -58,6 +63,7 @@ pub fn list_names(mut words: Words<'_>) -> Option<Request<'_>>
     Some(Request::ListNames { path })
 }
 
+#[inline(always)]
 pub fn stat(mut words: Words<'_>) -> Option<Request<'_>>
     ensures value { option_map request_words result ≡ reads_of (codes "stat") words.entry }
     ensures range { IfSome result (λ request. IsInRange (request_words request)) }
@@ -67,6 +73,7 @@ pub fn stat(mut words: Words<'_>) -> Option<Request<'_>>
     Some(Request::Stat { path })
 }
 
+#[inline(always)]
 pub fn read_link(mut words: Words<'_>) -> Option<Request<'_>>
     ensures value { option_map request_words result ≡ reads_of (codes "readlink") words.entry }
     ensures range { IfSome result (λ request. IsInRange (request_words request)) }
@@ -76,6 +83,7 @@ pub fn read_link(mut words: Words<'_>) -> Option<Request<'_>>
     Some(Request::ReadLink { path })
 }
 
+#[inline(always)]
 pub fn move_node(mut words: Words<'_>) -> Option<Request<'_>>
     ensures value { option_map request_words result ≡ reads_of (codes "mv") words.entry }
     ensures range { IfSome result (λ request. IsInRange (request_words request)) }
@@ -87,6 +95,7 @@ pub fn move_node(mut words: Words<'_>) -> Option<Request<'_>>
     Some(Request::Move { path, dir, name })
 }
 
+#[inline(always)]
 pub fn remove(mut words: Words<'_>) -> Option<Request<'_>>
     ensures value { option_map request_words result ≡ reads_of (codes "rm") words.entry }
     ensures range { IfSome result (λ request. IsInRange (request_words request)) }
@@ -96,6 +105,7 @@ pub fn remove(mut words: Words<'_>) -> Option<Request<'_>>
     Some(Request::Remove { path })
 }
 
+#[inline(always)]
 pub fn open(mut words: Words<'_>) -> Option<Request<'_>>
     ensures value { option_map request_words result ≡ reads_of (codes "open") words.entry }
     ensures range { IfSome result (λ request. IsInRange (request_words request)) }
@@ -112,6 +122,7 @@ pub fn open(mut words: Words<'_>) -> Option<Request<'_>>
     })
 }
 
+#[inline(always)]
 pub fn read(mut words: Words<'_>) -> Option<Request<'_>>
     ensures value { option_map request_words result ≡ reads_of (codes "read") words.entry }
     ensures range { IfSome result (λ request. IsInRange (request_words request)) }
@@ -123,6 +134,7 @@ pub fn read(mut words: Words<'_>) -> Option<Request<'_>>
     Some(Request::ReadFile { file, offset, most })
 }
 
+#[inline(always)]
 pub fn write(mut words: Words<'_>) -> Option<Request<'_>>
     ensures value { option_map request_words result ≡ reads_of (codes "write") words.entry }
     ensures range { IfSome result (λ request. IsInRange (request_words request)) }
@@ -132,6 +144,7 @@ pub fn write(mut words: Words<'_>) -> Option<Request<'_>>
     Some(Request::WriteFile { file, text })
 }
 
+#[inline(always)]
 pub fn poll(mut words: Words<'_>) -> Option<Request<'_>>
     ensures value { option_map request_words result ≡ reads_of (codes "poll") words.entry }
     ensures range { IfSome result (λ request. IsInRange (request_words request)) }
@@ -141,6 +154,7 @@ pub fn poll(mut words: Words<'_>) -> Option<Request<'_>>
     Some(Request::PollFile { file })
 }
 
+#[inline(always)]
 pub fn notify(mut words: Words<'_>) -> Option<Request<'_>>
     ensures value { option_map request_words result ≡ reads_of (codes "notify") words.entry }
     ensures range { IfSome result (λ request. IsInRange (request_words request)) }
@@ -150,6 +164,7 @@ pub fn notify(mut words: Words<'_>) -> Option<Request<'_>>
     Some(Request::Notify { path })
 }
 
+#[inline(always)]
 pub fn close(mut words: Words<'_>) -> Option<Request<'_>>
     ensures value { option_map request_words result ≡ reads_of (codes "close") words.entry }
     ensures range { IfSome result (λ request. IsInRange (request_words request)) }
@@ -159,6 +174,7 @@ pub fn close(mut words: Words<'_>) -> Option<Request<'_>>
     Some(Request::CloseFile { file })
 }
 
+#[inline(always)]
 pub fn hide(mut words: Words<'_>) -> Option<Request<'_>>
     ensures value { option_map request_words result ≡ reads_of (codes "hide") words.entry }
     ensures range { IfSome result (λ request. IsInRange (request_words request)) }
@@ -168,6 +184,7 @@ pub fn hide(mut words: Words<'_>) -> Option<Request<'_>>
     Some(Request::Hide { path })
 }
 
+#[inline(always)]
 pub fn show(mut words: Words<'_>) -> Option<Request<'_>>
     ensures value { option_map request_words result ≡ reads_of (codes "show") words.entry }
     ensures range { IfSome result (λ request. IsInRange (request_words request)) }
@@ -177,6 +194,7 @@ pub fn show(mut words: Words<'_>) -> Option<Request<'_>>
     Some(Request::Show { path })
 }
 
+#[inline(always)]
 pub fn count_commands(words: Words<'_>) -> Option<Request<'_>>
     ensures value { option_map request_words result ≡ reads_of (codes "commands") words.entry }
     ensures range { IfSome result (λ request. IsInRange (request_words request)) }
@@ -185,6 +203,7 @@ pub fn count_commands(words: Words<'_>) -> Option<Request<'_>>
     Some(Request::CountCommands)
 }
 
+#[inline(always)]
 pub fn compact(words: Words<'_>) -> Option<Request<'_>>
     ensures value { option_map request_words result ≡ reads_of (codes "compact") words.entry }
     ensures range { IfSome result (λ request. IsInRange (request_words request)) }
@@ -193,6 +212,7 @@ pub fn compact(words: Words<'_>) -> Option<Request<'_>>
     Some(Request::Compact)
 }
 
+#[inline(always)]
 pub fn plug(mut words: Words<'_>) -> Option<Request<'_>>
     ensures value { option_map request_words result ≡ reads_of (codes "plug") words.entry }
     ensures range { IfSome result (λ request. IsInRange (request_words request)) }
@@ -202,6 +222,7 @@ pub fn plug(mut words: Words<'_>) -> Option<Request<'_>>
     Some(Request::Plug { name, text })
 }
 
+#[inline(always)]
 pub fn unplug(mut words: Words<'_>) -> Option<Request<'_>>
     ensures value { option_map request_words result ≡ reads_of (codes "unplug") words.entry }
     ensures range { IfSome result (λ request. IsInRange (request_words request)) }
@@ -211,6 +232,7 @@ pub fn unplug(mut words: Words<'_>) -> Option<Request<'_>>
     Some(Request::Unplug { name })
 }
 
+#[inline(always)]
 pub fn wait(words: Words<'_>) -> Option<Request<'_>>
     ensures value { option_map request_words result ≡ reads_of (codes "wait") words.entry }
     ensures range { IfSome result (λ request. IsInRange (request_words request)) }

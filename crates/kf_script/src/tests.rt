@@ -7,6 +7,7 @@ use super::reads::Input;
 use super::script::run_script;
 use std::alloc::{AllocError, Global};
 use std::io::Read;
+use std::process::Abort;
 
 /// What is written for a script that is read a few bytes a call, and how the run ended.
 fn run(
@@ -154,9 +155,17 @@ fn a_line_of_8192_bytes_is_the_longest(rt: HostRuntime) {
     }
 }
 
+/// Each of the lines, alone, is answered so.
+fn are_answered<R: Abort>(rt: &R, alloc: Global, lines: &[&[u8]], reply: &[u8]) {
+    for line in lines {
+        let (text, _) = run(alloc, line, 5000, 100, 100);
+        assert_eq!(rt; text.as_slice(), reply, "for {line:?}");
+    }
+}
+
 #[test]
-fn lines_that_make_a_request(rt: HostRuntime) {
-    let lines: [&[u8]; 35] = [
+fn lines_of_the_tree_make_requests(rt: HostRuntime) {
+    let lines: [&[u8]; 18] = [
         b"mkdir /a",
         b"mkdir /a off",
         b"file /a 644 text with spaces",
@@ -166,10 +175,22 @@ fn lines_that_make_a_request(rt: HostRuntime) {
         b"link /a /b",
         b"activate /a",
         b"ls /",
+        b"ls \xff",
         b"stat /a",
         b"readlink /a",
         b"mv /a / b",
         b"rm /a",
+        b"hide /a",
+        b"show /a",
+        b"commands",
+        b"compact",
+    ];
+    are_answered(&rt, rt.alloc(), &lines, b"ok\n");
+}
+
+#[test]
+fn lines_of_open_files_make_requests(rt: HostRuntime) {
+    let lines: [&[u8]; 12] = [
         b"open a /a r",
         b"open z /a w",
         b"open f /a rw",
@@ -182,84 +203,91 @@ fn lines_that_make_a_request(rt: HostRuntime) {
         b"poll f",
         b"notify /a",
         b"close f",
-        b"hide /a",
-        b"show /a",
-        b"commands",
-        b"compact",
+    ];
+    are_answered(&rt, rt.alloc(), &lines, b"ok\n");
+}
+
+#[test]
+fn lines_of_devices_and_rounds_make_requests(rt: HostRuntime) {
+    let lines: [&[u8]; 5] = [
         b"plug d0 on",
         b"plug d0  on off ",
         b"plug d0",
         b"unplug d0",
         b"wait",
-        b"ls \xff",
     ];
-    for line in lines {
-        let (text, _) = run(rt.alloc(), line, 5000, 100, 100);
-        assert_eq!(rt; text.as_slice(), b"ok\n".as_slice(), "for {line:?}");
-    }
+    are_answered(&rt, rt.alloc(), &lines, b"ok\n");
 }
 
 #[test]
-fn lines_that_make_none(rt: HostRuntime) {
-    let lines: [&[u8]; 51] = [
-        b" ",
-        b"frob /a",
+fn a_word_too_few_or_too_many_makes_none(rt: HostRuntime) {
+    let lines: [&[u8]; 19] = [
         b"mkdir",
-        b"mkdir ",
-        b"mkdir /a ",
-        b"mkdir  /a",
-        b" mkdir /a",
         b"mkdir /a b",
-        b"mkdir /a off ",
-        b"mkdir /a  off",
         b"mkdir /a off off",
-        b"MKDIR /a",
         b"file",
         b"file /a",
-        b"file /a 64 x",
-        b"file /a 0644 x",
-        b"file /a 648 x",
-        b"file  644 x",
         b"link /a",
         b"mv /a /",
         b"mv /a / b c",
         b"open /a r",
         b"open f /a",
-        b"open f /a wr",
+        b"read f 0",
+        b"write",
+        b"commands x",
+        b"plug",
+        b"unplug",
+        b"unplug d0 on",
+        b"wait 1",
+        b"hide",
+        b"show /a b",
+    ];
+    are_answered(&rt, rt.alloc(), &lines, b"err Line 22\n");
+}
+
+#[test]
+fn spaces_other_than_one_between_words_make_none(rt: HostRuntime) {
+    let lines: [&[u8]; 15] = [
+        b" ",
+        b" mkdir /a",
+        b"mkdir ",
+        b"mkdir  /a",
+        b"mkdir /a ",
+        b"mkdir /a off ",
+        b"mkdir /a  off",
+        b"file  644 x",
+        b"write ",
+        b"write  x",
+        b"plug  on",
+        b"wait ",
+        b"commands ",
+        b"compact ",
+        b"ls\t/",
+    ];
+    are_answered(&rt, rt.alloc(), &lines, b"err Line 22\n");
+}
+
+#[test]
+fn words_of_no_command_make_none(rt: HostRuntime) {
+    let lines: [&[u8]; 5] = [b"frob /a", b"MKDIR /a", b"@1 ls /", b"@1 wait", b"@"];
+    are_answered(&rt, rt.alloc(), &lines, b"err Line 22\n");
+}
+
+#[test]
+fn words_of_another_kind_make_none(rt: HostRuntime) {
+    let lines: [&[u8]; 12] = [
+        b"file /a 64 x",
+        b"file /a 0644 x",
+        b"file /a 648 x",
         b"open F /a r",
         b"open ff /a r",
-        b"read f 0",
+        b"open f /a wr",
         b"read f 0 65536",
         b"read f 0 000000",
         b"read f 4294967296 1",
         b"read f 00000000000 1",
         b"read f +1 1",
         b"read f -1 1",
-        b"write",
-        b"write ",
-        b"write  x",
-        b"commands ",
-        b"commands x",
-        b"@1 ls /",
-        b"@1 wait",
-        b"@",
-        b"plug",
-        b"plug  on",
-        b"unplug",
-        b"unplug d0 on",
-        b"wait ",
-        b"wait 1",
-        b"hide",
-        b"show /a b",
-        b"compact ",
-        b"ls\t/",
     ];
-    for line in lines {
-        let (text, _) = run(rt.alloc(), line, 5000, 100, 100);
-        assert_eq!(rt;
-            text.as_slice(),
-            b"err Line 22\n".as_slice(),
-            "for {line:?}"
-        );
-    }
+    are_answered(&rt, rt.alloc(), &lines, b"err Line 22\n");
 }

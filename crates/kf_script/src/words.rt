@@ -1,4 +1,4 @@
-//! The words of a line, taken one by one.
+//! The words of a line, taken one by one. All are inlined, for the sake of the rows.
 
 ghost use Rattle.std.specs.Prelude.{◌≡◌, ◌≤◌, ◌<◌, ℕ, List, Option, Some, None, IfSome, if◌then◌else◌};
 ghost use Rattle.std.specs.Option.{option_map, option_and_then};
@@ -22,6 +22,7 @@ impl<'a> Model for Words<'a> {
 
 impl<'a> Words<'a> {
     /// A line, of which no word was taken yet.
+    #[inline(always)]
     pub fn new(line: &'a [u8]) -> Words<'a>
         ensures { result ≡ Some line.now }
     {
@@ -29,6 +30,7 @@ impl<'a> Words<'a> {
     }
 
     /// Takes the next word, which may be empty: what stands before the next space.
+    #[inline(always)]
     pub fn next(&mut self) -> Option<&'a [u8]>
         ensures word { option_map (λ word. word.now) result ≡ next_word self.old }
         ensures later { self.new ≡ behind_next self.old }
@@ -47,6 +49,7 @@ impl<'a> Words<'a> {
     }
 
     /// Takes a path or a name.
+    #[inline(always)]
     pub fn path(&mut self) -> Option<&'a [u8]>
         ensures value { option_map (λ word. word.now) result ≡ option_and_then path_of (next_word self.old) }
         ensures later { self.new ≡ behind_next self.old }
@@ -55,6 +58,7 @@ impl<'a> Words<'a> {
     }
 
     /// Takes a mode.
+    #[inline(always)]
     pub fn mode(&mut self) -> Option<u16>
         ensures value { result ≡ option_and_then mode_of (next_word self.old) }
         ensures later { self.new ≡ behind_next self.old }
@@ -64,6 +68,7 @@ impl<'a> Words<'a> {
     }
 
     /// Takes the letter of a file.
+    #[inline(always)]
     pub fn file(&mut self) -> Option<usize>
         ensures value { result ≡ option_and_then file_of (next_word self.old) }
         ensures later { self.new ≡ behind_next self.old }
@@ -73,6 +78,7 @@ impl<'a> Words<'a> {
     }
 
     /// Takes an offset.
+    #[inline(always)]
     pub fn offset(&mut self) -> Option<u64>
         ensures value { result ≡ option_and_then offset_of (next_word self.old) }
         ensures later { self.new ≡ behind_next self.old }
@@ -82,6 +88,7 @@ impl<'a> Words<'a> {
     }
 
     /// Takes a length.
+    #[inline(always)]
     pub fn length(&mut self) -> Option<u64>
         ensures value { result ≡ option_and_then length_of (next_word self.old) }
         ensures later { self.new ≡ behind_next self.old }
@@ -91,6 +98,7 @@ impl<'a> Words<'a> {
     }
 
     /// Takes what a file is opened for: reading, writing.
+    #[inline(always)]
     pub fn want(&mut self) -> Option<(bool, bool)>
         ensures value { result ≡ option_and_then want_of (next_word self.old) }
         ensures later { self.new ≡ behind_next self.old }
@@ -99,6 +107,7 @@ impl<'a> Words<'a> {
     }
 
     /// Whether nothing more comes.
+    #[inline(always)]
     pub fn end(&self) -> Option<()>
         ensures { result ≡ (if is_over self.now then Some tt else None) }
     {
@@ -109,6 +118,7 @@ impl<'a> Words<'a> {
     }
 
     /// Whether this word comes last and alone, or nothing more comes. None where something else comes.
+    #[inline(always)]
     pub fn last(&self, last: &[u8]) -> Option<bool>
         ensures { result ≡ last_word last.now self.now }
     {
@@ -120,6 +130,7 @@ impl<'a> Words<'a> {
     }
 
     /// All that comes, its spaces too.
+    #[inline(always)]
     pub fn text(&self) -> &'a [u8]
         ensures { result.now ≡ whole_text self.now }
     {

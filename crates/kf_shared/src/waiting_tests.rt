@@ -97,6 +97,27 @@ fn add_role<N: Naming, R: Abort>(rt: &R, roles: &mut Vec<Role<N>>, role: Role<N>
     }
 }
 
+/// Four removals of the node, and the end of the call that they wait for.
+fn four_and_an_end<N: Naming, R: Abort + Wait>(
+    rt: &R,
+    alloc: Global,
+    tree: &SharedTree<N>,
+    key: Key,
+) -> Vec<Role<N>> {
+    let end = End {
+        running: Some(call_of(rt, tree, key)),
+        spare: Some(hold(rt, tree, key)),
+        waited: false,
+    };
+    let mut roles = Vec::new(alloc);
+    for _ in 0..4u32 {
+        let removal = removal_of(rt, tree, key);
+        add_role(rt, &mut roles, Role::Removes(removal), key);
+    }
+    add_role(rt, &mut roles, Role::Ends(end), key);
+    roles
+}
+
 fn four_wait<N: Naming + Send + Sync, R: Abort + Threads + Wait + Sync>(
     rt: &R,
     alloc: Global,
@@ -106,28 +127,7 @@ fn four_wait<N: Naming + Send + Sync, R: Abort + Threads + Wait + Sync>(
 {
     let tree = new.named::<N>();
     let key = add(rt, &tree, b"/t", FILE, true);
-    let running = Some(call_of(rt, &tree, key));
-    let spare = Some(hold(rt, &tree, key));
-    let mut roles = Vec::new(alloc);
-    for _ in 0..4u32 {
-        add_role(
-            rt,
-            &mut roles,
-            Role::Removes(removal_of(rt, &tree, key)),
-            key,
-        );
-    }
-    let waited = false;
-    add_role(
-        rt,
-        &mut roles,
-        Role::Ends(End {
-            running,
-            spare,
-            waited,
-        }),
-        key,
-    );
+    let mut roles = four_and_an_end(rt, alloc, &tree, key);
     let answered = AtomicU64::new(0);
     for_each_mut(
         rt,

@@ -34,3 +34,4 @@ pub mod PreOrder
 pub mod Replays
 pub mod Collected
 pub mod OneClimb
+pub mod Climbing

@@ -55,8 +55,8 @@ impl Directory {
         requires few { self.old.subdirs + 1 < 2 ^ 64 }
         ensures entered { OnOk result (self.new ≡ with_child name key is_subdir self.old) }
         ensures unchanged { OnErr result (self.new ≡ self.old) }
-        ensures refused { IfErr result (λ refusal.
-            refusal ≡ (if map_of.contains_key self.old.index name then Refusal.Exists else Refusal.NoMemory)) }
+        ensures refused { IfErr result (λ refusal. refusal
+            ≡ (if map_of.contains_key self.old.index name then Refusal.Exists else Refusal.NoMemory)) }
     {
         self.index.insert(name, key)?;
         if is_subdir {

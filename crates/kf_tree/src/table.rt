@@ -116,7 +116,7 @@ impl Table {
     }
 
     /// Whether following parents from the key meets the top.
-    #[tactic(auto, using(kf_core::proofs::Climbs::meets_more, kf_core::proofs::Climbs::meets_none, kf_core::proofs::Climbs::meets_here))]
+    #[tactic(auto, using(crate::proofs::Climbing::one_step))]
     pub(crate) fn is_below(&self, top: Key, key: Key) -> bool
         ensures known { result ≡ in_subtree self.now top key }
     {

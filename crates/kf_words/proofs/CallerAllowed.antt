@@ -16,7 +16,9 @@ use Rattle.kf_words.specs.Steps.{Seated, caller_of, after_try, after_undo, after
 use Rattle.kf_words.specs.Callers.{IsAtRest, HasReference, IsIn}
 use Rattle.kf_words.proofs.Bits.{waiting_is, counted_is}
 use Rattle.kf_words.proofs.Seating.{caller_seat, seats-set}
-use Rattle.kf_words.proofs.CallerSteps.{try_owes, undo_owes, leave_owes, break_owes, restore_owes, look_owes, hide_owes, look_hidden_owes, show_owes, show_finds, release_owes, part_owes}
+use Rattle.kf_words.proofs.CallerSteps.{try_owes, undo_owes, leave_owes, break_owes, restore_owes, look_owes}
+use Rattle.kf_words.proofs.HidingSteps.{hide_owes, look_hidden_owes, show_owes, show_finds}
+use Rattle.kf_words.proofs.HoldSteps.{release_owes, part_owes}
 
 -- no play of a caller reads the step
 abbrev pub no_step : Step (Unit {0})

@@ -3,7 +3,11 @@ pub mod Seating
 pub mod Answered
 pub mod MasterSteps
 pub mod HiddenBit
+pub mod CallerPhases
+pub mod CallerChanges
 pub mod CallerSteps
+pub mod HidingSteps
+pub mod HoldSteps
 pub mod CallerAllowed
 pub mod MasterViews
 pub mod MasterAllowed

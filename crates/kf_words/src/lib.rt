@@ -5,7 +5,13 @@
 mod call;
 mod caller_steps;
 mod drain;
+#[cfg(test)]
+mod fixtures;
+#[cfg(test)]
+mod hider_tests;
 mod hiding;
+#[cfg(test)]
+mod hiding_tests;
 mod hold;
 mod laws;
 mod layout;

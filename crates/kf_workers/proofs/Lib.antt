@@ -1,5 +1,2 @@
-pub mod Cuts
-pub mod Telling
-pub mod Turning
 pub mod Weaker
 pub mod Written

@@ -3,9 +3,9 @@ use Rattle.std.proofs.Common.{ℕ, List}
 use Rattle.std.specs.Prelude.{Option, None, Some}
 use Rattle.kf_script.specs.Answers.{Step, AnswersRequest}
 use Rattle.kf_script.specs.Requests.{RequestWords, request_of}
-use Rattle.kf_workers.specs.Kinds.{Kind, bad, ends_round, of_seat}
+use Rattle.kf_rounds.specs.Kinds.{Kind, bad, ends_round, of_seat}
 use Rattle.kf_workers.specs.Replies.{Suits, Answers, AnswersTo}
-use Rattle.kf_workers.specs.Turns.{IsReply, MayReply, RepliedAfter}
+use Rattle.kf_rounds.specs.Turns.{IsReply, MayReply, RepliedAfter}
 
 module _ (may wider : List ℕ → List ℕ → Type 0) (widens : (command reply : List ℕ) → may command reply → wider command reply) where
   reply_wider : (kind : Kind) (reply : List ℕ) → IsReply may kind reply → IsReply wider kind reply

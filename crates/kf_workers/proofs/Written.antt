@@ -8,7 +8,7 @@ use Rattle.kf_script.specs.Lines.{lines_of}
 use Rattle.kf_script.specs.Progress.{Writes}
 use Rattle.kf_workers.specs.RanWhole.{RanWhole, StoppedWhole}
 use Rattle.kf_workers.specs.Replies.{Answers}
-use Rattle.kf_workers.specs.Turns.{Replied}
+use Rattle.kf_rounds.specs.Turns.{Replied}
 
 pub ran_whole : {T E : Type 0} (workers : ℕ) (input left old new : Option (List ℕ)) (script replies : List ℕ) (result : Result T E)
     → Consumes input left script → IsAtEnd left → Replied Answers workers (lines_of script) replies → Writes old new result replies

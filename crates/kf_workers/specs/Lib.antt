@@ -1,8 +1,3 @@
-pub mod Cutting
-pub mod Kinds
-pub mod KindViews
-pub mod Turns
-pub mod Seats
 pub mod Told
 pub mod Replies
 pub mod TextAnswers

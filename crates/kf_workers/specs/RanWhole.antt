@@ -6,7 +6,7 @@ use Rattle.kf_script.specs.declared.fault.RunFault.TheVariants.{Read, Write, Mem
 use Rattle.kf_script.specs.Progress.{IsPrefix}
 use Rattle.kf_script.specs.Lines.{lines_of}
 use Rattle.kf_workers.specs.Replies.{Answers}
-use Rattle.kf_workers.specs.Turns.{Replied}
+use Rattle.kf_rounds.specs.Turns.{Replied}
 
 -- The script was read to its end, and the replies to its lines were written, one each, in the order of the
 -- lines.

@@ -3,7 +3,7 @@
 
 ghost use Rattle.std.specs.Prelude.{◌<◌};
 
-use crate::fixtures::answers;
+use crate::test_fixtures::answers;
 use std::alloc::{AllocError, Global};
 use std::test::Fail;
 

@@ -1,6 +1,6 @@
 //! Scripts with devices, and with the lines that one caller's board refuses.
 
-use crate::fixtures::{answers, are_answered, is_answered, joined};
+use crate::test_fixtures::{answers, are_answered, is_answered, joined};
 use std::test::Fail;
 
 #[test]

@@ -3,14 +3,8 @@
 
 mod board;
 mod common;
-mod cut;
-mod kind;
 mod reading;
-mod replies;
-mod round;
-mod rounds;
 mod run;
-mod seat;
 mod serving;
 mod tell;
 mod texts;
@@ -27,14 +21,14 @@ mod crowd_tests;
 #[cfg(test)]
 mod device_tests;
 #[cfg(test)]
-mod file_scripts;
-#[cfg(test)]
-mod fixtures;
+mod file_script_tests;
 #[cfg(test)]
 mod meeting_tests;
 #[cfg(test)]
 mod reading_tests;
 #[cfg(test)]
-mod round_tests;
+mod script_tests;
 #[cfg(test)]
-mod scripts;
+mod test_fixtures;
+#[cfg(test)]
+mod worker_tests;

@@ -2,8 +2,8 @@
 
 ghost use Rattle.std.specs.Prelude.{Some, ◌<◌};
 
-use crate::fixtures::many;
 use crate::reading::read_script;
+use crate::test_fixtures::many;
 use crate::whole::run_whole;
 use kf_core::Limits;
 use kf_script::RunFault;

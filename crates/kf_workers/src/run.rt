@@ -2,16 +2,15 @@
 
 ghost use Rattle.std.specs.Prelude.{◌≡◌, ◌≤◌, ◌+◌, OnOk, IfOk, IfErr, vec_len};
 ghost use Rattle.kf_script.specs.Lines.{lines_of};
-ghost use Rattle.kf_workers.specs.Turns.{Replied};
+ghost use Rattle.kf_rounds.specs.Turns.{Replied};
 ghost use Rattle.kf_workers.specs.Replies.{Answers};
 
 use crate::board::WorkerBoard;
 use crate::common::Common;
-use crate::rounds::run_rounds;
-use crate::seat::Seat;
 use kf_core::{Limits, Refusal};
 use kf_files::WaitOps;
 use kf_notify::Posts;
+use kf_rounds::{Seat, run_rounds};
 use kf_script::{Reply, RunFault};
 use kf_shared::{Naming, NewTree, SharedTree};
 use std::alloc::Global;

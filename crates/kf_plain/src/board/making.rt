@@ -36,8 +36,8 @@ impl PlainBoard {
             × (self.new ≡ with_text
             (with_node self.old key spot (file_node mode (Some key)) true) key.slot text.now))) }
         ensures refused { IfErr result
-            (λ refusal. (next : Option Key) × IsNextKey self.old next
-            × IsRefused (new_spot self.old.log path.now (file_node mode next) next) self.old refusal self.new) }
+            (λ refusal. (next : Option Key) × IsNextKey self.old next × IsRefused
+            (new_spot self.old.log path.now (file_node mode next) next) self.old refusal self.new) }
     {
         let next = self.nodes.next_key();
         let copy = self.copy_text(path, file_node(mode, next), next, text)?;

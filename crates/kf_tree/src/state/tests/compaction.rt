@@ -60,7 +60,8 @@ fn compacts_one_doom_of_a_subtree(rt: HostRuntime) -> Result<(), Fail> {
     Ok(())
 }
 
-/// `/a` doomed with a hidden file and a directory below it, `/b` live with one hidden file and one doomed, and `/c` off.
+/// `/a` doomed with a hidden file and a directory below it, `/b` live with one hidden file and one doomed,
+/// and `/c` off.
 fn plant_forest(state: &mut State) -> Result<(), Refusal> {
     add_directory(state, b"/b", true, 1)?;
     add_file(state, b"/b/shown", true, 2)?;

@@ -2,7 +2,7 @@ use Rattle.std.proofs.Common.{subst}
 use Rattle.kf_script.specs.Lines.{lines_of}
 use Rattle.kf_script.specs.Progress.{Writes}
 use Rattle.kf_workers.specs.Replies.{Answers}
-use Rattle.kf_workers.specs.Turns.{Replied}
+use Rattle.kf_rounds.specs.Turns.{Replied}
 use Rattle.kf_workers.proofs.Written.{ran_whole, cut_whole}
 use Rattle.kf_workers.proofs.whole.run_whole.Goals as goal
 

@@ -1,6 +1,6 @@
 use Rattle.std.proofs.Common.{refl}
 use Rattle.kf_plain.specs.PlainTree.{activated_key}
-use Rattle.kf_plain.proofs.Wholes.{whole_activated, shown_activated, shown_why}
+use Rattle.kf_plain.proofs.BoardCommands.{whole_activated, shown_activated, shown_why}
 use Rattle.kf_plain.proofs.board.PlainBoard.activate.Goals as goal
 
 pub invariant_of-self : goal.invariant_of-self

@@ -1,6 +1,7 @@
 use Rattle.std.proofs.Common.{sym, ap, ◌∙◌, Some}
 use Rattle.std.proofs.lemmas.Option.{slice_get_read}
-use Rattle.kf_plain.proofs.Wholes.{known_shown, closed_whole, closed_shown, unknown_shown, emptied_shown}
+use Rattle.kf_plain.proofs.BoardOpens.{known_shown, closed_whole, closed_shown, unknown_shown}
+use Rattle.kf_plain.proofs.LetterVisits.{emptied_shown}
 use Rattle.kf_plain.proofs.board.PlainBoard.close.Goals as goal
 
 pub invariant_of-self : goal.invariant_of-self

@@ -1,5 +1,5 @@
 use Rattle.std.proofs.Common.{refl}
-use Rattle.kf_plain.proofs.Wholes.{whole_compacted, shown_compacted, shown_starved}
+use Rattle.kf_plain.proofs.BoardCommands.{whole_compacted, shown_compacted, shown_starved}
 use Rattle.kf_plain.proofs.board.PlainBoard.compact.Goals as goal
 
 pub invariant_of-self : goal.invariant_of-self

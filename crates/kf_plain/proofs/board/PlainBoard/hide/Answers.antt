@@ -1,5 +1,6 @@
 use Rattle.kf_plain.specs.PlainHide.{hide_held, hidden_key}
-use Rattle.kf_plain.proofs.Wholes.{whole_hidden, shown_hidden, why_shown, spent_shown, spent_whole}
+use Rattle.kf_plain.proofs.BoardShows.{why_shown, spent_shown, spent_whole}
+use Rattle.kf_plain.proofs.BoardTokens.{whole_hidden, shown_hidden}
 use Rattle.kf_plain.proofs.board.PlainBoard.hide.Goals as goal
 
 pub invariant_of-self : goal.invariant_of-self

@@ -1,7 +1,7 @@
 use Rattle.std.proofs.Common.{refl}
 use Rattle.kf_core.specs.declared.key.Node.TheVariants.{Dir}
 use Rattle.kf_plain.specs.PlainTree.{new_spot}
-use Rattle.kf_plain.proofs.Wholes.{whole_created, shown_created, shown_why_next, untagged}
+use Rattle.kf_plain.proofs.BoardCommands.{whole_created, shown_created, shown_why_next, untagged}
 use Rattle.kf_plain.proofs.board.PlainBoard.make_directory.Goals as goal
 
 pub invariant_of-self : goal.invariant_of-self

@@ -2,7 +2,8 @@ use Rattle.std.proofs.Common.{refl, subst}
 use Rattle.std.proofs.lemmas.Result.{err_from_is_err_and}
 use Rattle.kf_plain.specs.PlainTree.{new_spot}
 use Rattle.kf_plain.specs.Settled.{IsWhy}
-use Rattle.kf_plain.proofs.Wholes.{next_shown, file_refused, file_slot, file_whole, file_shown}
+use Rattle.kf_plain.proofs.BoardShows.{next_shown}
+use Rattle.kf_plain.proofs.BoardTexts.{file_refused, file_slot, file_whole, file_shown}
 use Rattle.kf_plain.proofs.board.PlainBoard.make_file.Goals as goal
 
 pub returns-in_err-copy-clause-refused : goal.returns-in_err-copy-clause-refused

@@ -1,6 +1,6 @@
 use Rattle.std.proofs.Common.{refl}
 use Rattle.kf_plain.specs.PlainTree.{new_link_spot}
-use Rattle.kf_plain.proofs.Wholes.{whole_linked, shown_linked, shown_why_next}
+use Rattle.kf_plain.proofs.BoardCommands.{whole_linked, shown_linked, shown_why_next}
 use Rattle.kf_plain.proofs.board.PlainBoard.make_link.Goals as goal
 
 pub invariant_of-self : goal.invariant_of-self

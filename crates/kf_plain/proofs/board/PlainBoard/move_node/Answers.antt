@@ -1,6 +1,6 @@
 use Rattle.std.proofs.Common.{refl}
 use Rattle.kf_plain.specs.PlainTree.{moved_key}
-use Rattle.kf_plain.proofs.Wholes.{whole_moved, shown_moved, shown_why}
+use Rattle.kf_plain.proofs.BoardCommands.{whole_moved, shown_moved, shown_why}
 use Rattle.kf_plain.proofs.board.PlainBoard.move_node.Goals as goal
 
 pub invariant_of-self : goal.invariant_of-self

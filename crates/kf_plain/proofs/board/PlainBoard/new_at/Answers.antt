@@ -1,5 +1,5 @@
 use Rattle.std.proofs.Common.{None, ap, ◌∙◌, replicate, List, ℕ, []}
-use Rattle.kf_plain.proofs.Wholes.{whole_new, shown_new}
+use Rattle.kf_plain.proofs.NewBoard.{whole_new, shown_new}
 use Rattle.kf_plain.proofs.board.PlainBoard.new_at.Goals as goal
 
 pub invariant_of-result : goal.invariant_of-result

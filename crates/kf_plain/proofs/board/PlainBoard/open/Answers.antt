@@ -1,6 +1,6 @@
 use Rattle.std.proofs.Common.{refl, sym, ◌∙◌}
 use Rattle.std.proofs.lemmas.Option.{slice_get_read}
-use Rattle.kf_plain.proofs.Wholes.{not_opened, not_opened_whole, opened_whole, opened_shown}
+use Rattle.kf_plain.proofs.BoardOpens.{not_opened, not_opened_whole, opened_whole, opened_shown}
 use Rattle.kf_plain.proofs.board.PlainBoard.open.Goals as goal
 
 pub invariant_of-self : goal.invariant_of-self

@@ -2,7 +2,8 @@ use Rattle.std.proofs.Common.{refl, sym, ap, ◌∙◌, Some}
 use Rattle.std.proofs.lemmas.Option.{slice_get_read}
 use Rattle.kf_core.specs.Calls.{tried}
 use Rattle.kf_plain.specs.declared.nodes.visits.BoardFile.{BoardFile}
-use Rattle.kf_plain.proofs.Wholes.{unknown_shown, emptied_shown, not_a_file, its_waits, known_shown, visited_whole, same_now, visits_to, its_live, its_number, kept_form, kept_short}
+use Rattle.kf_plain.proofs.BoardOpens.{unknown_shown, its_waits, known_shown}
+use Rattle.kf_plain.proofs.LetterVisits.{emptied_shown, not_a_file, visited_whole, same_now, visits_to, its_live, its_number, kept_form, kept_short}
 use Rattle.kf_plain.proofs.board.PlainBoard.poll.Goals as goal
 
 pub returns-in_default-clause-refused : goal.returns-in_default-clause-refused

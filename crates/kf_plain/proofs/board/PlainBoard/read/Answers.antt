@@ -3,7 +3,8 @@ use Rattle.std.proofs.lemmas.Option.{slice_get_read}
 use Rattle.std.proofs.Common.{length}
 use Rattle.kf_replies.specs.ReplyParts.{bytes_text}
 use Rattle.kf_plain.proofs.Reading.{reads_short, reads_as}
-use Rattle.kf_plain.proofs.Wholes.{read_shown, unknown_shown, emptied_shown, not_a_file, its_waits, known_shown, visited_whole, visits_to, its_live, its_show}
+use Rattle.kf_plain.proofs.BoardOpens.{unknown_shown, its_waits, known_shown}
+use Rattle.kf_plain.proofs.LetterVisits.{read_shown, emptied_shown, not_a_file, visited_whole, visits_to, its_live, its_show}
 use Rattle.kf_plain.proofs.board.PlainBoard.read.Goals as goal
 
 pub returns-in_default-clause-refused : goal.returns-in_default-clause-refused

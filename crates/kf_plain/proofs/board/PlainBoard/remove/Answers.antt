@@ -1,4 +1,4 @@
-use Rattle.kf_plain.proofs.Wholes.{whole_removed, shown_removed, shown_not_removed}
+use Rattle.kf_plain.proofs.BoardRemovals.{whole_removed, shown_removed, shown_not_removed}
 use Rattle.kf_plain.proofs.board.PlainBoard.remove.Goals as goal
 
 pub invariant_of-self : goal.invariant_of-self

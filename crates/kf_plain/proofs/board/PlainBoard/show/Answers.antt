@@ -4,7 +4,7 @@ use Rattle.kf_core.specs.Keys.{same_key}
 use Rattle.kf_tree.specs.Paths.{walked}
 use Rattle.kf_tree.specs.TreeLogs.{TreeLog}
 use Rattle.kf_plain.specs.declared.nodes.hiding.BoardToken.{BoardToken}
-use Rattle.kf_plain.proofs.Wholes.{stat_linked, token_inside, whole_shown, shown_shown, not_shown, not_a_token}
+use Rattle.kf_plain.proofs.BoardTokens.{stat_linked, token_inside, whole_shown, shown_shown, not_shown, not_a_token}
 use Rattle.kf_plain.proofs.board.PlainBoard.show.Goals as goal
 
 pub invariant_of-self : goal.invariant_of-self

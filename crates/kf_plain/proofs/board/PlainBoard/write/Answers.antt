@@ -2,7 +2,8 @@ use Rattle.std.proofs.Common.{refl, sym, ap, ◌∙◌, Some}
 use Rattle.std.proofs.lemmas.Option.{slice_get_read}
 use Rattle.kf_plain.specs.declared.nodes.visits.BoardFile.{BoardFile}
 use Rattle.kf_plain.proofs.BoardVisits.{writes_by, writes_visit}
-use Rattle.kf_plain.proofs.Wholes.{kept_form, kept_short, same_now, its_store, written_length, unknown_shown, emptied_shown, not_a_file, its_waits, known_shown, visited_whole, visits_to, its_live}
+use Rattle.kf_plain.proofs.BoardOpens.{unknown_shown, its_waits, known_shown}
+use Rattle.kf_plain.proofs.LetterVisits.{kept_form, kept_short, same_now, its_store, written_length, emptied_shown, not_a_file, visited_whole, visits_to, its_live}
 use Rattle.kf_plain.proofs.board.PlainBoard.write.Goals as goal
 
 pub returns-in_default-clause-refused : goal.returns-in_default-clause-refused

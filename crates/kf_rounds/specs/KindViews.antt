@@ -1,0 +1,9 @@
+-- A line's kind in the code, without where its bytes lie in memory.
+use Rattle.kf_rounds.specs.Kinds.{Kind, bad, ends_round, of_seat}
+use Rattle.kf_rounds.specs.declared.kind.LineKind.{LineKind}
+use Rattle.kf_rounds.specs.declared.kind.LineKind.TheVariants.{Bad, EndsRound, Command}
+
+abbrev pub kind_view : LineKind → Kind
+kind_view Bad = bad
+kind_view EndsRound = ends_round
+kind_view (Command seat text) = of_seat seat text.now

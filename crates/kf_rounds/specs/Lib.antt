@@ -1,0 +1,5 @@
+pub mod Cutting
+pub mod Kinds
+pub mod KindViews
+pub mod Turns
+pub mod Seats

@@ -1,0 +1,44 @@
+//! A script in memory as its lines.
+
+ghost use Rattle.std.specs.Prelude.{◌≡◌, ◌∷◌, ◌<◌, map, position, IfOk, IfSome, length};
+ghost use Rattle.std.specs.Option.{option_map};
+ghost use Rattle.std.specs.List.{slice_split};
+ghost use Rattle.kf_script.specs.Lines.{is_newline, lines_of};
+ghost use Rattle.kf_rounds.specs.Cutting.{later_lines};
+
+use std::alloc::{AllocError, Global};
+
+/// Where the first newline stands.
+fn newline_at(script: &[u8]) -> Option<usize>
+    ensures { result ≡ position is_newline script.now }
+{
+    script.iter().position(|byte| *byte == b'\n')
+}
+
+/// The first line, and what stands after the newline behind it, where there is one.
+fn cut_line(script: &[u8]) -> (&[u8], Option<&[u8]>)
+    ensures cut { slice_split is_newline script.now
+        ≡ result.0.now ∷ later_lines (option_map (λ text. text.now) result.1) }
+    ensures shorter { IfSome result.1 (λ later. length later.now < length script.now) }
+{
+    match newline_at(script) {
+        Some(at) => (&script[..at], Some(&script[at + 1..])),
+        None => (script, None),
+    }
+}
+
+/// The lines of a script, without those that are empty: these get no reply.
+pub fn lines_in(alloc: Global, script: &[u8]) -> Result<Vec<&[u8]>, AllocError>
+    ensures { IfOk result (λ lines. map (λ line. line.now) lines.items ≡ lines_of script.now) }
+{
+    let mut lines = Vec::new(alloc);
+    let mut left = Some(script);
+    while let Some(text) = left {
+        let (line, later) = cut_line(text);
+        if !line.is_empty() {
+            lines.push(line)?;
+        }
+        left = later;
+    }
+    Ok(lines)
+}

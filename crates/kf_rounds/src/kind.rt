@@ -1,0 +1,84 @@
+//! Whose a line is.
+
+ghost use Rattle.std.specs.Prelude.{◌≡◌, ◌≤◌, IfSome, length, position};
+ghost use Rattle.kf_script.specs.Lines.{line_limit};
+ghost use Rattle.kf_script.specs.Requests.{is_space, first_word as word_of, rest as rest_of};
+ghost use Rattle.kf_rounds.specs.Kinds.{kind_by, worker_of, command_in, seat_in};
+ghost use Rattle.kf_rounds.specs.KindViews.{kind_view};
+
+use kf_script::LINE_LIMIT;
+
+/// What a line is for.
+#[derive(Clone, Copy)]
+pub enum LineKind<'a> {
+    /// It is too long, or no worker's.
+    Bad,
+    /// `wait`: it ends a round.
+    EndsRound,
+    /// A command of the owner, 0, or of a worker, from 1.
+    Command { seat: usize, text: &'a [u8] },
+}
+
+/// A worker's number, 1 to `most`, in decimal without leading zeros.
+fn worker(word: &[u8], most: usize) -> Option<usize>
+    requires { most ≤ 16 }
+    ensures value { result ≡ worker_of most word.now }
+    ensures range { IfSome result (λ worker. worker ≤ most) }
+{
+    let number = match word {
+        [a] if (b'1'..=b'9').contains(a) => usize::from(*a - b'0'),
+        [a, b] if (b'1'..=b'9').contains(a) && b.is_ascii_digit() => {
+            10 * usize::from(*a - b'0') + usize::from(*b - b'0')
+        }
+        _ => return None,
+    };
+    if number <= most { Some(number) } else { None }
+}
+
+/// Where the first space stands.
+fn space_at(line: &[u8]) -> Option<usize>
+    ensures { result ≡ position is_space line.now }
+{
+    line.iter().position(|byte| *byte == b' ')
+}
+
+/// The word before the first space, and what follows that space.
+fn first_word(line: &[u8]) -> (&[u8], &[u8])
+    ensures word { result.0.now ≡ word_of line.now }
+    ensures rest { result.1.now ≡ rest_of line.now }
+    ensures fits { length result.1.now ≤ length line.now }
+{
+    match space_at(line) {
+        Some(at) => (&line[..at], &line[at + 1..]),
+        None => (line, &[]),
+    }
+}
+
+/// What a line is for, with so many workers.
+pub fn kind_of(line: &[u8], workers: usize) -> LineKind<'_>
+    requires { workers ≤ 16 }
+    ensures value { kind_view result ≡ kind_by workers line.now }
+    ensures range { seat_in (kind_view result) ≤ workers }
+    ensures fits { length (command_in (kind_view result)) ≤ line_limit }
+{
+    if line.len() > LINE_LIMIT {
+        return LineKind::Bad;
+    }
+    let [first, rest @ ..] = line else {
+        return LineKind::Bad;
+    };
+    if *first == b'@' {
+        let (word, text) = first_word(rest);
+        return match worker(word, workers) {
+            Some(seat) if text != b"wait".as_slice() => LineKind::Command { seat, text },
+            _ => LineKind::Bad,
+        };
+    }
+    if line == b"wait".as_slice() {
+        return LineKind::EndsRound;
+    }
+    LineKind::Command {
+        seat: 0,
+        text: line,
+    }
+}

@@ -1,0 +1,17 @@
+//! Rounds: a script run by an owner and its workers, each in a thread with a board of its own.
+#![tactic(auto)]
+
+mod cut;
+mod kind;
+mod replies;
+mod round;
+mod rounds;
+mod seat;
+
+pub use rounds::run_rounds;
+pub use seat::Seat;
+
+#[cfg(test)]
+mod round_tests;
+#[cfg(test)]
+mod test_board;

@@ -1,0 +1,50 @@
+//! All rounds of a script.
+
+ghost use Rattle.std.specs.Prelude.{◌≡◌, ◌≤◌, ◌+◌, IfOk, length};
+ghost use Rattle.kf_script.specs.Lines.{lines_of};
+ghost use Rattle.kf_rounds.specs.Turns.{MayReply, Replied};
+
+use crate::cut::lines_in;
+use crate::replies::put_replies;
+use crate::round::{round_at, run_round};
+use crate::seat::Seat;
+use kf_script::Board;
+use std::alloc::{AllocError, Global};
+use std::thread::Threads;
+
+/// Runs a script by its owner, the first of the seats, and its workers, round by round, and answers the
+/// replies to its lines that are not empty, each with a newline, in the order of the lines.
+///
+/// A line `@W COMMAND` is worker W's; `wait` ends a round; every other line is the owner's. In a round each
+/// of the seats runs its own lines in the order of the script, in a thread of its own (where none can be
+/// made, or no two of them have lines, the calling thread runs them). A `wait` is answered when every line
+/// above has its reply, and no line below begins before. Boards stay in their seats over rounds, and after
+/// the run.
+///
+/// Conditions: there are at most 16 workers, and a seat for the owner and for each of them.
+///
+/// `Err` where memory for the lines or the replies was refused: some rounds may have been run, and their
+/// replies are lost.
+pub fn run_rounds<B: Board + Send, R: Threads + Sync>(
+    rt: &R,
+    alloc: Global,
+    seats: &mut [Seat<B>],
+    workers: usize,
+    script: &[u8],
+) -> Result<Vec<u8>, AllocError>
+    requires workers { workers ≤ 16 }
+    requires seats { length seats.old ≡ workers + 1 }
+    ensures replied { IfOk result
+        (λ out. Replied (MayReply B.step) workers (lines_of script.now) out.items) }
+{
+    let lines = lines_in(alloc, script)?;
+    let mut out = Vec::new(alloc);
+    let mut from = 0;
+    while from < lines.len() {
+        let round = round_at(lines.as_slice(), from, workers);
+        run_round(rt, alloc, seats, round, workers);
+        put_replies(&mut out, seats, round, workers)?;
+        from += round.len();
+    }
+    Ok(out)
+}
