@@ -1,6 +1,7 @@
 #!/usr/bin/env python3
 """Writes the scripts that bench/run measures: `workloads.py FOLDER [NAME..]` makes FOLDER/NAME.kf for these
-names, or for all, and prints them. Each script is the same on every machine. They need 4,096 slots."""
+names, or for all, and prints them; of scripts for workers FOLDER/NAME_1.kf, NAME_2.kf and NAME_4.kf, by how many
+workers they have. Each script is the same on every machine. They need 4,096 slots."""
 import os
 import random
 import sys
@@ -161,7 +162,33 @@ def compaction(rng):
         yield "commands"
 
 
+def readers(workers, spacing):
+    """Workers who read: the first an attribute in slot 1, each further one so many slots on. 60,000 reads in all."""
+    for number in range(3 * spacing + 1):
+        yield f"file /value{number} 444 {number}"
+    for worker in range(workers):
+        yield f"@{worker + 1} open {'abcd'[worker]} /value{worker * spacing} r"
+    yield "wait"
+    for turn in range(60_000):
+        worker = turn % workers
+        yield f"@{worker + 1} read {'abcd'[worker]} 0 9"
+
+
 WORKLOADS = [churn, wide, deep, attributes, pages, openings, listings, links, forests, hiding, compaction]
+
+# How many slots lie between those of two readers.
+READERS = {"readers_of_one": 0, "readers_of_distant": 16}
+
+
+def scripts_of(names):
+    """By the name of each workload that is asked for, the names and lines of its scripts."""
+    for workload in WORKLOADS:
+        name = workload.__name__
+        if not names or name in names:
+            yield name, [(name, workload(random.Random(name)))]
+    for name, spacing in READERS.items():
+        if not names or name in names:
+            yield name, [(f"{name}_{workers}", readers(workers, spacing)) for workers in (1, 2, 4)]
 
 
 def main():
@@ -169,13 +196,11 @@ def main():
         sys.exit("workloads.py FOLDER [NAME..]")
     folder, names = sys.argv[1], sys.argv[2:]
     os.makedirs(folder, exist_ok=True)
-    for workload in WORKLOADS:
-        name = workload.__name__
-        if names and name not in names:
-            continue
-        with open(f"{folder}/{name}.kf", "w", encoding="ascii") as script:
-            script.writelines(f"{line}\n" for line in workload(random.Random(name)))
-        print(name)
+    for workload, scripts in scripts_of(names):
+        for name, lines in scripts:
+            with open(f"{folder}/{name}.kf", "w", encoding="ascii") as script:
+                script.writelines(f"{line}\n" for line in lines)
+        print(workload)
 
 
 if __name__ == "__main__":
