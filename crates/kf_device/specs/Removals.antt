@@ -1,7 +1,8 @@
--- What a removal by name met and did, in trees that the lock kept. It does not say when that was.
-use Rattle.std.specs.Prelude.{◌≡◌, ◌≢◌, ℕ, Bool, true, ◌||◌, List, Result, Ok, codes, MatchBool}
+-- What a removal by name met and did, in whole trees, as the lock may keep them. It does not say when.
+use Rattle.std.specs.Prelude.{◌≡◌, ◌≢◌, ◌⊎◌, ℕ, Bool, true, ◌||◌, List, Result, Ok, codes, MatchBool}
 use Rattle.kf_core.specs.declared.key.Key.{Key}
 use Rattle.kf_core.specs.declared.refusal.Refusal.{Refusal}
+use Rattle.kf_core.specs.declared.refusal.Refusal.TheVariants.{NoEntry, NoMemory, TooManyHolds}
 use Rattle.kf_tree.specs.Paths.{and_then, found, walked}
 use Rattle.kf_tree.specs.TreeLogs.{TreeLog}
 use Rattle.kf_words.specs.Callers.{TableId}
@@ -49,6 +50,14 @@ pub record Unplugged (table : TableId) (name : List ℕ) : Type 0 where
   pub link_cleared : Cleared table links_path name link
   pub dir_cleared : Cleared table devices_path name dir
   pub some : (link || dir) ≡ true
+
+-- why a node that was there is not removed: one had no room for a hold, or there was no memory
+abbrev pub HoldRefusal : Refusal → Type 0
+HoldRefusal refusal = (refusal ≡ TooManyHolds) ⊎ (refusal ≡ NoMemory)
+
+-- why nothing is unplugged: neither was there, or a node that was could not be removed
+abbrev pub UnplugRefusal : Refusal → Type 0
+UnplugRefusal refusal = (refusal ≡ NoEntry) ⊎ HoldRefusal refusal
 
 -- neither was there
 abbrev pub NotPlugged : TableId → List ℕ → Type 0

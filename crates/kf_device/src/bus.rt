@@ -3,7 +3,7 @@ ghost use Rattle.std.specs.Prelude.{◌≡◌, ◌≤◌, ◌^◌, IfOk, IfErr, 
 ghost use Rattle.kf_core.specs.declared.refusal.Refusal.{Refusal};
 ghost use Rattle.kf_core.specs.declared.refusal.Refusal.TheVariants.{NoEntry, NoMemory};
 ghost use Rattle.kf_core.specs.Names.{name_fault};
-ghost use Rattle.kf_device.specs.Removals.{Unplugged, NotPlugged};
+ghost use Rattle.kf_device.specs.Removals.{Unplugged, NotPlugged, UnplugRefusal};
 
 use crate::devices::{Devices, Files};
 use crate::making::{Stopped, make};
@@ -32,7 +32,7 @@ pub struct Bus {
 impl Bus {
     /// A bus on which no plug has begun.
     ///
-    /// Refusal: NoMemory.
+    /// Refusal: NoMemory, and no other. Today it takes no memory, so it refuses nothing.
     pub fn new(alloc: Global) -> Result<Bus, Refusal>
         ensures refused { IfErr result (λ refusal. refusal ≡ NoMemory) }
     {
@@ -58,10 +58,13 @@ impl Bus {
     /// and `delete` (0o200), which are all activated together; then the live link `/bus/devices/NAME`. All
     /// that is done in one turn of the tree lock. It answers the key of `/devices/NAME`.
     ///
-    /// Refusals: NameTooLong or Invalid (name), then NoSpace where 2^60 plugs have begun: they change
-    /// nothing. Then those of each step in its order, as `Editor::create` and `Editor::activate` have them,
-    /// and NoMemory: the base directories that were made stay, and the device's directory is removed again.
-    /// Only where that removal is refused too does it stay, and `unplug` removes it.
+    /// Of the value the first 4,096 bytes are kept, and a read shows at most 4,095.
+    ///
+    /// Refusals: NameTooLong (over 255 bytes) or Invalid (name), then NoSpace where 2^60 plugs have begun:
+    /// they change nothing. Then those of each step in its order, as `Editor::create` and `Editor::activate`
+    /// have them, and NoMemory: the base directories that were made stay, and the device's directory is
+    /// removed again. Only where that removal, or the hold for it, is refused too does it stay, and `unplug`
+    /// removes it.
     ///
     /// It may never return: it waits for the tree lock and the lock of the bus, which its caller must not
     /// have, and where its link is refused for the callbacks that run on the new files.
@@ -101,8 +104,8 @@ impl Bus {
     /// `/devices/NAME`, each where it is there. Each is looked for by its whole name, so a name that is not
     /// lawful finds nothing.
     ///
-    /// Refusals: NoEntry where neither is there; else TooManyHolds or NoMemory, as `SharedTree::remove` has
-    /// them. After one of these it may be called again.
+    /// Refusals: NoEntry where neither is there; else TooManyHolds or NoMemory, as `Editor::hold` of the link
+    /// or the directory and `SharedTree::remove` have them. After one of these it may be called again.
     ///
     /// It may never return: it waits for the tree lock and the lock of the bus, which its caller must not
     /// have, and for every callback that runs on the device's files, its caller's own among them.
@@ -114,6 +117,7 @@ impl Bus {
     ) -> Result<(), Refusal>
         ensures removed { IfOk result (λ _. Unplugged N.table name.now) }
         ensures nothing { IfErr result (λ refusal. refusal ≡ NoEntry → NotPlugged N.table name.now) }
+        ensures refused { IfErr result (λ refusal. UnplugRefusal refusal) }
     {
         self.sweep(rt, tree);
         let plug = plug_at(tree.edit(rt).state(), DEVICES, name);

@@ -1,7 +1,7 @@
 //! The callbacks of a device's files.
-ghost use Rattle.std.specs.Prelude.{◌≡◌, ◌≢◌, ◌<◌, ◌≤◌, [], Err, Some, None, length, take, decimal, true, MatchResult, IfErr};
+ghost use Rattle.std.specs.Prelude.{◌≡◌, ◌≢◌, ◌<◌, ◌≤◌, [], Err, Some, None, length, take, decimal, true, MatchResult, IfErr, OnOk};
 ghost use Rattle.kf_core.specs.Phases.{has_reference};
-ghost use Rattle.kf_core.specs.declared.caller.Phase.TheVariants.{Running};
+ghost use Rattle.kf_core.specs.declared.caller.Phase.TheVariants.{Running, Restored};
 ghost use Rattle.kf_words.specs.Callers.{IsSameSeat};
 ghost use Rattle.kf_files.specs.Files.{filled_by};
 ghost use Rattle.kf_device.specs.Faults.{unknown};
@@ -74,7 +74,8 @@ impl WaitOps for Bus {
 
     ghost may_begin = { λ _ tag bytes answer. answer ≡ Err unknown };
 
-    /// Shows a device's value, or the number of its plug in decimal. Any other tag is Fault 22.
+    /// Shows a device's value, or the number of its plug in decimal. Fault 22 where the bus keeps no such
+    /// value any more, or no such plug has begun, and for any other tag.
     fn show<N: Naming, R: Wait>(
         &self,
         rt: &R,
@@ -93,30 +94,20 @@ impl WaitOps for Bus {
     {
         let _ = tree;
         let _ = call;
-        match meaning(tag) {
-            Some(
-                DeviceTag {
-                    serial,
-                    file: DeviceFile::Value,
-                },
-            ) => self.show_value(rt, serial, page),
-            Some(
-                DeviceTag {
-                    serial,
-                    file: DeviceFile::Serial,
-                },
-            ) => self.show_serial(rt, serial, page),
-            Some(
-                DeviceTag {
-                    serial: _,
-                    file: DeviceFile::Delete,
-                },
-            )
-            | None => Err(unknown()),
+        let Some(DeviceTag { serial, file }) = meaning(tag) else {
+            return Err(unknown());
+        };
+        match file {
+            DeviceFile::Value => self.show_value(rt, serial, page),
+            DeviceFile::Serial => self.show_serial(rt, serial, page),
+            DeviceFile::Delete => Err(unknown()),
         }
     }
 
-    /// Puts the bytes in place of a device's value, or deletes the device. Any other tag is Fault 22.
+    /// Puts the bytes in place of a device's value, or deletes the device. Of a value: Fault 22 where the bus
+    /// keeps it no more, Fault 12 where there was no memory. Of `delete`: the fault has the number of the
+    /// refusal that was met; it may come once `delete` itself is removed, and then `unplug` removes the rest.
+    /// Any other tag is Fault 22.
     fn store<N: Naming, R: Wait>(
         &self,
         rt: &R,
@@ -131,32 +122,20 @@ impl WaitOps for Bus {
         requires fits { length bytes.now ≤ 4096 }
         ensures stored { MayStore tag bytes.now result }
         ensures untouched { is_delete (meaning tag) ≢ true → call.new ≡ call.old }
+        ensures deleted { is_delete (meaning tag) ≡ true → OnOk result (call.new.phase ≡ Restored) }
         ensures seat { IsSameSeat call.old call.new }
         ensures reference { has_reference call.new.phase ≡ true }
     {
-        match meaning(tag) {
-            Some(
-                DeviceTag {
-                    serial,
-                    file: DeviceFile::Value,
-                },
-            ) => self.store_value(rt, serial, bytes),
-            Some(
-                DeviceTag {
-                    serial,
-                    file: DeviceFile::Delete,
-                },
-            ) => {
+        let Some(DeviceTag { serial, file }) = meaning(tag) else {
+            return Err(unknown());
+        };
+        match file {
+            DeviceFile::Value => self.store_value(rt, serial, bytes),
+            DeviceFile::Delete => {
                 self.delete(rt, tree, call, serial)?;
                 Ok(bytes.len())
             }
-            Some(
-                DeviceTag {
-                    serial: _,
-                    file: DeviceFile::Serial,
-                },
-            )
-            | None => Err(unknown()),
+            DeviceFile::Serial => Err(unknown()),
         }
     }
 

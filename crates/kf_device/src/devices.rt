@@ -104,6 +104,7 @@ impl Devices {
     pub(crate) fn add(&mut self, serial: u64, name: &[u8], value: &[u8]) -> Result<(), Refusal>
         ensures name { OnOk result (name_in (get nat_cmp self.new.devices serial) ≡ Some name.now) }
         ensures value { OnOk result (value_in (get nat_cmp self.new.devices serial) ≡ Some value.now) }
+        ensures counted { self.new.begun ≡ self.old.begun }
     {
         let device = Device {
             name: Name::new(self.alloc, name)?,
@@ -115,7 +116,9 @@ impl Devices {
     }
 
     /// The plug is over, and has made these files.
-    pub(crate) fn settle(&mut self, serial: u64, files: Files) {
+    pub(crate) fn settle(&mut self, serial: u64, files: Files)
+        ensures counted { self.new.begun ≡ self.old.begun }
+    {
         if let Some(device) = self.devices.get_mut(&serial) {
             device.files = Some(files);
         }
@@ -124,6 +127,7 @@ impl Devices {
     /// Forgets a device.
     pub(crate) fn forget(&mut self, serial: u64)
         ensures gone { get nat_cmp self.new.devices serial ≡ None }
+        ensures counted { self.new.begun ≡ self.old.begun }
     {
         if self.devices.remove(&serial).is_some() {
             self.kept = self.kept.saturating_sub(1);
@@ -162,6 +166,7 @@ impl Devices {
         ensures stored { IfOk result (λ known. known ≡ true →
             value_in (get nat_cmp self.new.devices serial) ≡ Some bytes.now) }
         ensures refused { IfErr result (λ refusal. refusal ≡ NoMemory) }
+        ensures counted { self.new.begun ≡ self.old.begun }
     {
         match self.devices.get_mut(&serial) {
             Some(device) => {
@@ -196,7 +201,9 @@ impl Devices {
     }
 
     /// A sweep is over.
-    pub(crate) fn swept(&mut self) {
+    pub(crate) fn swept(&mut self)
+        ensures counted { self.new.begun ≡ self.old.begun }
+    {
         self.kept = self.devices.len();
     }
 }

@@ -1,8 +1,7 @@
 //! Taking a node out of a tree by its name in a directory.
 ghost use Rattle.std.specs.Prelude.{◌≡◌, ◌≢◌, List, IfOk, IfErr, IfSome, IfNone};
 ghost use Rattle.kf_core.specs.declared.key.Key.{Key};
-ghost use Rattle.kf_core.specs.declared.refusal.Refusal.TheVariants.{NoEntry};
-ghost use Rattle.kf_device.specs.Removals.{entry_at, Cleared, WasThere, WasMissing};
+ghost use Rattle.kf_device.specs.Removals.{entry_at, Cleared, HoldRefusal, WasThere, WasMissing};
 ghost use Rattle.kf_shared.specs.Receipts.{WasDoomed};
 
 use crate::tags::meaning;
@@ -28,7 +27,7 @@ pub(crate) fn remove<N: Naming, R: Wait>(
 ) -> Result<(), Refusal>
     requires table { hold.table ≡ N.table }
     ensures doomed { IfOk result (λ _. (keys : List Key) × WasDoomed N.table hold.key keys) }
-    ensures refused { IfErr result (λ refusal. refusal ≢ NoEntry) }
+    ensures refused { IfErr result (λ refusal. hold.key.slot ≢ 0 → HoldRefusal refusal) }
 {
     match tree.remove(rt, hold) {
         Ok(receipts) => {
@@ -60,8 +59,9 @@ fn hold_of<N: Naming, R: Wait>(
     ensures table { IfOk result (λ found. IfSome found (λ hold. hold.table ≡ N.table)) }
     ensures there { IfOk result (λ found.
         IfSome found (λ hold. WasThere N.table path.now name.now hold.key)) }
+    ensures below { IfOk result (λ found. IfSome found (λ hold. hold.key.slot ≢ 0)) }
     ensures missing { IfOk result (λ found. IfNone found (WasMissing N.table path.now name.now)) }
-    ensures refused { IfErr result (λ refusal. refusal ≢ NoEntry) }
+    ensures refused { IfErr result (λ refusal. HoldRefusal refusal) }
 {
     let mut editor = tree.edit(rt);
     match entry(editor.state(), path, name) {
@@ -81,7 +81,7 @@ pub(crate) fn remove_at<N: Naming, R: Wait>(
     name: &[u8],
 ) -> Result<bool, Refusal>
     ensures cleared { IfOk result (λ was_there. Cleared N.table path.now name.now was_there) }
-    ensures refused { IfErr result (λ refusal. refusal ≢ NoEntry) }
+    ensures refused { IfErr result (λ refusal. HoldRefusal refusal) }
 {
     match hold_of(rt, tree, path, name)? {
         Some(hold) => {

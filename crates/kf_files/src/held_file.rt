@@ -61,7 +61,10 @@ fn store_front<C: ActiveCall, O: Ops<C>>(
 
 impl<G: Guard, P: PageHolder> HeldFile<G, P> {
     /// Opens a file whose node is live (`kernfs_fop_open`). It starts with no text and the event number 0.
-    /// Refused are, in this order: `IsDir` a directory, `Invalid` a link, `NoDevice` a node that is not live,
+    ///
+    /// Condition: the hold may try, as each call of a guard ensures of a hold that it gives back.
+    ///
+    /// Refusals, in order: `IsDir` a directory, `Invalid` a link, `NoDevice` a node that is not live,
     /// `Access` reading where the mode has no bit of 0o444, or writing where it has none of 0o222.
     /// A refusal gives the hold and the page back.
     pub fn open(
@@ -99,12 +102,16 @@ impl<G: Guard, P: PageHolder> HeldFile<G, P> {
         })
     }
 
-    /// Reads the text from the offset on into the front of `out`, and answers how many bytes that are
-    /// (`kernfs_fop_read_iter`). At offset 0, and where no text is buffered, the text is shown anew under a
-    /// call, after its event number was taken; else it is the buffered text, which needs no live node and
-    /// takes no number. `Access` where the file was not opened for reading, then `NoDevice` where the node is
-    /// not live; both change nothing. A fault of show leaves no text. The rest of `out` stays, and all of it
-    /// after an error.
+    /// Reads the text from the offset on, in bytes, into the front of `out`, and answers how many bytes that
+    /// are (`kernfs_fop_read_iter`). At offset 0, and where no text is buffered, the text is shown anew under
+    /// a call, after its event number was taken; else it is the buffered text, which needs no live node and
+    /// takes no number.
+    ///
+    /// Condition: the file's hold may try, as it may after `open` and after each call here.
+    ///
+    /// Refusals, in order: `Access` where the file was not opened for reading, `NoDevice` where the node is
+    /// not live; both change nothing. A fault of show is answered as `Callback`, and leaves no text. The rest
+    /// of `out` stays, and all of it after an error.
     pub fn read<O: Ops<G::Call>, N: EventNumbers<G::Call>>(
         &mut self,
         guard: &mut G,
@@ -136,7 +143,7 @@ impl<G: Guard, P: PageHolder> HeldFile<G, P> {
     }
 
     /// Sees to the text of a read at this offset, which [`HeldFile::text_from`] then gives: the first half of
-    /// [`HeldFile::read`], for who has no buffer of its own.
+    /// [`HeldFile::read`], with its condition and its refusals, for who has no buffer of its own.
     pub fn prepare<O: Ops<G::Call>, N: EventNumbers<G::Call>>(
         &mut self,
         guard: &mut G,
@@ -167,6 +174,8 @@ impl<G: Guard, P: PageHolder> HeldFile<G, P> {
     }
 
     /// At most so many bytes of the buffered text from the offset on.
+    ///
+    /// Condition: a text is buffered, as it is after `prepare` answered Ok.
     pub fn text_from(&self, offset: u64, most: usize) -> &[u8]
         requires text { IsSome self.now.state.text }
         ensures bytes { result.now ≡ slice (text_in_file self.now.state) offset most }
@@ -208,10 +217,14 @@ impl<G: Guard, P: PageHolder> HeldFile<G, P> {
         shown
     }
 
-    /// Hands the first 4,096 bytes to one store under a call, and answers what it answers
-    /// (`kernfs_fop_write_iter`). A write of no bytes answers 0 and calls nothing, but it needs a live node
-    /// too. `Access` where the file was not opened for writing, then `NoDevice` where the node is not live.
-    /// The file stays as it was.
+    /// Hands the first 4,096 bytes to one store under a call, and answers what it answers, a fault as
+    /// `Callback` (`kernfs_fop_write_iter`). A write of no bytes answers 0 and calls nothing, but it needs a
+    /// live node too. The file stays as it was.
+    ///
+    /// Condition: the file's hold may try, as it may after `open` and after each call here.
+    ///
+    /// Refusals, in order: `Access` where the file was not opened for writing, `NoDevice` where the node is
+    /// not live.
     pub fn write<O: Ops<G::Call>>(
         &mut self,
         guard: &mut G,
@@ -248,8 +261,10 @@ impl<G: Guard, P: PageHolder> HeldFile<G, P> {
     }
 
     /// Whether the file has changed since its last show (`kernfs_fop_poll`): the slot's event number, taken
-    /// under a call, is another, or the node is not live. A file that was never shown has changed. The number
-    /// that the file keeps stays.
+    /// under a call, is another, or the node is not live. A file that was never shown has the number 0, so it
+    /// has changed where numbers begin at 1 or more. The number that the file keeps stays.
+    ///
+    /// Condition: the file's hold may try, as it may after `open` and after each call here.
     pub fn poll<N: EventNumbers<G::Call>>(&mut self, guard: &mut G, numbers: &mut N) -> bool
         requires may_enter { G.may_enter guard.old self.old.hold }
         ensures polls { Polls

@@ -36,7 +36,10 @@ impl<G: Guard> Model for OpenFile<G> {
 
 impl<G: Guard> OpenFile<G> {
     /// Opens a file whose node is live (`kernfs_fop_open`). It starts with no text and the event number 0.
-    /// Refused are, in this order: `IsDir` a directory, `Invalid` a link, `NoDevice` a node that is not live,
+    ///
+    /// Condition: the hold may try, as each call of a guard ensures of a hold that it gives back.
+    ///
+    /// Refusals, in order: `IsDir` a directory, `Invalid` a link, `NoDevice` a node that is not live,
     /// `Access` reading where the mode has no bit of 0o444, or writing where it has none of 0o222.
     /// A refusal gives the hold and the post back.
     pub fn open(
@@ -62,12 +65,16 @@ impl<G: Guard> OpenFile<G> {
         }
     }
 
-    /// Reads the text from the offset on into the front of `out`, and answers how many bytes that are
-    /// (`kernfs_fop_read_iter`). At offset 0, and where no text is buffered, the text is shown anew under a
-    /// call, after its event number was taken; else it is the buffered text, which needs no live node and
-    /// takes no number. `Access` where the file was not opened for reading, then `NoDevice` where the node is
-    /// not live; both change nothing. A fault of show leaves no text. The rest of `out` stays, and all of it
-    /// after an error.
+    /// Reads the text from the offset on, in bytes, into the front of `out`, and answers how many bytes that
+    /// are (`kernfs_fop_read_iter`). At offset 0, and where no text is buffered, the text is shown anew under
+    /// a call, after its event number was taken; else it is the buffered text, which needs no live node and
+    /// takes no number.
+    ///
+    /// Condition: the file's hold may try, as it may after `open` and after each call here.
+    ///
+    /// Refusals, in order: `Access` where the file was not opened for reading, `NoDevice` where the node is
+    /// not live; both change nothing. A fault of show is answered as `Callback`, and leaves no text. The rest
+    /// of `out` stays, and all of it after an error.
     pub fn read<O: Ops<G::Call>>(
         &mut self,
         guard: &mut G,
@@ -91,10 +98,14 @@ impl<G: Guard> OpenFile<G> {
         self.file.read(guard, ops, &mut self.post, offset, out)
     }
 
-    /// Hands the first 4,096 bytes to one store under a call, and answers what it answers
-    /// (`kernfs_fop_write_iter`). A write of no bytes answers 0 and calls nothing, but it needs a live node
-    /// too. `Access` where the file was not opened for writing, then `NoDevice` where the node is not live.
-    /// The file stays as it was.
+    /// Hands the first 4,096 bytes to one store under a call, and answers what it answers, a fault as
+    /// `Callback` (`kernfs_fop_write_iter`). A write of no bytes answers 0 and calls nothing, but it needs a
+    /// live node too. The file stays as it was.
+    ///
+    /// Condition: the file's hold may try, as it may after `open` and after each call here.
+    ///
+    /// Refusals, in order: `Access` where the file was not opened for writing, `NoDevice` where the node is
+    /// not live.
     pub fn write<O: Ops<G::Call>>(
         &mut self,
         guard: &mut G,
@@ -114,8 +125,10 @@ impl<G: Guard> OpenFile<G> {
     }
 
     /// Whether the file has changed since its last show (`kernfs_fop_poll`): the slot's event number, taken
-    /// under a call, is another, or the node is not live. A file that was never shown has changed. The number
-    /// that the file keeps stays.
+    /// under a call, is another, or the node is not live. A file that was never shown has the number 0, so it
+    /// has changed where numbers begin at 1 or more. The number that the file keeps stays.
+    ///
+    /// Condition: the file's hold may try, as it may after `open` and after each call here.
     pub fn poll(&mut self, guard: &mut G) -> bool
         requires may_enter { G.may_enter guard.old self.old.hold }
         ensures polls { Polls

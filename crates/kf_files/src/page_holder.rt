@@ -17,7 +17,10 @@ pub trait PageHolder {
     fn bytes(&self) -> &[u8]
         ensures same { result.now ≡ bytes self.now };
 
-    /// Shows on the emptied page, and cuts a full one to its first 4,095 bytes.
+    /// Shows on the emptied page, and cuts a full one to its first 4,095 bytes; or gives the fault of the
+    /// show, after which what stands on the page does not matter.
+    ///
+    /// Condition: the call is Running.
     fn show<C: ActiveCall, O: Ops<C>>(
         &mut self,
         ops: &mut O,

@@ -20,7 +20,7 @@ use std::sync::Wait;
 /// take it again, as `remove_self` does, and gives the call back with a reference. A callback that removes
 /// its own node, or one above it, without `remove_self` waits for itself.
 ///
-/// Condition of each show and store: the call is Running, and of the table of the tree.
+/// Conditions of each show and store: the call is Running, and of the table of the tree.
 pub trait WaitOps {
     /// A show for this tag may fill a page with these bytes, or give this fault.
     ghost may_show: { Self → ℕ → Result (List ℕ) Fault → Type 0 };
@@ -31,7 +31,7 @@ pub trait WaitOps {
     /// The first text of a file with this tag may be answered so.
     ghost may_begin: { Self → ℕ → List ℕ → Result (Unit {0}) Fault → Type 0 };
 
-    /// Fills the empty page with the text.
+    /// Fills the empty page with the text, or gives a fault. What it filled before a fault is not shown.
     fn show<N: Naming, R: Wait>(
         &self,
         rt: &R,
@@ -47,7 +47,7 @@ pub trait WaitOps {
         ensures seat { IsSameSeat call.old call.new }
         ensures reference { has_reference call.new.phase ≡ true };
 
-    /// Takes the bytes, 1 to 4,096 of them, and answers how many it took.
+    /// Takes the bytes, 1 to 4,096 of them, and answers how many it took, or gives a fault.
     fn store<N: Naming, R: Wait>(
         &self,
         rt: &R,
@@ -64,7 +64,7 @@ pub trait WaitOps {
         ensures seat { IsSameSeat call.old call.new }
         ensures reference { has_reference call.new.phase ≡ true };
 
-    /// Takes the first text of a new file, under no call.
+    /// Takes the first text of a new file, under no call, or gives a fault.
     fn first<R: Wait>(&self, rt: &R, tag: u64, bytes: &[u8]) -> Result<(), Fault>
         ensures begun { may_begin self.now tag bytes.now result };
 }

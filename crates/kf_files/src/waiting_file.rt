@@ -92,13 +92,13 @@ impl<N: Naming> WaitingFile<N> {
         }
     }
 
-    /// Reads the text from the offset on into the front of `out`, and answers how many bytes that are
-    /// (`kernfs_fop_read_iter`). At offset 0, and where no text is buffered, the text is shown anew under a
-    /// call, after its event number was taken; else it is the buffered text, which needs no live node.
+    /// Reads the text from the offset on, in bytes, into the front of `out`, and answers how many bytes that
+    /// are (`kernfs_fop_read_iter`). At offset 0, and where no text is buffered, the text is shown anew under
+    /// a call, after its event number was taken; else it is the buffered text, which needs no live node.
     ///
     /// Refusals, in order: `Access` where the file was not opened for reading, `NoDevice` where the node is
-    /// not live; both change nothing. A fault of show leaves no text. The rest of `out` stays, and all of
-    /// it after an error. It may never return, as its show may not.
+    /// not live; both change nothing. A fault of show is answered as `Callback`, and leaves no text. The rest
+    /// of `out` stays, and all of it after an error. It may never return, as its show may not.
     pub fn read<W: WaitOps, R: Wait>(
         &mut self,
         rt: &R,
@@ -122,9 +122,9 @@ impl<N: Naming> WaitingFile<N> {
             .read(&mut TreeSeats::new(), &mut shows, offset, out)
     }
 
-    /// Hands the first 4,096 bytes to one store under a call, and answers what it answers
-    /// (`kernfs_fop_write_iter`). A write of no bytes answers 0 and calls nothing, but it needs a live node
-    /// too.
+    /// Hands the first 4,096 bytes to one store under a call, and answers what it answers, a fault as
+    /// `Callback` (`kernfs_fop_write_iter`). A write of no bytes answers 0 and calls nothing, but it needs a
+    /// live node too.
     ///
     /// Refusals, in order: `Access` where the file was not opened for writing, `NoDevice` where the node is
     /// not live. The file stays as it was. It may never return, as its store may not.
@@ -146,8 +146,8 @@ impl<N: Naming> WaitingFile<N> {
     }
 
     /// Whether the file has changed since its last show (`kernfs_fop_poll`): the slot's event number is
-    /// another, or the node is not live. A file that was never shown has changed. The number that the file
-    /// keeps stays. It waits for nobody.
+    /// another, or the node is not live. A file that was never shown has the number 0: it has changed where
+    /// numbers begin at 1 or more. The number that the file keeps stays. It waits for nobody.
     pub fn poll(&mut self) -> bool
         ensures polls { Polls
             (WaitVisits (self.new.post ≡ self.old.post) (λ now. Took self.old.post now self.new.post)

@@ -1,6 +1,6 @@
 //! The sibling index of a directory: its entries in byte order of their names, found by binary search.
 
-ghost use Rattle.std.specs.Prelude.{◌≡◌, ◌<◌, ◌≤◌, ◌++◌, ◌∷◌, ℕ, List, [], length, insert, vec_capacity, None, IfOk, IfErr, OnOk, OnErr, IfSome, IfNone, if◌then◌else◌};
+ghost use Rattle.std.specs.Prelude.{◌≡◌, ◌<◌, ◌≤◌, ◌++◌, ◌∷◌, ℕ, List, [], length, insert, remove, slice_index_or, vec_capacity, None, IfOk, IfErr, OnOk, OnErr, IfSome, IfNone, if◌then◌else◌};
 ghost use Rattle.kf_core.specs.declared.key.Key.{Key};
 ghost use Rattle.std.specs.Option.{option_copied};
 ghost use Rattle.std.specs.FinMap as map;
@@ -91,6 +91,28 @@ fn put_at(entries: &mut Vec<(Name, Key)>, at: usize, entry: (Name, Key)) -> Resu
     Ok(())
 }
 
+/// Moves the entry at a place behind all others, and those after it down.
+fn to_last(entries: &mut [(Name, Key)], at: usize)
+    requires within { at < length entries.old }
+    ensures moved { (other : List ℕ × Key) →
+        entries.new ≡ remove entries.old at ++ slice_index_or entries.old at other ∷ [] }
+{
+    entries[at..].rotate_left(1);
+}
+
+/// Takes the entry at a place out, and moves those after it down, all at once as [`put_at`] does.
+fn take_at(entries: &mut Vec<(Name, Key)>, at: usize) -> (Name, Key)
+    requires within { at < length entries.old.items }
+    ensures value { result ≡ slice_index_or entries.old.items at result }
+    ensures taken { entries.new.items ≡ remove entries.old.items at }
+{
+    to_last(entries, at);
+    match entries.pop() {
+        Some(entry) => entry,
+        None => unreachable!(),
+    }
+}
+
 /// Gives the memory of the entries back, where there are none left.
 fn free_when_empty(entries: &mut Vec<(Name, Key)>)
     ensures kept { entries.new.items ≡ entries.old.items }
@@ -148,7 +170,7 @@ impl Index {
     {
         match search(&self.entries, name) {
             Ok(at) => {
-                let (_, key) = self.entries.remove(at);
+                let (_, key) = take_at(&mut self.entries, at);
                 free_when_empty(&mut self.entries);
                 Some(key)
             }

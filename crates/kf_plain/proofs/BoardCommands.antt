@@ -10,7 +10,7 @@ use Rattle.kf_core.specs.declared.command.Command.TheVariants.{Activate, Rename}
 use Rattle.kf_core.specs.Commands.{after}
 use Rattle.kf_tree.specs.Canonical.{IsCanonical}
 use Rattle.kf_tree.specs.TreeLogs.{TreeLog}
-use Rattle.kf_tree.specs.Causes.{is_there_already}
+use Rattle.kf_table.specs.Children.{is_there_already}
 use Rattle.kf_plain.specs.declared.nodes.visits.BoardFile.{BoardFile}
 use Rattle.kf_plain.specs.declared.nodes.hiding.BoardToken.{BoardToken}
 use Rattle.kf_plain.specs.Nodes.{Nodes, IsNext, hold_count, listed, logged}

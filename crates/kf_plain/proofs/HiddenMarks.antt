@@ -25,7 +25,7 @@ use Rattle.kf_core.proofs.AgreeingHidden.{moved_told, changed_told, born_told, t
 use Rattle.kf_core.proofs.Hiding.{hides_set, hides_push}
 use Rattle.kf_core.proofs.Lists.{after_set}
 use Rattle.kf_tree.specs.TreeLogs.{TreeLog, IsNew, IsAccepted, IsRefused}
-use Rattle.kf_tree.specs.Causes.{is_there_already}
+use Rattle.kf_table.specs.Children.{is_there_already}
 use Rattle.kf_plain.specs.Nodes.{Waits, StillWaits, root_key, spent_on}
 use Rattle.kf_plain.specs.Removals.{still_on}
 use Rattle.kf_plain.proofs.Ties.{Logs, logs}

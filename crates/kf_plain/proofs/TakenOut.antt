@@ -24,8 +24,8 @@ use Rattle.kf_core.specs.Bounded.{BoundedWorld}
 use Rattle.kf_core.specs.Steps.{with_marks, NoReference}
 use Rattle.kf_core.specs.Tree.{Tree, record_at, marks_of, is_linked, IsIn}
 use Rattle.kf_core.specs.Commands.{after, replay}
-use Rattle.kf_tree.specs.Causes.{unlink_cause, has_child, doomed_in}
-use Rattle.kf_tree.specs.Paths.{is_under}
+use Rattle.kf_tree.specs.Causes.{unlink_cause, doomed_in}
+use Rattle.kf_table.specs.Children.{has_child, is_under}
 use Rattle.kf_tree.specs.TreeLogs.{TreeLog, IsKept, IsAccepted}
 use Rattle.kf_plain.specs.Agreement.{SameMarks, contains_key}
 use Rattle.kf_plain.specs.Nodes.{AllIdle, last_of, logged, spent_on}

@@ -26,7 +26,7 @@ use Rattle.kf_core.specs.Bounded.{BoundedWorld, IsFree, IsNextKey}
 use Rattle.kf_core.specs.Tree.{Tree, with_key, marks_of, is_linked}
 use Rattle.kf_core.specs.Commands.{after}
 use Rattle.kf_tree.specs.TreeLogs.{TreeLog, IsKept, IsAccepted, IsRefused}
-use Rattle.kf_tree.specs.Causes.{is_there_already}
+use Rattle.kf_table.specs.Children.{is_there_already}
 use Rattle.kf_plain.specs.Nodes.{Nodes, nodes_of, AreTied, IsNext, is_free, is_vacant, hold_count, last_of, logged}
 use Rattle.kf_core.proofs.Lists.{length_set}
 use Rattle.kf_core.proofs.Climbs.{same_key_self}

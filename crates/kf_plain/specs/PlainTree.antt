@@ -6,7 +6,8 @@ use Rattle.kf_core.specs.declared.key.Node.TheVariants.{File, Link}
 use Rattle.kf_core.specs.declared.command.Command.TheVariants.{Create, Rename}
 use Rattle.kf_core.specs.declared.refusal.Refusal.{Refusal}
 use Rattle.kf_tree.specs.Paths.{and_then, walked, walked_parent}
-use Rattle.kf_tree.specs.Causes.{create_cause, linked_cause, rename_cause, is_there_already}
+use Rattle.kf_tree.specs.Causes.{create_cause, linked_cause, rename_cause}
+use Rattle.kf_table.specs.Children.{is_there_already}
 use Rattle.kf_tree.specs.TreeLogs.{TreeLog}
 use Rattle.kf_plain.specs.Nodes.{Nodes, logged}
 use Rattle.kf_plain.specs.Plain.{Plain, with_commands}

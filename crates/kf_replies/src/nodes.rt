@@ -21,8 +21,7 @@ pub fn tell_names(reply: &mut Reply, names: &[&Name]) -> Result<(), Refusal>
     };
     reply.extend(first.bytes())?;
     for name in later {
-        reply.extend(b" ")?;
-        reply.extend(name.bytes())?;
+        reply.extend_after(b' ', name.bytes())?;
     }
     Ok(())
 }

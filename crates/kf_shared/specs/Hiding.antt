@@ -3,7 +3,7 @@ use Rattle.std.specs.Prelude.{◌≡◌, ◌⊎◌, [], ◌∷◌, Option, None,
 use Rattle.kf_core.specs.declared.key.Key.{Key}
 use Rattle.kf_core.specs.declared.key.Node.{Node}
 use Rattle.kf_core.specs.declared.key.Node.TheVariants.{Dir, File, Link}
-use Rattle.kf_core.specs.declared.command.Command.TheVariants.{Show}
+use Rattle.kf_core.specs.declared.command.Command.TheVariants.{Hide, Show}
 use Rattle.kf_core.specs.declared.refusal.Refusal.{Refusal}
 use Rattle.kf_core.specs.declared.refusal.Refusal.TheVariants.{Busy, IsDir, Invalid}
 use Rattle.kf_core.specs.Refusals.{first_cause}
@@ -35,7 +35,14 @@ abbrev pub ShowDone : Locked → Locked → Key → Type 0
 ShowDone old new key = MatchBool (hidden_in old.state.tree key)
     (IsAccepted old.state new.state None (Show key)) (new.state ≡ old.state)
 
--- what the lock kept when a hold's hiding was refused, and after that
+-- a whole value, as the lock may keep one, in which the file of a hold was hidden, and the value after that
+pub record HidingAccepted (table : TableId) (hold : Handle) : Type 0 where
+  pub old : Locked
+  pub new : Locked
+  pub whole : IsWhole table old
+  pub accepted : IsAccepted old.state new.state (hold_cause old.state.tree hold) (Hide hold.key)
+
+-- a whole value, as the lock may keep one, when a hold's hiding was refused, and the value after that
 pub record HidingRefused (table : TableId) (hold back : Handle) (refusal : Refusal) : Type 0 where
   pub old : Locked
   pub new : Locked

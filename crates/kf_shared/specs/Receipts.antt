@@ -36,7 +36,8 @@ EndsAt handles hold =
 abbrev pub IsDoomList : Tree → Key → List Key → Type 0
 IsDoomList t key keys = MatchBool (is_linked t key) (IsPostOrder t key keys) (keys ≡ key ∷ [])
 
--- what the lock kept when a removal doomed its nodes, and after that. It does not say when that was
+-- a whole value, as the lock may keep one, when a removal doomed its nodes, and the value after that. It does
+-- not say that the lock kept it, nor when
 pub record WasDoomed (table : TableId) (key : Key) (keys : List Key) : Type 0 where
   pub old : Locked
   pub new : Locked
@@ -51,7 +52,7 @@ pub record WasSelfDoomed (table : TableId) (key : Key) (first : Bool) (keys : Li
   pub told : first ≡ not (is_claimed doomed.old.claims key)
   pub claimed : doomed.new.claims ≡ slice_set doomed.old.claims key.slot key.generation
 
--- what the lock kept when a removal was refused, and after that
+-- a whole value, as the lock may keep one, when a removal was refused, and the value after that
 pub record RemovalRefused (table : TableId) (key : Key) (refusal : Refusal) : Type 0 where
   pub old : Locked
   pub new : Locked

@@ -5,7 +5,8 @@ ghost use Rattle.kf_core.specs.declared.command.Command.TheVariants.{Activate, R
 ghost use Rattle.kf_core.specs.declared.refusal.Refusal.TheVariants as refusal_of;
 ghost use Rattle.kf_core.specs.declared.caller.Phase.TheVariants as phase_of;
 ghost use Rattle.kf_core.specs.Tree.{is_linked};
-ghost use Rattle.kf_tree.specs.Causes.{linked_cause, is_there_already};
+ghost use Rattle.kf_tree.specs.Causes.{linked_cause};
+ghost use Rattle.kf_table.specs.Children.{is_there_already};
 ghost use Rattle.kf_tree.specs.TreeLogs.{IsAccepted, IsRefused, IsCompacted};
 ghost use Rattle.kf_words.specs.Callers.{Handle, IsSameSeat, WasHidden, WasShown};
 ghost use Rattle.kf_words.specs.Nodes.{KeepsNodes, IsVacant, UnlinkAnswer};
@@ -49,9 +50,9 @@ impl<N: Naming> Editor<'_, N> {
     /// Links a node in a directory, live where it is asked to be, under the next key of the lowest slot that
     /// was found free (`kernfs_create_dir_ns`, `__kernfs_create_file`, `kernfs_create_link`).
     ///
-    /// Refusals, in order: NoEntry (parent not linked), NameTooLong or Invalid (name), NotDir, NoEntry
-    /// (parent doomed), NoEntry (a link's target is not linked), Invalid (it is the root), Exists, NoSpace
-    /// (no slot was found free), NoMemory. After a refusal the tree is as before.
+    /// Refusals, in order: NoEntry (parent not linked), NameTooLong (over 255 bytes) or Invalid (name),
+    /// NotDir, NoEntry (parent doomed), NoEntry (a link's target is not linked), Invalid (it is the root),
+    /// Exists, NoSpace (no slot was found free), NoMemory. After a refusal the tree is as before.
     pub fn create(
         &mut self,
         parent: Key,
@@ -89,9 +90,9 @@ impl<N: Naming> Editor<'_, N> {
     /// Moves a node into a directory, under a name (`kernfs_rename_ns`). One that is there already stays, and
     /// nothing is stored.
     ///
-    /// Refusals, in order: Invalid (the root), NoEntry (either is not linked), NameTooLong or Invalid (name),
-    /// NotDir, NoEntry (either is not live); where it is not there already, Invalid (the directory is in the
-    /// node's own subtree), Exists, NoMemory. After a refusal the tree is as before.
+    /// Refusals, in order: Invalid (the root), NoEntry (either is not linked), NameTooLong (over 255 bytes)
+    /// or Invalid (name), NotDir, NoEntry (either is not live); where it is not there already, Invalid (the
+    /// directory is in the node's own subtree), Exists, NoMemory. After a refusal the tree is as before.
     pub fn rename(&mut self, key: Key, dir: Key, name: &[u8]) -> Result<(), Refusal>
         ensures no_cause { IfOk result (λ _. move_cause self.old key dir name.now ≡ None) }
         ensures stays { IfOk result
@@ -132,8 +133,8 @@ impl<N: Naming> Editor<'_, N> {
     /// Condition: the hold is of this table.
     ///
     /// Refusals, in order: Invalid (the root), TooManyHolds (a node below was found to have as many holds as
-    /// there may be), NoMemory (each was found to have room). After a refusal nothing is marked, and the hold
-    /// comes back.
+    /// there may be), NoMemory (each was found to have room, or the node is no longer linked). After a
+    /// refusal nothing is marked, and the hold comes back.
     pub fn doom(&mut self, hold: Hold) -> Result<Vec<Hold>, (Hold, Refusal)>
         requires table { hold.table ≡ N.table }
         ensures order { IfOk result (λ holds. DoomHolds self.old.state.tree hold holds.items) }
@@ -174,7 +175,8 @@ impl<N: Naming> Editor<'_, N> {
     ///
     /// Refusals, in order: IsDir, Invalid (a link), by the hold's own node; NoEntry (not linked, or doomed),
     /// Busy (hidden), NoMemory. After a refusal the tree is as before and the hold comes back; where it was
-    /// Busy because the word had the key hidden, and the tree had not, the hold has made one step.
+    /// Busy because the word had the key hidden, and the tree had not, it comes after NoMemory and the hold
+    /// has made one step.
     pub fn hide(&mut self, hold: Hold) -> Result<Hiding, (Hold, Refusal)>
         requires table { hold.table ≡ N.table }
         ensures hiding { IfOk result (λ hiding. IsSameSeat hold hiding × WasHidden hold hiding) }

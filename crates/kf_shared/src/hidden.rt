@@ -3,7 +3,7 @@ ghost use Rattle.std.specs.Prelude.{◌≡◌, true, IfErr, IfOk};
 ghost use Rattle.kf_core.specs.declared.caller.Phase.TheVariants as phase_of;
 ghost use Rattle.kf_words.specs.Callers.{IsSameSeat, WasShown};
 ghost use Rattle.kf_words.specs.Layout.{is_unused};
-ghost use Rattle.kf_shared.specs.Hiding.{HidingRefused};
+ghost use Rattle.kf_shared.specs.Hiding.{HidingAccepted, HidingRefused};
 
 use crate::naming::Naming;
 use crate::tree::SharedTree;
@@ -14,18 +14,21 @@ use std::sync::Wait;
 impl<N: Naming> SharedTree<N> {
     /// Hides a file, and waits, with the lock let go, until nobody has a reference to it: then no callback
     /// runs there, save one that broke its own protection, and none starts until the file is shown. It may
-    /// never return: it waits for every callback that runs on the file, its caller's own among them.
+    /// never return: it waits for every callback that runs on the file, its caller's own among them, and for
+    /// the lock, which its caller must not have.
     ///
     /// Condition: the hold is of this tree's table.
     ///
     /// Refusals, in order, all before the wait: IsDir, Invalid (a link), by the hold's own node; NoEntry (not
     /// linked, or doomed), Busy (hidden), NoMemory. After a refusal the tree is as before, and the hold comes
-    /// back.
+    /// back; where it was Busy because the word had the key hidden, and the tree had not, it comes after
+    /// NoMemory and the hold has made one step.
     pub fn hide<R: Wait>(&self, rt: &R, hold: Hold) -> Result<Hidden, (Hold, Refusal)>
         requires table { hold.table ≡ N.table }
         ensures same { IfOk result (λ hidden. IsSameSeat hold hidden) }
         ensures hidden { IfOk result (λ hidden. hidden.phase ≡ phase_of.Hidden) }
         ensures unused { IfOk result (λ hidden. is_unused hidden.found ≡ true) }
+        ensures accepted { IfOk result (λ _. HidingAccepted N.table hold) }
         ensures refused { IfErr result (λ r. HidingRefused N.table hold r.0 r.1) }
     {
         let started = {
@@ -38,7 +41,8 @@ impl<N: Naming> SharedTree<N> {
         }
     }
 
-    /// Shows a hidden file again, under the lock. It refuses nothing and takes no memory.
+    /// Shows a hidden file again, under the lock, which its caller must not have. It refuses nothing and
+    /// takes no memory.
     ///
     /// Condition: the token is of this tree's table.
     pub fn show<R: Wait>(&self, rt: &R, hidden: Hidden) -> Hold

@@ -66,14 +66,14 @@ impl<N: Naming> SharedTree<N> {
     /// (`kernfs_remove`). The receipts stand in the order of the doom: each node after all that is below it,
     /// siblings in byte order of names, the given hold's last. Where the node is no longer linked, the
     /// receipt is for it alone. It may never return: it waits, with the lock let go, for every callback that
-    /// runs in the subtree, its caller's own among them (which takes `remove_self`), and for the lock, which
-    /// its caller must not have.
+    /// runs in the subtree, its caller's own among them (a callback that removes its own node calls
+    /// `remove_self`), and for the lock, which its caller must not have.
     ///
     /// Condition: the hold is of this tree's table.
     ///
     /// Refusals, in order: Invalid (the root), TooManyHolds (a node below was found to have as many holds as
-    /// there may be), NoMemory (each was found to have room). After a refusal nothing is marked, and the hold
-    /// comes back as it was.
+    /// there may be), NoMemory (each was found to have room, or the node is no longer linked). After a
+    /// refusal nothing is marked, and the hold comes back as it was.
     pub fn remove<R: Wait>(&self, rt: &R, hold: Hold) -> Result<Vec<Parted>, (Hold, Refusal)>
         requires table { hold.table ≡ N.table }
         ensures tables { IfOk result (λ receipts. AreOf N.table receipts.items) }
@@ -102,15 +102,17 @@ impl<N: Naming> SharedTree<N> {
     /// takes holds of its own of the subtree's nodes, dooms them, claims the node, and breaks the call's
     /// protection; it waits as `remove` does; then, under the lock, it restores the call. True for the first
     /// self-removal of the node, also where a plain removal is under way; every other answers false, after
-    /// its own waiting. The last receipt is for the call's node. It may never return: it waits for every
-    /// other callback that runs in the subtree, and for the lock, which its caller must not have. A callback
-    /// that runs on two nodes, one above the other, waits for itself where it removes the upper.
+    /// its own waiting. The last receipt is for the call's node, and where the node has left the tree already
+    /// it is the only one. It may never return: it waits for every other callback that runs in the subtree,
+    /// and for the lock, which its caller must not have. A callback that runs on two nodes, one above the
+    /// other, waits for itself where it removes the upper.
     ///
     /// Conditions: the call is Running, and of this tree's table. After an answer it is Restored.
     ///
     /// Refusals, in order: Invalid (the root), NoEntry (the slot has had a later node), TooManyHolds (a node
     /// of the subtree was found to have as many holds as there may be), NoMemory (each was found to have
-    /// room). After a refusal the call is as it was, nothing is marked, and the node is not claimed.
+    /// room, or the node is no longer linked). After a refusal the call is as it was, nothing is marked, and
+    /// the node is not claimed.
     pub fn remove_self<R: Wait>(
         &self,
         rt: &R,

@@ -1,10 +1,10 @@
 -- What follows where a call has no cause against it.
-use Rattle.std.proofs.Common.{◌≡◌, ◌≢◌, ℕ, zero, suc, refl, ap, sym, ◌∙◌, Bool, true, false, cond, List, [], ◌∷◌}
-use Rattle.std.specs.Prelude.{Option, None, Some, slice_get, is_some, not, ◌&&◌, ◌||◌}
-use Rattle.std.specs.List.{find as first, list_any}
+use Rattle.std.proofs.Common.{◌≡◌, ◌≢◌, ℕ, refl, ap, sym, ◌∙◌, Bool, true, false, List, [], ◌∷◌}
+use Rattle.std.specs.Prelude.{Option, None, Some, slice_get, is_some, not, ◌&&◌}
+use Rattle.std.specs.List.{find as first}
 use Rattle.std.specs.Str.{bytes_eq}
 use Rattle.std.specs.Option.{option_and_then, option_map_or, option_map}
-use Rattle.std.proofs.lemmas.Option.{same_Some, none-some}
+use Rattle.std.proofs.lemmas.Option.{none-some}
 use Rattle.std.proofs.lemmas.Slice.Eq.{bytes_eq-Decides}
 use Rattle.kf_core.specs.declared.key.Key.{Key}
 use Rattle.kf_core.specs.declared.key.Node.{Node}
@@ -16,10 +16,11 @@ use Rattle.kf_core.specs.Refusals.{unless, first_cause}
 use Rattle.kf_core.specs.Keys.{same_key}
 use Rattle.kf_core.specs.Marks.{are_doomed}
 use Rattle.kf_core.specs.Tree.{Tree, record_at, IsIn, is_dir, is_linked}
-use Rattle.kf_tree.specs.Paths.{is_key, is_under}
-use Rattle.kf_tree.specs.Causes.{create_cause, doom_cause, unlink_cause, hide_cause, is_directory, is_link, hidden_in, target_fault, doomed_in, has_entry, has_child, target_of}
+use Rattle.kf_table.specs.Children.{is_under, has_child}
+use Rattle.kf_tree.specs.Causes.{create_cause, doom_cause, unlink_cause, hide_cause, is_directory, is_link, hidden_in, target_fault, doomed_in, has_entry, target_of}
 use Rattle.kf_core.proofs.Climbs.{same_key_self}
 use Rattle.kf_core.proofs.Names.{lawful_without_fault}
+use Rattle.kf_table.proofs.ChildTests.{some_first, some_any, is_key_self}
 use Rattle.kf_tree.proofs.Created.{MayCreate}
 
 pub no_first : (c : Option Refusal) (cs : List (Option Refusal)) → first_cause (c ∷ cs) ≡ None → (c ≡ None) × (first_cause cs ≡ None)
@@ -44,23 +45,6 @@ pub dir_node : (node : Node) → is_dir node ≡ true → node ≡ Dir
 dir_node Dir h = refl
 dir_node (File mode tag) h = absurd (let x : false ≡ true = h in cc)
 dir_node (Link target) h = absurd (let x : false ≡ true = h in cc)
-
--- a list has a first item that passes, where it has one
-pub some_first : {X : Type 0} (p : X → Bool) (xs : List X) (i : ℕ) (x : X) → slice_get xs i ≡ Some x → p x ≡ true → (y : X) × (first p xs ≡ Some y) × (p y ≡ true)
-some_first p [] i x h e = absurd (none-some x h)
-some_first p (y ∷ xs) zero x h e = (let is : p y ≡ true = ap p (same_Some y x h) ∙ e in (y, ap (λ b. cond b (Some y) (first p xs)) is, is))
-some_first p (y ∷ xs) (suc i) x h e = elim (p y) as (λ b. p y ≡ b → (z : _) × (cond b (Some y) (first p xs) ≡ Some z) × (p z ≡ true)) [
-  | true ↦ λ is. (y, refl, is)
-  | false ↦ λ is. some_first p xs i x h e
-] refl
-
-pub some_any : {X : Type 0} (p : X → Bool) (xs : List X) (i : ℕ) (x : X) → slice_get xs i ≡ Some x → p x ≡ true → list_any p xs ≡ true
-some_any p [] i x h e = absurd (none-some x h)
-some_any p (y ∷ xs) zero x h e = (let is : p y ≡ true = ap p (same_Some y x h) ∙ e in rw is refl)
-some_any p (y ∷ xs) (suc i) x h e = (let rest = some_any p xs i x h e in rw rest (elim (p y) as (λ b. (b || true) ≡ true) [ true ↦ refl | false ↦ refl ]))
-
-pub is_key_self : (dir : Key) (parent : Option Key) → parent ≡ Some dir → is_key dir parent ≡ true
-is_key_self dir parent e = ap (is_key dir) e ∙ same_key_self dir
 
 -- no record of the directory has the name, where it has no entry of it
 pub name_free : (t : Tree) (dir : Key) (name : List ℕ) → has_entry t dir name ≡ false → (s : Record) → IsIn t s → s.parent ≡ Some dir → s.name ≡ name → ⊥

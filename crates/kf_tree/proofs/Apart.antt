@@ -9,7 +9,7 @@ use Rattle.kf_core.specs.Lawful.{Lawful}
 use Rattle.kf_core.specs.PostOrder.{AreApart, StandsBefore}
 use Rattle.kf_core.proofs.Climbs.{first_step, after_step, climb_rest, climb_cut}
 use Rattle.kf_core.proofs.FoundRecords.{found_in, parent_known, met_parent, met_linked, subtree_to, subtree_from, same_record}
-use Rattle.kf_tree.specs.Next.{before, IsNext}
+use Rattle.kf_table.specs.Next.{before, IsNext}
 use Rattle.kf_tree.proofs.Next.{before_less, less_before, before_not_self, before_trans, before_ties}
 use Rattle.kf_tree.proofs.PostOrder.{child_below, lt_or_le}
 

@@ -10,8 +10,9 @@ use Rattle.kf_core.specs.declared.records.Record.{Record}
 use Rattle.kf_core.specs.Tree.{Tree}
 use Rattle.kf_core.specs.Commands.{doomed_record}
 use Rattle.kf_core.proofs.Lists.{count_at_most}
-use Rattle.kf_tree.proofs.Each.{altered_at, altered_other}
-use Rattle.kf_tree.specs.Subtrees.{with_changed_slot, with_changed_slots, is_doomed_record, doomed_count, is_hidden_record, hidden_count, is_undoomed, undoomed_count}
+use Rattle.kf_table.proofs.Altered.{altered_at, altered_other}
+use Rattle.kf_table.specs.Changes.{with_changed_slot, is_undoomed}
+use Rattle.kf_tree.specs.Subtrees.{with_changed_slots, is_doomed_record, doomed_count, is_hidden_record, hidden_count, undoomed_count}
 
 -- what a write of one slot makes of the number
 pub doomed_written : (t : Tree) (slot : ℕ) (old new : Option Record) → slice_get t slot ≡ Some old →

@@ -1,20 +1,19 @@
 -- The names from a base down to a target.
-use Rattle.std.proofs.Common.{◌≡◌, ◌≢◌, ◌⊎◌, inl, inr, ℕ, zero, suc, ap, sym, ◌∙◌, cond, List, [], ◌∷◌, ◌++◌}
-use Rattle.std.specs.Prelude.{None, Some, Ok, Err, map, reverse}
+use Rattle.std.proofs.Common.{◌≡◌, ◌≢◌, ◌⊎◌, inl, inr, ℕ, refl, ap, sym, ◌∙◌, cond, List, [], ◌∷◌, ◌++◌}
+use Rattle.std.specs.Prelude.{None, Some, Ok, Err, map, reverse, IsTrue}
 use Rattle.std.specs.Option.{option_map_or}
-use Rattle.std.proofs.lemmas.Option.{same_Some, none-some}
 use Rattle.std.proofs.lemmas.List.{reverse-append, map-append}
 use Rattle.kf_core.specs.declared.key.Key.{Key}
 use Rattle.kf_core.specs.declared.records.Record.{Record}
 use Rattle.kf_core.specs.declared.refusal.Refusal.TheVariants.{NotDir}
-use Rattle.kf_core.specs.Tree.{Tree, record_at, is_dir, parent_of, ancestor}
+use Rattle.kf_core.specs.Tree.{Tree, record_at, is_dir, is_linked, parent_of}
 use Rattle.kf_core.specs.Lawful.{Lawful}
 use Rattle.kf_tree.specs.Causes.{link_target}
 use Rattle.kf_tree.specs.Links.{IsLinkText, HasLinkText}
-use Rattle.kf_tree.specs.Paths.{and_then, entry_key, child, found, walk}
+use Rattle.kf_tree.specs.Paths.{and_then, entry_key, found, walk}
+use Rattle.kf_table.specs.Children.{child}
 use Rattle.kf_tree.specs.Ways.{name_at}
-use Rattle.kf_core.proofs.Climbs.{first_step}
-use Rattle.kf_core.proofs.FoundRecords.{in_found, known_parent}
+use Rattle.kf_core.proofs.FoundRecords.{in_found, known_parent, linked_here, parent_known}
 use Rattle.kf_tree.proofs.Listed.{child_known}
 
 -- a record is found in its directory under its name
@@ -36,17 +35,13 @@ pub walk_higher : (t : Tree) (root : Key) → Lawful t root → (key dir target 
 walk_higher t root l key dir target keys h w =
     ap (walk t dir) (names_up t keys key) ∙ ap (λ r. and_then r (λ next. walk t next (reverse (map (name_at t) keys)))) (found_child t root l key dir h) ∙ w
 
--- what is left of the way after a step
-pub way_left : (t : Tree) (n : ℕ) (key dir base : Key) → ancestor t n key ≡ Some base → key ≢ base → parent_of t key ≡ Some dir → (m : ℕ) × (ancestor t m dir ≡ Some base)
-way_left t zero key dir base h other p = absurd (other (same_Some key base h))
-way_left t (suc n) key dir base h other p = (let f = first_step (parent_of t) n key base h in
-    (n, ap (ancestor t n) (same_Some dir f.0 (sym p ∙ f.1)) ∙ f.2))
-
--- the way ends at the base
-pub way_end : (t : Tree) (n : ℕ) (key base : Key) → ancestor t n key ≡ Some base → (key ≡ base) ⊎ (parent_of t key ≡ None) → key ≡ base
-way_end t n key base h (inl e) = e
-way_end t zero key base h (inr top) = same_Some key base h
-way_end t (suc n) key base h (inr top) = (let f = first_step (parent_of t) n key base h in absurd (none-some f.0 (sym top ∙ f.1)))
+-- the first key of the way leads from above the target to it
+pub first_lead : (t : Tree) (root : Key) → Lawful t root → (target other : Key) → IsTrue (is_linked t target) → (parent_of t target ≡ Some other) ⊎ ((parent_of t target ≡ None) × (other ≡ root)) → target ≢ other →
+    walk t other (reverse (map (name_at t) (target ∷ []))) ≡ Ok target
+first_lead t root l target other h (inl p) n = walk_higher t root l target other target [] p refl
+first_lead t root l target other h (inr p) n = (let r = linked_here t target h in
+    let top : r.0.parent ≡ None = sym (parent_known t r.0 r.1) ∙ ap (parent_of t) r.2 ∙ p.0 in
+    absurd (n (sym r.2 ∙ l.one_root r.0 r.1 top ∙ sym p.1)))
 
 pub has_text : (t : Tree) (root key dir target : Key) (text : List ℕ) → parent_of t key ≡ Some dir → link_target t key ≡ Some target → IsLinkText t root dir target text → HasLinkText t root key text
 has_text t root key dir target text p to is = (let r = known_parent t key dir p in record {

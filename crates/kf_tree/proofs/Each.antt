@@ -1,9 +1,8 @@
 -- A change of each record of a subtree, key by key.
-use Rattle.std.proofs.Common.{◌≡◌, ◌≢◌, ◌⊎◌, inl, inr, ℕ, zero, suc, ◌<◌, ◌≤◌, refl, ap, arith, sym, ◌∙◌, subst, true, false, cond, List, [], ◌∷◌, length, get_or}
-use Rattle.std.specs.Prelude.{Option, None, Some, slice_get, slice_set, is_some, map, Contains, slice_index_or, ◌&&◌, not}
-use Rattle.std.specs.Option.{option_map, option_and_then}
-use Rattle.std.proofs.lemmas.Option.{same_Some, none-some, slice_get-map, slice_get_within, slice_get_past, slice_get-get_or}
-use Rattle.std.proofs.lemmas.List.{set-set}
+use Rattle.std.proofs.Common.{◌≡◌, ◌≢◌, ◌⊎◌, inl, inr, ℕ, zero, suc, ◌<◌, refl, ap, arith, sym, ◌∙◌, subst, true, false, cond, List, [], ◌∷◌, length}
+use Rattle.std.specs.Prelude.{Option, None, Some, slice_get, is_some, map, Contains, slice_index_or, ◌&&◌, not}
+use Rattle.std.specs.Option.{option_map}
+use Rattle.std.proofs.lemmas.Option.{same_Some, none-some, slice_get-map}
 use Rattle.std.proofs.lemmas.Bool.Decides.{eqb_tells}
 use Rattle.kf_core.specs.declared.key.Key.{Key}
 use Rattle.kf_core.specs.declared.records.Record.{Record}
@@ -13,9 +12,11 @@ use Rattle.kf_core.specs.Tree.{Tree, record_at, in_subtree, IsIn}
 use Rattle.kf_core.specs.Lawful.{Lawful}
 use Rattle.kf_core.specs.Commands.{after, change, activated_record, doomed_record, moved_record}
 use Rattle.kf_core.specs.PostOrder.{IsPostOrder}
-use Rattle.kf_tree.specs.Subtrees.{with_changed_slot, with_changed_slots, activated_unless_doomed}
+use Rattle.kf_table.specs.Changes.{with_changed_slot, activated_unless_doomed}
+use Rattle.kf_tree.specs.Subtrees.{with_changed_slots}
+use Rattle.kf_table.proofs.Altered.{on, altered_at, altered_other}
 use Rattle.kf_core.proofs.Climbs.{keys_tell, same_key_self}
-use Rattle.kf_core.proofs.Lists.{length_set, slice_get-set_same, slice_get-set_other}
+use Rattle.kf_core.proofs.Lists.{slice_get-set_other}
 use Rattle.kf_core.proofs.FoundRecords.{linked_here, found_in, in_found}
 
 pub list_same : {X : Type 0} (xs ys : List X) → ((j : ℕ) → slice_get xs j ≡ slice_get ys j) → xs ≡ ys
@@ -38,32 +39,6 @@ slot_listed (x ∷ xs) j = elim (eqb_tells x.slot j) [
     go : (k : Key) (i : ℕ) → i < length (x ∷ xs) → slice_index_or (x ∷ xs) i k ≡ k → k.slot ≡ j → x.slot ≢ j → ((k : Key) → Contains xs k → k.slot ≢ j) → ⊥
     go k zero h e s n g = n (ap (λ (y : Key). y.slot) e ∙ s)
     go k (suc i) h e s n g = g k (i, omega arith, e) s
-
-module _ (f : Record → Record) where
-  abbrev pub on : Option (Option Record) → Option (Option Record)
-  on o = option_map (option_map f) o
-
-  pub altered_other : (t : Tree) (slot j : ℕ) → slot ≢ j → slice_get (with_changed_slot f t slot) j ≡ slice_get t j
-  altered_other t slot j n = slice_get-set_other t slot j _ (λ e. n (sym e))
-
-  pub altered_at : (t : Tree) (slot j : ℕ) → slot ≡ j → slice_get (with_changed_slot f t slot) j ≡ on (slice_get t j)
-  altered_at t slot j e = ap (λ i. slice_get (with_changed_slot f t i) j) e ∙ go (slice_get t j) refl
-    where
-      go : (o : Option (Option Record)) → slice_get t j ≡ o → slice_get (slice_set t j (option_and_then (λ place. option_map f place) (slice_get t j))) j ≡ on (slice_get t j)
-      go (Some place) h = slice_get-set_same t j (option_and_then (λ place. option_map f place) (slice_get t j)) (slice_get_within t j place h)
-          ∙ ap (λ o. Some (option_and_then (λ place. option_map f place) o)) h ∙ ap on (sym h)
-      go None h = elim (slice_get (with_changed_slot f t j) j) as (λ o. slice_get (with_changed_slot f t j) j ≡ o → slice_get (with_changed_slot f t j) j ≡ on (slice_get t j)) [
-        | None ↦ λ g. g ∙ ap on (sym h)
-        | Some place ↦ λ g. absurd (none-some place (sym (slice_get_past (with_changed_slot f t j) j (short (slice_get_is_past t j h))) ∙ g))
-      ] refl
-        where
-          slice_get_is_past : (xs : List (Option Record)) (i : ℕ) → slice_get xs i ≡ None → length xs ≤ i
-          slice_get_is_past [] i h = omega arith
-          slice_get_is_past (x ∷ xs) zero h = absurd (none-some x (sym h))
-          slice_get_is_past (x ∷ xs) (suc i) h = (let r = slice_get_is_past xs i h in omega arith)
-
-          short : length t ≤ j → length (with_changed_slot f t j) ≤ j
-          short h = (let e = length_set t j (option_and_then (λ place. option_map f place) (slice_get t j)) in omega arith)
 
 module _ (f : Record → Record) (twice : (r : Record) → f (f r) ≡ f r) where
   on_twice : (o : Option (Option Record)) → on f (on f o) ≡ on f o
@@ -145,11 +120,6 @@ each_risen t root top keys l p = each_is activated_unless_doomed risen_twice t r
     go None = refl
     go (Some None) = refl
     go (Some (Some r)) = ap (λ x. Some (Some x)) (same r)
-
--- an item taken out of its slot and put back changed
-pub altered_written : (f : Record → Record) (t : Tree) (slot : ℕ) (between item new : Option Record) → slot < length t → item ≡ get_or t slot item → new ≡ option_map f item → slice_set (slice_set t slot between) slot new ≡ with_changed_slot f t slot
-altered_written f t slot between item new h e n =
-    set-set t slot between new ∙ ap (slice_set t slot) (n ∙ ap (λ o. option_and_then (λ place. option_map f place) o) (ap Some e ∙ sym (slice_get-get_or t slot item h)))
 
 -- one record changed, by its slot or by its key
 pub slot_changed : (g : Record → Record) (t : Tree) (root key : Key) (r : Record) → Lawful t root → record_at t key ≡ Some r → with_changed_slot g t key.slot ≡ change (λ s. same_key s.key key) g t

@@ -16,15 +16,8 @@ pub mod Parts
 pub mod LiveOnly
 pub mod Starved
 pub mod Over
+pub mod Later
 pub mod Down
-pub mod Entries
-pub mod Kept
-pub mod KeptMarks
-pub mod Rooms
-pub mod KeptRecords
-pub mod Swapped
-pub mod KeptMoves
-pub mod LookUps
 pub mod Unique
 pub mod OneText
 pub mod RenameRule
@@ -34,4 +27,3 @@ pub mod PreOrder
 pub mod Replays
 pub mod Collected
 pub mod OneClimb
-pub mod Climbing

@@ -12,15 +12,16 @@ use Rattle.kf_core.specs.declared.key.Key.{Key}
 use Rattle.kf_core.specs.declared.records.Record.{Record}
 use Rattle.kf_core.specs.Tree.{Tree, IsIn}
 use Rattle.kf_core.specs.Lawful.{Lawful}
-use Rattle.kf_tree.specs.Paths.{is_key, is_under, child, lives}
+use Rattle.kf_table.specs.Children.{is_key, is_under, child}
+use Rattle.kf_tree.specs.Paths.{lives}
 use Rattle.kf_core.specs.Names.{IsBefore}
 use Rattle.kf_index.specs.Entries.{IsAbove}
 use Rattle.kf_tree.specs.Listing.{IsListed, IsListing}
 use Rattle.kf_tree.specs.Causes.{lives_in, live_in}
-use Rattle.kf_tree.specs.Next.{before, above, IsNext, NoneAbove, AreNext}
+use Rattle.kf_table.specs.Next.{before, above, IsNext, NoneAbove, AreNext}
 use Rattle.kf_core.proofs.FoundRecords.{same_record, in_found}
-use Rattle.kf_tree.proofs.Allowed.{some_first, is_key_self}
-use Rattle.kf_tree.proofs.Next.{before_less, less_before, before_not_self, before_trans, before_ties, both, key_is}
+use Rattle.kf_table.proofs.ChildTests.{some_first, is_key_self, both, key_is}
+use Rattle.kf_tree.proofs.Next.{before_less, less_before, before_not_self, before_trans, before_ties}
 use Rattle.kf_tree.proofs.PostOrder.{pairs_append, still_not, is_before}
 
 -- where a list's first item that passes stands

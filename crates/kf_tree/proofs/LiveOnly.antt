@@ -12,9 +12,10 @@ use Rattle.kf_core.specs.declared.refusal.Refusal.TheVariants.{NoEntry, NotDir}
 use Rattle.kf_core.specs.Keys.{same_key}
 use Rattle.kf_core.specs.Tree.{Tree, with_key, record_at, is_dir}
 use Rattle.kf_core.specs.Lawful.{Lawful}
-use Rattle.kf_tree.specs.Paths.{is_key, is_under, child, entry_key, found, lives, only_live}
+use Rattle.kf_table.specs.Children.{is_key, is_under, child}
+use Rattle.kf_tree.specs.Paths.{entry_key, found, lives, only_live}
 use Rattle.kf_tree.specs.Shown.{shown, shown_record}
-use Rattle.kf_tree.proofs.Next.{both, key_is}
+use Rattle.kf_table.proofs.ChildTests.{both, key_is}
 
 -- the record of a key, where it is shown
 pub record_shown : (live_only : Bool) (t : Tree) (k : Key) → record_at (shown live_only t) k ≡ shown_record live_only (record_at t k)

@@ -1,6 +1,5 @@
 -- Names in byte order.
-use Rattle.std.proofs.Common.{◌≡◌, ℕ, refl, ap, sym, ◌∙◌, Bool, true, false, List}
-use Rattle.std.specs.Prelude.{Option, None, Some, ◌&&◌}
+use Rattle.std.proofs.Common.{◌≡◌, ℕ, refl, ap, sym, ◌∙◌, true, false, List}
 use Rattle.std.specs.declared.cmp.Ordering.{Ordering}
 use Rattle.std.specs.declared.cmp.Ordering.TheVariants.{Less, Equal, Greater}
 use Rattle.std.specs.Ordering.{nat_cmp, is_lt, is_eq, ordering_reverse}
@@ -8,10 +7,7 @@ use Rattle.std.specs.Cmp.Lexicographic.{slice_cmp}
 use Rattle.std.proofs.lemmas.Cmp.{nat_list_cmp_total}
 use Rattle.std.proofs.lemmas.Map.Text.{is_eq-slice_cmp}
 use Rattle.std.proofs.lemmas.Slice.Eq.{bytes_eq-Decides}
-use Rattle.kf_core.specs.declared.key.Key.{Key}
-use Rattle.kf_tree.specs.Paths.{is_key}
-use Rattle.kf_tree.specs.Next.{before}
-use Rattle.kf_core.proofs.Climbs.{same_key_is}
+use Rattle.kf_table.specs.Next.{before}
 
 pub before_less : (a b : List ℕ) → before a b ≡ true → slice_cmp nat_cmp a b ≡ Less
 before_less a b h = elim (slice_cmp nat_cmp a b) as (λ o. is_lt o ≡ true → o ≡ Less) [
@@ -49,12 +45,3 @@ before_skip a b c h g = elim (before a c) as (λ v. before a c ≡ v → v ≡ f
   ] refl
   | false ↦ λ e. refl
 ] refl
-
-pub both : (a b : Bool) → (a && b) ≡ true → (a ≡ true) × (b ≡ true)
-both true true h = (refl, refl)
-both true false h = absurd (let x : false ≡ true = h in cc)
-both false b h = absurd (let x : false ≡ true = h in cc)
-
-pub key_is : (dir : Key) (parent : Option Key) → is_key dir parent ≡ true → parent ≡ Some dir
-key_is dir None h = absurd (let x : false ≡ true = h in cc)
-key_is dir (Some p) h = ap Some (same_key_is p dir h)

@@ -11,7 +11,8 @@ use Rattle.kf_core.specs.declared.refusal.Refusal.TheVariants.{NoEntry, NotDir}
 use Rattle.kf_core.specs.Tree.{Tree, record_at, is_dir, parent_of, ancestor, in_subtree, IsIn}
 use Rattle.kf_core.specs.Lawful.{Lawful}
 use Rattle.kf_tree.specs.Links.{ups, IsLinkText, HasLinkText}
-use Rattle.kf_tree.specs.Paths.{and_then, entry_key, child, found, walk}
+use Rattle.kf_tree.specs.Paths.{and_then, entry_key, found, walk}
+use Rattle.kf_table.specs.Children.{child}
 use Rattle.kf_tree.proofs.Listed.{child_is}
 use Rattle.kf_tree.proofs.Over.{one_more}
 use Rattle.kf_tree.proofs.PostOrder.{child_below}

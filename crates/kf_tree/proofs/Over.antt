@@ -13,7 +13,7 @@ use Rattle.kf_tree.specs.Ways.{HasUps}
 use Rattle.kf_core.proofs.Climbs.{after_step, climb_rest}
 use Rattle.kf_core.proofs.Lists.{count_less}
 use Rattle.kf_tree.proofs.PostOrder.{child_below}
-use Rattle.kf_core.proofs.FoundRecords.{linked_here, known_parent, root_met, subtree_to, subtree_from}
+use Rattle.kf_core.proofs.FoundRecords.{known_parent, subtree_to, subtree_from}
 
 -- the base is so many steps up from the directory, none of those below is over the target, and the text grew by `../` for each
 pub record HasClimbed (t : Tree) (root dir target base : Key) (old new : List ℕ) : Type 0 where
@@ -84,8 +84,3 @@ fewer_over t root l key dir h =
     weaker r i e None x = x
     weaker r i e (Some s) x = (let w = subtree_to t root l s.key dir x in
         ap (in_subtree t s.key) (sym e) ∙ subtree_from t root l r (suc w.0) s.key i (after_step (parent_of t) w.0 r.key dir (ap (parent_of t) e ∙ h) ∙ w.1))
-
--- the way from a target up to a base that is over it
-pub way_to : (t : Tree) (root target base : Key) → Lawful t root → IsTrue (is_linked t target) → IsOver t root target base → (n : ℕ) × (ancestor t n target ≡ Some base)
-way_to t root target base l linked (inl e) = (let r = linked_here t target linked in let w = root_met t root l r.0 r.1 in (w.0, ap (ancestor t w.0) (sym r.2) ∙ w.1 ∙ ap Some (sym e)))
-way_to t root target base l linked (inr s) = (suc s.0, s.1)

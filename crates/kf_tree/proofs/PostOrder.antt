@@ -6,7 +6,7 @@ use Rattle.kf_core.specs.declared.key.Key.{Key}
 use Rattle.kf_core.specs.declared.records.Record.{Record}
 use Rattle.kf_core.specs.Tree.{Tree, parent_of, in_subtree, IsIn}
 use Rattle.kf_core.specs.Lawful.{Lawful}
-use Rattle.kf_tree.specs.Next.{before, above}
+use Rattle.kf_table.specs.Next.{before, above}
 use Rattle.kf_core.proofs.Climbs.{after_step, no_return}
 use Rattle.kf_core.proofs.FoundRecords.{parent_known, root_parent, root_met, subtree_to}
 use Rattle.kf_tree.proofs.Next.{before_trans, before_skip}

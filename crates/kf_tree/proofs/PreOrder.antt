@@ -10,7 +10,7 @@ use Rattle.kf_core.specs.Lawful.{Lawful}
 use Rattle.kf_core.specs.PostOrder.{AreApart}
 use Rattle.kf_core.proofs.Climbs.{keys_tell, first_step}
 use Rattle.kf_core.proofs.FoundRecords.{in_found, found_in, linked_here, parent_known, root_parent, root_met, root_found, subtree_to, subtree_from}
-use Rattle.kf_tree.specs.Next.{IsNext, AreNext, NoneAbove}
+use Rattle.kf_table.specs.Next.{IsNext, AreNext, NoneAbove}
 use Rattle.kf_tree.specs.Subtrees.{is_over_key}
 use Rattle.kf_tree.specs.Canonical.{Precedes, IsPreOrder}
 use Rattle.kf_tree.specs.Walks.{IsNextInPreOrder, IsLastInPreOrder}
@@ -251,6 +251,6 @@ module _ (t : Tree) (root : Key) (l : Lawful t root) where
   pub up_last : (key current : Key) (r : Record) → Some r ≡ record_at t current → r.parent ≡ None → IsOnWayUp t key current → IsLastInPreOrder t key
   up_last key current r known p w = (let i = found_in t current r (sym known) in up_end t root l key r i.0 p (subst (IsOnWayUp t key) (sym i.1) w))
 
-  pub if_none : (P : Type 0) (o : Option Key) → P → IfNone o P
+  pub if_none : {X : Type 0} (P : Type 0) (o : Option X) → P → IfNone o P
   if_none P None p = p
   if_none P (Some k) p = tt

@@ -18,11 +18,12 @@ use Rattle.kf_core.specs.Tree.{Tree, record_at, is_linked, is_dir, in_subtree, I
 use Rattle.kf_core.specs.Lawful.{Lawful}
 use Rattle.kf_core.specs.Worlds.{MayMove}
 use Rattle.kf_core.proofs.Names.{lawful_without_fault, no_fault_of_lawful}
-use Rattle.kf_tree.specs.Causes.{is_directory, lives_in, live_in, is_there_already, has_entry, early_rename_cause, late_rename_cause, rename_cause}
-use Rattle.kf_tree.specs.Paths.{is_key, child, lives}
+use Rattle.kf_tree.specs.Causes.{is_directory, lives_in, live_in, has_entry, early_rename_cause, late_rename_cause, rename_cause}
+use Rattle.kf_table.specs.Children.{is_there_already, is_key, child}
+use Rattle.kf_tree.specs.Paths.{lives}
 use Rattle.kf_core.proofs.Climbs.{keys_tell, same_key_self}
 use Rattle.kf_core.proofs.FoundRecords.{found_in, root_found}
-use Rattle.kf_tree.proofs.Next.{both, key_is}
+use Rattle.kf_table.proofs.ChildTests.{both, key_is}
 use Rattle.kf_tree.proofs.Allowed.{no_first, passed, not_passed, linked_record, dir_node, name_free}
 use Rattle.kf_tree.proofs.Listed.{child_is}
 

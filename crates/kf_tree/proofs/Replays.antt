@@ -23,7 +23,7 @@ use Rattle.kf_tree.proofs.Marked.{KeepsPlace, parent_mapped}
 use Rattle.kf_tree.proofs.Apart.{dir_of, sub_self, sub_parent, sub_trans}
 use Rattle.kf_tree.proofs.Opening.{empty_there, length_empty}
 use Rattle.kf_tree.proofs.PostOrder.{lt_or_le}
-use Rattle.kf_tree.proofs.Next.{both}
+use Rattle.kf_table.proofs.ChildTests.{both}
 use Rattle.kf_tree.proofs.Each.{list_same}
 
 pub replay_append : (t : Tree) (cs ds : List Command) → replay t (cs ++ ds) ≡ replay (replay t cs) ds

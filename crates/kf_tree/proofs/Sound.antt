@@ -15,8 +15,10 @@ use Rattle.kf_core.specs.Tree.{Tree, record_at, is_linked, is_dir, in_subtree}
 use Rattle.kf_core.specs.Lawful.{root_record, Lawful}
 use Rattle.kf_core.specs.Commands.{after, change, activated_record, new_record, doomed_record, moved_record, hidden_record}
 use Rattle.kf_core.specs.PostOrder.{IsPostOrder}
-use Rattle.kf_tree.specs.Causes.{create_cause, doom_cause, linked_cause, rename_cause, unlink_cause, hide_cause, hidden_in, is_there_already}
-use Rattle.kf_tree.specs.Subtrees.{with_changed_slot, with_changed_slots, activated_unless_doomed, is_doomed_record, doomed_count, undoomed_count, is_hidden_record, owed_count}
+use Rattle.kf_tree.specs.Causes.{create_cause, doom_cause, linked_cause, rename_cause, unlink_cause, hide_cause, hidden_in}
+use Rattle.kf_table.specs.Children.{is_there_already}
+use Rattle.kf_table.specs.Changes.{with_changed_slot, activated_unless_doomed}
+use Rattle.kf_tree.specs.Subtrees.{with_changed_slots, is_doomed_record, doomed_count, undoomed_count, is_hidden_record, owed_count}
 use Rattle.kf_tree.specs.TreeLogs.{TreeLog, IsKept, IsAccepted, IsCompacted}
 use Rattle.kf_tree.specs.Canonical.{IsCanonical}
 use Rattle.kf_tree.proofs.Replays.{canonical_replays}

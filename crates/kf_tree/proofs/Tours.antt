@@ -9,7 +9,7 @@ use Rattle.kf_core.specs.Lawful.{Lawful}
 use Rattle.kf_core.specs.PostOrder.{AreApart, StandsBefore}
 use Rattle.kf_core.proofs.Climbs.{keys_tell, same_key_self}
 use Rattle.kf_core.proofs.FoundRecords.{in_found, found_in, linked_here, parent_known}
-use Rattle.kf_tree.specs.Next.{IsNext, AreNext, NoneAbove}
+use Rattle.kf_table.specs.Next.{IsNext, AreNext, NoneAbove}
 use Rattle.kf_tree.specs.Subtrees.{is_over_key}
 use Rattle.kf_core.specs.Keys.{same_key}
 use Rattle.kf_core.specs.PostOrder.{IsPostOrder}

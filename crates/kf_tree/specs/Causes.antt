@@ -1,8 +1,6 @@
 -- Why each call is refused: the first cause in order. Want of memory comes after all of these.
-use Rattle.std.specs.Prelude.{◌≡◌, ◌⊎◌, ℕ, Bool, true, false, not, ◌&&◌, List, [], ◌∷◌, Option, None, Some, is_some, if◌then◌else◌}
-use Rattle.std.specs.List.{list_any}
+use Rattle.std.specs.Prelude.{◌≡◌, ◌⊎◌, ℕ, Bool, false, not, List, [], ◌∷◌, Option, None, Some, is_some, if◌then◌else◌}
 use Rattle.std.specs.Option.{option_map_or, option_and_then}
-use Rattle.std.specs.Str.{bytes_eq}
 use Rattle.kf_core.specs.declared.key.Key.{Key}
 use Rattle.kf_core.specs.declared.key.Node.{Node}
 use Rattle.kf_core.specs.declared.records.Record.{Record}
@@ -14,7 +12,8 @@ use Rattle.kf_core.specs.Names.{name_fault}
 use Rattle.kf_core.specs.Keys.{same_key}
 use Rattle.kf_core.specs.Marks.{are_doomed}
 use Rattle.kf_core.specs.Tree.{Tree, record_at, marks_of, is_linked, is_dir, in_subtree}
-use Rattle.kf_tree.specs.Paths.{is_key, is_under, child, lives}
+use Rattle.kf_table.specs.Children.{child, has_child, is_there_already}
+use Rattle.kf_tree.specs.Paths.{lives}
 
 -- there was this cause, or none but want of memory
 abbrev pub Refuses : Option Refusal → Refusal → Type 0
@@ -38,14 +37,6 @@ is_directory t key = option_map_or (λ r. is_dir r.node) (record_at t key) false
 
 abbrev pub has_entry : Tree → Key → List ℕ → Bool
 has_entry t dir name = is_some (child t dir name)
-
-abbrev pub has_child : Tree → Key → Bool
-has_child t dir = list_any (is_under dir (λ r. true)) t
-
--- whether the key's record is in this directory under this name
-abbrev pub is_there_already : Tree → Key → Key → List ℕ → Bool
-is_there_already t key dir name =
-    option_map_or (λ r. is_key dir r.parent && bytes_eq r.name name) (record_at t key) false
 
 abbrev pub target_of : Node → Option Key
 target_of Dir = None

@@ -5,11 +5,9 @@ pub mod Links
 pub mod Stat
 pub mod Ends
 pub mod TreeLogs
-pub mod Next
 pub mod Subtrees
 pub mod Sound
 pub mod Shown
 pub mod Ways
 pub mod Walks
 pub mod Canonical
-pub mod Directories

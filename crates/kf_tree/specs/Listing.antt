@@ -4,7 +4,8 @@ use Rattle.kf_core.specs.declared.key.Key.{Key}
 use Rattle.kf_core.specs.Names.{IsBefore}
 use Rattle.kf_core.specs.Tree.{Tree}
 use Rattle.kf_index.specs.Entries.{IsAbove}
-use Rattle.kf_tree.specs.Paths.{child, lives}
+use Rattle.kf_table.specs.Children.{child}
+use Rattle.kf_tree.specs.Paths.{lives}
 
 -- the directory has a live child of this name, above the bound
 pub record IsListed (t : Tree) (dir : Key) (bound : Option (List ℕ)) (name : List ℕ) : Type 0 where

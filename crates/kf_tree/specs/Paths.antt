@@ -1,15 +1,14 @@
 -- What a name in a directory leads to, and what a path does.
 use Rattle.std.specs.Prelude.{ℕ, Bool, true, false, not, ◌&&◌, ◌==◌, List, [], ◌∷◌, map, Option, None, Some, Result, Ok, Err, if◌then◌else◌}
-use Rattle.std.specs.List.{find as first, list_any, slice_split}
+use Rattle.std.specs.List.{list_any, slice_split}
 use Rattle.std.specs.Option.{option_and_then, ok_or}
-use Rattle.std.specs.Str.{bytes_eq}
 use Rattle.kf_core.specs.declared.key.Key.{Key}
 use Rattle.kf_core.specs.declared.records.Record.{Record}
 use Rattle.kf_core.specs.declared.refusal.Refusal.{Refusal}
 use Rattle.kf_core.specs.declared.refusal.Refusal.TheVariants.{NoEntry, NotDir, Invalid}
-use Rattle.kf_core.specs.Keys.{same_key}
 use Rattle.kf_core.specs.Marks.{are_live}
 use Rattle.kf_core.specs.Tree.{Tree, record_at, is_dir}
+use Rattle.kf_table.specs.Children.{child}
 
 -- what follows, where nothing was refused before
 abbrev pub and_then : {X Y : Type 0} → Result X Refusal → (X → Result Y Refusal) → Result Y Refusal
@@ -17,19 +16,6 @@ and_then (Ok x) next = next x
 and_then (Err refusal) next = Err refusal
 
 -- ---- names
-
-abbrev pub is_key : Key → Option Key → Bool
-is_key dir None = false
-is_key dir (Some parent) = same_key parent dir
-
--- whether the slot has a record in this directory that passes the test
-abbrev pub is_under : Key → (Record → Bool) → Option Record → Bool
-is_under dir test None = false
-is_under dir test (Some r) = is_key dir r.parent && test r
-
--- the record with this name in this directory
-abbrev pub child : Tree → Key → List ℕ → Option Record
-child t dir name = option_and_then (λ slot. slot) (first (is_under dir (λ r. bytes_eq r.name name)) t)
 
 abbrev pub entry_key : Option Record → Option Record → Result Key Refusal
 entry_key None entry = Err NoEntry

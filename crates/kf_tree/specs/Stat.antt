@@ -1,14 +1,9 @@
 -- What is told of a node.
-use Rattle.std.specs.Prelude.{ℕ, ◌+◌, count_by, if◌then◌else◌}
-use Rattle.kf_core.specs.declared.key.Key.{Key}
+use Rattle.std.specs.Prelude.{◌+◌, if◌then◌else◌}
 use Rattle.kf_core.specs.declared.records.Record.{Record}
 use Rattle.kf_core.specs.Tree.{Tree, is_dir}
+use Rattle.kf_table.specs.Children.{subdirs}
 use Rattle.kf_tree.specs.declared.stat.Stat.{Stat}
-use Rattle.kf_tree.specs.Paths.{is_under}
-
--- the number of child directories, live or not
-abbrev pub subdirs : Tree → Key → ℕ
-subdirs t dir = count_by (is_under dir (λ r. is_dir r.node)) t
 
 -- a file or link has no child directories, and one link
 abbrev pub stat_of : Tree → Record → Stat

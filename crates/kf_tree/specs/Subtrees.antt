@@ -1,10 +1,10 @@
--- A subtree's keys one after another, and changes of its records slot by slot.
-use Rattle.std.specs.Prelude.{ℕ, ◌+◌, Bool, false, not, List, Option, None, Some, slice_get, slice_set, fold, count_by, if◌then◌else◌}
+-- The keys of slots, changes of records key by key, and how many are doomed or hidden.
+use Rattle.std.specs.Prelude.{ℕ, ◌+◌, Bool, false, List, Option, None, Some, slice_get, fold, count_by}
 use Rattle.std.specs.Option.{option_map, option_and_then, option_map_or}
 use Rattle.kf_core.specs.declared.key.Key.{Key}
 use Rattle.kf_core.specs.declared.records.Record.{Record}
 use Rattle.kf_core.specs.Tree.{Tree, in_subtree}
-use Rattle.kf_core.specs.Commands.{activated_record}
+use Rattle.kf_table.specs.Changes.{with_changed_slot, is_undoomed}
 
 -- the key of the record in a slot
 abbrev pub key_in : Tree → ℕ → Option Key
@@ -16,16 +16,9 @@ is_over_key t key slot = option_map_or (λ r. in_subtree t r.key key) slot false
 
 -- ---- changes slot by slot
 
--- the tree with the record of one slot changed
-abbrev pub with_changed_slot : (Record → Record) → Tree → ℕ → Tree
-with_changed_slot f t slot = slice_set t slot (option_and_then (option_map f) (slice_get t slot))
-
 -- the tree with the record of each key changed, one after another
 abbrev pub with_changed_slots : (Record → Record) → Tree → List Key → Tree
 with_changed_slots f t keys = fold (λ x key. with_changed_slot f x key.slot) t keys
-
-abbrev pub activated_unless_doomed : Record → Record
-activated_unless_doomed r = if r.marks.doomed then r else activated_record r
 
 -- ---- doomed records
 
@@ -46,12 +39,6 @@ hidden_count t = count_by is_hidden_record t
 -- what has to find room later: the unlink of each doomed record, and the show of each hidden one
 abbrev pub owed_count : Tree → ℕ
 owed_count t = doomed_count t + hidden_count t
-
--- whether the slot has a record that is not doomed
-abbrev pub is_undoomed : Option (Option Record) → Bool
-is_undoomed None = false
-is_undoomed (Some None) = false
-is_undoomed (Some (Some r)) = not r.marks.doomed
 
 -- how many of the keys have a record that is not doomed
 abbrev pub undoomed_count : Tree → List Key → ℕ

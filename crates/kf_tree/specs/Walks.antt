@@ -1,10 +1,16 @@
 -- Walks over a subtree from node to node.
-use Rattle.std.specs.Prelude.{◌≡◌, ◌≢◌, ◌⊎◌, ◌↔◌, Some, IsTrue}
+use Rattle.std.specs.Prelude.{◌≡◌, ◌≢◌, ◌⊎◌, ◌↔◌, ℕ, List, Some, IsTrue}
 use Rattle.kf_core.specs.declared.key.Key.{Key}
 use Rattle.kf_core.specs.declared.records.Record.{Record}
-use Rattle.kf_core.specs.Tree.{Tree, is_linked, IsIn, in_subtree}
+use Rattle.kf_core.specs.Tree.{Tree, record_at, is_linked, IsIn, in_subtree}
+use Rattle.kf_table.specs.Next.{AreNext}
 use Rattle.kf_tree.specs.Canonical.{Precedes}
 use Rattle.kf_core.specs.PostOrder.{AreApart, StandsBefore}
+
+-- the siblings of the node after it, where it is linked and in a directory
+abbrev pub AreLater : Tree → Key → List (List ℕ × Key) → Type 0
+AreLater t key later = (r : Record) (dir : Key) → record_at t key ≡ Some r → r.parent ≡ Some dir
+    → AreNext t dir (Some r.name) later
 
 -- a leaf of the subtree, and what stands apart before it is what stands apart before the whole subtree
 pub record IsFirstBelow (t : Tree) (top first : Key) : Type 0 where

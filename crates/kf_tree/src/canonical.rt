@@ -6,9 +6,9 @@ ghost use Rattle.kf_tree.specs.Canonical.{IsPreOrder, IsCanonical, collected, cr
 
 use crate::growth::fit_room;
 use crate::marks::is_hidden;
-use crate::table::Table;
-use crate::walks::next_in_pre_order;
+use crate::walks::{later_siblings, next_in_pre_order};
 use kf_core::{Command, Key, NameBytes, Refusal};
+use kf_table::Table;
 use std::alloc::{AllocError, Global};
 
 /// The keys of all linked records, each before all that is below it, siblings in byte order of names.
@@ -18,9 +18,11 @@ fn pre_order(alloc: Global, table: &Table, root: Key) -> Result<Vec<Key>, AllocE
 {
     let mut keys = Vec::new(alloc);
     let mut current = root;
-    'visit: while let Some(next) = next_in_pre_order(table, current) {
+    let mut later = later_siblings(table, root);
+    'visit: while let Some((next, beside)) = next_in_pre_order(table, current, later) {
         keys.push(current)?;
         current = next;
+        later = beside;
     }
     keys.push(current)?;
     Ok(keys)

@@ -5,12 +5,12 @@ ghost use Rattle.kf_core.specs.declared.key.Key.{Key};
 ghost use Rattle.kf_core.specs.Lawful.{Lawful};
 ghost use Rattle.kf_tree.specs.Paths.{lives};
 ghost use Rattle.kf_core.specs.Tree.{is_linked, parent_of};
-ghost use Rattle.kf_tree.specs.Causes.{target_fault, target_of, link_target, create_cause, linked_cause, unlink_cause, doom_cause, hide_cause, rename_cause, list_cause, text_cause, is_there_already};
+ghost use Rattle.kf_tree.specs.Causes.{target_fault, target_of, link_target, create_cause, linked_cause, unlink_cause, doom_cause, hide_cause, rename_cause, list_cause, text_cause};
+ghost use Rattle.kf_table.specs.Children.{is_there_already};
 
-use crate::children::{is_directory, is_in};
-use crate::table::Table;
 use kf_core::{Key, Node, Record, Refusal};
 use kf_index::name_fault;
+use kf_table::{Table, is_directory, is_in};
 
 /// The key that a link leads to.
 fn target_of(node: &Node) -> Option<Key>

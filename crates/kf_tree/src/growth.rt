@@ -1,23 +1,9 @@
-//! What takes memory: slots, names, and room for commands.
+//! What takes memory: names, and room for commands.
 
-ghost use Rattle.std.specs.Prelude.{◌≡◌, ◌≤◌, ◌<◌, ◌+◌, ◌^◌, ◌++◌, ◌∷◌, [], replicate, vec_capacity, length, None, IfOk, IfErr, OnOk};
+ghost use Rattle.std.specs.Prelude.{◌≡◌, ◌≤◌, ◌<◌, ◌+◌, ◌^◌, ◌++◌, ◌∷◌, [], vec_capacity, length, IfOk, IfErr, OnOk};
 
-use kf_core::{Command, NameBytes, Record, Refusal};
+use kf_core::{Command, NameBytes, Refusal};
 use std::alloc::Global;
-
-/// So many slots without a record.
-pub(crate) fn empty_slots(alloc: Global, slots: u32) -> Result<Vec<Option<Record>>, Refusal>
-    ensures made { IfOk result (λ records. records.items ≡ replicate slots None) }
-    ensures refused { IfErr result (λ refusal. refusal ≡ Refusal.NoMemory) }
-{
-    let mut records = Vec::new(alloc);
-    for _ in 0..slots {
-        if records.push(None).is_err() {
-            return Err(Refusal::NoMemory);
-        }
-    }
-    Ok(records)
-}
 
 /// A name of its own.
 pub(crate) fn copy_name(alloc: Global, name: &[u8]) -> Result<NameBytes, Refusal>

@@ -3,8 +3,6 @@
 
 mod canonical;
 mod causes;
-mod children;
-mod directories;
 mod growth;
 mod laws;
 mod links;
@@ -13,10 +11,8 @@ mod marks;
 mod paths;
 mod post;
 mod shown;
-mod slots;
 mod stat;
 mod state;
-mod table;
 mod walks;
 
 pub use laws::answers_are_unique;

@@ -1,6 +1,6 @@
 //! The text of a link.
 
-ghost use Rattle.std.specs.Prelude.{◌≡◌, ◌≢◌, ℕ, suc, ◌∷◌, ◌++◌, ◌⊎◌, [], map, reverse, Some, None, Ok, IsTrue, IfSome, IfNone, IfOk, IfErr, OnOk, if◌then◌else◌};
+ghost use Rattle.std.specs.Prelude.{◌≡◌, ℕ, suc, ◌∷◌, ◌++◌, ◌⊎◌, [], map, reverse, Some, None, Ok, IsTrue, IfOk, IfErr, OnOk, if◌then◌else◌};
 ghost use Rattle.std.specs.List.{join_with_byte};
 ghost use Rattle.kf_core.specs.declared.key.Key.{Key};
 ghost use Rattle.kf_core.specs.Lawful.{Lawful};
@@ -9,8 +9,8 @@ ghost use Rattle.kf_tree.specs.Links.{IsLinkText};
 ghost use Rattle.kf_tree.specs.Paths.{walk};
 ghost use Rattle.kf_tree.specs.Ways.{HasUps, name_at};
 
-use crate::table::Table;
 use kf_core::{Key, Refusal};
+use kf_table::Table;
 use std::alloc::{AllocError, Global};
 
 /// The directory of a target, or the root where it has none.
@@ -55,22 +55,30 @@ fn parent_below(table: &Table, key: Key) -> Key
 }
 
 /// Pushes `../` for each step up from the directory to the first base over the target, and gives that base. A
-/// second way up, from the target's directory, is climbed beside it, always the deeper of the two first.
+/// second way up, from the target's directory, is climbed beside it, always the deeper of the two first; its
+/// keys are pushed too, from the target up to below the base.
 fn push_ups(
     table: &Table,
     root: Key,
     dir: Key,
     target: Key,
     text: &mut Vec<u8>,
+    keys: &mut Vec<Key>,
 ) -> Result<Key, AllocError>
     requires rooted { Lawful table.now root }
     requires linked { IsTrue (is_linked table.now target) }
     requires there { IsTrue (is_linked table.now dir) }
+    requires none { keys.old.items ≡ [] }
     ensures climbed { IfOk result
         (λ base. HasUps table.now root dir target base text.old.items text.new.items) }
+    ensures lead { IfOk result
+        (λ base. walk table.now base (reverse (map (name_at table.now) keys.new.items)) ≡ Ok target) }
 {
     let mut base = dir;
     let mut other = over_target(table, root, target);
+    if target != other {
+        keys.push(target)?;
+    }
     let mut base_depth = depth(table, root, base);
     let mut other_depth = depth(table, root, other);
     'up: while base != other {
@@ -79,36 +87,12 @@ fn push_ups(
             base = parent_below(table, base);
             base_depth -= 1;
         } else {
+            keys.push(other)?;
             other = parent_below(table, other);
             other_depth -= 1;
         }
     }
     Ok(base)
-}
-
-/// The directory of a key, unless the key is the base.
-fn next_below(table: &Table, base: Key, key: Key) -> Option<Key>
-    ensures none { IfNone result ((key ≡ base) ⊎ (parent_of table.now key ≡ None)) }
-    ensures next { IfSome result (λ dir. (key ≢ base) × (parent_of table.now key ≡ Some dir)) }
-{
-    if key == base { None } else { table.parent(key) }
-}
-
-/// The keys from the target up to below the base.
-fn keys_below(alloc: Global, table: &Table, base: Key, target: Key) -> Result<Vec<Key>, AllocError>
-    requires lawful { (root : Key) × Lawful table.now root }
-    requires linked { IsTrue (is_linked table.now target) }
-    requires below { (n : ℕ) × (ancestor table.now n target ≡ Some base) }
-    ensures lead { IfOk result
-        (λ keys. walk table.now base (reverse (map (name_at table.now) keys.items)) ≡ Ok target) }
-{
-    let mut keys = Vec::new(alloc);
-    let mut current = target;
-    'up: while let Some(parent) = next_below(table, base, current) {
-        keys.push(current)?;
-        current = parent;
-    }
-    Ok(keys)
 }
 
 /// Pushes the name of a key's record, and a slash where another name follows.
@@ -150,8 +134,8 @@ fn write_text(
     ensures text { IfOk result (λ text. IsLinkText table.now root dir target text.items) }
 {
     let mut text = Vec::new(alloc);
-    let base = push_ups(table, root, dir, target, &mut text)?;
-    let keys = keys_below(alloc, table, base, target)?;
+    let mut keys = Vec::new(alloc);
+    let _base = push_ups(table, root, dir, target, &mut text, &mut keys)?;
     push_names(table, keys, &mut text)?;
     Ok(text)
 }

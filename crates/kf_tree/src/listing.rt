@@ -8,9 +8,9 @@ ghost use Rattle.kf_tree.specs.Causes.{live_in};
 ghost use Rattle.kf_tree.specs.Listing.{IsListing};
 
 use crate::causes::is_live;
-use crate::table::Table;
 use kf_core::{Key, Refusal};
 use kf_index::Name;
+use kf_table::Table;
 use std::alloc::Global;
 
 /// Whether the node of a key is live.
@@ -57,8 +57,11 @@ pub(crate) fn list_names<'t>(
         (λ names. IsListing table.now dir (option_copied after.entry) limit (map (λ n. n.now) names.items)) }
     ensures refused { IfErr result (λ refusal. refusal ≡ Refusal.NoMemory) }
 {
-    let mut names = Vec::new(alloc);
     let mut later = table.children_above(dir, after);
+    // Room for as many as there may be, taken at once.
+    let Ok(mut names) = Vec::with_capacity(alloc, later.len().min(limit)) else {
+        return Err(Refusal::NoMemory);
+    };
     'children: while names.len() < limit {
         let [(name, key), rest @ ..] = later else {
             return Ok(names);

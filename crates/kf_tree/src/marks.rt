@@ -1,21 +1,13 @@
 //! Changes of the records of a list of keys, one after another.
 
-ghost use Rattle.std.specs.Prelude.{◌≡◌, ◌+◌, ◌≤◌, length, slice_get, if◌then◌else◌};
+ghost use Rattle.std.specs.Prelude.{◌≡◌, ◌+◌, ◌≤◌, length, if◌then◌else◌};
 ghost use Rattle.kf_core.specs.Commands.{doomed_record};
 ghost use Rattle.kf_tree.specs.Causes.{hidden_in};
-ghost use Rattle.kf_tree.specs.Subtrees.{with_changed_slots, activated_unless_doomed, doomed_count, is_undoomed, undoomed_count};
+ghost use Rattle.kf_tree.specs.Subtrees.{with_changed_slots, doomed_count, undoomed_count};
+ghost use Rattle.kf_table.specs.Changes.{activated_unless_doomed};
 
-use crate::table::Table;
 use kf_core::Key;
-
-pub(crate) fn is_undoomed(table: &Table, key: Key) -> bool
-    ensures known { result ≡ is_undoomed (slice_get table.now key.slot) }
-{
-    match table.in_slot(key.slot) {
-        Some(found) => !found.marks.doomed,
-        None => false,
-    }
-}
+use kf_table::Table;
 
 pub(crate) fn is_hidden(table: &Table, key: Key) -> bool
     ensures known { result ≡ hidden_in table.now key }
@@ -38,7 +30,7 @@ pub(crate) fn count_undoomed(table: &Table, keys: &[Key]) -> usize
     ensures value { result ≡ undoomed_count table.now keys.now }
     ensures few { result ≤ length keys.now }
 {
-    keys.iter().filter(|key| is_undoomed(table, **key)).count()
+    keys.iter().filter(|key| table.is_undoomed(**key)).count()
 }
 
 /// Dooms the record of each key, and tells how many were not doomed before.

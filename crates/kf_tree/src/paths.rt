@@ -10,8 +10,8 @@ ghost use Rattle.kf_tree.specs.Shown.{shown};
 ghost use Rattle.kf_tree.specs.Ways.{later_parts};
 
 use crate::shown::find_in;
-use crate::table::Table;
 use kf_core::{Key, Refusal};
+use kf_table::Table;
 
 fn find_slash(text: &[u8]) -> Option<usize>
     ensures first { result ≡ position is_slash text.now }

@@ -8,9 +8,8 @@ ghost use Rattle.kf_tree.specs.Paths.{found};
 ghost use Rattle.kf_tree.specs.Shown.{shown, shown_record};
 
 use crate::causes::is_live;
-use crate::children::is_directory;
-use crate::table::Table;
 use kf_core::{Key, Record, Refusal};
+use kf_table::{Table, is_directory};
 
 /// The record, where it is shown.
 fn only_shown(entry: Option<&Record>, live_only: bool) -> Option<&Record>

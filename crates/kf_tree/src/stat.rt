@@ -5,8 +5,8 @@ ghost use Rattle.kf_core.specs.declared.key.Key.{Key};
 ghost use Rattle.kf_core.specs.Lawful.{Lawful};
 ghost use Rattle.kf_tree.specs.Stat.{stat_of};
 
-use crate::table::Table;
 use kf_core::{Node, Record};
+use kf_table::Table;
 
 /// A node's kind and marks, its number of child directories, and its number of links.
 #[derive(Clone, Copy, Debug, PartialEq, Eq)]

@@ -4,7 +4,8 @@ ghost use Rattle.std.specs.Prelude.{◌≡◌, ◌<◌, IfOk, IfErr, IfSome, sli
 ghost use Rattle.kf_core.specs.declared.command.Command.TheVariants.{Create, Activate, Doom, Unlink, Rename, Hide, Show};
 ghost use Rattle.kf_core.specs.Tree.{is_linked};
 ghost use Rattle.kf_core.specs.PostOrder.{IsPostOrder};
-ghost use Rattle.kf_tree.specs.Causes.{create_cause, linked_cause, doom_cause, unlink_cause, hide_cause, hidden_in, rename_cause, is_there_already};
+ghost use Rattle.kf_tree.specs.Causes.{create_cause, linked_cause, doom_cause, unlink_cause, hide_cause, hidden_in, rename_cause};
+ghost use Rattle.kf_table.specs.Children.{is_there_already};
 ghost use Rattle.kf_tree.specs.Ends.{EndsWith};
 ghost use Rattle.kf_tree.specs.TreeLogs.{IsNew, IsAccepted, IsReadied, IsCompacted, IsRefused};
 
@@ -19,8 +20,8 @@ use crate::causes::{
 use crate::growth::{copy_name, make_room, store};
 use crate::marks::{activate_each, count_undoomed, doom_each, is_hidden, owed_for};
 use crate::post::post_order;
-use crate::table::Table;
 use kf_core::{Command, Key, Limits, Marks, Node, Record, Refusal};
+use kf_table::Table;
 use std::alloc::Global;
 use std::marker::Model;
 

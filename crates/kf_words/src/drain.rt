@@ -63,6 +63,7 @@ pub fn wait_drained<R: Wait>(rt: &R, hold: Hold) -> Drained
     ensures drained { result.phase ≡ phase_of.Drained }
     ensures found { is_drained result.found ≡ true }
     ensures looked { LastWasALook (seat_view result) }
+    ensures untried { result.tries ≡ hold.tries }
 {
     let Hold { mut seat } = hold;
     let mut slept = false;

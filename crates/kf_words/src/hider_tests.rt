@@ -1,5 +1,5 @@
 //! Keys that are hidden and shown among many threads.
-use crate::fixtures::{activate, born, doom, enter, hide, look, made, part, pin, unlink};
+use crate::test_fixtures::{activate, born, doom, enter, hide, look, made, part, pin, unlink};
 use crate::thread_tests::{
     drain_in, free_the_rest, hide_in, let_through, no_hold_left, pins, see_drained, wait_for,
 };

@@ -1,7 +1,9 @@
 //! Keys that are hidden and shown, by one thread.
 ghost use Rattle.kf_words.specs.Callers.{IsSameSeat};
 
-use crate::fixtures::{activate, born, doom, enter, hide, look, made, part, pin, refused, unlink};
+use crate::test_fixtures::{
+    activate, born, doom, enter, hide, look, made, part, pin, refused, unlink,
+};
 use crate::{Hidden, Hiding, Hold};
 use kf_core::Key;
 use std::alloc::Global;

@@ -6,8 +6,6 @@ mod call;
 mod caller_steps;
 mod drain;
 #[cfg(test)]
-mod fixtures;
-#[cfg(test)]
 mod hider_tests;
 mod hiding;
 #[cfg(test)]
@@ -25,6 +23,8 @@ mod seat;
 mod seat_parts;
 mod seats;
 mod table;
+#[cfg(test)]
+mod test_fixtures;
 #[cfg(test)]
 mod tests;
 #[cfg(test)]

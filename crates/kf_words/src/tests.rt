@@ -1,7 +1,7 @@
 //! Worked examples on the words, in one thread.
 ghost use Rattle.std.specs.Prelude.{◌≡◌};
 
-use crate::fixtures::{
+use crate::test_fixtures::{
     FILE, activate, born, doom, enter, look, looks_used, made, part, pin, refused, unlink,
 };
 use crate::{Master, Words};

@@ -1,5 +1,5 @@
 //! The words under many threads.
-use crate::fixtures::{activate, born, doom, enter, hide, look, made, pin, refused};
+use crate::test_fixtures::{activate, born, doom, enter, hide, look, made, pin, refused};
 use crate::{Call, Hidden, Hiding, Hold, Master, Seats, wait_drained, wait_hidden};
 use kf_core::{Guard, Key, Phase};
 use std::alloc::Global;

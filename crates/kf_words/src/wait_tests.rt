@@ -1,5 +1,5 @@
 //! Waiters for the drain of a node that nobody uses, which is marked as they fall asleep.
-use crate::fixtures::{activate, born, doom, made, pin};
+use crate::test_fixtures::{activate, born, doom, made, pin};
 use crate::thread_tests::{drain_in, free_the_rest, no_hold_left, see_drained, wait_for};
 use crate::{Hold, Master};
 use kf_core::Key;

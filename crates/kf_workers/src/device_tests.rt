@@ -34,6 +34,27 @@ fn a_device_is_plugged_read_and_deleted(rt: HostRuntime) {
 }
 
 #[test]
+fn the_files_of_a_device_have_their_modes(rt: HostRuntime) {
+    assert!(rt;
+        are_answered(
+            &rt,
+            rt.alloc(),
+            1024,
+            1,
+            &[
+                "plug d0 on -> ok 4.1",
+                "stat /devices/d0/value -> file mode=644 live",
+                "stat /devices/d0/serial -> file mode=444 live",
+                "stat /devices/d0/delete -> file mode=200 live",
+                "stat /bus/devices/d0 -> link live",
+                "open s /devices/d0/serial w -> err Access 13",
+                "open d /devices/d0/delete r -> err Access 13",
+            ]
+        )
+    );
+}
+
+#[test]
 fn each_plug_is_counted_and_gives_a_new_key(rt: HostRuntime) {
     assert!(rt;
         are_answered(

@@ -29,6 +29,33 @@ fn directories_files_and_their_listing(rt: HostRuntime) {
 }
 
 #[test]
+fn a_refusal_tells_its_cause(rt: HostRuntime) {
+    assert!(rt;
+        are_answered(
+            &rt,
+            rt.alloc(),
+            1024,
+            1,
+            &[
+                "mkdir /d -> ok 1.1",
+                "file /f 644 x -> ok 2.1",
+                "link /l /f -> ok 3.1",
+                "notify /l -> err Invalid 22",
+                "notify /d -> err IsDir 21",
+                "readlink /f -> err Invalid 22",
+                "activate /no -> err NoEntry 2",
+                "mv /no /d x -> err NoEntry 2",
+                "link /m /no -> err NoEntry 2",
+                "read a 0 1 -> err Invalid 22",
+                "write a x -> err Invalid 22",
+                "poll a -> err Invalid 22",
+                "close a -> err Invalid 22",
+            ]
+        )
+    );
+}
+
+#[test]
 fn names_are_taken_until_removed(rt: HostRuntime) {
     assert!(rt;
         are_answered(

@@ -20,7 +20,20 @@ pub fn answers<R: Threads + Wait + Sync>(
     requires some { 1 ≤ workers }
     requires few { workers ≤ 16 }
 {
-    let limits = Limits::new(slots, 65535)?;
+    answers_within(rt, alloc, Limits::new(slots, 65535)?, workers, script)
+}
+
+/// The same within these limits.
+pub fn answers_within<R: Threads + Wait + Sync>(
+    rt: &R,
+    alloc: Global,
+    limits: Limits,
+    workers: u32,
+    script: &[u8],
+) -> Option<Vec<u8>>
+    requires some { 1 ≤ workers }
+    requires few { workers ≤ 16 }
+{
     let texts = Texts::new(alloc).ok()?;
     run_workers(rt, alloc, &texts, limits, workers, script).ok()
 }

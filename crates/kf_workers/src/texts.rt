@@ -1,7 +1,12 @@
 //! The texts of the files that a run makes.
 
-ghost use Rattle.std.specs.Prelude.{◌≡◌, IfErr};
+ghost use Rattle.std.specs.Prelude.{◌≡◌, ◌<◌, ◌≤◌, [], length, true, IfErr};
+ghost use Rattle.kf_core.specs.declared.caller.Phase.TheVariants.{Running};
 ghost use Rattle.kf_core.specs.declared.refusal.Refusal.TheVariants.{NoMemory};
+ghost use Rattle.kf_core.specs.Phases.{has_reference};
+ghost use Rattle.kf_files.specs.Files.{filled_by};
+ghost use Rattle.kf_words.specs.Callers.{IsSameSeat};
+ghost use Rattle.kf_workers.specs.TextAnswers.{BeginsUnlessFull, ShowsKept, StoresWhole};
 
 use kf_core::Refusal;
 use kf_files::{Fault, Page, WaitOps};
@@ -53,15 +58,14 @@ impl Texts {
 }
 
 impl WaitOps for Texts {
-    ghost use Rattle.kf_workers.specs.TextAnswers.{BeginsUnlessFull, ShowsKept, StoresWhole};
-
     ghost may_show = { λ _. ShowsKept };
 
     ghost may_store = { λ _. StoresWhole };
 
     ghost may_begin = { λ _ _ _. BeginsUnlessFull };
 
-    /// Fills the page with the first 4,096 bytes of the text. Fault 22 where the tag has none.
+    /// Fills the page with the first 4,096 bytes of the text. Fault 22 where the tag has none. The call keeps
+    /// its reference all the while.
     fn show<N: Naming, R: Wait>(
         &self,
         rt: &R,
@@ -69,7 +73,15 @@ impl WaitOps for Texts {
         call: &mut Call,
         tag: u64,
         page: &mut Page,
-    ) -> Result<(), Fault> {
+    ) -> Result<(), Fault>
+        requires table { call.old.table ≡ N.table }
+        requires running { call.old.phase ≡ Running }
+        requires empty { page.old.items ≡ [] }
+        ensures shown { ShowsKept tag (filled_by result page.new.items) }
+        ensures untouched { call.new ≡ call.old }
+        ensures seat { IsSameSeat call.old call.new }
+        ensures reference { has_reference call.new.phase ≡ true }
+    {
         let _ = tree;
         let _ = call;
         let texts = self.texts.lock(rt);
@@ -83,7 +95,7 @@ impl WaitOps for Texts {
     }
 
     /// Puts the bytes in place of the whole text, and answers their number. Fault 12 where memory was
-    /// refused, 22 where the tag has no text.
+    /// refused, 22 where the tag has no text. The call keeps its reference all the while.
     fn store<N: Naming, R: Wait>(
         &self,
         rt: &R,
@@ -91,7 +103,16 @@ impl WaitOps for Texts {
         call: &mut Call,
         tag: u64,
         bytes: &[u8],
-    ) -> Result<usize, Fault> {
+    ) -> Result<usize, Fault>
+        requires table { call.old.table ≡ N.table }
+        requires running { call.old.phase ≡ Running }
+        requires some { 0 < length bytes.now }
+        requires fits { length bytes.now ≤ 4096 }
+        ensures stored { StoresWhole tag bytes.now result }
+        ensures untouched { call.new ≡ call.old }
+        ensures seat { IsSameSeat call.old call.new }
+        ensures reference { has_reference call.new.phase ≡ true }
+    {
         let _ = tree;
         let _ = call;
         let Ok(copy) = bytes.to_vec(self.alloc) else {

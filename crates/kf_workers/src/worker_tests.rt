@@ -1,6 +1,7 @@
 //! What workers have of their own, and what one sees of the others in the next round.
 
-use crate::test_fixtures::are_answered;
+use crate::test_fixtures::{answers_within, are_answered};
+use kf_core::Limits;
 
 #[test]
 fn sixteen_workers_have_boards(rt: HostRuntime) {
@@ -21,6 +22,17 @@ fn sixteen_workers_have_boards(rt: HostRuntime) {
                 "stat /a -> dir subdirs=0 nlink=2 live",
             ]
         )
+    );
+}
+
+#[test]
+fn a_node_has_as_many_holds_as_the_run_allows(rt: HostRuntime) {
+    let script = b"file /a 644 x\nopen f /a r\nopen g /a r\n";
+    let replies = b"ok 1.1\nok\nerr TooManyHolds 24\n";
+    assert!(rt;
+        Limits::new(16, 1)
+            .and_then(|limits| answers_within(&rt, rt.alloc(), limits, 1, script))
+            .is_some_and(|text| text.as_slice() == replies.as_slice())
     );
 }
 

@@ -5,7 +5,8 @@ ghost use Rattle.kf_core.specs.declared.command.Command.{Command};
 ghost use Rattle.kf_core.specs.declared.command.Command.TheVariants.{Create, Rename};
 ghost use Rattle.kf_core.specs.declared.refusal.Refusal.TheVariants.{NoMemory};
 ghost use Rattle.kf_tree.specs.Canonical.{IsCanonical};
-ghost use Rattle.kf_tree.specs.Causes.{Refuses, create_cause, rename_cause, is_there_already};
+ghost use Rattle.kf_tree.specs.Causes.{Refuses, create_cause, rename_cause};
+ghost use Rattle.kf_table.specs.Children.{is_there_already};
 ghost use Rattle.kf_plain.specs.Nodes.{IsNext, hold_count, listed, logged};
 
 use super::Nodes;

@@ -3,10 +3,10 @@
 
 ghost use Rattle.std.specs.Prelude.{◌≡◌, slice_get, IfSome, Some, None};
 
-mod compaction;
-mod hiding;
-mod large;
-mod places;
+mod compaction_tests;
+mod hiding_tests;
+mod large_tests;
+mod places_tests;
 
 use super::State;
 use crate::Stat;

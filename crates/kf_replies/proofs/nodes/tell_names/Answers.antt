@@ -9,4 +9,4 @@ loop-name-preserved c =
     let i = c.loop-name.name-index in
     let h : i < length later = c.loop-name-test.true in
     let more = names_text-next first later i c.name-item.result h in
-    (first, split, cc (more, c.in_ok-extend-2.ensures.text, c.in_ok-extend-3.ensures.text, c.bytes-in-loop-name.ensures.same, c.name-item.is, text))
+    (first, split, cc (more, c.in_ok-extend_after.ensures.text, c.bytes-in-loop-name.ensures.same, c.name-item.is, text))

@@ -7,12 +7,12 @@ use Rattle.kf_tree.proofs.listing.list_names.Goals as goal
 pub children-init : goal.children-init
 children-init c = record {
   bound = _;
-  so_far = listed_none c.args.table.now c.args.dir _ c.args.limit _ (ap (map (λ n. n.now)) c.new-names.ensures.items);
+  so_far = listed_none c.args.table.now c.args.dir _ c.args.limit _ (ap (map (λ n. n.now)) c.in-Ok.ensures.items);
   left = c.children_above-later.ensures.listed;
 }
 
-pub returns-in_default-clause-listed : goal.returns-in_default-clause-listed
-returns-in_default-clause-listed c = listed_all c.args.table.now c.requires.lawful.0 c.args.dir c.requires.lawful.1 _ c.args.limit _ _ c.in_default.len_below c.children.invariant
+pub returns-in_default-later-clause-listed : goal.returns-in_default-later-clause-listed
+returns-in_default-later-clause-listed c = listed_all c.args.table.now c.requires.lawful.0 c.args.dir c.requires.lawful.1 _ c.args.limit _ _ c.in_default-later.len_below c.children.invariant
 
 pub returns-clause-listed : goal.returns-clause-listed
 returns-clause-listed c = listed_up_to c.args.table.now c.args.dir _ c.args.limit _ _

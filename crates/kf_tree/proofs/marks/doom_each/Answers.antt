@@ -3,7 +3,8 @@ use Rattle.std.proofs.lemmas.List.Sums.{fold_more}
 use Rattle.kf_core.specs.declared.key.Key.{Key}
 use Rattle.kf_core.specs.Tree.{Tree}
 use Rattle.kf_core.specs.Commands.{doomed_record}
-use Rattle.kf_tree.specs.Subtrees.{with_changed_slot, doomed_count, is_undoomed}
+use Rattle.kf_table.specs.Changes.{with_changed_slot, is_undoomed}
+use Rattle.kf_tree.specs.Subtrees.{doomed_count}
 use Rattle.kf_tree.proofs.Doomed.{doomed_changed}
 use Rattle.kf_tree.proofs.marks.doom_each.Goals as goal
 use Rattle.kf_tree.proofs.marks.doom_each.Goals.{then-doom, else-doom}

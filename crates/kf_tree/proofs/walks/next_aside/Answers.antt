@@ -1,4 +1,5 @@
 use Rattle.kf_tree.proofs.PreOrder.{up_none, aside_next, up_next, up_smaller, up_last, if_none}
+use Rattle.kf_tree.proofs.Later.{later_listed}
 use Rattle.kf_tree.proofs.walks.next_aside.Goals as goal
 
 pub up-init : goal.up-init
@@ -18,3 +19,6 @@ up-smaller c = up_smaller c.args.table.now c.requires.lawful.0 c.requires.lawful
 pub up-preserved : goal.up-preserved
 up-preserved c = up_next c.args.table.now c.requires.lawful.0 c.requires.lawful.1 c.args.key c.up.current c.in-Some.entry.now c.in_ok-dir.dir c.bytes.result.now _ c.in-Some.ensures.known c.in_ok-dir.was c.bytes.ensures.same
     c.in_default-children_above.len_below c.children_above.ensures.listed c.up.invariant
+
+pub returns-in-len1-up-clause-later : goal.returns-in-len1-up-clause-later
+returns-in-len1-up-clause-later c = later_listed c.args.table.now _ _ _ _ c.in-len1-up.len_at_least c.children_above.ensures.listed

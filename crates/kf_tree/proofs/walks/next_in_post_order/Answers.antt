@@ -1,18 +1,23 @@
-use Rattle.std.proofs.Common.{rules, ◌≢◌}
+use Rattle.std.proofs.Common.{rules, ◌≢◌, refl, sym}
 use Rattle.kf_tree.proofs.Tours.{linked_sibling, on_to_sibling, up_to_parent}
+use Rattle.kf_tree.proofs.Later.{later_listed}
 use Rattle.kf_tree.proofs.walks.next_in_post_order.Goals as goal
 
 pub first_below-requires-clause-linked : goal.first_below-requires-clause-linked
-first_below-requires-clause-linked c = linked_sibling c.args.table.now c.requires.lawful.0 c.requires.lawful.1 _ _ _ _ c.in-len1-up.len_at_least c.children_above.ensures.listed
+first_below-requires-clause-linked c = linked_sibling c.args.table.now c.requires.lawful.0 c.requires.lawful.1 _ _ _ _ c.in-len1-up.len_at_least
+    (c.requires.later _ _ (sym c.in_ok-entry.ensures.known) c.in_ok-dir.was)
+
+pub first_below-requires-clause-later : goal.first_below-requires-clause-later
+first_below-requires-clause-later c = later_listed c.args.table.now _ _ _ _ c.in-len1-up.len_at_least (c.requires.later _ _ (sym c.in_ok-entry.ensures.known) c.in_ok-dir.was)
 
 pub returns-in-empty-clause-next : goal.returns-in-empty-clause-next
 returns-in-empty-clause-next c =
     (let other : c.args.key ≢ c.args.top = search rules in
-    up_to_parent c.args.table.now c.requires.lawful.0 c.requires.lawful.1 c.args.top c.args.key c.in_ok-entry.entry.now c.in_ok-dir.dir c.bytes.result.now _ c.in_ok-entry.ensures.known c.in_ok-dir.was other
-    c.requires.below c.bytes.ensures.same c.in-empty.len_below c.children_above.ensures.listed)
+    up_to_parent c.args.table.now c.requires.lawful.0 c.requires.lawful.1 c.args.top c.args.key c.in_ok-entry.entry.now c.in_ok-dir.dir c.in_ok-entry.entry.now.name _ c.in_ok-entry.ensures.known c.in_ok-dir.was other
+    c.requires.below refl c.in-empty.len_below (c.requires.later _ _ (sym c.in_ok-entry.ensures.known) c.in_ok-dir.was))
 
 pub returns-in-len1-up-clause-next : goal.returns-in-len1-up-clause-next
 returns-in-len1-up-clause-next c =
     (let other : c.args.key ≢ c.args.top = search rules in
-    on_to_sibling c.args.table.now c.requires.lawful.0 c.requires.lawful.1 c.args.top c.args.key c.first_below.result c.in_ok-entry.entry.now c.in_ok-dir.dir c.bytes.result.now _ _ c.in_ok-entry.ensures.known c.in_ok-dir.was other
-    c.requires.below c.bytes.ensures.same c.in-len1-up.len_at_least c.children_above.ensures.listed c.first_below.ensures.first)
+    on_to_sibling c.args.table.now c.requires.lawful.0 c.requires.lawful.1 c.args.top c.args.key c.first_below.result.0 c.in_ok-entry.entry.now c.in_ok-dir.dir c.in_ok-entry.entry.now.name _ _ c.in_ok-entry.ensures.known c.in_ok-dir.was other
+    c.requires.below refl c.in-len1-up.len_at_least (c.requires.later _ _ (sym c.in_ok-entry.ensures.known) c.in_ok-dir.was) c.first_below.ensures.first)

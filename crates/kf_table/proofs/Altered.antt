@@ -1,0 +1,41 @@
+-- A change of the record in one slot.
+use Rattle.std.proofs.Common.{◌≡◌, ◌≢◌, ℕ, zero, suc, ◌<◌, ◌≤◌, refl, ap, arith, sym, ◌∙◌, List, [], ◌∷◌, length, get_or}
+use Rattle.std.specs.Prelude.{Option, None, Some, slice_get, slice_set}
+use Rattle.std.specs.Option.{option_map, option_and_then}
+use Rattle.std.proofs.lemmas.Option.{none-some, slice_get_within, slice_get_past, slice_get-get_or}
+use Rattle.std.proofs.lemmas.List.{set-set}
+use Rattle.kf_core.specs.declared.records.Record.{Record}
+use Rattle.kf_core.specs.Tree.{Tree}
+use Rattle.kf_table.specs.Changes.{with_changed_slot}
+use Rattle.kf_core.proofs.Lists.{length_set, slice_get-set_same, slice_get-set_other}
+
+module _ (f : Record → Record) where
+  abbrev pub on : Option (Option Record) → Option (Option Record)
+  on o = option_map (option_map f) o
+
+  pub altered_other : (t : Tree) (slot j : ℕ) → slot ≢ j → slice_get (with_changed_slot f t slot) j ≡ slice_get t j
+  altered_other t slot j n = slice_get-set_other t slot j _ (λ e. n (sym e))
+
+  pub altered_at : (t : Tree) (slot j : ℕ) → slot ≡ j → slice_get (with_changed_slot f t slot) j ≡ on (slice_get t j)
+  altered_at t slot j e = ap (λ i. slice_get (with_changed_slot f t i) j) e ∙ go (slice_get t j) refl
+    where
+      go : (o : Option (Option Record)) → slice_get t j ≡ o → slice_get (slice_set t j (option_and_then (λ place. option_map f place) (slice_get t j))) j ≡ on (slice_get t j)
+      go (Some place) h = slice_get-set_same t j (option_and_then (λ place. option_map f place) (slice_get t j)) (slice_get_within t j place h)
+          ∙ ap (λ o. Some (option_and_then (λ place. option_map f place) o)) h ∙ ap on (sym h)
+      go None h = elim (slice_get (with_changed_slot f t j) j) as (λ o. slice_get (with_changed_slot f t j) j ≡ o → slice_get (with_changed_slot f t j) j ≡ on (slice_get t j)) [
+        | None ↦ λ g. g ∙ ap on (sym h)
+        | Some place ↦ λ g. absurd (none-some place (sym (slice_get_past (with_changed_slot f t j) j (short (slice_get_is_past t j h))) ∙ g))
+      ] refl
+        where
+          slice_get_is_past : (xs : List (Option Record)) (i : ℕ) → slice_get xs i ≡ None → length xs ≤ i
+          slice_get_is_past [] i h = omega arith
+          slice_get_is_past (x ∷ xs) zero h = absurd (none-some x (sym h))
+          slice_get_is_past (x ∷ xs) (suc i) h = (let r = slice_get_is_past xs i h in omega arith)
+
+          short : length t ≤ j → length (with_changed_slot f t j) ≤ j
+          short h = (let e = length_set t j (option_and_then (λ place. option_map f place) (slice_get t j)) in omega arith)
+
+-- an item taken out of its slot and put back changed
+pub altered_written : (f : Record → Record) (t : Tree) (slot : ℕ) (between item new : Option Record) → slot < length t → item ≡ get_or t slot item → new ≡ option_map f item → slice_set (slice_set t slot between) slot new ≡ with_changed_slot f t slot
+altered_written f t slot between item new h e n =
+    set-set t slot between new ∙ ap (slice_set t slot) (n ∙ ap (λ o. option_and_then (λ place. option_map f place) o) (ap Some e ∙ sym (slice_get-get_or t slot item h)))

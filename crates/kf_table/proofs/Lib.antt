@@ -1,0 +1,11 @@
+pub mod ChildTests
+pub mod Altered
+pub mod Entries
+pub mod Kept
+pub mod KeptMarks
+pub mod Rooms
+pub mod KeptRecords
+pub mod Swapped
+pub mod KeptMoves
+pub mod LookUps
+pub mod Climbing

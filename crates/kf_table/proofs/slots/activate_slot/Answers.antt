@@ -1,0 +1,11 @@
+use Rattle.std.proofs.Common.{◌∙◌, ap, arith}
+use Rattle.std.specs.Option.{option_map}
+use Rattle.kf_table.specs.Changes.{activated_unless_doomed}
+use Rattle.kf_table.proofs.Altered.{altered_written}
+use Rattle.kf_table.proofs.slots.activate_slot.Goals as goal
+
+pub returns-then-at-len : goal.returns-then-at-len
+returns-then-at-len c = record {
+  changed = (altered_written activated_unless_doomed c.args.records.now.items c.args.slot c.take-entry.new.self c.index_mut.result.now c.activated.result
+      (omega (arith, c.if-at-len.true, c.len.ensures)) c.index_mut.ensures.value (c.activated.ensures.changed ∙ ap (λ o. option_map activated_unless_doomed o) c.take-entry.ensures.value));
+}

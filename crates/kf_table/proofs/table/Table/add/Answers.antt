@@ -1,0 +1,23 @@
+use Rattle.std.proofs.Common.{◌<◌, arith, length}
+use Rattle.std.proofs.lemmas.Option.{slice_get_within}
+use Rattle.kf_table.proofs.KeptRecords.{may_enter, kept_added}
+use Rattle.kf_table.proofs.table.Table.add.Goals as goal
+
+pub enter_record-requires : goal.enter_record-requires
+enter_record-requires c =
+    let vacant = rw (← c.self.view_is) at c.requires.vacant in
+    let after = rw (← c.self.view_is) at c.requires.lawful_after in
+    record { lawful = may_enter _ _ c.self.invariant c.args.entry vacant after }
+
+pub index_mut-requires : goal.index_mut-requires
+index_mut-requires c =
+    let vacant = rw (← c.self.view_is) at c.requires.vacant in
+    let low : c.args.entry.key.slot < length c.self.inside.records.items = slice_get_within _ _ _ vacant in
+    omega (arith, low)
+
+pub invariant_of-self-2 : goal.invariant_of-self-2
+invariant_of-self-2 c =
+    let vacant = rw (← c.self.view_is) at c.requires.vacant in
+    let after = rw (← c.self.view_is) at c.requires.lawful_after in
+    let may = may_enter _ _ c.self.invariant c.args.entry vacant after in
+    rw c.in_ok-enter_record.ensures.entered (kept_added _ _ c.self.invariant c.args.entry vacant may)

@@ -1,0 +1,46 @@
+use Rattle.std.proofs.Common.{◌<◌, arith, length}
+use Rattle.kf_core.proofs.FoundRecords.{linked_here}
+use Rattle.kf_table.proofs.KeptRecords.{linked_low}
+use Rattle.kf_table.proofs.KeptMoves.{MayMoveTo, has_room, may_move_out, kept_by_move}
+use Rattle.kf_table.proofs.table.Table.move_to.Goals as goal
+
+pub enter-requires : goal.enter-requires
+enter-requires c =
+    let m : MayMoveTo c.self.inside.records.items c.args.key c.args.dir c.args.name = rw c.self.view_is (record {
+      linked = c.requires.linked;
+      lawful = c.requires.lawful;
+      lawful_after = c.requires.lawful_after;
+      elsewhere = c.requires.elsewhere;
+    }) in
+    let h = linked_here _ c.args.key m.linked in
+    rw c.bytes.ensures.same (record { room = has_room _ _ c.self.invariant c.args.key c.args.dir c.args.name m h.0 h.1 h.2 })
+
+pub index-requires : goal.index-requires
+index-requires c =
+    let linked = rw (← c.self.view_is) at c.requires.linked in
+    let low : c.args.key.slot < length c.self.inside.records.items = linked_low _ c.args.key linked in
+    omega (arith, low)
+
+pub leave-requires : goal.leave-requires
+leave-requires c =
+    let m : MayMoveTo c.self.inside.records.items c.args.key c.args.dir c.args.name = rw c.self.view_is (record {
+      linked = c.requires.linked;
+      lawful = c.requires.lawful;
+      lawful_after = c.requires.lawful_after;
+      elsewhere = c.requires.elsewhere;
+    }) in
+    let tells = rw (c.record.ensures.known, ← c.self.view_is) at c.is_directory_record-is_subdir.ensures.known in
+    let entered = rw c.bytes.ensures.same at c.in_ok-enter.ensures.entered in
+    record { counted = may_move_out _ _ c.self.invariant c.args.key c.args.dir c.args.name m _ _ _ _ tells entered c.index.ensures c.as_ref.ensures.value }
+
+pub invariant_of-self-2 : goal.invariant_of-self-2
+invariant_of-self-2 c =
+    let m : MayMoveTo c.self.inside.records.items c.args.key c.args.dir c.args.name = rw c.self.view_is (record {
+      linked = c.requires.linked;
+      lawful = c.requires.lawful;
+      lawful_after = c.requires.lawful_after;
+      elsewhere = c.requires.elsewhere;
+    }) in
+    let tells = rw (c.record.ensures.known, ← c.self.view_is) at c.is_directory_record-is_subdir.ensures.known in
+    let entered = rw c.bytes.ensures.same at c.in_ok-enter.ensures.entered in
+    rw (c.move_slot.ensures.changed, c.leave.ensures.left) (kept_by_move _ _ c.self.invariant c.args.key c.args.dir c.args.name m _ _ _ _ tells entered c.index.ensures c.as_ref.ensures.value)

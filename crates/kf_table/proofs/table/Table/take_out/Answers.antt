@@ -1,0 +1,19 @@
+use Rattle.std.proofs.Common.{◌<◌, arith, length}
+use Rattle.kf_table.proofs.KeptRecords.{may_take, kept_taken, linked_low}
+use Rattle.kf_table.proofs.table.Table.take_out.Goals as goal
+
+pub leave-requires : goal.leave-requires
+leave-requires c =
+    let linked = rw (← c.self.view_is) at c.requires.linked in
+    record { counted = may_take _ _ c.self.invariant c.args.key _ _ linked c.index.ensures c.as_ref.ensures.value }
+
+pub index_mut-requires : goal.index_mut-requires
+index_mut-requires c =
+    let linked = rw (← c.self.view_is) at c.requires.linked in
+    let low : c.args.key.slot < length c.self.inside.records.items = linked_low _ c.args.key linked in
+    omega (arith, low)
+
+pub invariant_of-self : goal.invariant_of-self
+invariant_of-self c =
+    let linked = rw (← c.self.view_is) at c.requires.linked in
+    rw c.leave.ensures.left (kept_taken _ _ c.self.invariant c.args.key _ _ linked c.index.ensures c.as_ref.ensures.value)

@@ -1,0 +1,103 @@
+-- What is kept of each directory beside its record, by slot: an index of its children and the number of child
+-- directories.
+use Rattle.std.specs.Prelude.{◌≡◌, ℕ, ◌+◌, ◌-◌, ◌^◌, ◌<◌, ◌↔◌, Bool, true, false, ◌&&◌, ◌==◌, List, length, slice_get, slice_set, slice_index_or, Option, None, Some, count_by, if◌then◌else◌}
+use Rattle.std.specs.Option.{option_and_then, option_map_or}
+use Rattle.std.specs.FinMap as map_of
+use Rattle.kf_core.specs.declared.key.Key.{Key}
+use Rattle.kf_core.specs.declared.records.Record.{Record}
+use Rattle.kf_core.specs.Names.{IsLawfulName}
+use Rattle.kf_core.specs.Tree.{Tree, IsIn, is_dir}
+use Rattle.kf_table.specs.declared.directories.Directory.{Directory}
+
+-- a directory without children
+abbrev pub empty_directory : Directory
+empty_directory = record { index = map_of.empty; subdirs = 0 }
+
+-- the directory with one more child
+abbrev pub with_child : List ℕ → Key → Bool → Directory → Directory
+with_child name key is_subdir d =
+    record {
+      index = map_of.insert d.index name key;
+      subdirs = if is_subdir then d.subdirs + 1 else d.subdirs;
+    }
+
+-- the directory without the child of this name
+abbrev pub without_child : List ℕ → Bool → Directory → Directory
+without_child name is_subdir d =
+    record { index = map_of.remove d.index name; subdirs = if is_subdir then d.subdirs - 1 else d.subdirs }
+
+-- the key under a name in the index of a slot
+abbrev pub entry_at : List Directory → ℕ → List ℕ → Option Key
+entry_at directories slot name = option_and_then (λ d. map_of.get d.index name) (slice_get directories slot)
+
+-- the number of child directories that is kept for a slot
+abbrev pub subdirs_at : List Directory → ℕ → ℕ
+subdirs_at directories slot = option_map_or (λ d. d.subdirs) (slice_get directories slot) 0
+
+-- what is kept, with one more child of the directory in this slot
+abbrev pub with_entry : ℕ → List ℕ → Key → Bool → List Directory → List Directory
+with_entry slot name key is_subdir directories =
+    slice_set directories slot
+    (with_child name key is_subdir (slice_index_or directories slot empty_directory))
+
+-- what is kept, with the record in its directory, where it has one
+abbrev pub with_record : Record → List Directory → List Directory
+with_record r directories = option_map_or
+    (λ parent. with_entry parent.slot r.name r.key (is_dir r.node) directories) r.parent directories
+
+-- what is kept, without the child of this name, where there is a parent
+abbrev pub without_entry : Option Key → List ℕ → Bool → List Directory → List Directory
+without_entry None name is_subdir directories = directories
+without_entry (Some parent) name is_subdir directories =
+    slice_set directories parent.slot
+    (without_child name is_subdir (slice_index_or directories parent.slot empty_directory))
+
+-- what is kept, without the record
+abbrev pub without_record : Option Record → List Directory → List Directory
+without_record None directories = directories
+without_record (Some r) directories = without_entry r.parent r.name (is_dir r.node) directories
+
+-- the name may enter the index of this slot
+pub record HasRoom (directories : List Directory) (slot : ℕ) (name : List ℕ) : Type 0 where
+  pub within : slot < length directories
+  pub lawful_name : IsLawfulName name
+  pub absent : entry_at directories slot name ≡ None
+  pub few : subdirs_at directories slot + 1 < 2 ^ 64
+
+abbrev pub MayEnter : List Directory → Record → Type 0
+MayEnter directories r = (parent : Key) → r.parent ≡ Some parent → HasRoom directories parent.slot r.name
+
+-- there is a directory for the record's parent, which counts it if it is a directory
+abbrev pub MayLeave : List Directory → Option Record → Type 0
+MayLeave directories None = Unit {0}
+MayLeave directories (Some r) = (parent : Key) → r.parent ≡ Some parent
+    → (parent.slot < length directories) × (is_dir r.node ≡ true → 0 < subdirs_at directories parent.slot)
+
+-- whether the parent is in this slot
+abbrev pub is_slot_of : ℕ → Option Key → Bool
+is_slot_of slot None = false
+is_slot_of slot (Some parent) = parent.slot == slot
+
+-- whether there is a directory whose parent is in this slot
+abbrev pub is_subdir_in : ℕ → Option Record → Bool
+is_subdir_in slot None = false
+is_subdir_in slot (Some r) = is_slot_of slot r.parent && is_dir r.node
+
+-- a linked record with this key has this name, and its parent is in this slot
+pub record IsEntry (t : Tree) (slot : ℕ) (name : List ℕ) (key : Key) : Type 0 where
+  pub child : Record
+  pub is_in : IsIn t child
+  pub has_key : child.key ≡ key
+  pub dir : Key
+  pub parent : child.parent ≡ Some dir
+  pub in_slot : dir.slot ≡ slot
+  pub named : child.name ≡ name
+
+-- the index of each slot leads from the names of its linked children to their keys, and to nothing else; its
+-- child directories are counted
+pub record AreKept (t : Tree) (directories : List Directory) : Type 0 where
+  pub as_many : length directories ≡ length t
+  pub few : length t < 2 ^ 32
+  pub entries : (slot : ℕ) (name : List ℕ) (key : Key) → (entry_at directories slot name ≡ Some key)
+      ↔ IsEntry t slot name key
+  pub counted : (slot : ℕ) → slot < length t → subdirs_at directories slot ≡ count_by (is_subdir_in slot) t

@@ -1,0 +1,4 @@
+pub mod Children
+pub mod Next
+pub mod Changes
+pub mod Directories

@@ -1,0 +1,38 @@
+//! Tests of a record: whether it is a directory, and whether it is in this one.
+
+ghost use Rattle.std.specs.Prelude.{◌≡◌, false};
+ghost use Rattle.std.specs.Option.{option_copied, option_map_or};
+ghost use Rattle.kf_core.specs.Tree.{is_dir};
+ghost use Rattle.kf_table.specs.Children.{is_key};
+
+use kf_core::{Key, Node, Record};
+
+/// Whether a node is a directory.
+pub fn is_directory(node: &Node) -> bool
+    ensures known { result ≡ is_dir node.now }
+{
+    match node {
+        Node::Dir => true,
+        _ => false,
+    }
+}
+
+/// Whether a record is in this directory.
+pub fn is_in(entry: &Record, dir: Key) -> bool
+    ensures known { result ≡ is_key dir entry.now.parent }
+{
+    match entry.parent {
+        Some(parent) => parent == dir,
+        None => false,
+    }
+}
+
+/// Whether there is a record, and it is a directory.
+pub fn is_directory_record(entry: Option<&Record>) -> bool
+    ensures known { result ≡ option_map_or (λ r. is_dir r.node) (option_copied entry.entry) false }
+{
+    match entry {
+        Some(found) => is_directory(&found.node),
+        None => false,
+    }
+}

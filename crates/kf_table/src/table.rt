@@ -1,0 +1,259 @@
+//! The records of a tree by slot.
+
+ghost use Rattle.std.specs.Prelude.{◌≡◌, ◌≤◌, ◌<◌, ◌↔◌, Some, None, true, false, IsTrue, IfOk, IfErr, OnOk, OnErr, length, slice_get, slice_set};
+ghost use Rattle.std.specs.Option.{option_copied, option_and_then};
+ghost use Rattle.kf_core.specs.declared.key.Key.{Key};
+ghost use Rattle.kf_core.specs.Tree.{record_at, parent_of, is_linked, in_subtree};
+ghost use Rattle.kf_core.specs.Lawful.{Lawful};
+ghost use Rattle.kf_core.specs.Commands.{root_alone, doomed_record, hidden_record, moved_record};
+ghost use Rattle.kf_table.specs.Children.{has_child, is_there_already, child, subdirs};
+ghost use Rattle.kf_table.specs.Next.{AreNext};
+ghost use Rattle.kf_table.specs.Changes.{with_changed_slot, activated_unless_doomed, is_undoomed};
+
+use crate::children::is_directory_record;
+use crate::directories::{Directory, empty_directories, enter, enter_record, leave};
+use crate::slots::{activate_slot, doom_slot, empty_slots, hide_slot, move_slot};
+use kf_core::{Key, Marks, NameBytes, Node, Record, Refusal};
+use kf_index::Name;
+use std::alloc::Global;
+use std::marker::Model;
+
+/// The records of a tree by slot, and beside each the index of its children and the number of child
+/// directories. Contracts see the tree.
+#[derive(Drop)]
+pub struct Table {
+    records: Vec<Option<Record>>,
+    directories: Vec<Directory>,
+}
+
+impl Model for Table {
+    ghost use Rattle.std.specs.Prelude.{List, Option};
+    ghost use Rattle.kf_core.specs.declared.records.Record.{Record};
+    ghost use Rattle.kf_table.specs.Directories.{AreKept};
+
+    ghost Value = { List (Option Record) };
+
+    ghost view = { λ table. table.records.items };
+
+    ghost invariant = { λ table. AreKept table.records.items table.directories.items };
+}
+
+impl Table {
+    /// The root alone, and so many slots.
+    pub fn new(alloc: Global, slots: u32, root: Key) -> Result<Table, Refusal>
+        requires in_table { root.slot < slots }
+        ensures made { IfOk result (λ table. table ≡ root_alone slots root) }
+        ensures refused { IfErr result (λ refusal. refusal ≡ Refusal.NoMemory) }
+    {
+        let mut records = empty_slots(alloc, slots)?;
+        records[root.slot as usize] = Some(Record {
+            key: root,
+            parent: None,
+            name: NameBytes::from_bytes(Vec::new(alloc)),
+            node: Node::Dir,
+            marks: Marks {
+                activated: true,
+                doomed: false,
+            },
+            hidden: false,
+        });
+        let directories = empty_directories(alloc, slots)?;
+        Ok(Table {
+            records,
+            directories,
+        })
+    }
+
+    /// The number of slots.
+    pub fn len(&self) -> usize
+        ensures known { result ≡ length self.now }
+    {
+        self.records.len()
+    }
+
+    /// The record in a slot.
+    pub fn in_slot(&self, slot: u32) -> Option<&Record>
+        ensures known { option_copied result ≡ option_and_then (λ entry. entry) (slice_get self.now slot) }
+    {
+        match self.records.get(slot as usize) {
+            Some(entry) => entry.as_ref(),
+            None => None,
+        }
+    }
+
+    /// Whether there is such a slot, without a record.
+    pub fn is_vacant(&self, slot: u32) -> bool
+        ensures known { IsTrue result ↔ (slice_get self.now slot ≡ Some None) }
+    {
+        match self.records.get(slot as usize) {
+            Some(entry) => entry.is_none(),
+            None => false,
+        }
+    }
+
+    /// The record of a key, where it is linked.
+    pub fn record(&self, key: Key) -> Option<&Record>
+        ensures known { option_copied result ≡ record_at self.now key }
+    {
+        match self.records.get(key.slot as usize) {
+            Some(Some(found)) => { if found.key == key { Some(found) } else { None } }
+            _ => None,
+        }
+    }
+
+    /// The directory of a key's record.
+    pub fn parent(&self, key: Key) -> Option<Key>
+        ensures known { result ≡ parent_of self.now key }
+    {
+        match self.record(key) {
+            Some(found) => found.parent,
+            None => None,
+        }
+    }
+
+    /// Whether following parents from the key meets the top.
+    #[tactic(auto, using(crate::proofs::Climbing::one_step))]
+    pub fn is_below(&self, top: Key, key: Key) -> bool
+        ensures known { result ≡ in_subtree self.now top key }
+    {
+        let mut current = key;
+        'up: for _ in 0..self.len() {
+            if current == top {
+                return true;
+            }
+            match self.parent(current) {
+                Some(parent) => current = parent,
+                None => return false,
+            }
+        }
+        current == top
+    }
+
+    /// The record with this name in this directory.
+    pub fn child(&self, dir: Key, name: &[u8]) -> Option<&Record>
+        requires lawful { (root : Key) × Lawful self.now root }
+        ensures found { option_copied result ≡ child self.now dir name.now }
+    {
+        self.record(dir)?;
+        let key = self.directories[dir.slot as usize].get(name)?;
+        self.in_slot(key.slot)
+    }
+
+    /// The names and keys of the children above the bound, or of all where there is no bound, in byte order
+    /// of names.
+    pub fn children_above(&self, dir: Key, bound: Option<&[u8]>) -> &[(Name, Key)]
+        requires lawful { (root : Key) × Lawful self.now root }
+        ensures listed { AreNext self.now dir (option_copied bound.entry) result.now }
+    {
+        match self.record(dir) {
+            Some(_) => self.directories[dir.slot as usize].above(bound),
+            None => &[],
+        }
+    }
+
+    /// Whether a directory has a linked child.
+    pub fn has_child(&self, dir: Key) -> bool
+        requires lawful { (root : Key) × Lawful self.now root }
+        ensures known { result ≡ has_child self.now dir }
+    {
+        !self.children_above(dir, None).is_empty()
+    }
+
+    /// How many child directories a directory has.
+    pub fn subdirs(&self, dir: Key) -> u32
+        requires lawful { (root : Key) × Lawful self.now root }
+        requires few { length self.now ≤ 4096 }
+        ensures value { result ≡ subdirs self.now dir }
+        ensures few { result ≤ 4096 }
+    {
+        match self.record(dir) {
+            Some(_) => self.directories[dir.slot as usize].subdirs() as u32,
+            None => 0,
+        }
+    }
+
+    /// Puts a new record into its slot, and its name into the index of its directory.
+    pub fn add(&mut self, entry: Record) -> Result<(), Refusal>
+        requires vacant { slice_get self.old entry.key.slot ≡ Some None }
+        requires lawful_after { (root : Key) × Lawful (slice_set self.old entry.key.slot (Some entry)) root }
+        ensures added { OnOk result (self.new ≡ slice_set self.old entry.key.slot (Some entry)) }
+        ensures unchanged { OnErr result (self.new ≡ self.old) }
+        ensures refused { IfErr result (λ refusal. refusal ≡ Refusal.NoMemory) }
+    {
+        enter_record(&mut self.directories, &entry)?;
+        let slot = entry.key.slot as usize;
+        self.records[slot] = Some(entry);
+        Ok(())
+    }
+
+    /// Takes the record of a linked key out, and its name out of the index of its directory.
+    pub fn take_out(&mut self, key: Key)
+        requires linked { IsTrue (is_linked self.old key) }
+        ensures taken { self.new ≡ slice_set self.old key.slot None }
+    {
+        let slot = key.slot as usize;
+        leave(&mut self.directories, self.records[slot].as_ref());
+        self.records[slot] = None;
+    }
+
+    /// Whether the slot of a key has a record that is not doomed.
+    pub fn is_undoomed(&self, key: Key) -> bool
+        ensures known { result ≡ is_undoomed (slice_get self.now key.slot) }
+    {
+        let Some(found) = self.in_slot(key.slot) else {
+            return false;
+        };
+        !found.marks.doomed
+    }
+
+    /// Dooms the record in a key's slot, and tells whether it was not doomed before.
+    pub fn doom(&mut self, key: Key) -> bool
+        ensures changed { self.new ≡ with_changed_slot doomed_record self.old key.slot }
+        ensures newly { result ≡ is_undoomed (slice_get self.old key.slot) }
+    {
+        let newly = self.is_undoomed(key);
+        doom_slot(&mut self.records, key.slot);
+        newly
+    }
+
+    /// Hides the record in a key's slot, or shows it.
+    pub fn hide(&mut self, key: Key, hides: bool)
+        ensures changed { self.new ≡ with_changed_slot (hidden_record hides) self.old key.slot }
+    {
+        hide_slot(&mut self.records, key.slot, hides);
+    }
+
+    /// Activates the record in a key's slot, unless it is doomed.
+    pub fn activate(&mut self, key: Key)
+        ensures changed { self.new ≡ with_changed_slot activated_unless_doomed self.old key.slot }
+    {
+        activate_slot(&mut self.records, key.slot);
+    }
+
+    /// Puts the record of a linked key into a directory, under a name, and its entry into the index there.
+    pub fn move_to(&mut self, key: Key, dir: Key, name: NameBytes) -> Result<(), Refusal>
+        requires linked { IsTrue (is_linked self.old key) }
+        requires lawful { (root : Key) × Lawful self.old root }
+        requires lawful_after { (root : Key)
+            × Lawful (with_changed_slot (moved_record dir name) self.old key.slot) root }
+        requires elsewhere { is_there_already self.old key dir name ≡ false }
+        ensures moved { OnOk result (self.new ≡ with_changed_slot (moved_record dir name) self.old key.slot) }
+        ensures unchanged { OnErr result (self.new ≡ self.old) }
+        ensures refused { IfErr result (λ refusal. refusal ≡ Refusal.NoMemory) }
+    {
+        let is_subdir = is_directory_record(self.record(key));
+        enter(
+            &mut self.directories,
+            dir.slot,
+            name.bytes(),
+            key,
+            is_subdir,
+        )?;
+        leave(
+            &mut self.directories,
+            self.records[key.slot as usize].as_ref(),
+        );
+        move_slot(&mut self.records, key.slot, dir, name);
+        Ok(())
+    }
+}
