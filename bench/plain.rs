@@ -7,7 +7,9 @@
 
 use std::cmp::Reverse;
 use std::collections::{BTreeMap, BinaryHeap};
-use std::io::{self, Read, Write};
+use std::fs::File;
+use std::io::{self, BufRead, BufReader, Read, Write};
+use std::os::fd::AsFd;
 use std::process::ExitCode;
 
 /// The longest line that is a command, without its newline.
@@ -130,10 +132,6 @@ fn check_name(name: &[u8]) -> Result<(), Refusal> {
     Ok(())
 }
 
-fn names_of(parts: &[u8]) -> impl Iterator<Item = &[u8]> {
-    parts.split(|byte| *byte == b'/')
-}
-
 impl Board {
     fn new(slots: u32, keep_commands: bool) -> Board {
         let mut board = Board {
@@ -216,10 +214,22 @@ impl Board {
         if parts.is_empty() {
             return Ok(ROOT);
         }
-        if names_of(parts).any(|name| name.is_empty()) {
-            return Err(Refusal::Invalid);
-        }
-        names_of(parts).try_fold(ROOT, |dir, name| self.find(dir, name, live_only))
+        self.walk_names(parts, live_only)
+    }
+
+    /// Goes from the root by names between slashes. No node has an empty name, so a walk that meets one is
+    /// refused; only then is it asked whether that was the cause.
+    fn walk_names(&self, names: &[u8], live_only: bool) -> Result<u32, Refusal> {
+        let mut parts = names.split(|byte| *byte == b'/');
+        let end = parts.try_fold(ROOT, |dir, name| self.find(dir, name, live_only));
+        end.map_err(|why| {
+            let has_empty = names.split(|byte| *byte == b'/').any(<[u8]>::is_empty);
+            if has_empty {
+                Refusal::Invalid
+            } else {
+                why
+            }
+        })
     }
 
     /// The directory part of a path, walked, and its last name.
@@ -233,11 +243,7 @@ impl Board {
                 Ok((ROOT, parts))
             };
         };
-        if names_of(&parts[..at]).any(|name| name.is_empty()) {
-            return Err(Refusal::Invalid);
-        }
-        let dir = names_of(&parts[..at]).try_fold(ROOT, |dir, name| self.find(dir, name, false))?;
-        Ok((dir, &parts[at + 1..]))
+        Ok((self.walk_names(&parts[..at], false)?, &parts[at + 1..]))
     }
 
     /// Puts a node that stands nowhere yet into a directory.
@@ -461,21 +467,24 @@ impl Board {
     fn stat(&self, path: &[u8], reply: &mut Vec<u8>) -> Result<(), Refusal> {
         let node = self.node(self.walk(path, false)?);
         let state = match (node.activated, node.hidden) {
-            (false, _) => "off",
-            (true, true) => "hidden",
-            (true, false) => "live",
+            (false, _) => &b" off"[..],
+            (true, true) => b" hidden",
+            (true, false) => b" live",
         };
         match &node.kind {
             Kind::Dir { subdirs, .. } => {
-                let links = subdirs + 2;
-                put(
-                    reply,
-                    format_args!("dir subdirs={subdirs} nlink={links} {state}"),
-                )
+                reply.extend_from_slice(b"dir subdirs=");
+                put_number(reply, u64::from(*subdirs));
+                reply.extend_from_slice(b" nlink=");
+                put_number(reply, u64::from(*subdirs) + 2);
             }
-            Kind::File { mode, .. } => put(reply, format_args!("file mode={mode:03o} {state}")),
-            Kind::Link { .. } => put(reply, format_args!("link {state}")),
+            Kind::File { mode, .. } => {
+                reply.extend_from_slice(b"file mode=");
+                reply.extend([6, 3, 0].map(|shift| b'0' + (mode >> shift & 7) as u8));
+            }
+            Kind::Link { .. } => reply.extend_from_slice(b"link"),
         }
+        reply.extend_from_slice(state);
         Ok(())
     }
 
@@ -637,7 +646,7 @@ impl Board {
             (b"write", rest) => {
                 let (letter, text) = cut(rest);
                 let count = self.write(letter_of(letter)?, text)?;
-                put(reply, format_args!("{count}"))
+                put_number(reply, count as u64)
             }
             (b"plug", rest) => {
                 let is_named = !cut(rest).0.is_empty();
@@ -700,7 +709,7 @@ impl Board {
             [b"close", letter] => done(self.close(letter_of(letter)?)?, reply),
             [b"hide", path] => done(self.hide(path)?, reply),
             [b"show", path] => done(self.show(path)?, reply),
-            [b"commands"] => put(reply, format_args!("{}", self.commands.count)),
+            [b"commands"] => put_number(reply, self.commands.count as u64),
             [b"compact"] => done(self.compact(), reply),
             [b"unplug", _] => return Err(Refusal::NoDevice),
             [b"wait"] => done((), reply),
@@ -782,8 +791,14 @@ fn number_of(word: &[u8], digits: usize, greatest: u64) -> Result<u64, Refusal> 
     }
 }
 
-fn put(reply: &mut Vec<u8>, text: std::fmt::Arguments) {
-    reply.write_fmt(text).expect("a Vec takes all bytes");
+fn put_number(reply: &mut Vec<u8>, number: u64) {
+    let (mut digits, mut start, mut rest) = ([b'0'; 20], 20, number);
+    while rest > 0 || start == 20 {
+        start -= 1;
+        digits[start] += (rest % 10) as u8;
+        rest /= 10;
+    }
+    reply.extend_from_slice(&digits[start..]);
 }
 
 fn done(_: (), reply: &mut Vec<u8>) {
@@ -791,7 +806,10 @@ fn done(_: (), reply: &mut Vec<u8>) {
 }
 
 fn told_key(key: Key, reply: &mut Vec<u8>) {
-    put(reply, format_args!("ok {}.{}", key.slot, key.generation));
+    reply.extend_from_slice(b"ok ");
+    put_number(reply, u64::from(key.slot));
+    reply.push(b'.');
+    put_number(reply, u64::from(key.generation));
 }
 
 /// A change of the tree. A list of them makes the tree again.
@@ -849,15 +867,28 @@ impl Commands {
     }
 }
 
-/// The script on its way to replies: the line that is being read, and the replies that are not written yet.
+/// The script on its way to replies, and the replies that are not written yet. Standard input and output are
+/// taken as files, without the locks and the buffer of lines that std puts before them.
 struct Script {
     board: Board,
-    line: Vec<u8>,
+    input: BufReader<File>,
+    output: File,
     replies: Vec<u8>,
     line_writes: bool,
 }
 
 impl Script {
+    fn new(board: Board, line_writes: bool) -> io::Result<Script> {
+        let input = File::from(io::stdin().as_fd().try_clone_to_owned()?);
+        Ok(Script {
+            board,
+            input: BufReader::with_capacity(1 << 16, input),
+            output: File::from(io::stdout().as_fd().try_clone_to_owned()?),
+            replies: Vec::new(),
+            line_writes,
+        })
+    }
+
     fn end_line(&mut self, line: &[u8]) -> io::Result<()> {
         if line.is_empty() {
             return Ok(());
@@ -879,50 +910,35 @@ impl Script {
         Ok(())
     }
 
-    /// Keeps the bytes of a line that goes on, no more than tell that it is too long.
-    fn keep(&mut self, bytes: &[u8]) {
-        let room = LINE_LIMIT + 1 - self.line.len();
-        self.line.extend_from_slice(&bytes[..bytes.len().min(room)]);
-    }
-
     fn write_replies(&mut self) -> io::Result<()> {
-        io::stdout().lock().write_all(&self.replies)?;
-        io::stdout().lock().flush()?;
+        self.output.write_all(&self.replies)?;
         self.replies.clear();
         Ok(())
     }
 
-    fn take(&mut self, chunk: &[u8]) -> io::Result<()> {
-        let mut rest = chunk;
-        while let Some(at) = rest.iter().position(|byte| *byte == b'\n') {
-            if self.line.is_empty() {
-                self.end_line(&rest[..at])?;
-            } else {
-                self.keep(&rest[..at]);
-                let line = std::mem::take(&mut self.line);
-                self.end_line(&line)?;
-                self.line = line;
-                self.line.clear();
-            }
-            rest = &rest[at + 1..];
+    /// Reads the next line, without its newline, and tells whether there was one. Of a line that is too long it
+    /// keeps one byte more than a command may have.
+    fn next_line(&mut self, line: &mut Vec<u8>) -> io::Result<bool> {
+        if !self.replies.is_empty() && !self.input.buffer().contains(&b'\n') {
+            self.write_replies()?;
         }
-        self.keep(rest);
-        Ok(())
+        line.clear();
+        let most = LINE_LIMIT as u64 + 1;
+        let is_there = self.input.by_ref().take(most).read_until(b'\n', line)? > 0;
+        if line.last() == Some(&b'\n') {
+            line.pop();
+        } else if line.len() > LINE_LIMIT {
+            self.input.skip_until(b'\n')?;
+        }
+        Ok(is_there)
     }
 
     fn run(&mut self) -> io::Result<()> {
-        let mut chunk = vec![0; 1 << 16];
-        let mut input = io::stdin().lock();
-        loop {
-            let count = input.read(&mut chunk)?;
-            if count == 0 {
-                let line = std::mem::take(&mut self.line);
-                self.end_line(&line)?;
-                return self.write_replies();
-            }
-            self.take(&chunk[..count])?;
-            self.write_replies()?;
+        let mut line = Vec::new();
+        while self.next_line(&mut line)? {
+            self.end_line(&line)?;
         }
+        self.write_replies()
     }
 }
 
@@ -944,13 +960,8 @@ fn main() -> ExitCode {
         );
         return ExitCode::from(2);
     };
-    let mut script = Script {
-        board: Board::new(slots, keep_commands),
-        line: Vec::new(),
-        replies: Vec::new(),
-        line_writes,
-    };
-    match script.run() {
+    let board = Board::new(slots, keep_commands);
+    match Script::new(board, line_writes).and_then(|mut script| script.run()) {
         Ok(()) => ExitCode::SUCCESS,
         Err(error) => {
             eprintln!("plain: {error}");

@@ -1,7 +1,7 @@
 #!/usr/bin/env python3
 """Writes the scripts that bench/run measures: `workloads.py FOLDER [NAME..]` makes FOLDER/NAME.kf for these
 names, or for all, and prints them; of scripts for workers FOLDER/NAME_1.kf, NAME_2.kf and NAME_4.kf, by how many
-workers they have. Each script is the same on every machine. They need 4,096 slots."""
+workers they have. Each script is the same wherever Python is the same. They need 4,096 slots."""
 import os
 import random
 import sys
@@ -195,6 +195,9 @@ def main():
     if len(sys.argv) < 2:
         sys.exit("workloads.py FOLDER [NAME..]")
     folder, names = sys.argv[1], sys.argv[2:]
+    known = [*(it.__name__ for it in WORKLOADS), *READERS]
+    if unknown := [it for it in names if it not in known]:
+        sys.exit(f"no workload {' '.join(unknown)}; there are {' '.join(known)}")
     os.makedirs(folder, exist_ok=True)
     for workload, scripts in scripts_of(names):
         for name, lines in scripts:
