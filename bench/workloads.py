@@ -166,6 +166,7 @@ def readers(workers, spacing):
     """Workers who read: the first an attribute in slot 1, each further one so many slots on. 60,000 reads in all."""
     for number in range(3 * spacing + 1):
         yield f"file /value{number} 444 {number}"
+    yield "wait"
     for worker in range(workers):
         yield f"@{worker + 1} open {'abcd'[worker]} /value{worker * spacing} r"
     yield "wait"

@@ -9,7 +9,7 @@
    NEWLINES=N      the input is N newlines, one a read, and then its end
    FAIL_REPORT=F   at the end the file F has what was counted: requests, reads, writes, and how often one failed
 
-   Requests are counted from the first one that the program makes after main has begun to run. */
+   Requests are counted from the moment when this file has been loaded, shortly before main begins. */
 #define _GNU_SOURCE
 #include <dlfcn.h>
 #include <errno.h>
