@@ -1,5 +1,5 @@
 -- Following parents in a tree: no way to a key is longer than there are records.
-use Rattle.std.proofs.Common.{◌≡◌, ◌≢◌, ◌⊎◌, inl, inr, ℕ, zero, suc, ◌+◌, ◌<◌, ◌≤◌, [], ◌∷◌, length, refl, ap, arith, sym, ◌∙◌, subst, Bool, true, false, cond, slice_set, ◌↔◌}
+use Rattle.std.proofs.Common.{◌≡◌, ◌≢◌, ◌⊎◌, inl, inr, ℕ, zero, suc, ◌+◌, ◌<◌, ◌≤◌, [], ◌∷◌, length, refl, ap, arith, sym, ◌∙◌, subst, true, false, cond, slice_set, ◌↔◌}
 use Rattle.std.specs.Prelude.{slice_get, Option, None, Some, IsTrue, is_some, count_by}
 use Rattle.std.specs.Option.{option_and_then}
 use Rattle.std.proofs.lemmas.Option.{same_Some, none-some, cond_some}
@@ -9,7 +9,7 @@ use Rattle.std.proofs.lemmas.Bool.Decides.{eqb_tells}
 use Rattle.kf_core.specs.declared.key.Key.{Key}
 use Rattle.kf_core.specs.declared.records.Record.{Record}
 use Rattle.kf_core.specs.Keys.{same_key}
-use Rattle.kf_core.specs.Tree.{Tree, with_key, record_at, parent_of, ancestor, meets, in_subtree, IsIn}
+use Rattle.kf_core.specs.Tree.{Tree, with_key, record_at, parent_of, ancestor, in_subtree, IsIn}
 use Rattle.kf_core.proofs.Lists.{slice_get-set_same, slice_get-set_other}
 use Rattle.kf_core.proofs.Climbs.{same_key_is, meets_to, meets_from}
 

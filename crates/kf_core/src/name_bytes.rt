@@ -1,15 +1,19 @@
 //! The bytes of a name, as records, commands and events keep them.
 
-ghost use Rattle.std.specs.Prelude.{◌≡◌, ℕ, List};
+ghost use Rattle.std.specs.Prelude.{◌≡◌, ◌≤◌, ℕ, List, [], length, IsOk, IfOk};
 
-use std::alloc::AllocError;
+use smallvec::SmallVec;
+use std::alloc::{AllocError, Global};
 use std::marker::Model;
 
+/// So many bytes take no memory of their own: most names of attributes are shorter.
+const INLINE: usize = 24;
+
 /// The bytes of a name. Contracts see the list of the bytes; what a lawful name is, is said where one is
-/// asked for.
+/// asked for. Up to 24 bytes lie in the value itself, more in memory of their own.
 #[derive(Debug, Drop)]
 pub struct NameBytes {
-    bytes: Vec<u8>,
+    bytes: SmallVec<u8, INLINE>,
 }
 
 impl Model for NameBytes {
@@ -19,11 +23,23 @@ impl Model for NameBytes {
 }
 
 impl NameBytes {
-    /// These bytes as a name. Takes no memory.
-    pub fn from_bytes(bytes: Vec<u8>) -> NameBytes
-        ensures same { result ≡ bytes.items }
+    /// No bytes, as the root's name has. Takes no memory.
+    pub fn empty(alloc: Global) -> NameBytes
+        ensures empty { result ≡ [] }
     {
-        NameBytes { bytes }
+        NameBytes {
+            bytes: SmallVec::new(alloc),
+        }
+    }
+
+    /// A copy of these bytes. Takes memory for more than 24 alone, and is refused where there is none.
+    pub fn copied(alloc: Global, bytes: &[u8]) -> Result<NameBytes, AllocError>
+        ensures same { IfOk result (λ name. name ≡ bytes.now) }
+        ensures short { length bytes.now ≤ 24 → IsOk result }
+    {
+        Ok(NameBytes {
+            bytes: SmallVec::from_slice(alloc, bytes)?,
+        })
     }
 
     /// The bytes of the name.
@@ -38,8 +54,6 @@ impl Clone for NameBytes {
     ghost is_clone = { λ name copy. copy ≡ name };
 
     fn clone(&self) -> Result<NameBytes, AllocError> {
-        Ok(NameBytes {
-            bytes: self.bytes.clone()?,
-        })
+        NameBytes::copied(*self.bytes.allocator(), self.bytes())
     }
 }

@@ -82,12 +82,10 @@ module _ (pairs : Pairs) (rising : IsRising pairs) where
   ]
 
 -- the first of those above the bound is the next
-pub first_is_next : (entries : Entries) (bound : Option (List ℕ)) (all : Pairs) (d e : List ℕ × Key) → 1 ≤ length all → AreAbove entries bound all → IsLeastAbove entries bound (get_or all 0 d).0 (get_or all 0 e).1
+pub first_is_next : (entries : Entries) (bound : Option (List ℕ)) (first : List ℕ × Key) (later : Pairs) → AreAbove entries bound (first ∷ later) → IsLeastAbove entries bound first.0 first.1
 unfolding AreAbove
-first_is_next entries bound [] d e some above = absurd (omega (arith, some))
-first_is_next entries bound (first ∷ later) d e some above = above.0
+first_is_next entries bound first later above = above.0
 
-pub none_is_next : (entries : Entries) (bound : Option (List ℕ)) (all : Pairs) → length all < 1 → AreAbove entries bound all → NoneAbove entries bound
+pub none_is_next : (entries : Entries) (bound : Option (List ℕ)) → AreAbove entries bound [] → NoneAbove entries bound
 unfolding AreAbove
-none_is_next entries bound [] none above = above
-none_is_next entries bound (first ∷ later) none above = absurd (omega (arith, none))
+none_is_next entries bound above = above

@@ -1,4 +1,6 @@
+mod Compared
 mod Searched
 mod Found
 mod Edited
 mod Above
+mod Reordered

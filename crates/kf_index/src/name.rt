@@ -4,7 +4,7 @@ ghost use Rattle.std.specs.Prelude.{◌≡◌, ℕ, List, IfOk, IfErr};
 ghost use Rattle.std.specs.Option.{unwrap_or};
 ghost use Rattle.kf_core.specs.Names.{IsLawfulName, name_fault};
 
-use kf_core::Refusal;
+use kf_core::{NameBytes, Refusal};
 use std::alloc::{AllocError, Global};
 use std::marker::Model;
 
@@ -28,18 +28,18 @@ pub fn name_fault(bytes: &[u8]) -> Option<Refusal>
 }
 
 /// A lawful name: 1 to 255 bytes without a slash or a zero byte, and neither `.` nor `..`.
-/// Contracts see the list of its bytes. A clone takes memory for them.
+/// Contracts see the list of its bytes.
 #[derive(Drop)]
 pub struct Name {
-    bytes: Vec<u8>,
+    bytes: NameBytes,
 }
 
 impl Model for Name {
     ghost Value = { List ℕ };
 
-    ghost view = { λ name. name.bytes.items };
+    ghost view = { λ name. name.bytes };
 
-    ghost invariant = { λ name. IsLawfulName name.bytes.items };
+    ghost invariant = { λ name. IsLawfulName name.bytes };
 }
 
 impl Name {
@@ -54,7 +54,7 @@ impl Name {
         if let Some(fault) = name_fault(bytes) {
             return Err(fault);
         }
-        match bytes.to_vec(alloc) {
+        match NameBytes::copied(alloc, bytes) {
             Ok(bytes) => Ok(Name { bytes }),
             Err(_) => Err(Refusal::NoMemory),
         }
@@ -65,7 +65,7 @@ impl Name {
         ensures same { result.now ≡ self.now }
         ensures lawful { IsLawfulName result.now }
     {
-        self.bytes.as_slice()
+        self.bytes.bytes()
     }
 }
 

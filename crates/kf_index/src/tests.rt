@@ -1,7 +1,7 @@
 //! The limits of names, the order of an index, listings by a loop over `next_after`, and each public
 //! call where memory is there.
 
-use crate::{Index, Name, name_fault};
+use crate::{Index, Listed, Name, name_fault};
 use kf_core::{Key, Refusal};
 use std::alloc::Global;
 use std::test::Fail;
@@ -50,9 +50,14 @@ fn listing(
 /// All names above the bound, a space after each.
 fn rest(alloc: Global, index: &Index, after: Option<&[u8]>) -> Result<Vec<u8>, Refusal> {
     let mut text = Vec::new(alloc);
-    for (name, _) in index.above(after) {
+    let mut listed = index.above(after);
+    for _ in 0..listed.len() {
+        let Some(((name, _), later)) = listed.split_first() else {
+            return Ok(text);
+        };
         text.extend_from_slice(name.bytes())?;
         text.push(b' ')?;
+        listed = later;
     }
     Ok(text)
 }
@@ -78,6 +83,35 @@ fn lists_names_in_byte_order(rt: HostRuntime) -> Result<(), Fail> {
     Ok(())
 }
 
+/// Eight bytes are compared at once, so names are as long as that, a byte less or more, or twice as long.
+#[test]
+fn lists_long_names_in_byte_order(rt: HostRuntime) -> Result<(), Fail> {
+    let alloc = rt.alloc();
+    let names: [&[u8]; 11] = [
+        b"aaaaaaaaaaaaaaaa",
+        b"aaaaaaa",
+        b"\x80\x01\x01\x01\x01\x01\x01\x01",
+        b"aaaaaaab",
+        b"aaaaaaaa\x01",
+        b"\x7f\xff\xff\xff\xff\xff\xff\xff\xff",
+        b"aaaaaaaaaaaaaaa",
+        b"aaaaaaaab",
+        b"aaaaaaaa",
+        b"baaaaaaa",
+        b"aaaaaaaaaaaaaaaaa",
+    ];
+    let mut index = Index::new(alloc);
+    for name in names {
+        insert(alloc, &mut index, name, 1)?;
+    }
+    let text = rest(alloc, &index, None)?;
+    let expected =
+        b"aaaaaaa aaaaaaaa aaaaaaaa\x01 aaaaaaaaaaaaaaa aaaaaaaaaaaaaaaa aaaaaaaaaaaaaaaaa aaaaaaaab \
+aaaaaaab baaaaaaa \x7f\xff\xff\xff\xff\xff\xff\xff\xff \x80\x01\x01\x01\x01\x01\x01\x01 ";
+    assert_eq!(rt; text.as_slice(), expected.as_slice());
+    Ok(())
+}
+
 #[test]
 fn lists_all_above_a_bound_at_once(rt: HostRuntime) -> Result<(), Fail> {
     let alloc = rt.alloc();
@@ -95,6 +129,35 @@ fn lists_all_above_a_bound_at_once(rt: HostRuntime) -> Result<(), Fail> {
         assert_eq!(rt; text.as_slice(), expected);
     }
     assert!(rt; Index::new(alloc).above(None).is_empty());
+    assert!(rt; Listed::none().is_empty());
+    assert!(rt; Listed::none().split_first().is_none());
+    assert_eq!(rt; index.above(Some(b"B")).len(), 3);
+    Ok(())
+}
+
+#[test]
+fn fills_the_places_of_removed_names(rt: HostRuntime) -> Result<(), Fail> {
+    let alloc = rt.alloc();
+    let mut index = four_names(alloc)?;
+    assert_eq!(rt; index.remove(b"a"), Some(key(2)));
+    assert_eq!(rt; index.remove(b"b"), Some(key(1)));
+    let text = rest(alloc, &index, None)?;
+    assert_eq!(rt; text.as_slice(), b"B ab ".as_slice());
+    for (name, slot) in [(b"c", 5), (b"A", 6), (b"a", 7)] {
+        insert(alloc, &mut index, name, slot)?;
+    }
+    let text = rest(alloc, &index, None)?;
+    assert_eq!(rt; text.as_slice(), b"A B a ab c ".as_slice());
+    let rows: [(&[u8], u32); 5] = [(b"A", 6), (b"B", 4), (b"a", 7), (b"ab", 3), (b"c", 5)];
+    for (name, slot) in rows {
+        assert_eq!(rt; index.get(name), Some(key(slot)));
+        assert_eq!(rt; index.remove(name), Some(key(slot)));
+    }
+    assert!(rt; index.above(None).is_empty());
+    insert(alloc, &mut index, b"b", 8)?;
+    let text = rest(alloc, &index, None)?;
+    assert_eq!(rt; text.as_slice(), b"b ".as_slice());
+    assert_eq!(rt; index.get(b"b"), Some(key(8)));
     Ok(())
 }
 

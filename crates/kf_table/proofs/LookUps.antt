@@ -1,6 +1,6 @@
 -- What the indexes tell is what the tree has.
 use Rattle.std.proofs.Common.{◌≡◌, ◌⊎◌, inl, inr, ℕ, suc, ◌+◌, ◌<◌, ◌≤◌, refl, ap, arith, sym, ◌∙◌, subst, Bool, true, false, cond, List, [], ◌∷◌, length, get_or, Bor}
-use Rattle.std.specs.Prelude.{Option, None, Some, IfSome, IfNone, slice_get, count_by, fold, is_some, not, ◌&&◌, ◌==◌}
+use Rattle.std.specs.Prelude.{Option, None, Some, IfSome, IfNone, slice_get, count_by, fold, is_some, not, ◌&&◌, IsTrue, ◌↔◌, ◌==◌}
 use Rattle.std.specs.List.{find as first, list_any}
 use Rattle.std.specs.Option.{option_and_then, option_copied}
 use Rattle.std.specs.Str.{bytes_eq}
@@ -109,14 +109,13 @@ module _ (t : Tree) (root : Key) (lawful : Lawful t root) where
         | false ↦ λ e. refl
       ] refl
 
-  pub has_child_tells : (dir : Key) (all : List (List ℕ × Key)) → AreNext t dir None all → not (length all == 0) ≡ has_child t dir
+  pub has_child_tells : (dir : Key) (all : List (List ℕ × Key)) (empty : Bool) → IsTrue empty ↔ (all ≡ []) → AreNext t dir None all → not empty ≡ has_child t dir
   unfolding AreNext
-  has_child_tells dir (entry ∷ later) next = ap not not_empty ∙ sym (some_any (λ x. is_under dir (λ r. true) x) t next.0.0.key.slot (Some next.0.0) next.0.1.is_in
+  has_child_tells dir (entry ∷ later) true tells next = let none = tells.0 refl in cc
+  has_child_tells dir (entry ∷ later) false tells next = sym (some_any (λ x. is_under dir (λ r. true) x) t next.0.0.key.slot (Some next.0.0) next.0.1.is_in
       (ap (λ b. b && true) (is_key_self dir next.0.0.parent next.0.1.parent)))
-    where
-      not_empty : (length (entry ∷ later) == 0) ≡ false
-      not_empty = elim (eqb_tells (length (entry ∷ later)) 0) [ inl some ↦ absurd (omega (arith, some.1)) | inr some ↦ some.0 ]
-  has_child_tells dir [] none = sym (any_none (λ x. is_under dir (λ r. true) x) t nobody)
+  has_child_tells dir [] false tells none = let is = tells.1 refl in cc
+  has_child_tells dir [] true tells none = sym (any_none (λ x. is_under dir (λ r. true) x) t nobody)
     where
       nobody : (i : ℕ) (x : Option Record) → slice_get t i ≡ Some x → is_under dir (λ r. true) x ≡ false
       nobody i None h = refl

@@ -8,7 +8,7 @@ ghost use Rattle.kf_table.specs.Directories.{empty_directory, with_child, withou
 
 use crate::children::is_directory;
 use kf_core::{Key, Record, Refusal};
-use kf_index::{Index, Name};
+use kf_index::{Index, Listed, Name};
 use std::alloc::Global;
 
 /// The index of a directory's children, and how many of them are directories.
@@ -37,8 +37,8 @@ impl Directory {
     }
 
     /// The names and keys of the children above the bound, in byte order of names.
-    pub(crate) fn above(&self, bound: Option<&[u8]>) -> &[(Name, Key)]
-        ensures listed { AreAbove self.now.index (option_copied bound.entry) result.now }
+    pub(crate) fn above(&self, bound: Option<&[u8]>) -> Listed<'_>
+        ensures listed { AreAbove self.now.index (option_copied bound.entry) result }
     {
         self.index.above(bound)
     }

@@ -14,7 +14,7 @@ use crate::children::is_directory_record;
 use crate::directories::{Directory, empty_directories, enter, enter_record, leave};
 use crate::slots::{activate_slot, doom_slot, empty_slots, hide_slot, move_slot};
 use kf_core::{Key, Marks, NameBytes, Node, Record, Refusal};
-use kf_index::Name;
+use kf_index::Listed;
 use std::alloc::Global;
 use std::marker::Model;
 
@@ -49,7 +49,7 @@ impl Table {
         records[root.slot as usize] = Some(Record {
             key: root,
             parent: None,
-            name: NameBytes::from_bytes(Vec::new(alloc)),
+            name: NameBytes::empty(alloc),
             node: Node::Dir,
             marks: Marks {
                 activated: true,
@@ -141,14 +141,14 @@ impl Table {
 
     /// The names and keys of the children above the bound, or of all where there is no bound, in byte order
     /// of names.
-    pub fn children_above(&self, dir: Key, bound: Option<&[u8]>) -> &[(Name, Key)]
+    pub fn children_above(&self, dir: Key, bound: Option<&[u8]>) -> Listed<'_>
         requires lawful { (root : Key) × Lawful self.now root }
-        ensures listed { AreNext self.now dir (option_copied bound.entry) result.now }
+        ensures listed { AreNext self.now dir (option_copied bound.entry) result }
     {
-        match self.record(dir) {
-            Some(_) => self.directories[dir.slot as usize].above(bound),
-            None => &[],
-        }
+        let Some(_) = self.record(dir) else {
+            return Listed::none();
+        };
+        self.directories[dir.slot as usize].above(bound)
     }
 
     /// Whether a directory has a linked child.

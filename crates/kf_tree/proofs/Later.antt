@@ -1,8 +1,7 @@
 -- The later siblings that a walk takes with it.
-use Rattle.std.proofs.Common.{◌≡◌, ℕ, ◌-◌, ◌≤◌, ap, arith, sym, ◌∙◌, subst, List, [], ◌∷◌, length, get_or, take, drop}
+use Rattle.std.proofs.Common.{◌≡◌, ℕ, ap, sym, ◌∙◌, subst, List, ◌∷◌}
 use Rattle.std.specs.Prelude.{Option, None, Some}
 use Rattle.std.proofs.lemmas.Option.{same_Some, none-some}
-use Rattle.std.proofs.lemmas.List.{take_rest}
 use Rattle.kf_core.specs.declared.key.Key.{Key}
 use Rattle.kf_core.specs.declared.records.Record.{Record}
 use Rattle.kf_core.specs.Tree.{Tree, record_at}
@@ -11,18 +10,16 @@ use Rattle.kf_table.specs.Next.{AreNext}
 use Rattle.kf_tree.specs.Walks.{AreLater}
 
 -- behind the first of what is listed stand its later siblings
-pub later_listed : (t : Tree) (dir : Key) (bound : Option (List ℕ)) (all : List (List ℕ × Key)) (e : List ℕ × Key) → 1 ≤ length all → AreNext t dir bound all
-    → AreLater t (get_or all 0 e).1 (take (length all - 1) (drop 1 all))
+pub later_listed : (t : Tree) (dir : Key) (bound : Option (List ℕ)) (entry : List ℕ × Key) (later : List (List ℕ × Key)) → AreNext t dir bound (entry ∷ later)
+    → AreLater t entry.1 later
 unfolding AreNext
-later_listed t dir bound [] e some listed = absurd (omega (arith, some))
-later_listed t dir bound (entry ∷ later) e some listed = λ r d known parent.
+later_listed t dir bound entry later listed = λ r d known parent.
     (let c = listed.0 in
     let i = found_in t entry.1 r known in
     let same : r ≡ c.0 = same_record t r c.0 i.0 c.1.is_in (i.1 ∙ sym c.3) in
     let there : d ≡ dir = same_Some d dir (sym parent ∙ ap (λ (x : Record). x.parent) same ∙ c.1.parent) in
     let named : r.name ≡ entry.0 = ap (λ (x : Record). x.name) same ∙ c.2 in
-    subst (AreNext t d (Some r.name)) (sym (take_rest (entry ∷ later) 1))
-    (subst (λ k. AreNext t k (Some r.name) later) (sym there) (subst (λ n. AreNext t dir (Some n) later) (sym named) listed.1)))
+    subst (λ k. AreNext t k (Some r.name) later) (sym there) (subst (λ n. AreNext t dir (Some n) later) (sym named) listed.1))
 
 -- a search above the name of a record lists its later siblings
 pub later_found : (t : Tree) (key : Key) (s : Record) (dir : Key) (bytes : List ℕ) (later : List (List ℕ × Key)) → Some s ≡ record_at t key → s.parent ≡ Some dir → bytes ≡ s.name

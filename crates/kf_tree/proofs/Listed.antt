@@ -1,12 +1,11 @@
 -- The names of live children, child by child.
-use Rattle.std.proofs.Common.{◌≡◌, ◌⊎◌, inl, inr, ℕ, zero, suc, ◌+◌, ◌<◌, ◌≤◌, refl, ap, arith, sym, ◌∙◌, subst, Bool, true, false, cond, List, [], ◌∷◌, ◌++◌, ◌-◌, take, drop, get_or, length, length-append, lit<}
+use Rattle.std.proofs.Common.{◌≡◌, ◌⊎◌, inl, inr, ℕ, zero, suc, ◌+◌, ◌<◌, ◌≤◌, refl, ap, arith, sym, ◌∙◌, subst, Bool, true, false, cond, List, [], ◌∷◌, ◌++◌, length, length-append, lit<}
 use Rattle.std.specs.Prelude.{Option, None, Some, slice_get, All, AllPairs, Contains, ◌&&◌, IsTrue, IsSomeAnd}
 use Rattle.std.specs.List.{find as first}
 use Rattle.std.specs.Str.{bytes_eq}
 use Rattle.std.specs.Option.{option_and_then}
 use Rattle.std.proofs.lemmas.Option.{same_Some, none-some}
 use Rattle.std.proofs.lemmas.Slice.Eq.{bytes_eq-Decides}
-use Rattle.std.proofs.lemmas.List.{take_rest}
 use Rattle.std.proofs.lemmas.List.Elements.{Contains-append_left, Contains-append_right, All-append}
 use Rattle.kf_core.specs.declared.key.Key.{Key}
 use Rattle.kf_core.specs.declared.records.Record.{Record}
@@ -179,24 +178,22 @@ pub record IsListedSoFar (t : Tree) (dir : Key) (after : Option (List ℕ)) (lim
   pub so_far : IsListedTo t dir after bound limit names
   pub left : AreNext t dir bound later
 
-pub listed_more : (t : Tree) (root dir : Key) → Lawful t root → (after : Option (List ℕ)) (limit : ℕ) (names new : List (List ℕ)) (later : List (List ℕ × Key)) (d e : List ℕ × Key) → 1 ≤ length later → length names < limit →
-    IsListedSoFar t dir after limit names later → new ≡ cond (live_in t (get_or later 0 e).1) (names ++ (get_or later 0 d).0 ∷ []) names → IsListedSoFar t dir after limit new (take (length later - 1) (drop 1 later))
+pub listed_more : (t : Tree) (root dir : Key) → Lawful t root → (after : Option (List ℕ)) (limit : ℕ) (names new : List (List ℕ)) (entry : List ℕ × Key) (later : List (List ℕ × Key)) → length names < limit →
+    IsListedSoFar t dir after limit names (entry ∷ later) → new ≡ cond (live_in t entry.1) (names ++ entry.0 ∷ []) names → IsListedSoFar t dir after limit new later
 unfolding AreNext
-listed_more t root dir l after limit names new [] d e some room f pushed = absurd (omega (arith, some))
-listed_more t root dir l after limit names new (entry ∷ later) d e some room f pushed =
+listed_more t root dir l after limit names new entry later room f pushed =
     (let n = f.left.0 in
     let live : live_in t entry.1 ≡ lives n.0 = ap (live_in t) (sym n.3) ∙ ap lives_in (in_found t n.0 n.1.is_in) in
     let pushed' : new ≡ cond (lives n.0) (names ++ n.0.name ∷ []) names = pushed ∙ ap (λ b. cond b (names ++ entry.0 ∷ []) names) live ∙ ap (λ x. cond (lives n.0) (names ++ x ∷ []) names) (sym n.2) in
     record {
       bound = Some entry.0;
       so_far = listed_next t root dir l after f.bound limit names new n.0 entry.0 (sym n.2) n.1 room f.so_far pushed';
-      left = subst (AreNext t dir (Some entry.0)) (sym (take_rest (entry ∷ later) 1)) f.left.1;
+      left = f.left.1;
     })
 
 pub listed_up_to : (t : Tree) (dir : Key) (after : Option (List ℕ)) (limit : ℕ) (names : List (List ℕ)) (later : List (List ℕ × Key)) → limit ≤ length names → IsListedSoFar t dir after limit names later → IsListing t dir after limit names
 listed_up_to t dir after limit names later full f = listing_full t dir after f.bound limit names full f.so_far
 
-pub listed_all : (t : Tree) (root dir : Key) → Lawful t root → (after : Option (List ℕ)) (limit : ℕ) (names : List (List ℕ)) (later : List (List ℕ × Key)) → length later < 1 → IsListedSoFar t dir after limit names later → IsListing t dir after limit names
+pub listed_all : (t : Tree) (root dir : Key) → Lawful t root → (after : Option (List ℕ)) (limit : ℕ) (names : List (List ℕ)) → IsListedSoFar t dir after limit names [] → IsListing t dir after limit names
 unfolding AreNext
-listed_all t root dir l after limit names [] none f = listing_whole t root dir l after f.bound limit names f.left f.so_far
-listed_all t root dir l after limit names (entry ∷ later) none f = absurd (omega (arith, none))
+listed_all t root dir l after limit names f = listing_whole t root dir l after f.bound limit names f.left f.so_far

@@ -1,5 +1,5 @@
 -- The walk over a tree in pre-order.
-use Rattle.std.proofs.Common.{◌≡◌, ◌≢◌, ◌⊎◌, inl, inr, ℕ, zero, suc, ◌<◌, ◌≤◌, refl, ap, arith, sym, ◌∙◌, subst, true, false, List, [], ◌∷◌, ◌++◌, length, get_or, lit<}
+use Rattle.std.proofs.Common.{◌≡◌, ◌≢◌, ◌⊎◌, inl, inr, ℕ, zero, suc, ◌<◌, refl, ap, arith, sym, ◌∙◌, subst, true, false, List, [], ◌∷◌, ◌++◌, lit<}
 use Rattle.std.specs.Prelude.{Option, None, Some, is_some, IfNone, IsTrue, ◌↔◌, Contains, AllPairs, count_by}
 use Rattle.std.proofs.lemmas.Option.{same_Some, none-some}
 use Rattle.std.proofs.lemmas.List.Elements.{Contains-append_left, Contains-append_right, Contains-append_cases}
@@ -225,25 +225,25 @@ module _ (t : Tree) (root : Key) (l : Lawful t root) where
   fewer_ahead current keys new u e = count_left t current keys new u.linked (λ c. not_ahead t root l current u.linked ((u.members current).0 c).1) e
 
   -- what the code finds on its way on
-  pub child_next : (key : Key) (later : List (List ℕ × Key)) (e : List ℕ × Key) → IsTrue (is_linked t key) → 1 ≤ length later → AreNext t key None later → IsNextInPreOrder t key (get_or later 0 e).1
-  child_next key later e linked some listed = (let n = first_listed t key None later e some listed in subst (IsNextInPreOrder t key) n.2 (next_by_child t root l key n.0 linked n.1))
+  pub child_next : (key : Key) (entry : List ℕ × Key) (later : List (List ℕ × Key)) → IsTrue (is_linked t key) → AreNext t key None (entry ∷ later) → IsNextInPreOrder t key entry.1
+  child_next key entry later linked listed = (let n = first_listed t key None entry later listed in subst (IsNextInPreOrder t key) n.2 (next_by_child t root l key n.0 linked n.1))
 
   -- the record that a key finds
   found_as : (P : Key → Type 0) (current : Key) (r : Record) → Some r ≡ record_at t current → (IsIn t r → P r.key) → P current
   found_as P current r known f = (let i = found_in t current r (sym known) in subst P i.1 (f i.0))
 
-  pub aside_next : (key current : Key) (r : Record) (d : Key) (bytes : List ℕ) (later : List (List ℕ × Key)) (e : List ℕ × Key) → Some r ≡ record_at t current → r.parent ≡ Some d → bytes ≡ r.name →
-      1 ≤ length later → AreNext t d (Some bytes) later → IsOnWayUp t key current → IsNextInPreOrder t key (get_or later 0 e).1
-  aside_next key current r d bytes later e known p same some listed w =
-      (let n = first_listed t d (Some bytes) later e some listed in
+  pub aside_next : (key current : Key) (r : Record) (d : Key) (bytes : List ℕ) (entry : List ℕ × Key) (later : List (List ℕ × Key)) → Some r ≡ record_at t current → r.parent ≡ Some d → bytes ≡ r.name →
+      AreNext t d (Some bytes) (entry ∷ later) → IsOnWayUp t key current → IsNextInPreOrder t key entry.1
+  aside_next key current r d bytes entry later known p same listed w =
+      (let n = first_listed t d (Some bytes) entry later listed in
       let i = found_in t current r (sym known) in
       subst (IsNextInPreOrder t key) n.2 (aside t root l key r n.0 d i.0 p (subst (λ x. IsNext t d (Some x) n.0) same n.1) (subst (IsOnWayUp t key) (sym i.1) w)))
 
-  pub up_next : (key current : Key) (r : Record) (d : Key) (bytes : List ℕ) (later : List (List ℕ × Key)) → Some r ≡ record_at t current → r.parent ≡ Some d → bytes ≡ r.name →
-      length later < 1 → AreNext t d (Some bytes) later → IsOnWayUp t key current → IsOnWayUp t key d
-  up_next key current r d bytes later known p same none listed w =
+  pub up_next : (key current : Key) (r : Record) (d : Key) (bytes : List ℕ) → Some r ≡ record_at t current → r.parent ≡ Some d → bytes ≡ r.name →
+      AreNext t d (Some bytes) [] → IsOnWayUp t key current → IsOnWayUp t key d
+  up_next key current r d bytes known p same listed w =
       (let i = found_in t current r (sym known) in
-      up_to t root l key r d i.0 p (subst (λ x. NoneAbove t d (Some x)) same (none_listed t d (Some bytes) later none listed)) (subst (IsOnWayUp t key) (sym i.1) w))
+      up_to t root l key r d i.0 p (subst (λ x. NoneAbove t d (Some x)) same (none_listed t d (Some bytes) listed)) (subst (IsOnWayUp t key) (sym i.1) w))
 
   pub up_smaller : (current : Key) (r : Record) (d : Key) → Some r ≡ record_at t current → r.parent ≡ Some d → count_by (is_over_key t d) t < count_by (is_over_key t current) t
   up_smaller current r d known p = (let i = found_in t current r (sym known) in fewer_over t root l current d (ap (parent_of t) (sym i.1) ∙ parent_known t r i.0 ∙ p))

@@ -1,5 +1,5 @@
 -- A walk over a subtree from node to node.
-use Rattle.std.proofs.Common.{◌≡◌, ◌≢◌, ◌⊎◌, inl, inr, ℕ, zero, suc, ◌-◌, ◌<◌, ◌≤◌, refl, ap, arith, sym, ◌∙◌, subst, true, false, List, [], ◌∷◌, ◌++◌, length, get_or, lit<}
+use Rattle.std.proofs.Common.{◌≡◌, ◌≢◌, ◌⊎◌, inl, inr, ℕ, zero, suc, ◌-◌, ◌<◌, refl, ap, arith, sym, ◌∙◌, subst, true, false, List, [], ◌∷◌, ◌++◌, length, lit<}
 use Rattle.std.specs.Prelude.{Bool, not, ◌||◌, Option, None, Some, is_some, IsTrue, ◌↔◌, Contains, AllPairs, count_by}
 use Rattle.std.proofs.lemmas.List.Sums.{count_by-le-length}
 use Rattle.kf_core.specs.declared.key.Key.{Key}
@@ -30,15 +30,13 @@ pub record IsOnWayDown (t : Tree) (top current : Key) : Type 0 where
   pub left : (key : Key) → AreApart t key current ↔ AreApart t key top
 
 -- the first of the children
-pub first_listed : (t : Tree) (dir : Key) (bound : Option (List ℕ)) (later : List (List ℕ × Key)) (d : List ℕ × Key) → 1 ≤ length later → AreNext t dir bound later → (c : Record) × IsNext t dir bound c × (c.key ≡ (get_or later 0 d).1)
+pub first_listed : (t : Tree) (dir : Key) (bound : Option (List ℕ)) (entry : List ℕ × Key) (later : List (List ℕ × Key)) → AreNext t dir bound (entry ∷ later) → (c : Record) × IsNext t dir bound c × (c.key ≡ entry.1)
 unfolding AreNext
-first_listed t dir bound [] d some left = absurd (omega (arith, some))
-first_listed t dir bound (entry ∷ later) d some left = (left.0.0, left.0.1, left.0.3)
+first_listed t dir bound entry later left = (left.0.0, left.0.1, left.0.3)
 
-pub none_listed : (t : Tree) (dir : Key) (bound : Option (List ℕ)) (later : List (List ℕ × Key)) → length later < 1 → AreNext t dir bound later → NoneAbove t dir bound
+pub none_listed : (t : Tree) (dir : Key) (bound : Option (List ℕ)) → AreNext t dir bound [] → NoneAbove t dir bound
 unfolding AreNext
-none_listed t dir bound [] none left = left
-none_listed t dir bound (entry ∷ later) none left = absurd (omega (arith, none))
+none_listed t dir bound left = left
 
 -- the keys before the current one in the post-order of the subtree
 pub record IsUpTo (t : Tree) (top current : Key) (keys : List Key) : Type 0 where
@@ -111,23 +109,23 @@ module _ (t : Tree) (root : Key) (l : Lawful t root) where
     left = λ key. (let a = apart_child t root l key current c n in let b = w.left key in ((λ p. b.0 (a.0 p)), (λ p. a.1 (b.1 p))));
   }
 
-  pub down_more : (top current : Key) (later : List (List ℕ × Key)) (d : List ℕ × Key) → 1 ≤ length later → AreNext t current None later → IsOnWayDown t top current → IsOnWayDown t top (get_or later 0 d).1
-  down_more top current later d some left w = (let n = first_listed t current None later d some left in subst (IsOnWayDown t top) n.2 (down_to top current n.0 n.1 w))
+  pub down_more : (top current : Key) (entry : List ℕ × Key) (later : List (List ℕ × Key)) → AreNext t current None (entry ∷ later) → IsOnWayDown t top current → IsOnWayDown t top entry.1
+  down_more top current entry later left w = (let n = first_listed t current None entry later left in subst (IsOnWayDown t top) n.2 (down_to top current n.0 n.1 w))
 
-  pub down_smaller : (current : Key) (later : List (List ℕ × Key)) (d : List ℕ × Key) → 1 ≤ length later → AreNext t current None later →
-      length t - count_by (is_over_key t (get_or later 0 d).1) t < length t - count_by (is_over_key t current) t
-  down_smaller current later d some left =
-      (let n = first_listed t current None later d some left in
-      let child = (get_or later 0 d).1 in
+  pub down_smaller : (current : Key) (entry : List ℕ × Key) (later : List (List ℕ × Key)) → AreNext t current None (entry ∷ later) →
+      length t - count_by (is_over_key t entry.1) t < length t - count_by (is_over_key t current) t
+  down_smaller current entry later left =
+      (let n = first_listed t current None entry later left in
+      let child = entry.1 in
       let fewer = fewer_over t root l child current (sym (ap (parent_of t) n.2) ∙ parent_known t n.0 n.1.is_in ∙ n.1.parent) in
       let few = count_by-le-length (is_over_key t child) t in
       omega (arith, fewer, few))
 
-  pub down_end : (top current : Key) (later : List (List ℕ × Key)) → length later < 1 → AreNext t current None later → IsOnWayDown t top current → IsFirstBelow t top current
-  down_end top current later none left w = record {
+  pub down_end : (top current : Key) → AreNext t current None [] → IsOnWayDown t top current → IsFirstBelow t top current
+  down_end top current left w = record {
     linked = w.linked;
     below = w.below;
-    childless = λ c i p. (let x : true ≡ false = none_listed t current None later none left c i p in cc);
+    childless = λ c i p. (let x : true ≡ false = none_listed t current None left c i p in cc);
     left = w.left;
   }
 
@@ -253,20 +251,20 @@ module _ (t : Tree) (root : Key) (l : Lawful t root) where
   fewer_left top current keys new u e = count_left t current keys new u.linked (λ c. not_before_itself current u.linked ((u.members current).0 c).2) e
 
   -- what the code finds on its way on
-  pub linked_sibling : (d : Key) (bound : Option (List ℕ)) (later : List (List ℕ × Key)) (e : List ℕ × Key) → 1 ≤ length later → AreNext t d bound later → IsTrue (is_linked t (get_or later 0 e).1)
-  linked_sibling d bound later e some listed = (let n = first_listed t d bound later e some listed in ap (is_linked t) (sym n.2) ∙ ap is_some (in_found t n.0 n.1.is_in))
+  pub linked_sibling : (d : Key) (bound : Option (List ℕ)) (entry : List ℕ × Key) (later : List (List ℕ × Key)) → AreNext t d bound (entry ∷ later) → IsTrue (is_linked t entry.1)
+  linked_sibling d bound entry later listed = (let n = first_listed t d bound entry later listed in ap (is_linked t) (sym n.2) ∙ ap is_some (in_found t n.0 n.1.is_in))
 
-  pub on_to_sibling : (top key next : Key) (r : Record) (d : Key) (bytes : List ℕ) (later : List (List ℕ × Key)) (e : List ℕ × Key) → Some r ≡ record_at t key → r.parent ≡ Some d → key ≢ top → in_subtree t top key ≡ true → bytes ≡ r.name →
-      1 ≤ length later → AreNext t d (Some bytes) later → IsFirstBelow t (get_or later 0 e).1 next → IsNextInPostOrder t top key next
-  on_to_sibling top key next r d bytes later e known p other b same some listed f =
-      (let n = first_listed t d (Some bytes) later e some listed in
+  pub on_to_sibling : (top key next : Key) (r : Record) (d : Key) (bytes : List ℕ) (entry : List ℕ × Key) (later : List (List ℕ × Key)) → Some r ≡ record_at t key → r.parent ≡ Some d → key ≢ top → in_subtree t top key ≡ true → bytes ≡ r.name →
+      AreNext t d (Some bytes) (entry ∷ later) → IsFirstBelow t entry.1 next → IsNextInPostOrder t top key next
+  on_to_sibling top key next r d bytes entry later known p other b same listed f =
+      (let n = first_listed t d (Some bytes) entry later listed in
       let i = found_in t key r (sym known) in
       subst (λ k. IsNextInPostOrder t top k next) i.1
       (next_by_sibling top next r n.0 d i.0 p (λ x. other (sym i.1 ∙ x)) (ap (in_subtree t top) i.1 ∙ b) (subst (λ x. IsNext t d (Some x) n.0) same n.1) (subst (λ k. IsFirstBelow t k next) (sym n.2) f)))
 
-  pub up_to_parent : (top key : Key) (r : Record) (d : Key) (bytes : List ℕ) (later : List (List ℕ × Key)) → Some r ≡ record_at t key → r.parent ≡ Some d → key ≢ top → in_subtree t top key ≡ true → bytes ≡ r.name →
-      length later < 1 → AreNext t d (Some bytes) later → IsNextInPostOrder t top key d
-  up_to_parent top key r d bytes later known p other b same none listed =
+  pub up_to_parent : (top key : Key) (r : Record) (d : Key) (bytes : List ℕ) → Some r ≡ record_at t key → r.parent ≡ Some d → key ≢ top → in_subtree t top key ≡ true → bytes ≡ r.name →
+      AreNext t d (Some bytes) [] → IsNextInPostOrder t top key d
+  up_to_parent top key r d bytes known p other b same listed =
       (let i = found_in t key r (sym known) in
       subst (λ k. IsNextInPostOrder t top k d) i.1
-      (next_by_parent top r d i.0 p (λ x. other (sym i.1 ∙ x)) (ap (in_subtree t top) i.1 ∙ b) (subst (λ x. NoneAbove t d (Some x)) same (none_listed t d (Some bytes) later none listed))))
+      (next_by_parent top r d i.0 p (λ x. other (sym i.1 ∙ x)) (ap (in_subtree t top) i.1 ∙ b) (subst (λ x. NoneAbove t d (Some x)) same (none_listed t d (Some bytes) listed))))

@@ -7,7 +7,7 @@ ghost use Rattle.kf_tree.specs.Canonical.{IsPreOrder, IsCanonical, collected, cr
 use crate::growth::fit_room;
 use crate::marks::is_hidden;
 use crate::walks::{later_siblings, next_in_pre_order};
-use kf_core::{Command, Key, NameBytes, Refusal};
+use kf_core::{Command, Key, Refusal};
 use kf_table::Table;
 use std::alloc::{AllocError, Global};
 
@@ -28,21 +28,15 @@ fn pre_order(alloc: Global, table: &Table, root: Key) -> Result<Vec<Key>, AllocE
     Ok(keys)
 }
 
-fn push_create(
-    alloc: Global,
-    table: &Table,
-    key: Key,
-    commands: &mut Vec<Command>,
-) -> Result<(), AllocError>
+fn push_create(table: &Table, key: Key, commands: &mut Vec<Command>) -> Result<(), AllocError>
     ensures pushed { OnOk result (commands.new.items ≡ commands.old.items ++ create_of table.now key) }
 {
     if let Some(found) = table.record(key) {
         if let Some(parent) = found.parent {
-            let name = found.name.bytes().to_vec(alloc)?;
             commands.push(Command::Create {
                 key: found.key,
                 parent,
-                name: NameBytes::from_bytes(name),
+                name: found.name.clone()?,
                 node: found.node,
                 live: found.marks.activated,
             })?;
@@ -85,17 +79,12 @@ fn push_hide(table: &Table, key: Key, commands: &mut Vec<Command>) -> Result<(),
     Ok(())
 }
 
-fn push_creates(
-    alloc: Global,
-    table: &Table,
-    keys: &[Key],
-    commands: &mut Vec<Command>,
-) -> Result<(), AllocError>
+fn push_creates(table: &Table, keys: &[Key], commands: &mut Vec<Command>) -> Result<(), AllocError>
     ensures pushed { OnOk result
         (commands.new.items ≡ commands.old.items ++ collected (create_of table.now) keys.now) }
 {
     for key in keys {
-        push_create(alloc, table, *key, commands)?;
+        push_create(table, *key, commands)?;
     }
     Ok(())
 }
@@ -126,7 +115,7 @@ fn write_commands(alloc: Global, table: &Table, root: Key) -> Result<Vec<Command
 {
     let keys = pre_order(alloc, table, root)?;
     let mut commands = Vec::new(alloc);
-    push_creates(alloc, table, &keys, &mut commands)?;
+    push_creates(table, &keys, &mut commands)?;
     push_dooms(table, &keys, &mut commands)?;
     push_hides(table, &keys, &mut commands)?;
     Ok(commands)

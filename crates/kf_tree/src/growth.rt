@@ -10,10 +10,7 @@ pub(crate) fn copy_name(alloc: Global, name: &[u8]) -> Result<NameBytes, Refusal
     ensures made { IfOk result (λ copy. copy ≡ name.now) }
     ensures refused { IfErr result (λ refusal. refusal ≡ Refusal.NoMemory) }
 {
-    match name.to_vec(alloc) {
-        Ok(bytes) => Ok(NameBytes::from_bytes(bytes)),
-        Err(_) => Err(Refusal::NoMemory),
-    }
+    NameBytes::copied(alloc, name).map_err(|_| Refusal::NoMemory)
 }
 
 /// Takes room for one command, and for so many after it.

@@ -63,10 +63,10 @@ pub(crate) fn list_names<'t>(
         return Err(Refusal::NoMemory);
     };
     'children: while names.len() < limit {
-        let [(name, key), rest @ ..] = later else {
+        let Some(((name, key), rest)) = later.split_first() else {
             return Ok(names);
         };
-        push_live(table, &mut names, name, *key)?;
+        push_live(table, &mut names, name, key)?;
         later = rest;
     }
     Ok(names)

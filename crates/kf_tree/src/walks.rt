@@ -9,39 +9,35 @@ ghost use Rattle.kf_table.specs.Next.{NoneAbove};
 ghost use Rattle.kf_tree.specs.Walks.{AreLater, IsFirstBelow, IsNextInPostOrder, IsNextInPreOrder, IsLastInPreOrder};
 
 use kf_core::Key;
-use kf_index::Name;
+use kf_index::Listed;
 use kf_table::Table;
 
 /// The siblings of a node that stand after it, by a search in the index of its directory.
-pub(crate) fn later_siblings(table: &Table, key: Key) -> &[(Name, Key)]
+pub(crate) fn later_siblings(table: &Table, key: Key) -> Listed<'_>
     requires lawful { (root : Key) × Lawful table.now root }
-    ensures later { AreLater table.now key result.now }
+    ensures later { AreLater table.now key result }
 {
     let Some(entry) = table.record(key) else {
-        return &[];
+        return Listed::none();
     };
-    match entry.parent {
-        Some(dir) => table.children_above(dir, Some(entry.name.bytes())),
-        None => &[],
-    }
+    let Some(dir) = entry.parent else {
+        return Listed::none();
+    };
+    table.children_above(dir, Some(entry.name.bytes()))
 }
 
 /// Where the way down by first children ends (`kernfs_leftmost_descendant`), with its later siblings.
-pub(crate) fn first_below<'t>(
-    table: &'t Table,
-    top: Key,
-    later: &'t [(Name, Key)],
-) -> (Key, &'t [(Name, Key)])
+pub(crate) fn first_below<'t>(table: &'t Table, top: Key, later: Listed<'t>) -> (Key, Listed<'t>)
     requires lawful { (root : Key) × Lawful table.now root }
     requires linked { IsTrue (is_linked table.now top) }
-    requires later { AreLater table.now top later.now }
+    requires later { AreLater table.now top later }
     ensures first { IsFirstBelow table.now top result.0 }
-    ensures later { AreLater table.now result.0 result.1.now }
+    ensures later { AreLater table.now result.0 result.1 }
 {
     let mut current = top;
     let mut beside = later;
-    'down: while let [(_, child), rest @ ..] = table.children_above(current, None) {
-        current = *child;
+    'down: while let Some(((_, child), rest)) = table.children_above(current, None).split_first() {
+        current = child;
         beside = rest;
     }
     (current, beside)
@@ -53,14 +49,14 @@ pub(crate) fn next_in_post_order<'t>(
     table: &'t Table,
     top: Key,
     key: Key,
-    later: &'t [(Name, Key)],
-) -> Option<(Key, &'t [(Name, Key)])>
+    later: Listed<'t>,
+) -> Option<(Key, Listed<'t>)>
     requires lawful { (root : Key) × Lawful table.now root }
     requires linked { IsTrue (is_linked table.now key) }
     requires below { IsTrue (in_subtree table.now top key) }
-    requires later { AreLater table.now key later.now }
+    requires later { AreLater table.now key later }
     ensures next { IfSome result (λ next. IsNextInPostOrder table.now top key next.0) }
-    ensures later { IfSome result (λ next. AreLater table.now next.0 next.1.now) }
+    ensures later { IfSome result (λ next. AreLater table.now next.0 next.1) }
     ensures end { IfNone result (key ≡ top) }
 {
     if key == top {
@@ -68,26 +64,27 @@ pub(crate) fn next_in_post_order<'t>(
     }
     let entry = table.record(key)?;
     let dir = entry.parent?;
-    match later {
-        [(_, sibling), rest @ ..] => Some(first_below(table, *sibling, rest)),
-        [] => Some((dir, later_siblings(table, dir))),
+    match later.split_first() {
+        Some(((_, sibling), rest)) => Some(first_below(table, sibling, rest)),
+        None => Some((dir, later_siblings(table, dir))),
     }
 }
 
 /// The next sibling of a node, or of the nearest node above it that has one, with its later siblings.
-fn next_aside(table: &Table, key: Key) -> Option<(Key, &[(Name, Key)])>
+fn next_aside(table: &Table, key: Key) -> Option<(Key, Listed<'_>)>
     requires lawful { (root : Key) × Lawful table.now root }
     requires linked { IsTrue (is_linked table.now key) }
     requires leaf { NoneAbove table.now key None }
     ensures next { IfSome result (λ next. IsNextInPreOrder table.now key next.0) }
-    ensures later { IfSome result (λ next. AreLater table.now next.0 next.1.now) }
+    ensures later { IfSome result (λ next. AreLater table.now next.0 next.1) }
     ensures end { IfNone result (IsLastInPreOrder table.now key) }
 {
     let mut current = key;
     'up: while let Some(entry) = table.record(current) {
         let dir = entry.parent?;
-        if let [(_, sibling), rest @ ..] = table.children_above(dir, Some(entry.name.bytes())) {
-            return Some((*sibling, rest));
+        let beside = table.children_above(dir, Some(entry.name.bytes()));
+        if let Some(((_, sibling), rest)) = beside.split_first() {
+            return Some((sibling, rest));
         }
         current = dir;
     }
@@ -96,27 +93,23 @@ fn next_aside(table: &Table, key: Key) -> Option<(Key, &[(Name, Key)])>
 
 /// The node after a leaf in pre-order, with its later siblings: its next sibling, where there is one, without
 /// a search.
-fn next_of_leaf<'t>(
-    table: &'t Table,
-    key: Key,
-    later: &'t [(Name, Key)],
-) -> Option<(Key, &'t [(Name, Key)])>
+fn next_of_leaf<'t>(table: &'t Table, key: Key, later: Listed<'t>) -> Option<(Key, Listed<'t>)>
     requires lawful { (root : Key) × Lawful table.now root }
     requires linked { IsTrue (is_linked table.now key) }
     requires leaf { NoneAbove table.now key None }
-    requires later { AreLater table.now key later.now }
+    requires later { AreLater table.now key later }
     ensures next { IfSome result (λ next. IsNextInPreOrder table.now key next.0) }
-    ensures later { IfSome result (λ next. AreLater table.now next.0 next.1.now) }
+    ensures later { IfSome result (λ next. AreLater table.now next.0 next.1) }
     ensures end { IfNone result (IsLastInPreOrder table.now key) }
 {
-    let [(_, sibling), rest @ ..] = later else {
+    let Some(((_, sibling), rest)) = later.split_first() else {
         return next_aside(table, key);
     };
     let Some(entry) = table.record(key) else {
         return next_aside(table, key);
     };
     match entry.parent {
-        Some(_) => Some((*sibling, rest)),
+        Some(_) => Some((sibling, rest)),
         None => next_aside(table, key),
     }
 }
@@ -126,17 +119,17 @@ fn next_of_leaf<'t>(
 pub(crate) fn next_in_pre_order<'t>(
     table: &'t Table,
     key: Key,
-    later: &'t [(Name, Key)],
-) -> Option<(Key, &'t [(Name, Key)])>
+    later: Listed<'t>,
+) -> Option<(Key, Listed<'t>)>
     requires lawful { (root : Key) × Lawful table.now root }
     requires linked { IsTrue (is_linked table.now key) }
-    requires later { AreLater table.now key later.now }
+    requires later { AreLater table.now key later }
     ensures next { IfSome result (λ next. IsNextInPreOrder table.now key next.0) }
-    ensures later { IfSome result (λ next. AreLater table.now next.0 next.1.now) }
+    ensures later { IfSome result (λ next. AreLater table.now next.0 next.1) }
     ensures end { IfNone result (IsLastInPreOrder table.now key) }
 {
-    match table.children_above(key, None) {
-        [(_, child), rest @ ..] => Some((*child, rest)),
-        [] => next_of_leaf(table, key, later),
+    match table.children_above(key, None).split_first() {
+        Some(((_, child), rest)) => Some((child, rest)),
+        None => next_of_leaf(table, key, later),
     }
 }

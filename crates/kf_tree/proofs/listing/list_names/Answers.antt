@@ -11,13 +11,13 @@ children-init c = record {
   left = c.children_above-later.ensures.listed;
 }
 
-pub returns-in_default-later-clause-listed : goal.returns-in_default-later-clause-listed
-returns-in_default-later-clause-listed c = listed_all c.args.table.now c.requires.lawful.0 c.args.dir c.requires.lawful.1 _ c.args.limit _ _ c.in_default-later.len_below c.children.invariant
+pub returns-in_default-split_first-clause-listed : goal.returns-in_default-split_first-clause-listed
+returns-in_default-split_first-clause-listed c = listed_all c.args.table.now c.requires.lawful.0 c.args.dir c.requires.lawful.1 _ c.args.limit _ (rw c.in_default-split_first.ensures.empty at c.children.invariant)
 
 pub returns-clause-listed : goal.returns-clause-listed
 returns-clause-listed c = listed_up_to c.args.table.now c.args.dir _ c.args.limit _ _
-    (let many = length-map c.children.names.items (λ n. n.now) in omega (arith, c.children-test.false, c.len.ensures)) c.children.invariant
+    (let many = length-map c.children.names.items (λ n. n.now) in omega (arith, c.children-test.false, c.len-in-children.ensures)) c.children.invariant
 
 pub children-preserved : goal.children-preserved
-children-preserved c = listed_more c.args.table.now c.requires.lawful.0 c.args.dir c.requires.lawful.1 _ c.args.limit _ _ _ c.index-later-0.result c.index-later-0-in-children.result c.in-len1-up.len_at_least
-    (let many = length-map c.children.names.items (λ n. n.now) in omega (arith, c.children-test.true, c.len.ensures)) c.children.invariant c.in_ok-push_live.ensures.pushed
+children-preserved c = listed_more c.args.table.now c.requires.lawful.0 c.args.dir c.requires.lawful.1 _ c.args.limit _ _ _ _
+    (let many = length-map c.children.names.items (λ n. n.now) in omega (arith, c.children-test.true, c.len-in-children.ensures)) (rw c.in-Some.ensures.split at c.children.invariant) c.in_ok-push_live.ensures.pushed

@@ -6,16 +6,17 @@ pub down-init : goal.down-init
 down-init c = (down_none c.args.table.now c.requires.lawful.0 c.requires.lawful.1 c.args.top c.requires.linked, c.requires.later)
 
 pub down-preserved : goal.down-preserved
-down-preserved c = (
-  down_more c.args.table.now c.requires.lawful.0 c.requires.lawful.1 c.args.top _ _ _ c.in-len1-up.len_at_least c.children_above.ensures.listed c.down.invariant.0,
-  later_listed c.args.table.now _ _ _ _ c.in-len1-up.len_at_least c.children_above.ensures.listed,
-)
+down-preserved c =
+    let listed = rw c.in-Some.ensures.split at c.children_above.ensures.listed in (
+      down_more c.args.table.now c.requires.lawful.0 c.requires.lawful.1 c.args.top _ _ _ listed c.down.invariant.0,
+      later_listed c.args.table.now _ _ _ _ listed,
+    )
 
 pub down-smaller : goal.down-smaller
-down-smaller c = down_smaller c.args.table.now c.requires.lawful.0 c.requires.lawful.1 _ _ _ c.in-len1-up.len_at_least c.children_above.ensures.listed
+down-smaller c = down_smaller c.args.table.now c.requires.lawful.0 c.requires.lawful.1 _ _ _ (rw c.in-Some.ensures.split at c.children_above.ensures.listed)
 
 pub returns : goal.returns
 returns c = record {
-  first = down_end c.args.table.now c.requires.lawful.0 c.requires.lawful.1 c.args.top _ _ c.in_default.len_below c.children_above.ensures.listed c.down.invariant.0;
+  first = down_end c.args.table.now c.requires.lawful.0 c.requires.lawful.1 c.args.top _ (rw c.in_default.ensures.empty at c.children_above.ensures.listed) c.down.invariant.0;
   later = c.down.invariant.1;
 }

@@ -1,7 +1,7 @@
 use Rattle.std.proofs.Common.{◌-◌, ◌<◌, ◌≤◌, ℕ, List, length, get_or}
 use Rattle.kf_core.specs.declared.key.Key.{Key}
 use Rattle.kf_core.specs.Names.{IsBefore}
-use Rattle.kf_index.proofs.index.search.Given as goal
+use Rattle.kf_index.proofs.search.search.Given as goal
 
 -- lower names stand before `low`, and higher ones from `high` on
 abbrev pub invariant-loop-low : goal.invariant-loop-low

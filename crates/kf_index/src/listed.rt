@@ -1,0 +1,107 @@
+//! Entries of an index one after another, as they are listed.
+
+ghost use Rattle.std.specs.Prelude.{◌≡◌, ◌∷◌, ◌<◌, ◌≤◌, ℕ, List, [], length, drop, slice_index_or, IfSome, IfNone, IsTrue, ◌↔◌};
+ghost use Rattle.kf_core.specs.declared.key.Key.{Key};
+ghost use Rattle.kf_index.specs.Places.{AreTaken, pairs_at};
+
+use crate::name::Name;
+use kf_core::Key;
+use std::marker::Model;
+
+/// Entries of an index one after another, each with its name and its key. They stay where they stand, so
+/// nothing is copied. Contracts see the list of them.
+#[derive(Drop)]
+pub struct Listed<'a> {
+    /// The place of each, in their order.
+    order: &'a [usize],
+    /// An entry at each place, or None where the place is free.
+    entries: &'a [Option<(Name, Key)>],
+}
+
+impl<'a> Model for Listed<'a> {
+    ghost use Rattle.std.specs.Prelude.{ℕ, List};
+    ghost use Rattle.kf_core.specs.declared.key.Key.{Key};
+    ghost use Rattle.kf_index.specs.Places.{AreTaken, pairs_at};
+
+    ghost Value = { List (List ℕ × Key) };
+
+    ghost view = { λ listed. pairs_at listed.entries.now listed.order.now };
+
+    ghost invariant = { λ listed. AreTaken listed.entries.now listed.order.now };
+}
+
+impl<'a> Listed<'a> {
+    /// What stands at these places, in this order.
+    #[inline(always)]
+    pub(crate) fn new(entries: &'a [Option<(Name, Key)>], order: &'a [usize]) -> Listed<'a>
+        requires taken { AreTaken entries.now order.now }
+        ensures made { result ≡ pairs_at entries.now order.now }
+    {
+        Listed { order, entries }
+    }
+
+    /// No entries.
+    #[inline(always)]
+    pub fn none() -> Listed<'static>
+        ensures empty { result ≡ [] }
+    {
+        Listed {
+            order: &[],
+            entries: &[],
+        }
+    }
+
+    /// How many there are.
+    #[inline(always)]
+    pub fn len(&self) -> usize
+        ensures known { result ≡ length self.now }
+    {
+        self.order.len()
+    }
+
+    /// Whether there are none.
+    #[inline(always)]
+    pub fn is_empty(&self) -> bool
+        ensures known { IsTrue result ↔ (self.now ≡ []) }
+    {
+        self.order.is_empty()
+    }
+
+    /// The name and the key of one of them.
+    #[inline(always)]
+    pub(crate) fn at(&self, at: usize) -> (&'a Name, Key)
+        requires within { at < length self.now }
+        ensures read { (other : List ℕ × Key) → (result.0.now, result.1) ≡ slice_index_or self.now at other }
+    {
+        let order = self.order;
+        match &self.entries[order[at]] {
+            Some((name, key)) => (name, *key),
+            None => unreachable!(),
+        }
+    }
+
+    /// Those from a place in the list on.
+    #[inline(always)]
+    pub(crate) fn from(self, at: usize) -> Listed<'a>
+        requires within { at ≤ length self }
+        ensures left { result ≡ drop at self.entry }
+    {
+        Listed {
+            order: &self.order[at..],
+            entries: self.entries,
+        }
+    }
+
+    /// The first of them, and the others.
+    #[inline(always)]
+    pub fn split_first(self) -> Option<((&'a Name, Key), Listed<'a>)>
+        ensures split { IfSome result (λ split. self.entry ≡ (split.0.0.now, split.0.1) ∷ split.1) }
+        ensures empty { IfNone result (self.entry ≡ []) }
+    {
+        if self.is_empty() {
+            return None;
+        }
+        let first = self.at(0);
+        Some((first, self.from(1)))
+    }
+}
