@@ -21,7 +21,7 @@ use std::alloc::Global;
 use std::io::{Read, Write};
 
 /// Bytes that one call of read may give.
-const CHUNK: usize = 4096;
+const CHUNK: usize = 65_536;
 
 /// Puts the reply to a line into the buffer.
 fn answer_line<B: Board>(board: &mut B, reply: &mut Reply, line: &[u8])
