@@ -43,6 +43,7 @@ impl NameBytes {
     }
 
     /// The bytes of the name.
+    #[inline(always)]
     pub fn bytes(&self) -> &[u8]
         ensures same { result.now ≡ self.now }
     {

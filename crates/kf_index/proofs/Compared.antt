@@ -3,7 +3,7 @@ use Rattle.std.proofs.Common.{◌≡◌, ◌≢◌, ℕ, zero, suc, ◌+◌, ◌
 use Rattle.std.specs.declared.cmp.Ordering.{Ordering}
 use Rattle.std.specs.declared.cmp.Ordering.TheVariants.{Less, Equal, Greater}
 use Rattle.std.proofs.lemmas.Bool.{cases_order}
-use Rattle.std.specs.Int.{w64, from_be_bytes}
+use Rattle.std.specs.Int.{w32, w64, from_be_bytes}
 use Rattle.std.specs.Ordering.{nat_cmp, ordering_then}
 use Rattle.std.specs.Cmp.{nat_cmp_is}
 use Rattle.std.specs.Cmp.Lexicographic.{slice_cmp}
@@ -28,7 +28,7 @@ lengths_tell (x ∷ xs) (y ∷ ys) zero is = absurd (omega (arith, is))
 lengths_tell (x ∷ xs) (y ∷ ys) (suc n) is = lengths_tell xs ys n (omega (arith, is)) ∙ one_more (length xs) (length ys)
 
 -- the number that a number becomes by bytes that are written behind it
-number : ℕ → List ℕ → ℕ
+pub number : ℕ → List ℕ → ℕ
 number a [] = a
 number a (x ∷ xs) = number (a * 256 + x) xs
 
@@ -93,28 +93,37 @@ module _ (rs ss : List ℕ) where
     | inr (inr more) ↦ (let over = rises (a * 256 + y) (a * 256 + x) ys xs (omega (arith, same)) (later_bytes y ys low) (omega (arith, more)) in absurd (omega (arith, over, e)))
   ]
 
-as_number : (bs : List ℕ) → length bs ≡ 8 → from_be_bytes w64 bs ≡ number 0 bs
+as_word : (bs : List ℕ) → length bs ≡ 8 → from_be_bytes w64 bs ≡ number 0 bs
 unfolding number
-as_number [] l = absurd (omega (arith, l))
-as_number (a ∷ []) l = absurd (omega (arith, l))
-as_number (a ∷ b ∷ []) l = absurd (omega (arith, l))
-as_number (a ∷ b ∷ c ∷ []) l = absurd (omega (arith, l))
-as_number (a ∷ b ∷ c ∷ d ∷ []) l = absurd (omega (arith, l))
-as_number (a ∷ b ∷ c ∷ d ∷ e ∷ []) l = absurd (omega (arith, l))
-as_number (a ∷ b ∷ c ∷ d ∷ e ∷ f ∷ []) l = absurd (omega (arith, l))
-as_number (a ∷ b ∷ c ∷ d ∷ e ∷ f ∷ g ∷ []) l = absurd (omega (arith, l))
-as_number (a ∷ b ∷ c ∷ d ∷ e ∷ f ∷ g ∷ h ∷ []) l = omega arith
-as_number (a ∷ b ∷ c ∷ d ∷ e ∷ f ∷ g ∷ h ∷ x ∷ bs) l = absurd (omega (arith, l))
+as_word [] l = absurd (omega (arith, l))
+as_word (a ∷ []) l = absurd (omega (arith, l))
+as_word (a ∷ b ∷ []) l = absurd (omega (arith, l))
+as_word (a ∷ b ∷ c ∷ []) l = absurd (omega (arith, l))
+as_word (a ∷ b ∷ c ∷ d ∷ []) l = absurd (omega (arith, l))
+as_word (a ∷ b ∷ c ∷ d ∷ e ∷ []) l = absurd (omega (arith, l))
+as_word (a ∷ b ∷ c ∷ d ∷ e ∷ f ∷ []) l = absurd (omega (arith, l))
+as_word (a ∷ b ∷ c ∷ d ∷ e ∷ f ∷ g ∷ []) l = absurd (omega (arith, l))
+as_word (a ∷ b ∷ c ∷ d ∷ e ∷ f ∷ g ∷ h ∷ []) l = omega arith
+as_word (a ∷ b ∷ c ∷ d ∷ e ∷ f ∷ g ∷ h ∷ x ∷ bs) l = absurd (omega (arith, l))
 
--- a text cut behind eight bytes
-pub record IsCut (text front later : List ℕ) : Type 0 where
-  pub front_is : front ≡ take 8 text
-  pub later_is : later ≡ drop 8 text
-  pub long : length later + 8 ≡ length text
+as_half : (bs : List ℕ) → length bs ≡ 4 → from_be_bytes w32 bs ≡ number 0 bs
+unfolding number
+as_half [] l = absurd (omega (arith, l))
+as_half (a ∷ []) l = absurd (omega (arith, l))
+as_half (a ∷ b ∷ []) l = absurd (omega (arith, l))
+as_half (a ∷ b ∷ c ∷ []) l = absurd (omega (arith, l))
+as_half (a ∷ b ∷ c ∷ d ∷ []) l = omega arith
+as_half (a ∷ b ∷ c ∷ d ∷ x ∷ bs) l = absurd (omega (arith, l))
 
-module _ (text front later : List ℕ) (cut : IsCut text front later) where
+-- a text cut behind so many bytes
+pub record IsCut (size : ℕ) (text front later : List ℕ) : Type 0 where
+  pub front_is : front ≡ take size text
+  pub later_is : later ≡ drop size text
+  pub long : length later + size ≡ length text
+
+module _ (size : ℕ) (text front later : List ℕ) (cut : IsCut size text front later) where
   whole : text ≡ front ++ later
-  whole = sym (take-append-drop 8 text) ∙ ap (λ l. take 8 text ++ l) (sym cut.later_is) ∙ ap (λ l. l ++ later) (sym cut.front_is)
+  whole = sym (take-append-drop size text) ∙ ap (λ l. take size text ++ l) (sym cut.later_is) ∙ ap (λ l. l ++ later) (sym cut.front_is)
 
   pub front_small : AreBytes text → AreBytes front
   front_small small = front_bytes front later (subst AreBytes whole small)
@@ -122,27 +131,27 @@ module _ (text front later : List ℕ) (cut : IsCut text front later) where
   pub later_small : AreBytes text → AreBytes later
   later_small small = back_bytes front later (subst AreBytes whole small)
 
-  eight : length front ≡ 8
-  eight = (let all = ap length whole ∙ length-append front later in omega (arith, all, cut.long))
+  so_many : length front ≡ size
+  so_many = (let all = ap length whole ∙ length-append front later in omega (arith, all, cut.long))
 
-module _ (a b x y a_later b_later : List ℕ) (m n : ℕ) (a_cut : IsCut a x a_later) (b_cut : IsCut b y b_later) (small : AreBytes x) (low : AreBytes y)
-    (m_is : m ≡ from_be_bytes w64 x) (n_is : n ≡ from_be_bytes w64 y) where
+pub word_is : (text front later : List ℕ) (m : ℕ) → IsCut 8 text front later → m ≡ from_be_bytes w64 front → m ≡ number 0 front
+word_is text front later m cut is = is ∙ as_word front (so_many 8 text front later cut)
+
+pub half_is : (text front later : List ℕ) (m : ℕ) → IsCut 4 text front later → m ≡ from_be_bytes w32 front → m ≡ number 0 front
+half_is text front later m cut is = is ∙ as_half front (so_many 4 text front later cut)
+
+module _ (size : ℕ) (a b x y a_later b_later : List ℕ) (m n : ℕ) (a_cut : IsCut size a x a_later) (b_cut : IsCut size b y b_later)
+    (small : AreBytes x) (low : AreBytes y) (m_is : m ≡ number 0 x) (n_is : n ≡ number 0 y) where
   same_length : length x ≡ length y
-  same_length = eight a x a_later a_cut ∙ sym (eight b y b_later b_cut)
-
-  m_number : m ≡ number 0 x
-  m_number = m_is ∙ as_number x (eight a x a_later a_cut)
-
-  n_number : n ≡ number 0 y
-  n_number = n_is ∙ as_number y (eight b y b_later b_cut)
+  same_length = so_many size a x a_later a_cut ∙ sym (so_many size b y b_later b_cut)
 
   cut_both : slice_cmp nat_cmp a b ≡ slice_cmp nat_cmp (x ++ a_later) (y ++ b_later)
-  cut_both = ap (λ l. slice_cmp nat_cmp l b) (whole a x a_later a_cut) ∙ ap (slice_cmp nat_cmp (x ++ a_later)) (whole b y b_later b_cut)
+  cut_both = ap (λ l. slice_cmp nat_cmp l b) (whole size a x a_later a_cut) ∙ ap (slice_cmp nat_cmp (x ++ a_later)) (whole size b y b_later b_cut)
 
-  pub words_stand : m ≢ n → slice_cmp nat_cmp a b ≡ nat_cmp m n
-  words_stand differ =
-      cut_both ∙ stands a_later b_later 0 x y same_length small low (λ e. differ (m_number ∙ e ∙ sym n_number))
-      ∙ ap (λ k. nat_cmp k (number 0 y)) (sym m_number) ∙ ap (nat_cmp m) (sym n_number)
+  pub numbers_stand : m ≢ n → slice_cmp nat_cmp a b ≡ nat_cmp m n
+  numbers_stand differ =
+      cut_both ∙ stands a_later b_later 0 x y same_length small low (λ e. differ (m_is ∙ e ∙ sym n_is))
+      ∙ ap (λ k. nat_cmp k (number 0 y)) (sym m_is) ∙ ap (nat_cmp m) (sym n_is)
 
-  pub words_pass : m ≡ n → slice_cmp nat_cmp a b ≡ slice_cmp nat_cmp a_later b_later
-  words_pass same = cut_both ∙ rest_tells a_later b_later 0 x y same_length small low (sym m_number ∙ same ∙ n_number)
+  pub numbers_pass : m ≡ n → slice_cmp nat_cmp a b ≡ slice_cmp nat_cmp a_later b_later
+  numbers_pass same = cut_both ∙ rest_tells a_later b_later 0 x y same_length small low (sym m_is ∙ same ∙ n_is)

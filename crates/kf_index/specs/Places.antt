@@ -27,7 +27,7 @@ IsTaken entries place = IsSome (slice_index_or entries place None)
 abbrev pub AreTaken : Places → List ℕ → Type 0
 AreTaken entries order = All (IsTaken entries) order
 
--- all are places of the entries, no two the same, and an entry stands at each of the first, so many
+-- the order has places of the entries alone, none of them twice, and entries stand at the first `len` of it
 pub record AreInOrder (entries : Places) (order : List ℕ) (len : ℕ) : Type 0 where
   pub within : All (λ place. place < length entries) order
   pub apart : AllPairs (λ a b. a ≢ b) order

@@ -1,4 +1,4 @@
-//! The byte order of names, by eight bytes at a time.
+//! The byte order of names, by eight bytes at a time, then by four.
 
 ghost use Rattle.std.specs.Prelude.{◌≡◌};
 ghost use Rattle.std.specs.Ordering.{nat_cmp};
@@ -7,6 +7,7 @@ ghost use Rattle.std.specs.Cmp.Lexicographic.{slice_cmp};
 use std::cmp::Ordering;
 
 /// How two texts stand in byte order, byte by byte.
+#[inline(always)]
 fn by_bytes(a: &[u8], b: &[u8]) -> Ordering
     ensures known { result ≡ slice_cmp nat_cmp a.now b.now }
 {
@@ -20,7 +21,27 @@ fn by_bytes(a: &[u8], b: &[u8]) -> Ordering
     a.len().cmp(&b.len())
 }
 
-/// How two texts stand in byte order. Eight bytes, the first one highest, stand as the numbers that they are.
+/// How two texts stand in byte order, by four bytes first.
+#[inline(always)]
+fn by_half(a: &[u8], b: &[u8]) -> Ordering
+    ensures known { result ≡ slice_cmp nat_cmp a.now b.now }
+{
+    if let (Some((x, a_later)), Some((y, b_later))) = (
+        a.split_first_chunk::<4>(),
+        b.split_first_chunk::<4>(),
+    ) {
+        let (x, y) = (u32::from_be_bytes(*x), u32::from_be_bytes(*y));
+        if x != y {
+            return x.cmp(&y);
+        }
+        return by_bytes(a_later, b_later);
+    }
+    by_bytes(a, b)
+}
+
+/// How two texts stand in byte order. Bytes, the first one highest, stand as the number that they are: eight
+/// at a time, then four, then one.
+#[inline(always)]
 pub(crate) fn by_words(a: &[u8], b: &[u8]) -> Ordering
     ensures known { result ≡ slice_cmp nat_cmp a.now b.now }
 {
@@ -37,5 +58,5 @@ pub(crate) fn by_words(a: &[u8], b: &[u8]) -> Ordering
         a = a_later;
         b = b_later;
     }
-    by_bytes(a, b)
+    by_half(a, b)
 }

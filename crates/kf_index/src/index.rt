@@ -62,6 +62,7 @@ impl Index {
     }
 
     /// The key under this name, or None where there is none (`kernfs_find_ns`).
+    #[inline(always)]
     pub fn get(&self, name: &[u8]) -> Option<Key>
         ensures found { result ≡ map.get self.now name.now }
     {

@@ -54,13 +54,25 @@ impl Name {
         if let Some(fault) = name_fault(bytes) {
             return Err(fault);
         }
-        match NameBytes::copied(alloc, bytes) {
-            Ok(bytes) => Ok(Name { bytes }),
+        match Name::of_lawful(alloc, bytes) {
+            Ok(name) => Ok(name),
             Err(_) => Err(Refusal::NoMemory),
         }
     }
 
+    /// A copy of bytes that are known to be a lawful name, without a look at them. It is refused where the
+    /// copy wants memory.
+    pub fn of_lawful(alloc: Global, bytes: &[u8]) -> Result<Name, AllocError>
+        requires lawful { IsLawfulName bytes.now }
+        ensures made { IfOk result (λ name. name ≡ bytes.now) }
+    {
+        Ok(Name {
+            bytes: NameBytes::copied(alloc, bytes)?,
+        })
+    }
+
     /// The bytes of the name.
+    #[inline(always)]
     pub fn bytes(&self) -> &[u8]
         ensures same { result.now ≡ self.now }
         ensures lawful { IsLawfulName result.now }

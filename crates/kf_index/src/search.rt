@@ -8,6 +8,7 @@ use crate::listed::Listed;
 use std::cmp::Ordering;
 
 /// Where the name is, or else where it would go.
+#[inline(always)]
 pub(crate) fn search(entries: Listed<'_>, name: &[u8]) -> Result<usize, usize>
     requires rising { IsRising entries }
     ensures found { IfOk result (λ at. IsPlaceOf entries.entry name.now at) }

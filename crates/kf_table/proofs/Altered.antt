@@ -1,9 +1,8 @@
 -- A change of the record in one slot.
-use Rattle.std.proofs.Common.{◌≡◌, ◌≢◌, ℕ, zero, suc, ◌<◌, ◌≤◌, refl, ap, arith, sym, ◌∙◌, List, [], ◌∷◌, length, get_or}
+use Rattle.std.proofs.Common.{◌≡◌, ◌≢◌, ℕ, zero, suc, ◌≤◌, refl, ap, arith, sym, ◌∙◌, List, [], ◌∷◌, length}
 use Rattle.std.specs.Prelude.{Option, None, Some, slice_get, slice_set}
 use Rattle.std.specs.Option.{option_map, option_and_then}
-use Rattle.std.proofs.lemmas.Option.{none-some, slice_get_within, slice_get_past, slice_get-get_or}
-use Rattle.std.proofs.lemmas.List.{set-set}
+use Rattle.std.proofs.lemmas.Option.{none-some, slice_get_within, slice_get_past}
 use Rattle.kf_core.specs.declared.records.Record.{Record}
 use Rattle.kf_core.specs.Tree.{Tree}
 use Rattle.kf_table.specs.Changes.{with_changed_slot}
@@ -34,8 +33,3 @@ module _ (f : Record → Record) where
 
           short : length t ≤ j → length (with_changed_slot f t j) ≤ j
           short h = (let e = length_set t j (option_and_then (λ place. option_map f place) (slice_get t j)) in omega arith)
-
--- an item taken out of its slot and put back changed
-pub altered_written : (f : Record → Record) (t : Tree) (slot : ℕ) (between item new : Option Record) → slot < length t → item ≡ get_or t slot item → new ≡ option_map f item → slice_set (slice_set t slot between) slot new ≡ with_changed_slot f t slot
-altered_written f t slot between item new h e n =
-    set-set t slot between new ∙ ap (slice_set t slot) (n ∙ ap (λ o. option_and_then (λ place. option_map f place) o) (ap Some e ∙ sym (slice_get-get_or t slot item h)))

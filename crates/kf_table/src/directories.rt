@@ -30,6 +30,7 @@ impl Directory {
     }
 
     /// The key of the child with this name.
+    #[inline(always)]
     pub(crate) fn get(&self, name: &[u8]) -> Option<Key>
         ensures found { result ≡ map_of.get self.now.index name.now }
     {
@@ -91,7 +92,9 @@ pub(crate) fn enter(
     ensures unchanged { OnErr result (directories.new.items ≡ directories.old.items) }
     ensures refused { IfErr result (λ refusal. refusal ≡ Refusal.NoMemory) }
 {
-    let name = Name::new(*directories.allocator(), name)?;
+    let Ok(name) = Name::of_lawful(*directories.allocator(), name) else {
+        return Err(Refusal::NoMemory);
+    };
     directories[slot as usize].enter(name, key, is_subdir)
 }
 

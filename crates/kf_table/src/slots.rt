@@ -22,15 +22,11 @@ pub(crate) fn empty_slots(alloc: Global, slots: u32) -> Result<Vec<Option<Record
     Ok(records)
 }
 
-fn doomed(slot: Option<Record>) -> Option<Record>
-    ensures changed { result ≡ option_map doomed_record slot }
+fn doom(slot: &mut Option<Record>)
+    ensures changed { slot.new ≡ option_map doomed_record slot.old }
 {
-    match slot {
-        Some(mut found) => {
-            found.marks.doomed = true;
-            Some(found)
-        }
-        None => None,
+    if let Some(found) = slot {
+        found.marks.doomed = true;
     }
 }
 
@@ -40,22 +36,17 @@ pub(crate) fn doom_slot(records: &mut Vec<Option<Record>>, slot: u32)
 {
     let at = slot as usize;
     if at < records.len() {
-        let entry = records[at].take();
-        records[at] = doomed(entry);
+        doom(&mut records[at]);
     }
 }
 
-fn activated(slot: Option<Record>) -> Option<Record>
-    ensures changed { result ≡ option_map activated_unless_doomed slot }
+fn activate(slot: &mut Option<Record>)
+    ensures changed { slot.new ≡ option_map activated_unless_doomed slot.old }
 {
-    match slot {
-        Some(mut found) => {
-            if !found.marks.doomed {
-                found.marks.activated = true;
-            }
-            Some(found)
+    if let Some(found) = slot {
+        if !found.marks.doomed {
+            found.marks.activated = true;
         }
-        None => None,
     }
 }
 
@@ -65,20 +56,15 @@ pub(crate) fn activate_slot(records: &mut Vec<Option<Record>>, slot: u32)
 {
     let at = slot as usize;
     if at < records.len() {
-        let entry = records[at].take();
-        records[at] = activated(entry);
+        activate(&mut records[at]);
     }
 }
 
-fn hidden(slot: Option<Record>, hidden: bool) -> Option<Record>
-    ensures changed { result ≡ option_map (hidden_record hidden) slot }
+fn hide(slot: &mut Option<Record>, hides: bool)
+    ensures changed { slot.new ≡ option_map (hidden_record hides) slot.old }
 {
-    match slot {
-        Some(mut found) => {
-            found.hidden = hidden;
-            Some(found)
-        }
-        None => None,
+    if let Some(found) = slot {
+        found.hidden = hides;
     }
 }
 
@@ -88,21 +74,16 @@ pub(crate) fn hide_slot(records: &mut Vec<Option<Record>>, slot: u32, hides: boo
 {
     let at = slot as usize;
     if at < records.len() {
-        let entry = records[at].take();
-        records[at] = hidden(entry, hides);
+        hide(&mut records[at], hides);
     }
 }
 
-fn moved(slot: Option<Record>, dir: Key, name: NameBytes) -> Option<Record>
-    ensures changed { result ≡ option_map (moved_record dir name) slot }
+fn put(slot: &mut Option<Record>, dir: Key, name: NameBytes)
+    ensures changed { slot.new ≡ option_map (moved_record dir name) slot.old }
 {
-    match slot {
-        Some(mut found) => {
-            found.parent = Some(dir);
-            found.name = name;
-            Some(found)
-        }
-        None => None,
+    if let Some(found) = slot {
+        found.parent = Some(dir);
+        found.name = name;
     }
 }
 
@@ -112,7 +93,6 @@ pub(crate) fn move_slot(records: &mut Vec<Option<Record>>, slot: u32, dir: Key, 
 {
     let at = slot as usize;
     if at < records.len() {
-        let entry = records[at].take();
-        records[at] = moved(entry, dir, name);
+        put(&mut records[at], dir, name);
     }
 }

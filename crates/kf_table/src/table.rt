@@ -1,9 +1,9 @@
 //! The records of a tree by slot.
 
-ghost use Rattle.std.specs.Prelude.{◌≡◌, ◌≤◌, ◌<◌, ◌↔◌, Some, None, true, false, IsTrue, IfOk, IfErr, OnOk, OnErr, length, slice_get, slice_set};
+ghost use Rattle.std.specs.Prelude.{◌≡◌, ◌≤◌, ◌<◌, ◌↔◌, Some, None, true, false, IsTrue, IfSome, IfOk, IfErr, OnOk, OnErr, length, slice_get, slice_set};
 ghost use Rattle.std.specs.Option.{option_copied, option_and_then};
 ghost use Rattle.kf_core.specs.declared.key.Key.{Key};
-ghost use Rattle.kf_core.specs.Tree.{record_at, parent_of, is_linked, in_subtree};
+ghost use Rattle.kf_core.specs.Tree.{IsIn, record_at, parent_of, is_linked, in_subtree};
 ghost use Rattle.kf_core.specs.Lawful.{Lawful};
 ghost use Rattle.kf_core.specs.Commands.{root_alone, doomed_record, hidden_record, moved_record};
 ghost use Rattle.kf_table.specs.Children.{has_child, is_there_already, child, subdirs};
@@ -72,6 +72,7 @@ impl Table {
     }
 
     /// The record in a slot.
+    #[inline(always)]
     pub fn in_slot(&self, slot: u32) -> Option<&Record>
         ensures known { option_copied result ≡ option_and_then (λ entry. entry) (slice_get self.now slot) }
     {
@@ -92,6 +93,7 @@ impl Table {
     }
 
     /// The record of a key, where it is linked.
+    #[inline(always)]
     pub fn record(&self, key: Key) -> Option<&Record>
         ensures known { option_copied result ≡ record_at self.now key }
     {
@@ -130,12 +132,23 @@ impl Table {
     }
 
     /// The record with this name in this directory.
+    #[inline(always)]
     pub fn child(&self, dir: Key, name: &[u8]) -> Option<&Record>
         requires lawful { (root : Key) × Lawful self.now root }
         ensures found { option_copied result ≡ child self.now dir name.now }
     {
-        self.record(dir)?;
-        let key = self.directories[dir.slot as usize].get(name)?;
+        self.child_of(self.record(dir)?, name)
+    }
+
+    /// The record with this name in the directory of a record, which the caller has found before.
+    #[inline(always)]
+    pub fn child_of(&self, dir: &Record, name: &[u8]) -> Option<&Record>
+        requires lawful { (root : Key) × Lawful self.now root }
+        requires inside { IsIn self.now dir.now }
+        ensures found { option_copied result ≡ child self.now dir.now.key name.now }
+        ensures inside { IfSome result (λ found. IsIn self.now found.now) }
+    {
+        let key = self.directories[dir.key.slot as usize].get(name)?;
         self.in_slot(key.slot)
     }
 

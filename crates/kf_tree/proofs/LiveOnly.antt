@@ -1,21 +1,62 @@
 -- What keys and names find in a tree of which only the live records are shown.
-use Rattle.std.proofs.Common.{◌≡◌, ℕ, zero, suc, refl, ap, arith, sym, ◌∙◌, Bool, true, false, cond, List, [], ◌∷◌}
-use Rattle.std.specs.Prelude.{Option, None, Some, Ok, Err, slice_get, map}
+use Rattle.std.proofs.Common.{◌≡◌, ℕ, zero, suc, refl, ap, arith, sym, ◌∙◌, Bool, true, false, cond, List, [], ◌∷◌, Bor}
+use Rattle.std.specs.Prelude.{Option, None, Some, IfSome, Result, Ok, Err, slice_get, map}
 use Rattle.std.specs.List.{find as first}
 use Rattle.std.specs.Str.{bytes_eq}
-use Rattle.std.specs.Option.{option_map, option_and_then}
-use Rattle.std.proofs.lemmas.Option.{slice_get-map}
+use Rattle.std.specs.Option.{option_copied, option_map, option_and_then}
+use Rattle.std.proofs.lemmas.Option.{slice_get-map, same_Some, none-some}
 use Rattle.std.proofs.lemmas.Slice.Eq.{bytes_eq-Decides}
 use Rattle.kf_core.specs.declared.key.Key.{Key}
 use Rattle.kf_core.specs.declared.records.Record.{Record}
+use Rattle.kf_core.specs.declared.refusal.Refusal.{Refusal}
 use Rattle.kf_core.specs.declared.refusal.Refusal.TheVariants.{NoEntry, NotDir}
 use Rattle.kf_core.specs.Keys.{same_key}
-use Rattle.kf_core.specs.Tree.{Tree, with_key, record_at, is_dir}
-use Rattle.kf_core.specs.Lawful.{Lawful}
+use Rattle.kf_core.specs.Tree.{Tree, IsIn, with_key, record_at, is_dir}
+use Rattle.kf_core.specs.Lawful.{root_record, Lawful}
 use Rattle.kf_table.specs.Children.{is_key, is_under, child}
 use Rattle.kf_tree.specs.Paths.{entry_key, found, lives, only_live}
 use Rattle.kf_tree.specs.Shown.{shown, shown_record}
+use Rattle.kf_core.proofs.FoundRecords.{in_found, found_in}
 use Rattle.kf_table.proofs.ChildTests.{both, key_is}
+
+-- a record that is shown is the record itself
+shown_same : (live_only : Bool) (r s : Record) → Some s ≡ shown_record live_only (Some r) → s ≡ r
+shown_same false r s h = same_Some s r h
+shown_same true r s h = elim (lives r) as (λ b. Some s ≡ cond b (Some r) None → s ≡ r) [
+  | true ↦ λ e. same_Some s r e
+  | false ↦ λ e. absurd (none-some s (sym e))
+] h
+
+shown_at : (live_only : Bool) (t : Tree) (r : Record) → IsIn t r → slice_get (shown live_only t) r.key.slot ≡ Some (shown_record live_only (Some r))
+shown_at false t r is = is
+shown_at true t r is = slice_get-map only_live t r.key.slot ∙ ap (option_map only_live) is
+
+-- a record of the tree that is shown is one of the tree
+pub shown_in : (live_only : Bool) (t : Tree) (r : Record) → IsIn (shown live_only t) r → IsIn t r
+shown_in false t r is = is
+shown_in true t r is = go (slice_get t r.key.slot) (sym (slice_get-map only_live t r.key.slot) ∙ is)
+  where
+    go : (o : Option (Option Record)) → option_map only_live o ≡ Some (Some r) → o ≡ Some (Some r)
+    go None h = absurd (none-some (Some r) h)
+    go (Some None) h = absurd (none-some r (same_Some None (Some r) h))
+    go (Some (Some s)) h = ap (λ x. Some (Some x)) (sym (shown_same true s r (sym (same_Some (only_live (Some s)) (Some r) h))))
+
+-- a record of the tree that is shown stands in what is shown
+pub in_shown : (live_only : Bool) (t : Tree) (r s : Record) → IsIn t r → Some s ≡ shown_record live_only (Some r) → IsIn (shown live_only t) s
+in_shown live_only t r s is e =
+    let same = shown_same live_only r s e in
+    ap (λ (x : Record). slice_get (shown live_only t) x.key.slot) same ∙ shown_at live_only t r is ∙ ap Some (sym e)
+
+-- what is shown of a record that was found, if any
+pub met_in : (live_only : Bool) (t : Tree) (o : Option (Bor Record)) (s : Record) → IfSome o (λ r. IsIn t r.now) → Some s ≡ shown_record live_only (option_copied o) → IsIn (shown live_only t) s
+met_in live_only t (Some r) s is e = in_shown live_only t r.now s is e
+met_in true t None s is e = absurd (none-some s (sym e))
+met_in false t None s is e = absurd (none-some s (sym e))
+
+-- the root is shown
+pub root_in : (live_only : Bool) (t : Tree) (root : Key) → Lawful t root → IsIn (shown live_only t) (root_record root)
+root_in false t root l = l.rooted
+root_in true t root l = in_shown true t (root_record root) (root_record root) l.rooted refl
 
 -- the record of a key, where it is shown
 pub record_shown : (live_only : Bool) (t : Tree) (k : Key) → record_at (shown live_only t) k ≡ shown_record live_only (record_at t k)
@@ -32,6 +73,10 @@ record_shown true t k = ap (λ o. option_and_then (with_key k) o) (slice_get-map
     go None = refl
     go (Some None) = refl
     go (Some (Some r)) = live r
+
+-- the record that a key finds has the key
+pub shown_key : (live_only : Bool) (t : Tree) (dir : Key) (r : Record) → Some r ≡ shown_record live_only (record_at t dir) → r.key ≡ dir
+shown_key live_only t dir r e = (found_in (shown live_only t) dir r (record_shown live_only t dir ∙ sym e)).1
 
 module _ (dir : Key) (test : Record → Bool) where
   abbrev passes : Option Record → Bool
@@ -94,13 +139,16 @@ child_shown true t root dir name l = first_live dir (λ (r : Record). bytes_eq r
     ((bytes_eq-Decides r.name name).0 pr.1 ∙ sym ((bytes_eq-Decides s.name name).0 ps.1)) in
     sym at_r ∙ ap (λ (k : Key). k.slot) key ∙ at_s))
 
-module _ (live_only : Bool) (t : Tree) (root dir : Key) (name : List ℕ) (l : Lawful t root) (entry : Record)
-    (there : Some entry ≡ shown_record live_only (record_at t dir)) (is_directory : is_dir entry.node ≡ true) where
-  within : (o : Option Record) → o ≡ shown_record live_only (child t dir name) → entry_key (Some entry) o ≡ found (shown live_only t) dir name
-  within o e = ap (λ d. entry_key d o) (there ∙ sym (record_shown live_only t dir)) ∙ ap (entry_key (record_at (shown live_only t) dir)) (e ∙ sym (child_shown live_only t root dir name l))
+module _ (live_only : Bool) (t : Tree) (root : Key) (name : List ℕ) (l : Lawful t root) (dir : Record)
+    (is : IsIn (shown live_only t) dir) where
+  abbrev in_dir : Option Record → Result Key Refusal
+  in_dir entry = entry_key (Some dir) entry
 
-  pub found_shown : (c : Record) → Some c ≡ shown_record live_only (child t dir name) → Ok c.key ≡ found (shown live_only t) dir name
-  found_shown c e = sym (ap (λ b. cond b (Ok c.key) (Err NotDir)) is_directory) ∙ within (Some c) e
+  within : (o : Option Record) → o ≡ shown_record live_only (child t dir.key name) → found (shown live_only t) dir.key name ≡ in_dir o
+  within o e = ap (λ d. entry_key d (child (shown live_only t) dir.key name)) (in_found (shown live_only t) dir is) ∙ ap in_dir (child_shown live_only t root dir.key name l ∙ sym e)
 
-  pub none_shown : None ≡ shown_record live_only (child t dir name) → Err NoEntry ≡ found (shown live_only t) dir name
-  none_shown e = sym (ap (λ b. cond b (Err NoEntry) (Err NotDir)) is_directory) ∙ within None e
+  pub found_shown : (c : Record) → is_dir dir.node ≡ true → Some c ≡ shown_record live_only (child t dir.key name) → found (shown live_only t) dir.key name ≡ Ok c.key
+  found_shown c is_directory e = within (Some c) e ∙ ap (λ b. cond b (Ok c.key) (Err NotDir)) is_directory
+
+  pub none_shown : is_dir dir.node ≡ true → None ≡ shown_record live_only (child t dir.key name) → found (shown live_only t) dir.key name ≡ Err NoEntry
+  none_shown is_directory e = within None e ∙ ap (λ b. cond b (Err NoEntry) (Err NotDir)) is_directory

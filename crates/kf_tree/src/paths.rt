@@ -4,13 +4,14 @@ ghost use Rattle.std.specs.Prelude.{◌≡◌, ◌∷◌, ◌<◌, false, positi
 ghost use Rattle.std.specs.Option.{option_map};
 ghost use Rattle.std.specs.List.{list_any, slice_split};
 ghost use Rattle.kf_core.specs.declared.key.Key.{Key};
+ghost use Rattle.kf_core.specs.Tree.{IsIn};
 ghost use Rattle.kf_core.specs.Lawful.{Lawful};
 ghost use Rattle.kf_tree.specs.Paths.{is_slash, is_empty, walk, walked, walked_parent, front, final};
 ghost use Rattle.kf_tree.specs.Shown.{shown};
 ghost use Rattle.kf_tree.specs.Ways.{later_parts};
 
-use crate::shown::find_in;
-use kf_core::{Key, Refusal};
+use crate::shown::step;
+use kf_core::{Key, Record, Refusal};
 use kf_table::Table;
 
 fn find_slash(text: &[u8]) -> Option<usize>
@@ -46,29 +47,31 @@ fn has_empty_part(parts: &[u8]) -> bool
     false
 }
 
-/// What the parts lead to one after another, from a key on. No node has an empty name, so they lead nowhere
-/// where one is empty.
-fn walk_parts(table: &Table, start: Key, parts: &[u8], live_only: bool) -> Result<Key, Refusal>
+/// What the parts lead to one after another, from the record of a directory on. No node has an empty name, so
+/// they lead nowhere where one is empty.
+fn walk_parts(table: &Table, start: &Record, parts: &[u8], live_only: bool) -> Result<Key, Refusal>
     requires lawful { (root : Key) × Lawful table.now root }
-    ensures walked { result ≡ walk (shown live_only table.now) start (slice_split is_slash parts.now) }
+    requires inside { IsIn (shown live_only table.now) start.now }
+    ensures walked { result
+        ≡ walk (shown live_only table.now) start.now.key (slice_split is_slash parts.now) }
     ensures named { OnOk result (list_any is_empty (slice_split is_slash parts.now) ≡ false) }
 {
     let mut dir = start;
     let mut rest = Some(parts);
     while let Some(text) = rest {
         let (name, more) = first_part(text);
-        match find_in(table, dir, name, live_only) {
-            Ok(key) => dir = key,
+        match step(table, dir, name, live_only) {
+            Ok(next) => dir = next,
             Err(refusal) => return Err(refusal),
         }
         rest = more;
     }
-    Ok(dir)
+    Ok(dir.key)
 }
 
 /// The node that a path names.
 pub(crate) fn walk(table: &Table, root: Key, path: &[u8], live_only: bool) -> Result<Key, Refusal>
-    requires lawful { (root : Key) × Lawful table.now root }
+    requires rooted { Lawful table.now root }
     ensures walked { result ≡ walked (shown live_only table.now) root path.now }
 {
     let [b'/', parts @ ..] = path else {
@@ -77,7 +80,10 @@ pub(crate) fn walk(table: &Table, root: Key, path: &[u8], live_only: bool) -> Re
     if parts.is_empty() {
         return Ok(root);
     }
-    match walk_parts(table, root, parts, live_only) {
+    let Some(top) = table.record(root) else {
+        unreachable!();
+    };
+    match walk_parts(table, top, parts, live_only) {
         Ok(key) => Ok(key),
         Err(_) if has_empty_part(parts) => Err(Refusal::Invalid),
         Err(refusal) => Err(refusal),
@@ -99,12 +105,18 @@ fn has_empty_front(parts: &[u8]) -> bool
 }
 
 /// What the parts but the last lead to, and the last.
-fn walk_front<'a>(table: &Table, start: Key, parts: &'a [u8]) -> Result<(Key, &'a [u8]), Refusal>
+fn walk_front<'a>(
+    table: &Table,
+    start: &Record,
+    parts: &'a [u8],
+) -> Result<(Key, &'a [u8]), Refusal>
     requires lawful { (root : Key) × Lawful table.now root }
+    requires inside { IsIn table.now start.now }
     ensures walked { MatchResult result
-        (λ found. (walk table.now start (front (slice_split is_slash parts.now)) ≡ Ok found.0)
+        (λ found. (walk table.now start.now.key (front (slice_split is_slash parts.now)) ≡ Ok found.0)
         × (final (slice_split is_slash parts.now) ≡ found.1.now))
-        (λ refusal. walk table.now start (front (slice_split is_slash parts.now)) ≡ Err refusal) }
+        (λ refusal.
+        walk table.now start.now.key (front (slice_split is_slash parts.now)) ≡ Err refusal) }
     ensures named { OnOk result (list_any is_empty (front (slice_split is_slash parts.now)) ≡ false) }
 {
     let mut dir = start;
@@ -112,10 +124,10 @@ fn walk_front<'a>(table: &Table, start: Key, parts: &'a [u8]) -> Result<(Key, &'
     loop {
         let (name, more) = first_part(text);
         let Some(rest) = more else {
-            return Ok((dir, name));
+            return Ok((dir.key, name));
         };
-        match find_in(table, dir, name, false) {
-            Ok(key) => dir = key,
+        match step(table, dir, name, false) {
+            Ok(next) => dir = next,
             Err(refusal) => return Err(refusal),
         }
         text = rest;
@@ -128,7 +140,7 @@ pub(crate) fn walk_parent<'a>(
     root: Key,
     path: &'a [u8],
 ) -> Result<(Key, &'a [u8]), Refusal>
-    requires lawful { (root : Key) × Lawful table.now root }
+    requires rooted { Lawful table.now root }
     ensures walked { MatchResult result
         (λ found. walked_parent table.now root path.now ≡ Ok (found.0, found.1.now))
         (λ refusal. walked_parent table.now root path.now ≡ Err refusal) }
@@ -139,7 +151,10 @@ pub(crate) fn walk_parent<'a>(
     if parts.is_empty() {
         return Err(Refusal::Invalid);
     }
-    match walk_front(table, root, parts) {
+    let Some(top) = table.record(root) else {
+        unreachable!();
+    };
+    match walk_front(table, top, parts) {
         Ok(found) => Ok(found),
         Err(_) if has_empty_front(parts) => Err(Refusal::Invalid),
         Err(refusal) => Err(refusal),

@@ -1,8 +1,9 @@
 //! The find of one name, in the whole tree or among its live records alone.
 
-ghost use Rattle.std.specs.Prelude.{◌≡◌};
+ghost use Rattle.std.specs.Prelude.{◌≡◌, Ok, Err, IfOk, MatchResult};
 ghost use Rattle.std.specs.Option.{option_copied};
 ghost use Rattle.kf_core.specs.declared.key.Key.{Key};
+ghost use Rattle.kf_core.specs.Tree.{IsIn};
 ghost use Rattle.kf_core.specs.Lawful.{Lawful};
 ghost use Rattle.kf_tree.specs.Paths.{found};
 ghost use Rattle.kf_tree.specs.Shown.{shown, shown_record};
@@ -12,6 +13,7 @@ use kf_core::{Key, Record, Refusal};
 use kf_table::{Table, is_directory};
 
 /// The record, where it is shown.
+#[inline(always)]
 fn only_shown(entry: Option<&Record>, live_only: bool) -> Option<&Record>
     ensures shown { option_copied result ≡ shown_record live_only (option_copied entry.entry) }
 {
@@ -27,6 +29,30 @@ fn only_shown(entry: Option<&Record>, live_only: bool) -> Option<&Record>
     }
 }
 
+/// What a name leads to from the record of a directory, which is shown.
+#[inline(always)]
+pub(crate) fn step<'t>(
+    table: &'t Table,
+    dir: &Record,
+    name: &[u8],
+    live_only: bool,
+) -> Result<&'t Record, Refusal>
+    requires lawful { (root : Key) × Lawful table.now root }
+    requires inside { IsIn (shown live_only table.now) dir.now }
+    ensures found { MatchResult result
+        (λ next. found (shown live_only table.now) dir.now.key name.now ≡ Ok next.now.key)
+        (λ refusal. found (shown live_only table.now) dir.now.key name.now ≡ Err refusal) }
+    ensures inside { IfOk result (λ next. IsIn (shown live_only table.now) next.now) }
+{
+    if !is_directory(&dir.node) {
+        return Err(Refusal::NotDir);
+    }
+    match only_shown(table.child_of(dir, name), live_only) {
+        Some(child) => Ok(child),
+        None => Err(Refusal::NoEntry),
+    }
+}
+
 /// What a name in a directory leads to.
 pub(crate) fn find_in(table: &Table, dir: Key, name: &[u8], live_only: bool) -> Result<Key, Refusal>
     requires lawful { (root : Key) × Lawful table.now root }
@@ -35,11 +61,8 @@ pub(crate) fn find_in(table: &Table, dir: Key, name: &[u8], live_only: bool) -> 
     let Some(entry) = only_shown(table.record(dir), live_only) else {
         return Err(Refusal::NoEntry);
     };
-    if !is_directory(&entry.node) {
-        return Err(Refusal::NotDir);
-    }
-    match only_shown(table.child(dir, name), live_only) {
-        Some(child) => Ok(child.key),
-        None => Err(Refusal::NoEntry),
+    match step(table, entry, name, live_only) {
+        Ok(next) => Ok(next.key),
+        Err(refusal) => Err(refusal),
     }
 }
