@@ -10,15 +10,16 @@ use kf_core::Key;
 use std::alloc::{AllocError, Global};
 use std::marker::Model;
 
-/// Entries one after another. Contracts see the list of them.
+/// Entries one after another. Contracts see the list of them. The length comes first, so that what a search looks at lies
+/// in one line of memory.
 #[derive(Drop)]
 pub(crate) struct Sequence {
-    /// Each entry at a place of its own, which it keeps; None where a place is free.
-    entries: Vec<Option<(Name, Key)>>,
-    /// Places: first those of the entries, in their order, then free ones.
-    order: Vec<usize>,
     /// How many entries there are.
     len: usize,
+    /// Places: first those of the entries, in their order, then free ones.
+    order: Vec<usize>,
+    /// Each entry at a place of its own, which it keeps; None where a place is free.
+    entries: Vec<Option<(Name, Key)>>,
 }
 
 impl Model for Sequence {
@@ -138,9 +139,9 @@ impl Sequence {
         ensures empty { result ≡ [] }
     {
         Sequence {
-            entries: Vec::new(alloc),
-            order: Vec::new(alloc),
             len: 0,
+            order: Vec::new(alloc),
+            entries: Vec::new(alloc),
         }
     }
 

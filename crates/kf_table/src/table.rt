@@ -49,13 +49,13 @@ impl Table {
         records[root.slot as usize] = Some(Record {
             key: root,
             parent: None,
-            name: NameBytes::empty(alloc),
-            node: Node::Dir,
             marks: Marks {
                 activated: true,
                 doomed: false,
             },
             hidden: false,
+            node: Node::Dir,
+            name: NameBytes::empty(alloc),
         });
         let directories = empty_directories(alloc, slots)?;
         Ok(Table {

@@ -113,13 +113,13 @@ impl State {
         self.table.add(Record {
             key,
             parent: Some(parent),
-            name: own_name,
-            node,
             marks: Marks {
                 activated: live,
                 doomed: false,
             },
             hidden: false,
+            node,
+            name: own_name,
         })?;
         self.ready = None;
         store(
