@@ -1,5 +1,5 @@
 -- Byte order by the lengths of what is left, and by the numbers that as many bytes are.
-use Rattle.std.proofs.Common.{◌≡◌, ◌≢◌, ℕ, zero, suc, ◌+◌, ◌*◌, ◌<◌, List, [], ◌∷◌, ◌++◌, length, drop, take, min, get_or, ap, sym, refl, subst, ◌∙◌, arith, inl, inr, length-append}
+use Rattle.std.proofs.Common.{◌≡◌, ◌≢◌, ℕ, zero, suc, ◌+◌, ◌*◌, ◌<◌, List, [], ◌∷◌, ◌++◌, length, drop, take, min, get_or, ap, sym, refl, subst, ◌∙◌, arith, inl, inr, ◌≤◌}
 use Rattle.std.specs.declared.cmp.Ordering.{Ordering}
 use Rattle.std.specs.declared.cmp.Ordering.TheVariants.{Less, Equal, Greater}
 use Rattle.std.proofs.lemmas.Bool.{cases_order}
@@ -7,7 +7,8 @@ use Rattle.std.specs.Int.{w32, w64, from_be_bytes}
 use Rattle.std.specs.Ordering.{nat_cmp, ordering_then}
 use Rattle.std.specs.Cmp.{nat_cmp_is}
 use Rattle.std.specs.Cmp.Lexicographic.{slice_cmp}
-use Rattle.std.proofs.lemmas.List.{take-append-drop}
+use Rattle.std.proofs.lemmas.List.{take-append-drop, length-take-le, length-drop}
+use Rattle.std.proofs.Math.Seq.{take-add}
 
 one_more : (m n : ℕ) → nat_cmp m n ≡ nat_cmp (suc m) (suc n)
 one_more m n = elim (cases_order m n) [
@@ -78,21 +79,6 @@ module _ (rs ss : List ℕ) where
         ∙ nat_cmp_is _ _ Greater (rises (a * 256 + y) (a * 256 + x) ys xs (omega (arith, same)) (later_bytes y ys low) (omega (arith, more)))
   ]
 
-  -- where the numbers are the same, what follows tells
-  rest_tells : (a : ℕ) (xs ys : List ℕ) → length xs ≡ length ys → AreBytes xs → AreBytes ys → number a xs ≡ number a ys
-      → slice_cmp nat_cmp (xs ++ rs) (ys ++ ss) ≡ slice_cmp nat_cmp rs ss
-  unfolding number
-  rest_tells a [] [] same small low e = refl
-  rest_tells a [] (y ∷ ys) same small low e = absurd (omega (arith, same))
-  rest_tells a (x ∷ xs) [] same small low e = absurd (omega (arith, same))
-  rest_tells a (x ∷ xs) (y ∷ ys) same small low e = elim (cases_order x y) [
-    | inl is ↦ ap (then_rest xs ys) (sym (nat_cmp_is x y Equal is))
-        ∙ rest_tells (a * 256 + x) xs ys (omega (arith, same)) (later_bytes x xs small) (later_bytes y ys low)
-        (e ∙ ap (λ z. number (a * 256 + z) ys) (sym is))
-    | inr (inl less) ↦ (let over = rises (a * 256 + x) (a * 256 + y) xs ys (omega (arith, same)) (later_bytes x xs small) (omega (arith, less)) in absurd (omega (arith, over, e)))
-    | inr (inr more) ↦ (let over = rises (a * 256 + y) (a * 256 + x) ys xs (omega (arith, same)) (later_bytes y ys low) (omega (arith, more)) in absurd (omega (arith, over, e)))
-  ]
-
 as_word : (bs : List ℕ) → length bs ≡ 8 → from_be_bytes w64 bs ≡ number 0 bs
 unfolding number
 as_word [] l = absurd (omega (arith, l))
@@ -115,43 +101,73 @@ as_half (a ∷ b ∷ c ∷ []) l = absurd (omega (arith, l))
 as_half (a ∷ b ∷ c ∷ d ∷ []) l = omega arith
 as_half (a ∷ b ∷ c ∷ d ∷ x ∷ bs) l = absurd (omega (arith, l))
 
--- a text cut behind so many bytes
-pub record IsCut (size : ℕ) (text front later : List ℕ) : Type 0 where
-  pub front_is : front ≡ take size text
-  pub later_is : later ≡ drop size text
-  pub long : length later + size ≡ length text
+same_bytes : (a : ℕ) (xs ys : List ℕ) → length xs ≡ length ys → AreBytes xs → AreBytes ys → number a xs ≡ number a ys → xs ≡ ys
+unfolding number
+same_bytes a [] [] same small low e = refl
+same_bytes a [] (y ∷ ys) same small low e = absurd (omega (arith, same))
+same_bytes a (x ∷ xs) [] same small low e = absurd (omega (arith, same))
+same_bytes a (x ∷ xs) (y ∷ ys) same small low e = elim (cases_order x y) [
+  | inl is ↦ ap (λ z. z ∷ xs) is ∙ ap (λ l. y ∷ l) (same_bytes (a * 256 + x) xs ys (omega (arith, same)) (later_bytes x xs small) (later_bytes y ys low)
+      (e ∙ ap (λ z. number (a * 256 + z) ys) (sym is)))
+  | inr (inl less) ↦ (let over = rises (a * 256 + x) (a * 256 + y) xs ys (omega (arith, same)) (later_bytes x xs small) (omega (arith, less)) in absurd (omega (arith, over, e)))
+  | inr (inr more) ↦ (let over = rises (a * 256 + y) (a * 256 + x) ys xs (omega (arith, same)) (later_bytes y ys low) (omega (arith, more)) in absurd (omega (arith, over, e)))
+]
 
-module _ (size : ℕ) (text front later : List ℕ) (cut : IsCut size text front later) where
-  whole : text ≡ front ++ later
-  whole = sym (take-append-drop size text) ∙ ap (λ l. take size text ++ l) (sym cut.later_is) ∙ ap (λ l. l ++ later) (sym cut.front_is)
+-- ---- texts that are the same up to a place
 
-  pub front_small : AreBytes text → AreBytes front
-  front_small small = front_bytes front later (subst AreBytes whole small)
+after_same : (front xs ys : List ℕ) → slice_cmp nat_cmp (front ++ xs) (front ++ ys) ≡ slice_cmp nat_cmp xs ys
+after_same [] xs ys = refl
+after_same (c ∷ front) xs ys = ap (λ r. ordering_then r (slice_cmp nat_cmp (front ++ xs) (front ++ ys))) (sym (nat_cmp_is c c Equal refl)) ∙ after_same front xs ys
 
-  pub later_small : AreBytes text → AreBytes later
-  later_small small = back_bytes front later (subst AreBytes whole small)
+take_less : (m n : ℕ) (xs : List ℕ) → m ≤ n → take m (take n xs) ≡ take m xs
+take_less zero n xs low = refl
+take_less (suc m) zero xs low = absurd (omega (arith, low))
+take_less (suc m) (suc n) [] low = refl
+take_less (suc m) (suc n) (x ∷ xs) low = ap (λ l. x ∷ l) (take_less m n xs (omega (arith, low)))
 
-  so_many : length front ≡ size
-  so_many = (let all = ap length whole ∙ length-append front later in omega (arith, all, cut.long))
+pub same_less : (a b : List ℕ) (m n : ℕ) → m ≤ n → take n a ≡ take n b → take m a ≡ take m b
+same_less a b m n low same = sym (take_less m n a low) ∙ ap (take m) same ∙ take_less m n b low
 
-pub word_is : (text front later : List ℕ) (m : ℕ) → IsCut 8 text front later → m ≡ from_be_bytes w64 front → m ≡ number 0 front
-word_is text front later m cut is = is ∙ as_word front (so_many 8 text front later cut)
+module _ (a b : List ℕ) (at : ℕ) (same : take at a ≡ take at b) where
+  from_there : slice_cmp nat_cmp a b ≡ slice_cmp nat_cmp (drop at a) (drop at b)
+  from_there =
+      ap (λ l. slice_cmp nat_cmp l b) (sym (take-append-drop at a)) ∙ ap (slice_cmp nat_cmp (take at a ++ drop at a)) (sym (take-append-drop at b))
+      ∙ ap (λ l. slice_cmp nat_cmp (take at a ++ drop at a) (l ++ drop at b)) (sym same) ∙ after_same (take at a) (drop at a) (drop at b)
 
-pub half_is : (text front later : List ℕ) (m : ℕ) → IsCut 4 text front later → m ≡ from_be_bytes w32 front → m ≡ number 0 front
-half_is text front later m cut is = is ∙ as_half front (so_many 4 text front later cut)
+  -- the same to the end of one of them: the lengths tell
+  pub ends_tell : at ≡ min (length a) (length b) → slice_cmp nat_cmp a b ≡ nat_cmp (length a) (length b)
+  ends_tell is = from_there ∙ lengths_tell a b at is
 
-module _ (size : ℕ) (a b x y a_later b_later : List ℕ) (m n : ℕ) (a_cut : IsCut size a x a_later) (b_cut : IsCut size b y b_later)
-    (small : AreBytes x) (low : AreBytes y) (m_is : m ≡ number 0 x) (n_is : n ≡ number 0 y) where
-  same_length : length x ≡ length y
-  same_length = so_many size a x a_later a_cut ∙ sym (so_many size b y b_later b_cut)
+  module _ (size : ℕ) (a_long : at + size ≤ length a) (b_long : at + size ≤ length b) (small : AreBytes a) (low : AreBytes b)
+      (m n : ℕ) (m_is : m ≡ number 0 (take size (drop at a))) (n_is : n ≡ number 0 (take size (drop at b))) where
+    part_small : (text : List ℕ) → AreBytes text → AreBytes (take size (drop at text))
+    part_small text are =
+        let later = back_bytes (take at text) (drop at text) (subst AreBytes (sym (take-append-drop at text)) are) in
+        front_bytes (take size (drop at text)) (drop size (drop at text)) (subst AreBytes (sym (take-append-drop size (drop at text))) later)
 
-  cut_both : slice_cmp nat_cmp a b ≡ slice_cmp nat_cmp (x ++ a_later) (y ++ b_later)
-  cut_both = ap (λ l. slice_cmp nat_cmp l b) (whole size a x a_later a_cut) ∙ ap (slice_cmp nat_cmp (x ++ a_later)) (whole size b y b_later b_cut)
+    as_long : (text : List ℕ) → at + size ≤ length text → length (take size (drop at text)) ≡ size
+    as_long text long = length-take-le size (drop at text) (omega (arith, length-drop at text, long))
 
-  pub numbers_stand : m ≢ n → slice_cmp nat_cmp a b ≡ nat_cmp m n
-  numbers_stand differ =
-      cut_both ∙ stands a_later b_later 0 x y same_length small low (λ e. differ (m_is ∙ e ∙ sym n_is))
-      ∙ ap (λ k. nat_cmp k (number 0 y)) (sym m_is) ∙ ap (nat_cmp m) (sym n_is)
+    one_length : length (take size (drop at a)) ≡ length (take size (drop at b))
+    one_length = as_long a a_long ∙ sym (as_long b b_long)
 
-  pub numbers_pass : m ≡ n → slice_cmp nat_cmp a b ≡ slice_cmp nat_cmp a_later b_later
-  numbers_pass same = cut_both ∙ rest_tells a_later b_later 0 x y same_length small low (sym m_is ∙ same ∙ n_is)
+    pub numbers_stand : m ≢ n → slice_cmp nat_cmp a b ≡ nat_cmp m n
+    numbers_stand differ =
+        from_there
+        ∙ ap (λ l. slice_cmp nat_cmp l (drop at b)) (sym (take-append-drop size (drop at a)))
+        ∙ ap (slice_cmp nat_cmp (take size (drop at a) ++ drop size (drop at a))) (sym (take-append-drop size (drop at b)))
+        ∙ stands (drop size (drop at a)) (drop size (drop at b)) 0 (take size (drop at a)) (take size (drop at b)) one_length (part_small a small) (part_small b low)
+        (λ e. differ (m_is ∙ e ∙ sym n_is))
+        ∙ ap (λ k. nat_cmp k (number 0 (take size (drop at b)))) (sym m_is) ∙ ap (nat_cmp m) (sym n_is)
+
+    pub numbers_pass : m ≡ n → take (at + size) a ≡ take (at + size) b
+    numbers_pass one =
+        take-add at size a ∙ ap (λ l. l ++ take size (drop at a)) same
+        ∙ ap (λ l. take at b ++ l) (same_bytes 0 (take size (drop at a)) (take size (drop at b)) one_length (part_small a small) (part_small b low) (sym m_is ∙ one ∙ n_is))
+        ∙ sym (take-add at size b)
+
+pub word_is : (text : List ℕ) (at m : ℕ) → at + 8 ≤ length text → m ≡ from_be_bytes w64 (take 8 (drop at text)) → m ≡ number 0 (take 8 (drop at text))
+word_is text at m long is = is ∙ as_word (take 8 (drop at text)) (length-take-le 8 (drop at text) (omega (arith, length-drop at text, long)))
+
+pub half_is : (text : List ℕ) (at m : ℕ) → at + 4 ≤ length text → m ≡ from_be_bytes w32 (take 4 (drop at text)) → m ≡ number 0 (take 4 (drop at text))
+half_is text at m long is = is ∙ as_half (take 4 (drop at text)) (length-take-le 4 (drop at text) (omega (arith, length-drop at text, long)))

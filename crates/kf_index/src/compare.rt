@@ -1,10 +1,35 @@
-//! The byte order of names, by eight bytes at a time, then by four.
+//! The byte order of names, by eight bytes at a time, or by four.
 
-ghost use Rattle.std.specs.Prelude.{◌≡◌};
+ghost use Rattle.std.specs.Prelude.{◌≡◌, ◌≤◌, ◌+◌, length, take, drop, min};
+ghost use Rattle.std.specs.Int.{w32, w64, from_be_bytes};
 ghost use Rattle.std.specs.Ordering.{nat_cmp};
 ghost use Rattle.std.specs.Cmp.Lexicographic.{slice_cmp};
 
 use std::cmp::Ordering;
+
+/// Eight bytes from a place on, as a number whose highest byte is the first.
+#[inline(always)]
+fn word_at(text: &[u8], at: usize) -> u64
+    requires within { at + 8 ≤ length text.now }
+    ensures read { result ≡ from_be_bytes w64 (take 8 (drop at text.now)) }
+{
+    match text[at..].split_first_chunk::<8>() {
+        Some((word, _)) => u64::from_be_bytes(*word),
+        None => unreachable!(),
+    }
+}
+
+/// Four bytes from a place on, as such a number.
+#[inline(always)]
+fn half_at(text: &[u8], at: usize) -> u32
+    requires within { at + 4 ≤ length text.now }
+    ensures read { result ≡ from_be_bytes w32 (take 4 (drop at text.now)) }
+{
+    match text[at..].split_first_chunk::<4>() {
+        Some((half, _)) => u32::from_be_bytes(*half),
+        None => unreachable!(),
+    }
+}
 
 /// How two texts stand in byte order, byte by byte.
 #[inline(always)]
@@ -21,42 +46,58 @@ fn by_bytes(a: &[u8], b: &[u8]) -> Ordering
     a.len().cmp(&b.len())
 }
 
-/// How two texts stand in byte order, by four bytes first.
+/// The same for texts that both have so many bytes, of four to eight: the first four, and the last four of those.
 #[inline(always)]
-fn by_half(a: &[u8], b: &[u8]) -> Ordering
+fn by_halves(a: &[u8], b: &[u8], both: usize) -> Ordering
+    requires both { both ≡ min (length a.now) (length b.now) }
+    requires some { 4 ≤ both }
+    requires few { both ≤ 8 }
     ensures known { result ≡ slice_cmp nat_cmp a.now b.now }
 {
-    if let (Some((x, a_later)), Some((y, b_later))) = (
-        a.split_first_chunk::<4>(),
-        b.split_first_chunk::<4>(),
-    ) {
-        let (x, y) = (u32::from_be_bytes(*x), u32::from_be_bytes(*y));
-        if x != y {
-            return x.cmp(&y);
-        }
-        return by_bytes(a_later, b_later);
+    let (x, y) = (half_at(a, 0), half_at(b, 0));
+    if x != y {
+        return x.cmp(&y);
     }
-    by_bytes(a, b)
+    let (x, y) = (half_at(a, both - 4), half_at(b, both - 4));
+    if x != y {
+        return x.cmp(&y);
+    }
+    a.len().cmp(&b.len())
 }
 
-/// How two texts stand in byte order. Bytes, the first one highest, stand as the number that they are: eight
-/// at a time, then four, then one.
+/// The same for texts that both have so many bytes, eight or more: eight at a time, and the last eight of those.
 #[inline(always)]
-pub(crate) fn by_words(a: &[u8], b: &[u8]) -> Ordering
+fn by_words(a: &[u8], b: &[u8], both: usize) -> Ordering
+    requires both { both ≡ min (length a.now) (length b.now) }
+    requires some { 8 ≤ both }
     ensures known { result ≡ slice_cmp nat_cmp a.now b.now }
 {
-    let mut a = a;
-    let mut b = b;
-    while let (Some((x, a_later)), Some((y, b_later))) = (
-        a.split_first_chunk::<8>(),
-        b.split_first_chunk::<8>(),
-    ) {
-        let (x, y) = (u64::from_be_bytes(*x), u64::from_be_bytes(*y));
+    let mut at = 0;
+    while at < both - 8 {
+        let (x, y) = (word_at(a, at), word_at(b, at));
         if x != y {
             return x.cmp(&y);
         }
-        a = a_later;
-        b = b_later;
+        at += 8;
     }
-    by_half(a, b)
+    let (x, y) = (word_at(a, both - 8), word_at(b, both - 8));
+    if x != y {
+        return x.cmp(&y);
+    }
+    a.len().cmp(&b.len())
+}
+
+/// How two texts stand in byte order.
+#[inline(always)]
+pub(crate) fn in_byte_order(a: &[u8], b: &[u8]) -> Ordering
+    ensures known { result ≡ slice_cmp nat_cmp a.now b.now }
+{
+    let both = a.len().min(b.len());
+    if both >= 8 {
+        return by_words(a, b, both);
+    }
+    if both >= 4 {
+        return by_halves(a, b, both);
+    }
+    by_bytes(a, b)
 }

@@ -3,7 +3,7 @@
 ghost use Rattle.std.specs.Prelude.{IfOk, IfErr};
 ghost use Rattle.kf_index.specs.Pairs.{IsRising, IsPlaceOf, IsGapFor};
 
-use crate::compare::by_words;
+use crate::compare::in_byte_order;
 use crate::listed::Listed;
 use std::cmp::Ordering;
 
@@ -19,7 +19,7 @@ pub(crate) fn search(entries: Listed<'_>, name: &[u8]) -> Result<usize, usize>
     let mut high = entries.len();
     while low < high {
         let middle = low + (high - low) / 2;
-        match by_words(entries.at(middle).0.bytes(), name) {
+        match in_byte_order(entries.at(middle).0.bytes(), name) {
             Ordering::Less => low = middle + 1,
             Ordering::Equal => return Ok(middle),
             Ordering::Greater => high = middle,

@@ -1,11 +1,9 @@
-use Rattle.std.proofs.Common.{◌≡◌, length}
-use Rattle.std.specs.Ordering.{nat_cmp}
-use Rattle.std.specs.Cmp.Lexicographic.{slice_cmp}
-use Rattle.kf_index.proofs.Compared.{AreBytes}
+use Rattle.std.proofs.Common.{◌≡◌, ◌-◌, ◌≤◌, take}
 use Rattle.kf_index.proofs.compare.by_words.Given as goal
 
-abbrev pub invariant-loop-x : goal.invariant-loop-x
-invariant-loop-x l = AreBytes l.a × AreBytes l.b × (slice_cmp nat_cmp l.fn.a l.fn.b ≡ slice_cmp nat_cmp l.a l.b)
+-- the texts are the same up to here
+abbrev pub invariant-loop-at : goal.invariant-loop-at
+invariant-loop-at l = (take l.at l.a ≡ take l.at l.b) × (l.at ≤ l.both)
 
-abbrev pub decreases-loop-x : goal.decreases-loop-x
-decreases-loop-x l = length l.a
+abbrev pub decreases-loop-at : goal.decreases-loop-at
+decreases-loop-at l = l.both - l.at

@@ -10,7 +10,7 @@ pub loop-low-preserved-in-Less : goal.loop-low-preserved-in-Less
 loop-low-preserved-in-Less c =
     let (low, high, lower, higher) = c.loop-low.invariant in
     let read = sym (ap (λ (pair : List ℕ × Key). pair.0) (c.at.ensures.read no_entry)) ∙ sym c.bytes.ensures.same in
-    let told = ap (λ n. slice_cmp nat_cmp n c.args.name.now) read ∙ sym c.by_words.ensures.known in (
+    let told = ap (λ n. slice_cmp nat_cmp n c.args.name.now) read ∙ sym c.in_byte_order.ensures.known in (
       omega (arith, c.loop-low-test.true),
       high,
       lower_to _ c.requires.rising _ _ no_entry (omega (arith, high, c.loop-low-test.true)) (told ∙ c.in-Less.is),
@@ -21,14 +21,14 @@ pub returns-in-Equal-clause-found : goal.returns-in-Equal-clause-found
 returns-in-Equal-clause-found c =
     let (low, high, lower, higher) = c.loop-low.invariant in
     let read = sym (ap (λ (pair : List ℕ × Key). pair.0) (c.at.ensures.read no_entry)) ∙ sym c.bytes.ensures.same in
-    let told = ap (λ n. slice_cmp nat_cmp n c.args.name.now) read ∙ sym c.by_words.ensures.known in
+    let told = ap (λ n. slice_cmp nat_cmp n c.args.name.now) read ∙ sym c.in_byte_order.ensures.known in
     place_here _ c.requires.rising _ _ no_entry (omega (arith, high, c.loop-low-test.true)) (told ∙ c.in-Equal.is)
 
 pub loop-low-preserved : goal.loop-low-preserved
 loop-low-preserved c =
     let (low, high, lower, higher) = c.loop-low.invariant in
     let read = sym (ap (λ (pair : List ℕ × Key). pair.0) (c.at.ensures.read no_entry)) ∙ sym c.bytes.ensures.same in
-    let told = ap (λ n. slice_cmp nat_cmp n c.args.name.now) read ∙ sym c.by_words.ensures.known in (
+    let told = ap (λ n. slice_cmp nat_cmp n c.args.name.now) read ∙ sym c.in_byte_order.ensures.known in (
       omega (arith, c.loop-low-test.true),
       omega (arith, high, c.loop-low-test.true),
       lower,
