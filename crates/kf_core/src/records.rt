@@ -4,8 +4,8 @@ use crate::key::{Key, Node};
 use crate::name_bytes::NameBytes;
 use crate::slot::Marks;
 
-/// A linked node: where it stands, its marks, whether it is hidden, what it is, and its name. The name is the last, so
-/// that what a walk looks at lies together.
+/// A linked node: where it stands, its marks, whether it is hidden, what it is, and its name. The name is the
+/// last, so that what a walk looks at lies together.
 #[derive(Drop)]
 pub struct Record {
     pub key: Key,

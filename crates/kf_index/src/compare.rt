@@ -46,7 +46,8 @@ fn by_bytes(a: &[u8], b: &[u8]) -> Ordering
     a.len().cmp(&b.len())
 }
 
-/// The same for texts that both have so many bytes, of four to eight: the first four, and the last four of those.
+/// The same for texts that both have so many bytes, of four to eight: the first four, and the last four of
+/// those.
 #[inline(always)]
 fn by_halves(a: &[u8], b: &[u8], both: usize) -> Ordering
     requires both { both ≡ min (length a.now) (length b.now) }
@@ -65,7 +66,8 @@ fn by_halves(a: &[u8], b: &[u8], both: usize) -> Ordering
     a.len().cmp(&b.len())
 }
 
-/// The same for texts that both have so many bytes, eight or more: eight at a time, and the last eight of those.
+/// The same for texts that both have so many bytes, eight or more: eight at a time, and the last eight of
+/// those.
 #[inline(always)]
 fn by_words(a: &[u8], b: &[u8], both: usize) -> Ordering
     requires both { both ≡ min (length a.now) (length b.now) }

@@ -10,8 +10,8 @@ use kf_core::Key;
 use std::alloc::{AllocError, Global};
 use std::marker::Model;
 
-/// Entries one after another. Contracts see the list of them. The length comes first, so that what a search looks at lies
-/// in one line of memory.
+/// Entries one after another. Contracts see the list of them. The length comes first, so that what a search
+/// looks at lies in one line of memory.
 #[derive(Drop)]
 pub(crate) struct Sequence {
     /// How many entries there are.
