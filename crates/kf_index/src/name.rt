@@ -1,6 +1,6 @@
 //! Lawful names: the bytes that a node may be called by in its directory.
 
-ghost use Rattle.std.specs.Prelude.{◌≡◌, ℕ, List, IfOk, IfErr};
+ghost use Rattle.std.specs.Prelude.{◌≡◌, ◌≤◌, ℕ, List, length, IsOk, IfOk, IfErr};
 ghost use Rattle.std.specs.Option.{unwrap_or};
 ghost use Rattle.kf_core.specs.Names.{IsLawfulName, name_fault};
 
@@ -60,11 +60,12 @@ impl Name {
         }
     }
 
-    /// A copy of bytes that are known to be a lawful name, without a look at them. It is refused where the
-    /// copy wants memory.
+    /// A copy of bytes that are known to be a lawful name, without a look at them. It takes memory for more
+    /// than 24 bytes alone, and is refused where there is none.
     pub fn of_lawful(alloc: Global, bytes: &[u8]) -> Result<Name, AllocError>
         requires lawful { IsLawfulName bytes.now }
         ensures made { IfOk result (λ name. name ≡ bytes.now) }
+        ensures short { length bytes.now ≤ 24 → IsOk result }
     {
         Ok(Name {
             bytes: NameBytes::copied(alloc, bytes)?,
