@@ -18,7 +18,7 @@ use Rattle.kf_core.specs.declared.key.Key.{Key}
 use Rattle.kf_core.specs.declared.records.Record.{Record}
 use Rattle.kf_core.specs.Keys.{same_key}
 use Rattle.kf_core.specs.Names.{IsBefore}
-use Rattle.kf_core.specs.Tree.{Tree, IsIn, is_dir, record_at}
+use Rattle.kf_core.specs.Tree.{Tree, IsIn, is_dir, record_at, is_linked}
 use Rattle.kf_core.specs.Lawful.{Lawful}
 use Rattle.kf_index.specs.Entries.{Entries, IsAbove, IsLeastAbove}
 use Rattle.kf_index.specs.Entries as index
@@ -58,6 +58,13 @@ count_none n [] = refl
 count_none n (y ∷ xs) = count_none (n + 0) xs ∙ omega arith
 
 -- ---- children in the tree
+
+-- a linked key has a record
+pub record_of_linked : (t : Tree) (key : Key) → IsTrue (is_linked t key) → (r : Record) × (record_at t key ≡ Some r)
+record_of_linked t key linked = elim (record_at t key) as (λ o. IsTrue (is_some o) → (r : Record) × (o ≡ Some r)) [
+  | None ↦ λ h. absurd (let x : false ≡ true = h in cc)
+  | Some r ↦ λ h. (r, refl)
+] linked
 
 module _ (t : Tree) (root : Key) (lawful : Lawful t root) where
   child_is : (dir : Key) (name : List ℕ) (r : Record) → IsIn t r → r.parent ≡ Some dir → r.name ≡ name → child t dir name ≡ Some r
@@ -171,6 +178,13 @@ module _ (t : Tree) (root : Key) (lawful : Lawful t root) where
             i.is_in,
             i.has_key,
           )
+
+      -- the record that the index leads to has the key
+      pub child_keyed : (name : List ℕ) (key : Key) → Some key ≡ get kept_dir.index name → (r : Record) → option_and_then (λ place. place) (slice_get t key.slot) ≡ Some r → (r.key ≡ key) × IsIn t r
+      child_keyed name key found r read =
+          let c = led_child name key (sym found) in
+          let same : c.0 ≡ r = same_Some c.0 r (sym (ap (λ o. option_and_then (λ place. place) o) c.1) ∙ read) in
+          (ap (λ (x : Record). x.key) (sym same) ∙ c.5, subst (λ x. IsIn t x) same c.4)
 
       pub child_read : (name : List ℕ) (key : Key) → Some key ≡ get kept_dir.index name → option_and_then (λ place. place) (slice_get t key.slot) ≡ child t dir name
       child_read name key found =

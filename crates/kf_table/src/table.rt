@@ -1,7 +1,7 @@
 //! The records of a tree by slot.
 
 ghost use Rattle.std.specs.Prelude.{◌≡◌, ◌≤◌, ◌<◌, ◌↔◌, Some, None, true, false, IsTrue, IfSome, IfOk, IfErr, OnOk, OnErr, length, slice_get, slice_set};
-ghost use Rattle.std.specs.Option.{option_copied, option_and_then};
+ghost use Rattle.std.specs.Option.{option_copied, option_map, option_and_then};
 ghost use Rattle.kf_core.specs.declared.key.Key.{Key};
 ghost use Rattle.kf_core.specs.Tree.{IsIn, record_at, parent_of, is_linked, in_subtree};
 ghost use Rattle.kf_core.specs.Lawful.{Lawful};
@@ -137,19 +137,25 @@ impl Table {
         requires lawful { (root : Key) × Lawful self.now root }
         ensures found { option_copied result ≡ child self.now dir name.now }
     {
-        self.child_of(self.record(dir)?, name)
+        self.record(dir)?;
+        let (_, found) = self.child_of(dir, name)?;
+        Some(found)
     }
 
-    /// The record with this name in the directory of a record, which the caller has found before.
+    /// The record with this name in a linked directory, and its key, which is known before the record is read.
     #[inline(always)]
-    pub fn child_of(&self, dir: &Record, name: &[u8]) -> Option<&Record>
+    pub fn child_of(&self, dir: Key, name: &[u8]) -> Option<(Key, &Record)>
         requires lawful { (root : Key) × Lawful self.now root }
-        requires inside { IsIn self.now dir.now }
-        ensures found { option_copied result ≡ child self.now dir.now.key name.now }
-        ensures inside { IfSome result (λ found. IsIn self.now found.now) }
+        requires linked { IsTrue (is_linked self.now dir) }
+        ensures found { option_map (λ found. found.1.now) result ≡ child self.now dir name.now }
+        ensures keyed { IfSome result (λ found. found.1.now.key ≡ found.0) }
+        ensures inside { IfSome result (λ found. IsIn self.now found.1.now) }
     {
-        let key = self.directories[dir.key.slot as usize].get(name)?;
-        self.in_slot(key.slot)
+        let key = self.directories[dir.slot as usize].get(name)?;
+        match self.in_slot(key.slot) {
+            Some(found) => Some((key, found)),
+            None => None,
+        }
     }
 
     /// The names and keys of the children above the bound, or of all where there is no bound, in byte order

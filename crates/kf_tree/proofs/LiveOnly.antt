@@ -20,7 +20,7 @@ use Rattle.kf_core.proofs.FoundRecords.{in_found, found_in}
 use Rattle.kf_table.proofs.ChildTests.{both, key_is}
 
 -- a record that is shown is the record itself
-shown_same : (live_only : Bool) (r s : Record) → Some s ≡ shown_record live_only (Some r) → s ≡ r
+pub shown_same : (live_only : Bool) (r s : Record) → Some s ≡ shown_record live_only (Some r) → s ≡ r
 shown_same false r s h = same_Some s r h
 shown_same true r s h = elim (lives r) as (λ b. Some s ≡ cond b (Some r) None → s ≡ r) [
   | true ↦ λ e. same_Some s r e
@@ -139,16 +139,28 @@ child_shown true t root dir name l = first_live dir (λ (r : Record). bytes_eq r
     ((bytes_eq-Decides r.name name).0 pr.1 ∙ sym ((bytes_eq-Decides s.name name).0 ps.1)) in
     sym at_r ∙ ap (λ (k : Key). k.slot) key ∙ at_s))
 
+-- nothing is shown of no record
+nothing_shown : (live_only : Bool) → None ≡ shown_record live_only None
+nothing_shown false = refl
+nothing_shown true = refl
+
+-- what a name leads to from a directory, whose record is shown
 module _ (live_only : Bool) (t : Tree) (root : Key) (name : List ℕ) (l : Lawful t root) (dir : Record)
-    (is : IsIn (shown live_only t) dir) where
+    (is : IsIn (shown live_only t) dir) (at : Key) (keyed : dir.key ≡ at) where
   abbrev in_dir : Option Record → Result Key Refusal
   in_dir entry = entry_key (Some dir) entry
 
-  within : (o : Option Record) → o ≡ shown_record live_only (child t dir.key name) → found (shown live_only t) dir.key name ≡ in_dir o
-  within o e = ap (λ d. entry_key d (child (shown live_only t) dir.key name)) (in_found (shown live_only t) dir is) ∙ ap in_dir (child_shown live_only t root dir.key name l ∙ sym e)
+  known : record_at (shown live_only t) at ≡ Some dir
+  known = ap (λ k. record_at (shown live_only t) k) (sym keyed) ∙ in_found (shown live_only t) dir is
 
-  pub found_shown : (c : Record) → is_dir dir.node ≡ true → Some c ≡ shown_record live_only (child t dir.key name) → found (shown live_only t) dir.key name ≡ Ok c.key
+  within : (o : Option Record) → o ≡ shown_record live_only (child t at name) → found (shown live_only t) at name ≡ in_dir o
+  within o e = ap (λ d. entry_key d (child (shown live_only t) at name)) known ∙ ap in_dir (child_shown live_only t root at name l ∙ sym e)
+
+  pub found_shown : (c : Record) → is_dir dir.node ≡ true → Some c ≡ shown_record live_only (child t at name) → found (shown live_only t) at name ≡ Ok c.key
   found_shown c is_directory e = within (Some c) e ∙ ap (λ b. cond b (Ok c.key) (Err NotDir)) is_directory
 
-  pub none_shown : is_dir dir.node ≡ true → None ≡ shown_record live_only (child t dir.key name) → found (shown live_only t) dir.key name ≡ Err NoEntry
+  pub no_child_shown : is_dir dir.node ≡ true → None ≡ child t at name → found (shown live_only t) at name ≡ Err NoEntry
+  no_child_shown is_directory e = within None (nothing_shown live_only ∙ ap (shown_record live_only) e) ∙ ap (λ b. cond b (Err NoEntry) (Err NotDir)) is_directory
+
+  pub none_shown : is_dir dir.node ≡ true → None ≡ shown_record live_only (child t at name) → found (shown live_only t) at name ≡ Err NoEntry
   none_shown is_directory e = within None e ∙ ap (λ b. cond b (Err NoEntry) (Err NotDir)) is_directory

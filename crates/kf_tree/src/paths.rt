@@ -47,26 +47,36 @@ fn has_empty_part(parts: &[u8]) -> bool
     false
 }
 
-/// What the parts lead to one after another, from the record of a directory on. No node has an empty name, so
-/// they lead nowhere where one is empty.
-fn walk_parts(table: &Table, start: &Record, parts: &[u8], live_only: bool) -> Result<Key, Refusal>
+/// What the parts lead to one after another, from a directory on, whose record is given. No node has an empty
+/// name, so they lead nowhere where one is empty.
+fn walk_parts(
+    table: &Table,
+    start: Key,
+    top: &Record,
+    parts: &[u8],
+    live_only: bool,
+) -> Result<Key, Refusal>
     requires lawful { (root : Key) × Lawful table.now root }
-    requires inside { IsIn (shown live_only table.now) start.now }
+    requires inside { IsIn (shown live_only table.now) top.now }
+    requires keyed { top.now.key ≡ start }
     ensures walked { result
-        ≡ walk (shown live_only table.now) start.now.key (slice_split is_slash parts.now) }
+        ≡ walk (shown live_only table.now) start (slice_split is_slash parts.now) }
     ensures named { OnOk result (list_any is_empty (slice_split is_slash parts.now) ≡ false) }
 {
-    let mut dir = start;
+    let (mut dir, mut entry) = (start, top);
     let mut rest = Some(parts);
     while let Some(text) = rest {
         let (name, more) = first_part(text);
-        match step(table, dir, name, live_only) {
-            Ok(next) => dir = next,
+        match step(table, dir, entry, name, live_only) {
+            Ok((key, next)) => {
+                dir = key;
+                entry = next;
+            }
             Err(refusal) => return Err(refusal),
         }
         rest = more;
     }
-    Ok(dir.key)
+    Ok(dir)
 }
 
 /// The node that a path names.
@@ -83,7 +93,7 @@ pub(crate) fn walk(table: &Table, root: Key, path: &[u8], live_only: bool) -> Re
     let Some(top) = table.record(root) else {
         unreachable!();
     };
-    match walk_parts(table, top, parts, live_only) {
+    match walk_parts(table, root, top, parts, live_only) {
         Ok(key) => Ok(key),
         Err(_) if has_empty_part(parts) => Err(Refusal::Invalid),
         Err(refusal) => Err(refusal),
@@ -107,27 +117,31 @@ fn has_empty_front(parts: &[u8]) -> bool
 /// What the parts but the last lead to, and the last.
 fn walk_front<'a>(
     table: &Table,
-    start: &Record,
+    start: Key,
+    top: &Record,
     parts: &'a [u8],
 ) -> Result<(Key, &'a [u8]), Refusal>
     requires lawful { (root : Key) × Lawful table.now root }
-    requires inside { IsIn table.now start.now }
+    requires inside { IsIn table.now top.now }
+    requires keyed { top.now.key ≡ start }
     ensures walked { MatchResult result
-        (λ found. (walk table.now start.now.key (front (slice_split is_slash parts.now)) ≡ Ok found.0)
+        (λ found. (walk table.now start (front (slice_split is_slash parts.now)) ≡ Ok found.0)
         × (final (slice_split is_slash parts.now) ≡ found.1.now))
-        (λ refusal.
-        walk table.now start.now.key (front (slice_split is_slash parts.now)) ≡ Err refusal) }
+        (λ refusal. walk table.now start (front (slice_split is_slash parts.now)) ≡ Err refusal) }
     ensures named { OnOk result (list_any is_empty (front (slice_split is_slash parts.now)) ≡ false) }
 {
-    let mut dir = start;
+    let (mut dir, mut entry) = (start, top);
     let mut text = parts;
     loop {
         let (name, more) = first_part(text);
         let Some(rest) = more else {
-            return Ok((dir.key, name));
+            return Ok((dir, name));
         };
-        match step(table, dir, name, false) {
-            Ok(next) => dir = next,
+        match step(table, dir, entry, name, false) {
+            Ok((key, next)) => {
+                dir = key;
+                entry = next;
+            }
             Err(refusal) => return Err(refusal),
         }
         text = rest;
@@ -154,7 +168,7 @@ pub(crate) fn walk_parent<'a>(
     let Some(top) = table.record(root) else {
         unreachable!();
     };
-    match walk_front(table, top, parts) {
+    match walk_front(table, root, top, parts) {
         Ok(found) => Ok(found),
         Err(_) if has_empty_front(parts) => Err(Refusal::Invalid),
         Err(refusal) => Err(refusal),

@@ -7,8 +7,9 @@ ghost use Rattle.kf_core.specs.Lawful.{Lawful};
 ghost use Rattle.kf_core.specs.PostOrder.{IsPostOrder};
 ghost use Rattle.kf_tree.specs.Ends.{EndsWith};
 
-use crate::walks::{first_below, later_siblings, next_in_post_order};
+use crate::walks::{first_below, next_in_post_order};
 use kf_core::{Key, Refusal};
+use kf_index::Listed;
 use kf_table::Table;
 use std::alloc::{AllocError, Global};
 
@@ -19,7 +20,7 @@ fn keys_below(alloc: Global, table: &Table, top: Key) -> Result<Vec<Key>, AllocE
     ensures last { IfOk result (λ keys. EndsWith keys.items top) }
 {
     let mut keys = Vec::new(alloc);
-    let (mut current, mut later) = first_below(table, top, later_siblings(table, top));
+    let (mut current, mut later) = first_below(table, top, Listed::none());
     'visit: while let Some((next, beside)) = next_in_post_order(table, top, current, later) {
         keys.push(current)?;
         current = next;

@@ -29,26 +29,33 @@ fn only_shown(entry: Option<&Record>, live_only: bool) -> Option<&Record>
     }
 }
 
-/// What a name leads to from the record of a directory, which is shown.
+/// What a name leads to from a directory, whose record is shown: a key and its record. The key is known before
+/// the record is read, so a walk by keys need not wait for records.
 #[inline(always)]
 pub(crate) fn step<'t>(
     table: &'t Table,
-    dir: &Record,
+    dir: Key,
+    entry: &Record,
     name: &[u8],
     live_only: bool,
-) -> Result<&'t Record, Refusal>
+) -> Result<(Key, &'t Record), Refusal>
     requires lawful { (root : Key) × Lawful table.now root }
-    requires inside { IsIn (shown live_only table.now) dir.now }
+    requires inside { IsIn (shown live_only table.now) entry.now }
+    requires keyed { entry.now.key ≡ dir }
     ensures found { MatchResult result
-        (λ next. found (shown live_only table.now) dir.now.key name.now ≡ Ok next.now.key)
-        (λ refusal. found (shown live_only table.now) dir.now.key name.now ≡ Err refusal) }
-    ensures inside { IfOk result (λ next. IsIn (shown live_only table.now) next.now) }
+        (λ next. found (shown live_only table.now) dir name.now ≡ Ok next.0)
+        (λ refusal. found (shown live_only table.now) dir name.now ≡ Err refusal) }
+    ensures inside { IfOk result (λ next. IsIn (shown live_only table.now) next.1.now) }
+    ensures keyed { IfOk result (λ next. next.1.now.key ≡ next.0) }
 {
-    if !is_directory(&dir.node) {
+    if !is_directory(&entry.node) {
         return Err(Refusal::NotDir);
     }
-    match only_shown(table.child_of(dir, name), live_only) {
-        Some(child) => Ok(child),
+    let Some((key, child)) = table.child_of(dir, name) else {
+        return Err(Refusal::NoEntry);
+    };
+    match only_shown(Some(child), live_only) {
+        Some(next) => Ok((key, next)),
         None => Err(Refusal::NoEntry),
     }
 }
@@ -61,8 +68,8 @@ pub(crate) fn find_in(table: &Table, dir: Key, name: &[u8], live_only: bool) -> 
     let Some(entry) = only_shown(table.record(dir), live_only) else {
         return Err(Refusal::NoEntry);
     };
-    match step(table, entry, name, live_only) {
-        Ok(next) => Ok(next.key),
+    match step(table, dir, entry, name, live_only) {
+        Ok((next, _)) => Ok(next),
         Err(refusal) => Err(refusal),
     }
 }

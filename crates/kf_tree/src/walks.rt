@@ -1,7 +1,7 @@
 //! The walks over a subtree, from node to node and without a stack. A walk takes the later siblings of a node
 //! with it, so that it searches an index only where it comes up to a directory.
 
-ghost use Rattle.std.specs.Prelude.{◌≡◌, None, IsTrue, IfSome, IfNone};
+ghost use Rattle.std.specs.Prelude.{◌≡◌, ◌≢◌, None, IsTrue, IfSome, IfNone};
 ghost use Rattle.kf_core.specs.declared.key.Key.{Key};
 ghost use Rattle.kf_core.specs.Tree.{is_linked, in_subtree};
 ghost use Rattle.kf_core.specs.Lawful.{Lawful};
@@ -26,13 +26,24 @@ pub(crate) fn later_siblings(table: &Table, key: Key) -> Listed<'_>
     table.children_above(dir, Some(entry.name.bytes()))
 }
 
+/// The same for a node below the top of a walk, which ends at its top: no sibling of that is asked for.
+fn later_below(table: &Table, top: Key, key: Key) -> Listed<'_>
+    requires lawful { (root : Key) × Lawful table.now root }
+    ensures later { key ≢ top → AreLater table.now key result }
+{
+    if key == top {
+        return Listed::none();
+    }
+    later_siblings(table, key)
+}
+
 /// Where the way down by first children ends (`kernfs_leftmost_descendant`), with its later siblings.
 pub(crate) fn first_below<'t>(table: &'t Table, top: Key, later: Listed<'t>) -> (Key, Listed<'t>)
     requires lawful { (root : Key) × Lawful table.now root }
     requires linked { IsTrue (is_linked table.now top) }
-    requires later { AreLater table.now top later }
     ensures first { IsFirstBelow table.now top result.0 }
-    ensures later { AreLater table.now result.0 result.1 }
+    ensures below { result.0 ≢ top → AreLater table.now result.0 result.1 }
+    ensures later { AreLater table.now top later.entry → AreLater table.now result.0 result.1 }
 {
     let mut current = top;
     let mut beside = later;
@@ -54,9 +65,9 @@ pub(crate) fn next_in_post_order<'t>(
     requires lawful { (root : Key) × Lawful table.now root }
     requires linked { IsTrue (is_linked table.now key) }
     requires below { IsTrue (in_subtree table.now top key) }
-    requires later { AreLater table.now key later }
+    requires later { key ≢ top → AreLater table.now key later }
     ensures next { IfSome result (λ next. IsNextInPostOrder table.now top key next.0) }
-    ensures later { IfSome result (λ next. AreLater table.now next.0 next.1) }
+    ensures later { IfSome result (λ next. next.0 ≢ top → AreLater table.now next.0 next.1) }
     ensures end { IfNone result (key ≡ top) }
 {
     if key == top {
@@ -66,7 +77,7 @@ pub(crate) fn next_in_post_order<'t>(
     let dir = entry.parent?;
     match later.split_first() {
         Some(((_, sibling), rest)) => Some(first_below(table, sibling, rest)),
-        None => Some((dir, later_siblings(table, dir))),
+        None => Some((dir, later_below(table, top, dir))),
     }
 }
 

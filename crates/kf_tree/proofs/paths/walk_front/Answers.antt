@@ -20,21 +20,22 @@ returns-in-Err c = record {
   named = tt;
   walked = (let name = c.first_part.result.0.now in
       let parts = c.first_part.ensures.parts ∙ ap (λ o. name ∷ later_parts (option_map (λ r. r.now) o)) c.in-Some.is in
-      sym c.loop-rest.invariant.0 ∙ along_first c.args.table.now c.loop-rest.dir.now.key c.loop-rest.text.now name c.in-Some.rest.now _ parts (sym c.in-Err.ensures.found));
+      sym c.loop-rest.invariant.0 ∙ along_first c.args.table.now c.loop-rest.dir c.loop-rest.text.now name c.in-Some.rest.now _ parts (sym c.in-Err.ensures.found));
 }
 
 pub returns-in_default-clause-named : goal.returns-in_default-clause-named
 returns-in_default-clause-named c =
     let name = c.first_part.result.0.now in
     let alone = c.first_part.ensures.parts ∙ ap (λ o. name ∷ later_parts (option_map (λ r. r.now) o)) c.in_default.is in
-    walked_named c.args.table.now c.requires.lawful.0 c.requires.lawful.1 false _ c.args.start.now.key c.loop-rest.dir.now.key
-    (sym c.loop-rest.invariant.0 ∙ ap (λ l. walk c.args.table.now c.loop-rest.dir.now.key (front l)) alone)
+    walked_named c.args.table.now c.requires.lawful.0 c.requires.lawful.1 false _ c.args.start c.loop-rest.dir
+    (sym c.loop-rest.invariant.0 ∙ ap (λ l. walk c.args.table.now c.loop-rest.dir (front l)) alone)
 
 pub loop-rest-preserved : goal.loop-rest-preserved
 loop-rest-preserved c =
     let name = c.first_part.result.0.now in
     let parts = c.first_part.ensures.parts ∙ ap (λ o. name ∷ later_parts (option_map (λ r. r.now) o)) c.in-Some.is in (
-      sym (along_first c.args.table.now c.loop-rest.dir.now.key c.loop-rest.text.now name c.in-Some.rest.now _ parts (sym c.in-Ok.ensures.found)) ∙ c.loop-rest.invariant.0,
+      sym (along_first c.args.table.now c.loop-rest.dir c.loop-rest.text.now name c.in-Some.rest.now _ parts (sym c.in-Ok.ensures.found)) ∙ c.loop-rest.invariant.0,
       sym (ap final parts ∙ final_more is_slash name c.in-Some.rest.now) ∙ c.loop-rest.invariant.1,
       c.in-Ok.ensures.inside,
+      c.in-Ok.ensures.keyed,
     )

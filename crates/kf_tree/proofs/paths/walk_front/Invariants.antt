@@ -6,9 +6,9 @@ use Rattle.kf_tree.proofs.paths.walk_front.Given as goal
 
 -- the rest of the walk is the whole walk, to the same last name, and leads on from a record of the tree
 abbrev pub invariant-loop-rest : goal.invariant-loop-rest
-invariant-loop-rest l = (walk l.table l.dir.key (front (slice_split is_slash l.text)) ≡ walk l.table l.fn.start.key (front (slice_split is_slash l.parts)))
+invariant-loop-rest l = (walk l.table l.dir (front (slice_split is_slash l.text)) ≡ walk l.table l.fn.start (front (slice_split is_slash l.parts)))
     × (final (slice_split is_slash l.text) ≡ final (slice_split is_slash l.parts))
-    × IsIn l.table l.dir
+    × IsIn l.table l.entry × (l.entry.key ≡ l.dir)
 
 abbrev pub decreases-loop-rest : goal.decreases-loop-rest
 decreases-loop-rest l = length l.text

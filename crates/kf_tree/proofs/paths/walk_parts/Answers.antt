@@ -7,5 +7,5 @@ use Rattle.kf_tree.proofs.Unnamed.{walked_named}
 use Rattle.kf_tree.proofs.paths.walk_parts.Goals as goal
 
 pub returns-clause-named : goal.returns-clause-named
-returns-clause-named c = walked_named c.args.table.now c.requires.lawful.0 c.requires.lawful.1 c.args.live_only _ c.args.start.now.key c.loop-rest.dir.now.key
-    (sym c.loop-rest.invariant.0 ∙ ap (λ o. walk (shown c.args.live_only c.args.table.now) c.loop-rest.dir.now.key (later_parts (option_map (λ rest. rest.now) o))) c.in_default.is)
+returns-clause-named c = walked_named c.args.table.now c.requires.lawful.0 c.requires.lawful.1 c.args.live_only _ c.args.start c.loop-rest.dir
+    (sym c.loop-rest.invariant.0 ∙ ap (λ o. walk (shown c.args.live_only c.args.table.now) c.loop-rest.dir (later_parts (option_map (λ rest. rest.now) o))) c.in_default.is)

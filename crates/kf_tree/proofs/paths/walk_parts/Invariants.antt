@@ -9,8 +9,8 @@ use Rattle.kf_tree.proofs.paths.walk_parts.Given as goal
 
 -- the rest of the walk is the whole walk, and leads on from a record that is shown
 abbrev pub invariant-loop-rest : goal.invariant-loop-rest
-invariant-loop-rest l = (walk (shown l.live_only l.table) l.dir.key (later_parts (option_map (λ rest. rest.now) l.rest)) ≡ walk (shown l.live_only l.table) l.fn.start.key (slice_split is_slash l.parts))
-    × IsIn (shown l.live_only l.table) l.dir
+invariant-loop-rest l = (walk (shown l.live_only l.table) l.dir (later_parts (option_map (λ rest. rest.now) l.rest)) ≡ walk (shown l.live_only l.table) l.fn.start (slice_split is_slash l.parts))
+    × IsIn (shown l.live_only l.table) l.entry × (l.entry.key ≡ l.dir)
 
 abbrev pub decreases-loop-rest : goal.decreases-loop-rest
 decreases-loop-rest l = option_map_or (λ rest. length rest.now + 1) l.rest 0

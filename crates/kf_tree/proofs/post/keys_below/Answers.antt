@@ -5,7 +5,7 @@ use Rattle.kf_tree.proofs.post.keys_below.Goals as goal
 pub visit-init : goal.visit-init
 visit-init c = (
   subst (IsUpTo c.args.table.now c.args.top c.first_below-later.result.0) (sym c.new-keys.ensures.items) (first_up_to c.args.table.now c.requires.lawful.0 c.requires.lawful.1 c.args.top c.first_below-later.result.0 c.first_below-later.ensures.first),
-  c.first_below-later.ensures.later,
+  c.first_below-later.ensures.below,
 )
 
 pub visit-preserved : goal.visit-preserved
