@@ -1,27 +1,28 @@
 //! What is told of nodes.
 
-ghost use Rattle.std.specs.Prelude.{◌≡◌, map, IfErr, OnOk};
+ghost use Rattle.std.specs.Prelude.{◌≡◌, IfErr, OnOk};
 ghost use Rattle.kf_core.specs.declared.refusal.Refusal.TheVariants.{NoMemory};
 ghost use Rattle.kf_script.specs.ReplyText.{names_text};
 ghost use Rattle.kf_replies.specs.ReplyParts.{state_of, told_text};
 
 use kf_core::Refusal;
-use kf_index::Name;
 use kf_script::{NodeState, Reply};
-use kf_tree::Stat;
+use kf_tree::{Names, Stat};
 
 /// Tells names, with one space between two. Refuses `NoMemory` alone; the text is then unknown.
-pub fn tell_names(reply: &mut Reply, names: &[&Name]) -> Result<(), Refusal>
-    ensures text { OnOk result (reply.new ≡ names_text (map (λ n. n.now) names.now)) }
+pub fn tell_names(reply: &mut Reply, names: Names<'_>) -> Result<(), Refusal>
+    ensures text { OnOk result (reply.new ≡ names_text names.entry) }
     ensures refused { IfErr result (λ refusal. refusal ≡ NoMemory) }
 {
     reply.clear();
-    let [first, later @ ..] = names else {
+    let Some((first, others)) = names.split_first() else {
         return Ok(());
     };
     reply.extend(first.bytes())?;
-    for name in later {
+    let mut later = others;
+    'names: while let Some((name, rest)) = later.split_first() {
         reply.extend_after(b' ', name.bytes())?;
+        later = rest;
     }
     Ok(())
 }

@@ -1,5 +1,5 @@
 -- The names of live children, child by child.
-use Rattle.std.proofs.Common.{◌≡◌, ◌⊎◌, inl, inr, ℕ, zero, suc, ◌+◌, ◌<◌, ◌≤◌, refl, ap, arith, sym, ◌∙◌, subst, Bool, true, false, cond, List, [], ◌∷◌, ◌++◌, length, length-append, lit<}
+use Rattle.std.proofs.Common.{◌≡◌, ◌⊎◌, inl, inr, ℕ, zero, suc, ◌+◌, ◌<◌, ◌≤◌, refl, ap, arith, sym, ◌∙◌, subst, Bool, true, false, cond, List, [], ◌∷◌, ◌++◌, length, length-append, append_assoc, append-nil, ◌-◌, take, lit<}
 use Rattle.std.specs.Prelude.{Option, None, Some, slice_get, All, AllPairs, Contains, ◌&&◌, IsTrue, IsSomeAnd}
 use Rattle.std.specs.List.{find as first}
 use Rattle.std.specs.Str.{bytes_eq}
@@ -15,7 +15,7 @@ use Rattle.kf_table.specs.Children.{is_key, is_under, child}
 use Rattle.kf_tree.specs.Paths.{lives}
 use Rattle.kf_core.specs.Names.{IsBefore}
 use Rattle.kf_index.specs.Entries.{IsAbove}
-use Rattle.kf_tree.specs.Listing.{IsListed, IsListing}
+use Rattle.kf_tree.specs.Listing.{IsListed, IsListing, live_names}
 use Rattle.kf_tree.specs.Causes.{lives_in, live_in}
 use Rattle.kf_table.specs.Next.{before, above, IsNext, NoneAbove, AreNext}
 use Rattle.kf_core.proofs.FoundRecords.{same_record, in_found}
@@ -197,3 +197,40 @@ listed_up_to t dir after limit names later full f = listing_full t dir after f.b
 pub listed_all : (t : Tree) (root dir : Key) → Lawful t root → (after : Option (List ℕ)) (limit : ℕ) (names : List (List ℕ)) → IsListedSoFar t dir after limit names [] → IsListing t dir after limit names
 unfolding AreNext
 listed_all t root dir l after limit names f = listing_whole t root dir l after f.bound limit names f.left f.so_far
+
+-- a live child comes next, where one more may come
+pub live_next : (t : Tree) (limit less : ℕ) (entry : List ℕ × Key) (later : List (List ℕ × Key)) → limit ≡ less + 1 → live_in t entry.1 ≡ true
+    → take limit (live_names t (entry ∷ later)) ≡ entry.0 ∷ take less (live_names t later)
+unfolding live_names
+live_next t zero less entry later some live = absurd (omega (arith, some))
+live_next t (suc n) less entry later some live = let same : n ≡ less = omega (arith, some) in rw (live, same) refl
+
+pub not_live_next : (t : Tree) (entry : List ℕ × Key) (later : List (List ℕ × Key)) → live_in t entry.1 ≡ false → live_names t (entry ∷ later) ≡ live_names t later
+unfolding live_names
+not_live_next t entry later dead = rw dead refl
+
+pub live_of_none : (t : Tree) (limit : ℕ) → take limit (live_names t []) ≡ []
+unfolding live_names
+live_of_none t zero = refl
+live_of_none t (suc n) = refl
+
+-- the names so far and those of the live children that are left
+listing_on : (t : Tree) (root dir : Key) → Lawful t root → (after : Option (List ℕ)) (limit n : ℕ) (names : List (List ℕ)) (later : List (List ℕ × Key)) → n ≡ limit - length names
+    → IsListedSoFar t dir after limit names later → IsListing t dir after limit (names ++ take n (live_names t later))
+unfolding live_names
+listing_on t root dir l after limit zero names later e f = rw (append-nil names) (listed_up_to t dir after limit names later (omega (arith, e)) f)
+listing_on t root dir l after limit (suc n) names [] e f = rw (append-nil names) (listed_all t root dir l after limit names f)
+listing_on t root dir l after limit (suc n) names (entry ∷ later) e f = elim (live_in t entry.1) as (λ b. live_in t entry.1 ≡ b → IsListing t dir after limit (names ++ take (suc n) (cond b (entry.0 ∷ live_names t later) (live_names t later)))) [
+  | true ↦ λ h. subst (IsListing t dir after limit) (append_assoc names (entry.0 ∷ []) (take n (live_names t later)))
+      (listing_on t root dir l after limit n (names ++ entry.0 ∷ []) later (let longer = length-append names (entry.0 ∷ []) in omega (arith, e, longer))
+      (listed_more t root dir l after limit names _ entry later (omega (arith, e)) f (sym (ap (λ b. cond b (names ++ entry.0 ∷ []) names) h))))
+  | false ↦ λ h. listing_on t root dir l after limit (suc n) names later e (listed_more t root dir l after limit names names entry later (omega (arith, e)) f (sym (ap (λ b. cond b (names ++ entry.0 ∷ []) names) h)))
+] refl
+
+pub listing_of : (t : Tree) (root dir : Key) → Lawful t root → (after : Option (List ℕ)) (limit : ℕ) (later : List (List ℕ × Key)) → AreNext t dir after later
+    → IsListing t dir after limit (take limit (live_names t later))
+listing_of t root dir l after limit later next = listing_on t root dir l after limit limit [] later (omega arith) (record {
+  bound = after;
+  so_far = listed_none t dir after limit [] refl;
+  left = next;
+})

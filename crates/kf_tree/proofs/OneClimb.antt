@@ -1,6 +1,8 @@
 -- The way up from a directory to the first one that is over a target, with a second way up from the target beside it.
-use Rattle.std.proofs.Common.{◌≡◌, ◌≢◌, ◌⊎◌, inl, inr, ℕ, zero, suc, ◌+◌, ◌-◌, ◌<◌, ◌≤◌, refl, ap, arith, sym, ◌∙◌, subst, true, length}
+use Rattle.std.proofs.Common.{◌≡◌, ◌≢◌, ◌⊎◌, inl, inr, ℕ, zero, suc, ◌+◌, ◌-◌, ◌<◌, ◌≤◌, refl, ap, arith, sym, ◌∙◌, subst, true, List, [], ◌∷◌, ◌++◌, length, length-append, get_or}
 use Rattle.std.specs.Prelude.{None, Some, is_some, IsTrue}
+use Rattle.std.proofs.lemmas.Bool.{cases_order}
+use Rattle.std.proofs.lemmas.List.{get_or_append_left}
 use Rattle.std.proofs.lemmas.Option.{same_Some, none-some}
 use Rattle.kf_core.specs.declared.key.Key.{Key}
 use Rattle.kf_core.specs.Tree.{Tree, is_linked, parent_of, ancestor, in_subtree}
@@ -8,6 +10,7 @@ use Rattle.kf_core.specs.Lawful.{Lawful}
 use Rattle.kf_core.proofs.Climbs.{first_step, after_step, climb_rest, climb_unique}
 use Rattle.kf_core.proofs.FoundRecords.{linked_here, known_parent, parent_known, root_parent, root_met, root_found, way_shorter, subtree_to, subtree_from}
 use Rattle.kf_tree.specs.Links.{IsOver}
+use Rattle.kf_tree.specs.Ways.{IsWayUp}
 use Rattle.kf_tree.proofs.Apart.{sub_self, sub_up}
 use Rattle.kf_tree.proofs.Over.{one_more, parent_linked}
 
@@ -27,6 +30,14 @@ pub record IsBeside (t : Tree) (root target base other : Key) (base_depth other_
 pub record IsCounted (t : Tree) (key current : Key) (steps : ℕ) : Type 0 where
   pub linked : IsTrue (is_linked t current)
   pub met : ancestor t steps key ≡ Some current
+
+-- the key stands on the way where so many others are above it
+abbrev pub StandsAt : List Key → ℕ → Key → Type 0
+StandsAt way depth key = (depth < length way) × ((d : Key) → get_or way (length way - 1 - depth) d ≡ key)
+
+-- the first keys of a way up
+abbrev pub IsWayTo : Tree → Key → List Key → ℕ → Type 0
+IsWayTo t key way steps = (length way ≡ steps) × ((i : ℕ) (d : Key) → i < length way → ancestor t i key ≡ Some (get_or way i d))
 
 module _ (t : Tree) (root : Key) (l : Lawful t root) where
   self_over : (key : Key) → IsTrue (is_linked t key) → in_subtree t key key ≡ true
@@ -53,10 +64,6 @@ module _ (t : Tree) (root : Key) (l : Lawful t root) where
   pub deep : (a b : Key) (da db : ℕ) → IsDeep t root da a → IsDeep t root db b → a ≢ b → db ≤ da → 0 < da
   deep a b zero db x y n le = absurd (let z : 0 ≡ db = omega (arith, le) in n (same_Some a root x ∙ sym (same_Some b root (ap (λ m. ancestor t m b) z ∙ y))))
   deep a b (suc da) db x y n le = omega arith
-
-  pub above_by : (key : Key) (depth : ℕ) → 0 < depth → IsDeep t root depth key → (n : ℕ) × (top : Key) × (ancestor t (suc n) key ≡ Some top)
-  above_by key zero h d = absurd (omega (arith, h))
-  above_by key (suc n) h d = (n, root, d)
 
   pub beside_first : (dir target other : Key) (base_depth other_depth : ℕ) → IsTrue (is_linked t target) → IsTrue (is_linked t dir) → (parent_of t target ≡ Some other) ⊎ ((parent_of t target ≡ None) × (other ≡ root)) →
       IsDeep t root base_depth dir → IsDeep t root other_depth other → IsBeside t root target dir other base_depth other_depth
@@ -118,7 +125,7 @@ module _ (t : Tree) (root : Key) (l : Lawful t root) where
       higher (inl e) = absurd (none-some next (sym (root_parent t root l) ∙ ap (parent_of t) (sym e) ∙ p))
       higher (inr a) = inr (suc a.0, one_more t (suc a.0) target other next a.1 p)
 
-  -- ---- the depth of a key
+  -- ---- how far up a key is
 
   pub counted_none : (key : Key) → IsTrue (is_linked t key) → IsCounted t key key 0
   counted_none key h = record { linked = h; met = refl }
@@ -136,3 +143,60 @@ module _ (t : Tree) (root : Key) (l : Lawful t root) where
   pub counted_all : (key current : Key) (steps : ℕ) → IsCounted t key current steps → parent_of t current ≡ None → IsDeep t root steps key
   counted_all key current steps c p = (let r = linked_here t current c.linked in
       c.met ∙ ap Some (sym r.2 ∙ l.one_root r.0 r.1 (sym (parent_known t r.0 r.1) ∙ ap (parent_of t) r.2 ∙ p)))
+
+  -- ---- a way up, key by key
+
+  pub way_step : (a b : Key) (n : ℕ) (key : Key) → ancestor t n key ≡ Some a → ancestor t (n + 1) key ≡ Some b → parent_of t a ≡ Some b
+  way_step a b n key here next = (let f = first_step (parent_of t) 0 a b (sym (climb_rest (parent_of t) n 1 key a here) ∙ next) in f.1 ∙ f.2)
+
+  -- the key that comes next is the directory of this one
+  pub next_up : (key at next : Key) (way : List Key) (depth : ℕ) → IsWayUp t root key way → StandsAt way depth at → 0 < depth
+      → ((d : Key) → next ≡ get_or way (length way - depth) d) → parent_of t at ≡ Some next
+  next_up key at next way depth w stands some is =
+      let i = length way - 1 - depth in
+      let higher : length way - depth ≡ i + 1 = omega (arith, stands.0, some) in
+      way_step at next i key (w.each i at (omega (arith, stands.0, some)) ∙ ap Some (stands.1 at))
+      (w.each (i + 1) next (omega (arith, stands.0, some)) ∙ ap Some (sym (is next ∙ ap (λ n. get_or way n next) higher)))
+
+  pub stands_next : (next : Key) (way : List Key) (depth : ℕ) → depth < length way → 0 < depth → ((d : Key) → next ≡ get_or way (length way - depth) d) → StandsAt way (depth - 1) next
+  stands_next next way depth low some is = (
+    omega (arith, low),
+    λ d.
+        let e : length way - 1 - (depth - 1) ≡ length way - depth = omega (arith, low, some) in
+        ap (λ n. get_or way n d) e ∙ sym (is d),
+  )
+
+  pub stands_first : (key : Key) (way : List Key) → IsWayUp t root key way → StandsAt way (length way - 1) key
+  stands_first key way w = (
+    omega (arith, w.some),
+    λ d.
+        let e : length way - 1 - (length way - 1) ≡ 0 = omega arith in
+        ap (λ n. get_or way n d) e ∙ same_Some _ key (sym (w.each 0 d w.some)),
+  )
+
+  -- ---- a way is looked up
+
+  pub way_more : (key current : Key) (way new : List Key) (steps : ℕ) → IsWayTo t key way steps → IsCounted t key current steps → new ≡ way ++ current ∷ [] → IsWayTo t key new (steps + 1)
+  way_more key current way new steps w c is = rw is (longer, each)
+    where
+      get_or_last : (xs : List Key) (x d : Key) → get_or (xs ++ x ∷ []) (length xs) d ≡ x
+      get_or_last [] x d = refl
+      get_or_last (y ∷ xs) x d = get_or_last xs x d
+
+      longer : length (way ++ current ∷ []) ≡ steps + 1
+      longer = length-append way (current ∷ []) ∙ ap (λ n. n + 1) w.0
+
+      each : (i : ℕ) (d : Key) → i < length (way ++ current ∷ []) → ancestor t i key ≡ Some (get_or (way ++ current ∷ []) i d)
+      each i d low = elim (cases_order i (length way)) [
+        | inr (inl below) ↦ w.1 i d below ∙ ap Some (sym (get_or_append_left way (current ∷ []) d i below))
+        | inr (inr above) ↦ absurd (omega (arith, low, above, longer, w.0))
+        | inl last ↦ (let at : ancestor t i key ≡ Some current = ap (λ n. ancestor t n key) (last ∙ w.0) ∙ c.met in
+            at ∙ ap Some (sym (ap (λ n. get_or (way ++ current ∷ []) n d) last ∙ get_or_last way current d)))
+      ]
+
+  pub way_whole : (key current : Key) (way : List Key) (steps : ℕ) → IsWayTo t key way (steps + 1) → IsDeep t root steps key → IsWayUp t root key way
+  way_whole key current way steps w deep = record {
+    some = omega (arith, w.0);
+    each = w.1;
+    ends = (let e : length way - 1 ≡ steps = omega (arith, w.0) in ap (λ n. ancestor t n key) e ∙ deep);
+  }

@@ -1,10 +1,11 @@
 -- What a directory shows.
-use Rattle.std.specs.Prelude.{◌≡◌, ◌⊎◌, ℕ, ◌≤◌, List, length, Option, All, AllPairs, Contains, IsSomeAnd, IsTrue}
+use Rattle.std.specs.Prelude.{◌≡◌, ◌⊎◌, ℕ, ◌≤◌, List, [], ◌∷◌, length, Option, All, AllPairs, Contains, IsSomeAnd, IsTrue, if◌then◌else◌}
 use Rattle.kf_core.specs.declared.key.Key.{Key}
 use Rattle.kf_core.specs.Names.{IsBefore}
 use Rattle.kf_core.specs.Tree.{Tree}
 use Rattle.kf_index.specs.Entries.{IsAbove}
 use Rattle.kf_table.specs.Children.{child}
+use Rattle.kf_tree.specs.Causes.{live_in}
 use Rattle.kf_tree.specs.Paths.{lives}
 
 -- the directory has a live child of this name, above the bound
@@ -21,3 +22,8 @@ pub record IsListing (t : Tree) (dir : Key) (bound : Option (List ℕ)) (limit :
   -- one is left out only where the limit is reached by names before it
   pub first : (name : List ℕ) → IsListed t dir bound name → Contains names name
       ⊎ ((length names ≡ limit) × All (λ shown. IsBefore shown name) names)
+
+-- the names of those children whose nodes are live
+unfoldable pub live_names : Tree → List (List ℕ × Key) → List (List ℕ)
+live_names t [] = []
+live_names t (child ∷ later) = if live_in t child.1 then child.0 ∷ live_names t later else live_names t later

@@ -1,5 +1,5 @@
 -- Parts of a path, and names along a way up or down.
-use Rattle.std.specs.Prelude.{◌≡◌, ℕ, ◌<◌, List, [], ◌++◌, Option, None, Some}
+use Rattle.std.specs.Prelude.{◌≡◌, ℕ, ◌<◌, ◌-◌, List, [], ◌++◌, length, slice_index_or, Option, None, Some}
 use Rattle.std.specs.List.{slice_split}
 use Rattle.std.specs.Option.{option_map_or}
 use Rattle.kf_core.specs.declared.key.Key.{Key}
@@ -24,3 +24,9 @@ pub record HasUps (t : Tree) (root dir target base : Key) (old new : List ℕ) :
   pub over : IsOver t root target base
   pub first : (n : ℕ) (lower : Key) → n < up → ancestor t n dir ≡ Some lower → ¬ IsOver t root target lower
   pub pushed : new ≡ old ++ ups up
+
+-- the keys from this one up to the root
+pub record IsWayUp (t : Tree) (root key : Key) (way : List Key) : Type 0 where
+  pub some : 0 < length way
+  pub each : (i : ℕ) (d : Key) → i < length way → ancestor t i key ≡ Some (slice_index_or way i d)
+  pub ends : ancestor t (length way - 1) key ≡ Some root

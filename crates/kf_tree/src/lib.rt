@@ -16,5 +16,6 @@ mod state;
 mod walks;
 
 pub use laws::answers_are_unique;
+pub use listing::Names;
 pub use stat::Stat;
 pub use state::State;

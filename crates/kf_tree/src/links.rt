@@ -1,13 +1,13 @@
 //! The text of a link.
 
-ghost use Rattle.std.specs.Prelude.{◌≡◌, ℕ, suc, ◌∷◌, ◌++◌, ◌⊎◌, [], map, reverse, Some, None, Ok, IsTrue, IfOk, IfErr, OnOk, if◌then◌else◌};
+ghost use Rattle.std.specs.Prelude.{◌≡◌, ◌∷◌, ◌++◌, ◌⊎◌, ◌<◌, ◌-◌, [], length, map, reverse, slice_index_or, Some, None, Ok, IsTrue, IfOk, IfErr, OnOk, if◌then◌else◌};
 ghost use Rattle.std.specs.List.{join_with_byte};
 ghost use Rattle.kf_core.specs.declared.key.Key.{Key};
 ghost use Rattle.kf_core.specs.Lawful.{Lawful};
-ghost use Rattle.kf_core.specs.Tree.{is_linked, parent_of, ancestor};
+ghost use Rattle.kf_core.specs.Tree.{is_linked, parent_of};
 ghost use Rattle.kf_tree.specs.Links.{IsLinkText};
 ghost use Rattle.kf_tree.specs.Paths.{walk};
-ghost use Rattle.kf_tree.specs.Ways.{HasUps, name_at};
+ghost use Rattle.kf_tree.specs.Ways.{HasUps, IsWayUp, name_at};
 
 use kf_core::{Key, Refusal};
 use kf_table::Table;
@@ -27,36 +27,36 @@ fn over_target(table: &Table, root: Key, target: Key) -> Key
     }
 }
 
-/// How many steps up lead from a linked key to the root.
-fn depth(table: &Table, root: Key, key: Key) -> usize
+/// The keys from this one up to the root.
+fn way_up(alloc: Global, table: &Table, root: Key, key: Key) -> Result<Vec<Key>, AllocError>
     requires rooted { Lawful table.now root }
     requires linked { IsTrue (is_linked table.now key) }
-    ensures deep { ancestor table.now result key ≡ Some root }
+    ensures way { IfOk result (λ way. IsWayUp table.now root key way.items) }
 {
+    let mut way = Vec::new(alloc);
     let mut current = key;
-    'up: for steps in 0..table.len() {
+    'up: for _ in 0..table.len() {
+        way.push(current)?;
         match table.parent(current) {
             Some(parent) => current = parent,
-            None => return steps,
+            None => return Ok(way),
         }
     }
-    table.len()
+    Ok(way)
 }
 
-/// The directory of a key from which a step leads up.
-fn parent_below(table: &Table, key: Key) -> Key
-    requires below { (n : ℕ) × (top : Key) × (ancestor table.now (suc n) key ≡ Some top) }
-    ensures parent { parent_of table.now key ≡ Some result }
+/// The key above the one that has so many others above it on a way up.
+fn key_above(way: &[Key], depth: usize) -> Key
+    requires some { 0 < depth }
+    requires within { depth < length way.now }
+    ensures above { (other : Key) → result ≡ slice_index_or way.now (length way.now - depth) other }
 {
-    match table.parent(key) {
-        Some(parent) => parent,
-        None => key,
-    }
+    way[way.len() - depth]
 }
 
 /// Pushes `../` for each step up from the directory to the first base over the target, and gives that base. A
 /// second way up, from the target's directory, is climbed beside it, always the deeper of the two first; its
-/// keys are pushed too, from the target up to below the base.
+/// keys are pushed too, from the target up to below the base. Each way is looked up once, before.
 fn push_ups(
     table: &Table,
     root: Key,
@@ -74,21 +74,22 @@ fn push_ups(
     ensures lead { IfOk result
         (λ base. walk table.now base (reverse (map (name_at table.now) keys.new.items)) ≡ Ok target) }
 {
-    let mut base = dir;
-    let mut other = over_target(table, root, target);
-    if target != other {
+    let over = over_target(table, root, target);
+    let from = way_up(*keys.allocator(), table, root, dir)?;
+    let to = way_up(*keys.allocator(), table, root, over)?;
+    if target != over {
         keys.push(target)?;
     }
-    let mut base_depth = depth(table, root, base);
-    let mut other_depth = depth(table, root, other);
+    let (mut base, mut base_depth) = (dir, from.len() - 1);
+    let (mut other, mut other_depth) = (over, to.len() - 1);
     'up: while base != other {
         if base_depth >= other_depth {
             text.extend_from_slice(b"../")?;
-            base = parent_below(table, base);
+            base = key_above(&from, base_depth);
             base_depth -= 1;
         } else {
             keys.push(other)?;
-            other = parent_below(table, other);
+            other = key_above(&to, other_depth);
             other_depth -= 1;
         }
     }

@@ -1,6 +1,6 @@
-//! The names of live children.
+//! The names of live children, one after another as they stand in the index.
 
-ghost use Rattle.std.specs.Prelude.{◌≡◌, ◌++◌, ◌∷◌, [], map, IfOk, IfErr, OnOk, if◌then◌else◌};
+ghost use Rattle.std.specs.Prelude.{◌≡◌, ◌∷◌, [], IfOk, IfErr, IfSome, IfNone};
 ghost use Rattle.std.specs.Option.{option_copied};
 ghost use Rattle.kf_core.specs.declared.key.Key.{Key};
 ghost use Rattle.kf_core.specs.Lawful.{Lawful};
@@ -9,11 +9,33 @@ ghost use Rattle.kf_tree.specs.Listing.{IsListing};
 
 use crate::causes::is_live;
 use kf_core::{Key, Refusal};
-use kf_index::Name;
+use kf_index::{Listed, Name};
 use kf_table::Table;
 use std::alloc::Global;
+use std::marker::Model;
+
+/// The names of a listing that are still to come. They lie where the tree has them, and each is looked for
+/// when it is asked for, so a listing takes no memory. Contracts see the list of the names.
+#[derive(Drop)]
+pub struct Names<'a> {
+    table: &'a Table,
+    /// The children that were not yet looked at.
+    later: Listed<'a>,
+    /// How many names may still come.
+    limit: usize,
+}
+
+impl<'a> Model for Names<'a> {
+    ghost use Rattle.std.specs.Prelude.{ℕ, List, take};
+    ghost use Rattle.kf_tree.specs.Listing.{live_names};
+
+    ghost Value = { List (List ℕ) };
+
+    ghost view = { λ names. take names.limit (live_names names.table.now names.later) };
+}
 
 /// Whether the node of a key is live.
+#[inline(always)]
 fn has_live(table: &Table, key: Key) -> bool
     ensures known { result ≡ live_in table.now key }
 {
@@ -23,68 +45,63 @@ fn has_live(table: &Table, key: Key) -> bool
     }
 }
 
-/// Pushes the name of a child, where its node is live.
-fn push_live<'t>(
-    table: &Table,
-    names: &mut Vec<&'t Name>,
-    name: &'t Name,
-    key: Key,
-) -> Result<(), Refusal>
-    ensures pushed { OnOk result (map (λ n. n.now) names.new.items ≡
-        (if live_in table.now key then map (λ n. n.now) names.old.items ++ name.now
-        ∷ [] else map (λ n. n.now) names.old.items)) }
-    ensures refused { IfErr result (λ refusal. refusal ≡ Refusal.NoMemory) }
-{
-    if !has_live(table, key) {
-        return Ok(());
+impl<'a> Names<'a> {
+    /// The first names of live children above the bound, in byte order, up to the limit.
+    pub(crate) fn new(table: &'a Table, dir: Key, after: Option<&[u8]>, limit: usize) -> Names<'a>
+        requires lawful { (root : Key) × Lawful table.now root }
+        ensures listed { IsListing table.now dir (option_copied after.entry) limit result }
+    {
+        Names {
+            table,
+            later: table.children_above(dir, after),
+            limit,
+        }
     }
-    match names.push(name) {
-        Ok(()) => Ok(()),
-        Err(_) => Err(Refusal::NoMemory),
-    }
-}
 
-/// The first names of live children above the bound, in byte order, as they stand in the index.
-pub(crate) fn list_names<'t>(
-    alloc: Global,
-    table: &'t Table,
-    dir: Key,
-    after: Option<&[u8]>,
-    limit: usize,
-) -> Result<Vec<&'t Name>, Refusal>
-    requires lawful { (root : Key) × Lawful table.now root }
-    ensures listed { IfOk result
-        (λ names. IsListing table.now dir (option_copied after.entry) limit (map (λ n. n.now) names.items)) }
-    ensures refused { IfErr result (λ refusal. refusal ≡ Refusal.NoMemory) }
-{
-    let mut later = table.children_above(dir, after);
-    // Room for as many as there may be, taken at once.
-    let Ok(mut names) = Vec::with_capacity(alloc, later.len().min(limit)) else {
-        return Err(Refusal::NoMemory);
-    };
-    'children: while names.len() < limit {
-        let Some(((name, key), rest)) = later.split_first() else {
-            return Ok(names);
-        };
-        push_live(table, &mut names, name, key)?;
-        later = rest;
+    /// The first of them, and the others.
+    #[inline(always)]
+    pub fn split_first(self) -> Option<(&'a Name, Names<'a>)>
+        ensures split { IfSome result (λ split. self.entry ≡ split.0.now ∷ split.1) }
+        ensures empty { IfNone result (self.entry ≡ []) }
+    {
+        let Names {
+            table,
+            mut later,
+            limit,
+        } = self;
+        if limit == 0 {
+            return None;
+        }
+        'children: while let Some(((name, key), rest)) = later.split_first() {
+            later = rest;
+            if has_live(table, key) {
+                let others = Names {
+                    table,
+                    later,
+                    limit: limit - 1,
+                };
+                return Some((name, others));
+            }
+        }
+        None
     }
-    Ok(names)
 }
 
 /// A copy of each name.
-pub(crate) fn copy_names(alloc: Global, names: &[&Name]) -> Result<Vec<Name>, Refusal>
-    ensures made { IfOk result (λ copies. copies.items ≡ map (λ n. n.now) names.now) }
+pub(crate) fn copy_names(alloc: Global, names: Names<'_>) -> Result<Vec<Name>, Refusal>
+    ensures made { IfOk result (λ copies. copies.items ≡ names.entry) }
     ensures refused { IfErr result (λ refusal. refusal ≡ Refusal.NoMemory) }
 {
     let mut copies = Vec::new(alloc);
-    for name in names {
+    let mut later = names;
+    'names: while let Some((name, rest)) = later.split_first() {
         let Ok(copy) = Name::clone(name) else {
             return Err(Refusal::NoMemory);
         };
         if copies.push(copy).is_err() {
             return Err(Refusal::NoMemory);
         }
+        later = rest;
     }
     Ok(copies)
 }

@@ -34,7 +34,7 @@ impl PlainBoard {
         let state = self.nodes.state();
         let dir = state.lookup(path)?;
         let names = state.names(dir, None, 4096)?;
-        tell_names(reply, names.as_slice())
+        tell_names(reply, names)
     }
 
     /// Tells the text of a live link.

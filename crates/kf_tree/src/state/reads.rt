@@ -1,6 +1,6 @@
 //! What a state tells: its commands, paths, listings, and what is told of a node. No call changes anything.
 
-ghost use Rattle.std.specs.Prelude.{◌≡◌, ◌↔◌, map, IfOk, IfErr, IsTrue, slice_get, MatchResult, None, Some, Ok, Err, true, length, IfSome};
+ghost use Rattle.std.specs.Prelude.{◌≡◌, ◌↔◌, IfOk, IfErr, IsTrue, slice_get, MatchResult, None, Some, Ok, Err, true, length, IfSome};
 ghost use Rattle.std.specs.Option.{option_copied, option_map, ok_or};
 ghost use Rattle.kf_core.specs.Tree.{record_at, is_linked, in_subtree};
 ghost use Rattle.kf_core.specs.PostOrder.{IsPostOrder};
@@ -16,7 +16,7 @@ ghost use Rattle.kf_tree.specs.TreeLogs.{IsKept};
 use super::State;
 use crate::causes::{check_create, check_doom, check_linked, check_list, check_text, check_unlink};
 use crate::links::link_text;
-use crate::listing::{copy_names, list_names};
+use crate::listing::{Names, copy_names};
 use crate::paths::{walk, walk_parent};
 use crate::post::post_order;
 use crate::shown::find_in;
@@ -170,18 +170,19 @@ impl State {
         ensures refused { IfErr result (λ refusal. Refuses (list_cause self.now.tree dir) refusal) }
     {
         let names = self.names(dir, after, limit)?;
-        copy_names(self.alloc, &names)
+        copy_names(self.alloc, names)
     }
 
-    /// The names that [`State::list`] copies, as they stand in the tree. Refused as it is.
-    pub fn names(&self, dir: Key, after: Option<&[u8]>, limit: usize) -> Result<Vec<&Name>, Refusal>
+    /// The names that [`State::list`] copies, as they stand in the tree: it takes no memory. Refused as that
+    /// is, but for `NoMemory`.
+    pub fn names(&self, dir: Key, after: Option<&[u8]>, limit: usize) -> Result<Names<'_>, Refusal>
         ensures no_cause { IfOk result (λ _. list_cause self.now.tree dir ≡ None) }
         ensures listed { IfOk result (λ names.
-            IsListing self.now.tree dir (option_copied after.entry) limit (map (λ n. n.now) names.items)) }
-        ensures refused { IfErr result (λ refusal. Refuses (list_cause self.now.tree dir) refusal) }
+            IsListing self.now.tree dir (option_copied after.entry) limit names) }
+        ensures refused { IfErr result (λ refusal. list_cause self.now.tree dir ≡ Some refusal) }
     {
         check_list(&self.table, dir)?;
-        list_names(self.alloc, &self.table, dir, after, limit)
+        Ok(Names::new(&self.table, dir, after, limit))
     }
 
     /// What is told of a linked node: its kind, its marks, its number of child directories, and its number of

@@ -129,19 +129,24 @@ fn move_to(state: &mut State, from: &[u8], dir: &[u8], name: &[u8]) -> Result<()
 
 /// Whether both the list and the names that it copies are these.
 fn shows(state: &State, dir: Key, after: Option<&[u8]>, limit: usize, names: &[&[u8]]) -> bool {
-    let (Ok(list), Ok(lent)) = (
+    let (Ok(list), Ok(mut lent)) = (
         state.list(dir, after, limit),
         state.names(dir, after, limit),
     ) else {
         return false;
     };
-    list.len() == names.len()
-        && lent.len() == names.len()
+    for name in names {
+        let Some((shown, rest)) = lent.split_first() else {
+            return false;
+        };
+        if shown.bytes() != *name {
+            return false;
+        }
+        lent = rest;
+    }
+    lent.split_first().is_none()
+        && list.len() == names.len()
         && list
-            .iter()
-            .zip(names)
-            .all(|(shown, name)| shown.bytes() == *name)
-        && lent
             .iter()
             .zip(names)
             .all(|(shown, name)| shown.bytes() == *name)

@@ -30,7 +30,7 @@ impl<W: WaitOps, N: Naming, R: Wait> WorkerBoard<'_, W, N, R> {
         let editor = self.common.tree.edit(self.rt);
         let dir = editor.state().lookup(path)?;
         let names = editor.state().names(dir, None, MOST_NAMES)?;
-        tell_names(reply, names.as_slice())
+        tell_names(reply, names)
     }
 
     /// Tells the text of a live link.

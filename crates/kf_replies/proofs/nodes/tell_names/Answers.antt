@@ -1,12 +1,16 @@
-use Rattle.std.proofs.Common.{◌-◌, ◌<◌, length, take, drop}
-use Rattle.kf_replies.proofs.Names.{names_text-next}
+use Rattle.std.proofs.Common.{◌∙◌, ◌∷◌, ◌++◌, [], ap, sym, append_assoc, refl}
+use Rattle.kf_replies.proofs.Names.{names_text-push}
 use Rattle.kf_replies.proofs.nodes.tell_names.Goals as goal
 
-pub loop-name-preserved : goal.loop-name-preserved
-loop-name-preserved c =
-    let (first, split, text) = c.loop-name.invariant in
-    let later = take (length c.args.names.now - 1) (drop 1 c.args.names.now) in
-    let i = c.loop-name.name-index in
-    let h : i < length later = c.loop-name-test.true in
-    let more = names_text-next first later i c.name-item.result h in
-    (first, split, cc (more, c.in_ok-extend_after.ensures.text, c.bytes-in-loop-name.ensures.same, c.name-item.is, text))
+pub names-init : goal.names-init
+names-init c = (c.in-Some.first.now, [], sym c.in-Some.ensures.split, rw (c.in_ok-extend.ensures.text, c.clear.ensures, c.bytes.ensures.same) refl)
+
+pub names-preserved : goal.names-preserved
+names-preserved c =
+    let (first, told, split, text) = c.names.invariant in
+    let name = c.in-Some-split_first.name.now in (
+      first,
+      told ++ name ∷ [],
+      ap (λ l. first ∷ l) (append_assoc told (name ∷ []) c.in-Some-split_first.rest) ∙ (rw c.in-Some-split_first.ensures.split at split),
+      rw (c.in_ok-extend_after.ensures.text, c.bytes-in-Some-split_first.ensures.same, text) (sym (names_text-push first told name)),
+    )

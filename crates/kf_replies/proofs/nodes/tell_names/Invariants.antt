@@ -1,9 +1,10 @@
-use Rattle.std.proofs.Common.{◌≡◌, ℕ, List, ◌∷◌, take}
-use Rattle.std.specs.Prelude.{map}
+use Rattle.std.proofs.Common.{◌≡◌, ℕ, List, ◌∷◌, ◌++◌, length}
 use Rattle.kf_script.specs.ReplyText.{names_text}
 use Rattle.kf_replies.proofs.nodes.tell_names.Given as goal
 
--- the text is the first name and those so far
-abbrev pub invariant-loop-name : goal.invariant-loop-name
-invariant-loop-name l = (first : List ℕ) × (map (λ n. n.now) l.names ≡ first ∷ map (λ n. n.now) l.later)
-    × (l.reply ≡ names_text (first ∷ take l.name-index (map (λ n. n.now) l.later)))
+-- the text is the first name and those told after it, and the others are left
+abbrev pub invariant-names : goal.invariant-names
+invariant-names l = (first : List ℕ) × (told : List (List ℕ)) × (first ∷ (told ++ l.later) ≡ l.fn.names) × (l.reply ≡ names_text (first ∷ told))
+
+abbrev pub decreases-names : goal.decreases-names
+decreases-names l = length l.later

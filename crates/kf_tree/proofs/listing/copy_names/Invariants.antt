@@ -1,6 +1,9 @@
-use Rattle.std.proofs.Common.{◌≡◌, take}
-use Rattle.std.specs.Prelude.{map}
+use Rattle.std.proofs.Common.{◌≡◌, ◌++◌, length}
 use Rattle.kf_tree.proofs.listing.copy_names.Given as goal
 
-abbrev pub invariant-loop-name : goal.invariant-loop-name
-invariant-loop-name l = l.copies.items ≡ map (λ n. n.now) (take l.name-index l.names)
+-- the copies so far, and what is left to copy
+abbrev pub invariant-names : goal.invariant-names
+invariant-names l = l.copies.items ++ l.later ≡ l.fn.names
+
+abbrev pub decreases-names : goal.decreases-names
+decreases-names l = length l.later
