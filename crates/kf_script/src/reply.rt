@@ -200,6 +200,7 @@ impl Reply {
 
     /// Appends a byte and then any number of bytes as they are. Refuses `NoMemory` alone; the text is then
     /// unknown.
+    #[inline(never)]
     pub fn extend_after(&mut self, first: u8, bytes: &[u8]) -> Result<(), Refusal>
         ensures text { OnOk result (self.new ≡ self.old ++ first ∷ bytes.now) }
         ensures refused { IfErr result (λ refusal. refusal ≡ Refusal.NoMemory) }
