@@ -30,6 +30,20 @@ impl<'a> Model for Listed<'a> {
     ghost invariant = { λ listed. AreTaken listed.entries.now listed.order.now };
 }
 
+/// One of the places in an order. Where there is one place alone, the order is not looked at: a walk waits for
+/// one load less in a directory of one name.
+#[inline(always)]
+fn place_at(entries: &[Option<(Name, Key)>], order: &[usize], at: usize) -> usize
+    requires taken { AreTaken entries.now order.now }
+    requires within { at < length order.now }
+    ensures read { result ≡ slice_index_or order.now at result }
+{
+    if entries.len() == 1 {
+        return 0;
+    }
+    order[at]
+}
+
 impl<'a> Listed<'a> {
     /// What stands at these places, in this order.
     #[inline(always)]
@@ -73,8 +87,8 @@ impl<'a> Listed<'a> {
         requires within { at < length self.now }
         ensures read { (other : List ℕ × Key) → (result.0.now, result.1) ≡ slice_index_or self.now at other }
     {
-        let order = self.order;
-        match &self.entries[order[at]] {
+        let (entries, order) = (self.entries, self.order);
+        match &entries[place_at(entries, order, at)] {
             Some((name, key)) => (name, *key),
             None => unreachable!(),
         }

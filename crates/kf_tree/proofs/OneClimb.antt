@@ -1,6 +1,7 @@
 -- The way up from a directory to the first one that is over a target, with a second way up from the target beside it.
-use Rattle.std.proofs.Common.{◌≡◌, ◌≢◌, ◌⊎◌, inl, inr, ℕ, zero, suc, ◌+◌, ◌-◌, ◌<◌, ◌≤◌, refl, ap, arith, sym, ◌∙◌, subst, true, List, [], ◌∷◌, ◌++◌, length, length-append, get_or}
+use Rattle.std.proofs.Common.{◌≡◌, ◌≢◌, ◌⊎◌, inl, inr, ℕ, zero, suc, ◌+◌, ◌-◌, ◌<◌, ◌≤◌, refl, ap, arith, sym, ◌∙◌, subst, true, List, [], ◌∷◌, ◌++◌, length, length-append, get_or, append-nil, rules, Option}
 use Rattle.std.specs.Prelude.{None, Some, is_some, IsTrue}
+use Rattle.std.specs.Option.{option_and_then, option_to_list}
 use Rattle.std.proofs.lemmas.Bool.{cases_order}
 use Rattle.std.proofs.lemmas.List.{get_or_append_left}
 use Rattle.std.proofs.lemmas.Option.{same_Some, none-some}
@@ -38,6 +39,16 @@ StandsAt way depth key = (depth < length way) × ((d : Key) → get_or way (leng
 -- the first keys of a way up
 abbrev pub IsWayTo : Tree → Key → List Key → ℕ → Type 0
 IsWayTo t key way steps = (length way ≡ steps) × ((i : ℕ) (d : Key) → i < length way → ancestor t i key ≡ Some (get_or way i d))
+
+-- a way up before its next key is pushed, or the whole of it where none is left
+abbrev pub IsWayBefore : Tree → Key → Key → List Key → Option Key → Type 0
+IsWayBefore t root key way None = IsWayUp t root key way
+IsWayBefore t root key way (Some current) = IsCounted t key current (length way) × IsWayTo t key way (length way)
+
+-- at most so many keys of a way up are left
+abbrev pub still_up : Tree → List Key → Option Key → ℕ
+still_up t way None = 0
+still_up t way (Some _) = length t - length way
 
 module _ (t : Tree) (root : Key) (l : Lawful t root) where
   self_over : (key : Key) → IsTrue (is_linked t key) → in_subtree t key key ≡ true
@@ -200,3 +211,39 @@ module _ (t : Tree) (root : Key) (l : Lawful t root) where
     each = w.1;
     ends = (let e : length way - 1 ≡ steps = omega (arith, w.0) in ap (λ n. ancestor t n key) e ∙ deep);
   }
+
+  -- ---- both ways are looked up at once
+
+  pub way_begins : (key : Key) → IsTrue (is_linked t key) → IsWayBefore t root key [] (Some key)
+  way_begins key h = (counted_none key h, (refl, λ i d low. absurd (omega (arith, low))))
+
+  pub way_goes_on : (key : Key) (way new : List Key) (at next : Option Key) → IsWayBefore t root key way at
+      → new ≡ way ++ option_to_list at → next ≡ option_and_then (parent_of t) at → IsWayBefore t root key new next
+  way_goes_on key way new None next w is above = rw (is, above, append-nil way) w
+  way_goes_on key way new (Some current) next w is above = rw above (climbed (parent_of t current) refl)
+    where
+      longer : length new ≡ length way + 1
+      longer = ap length is ∙ length-append way (current ∷ [])
+
+      more : IsWayTo t key new (length way + 1)
+      more = way_more key current way new (length way) w.1 w.0 is
+
+      climbed : (up : Option Key) → parent_of t current ≡ up → IsWayBefore t root key new up
+      climbed None p = way_whole key current new (length way) more (counted_all key current (length way) w.0 p)
+      climbed (Some parent) p = subst (λ n. IsCounted t key parent n × IsWayTo t key new n) (sym longer) (counted_more key current parent (length way) w.0 p, more)
+
+  pub fewer_up : (key : Key) (way new : List Key) (at next : Option Key) → IsWayBefore t root key way at
+      → new ≡ way ++ option_to_list at → next ≡ option_and_then (parent_of t) at
+      → (still_up t new next ≤ still_up t way at) × (IsTrue (is_some at) → still_up t new next < still_up t way at)
+  fewer_up key way new None next w is above = rw above (omega arith, λ some. absurd (search rules))
+  fewer_up key way new (Some current) next w is above = (omega (arith, fewer next), λ _. fewer next)
+    where
+      low : length way < length t
+      low = counted_few key current (length way) w.0
+
+      longer : length new ≡ length way + 1
+      longer = ap length is ∙ length-append way (current ∷ [])
+
+      fewer : (up : Option Key) → still_up t new up < still_up t way (Some current)
+      fewer None = omega (arith, low)
+      fewer (Some parent) = omega (arith, low, longer)

@@ -2,6 +2,7 @@
 
 ghost use Rattle.std.specs.Prelude.{◌≡◌, ◌∷◌, ◌++◌, ◌⊎◌, ◌<◌, ◌-◌, [], length, map, reverse, slice_index_or, Some, None, Ok, IsTrue, IfOk, IfErr, OnOk, if◌then◌else◌};
 ghost use Rattle.std.specs.List.{join_with_byte};
+ghost use Rattle.std.specs.Option.{option_and_then, option_to_list};
 ghost use Rattle.kf_core.specs.declared.key.Key.{Key};
 ghost use Rattle.kf_core.specs.Lawful.{Lawful};
 ghost use Rattle.kf_core.specs.Tree.{is_linked, parent_of};
@@ -27,22 +28,40 @@ fn over_target(table: &Table, root: Key, target: Key) -> Key
     }
 }
 
-/// The keys from this one up to the root.
-fn way_up(alloc: Global, table: &Table, root: Key, key: Key) -> Result<Vec<Key>, AllocError>
-    requires rooted { Lawful table.now root }
-    requires linked { IsTrue (is_linked table.now key) }
-    ensures way { IfOk result (λ way. IsWayUp table.now root key way.items) }
+/// Pushes a key, where there is one, and answers the one above it.
+fn step_up(table: &Table, key: Option<Key>, way: &mut Vec<Key>) -> Result<Option<Key>, AllocError>
+    ensures above { IfOk result (λ next. next ≡ option_and_then (parent_of table.now) key) }
+    ensures pushed { OnOk result (way.new.items ≡ way.old.items ++ option_to_list key) }
 {
-    let mut way = Vec::new(alloc);
-    let mut current = key;
-    'up: for _ in 0..table.len() {
-        way.push(current)?;
-        match table.parent(current) {
-            Some(parent) => current = parent,
-            None => return Ok(way),
-        }
+    let Some(key) = key else {
+        return Ok(None);
+    };
+    way.push(key)?;
+    Ok(table.parent(key))
+}
+
+/// The keys from each of two directories up to the root. Both ways are climbed at once, so that a step of one
+/// does not wait for the other's.
+fn ways_up(
+    alloc: Global,
+    table: &Table,
+    root: Key,
+    left: Key,
+    right: Key,
+) -> Result<(Vec<Key>, Vec<Key>), AllocError>
+    requires rooted { Lawful table.now root }
+    requires left { IsTrue (is_linked table.now left) }
+    requires right { IsTrue (is_linked table.now right) }
+    ensures left { IfOk result (λ ways. IsWayUp table.now root left ways.0.items) }
+    ensures right { IfOk result (λ ways. IsWayUp table.now root right ways.1.items) }
+{
+    let (mut from, mut to) = (Vec::new(alloc), Vec::new(alloc));
+    let (mut base, mut other) = (Some(left), Some(right));
+    'up: while base.is_some() || other.is_some() {
+        base = step_up(table, base, &mut from)?;
+        other = step_up(table, other, &mut to)?;
     }
-    Ok(way)
+    Ok((from, to))
 }
 
 /// The key above the one that has so many others above it on a way up.
@@ -75,8 +94,7 @@ fn push_ups(
         (λ base. walk table.now base (reverse (map (name_at table.now) keys.new.items)) ≡ Ok target) }
 {
     let over = over_target(table, root, target);
-    let from = way_up(*keys.allocator(), table, root, dir)?;
-    let to = way_up(*keys.allocator(), table, root, over)?;
+    let (from, to) = ways_up(*keys.allocator(), table, root, dir, over)?;
     if target != over {
         keys.push(target)?;
     }

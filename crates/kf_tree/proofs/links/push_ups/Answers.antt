@@ -13,16 +13,16 @@ use Rattle.kf_tree.proofs.links.push_ups.Goals.{then-ne+in_ok-push, else-ne}
 
 pub up-init : goal.up-init
 up-init c =
-    let from = c.in_ok-from.ensures.way in
-    let to = c.in_ok-to.ensures.way in
+    let from = c.in_ok-from.ensures.left in
+    let to = c.in_ok-from.ensures.right in
     let from_long : c.len.result ≡ length c.in_ok-from.from.items = omega (arith, c.len.ensures, c.in_ok-from.from.ok.0) in
-    let to_long : c.len-2.result ≡ length c.in_ok-to.to.items = omega (arith, c.len-2.ensures, c.in_ok-to.to.ok.0) in
+    let to_long : c.len-2.result ≡ length c.in_ok-from.to.items = omega (arith, c.len-2.ensures, c.in_ok-from.to.ok.0) in
     record {
       climbed = climbed_none c.args.table.now c.args.root c.args.dir c.args.target c.args.text.now.items c.requires.there;
       beside = beside_first c.args.table.now c.args.root c.requires.rooted c.args.dir c.args.target c.over_target-over.result _ _ c.requires.linked c.requires.there c.over_target-over.ensures.over
           (rw from_long from.ends) (rw to_long to.ends);
       on_from = rw from_long (stands_first c.args.table.now c.args.root c.requires.rooted c.args.dir c.in_ok-from.from.items from);
-      on_to = rw to_long (stands_first c.args.table.now c.args.root c.requires.rooted c.over_target-over.result c.in_ok-to.to.items to);
+      on_to = rw to_long (stands_first c.args.table.now c.args.root c.requires.rooted c.over_target-over.result c.in_ok-from.to.items to);
       lead = elim c.if-ne.branch as (λ b. walk c.args.table.now c.over_target-over.result (reverse (map (name_at c.args.table.now) c.if-ne.keys.items)) ≡ Ok c.args.target) [
         | then-ne+in_ok-push w ↦ (let n : c.args.target ≢ c.over_target-over.result = search rules in
             let pushed : c.if-ne.keys.items ≡ c.args.target ∷ [] = ap (λ (v : Vec Key Global). v.items) w.keys-is ∙ w.in_ok-push.ensures.items ∙ ap (λ xs. xs ++ c.args.target ∷ []) c.requires.none in
@@ -51,7 +51,7 @@ up-preserved-then-base_depth-other_depth c = (let n : c.up.base ≢ c.up.other =
     let stands = c.up.invariant.on_from in
     let some = deep c.args.table.now c.args.root c.requires.rooted c.up.base c.up.other c.up.base_depth c.up.other_depth c.up.invariant.beside.base_deep c.up.invariant.beside.other_deep n c.if-base_depth-other_depth.true in
     let above = rw c.deref.ensures.value at c.key_above-base.ensures.above in
-    let parent : parent_of c.args.table.now c.up.base ≡ Some c.key_above-base.result = next_up c.args.table.now c.args.root c.requires.rooted c.args.dir c.up.base c.key_above-base.result c.in_ok-from.from.items c.up.base_depth c.in_ok-from.ensures.way stands some above in
+    let parent : parent_of c.args.table.now c.up.base ≡ Some c.key_above-base.result = next_up c.args.table.now c.args.root c.requires.rooted c.args.dir c.up.base c.key_above-base.result c.in_ok-from.from.items c.up.base_depth c.in_ok-from.ensures.left stands some above in
     record {
       climbed = climbed_next c.args.table.now c.args.root c.args.dir c.args.target c.up.base c.key_above-base.result _ _ _ c.requires.rooted c.up.invariant.climbed
           (not_over c.args.table.now c.args.root c.requires.rooted c.args.target c.up.base c.up.other c.up.base_depth c.up.other_depth c.up.invariant.beside c.up.invariant.climbed.linked n c.if-base_depth-other_depth.true)
@@ -68,12 +68,12 @@ up-preserved c = (let n : c.up.base ≢ c.up.other = search rules in
     let less = c.if-base_depth-other_depth.false in
     let some : 0 < c.up.other_depth = omega (arith, less) in
     let above = rw c.deref-else-base_depth-other_depth.ensures.value at c.key_above-other.ensures.above in
-    let parent : parent_of c.args.table.now c.up.other ≡ Some c.key_above-other.result = next_up c.args.table.now c.args.root c.requires.rooted c.over_target-over.result c.up.other c.key_above-other.result c.in_ok-to.to.items c.up.other_depth c.in_ok-to.ensures.way stands some above in
+    let parent : parent_of c.args.table.now c.up.other ≡ Some c.key_above-other.result = next_up c.args.table.now c.args.root c.requires.rooted c.over_target-over.result c.up.other c.key_above-other.result c.in_ok-from.to.items c.up.other_depth c.in_ok-from.ensures.right stands some above in
     record {
       climbed = c.up.invariant.climbed;
       beside = other_up c.args.table.now c.args.root c.requires.rooted c.args.target c.up.base c.up.other c.key_above-other.result c.up.base_depth c.up.other_depth c.up.invariant.beside parent n (omega (arith, less));
       on_from = c.up.invariant.on_from;
-      on_to = stands_next c.args.table.now c.args.root c.requires.rooted c.key_above-other.result c.in_ok-to.to.items c.up.other_depth stands.0 some above;
+      on_to = stands_next c.args.table.now c.args.root c.requires.rooted c.key_above-other.result c.in_ok-from.to.items c.up.other_depth stands.0 some above;
       lead = ap (λ keys. walk c.args.table.now c.key_above-other.result (reverse (map (name_at c.args.table.now) keys))) c.in_ok-push-2.ensures.items
           ∙ walk_higher c.args.table.now c.args.root c.requires.rooted c.up.other c.key_above-other.result c.args.target c.up.keys.items parent c.up.invariant.lead;
     })
