@@ -1,6 +1,6 @@
-use Rattle.std.proofs.Common.{arith, rules, ◌<◌, ◌+◌}
+use Rattle.std.proofs.Common.{arith, rules}
 use Rattle.std.specs.Prelude.{is_some, IsTrue}
-use Rattle.kf_tree.proofs.OneClimb.{way_begins, way_goes_on, fewer_up, still_up}
+use Rattle.kf_tree.proofs.OneClimb.{way_begins, way_goes_on, fewer_up}
 use Rattle.kf_tree.proofs.links.ways_up.Goals as goal
 use Rattle.kf_tree.proofs.links.ways_up.Goals.{then-is_some, else-is_some+then-is_some-2}
 
