@@ -4,6 +4,7 @@
 
 mod files;
 mod nodes;
+mod part;
 
 pub use files::{tell_bytes, tell_count, tell_error};
 pub use nodes::{tell_names, tell_stat};

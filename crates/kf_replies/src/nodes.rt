@@ -5,6 +5,7 @@ ghost use Rattle.kf_core.specs.declared.refusal.Refusal.TheVariants.{NoMemory};
 ghost use Rattle.kf_script.specs.ReplyText.{names_text};
 ghost use Rattle.kf_replies.specs.ReplyParts.{state_of, told_text};
 
+use crate::part::Part;
 use kf_core::Refusal;
 use kf_script::{NodeState, Reply};
 use kf_tree::{Names, Stat};
@@ -19,12 +20,16 @@ pub fn tell_names(reply: &mut Reply, names: Names<'_>) -> Result<(), Refusal>
         return Ok(());
     };
     reply.extend(first.bytes())?;
+    let mut part = Part::new();
     let mut later = others;
     'names: while let Some((name, rest)) = later.split_first() {
-        reply.extend_after(b' ', name.bytes())?;
+        if !part.has_room() {
+            part.give(reply)?;
+        }
+        part.push_after(b' ', name.bytes());
         later = rest;
     }
-    Ok(())
+    part.give(reply)
 }
 
 /// The state that is told of a node.

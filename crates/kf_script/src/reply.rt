@@ -198,22 +198,6 @@ impl Reply {
         Ok(())
     }
 
-    /// Appends a byte and then any number of bytes as they are. Refuses `NoMemory` alone; the text is then
-    /// unknown.
-    #[inline(never)]
-    pub fn extend_after(&mut self, first: u8, bytes: &[u8]) -> Result<(), Refusal>
-        ensures text { OnOk result (self.new ≡ self.old ++ first ∷ bytes.now) }
-        ensures refused { IfErr result (λ refusal. refusal ≡ Refusal.NoMemory) }
-    {
-        let room = self.text.capacity() - self.text.len();
-        if room <= bytes.len() + 1 && self.text.reserve(bytes.len() + 2).is_err() {
-            return Err(Refusal::NoMemory);
-        }
-        let _ = self.text.push(first);
-        let _ = self.text.extend_from_slice(bytes);
-        Ok(())
-    }
-
     /// Appends a number in decimal.
     fn push_number(&mut self, number: usize)
         requires { length self.old ≤ 4000 }
