@@ -30,8 +30,8 @@ impl<'a> Model for Listed<'a> {
     ghost invariant = { λ listed. AreTaken listed.entries.now listed.order.now };
 }
 
-/// One of the places in an order. Where there is one place alone, the order is not looked at: a walk waits for
-/// one load less in a directory of one name.
+/// One of the places in an order. Where there is one place alone, the order is not looked at: a walk waits
+/// for one load less in a directory of one name.
 #[inline(always)]
 fn place_at(entries: &[Option<(Name, Key)>], order: &[usize], at: usize) -> usize
     requires taken { AreTaken entries.now order.now }

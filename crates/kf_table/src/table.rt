@@ -142,7 +142,8 @@ impl Table {
         Some(found)
     }
 
-    /// The record with this name in a linked directory, and its key, which is known before the record is read.
+    /// The record with this name in a linked directory, and its key, which is known before the record is
+    /// read.
     #[inline(always)]
     pub fn child_of(&self, dir: Key, name: &[u8]) -> Option<(Key, &Record)>
         requires lawful { (root : Key) × Lawful self.now root }

@@ -29,8 +29,8 @@ fn only_shown(entry: Option<&Record>, live_only: bool) -> Option<&Record>
     }
 }
 
-/// What a name leads to from a directory, whose record is shown: a key and its record. The key is known before
-/// the record is read, so a walk by keys need not wait for records.
+/// What a name leads to from a directory, whose record is shown: a key and its record. The key is known
+/// before the record is read, so a walk by keys need not wait for records.
 #[inline(always)]
 pub(crate) fn step<'t>(
     table: &'t Table,
