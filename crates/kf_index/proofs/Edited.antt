@@ -6,7 +6,7 @@ use Rattle.std.specs.List.{insert, remove}
 use Rattle.std.specs.Ordering.{nat_cmp}
 use Rattle.std.specs.Cmp.Lexicographic.{slice_cmp}
 use Rattle.std.specs.FinMap as map_of
-use Rattle.std.specs.FinMap.{get-from_entries, get-insert, get-remove, same_map, slice_cmp-IsAntisymmetric, nat_cmp-IsAntisymmetric}
+use Rattle.std.specs.FinMap.{get-from_entries, get-insert, get-remove, len-empty, len-insert, same_map, slice_cmp-IsAntisymmetric, nat_cmp-IsAntisymmetric}
 use Rattle.std.proofs.lemmas.Cmp.{nat_list_cmp_total}
 use Rattle.std.proofs.lemmas.List.Edits.{length-insert, get_or-insert_below, get_or-insert_at, get_or-insert_above}
 use Rattle.std.proofs.lemmas.List.Quantifiers.{all_pairs_remove}
@@ -41,6 +41,14 @@ none_later e pairs name rising is i d below = rw (← is) (differs_below e.0 (ge
 
 rising_tail : (e : List ℕ × Key) (pairs : Pairs) → IsRising (e ∷ pairs) → IsRising pairs
 rising_tail e pairs rising i j d low high = rising (suc i) (suc j) d (omega arith) (omega (arith, high))
+
+-- the map has as many names as the pairs, since none of them comes twice
+pub len_of_rising : (pairs : Pairs) → IsRising pairs → map_of.len (entries_of pairs) ≡ length pairs
+len_of_rising [] rising = len-empty _ _
+len_of_rising (e ∷ pairs) rising =
+    let none = get-from_entries nat_list_cmp_total pairs e.0 ∙ find_none pairs e.0 (none_later e pairs e.0 rising refl) in
+    let as_many = len_of_rising pairs (rising_tail e pairs rising) in
+    rw (len-insert nat_list_cmp_total (entries_of pairs) e.0 e.1, none, as_many) (omega arith)
 
 place_in_tail : (e : List ℕ × Key) (pairs : Pairs) (name : List ℕ) (at : ℕ) → IsPlaceOf (e ∷ pairs) name (suc at) → IsPlaceOf pairs name at
 place_in_tail e pairs name at place = record { within = omega (arith, place.within); named = place.named }

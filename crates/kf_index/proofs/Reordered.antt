@@ -61,6 +61,7 @@ module _ (entries : Places) (place : ℕ) (entry : Option (List ℕ × Key)) whe
   in_new_order order moved len less kept same few taken = record {
     within = All-permutation (λ other. other < length (set entries place entry)) order moved same (λ k d low. rw (length-set {A = Option (List ℕ × Key)}) (kept.within k d low));
     apart = apart_permutation order moved same kept.apart;
+    as_many = rw (length-set {A = Option (List ℕ × Key)}, length_permutation order moved same) kept.as_many;
     few = rw (length_permutation order moved same) few;
     taken = taken;
   }

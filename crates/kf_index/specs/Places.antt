@@ -1,5 +1,5 @@
 -- Entries at places of their own, and their places in an order.
-use Rattle.std.specs.Prelude.{◌≢◌, ℕ, ◌<◌, ◌≤◌, List, [], length, map, take, slice_index_or, unwrap_or, Option, None, IsSome, All, AllPairs}
+use Rattle.std.specs.Prelude.{◌≡◌, ◌≢◌, ℕ, ◌<◌, ◌≤◌, List, [], length, map, take, slice_index_or, unwrap_or, Option, None, IsSome, All, AllPairs}
 use Rattle.kf_core.specs.declared.key.Key.{Key}
 use Rattle.kf_index.specs.Pairs.{Pairs}
 
@@ -27,9 +27,11 @@ IsTaken entries place = IsSome (slice_index_or entries place None)
 abbrev pub AreTaken : Places → List ℕ → Type 0
 AreTaken entries order = All (IsTaken entries) order
 
--- the order has places of the entries alone, none of them twice, and entries stand at the first `len` of it
+-- the order has each place of the entries, none of them twice, and entries stand at the first `len` of it
 pub record AreInOrder (entries : Places) (order : List ℕ) (len : ℕ) : Type 0 where
   pub within : All (λ place. place < length entries) order
   pub apart : AllPairs (λ a b. a ≢ b) order
+  -- so each place stands in the order once
+  pub as_many : length entries ≡ length order
   pub few : len ≤ length order
   pub taken : AreTaken entries (take len order)

@@ -1,6 +1,6 @@
 //! The sibling index of a directory: its entries in byte order of their names, found by binary search.
 
-ghost use Rattle.std.specs.Prelude.{◌≡◌, None, IfErr, OnOk, OnErr, IfSome, IfNone, if◌then◌else◌};
+ghost use Rattle.std.specs.Prelude.{◌≡◌, ◌<◌, ◌^◌, None, IfErr, OnOk, OnErr, IfSome, IfNone, if◌then◌else◌};
 ghost use Rattle.std.specs.Option.{option_copied};
 ghost use Rattle.std.specs.FinMap as map;
 ghost use Rattle.kf_index.specs.Entries.{IsLeastAbove, NoneAbove, AreAbove};
@@ -72,10 +72,21 @@ impl Index {
         }
     }
 
+    /// How many entries there are.
+    #[cfg(test)]
+    #[tactic(auto, using(crate::proofs::Edited::len_of_rising))]
+    pub(crate) fn len(&self) -> usize
+        ensures known { result ≡ map.len self.now }
+    {
+        self.entries.all().len()
+    }
+
     /// Adds an entry (`kernfs_link_sibling`). Refuses `Exists` where the name is there, then
     /// `NoMemory` where the growth by one entry wants memory. After a refusal all is as before, and
     /// the name is dropped. So a caller that makes it the last growth of a command has nothing to undo.
+    /// It asks for fewer entries than four bytes can number, for that is what a place takes.
     pub fn insert(&mut self, name: Name, key: Key) -> Result<(), Refusal>
+        requires few { map.len self.old < 2 ^ 32 }
         ensures added { OnOk result (self.new ≡ map.insert self.old name key) }
         ensures absent { OnOk result (map.get self.old name ≡ None) }
         ensures refused { IfErr result (λ refusal.

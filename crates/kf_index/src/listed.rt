@@ -13,7 +13,7 @@ use std::marker::Model;
 #[derive(Drop)]
 pub struct Listed<'a> {
     /// The place of each, in their order.
-    order: &'a [usize],
+    order: &'a [u32],
     /// An entry at each place, or None where the place is free.
     entries: &'a [Option<(Name, Key)>],
 }
@@ -33,7 +33,7 @@ impl<'a> Model for Listed<'a> {
 /// One of the places in an order. Where there is one place alone, the order is not looked at: a walk waits
 /// for one load less in a directory of one name.
 #[inline(always)]
-fn place_at(entries: &[Option<(Name, Key)>], order: &[usize], at: usize) -> usize
+fn place_at(entries: &[Option<(Name, Key)>], order: &[u32], at: usize) -> usize
     requires taken { AreTaken entries.now order.now }
     requires within { at < length order.now }
     ensures read { result ≡ slice_index_or order.now at result }
@@ -41,13 +41,13 @@ fn place_at(entries: &[Option<(Name, Key)>], order: &[usize], at: usize) -> usiz
     if entries.len() == 1 {
         return 0;
     }
-    order[at]
+    order[at] as usize
 }
 
 impl<'a> Listed<'a> {
     /// What stands at these places, in this order.
     #[inline(always)]
-    pub(crate) fn new(entries: &'a [Option<(Name, Key)>], order: &'a [usize]) -> Listed<'a>
+    pub(crate) fn new(entries: &'a [Option<(Name, Key)>], order: &'a [u32]) -> Listed<'a>
         requires taken { AreTaken entries.now order.now }
         ensures made { result ≡ pairs_at entries.now order.now }
     {

@@ -1,6 +1,6 @@
 //! Entries one after another, each at a place that it keeps: where one comes or goes, only places move.
 
-ghost use Rattle.std.specs.Prelude.{◌≡◌, ◌<◌, ◌≤◌, ◌+◌, ◌-◌, ◌++◌, ◌∷◌, ℕ, List, [], length, take, insert, remove, slice_index_or, vec_capacity, OnOk, OnErr};
+ghost use Rattle.std.specs.Prelude.{◌≡◌, ◌<◌, ◌≤◌, ◌+◌, ◌-◌, ◌^◌, ◌++◌, ◌∷◌, ℕ, List, [], length, take, insert, remove, slice_index_or, vec_capacity, OnOk, OnErr};
 ghost use Rattle.kf_core.specs.declared.key.Key.{Key};
 ghost use Rattle.kf_index.specs.Places.{AreInOrder, pairs_at};
 
@@ -16,8 +16,9 @@ use std::marker::Model;
 pub(crate) struct Sequence {
     /// How many entries there are.
     len: usize,
-    /// Places: first those of the entries, in their order, then free ones.
-    order: Vec<usize>,
+    /// Places: first those of the entries, in their order, then free ones. A place takes four bytes, so that
+    /// less moves.
+    order: Vec<u32>,
     /// Each entry at a place of its own, which it keeps; None where a place is free.
     entries: Vec<Option<(Name, Key)>>,
 }
@@ -37,10 +38,11 @@ impl Model for Sequence {
 /// Sees to it that a place is free. After a refusal no entry has moved.
 fn make_room(
     entries: &mut Vec<Option<(Name, Key)>>,
-    order: &mut Vec<usize>,
+    order: &mut Vec<u32>,
     len: usize,
 ) -> Result<(), AllocError>
     requires kept { AreInOrder entries.old.items order.old.items len }
+    requires few { len < 2 ^ 32 }
     ensures kept { AreInOrder entries.new.items order.new.items len }
     ensures same { pairs_at entries.new.items (take len order.new.items)
         ≡ pairs_at entries.old.items (take len order.old.items) }
@@ -49,16 +51,16 @@ fn make_room(
     if len < order.len() {
         return Ok(());
     }
-    // First the room in both, so that nothing is left half done where the second is refused.
+    // First the room in the order, so that after a refusal both are still as many.
     order.reserve(1)?;
-    let place = entries.len();
+    let place = entries.len() as u32;
     entries.push(None)?;
-    order.push(place)?;
+    let _ = order.push(place);
     Ok(())
 }
 
 /// Moves the last place to another one in the order, and those from there on up.
-fn last_to(order: &mut [usize], at: usize)
+fn last_to(order: &mut [u32], at: usize)
     requires within { at < length order.old }
     ensures moved { (front : List ℕ) (last : ℕ) → order.old ≡ front ++ last ∷ []
         → order.new ≡ insert front at last }
@@ -69,7 +71,7 @@ fn last_to(order: &mut [usize], at: usize)
 /// Puts an entry to a free place, and that place into the order.
 fn put_at(
     entries: &mut [Option<(Name, Key)>],
-    order: &mut [usize],
+    order: &mut [u32],
     len: usize,
     at: usize,
     entry: (Name, Key),
@@ -81,13 +83,13 @@ fn put_at(
     ensures put { pairs_at entries.new (take (len + 1) order.new)
         ≡ insert (pairs_at entries.old (take len order.old)) at entry }
 {
-    let place = order[len];
+    let place = order[len] as usize;
     entries[place] = Some(entry);
     last_to(&mut order[..len + 1], at);
 }
 
 /// Moves one of the places behind all others, and those after it down.
-fn to_last(order: &mut [usize], at: usize)
+fn to_last(order: &mut [u32], at: usize)
     requires within { at < length order.old }
     ensures moved { (other : ℕ) →
         order.new ≡ remove order.old at ++ slice_index_or order.old at other ∷ [] }
@@ -98,7 +100,7 @@ fn to_last(order: &mut [usize], at: usize)
 /// Takes an entry out, and its place to the free ones.
 fn take_at(
     entries: &mut [Option<(Name, Key)>],
-    order: &mut [usize],
+    order: &mut [u32],
     len: usize,
     at: usize,
 ) -> (Name, Key)
@@ -109,7 +111,7 @@ fn take_at(
     ensures taken { pairs_at entries.new (take (len - 1) order.new)
         ≡ remove (pairs_at entries.old (take len order.old)) at }
 {
-    let place = order[at];
+    let place = order[at] as usize;
     to_last(&mut order[..len], at);
     match entries[place].take() {
         Some(entry) => entry,
@@ -118,7 +120,7 @@ fn take_at(
 }
 
 /// Gives all memory back, where no entry is left.
-fn free_when_empty(entries: &mut Vec<Option<(Name, Key)>>, order: &mut Vec<usize>, len: usize)
+fn free_when_empty(entries: &mut Vec<Option<(Name, Key)>>, order: &mut Vec<u32>, len: usize)
     requires kept { AreInOrder entries.old.items order.old.items len }
     ensures kept { AreInOrder entries.new.items order.new.items len }
     ensures same { pairs_at entries.new.items (take len order.new.items)
@@ -156,6 +158,7 @@ impl Sequence {
     /// Adds an entry, and moves those from there on up. It takes memory where no place is free.
     pub(crate) fn insert(&mut self, at: usize, entry: (Name, Key)) -> Result<(), AllocError>
         requires within { at ≤ length self.old }
+        requires few { length self.old < 2 ^ 32 }
         ensures put { OnOk result (self.new ≡ insert self.old at entry) }
         ensures unchanged { OnErr result (self.new ≡ self.old) }
     {

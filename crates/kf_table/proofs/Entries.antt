@@ -4,7 +4,7 @@ use Rattle.std.specs.Prelude.{None, Some, slice_get}
 use Rattle.std.specs.Option.{option_and_then, option_map_or}
 use Rattle.std.specs.Ordering.{nat_cmp, eq_by_cmp}
 use Rattle.std.specs.Cmp.Lexicographic.{slice_cmp}
-use Rattle.std.specs.FinMap.{get, get-insert, get-remove}
+use Rattle.std.specs.FinMap.{get, len, get-insert, get-remove}
 use Rattle.std.proofs.lemmas.Cmp.{nat_list_cmp_total}
 use Rattle.std.proofs.lemmas.Map.Text.{is_eq-slice_cmp}
 use Rattle.std.proofs.lemmas.Slice.Eq.{bytes_eq-Decides}
@@ -12,7 +12,7 @@ use Rattle.std.proofs.lemmas.Option.{slice_get-get_or}
 use Rattle.std.proofs.lemmas.Bool.Decides.{eqb_tells}
 use Rattle.kf_core.specs.declared.key.Key.{Key}
 use Rattle.kf_table.specs.declared.directories.Directory.{Directory}
-use Rattle.kf_table.specs.Directories.{empty_directory, with_child, without_child, with_entry, entry_at, subdirs_at}
+use Rattle.kf_table.specs.Directories.{empty_directory, with_child, without_child, with_entry, entry_at, subdirs_at, names_at}
 use Rattle.kf_core.proofs.Lists.{slice_get-set_same, slice_get-set_other}
 
 abbrev pub is_same : List ℕ → List ℕ → Bool
@@ -113,3 +113,6 @@ entry_read ds slot d q within is = ap (λ o. option_and_then (λ (d : Directory)
 
 pub subdirs_read : (ds : List Directory) (slot : ℕ) (d : Directory) → slot < length ds → d ≡ get_or ds slot d → subdirs_at ds slot ≡ d.subdirs
 subdirs_read ds slot d within is = ap (λ o. option_map_or (λ (d : Directory). d.subdirs) o 0) (slice_get-get_or ds slot d within ∙ ap Some (sym is))
+
+pub names_read : (ds : List Directory) (slot : ℕ) (d : Directory) → slot < length ds → d ≡ get_or ds slot d → names_at ds slot ≡ len d.index
+names_read ds slot d within is = ap (λ o. option_map_or (λ (d : Directory). len d.index) o 0) (slice_get-get_or ds slot d within ∙ ap Some (sym is))

@@ -17,6 +17,7 @@ use Rattle.kf_table.specs.Directories.{empty_directory, with_child, with_entry, 
 use Rattle.kf_core.proofs.FoundRecords.{in_found}
 use Rattle.kf_table.proofs.Entries.{entered_counted, left_elsewhere, subdirs_elsewhere}
 use Rattle.kf_table.proofs.Kept.{kept_with, kept_without, none_there, own_entry, dir_within, dir_counts}
+use Rattle.kf_table.proofs.FewNames.{few_names}
 use Rattle.kf_table.proofs.Rooms.{few_subdirs, move_is, move_low, move_named, move_absent}
 use Rattle.kf_table.proofs.KeptRecords.{linked_place}
 use Rattle.kf_table.proofs.Swapped.{kept_along, swap_length, swap_entries, swap_counts}
@@ -40,6 +41,7 @@ module _ (t : Tree) (ds : List Directory) (kept : AreKept t ds) (key dir : Key) 
           lawful_name = move_named t ds kept m.lawful.0 m.lawful.1 key dir name r known m.lawful_after.0 m.lawful_after.1 m.elsewhere;
           absent = move_absent t ds kept m.lawful.0 m.lawful.1 key dir name r known m.lawful_after.0 m.lawful_after.1 m.elsewhere;
           few = few_subdirs t ds dir.slot kept low;
+          few_names = few_names t ds dir.slot kept;
         }
 
     abbrev with_new : List Directory

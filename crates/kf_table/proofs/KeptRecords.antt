@@ -11,6 +11,7 @@ use Rattle.kf_table.specs.declared.directories.Directory.{Directory}
 use Rattle.kf_table.specs.Directories.{with_entry, with_record, without_record, MayEnter, MayLeave, AreKept}
 use Rattle.kf_core.proofs.FoundRecords.{linked_here}
 use Rattle.kf_table.proofs.Kept.{counted, count_written, in_none, stays, new_or_old, kept_with, kept_without, may_leave}
+use Rattle.kf_table.proofs.FewNames.{few_names}
 use Rattle.kf_table.proofs.Rooms.{few_subdirs, add_low, add_named, add_absent}
 
 pub may_enter : (t : Tree) (ds : List Directory) → AreKept t ds → (r : Record) → slice_get t r.key.slot ≡ Some None
@@ -22,6 +23,7 @@ may_enter t ds kept r vacant after p parent =
       lawful_name = add_named t ds kept r vacant after.0 after.1 p parent;
       absent = add_absent t ds kept r vacant after.0 after.1 p parent;
       few = few_subdirs t ds p.slot kept low;
+      few_names = few_names t ds p.slot kept;
     }
 
 -- an orphan has no entry

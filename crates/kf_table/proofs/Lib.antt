@@ -3,6 +3,7 @@ pub mod Altered
 pub mod Entries
 pub mod Kept
 pub mod KeptMarks
+pub mod FewNames
 pub mod Rooms
 pub mod KeptRecords
 pub mod Swapped

@@ -34,6 +34,10 @@ entry_at directories slot name = option_and_then (λ d. map_of.get d.index name)
 abbrev pub subdirs_at : List Directory → ℕ → ℕ
 subdirs_at directories slot = option_map_or (λ d. d.subdirs) (slice_get directories slot) 0
 
+-- the number of names in the index that is kept for a slot
+abbrev pub names_at : List Directory → ℕ → ℕ
+names_at directories slot = option_map_or (λ d. map_of.len d.index) (slice_get directories slot) 0
+
 -- what is kept, with one more child of the directory in this slot
 abbrev pub with_entry : ℕ → List ℕ → Key → Bool → List Directory → List Directory
 with_entry slot name key is_subdir directories =
@@ -63,6 +67,7 @@ pub record HasRoom (directories : List Directory) (slot : ℕ) (name : List ℕ)
   pub lawful_name : IsLawfulName name
   pub absent : entry_at directories slot name ≡ None
   pub few : subdirs_at directories slot + 1 < 2 ^ 64
+  pub few_names : names_at directories slot < 2 ^ 32
 
 abbrev pub MayEnter : List Directory → Record → Type 0
 MayEnter directories r = (parent : Key) → r.parent ≡ Some parent → HasRoom directories parent.slot r.name

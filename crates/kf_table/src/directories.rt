@@ -54,6 +54,7 @@ impl Directory {
     /// Enters a child. After a refusal all is as before.
     pub(crate) fn enter(&mut self, name: Name, key: Key, is_subdir: bool) -> Result<(), Refusal>
         requires few { self.old.subdirs + 1 < 2 ^ 64 }
+        requires few_names { map_of.len self.old.index < 2 ^ 32 }
         ensures entered { OnOk result (self.new ≡ with_child name key is_subdir self.old) }
         ensures unchanged { OnErr result (self.new ≡ self.old) }
         ensures refused { IfErr result (λ refusal. refusal

@@ -1,12 +1,13 @@
 use Rattle.std.proofs.Common.{◌≡◌, ◌∙◌, sym, arith, None}
 use Rattle.std.specs.FinMap.{get}
-use Rattle.kf_table.proofs.Entries.{entry_read, subdirs_read}
+use Rattle.kf_table.proofs.Entries.{entry_read, subdirs_read, names_read}
 use Rattle.kf_table.proofs.directories.enter.Goals as goal
 
 pub enter-requires : goal.enter-requires
 enter-requires c =
     let is = subdirs_read _ _ _ c.requires.room.within c.index_mut.ensures.value in
-    record { few = omega (arith, is, c.requires.room.few) }
+    let names = names_read _ _ _ c.requires.room.within c.index_mut.ensures.value in
+    record { few = omega (arith, is, c.requires.room.few); few_names = rw (← names) c.requires.room.few_names }
 
 pub returns-clause-refused : goal.returns-clause-refused
 returns-clause-refused c =

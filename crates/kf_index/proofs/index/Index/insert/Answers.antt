@@ -1,6 +1,6 @@
 use Rattle.std.proofs.Common.{[]}
 use Rattle.kf_index.proofs.Found.{get_at_place, get_in_gap}
-use Rattle.kf_index.proofs.Edited.{entries-insert, rising_insert}
+use Rattle.kf_index.proofs.Edited.{len_of_rising, entries-insert, rising_insert}
 use Rattle.kf_index.proofs.index.Index.insert.Goals as goal
 
 pub returns-in_default-clause-refused : goal.returns-in_default-clause-refused
@@ -8,6 +8,9 @@ returns-in_default-clause-refused c =
     let place = rw (c.all.ensures.listed, c.bytes.ensures.same) at c.in_default.ensures.found in
     let got = rw c.self.view_is at (get_at_place _ c.self.invariant _ _ place ([], c.args.key)) in
     rw got
+
+pub insert-requires-clause-few : goal.insert-requires-clause-few
+insert-requires-clause-few c = rw (← len_of_rising _ c.self.invariant, c.self.view_is) c.requires.few
 
 pub returns-in_default-insert-clause-refused : goal.returns-in_default-insert-clause-refused
 returns-in_default-insert-clause-refused c =
