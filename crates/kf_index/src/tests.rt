@@ -16,7 +16,7 @@ fn key(slot: u32) -> Key {
 /// Adds a name in this slot. A test has few names.
 fn insert(alloc: Global, index: &mut Index, bytes: &[u8], slot: u32) -> Result<(), Refusal> {
     if index.len() > 100 {
-        return Err(Refusal::NoMemory);
+        return Err(Refusal::NoSpace);
     }
     index.insert(Name::new(alloc, bytes)?, key(slot))
 }
