@@ -1,12 +1,12 @@
 //! The texts of a board's files, by slot, and the callbacks that show and store them.
 
-ghost use Rattle.std.specs.Prelude.{◌≡◌, ◌<◌, ◌≤◌, ◌+◌, ◌++◌, List, ℕ, [], length, replicate, slice_set, take, IfOk, IfErr};
+ghost use Rattle.std.specs.Prelude.{◌≡◌, ◌<◌, ◌≤◌, ◌+◌, ◌++◌, List, ℕ, [], length, replicate, slice_set, take, IfOk, IfErr, OnOk, OnErr};
 ghost use Rattle.kf_core.specs.declared.refusal.Refusal.TheVariants.{NoMemory};
 ghost use Rattle.kf_plain.specs.TextTable.{ShowsOf, StoresIn};
 
 use kf_core::{ActiveCall, Refusal};
 use kf_files::{Fault, Ops, Page};
-use std::alloc::Global;
+use std::alloc::{AllocError, Global};
 use std::marker::Model;
 
 /// By slot, the text of its last file. A file's tag is the number of its slot.
@@ -44,6 +44,21 @@ fn fill(page: &mut Page, text: &[u8])
     }
 }
 
+/// Puts bytes in place of a text: into its own memory where they fit, else into new. After a refusal the
+/// text is as it was.
+fn replace(alloc: Global, text: &mut Vec<u8>, bytes: &[u8]) -> Result<(), AllocError>
+    ensures replaced { OnOk result (text.new.items ≡ bytes.now) }
+    ensures unchanged { OnErr result (text.new.items ≡ text.old.items) }
+{
+    if bytes.len() <= text.capacity() {
+        text.clear();
+        let _ = text.extend_from_slice(bytes);
+        return Ok(());
+    }
+    *text = bytes.to_vec(alloc)?;
+    Ok(())
+}
+
 impl TextTable {
     /// An empty text for each of so many slots.
     pub fn new(alloc: Global, slots: u32) -> Result<TextTable, Refusal>
@@ -73,6 +88,15 @@ impl TextTable {
     {
         self.texts[slot as usize] = text;
     }
+
+    /// Puts a copy of the bytes in place of the slot's text. After a refusal that is as it was.
+    fn replace(&mut self, slot: usize, bytes: &[u8]) -> Result<(), AllocError>
+        requires slot { slot < length self.old }
+        ensures replaced { OnOk result (self.new ≡ slice_set self.old slot bytes.now) }
+        ensures unchanged { OnErr result (self.new ≡ self.old) }
+    {
+        replace(self.alloc, &mut self.texts[slot], bytes)
+    }
 }
 
 impl<C: ActiveCall> Ops<C> for TextTable {
@@ -93,13 +117,12 @@ impl<C: ActiveCall> Ops<C> for TextTable {
 
     fn store(&mut self, call: &mut C, tag: u64, bytes: &[u8]) -> Result<usize, Fault> {
         let _ = call;
-        let Ok(text) = bytes.to_vec(self.alloc) else {
-            return Err(Fault { number: 12 });
-        };
         if tag >= self.texts.len() as u64 {
             return Ok(bytes.len());
         }
-        self.texts[tag as usize] = text;
-        Ok(bytes.len())
+        match self.replace(tag as usize, bytes) {
+            Ok(()) => Ok(bytes.len()),
+            Err(_) => Err(Fault { number: 12 }),
+        }
     }
 }
