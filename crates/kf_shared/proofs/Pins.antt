@@ -158,12 +158,12 @@ full_in old new key refusal not_memory other h = go (is_linked old.state.tree ke
     go false e = absurd (not_memory e)
 
 -- want of memory, where every node was looked at; and any other refusal of the doom
-pub self_refused : (old mid between new : Locked) (key held : Key) (why refusal : Refusal) → mid.state ≡ old.state → between.state.tree ≡ old.state.tree → held ≡ key → same_key key old.state.root ≡ false
+pub self_refused : (old mid between new : Locked) (key held : Key) (why refusal : Refusal) → IsLastKey old.master.view key → mid.state ≡ old.state → between.state.tree ≡ old.state.tree → held ≡ key → same_key key old.state.root ≡ false
     → DoomRefused mid between held why
     → (why ≡ NoMemory → HoldsInRefused between.state.tree key new.master.view refusal)
     → (why ≢ NoMemory → (refusal ≡ why) × (new.master ≡ between.master))
     → SelfRemovalRefused old new key refusal
-self_refused old mid between new key held why refusal same same' is other h memory stays = if_false _ _ other (inr (go (refusal_tells why)))
+self_refused old mid between new key held why refusal last same same' is other h memory stays = if_false _ _ other (inr (last, go (refusal_tells why)))
   where
     not_root : same_key held mid.state.root ≡ false
     not_root = ap (λ (s : TreeLog). same_key held s.root) same ∙ ap (λ k. same_key k old.state.root) is ∙ other
@@ -186,8 +186,8 @@ pub held_refused : (old new : Locked) (held : MasterState) (key : Key) (why refu
 held_refused old new held key NoEntry refusal other h full memory stays = if_false _ _ other (inl ((stays (λ e. cc)).0, h.0))
 held_refused old new held key TooManyHolds refusal other h full memory stays =
     let s = stays (λ e. cc) in
-    if_false _ _ other (inr (subst (λ r. HoldsInRefused old.state.tree key new.master.view r) (sym s.0) (top_full old.state.tree key new.master.view (subst (λ (x : MasterState). FoundFull x.view key.slot) (sym s.1) (full refl)))))
-held_refused old new held key NoMemory refusal other h full memory stays = if_false _ _ other (inr (memory refl))
+    if_false _ _ other (inr (h.0, subst (λ r. HoldsInRefused old.state.tree key new.master.view r) (sym s.0) (top_full old.state.tree key new.master.view (subst (λ (x : MasterState). FoundFull x.view key.slot) (sym s.1) (full refl)))))
+held_refused old new held key NoMemory refusal other h full memory stays = if_false _ _ other (inr (h.0, memory refl))
 held_refused old new held key Access refusal other h full memory stays = absurd h
 held_refused old new held key Busy refusal other h full memory stays = absurd h
 held_refused old new held key Exists refusal other h full memory stays = absurd h
@@ -213,6 +213,6 @@ invalid_root table key refusal w e = go (is_linked w.old.state.tree key) (same_k
 pub invalid_self_root : (table : TableId) (key : Key) (refusal : Refusal) → SelfRemovalWasRefused table key refusal → refusal ≡ Invalid → key.slot ≡ 0
 invalid_self_root table key refusal w e = go (same_key key w.old.state.root) refl (subst (λ r. SelfRemovalRefused w.old w.new key r) e w.why)
   where
-    go : (b : Bool) → same_key key w.old.state.root ≡ b → MatchBool b (Invalid ≡ Invalid) (((Invalid ≡ NoEntry) × (¬ IsLastKey w.old.master.view key)) ⊎ HoldsInRefused w.old.state.tree key w.new.master.view Invalid) → key.slot ≡ 0
+    go : (b : Bool) → same_key key w.old.state.root ≡ b → MatchBool b (Invalid ≡ Invalid) (((Invalid ≡ NoEntry) × (¬ IsLastKey w.old.master.view key)) ⊎ (IsLastKey w.old.master.view key × HoldsInRefused w.old.state.tree key w.new.master.view Invalid)) → key.slot ≡ 0
     go true is p = ap (λ (k : Key). k.slot) (same_key_is key w.old.state.root is) ∙ w.whole.tied.root
-    go false is p = elim p [ inl n ↦ absurd (cc (n.0)) | inr q ↦ not_invalid _ _ q ]
+    go false is p = elim p [ inl n ↦ absurd (cc (n.0)) | inr q ↦ not_invalid _ _ q.1 ]

@@ -10,7 +10,8 @@ use Rattle.kf_core.specs.Refusals.{first_cause}
 use Rattle.kf_core.specs.Tree.{Tree}
 use Rattle.kf_tree.specs.Causes.{Refuses, hide_cause, hidden_in}
 use Rattle.kf_tree.specs.TreeLogs.{IsAccepted}
-use Rattle.kf_words.specs.Callers.{TableId, Handle, IsSameSeat, FoundHidden}
+use Rattle.kf_words.specs.Callers.{TableId, Handle, IsSameSeat, FoundHidden, seat_view}
+use Rattle.kf_words.specs.Runs.{WasAHide}
 use Rattle.kf_shared.specs.Locked.{Locked, IsWhole, Unchanged}
 
 -- files alone are hidden
@@ -28,7 +29,8 @@ hold_cause t hold = first_cause (kind_cause hold.node ∷ hide_cause t hold.key 
 abbrev pub HideRefused : Tree → Handle → Handle → Refusal → Type 0
 HideRefused t hold back refusal =
     (Refuses (hold_cause t hold) refusal × (back ≡ hold))
-    ⊎ ((hold_cause t hold ≡ None) × (refusal ≡ Busy) × IsSameSeat hold back × FoundHidden hold back)
+    ⊎ ((hold_cause t hold ≡ None) × (refusal ≡ Busy) × IsSameSeat hold back × FoundHidden hold back
+    × WasAHide (seat_view hold) (seat_view back))
 
 -- the key is shown, and that is stored; where it is not linked and hidden the tree is as before
 abbrev pub ShowDone : Locked → Locked → Key → Type 0

@@ -95,4 +95,4 @@ abbrev pub SelfRemovalRefused : Locked → Locked → Key → Refusal → Type 0
 SelfRemovalRefused old new key refusal = MatchBool (same_key key old.state.root)
     (refusal ≡ Invalid)
     (((refusal ≡ NoEntry) × (¬ IsLastKey old.master.view key))
-    ⊎ HoldsInRefused old.state.tree key new.master.view refusal)
+    ⊎ (IsLastKey old.master.view key × HoldsInRefused old.state.tree key new.master.view refusal))

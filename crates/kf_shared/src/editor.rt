@@ -8,8 +8,9 @@ ghost use Rattle.kf_core.specs.Tree.{is_linked};
 ghost use Rattle.kf_tree.specs.Causes.{linked_cause};
 ghost use Rattle.kf_table.specs.Children.{is_there_already};
 ghost use Rattle.kf_tree.specs.TreeLogs.{IsAccepted, IsRefused, IsCompacted};
-ghost use Rattle.kf_words.specs.Callers.{Handle, IsSameSeat, WasHidden, WasShown};
+ghost use Rattle.kf_words.specs.Callers.{Handle, IsSameSeat, WasHidden, WasShown, seat_view};
 ghost use Rattle.kf_words.specs.Nodes.{KeepsNodes, IsVacant, UnlinkAnswer};
+ghost use Rattle.kf_words.specs.Runs.{WasAHide, WasAShow};
 ghost use Rattle.kf_shared.specs.Locked.{IsWhole, Created, CreateRefused, BornLowest, move_cause, IsNewHold, HoldRefused, Unchanged, UnlinkDone, UnlinkRefused, is_claimed};
 ghost use Rattle.kf_shared.specs.Hiding.{hold_cause, HideRefused, ShowDone};
 ghost use Rattle.kf_shared.specs.Removal.{IsStill, AreHolds, DoomHolds, DoomDone, DoomMarked, DoomRefused, SelfRemovalRefused};
@@ -180,6 +181,7 @@ impl<N: Naming> Editor<'_, N> {
     pub fn hide(&mut self, hold: Hold) -> Result<Hiding, (Hold, Refusal)>
         requires table { hold.table ≡ N.table }
         ensures hiding { IfOk result (λ hiding. IsSameSeat hold hiding × WasHidden hold hiding) }
+        ensures made { IfOk result (λ hiding. WasAHide (seat_view hold) (seat_view hiding)) }
         ensures accepted { IfOk result
             (λ _. IsAccepted self.old.state self.new.state (hold_cause self.old.state.tree hold)
             (Hide hold.key)) }
@@ -199,6 +201,7 @@ impl<N: Naming> Editor<'_, N> {
     pub fn show(&mut self, hidden: Hidden) -> Hold
         requires table { hidden.table ≡ N.table }
         ensures hold { IsSameSeat hidden result × WasShown hidden result }
+        ensures made { WasAShow (seat_view hidden) (seat_view result) }
         ensures done { ShowDone self.old self.new hidden.key }
         ensures words { self.new.master ≡ self.old.master }
         ensures claims { self.new.claims ≡ self.old.claims }

@@ -1,8 +1,9 @@
 //! Files that are hidden and shown again, by threads that do not have the lock.
 ghost use Rattle.std.specs.Prelude.{◌≡◌, true, IfErr, IfOk};
 ghost use Rattle.kf_core.specs.declared.caller.Phase.TheVariants as phase_of;
-ghost use Rattle.kf_words.specs.Callers.{IsSameSeat, WasShown};
+ghost use Rattle.kf_words.specs.Callers.{IsSameSeat, WasShown, seat_view};
 ghost use Rattle.kf_words.specs.Layout.{is_unused};
+ghost use Rattle.kf_words.specs.Runs.{LastWasALookHidden, WasAShow};
 ghost use Rattle.kf_shared.specs.Hiding.{HidingAccepted, HidingRefused};
 
 use crate::naming::Naming;
@@ -28,6 +29,7 @@ impl<N: Naming> SharedTree<N> {
         ensures same { IfOk result (λ hidden. IsSameSeat hold hidden) }
         ensures hidden { IfOk result (λ hidden. hidden.phase ≡ phase_of.Hidden) }
         ensures unused { IfOk result (λ hidden. is_unused hidden.found ≡ true) }
+        ensures looked { IfOk result (λ hidden. LastWasALookHidden (seat_view hidden)) }
         ensures accepted { IfOk result (λ _. HidingAccepted N.table hold) }
         ensures refused { IfErr result (λ r. HidingRefused N.table hold r.0 r.1) }
     {
@@ -48,6 +50,7 @@ impl<N: Naming> SharedTree<N> {
     pub fn show<R: Wait>(&self, rt: &R, hidden: Hidden) -> Hold
         requires table { hidden.table ≡ N.table }
         ensures hold { IsSameSeat hidden result × WasShown hidden result }
+        ensures made { WasAShow (seat_view hidden) (seat_view result) }
     {
         let mut editor = self.edit(rt);
         editor.show(hidden)

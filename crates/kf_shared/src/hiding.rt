@@ -3,7 +3,8 @@ ghost use Rattle.std.specs.Prelude.{◌≡◌, IfOk, IfErr, OnErr, Option};
 ghost use Rattle.kf_core.specs.declared.command.Command.TheVariants.{Hide};
 ghost use Rattle.kf_core.specs.declared.refusal.Refusal.TheVariants as refusal_of;
 ghost use Rattle.kf_tree.specs.TreeLogs.{IsAccepted, IsCompacted};
-ghost use Rattle.kf_words.specs.Callers.{IsSameSeat, WasHidden, WasShown};
+ghost use Rattle.kf_words.specs.Callers.{IsSameSeat, WasHidden, WasShown, seat_view};
+ghost use Rattle.kf_words.specs.Runs.{WasAHide, WasAShow};
 ghost use Rattle.kf_shared.specs.Locked.{Unchanged};
 ghost use Rattle.kf_shared.specs.Hiding.{kind_cause, hold_cause, HideRefused, ShowDone};
 
@@ -28,6 +29,7 @@ impl<N: Naming> Locked<N> {
     pub fn hide(&mut self, hold: Hold) -> Result<Hiding, (Hold, Refusal)>
         requires table { hold.table ≡ N.table }
         ensures hiding { IfOk result (λ hiding. IsSameSeat hold hiding × WasHidden hold hiding) }
+        ensures made { IfOk result (λ hiding. WasAHide (seat_view hold) (seat_view hiding)) }
         ensures accepted { IfOk result
             (λ _. IsAccepted self.old.state self.new.state (hold_cause self.old.state.tree hold)
             (Hide hold.key)) }
@@ -56,6 +58,7 @@ impl<N: Naming> Locked<N> {
     pub fn show(&mut self, hidden: Hidden) -> Hold
         requires table { hidden.table ≡ N.table }
         ensures hold { IsSameSeat hidden result × WasShown hidden result }
+        ensures made { WasAShow (seat_view hidden) (seat_view result) }
         ensures done { ShowDone self.old self.new hidden.key }
         ensures words { self.new.master ≡ self.old.master }
         ensures claims { self.new.claims ≡ self.old.claims }

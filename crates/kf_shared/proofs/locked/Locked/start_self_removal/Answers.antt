@@ -25,6 +25,6 @@ returns-in-Err-start_removal-clause-refused g c =
     let other : same_key key c.self.inside.state.root ≡ false = search rules in
     subst (λ (l : Locked). SelfRemovalRefused l last.new.self key last.result) c.self.view_is
     (self_refused old (locked c.self.inside.state c.pin_held.new.self c.self.inside.claims.items) c.start_removal.new.self last.new.self key c.in-Ok.hold.key why last.result
-    refl c.in-Err-start_removal.ensures.same.tree c.in-Ok.ensures.hold.key_is other c.in-Err-start_removal.ensures.refused
+    c.in-Ok.ensures.pinned.0 refl c.in-Err-start_removal.ensures.same.tree c.in-Ok.ensures.hold.key_is other c.in-Err-start_removal.ensures.refused
     (λ e. subst (λ k. HoldsInRefused c.start_removal.new.self.state.tree k last.new.self.master.view last.result) c.key-key.ensures (last.ensures.memory e))
     (λ n. let s = last.ensures.other n in (s.0, ap (λ (l : Locked). l.master) s.1)))
