@@ -1,7 +1,8 @@
 #!/usr/bin/env python3
 """Compares two programs on random scripts: `fuzz.py PROGRAM PROGRAM COUNT [SEED]`.
 
-They must answer the same bytes. A script that they answer differently is kept in a temporary file."""
+They must answer the same bytes. A program may have words behind it. A script that the two answer differently is
+kept in a temporary file."""
 import random
 import subprocess
 import sys
@@ -76,7 +77,7 @@ def script(rng, odd_lines):
 
 
 def run(program, slots, lines):
-    ran = subprocess.run([program, "--slots", str(slots)], input=lines, capture_output=True, check=False)
+    ran = subprocess.run([*program.split(), "--slots", str(slots)], input=lines, capture_output=True, check=False)
     return ran.returncode, ran.stdout, ran.stderr
 
 

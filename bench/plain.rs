@@ -1,14 +1,16 @@
 //! A plain program that answers the scripts of `kernfs_run` with the same bytes, to measure that one by:
 //! `rustc -O bench/plain.rs`, std alone, nothing proved. A directory is a `BTreeMap` of its names.
 //!
-//! `plain [--slots N] [--line-writes] [--keep-commands] < SCRIPT`. Replies are gathered and written before each
-//! read; after `--line-writes` each is written by itself, as `kernfs_run` does it. Commands are counted; after
-//! `--keep-commands` they are kept too, as `kernfs_run` keeps them.
+//! `plain [--slots N] [--line-writes] [--keep-commands] [--tuned] < SCRIPT`. Replies are gathered and written
+//! before each read; after `--line-writes` each is written by itself, as `kernfs_run` does it. Commands are
+//! counted; after `--keep-commands` they are kept too, as `kernfs_run` keeps them. It is written as one writes it
+//! with std; after `--tuned` it does what a profile of it suggests: numbers without `fmt`, a path walked before it
+//! is searched for an empty name, and standard output as a file, without std's lock and buffer of lines.
 
 use std::cmp::Reverse;
 use std::collections::{BTreeMap, BinaryHeap};
 use std::fs::File;
-use std::io::{self, BufRead, BufReader, Read, Write};
+use std::io::{self, BufRead, BufReader, Read, StdoutLock, Write};
 use std::os::fd::AsFd;
 use std::process::ExitCode;
 
@@ -118,6 +120,45 @@ struct Board {
     free: BinaryHeap<Reverse<u32>>,
     files: [Option<OpenFile>; 26],
     commands: Commands,
+    tuned: bool,
+}
+
+/// What is told, one reply after another.
+struct Replies {
+    bytes: Vec<u8>,
+    /// Numbers are written by hand.
+    tuned: bool,
+}
+
+impl Replies {
+    fn put(&mut self, text: &[u8]) {
+        self.bytes.extend_from_slice(text);
+    }
+
+    fn put_number(&mut self, number: u64) {
+        if !self.tuned {
+            write!(self.bytes, "{number}").expect("a Vec takes all bytes");
+            return;
+        }
+        let (mut digits, mut start, mut rest) = ([b'0'; 20], 20, number);
+        while rest > 0 || start == 20 {
+            start -= 1;
+            digits[start] += (rest % 10) as u8;
+            rest /= 10;
+        }
+        self.put(&digits[start..]);
+    }
+
+    fn put_done(&mut self, _: ()) {
+        self.put(b"ok");
+    }
+
+    fn put_key(&mut self, key: Key) {
+        self.put(b"ok ");
+        self.put_number(u64::from(key.slot));
+        self.put(b".");
+        self.put_number(u64::from(key.generation));
+    }
 }
 
 /// Why a name is refused: first its length, then its bytes.
@@ -133,7 +174,7 @@ fn check_name(name: &[u8]) -> Result<(), Refusal> {
 }
 
 impl Board {
-    fn new(slots: u32, keep_commands: bool) -> Board {
+    fn new(slots: u32, keep_commands: bool, tuned: bool) -> Board {
         let mut board = Board {
             slots: Vec::new(),
             free: (1..slots).map(Reverse).collect(),
@@ -142,6 +183,7 @@ impl Board {
                 count: 0,
                 kept: keep_commands.then(Vec::new),
             },
+            tuned,
         };
         for _ in 0..slots {
             board.slots.push(Slot {
@@ -218,18 +260,21 @@ impl Board {
     }
 
     /// Goes from the root by names between slashes. No node has an empty name, so a walk that meets one is
-    /// refused; only then is it asked whether that was the cause.
+    /// refused; tuned, only then is it asked whether that was the cause.
     fn walk_names(&self, names: &[u8], live_only: bool) -> Result<u32, Refusal> {
-        let mut parts = names.split(|byte| *byte == b'/');
-        let end = parts.try_fold(ROOT, |dir, name| self.find(dir, name, live_only));
-        end.map_err(|why| {
-            let has_empty = names.split(|byte| *byte == b'/').any(<[u8]>::is_empty);
-            if has_empty {
-                Refusal::Invalid
-            } else {
-                why
-            }
-        })
+        let parts = names.split(|byte| *byte == b'/');
+        let has_empty = || parts.clone().any(<[u8]>::is_empty);
+        if !self.tuned && has_empty() {
+            return Err(Refusal::Invalid);
+        }
+        let why = match parts
+            .clone()
+            .try_fold(ROOT, |dir, name| self.find(dir, name, live_only))
+        {
+            Ok(end) => return Ok(end),
+            Err(why) => why,
+        };
+        Err(if has_empty() { Refusal::Invalid } else { why })
     }
 
     /// The directory part of a path, walked, and its last name.
@@ -426,7 +471,7 @@ impl Board {
         way
     }
 
-    fn read_link(&self, path: &[u8], reply: &mut Vec<u8>) -> Result<(), Refusal> {
+    fn read_link(&self, path: &[u8], reply: &mut Replies) -> Result<(), Refusal> {
         let link = self.node(self.walk(path, true)?);
         let Kind::Link { target } = link.kind else {
             return Err(Refusal::Invalid);
@@ -437,34 +482,34 @@ impl Board {
         let above = &to[..to.len() - 1];
         let common = from.iter().zip(above).take_while(|(a, b)| a == b).count();
         for _ in common..from.len() {
-            reply.extend_from_slice(b"../");
+            reply.put(b"../");
         }
         for slot in &to[common..] {
-            reply.extend_from_slice(&self.node(*slot).name);
-            reply.push(b'/');
+            reply.put(&self.node(*slot).name);
+            reply.bytes.push(b'/');
         }
-        reply.pop();
+        reply.bytes.pop();
         Ok(())
     }
 
-    fn list(&self, path: &[u8], reply: &mut Vec<u8>) -> Result<(), Refusal> {
+    fn list(&self, path: &[u8], reply: &mut Replies) -> Result<(), Refusal> {
         let Kind::Dir { children, .. } = &self.node(self.walk(path, true)?).kind else {
             return Err(Refusal::NotDir);
         };
-        let start = reply.len();
+        let start = reply.bytes.len();
         for (name, child) in children {
             if self.node(*child).is_live() {
-                reply.extend_from_slice(name);
-                reply.push(b' ');
+                reply.put(name);
+                reply.bytes.push(b' ');
             }
         }
-        if reply.len() > start {
-            reply.pop();
+        if reply.bytes.len() > start {
+            reply.bytes.pop();
         }
         Ok(())
     }
 
-    fn stat(&self, path: &[u8], reply: &mut Vec<u8>) -> Result<(), Refusal> {
+    fn stat(&self, path: &[u8], reply: &mut Replies) -> Result<(), Refusal> {
         let node = self.node(self.walk(path, false)?);
         let state = match (node.activated, node.hidden) {
             (false, _) => &b" off"[..],
@@ -473,18 +518,18 @@ impl Board {
         };
         match &node.kind {
             Kind::Dir { subdirs, .. } => {
-                reply.extend_from_slice(b"dir subdirs=");
-                put_number(reply, u64::from(*subdirs));
-                reply.extend_from_slice(b" nlink=");
-                put_number(reply, u64::from(*subdirs) + 2);
+                reply.put(b"dir subdirs=");
+                reply.put_number(u64::from(*subdirs));
+                reply.put(b" nlink=");
+                reply.put_number(u64::from(*subdirs) + 2);
             }
             Kind::File { mode, .. } => {
-                reply.extend_from_slice(b"file mode=");
-                reply.extend([6, 3, 0].map(|shift| b'0' + (mode >> shift & 7) as u8));
+                reply.put(b"file mode=");
+                reply.put(&[6, 3, 0].map(|shift| b'0' + (mode >> shift & 7) as u8));
             }
-            Kind::Link { .. } => reply.extend_from_slice(b"link"),
+            Kind::Link { .. } => reply.put(b"link"),
         }
-        reply.extend_from_slice(state);
+        reply.put(state);
         Ok(())
     }
 
@@ -526,7 +571,7 @@ impl Board {
         letter: usize,
         offset: u64,
         most: usize,
-        reply: &mut Vec<u8>,
+        reply: &mut Replies,
     ) -> Result<(), Refusal> {
         let file = self.files[letter].as_mut().ok_or(Refusal::Invalid)?;
         if !file.reads {
@@ -543,7 +588,7 @@ impl Board {
         let text = file.text.as_deref().unwrap_or_default();
         let start = text.len().min(offset as usize);
         let end = text.len().min(start + most);
-        reply.extend_from_slice(&text[start..end]);
+        reply.put(&text[start..end]);
         Ok(())
     }
 
@@ -632,7 +677,7 @@ impl Board {
     }
 
     /// Puts the reply to a line after what the buffer has.
-    fn answer(&mut self, line: &[u8], reply: &mut Vec<u8>) -> Result<(), Refusal> {
+    fn answer(&mut self, line: &[u8], reply: &mut Replies) -> Result<(), Refusal> {
         match cut(line) {
             (b"file", rest) => {
                 let (path, rest) = cut(rest);
@@ -641,12 +686,12 @@ impl Board {
                     .filter(|_| !path.is_empty())
                     .ok_or(Refusal::Line)?;
                 let text = text.to_vec();
-                told_key(self.make(path, Kind::File { mode, text }, true)?, reply)
+                reply.put_key(self.make(path, Kind::File { mode, text }, true)?)
             }
             (b"write", rest) => {
                 let (letter, text) = cut(rest);
                 let count = self.write(letter_of(letter)?, text)?;
-                put_number(reply, count as u64)
+                reply.put_number(count as u64)
             }
             (b"plug", rest) => {
                 let is_named = !cut(rest).0.is_empty();
@@ -661,7 +706,7 @@ impl Board {
         Ok(())
     }
 
-    fn answer_words(&mut self, line: &[u8], reply: &mut Vec<u8>) -> Result<(), Refusal> {
+    fn answer_words(&mut self, line: &[u8], reply: &mut Replies) -> Result<(), Refusal> {
         let mut words: [&[u8]; 4] = [&[]; 4];
         let mut count = 0;
         for word in line.split(|byte| *byte == b' ') {
@@ -676,15 +721,15 @@ impl Board {
             subdirs: 0,
         };
         match words[..count] {
-            [b"mkdir", path] => told_key(self.make(path, new_directory(), true)?, reply),
-            [b"mkdir", path, b"off"] => told_key(self.make(path, new_directory(), false)?, reply),
-            [b"link", path, target] => told_key(self.make_link(path, target)?, reply),
-            [b"activate", path] => done(self.activate(path)?, reply),
+            [b"mkdir", path] => reply.put_key(self.make(path, new_directory(), true)?),
+            [b"mkdir", path, b"off"] => reply.put_key(self.make(path, new_directory(), false)?),
+            [b"link", path, target] => reply.put_key(self.make_link(path, target)?),
+            [b"activate", path] => reply.put_done(self.activate(path)?),
             [b"ls", path] => self.list(path, reply)?,
             [b"stat", path] => self.stat(path, reply)?,
             [b"readlink", path] => self.read_link(path, reply)?,
-            [b"mv", path, dir, name] => done(self.rename(path, dir, name)?, reply),
-            [b"rm", path] => done(self.remove(path)?, reply),
+            [b"mv", path, dir, name] => reply.put_done(self.rename(path, dir, name)?),
+            [b"rm", path] => reply.put_done(self.remove(path)?),
             [b"open", letter, path, want] => {
                 let letter = letter_of(letter)?;
                 let (reads, writes) = match want {
@@ -693,7 +738,7 @@ impl Board {
                     b"rw" => (true, true),
                     _ => return Err(Refusal::Line),
                 };
-                done(self.open(letter, path, reads, writes)?, reply)
+                reply.put_done(self.open(letter, path, reads, writes)?)
             }
             [b"read", letter, offset, most] => {
                 let letter = letter_of(letter)?;
@@ -703,16 +748,16 @@ impl Board {
             }
             [b"poll", letter] => {
                 let changed = self.poll(letter_of(letter)?)?;
-                reply.extend_from_slice(if changed { b"changed" } else { b"same" })
+                reply.put(if changed { b"changed" } else { b"same" })
             }
-            [b"notify", path] => done(self.notify(path)?, reply),
-            [b"close", letter] => done(self.close(letter_of(letter)?)?, reply),
-            [b"hide", path] => done(self.hide(path)?, reply),
-            [b"show", path] => done(self.show(path)?, reply),
-            [b"commands"] => put_number(reply, self.commands.count as u64),
-            [b"compact"] => done(self.compact(), reply),
+            [b"notify", path] => reply.put_done(self.notify(path)?),
+            [b"close", letter] => reply.put_done(self.close(letter_of(letter)?)?),
+            [b"hide", path] => reply.put_done(self.hide(path)?),
+            [b"show", path] => reply.put_done(self.show(path)?),
+            [b"commands"] => reply.put_number(self.commands.count as u64),
+            [b"compact"] => reply.put_done(self.compact()),
             [b"unplug", _] => return Err(Refusal::NoDevice),
-            [b"wait"] => done((), reply),
+            [b"wait"] => reply.put_done(()),
             _ => return Err(Refusal::Line),
         }
         Ok(())
@@ -791,27 +836,6 @@ fn number_of(word: &[u8], digits: usize, greatest: u64) -> Result<u64, Refusal> 
     }
 }
 
-fn put_number(reply: &mut Vec<u8>, number: u64) {
-    let (mut digits, mut start, mut rest) = ([b'0'; 20], 20, number);
-    while rest > 0 || start == 20 {
-        start -= 1;
-        digits[start] += (rest % 10) as u8;
-        rest /= 10;
-    }
-    reply.extend_from_slice(&digits[start..]);
-}
-
-fn done(_: (), reply: &mut Vec<u8>) {
-    reply.extend_from_slice(b"ok");
-}
-
-fn told_key(key: Key, reply: &mut Vec<u8>) {
-    reply.extend_from_slice(b"ok ");
-    put_number(reply, u64::from(key.slot));
-    reply.push(b'.');
-    put_number(reply, u64::from(key.generation));
-}
-
 /// A change of the tree. A list of them makes the tree again.
 #[allow(dead_code)]
 enum Command {
@@ -867,24 +891,37 @@ impl Commands {
     }
 }
 
-/// The script on its way to replies, and the replies that are not written yet. Standard input and output are
-/// taken as files, without the locks and the buffer of lines that std puts before them.
+/// Where replies go.
+enum Output {
+    Std(StdoutLock<'static>),
+    File(File),
+}
+
+/// The script on its way to replies, and the replies that are not written yet.
 struct Script {
     board: Board,
     input: BufReader<File>,
-    output: File,
-    replies: Vec<u8>,
+    output: Output,
+    replies: Replies,
     line_writes: bool,
 }
 
 impl Script {
     fn new(board: Board, line_writes: bool) -> io::Result<Script> {
+        let tuned = board.tuned;
         let input = File::from(io::stdin().as_fd().try_clone_to_owned()?);
         Ok(Script {
             board,
             input: BufReader::with_capacity(1 << 16, input),
-            output: File::from(io::stdout().as_fd().try_clone_to_owned()?),
-            replies: Vec::new(),
+            output: if tuned {
+                Output::File(File::from(io::stdout().as_fd().try_clone_to_owned()?))
+            } else {
+                Output::Std(io::stdout().lock())
+            },
+            replies: Replies {
+                bytes: Vec::new(),
+                tuned,
+            },
             line_writes,
         })
     }
@@ -893,33 +930,36 @@ impl Script {
         if line.is_empty() {
             return Ok(());
         }
-        let start = self.replies.len();
+        let start = self.replies.bytes.len();
         let told = if line.len() > LINE_LIMIT {
             Err(Refusal::Line)
         } else {
             self.board.answer(line, &mut self.replies)
         };
         if let Err(refusal) = told {
-            self.replies.truncate(start);
-            self.replies.extend_from_slice(refusal.text().as_bytes());
+            self.replies.bytes.truncate(start);
+            self.replies.put(refusal.text().as_bytes());
         }
-        self.replies.push(b'\n');
-        if self.line_writes || self.replies.len() >= 1 << 16 {
+        self.replies.bytes.push(b'\n');
+        if self.line_writes || self.replies.bytes.len() >= 1 << 16 {
             self.write_replies()?;
         }
         Ok(())
     }
 
     fn write_replies(&mut self) -> io::Result<()> {
-        self.output.write_all(&self.replies)?;
-        self.replies.clear();
+        match &mut self.output {
+            Output::Std(output) => output.write_all(&self.replies.bytes)?,
+            Output::File(output) => output.write_all(&self.replies.bytes)?,
+        }
+        self.replies.bytes.clear();
         Ok(())
     }
 
     /// Reads the next line, without its newline, and tells whether there was one. Of a line that is too long it
     /// keeps one byte more than a command may have.
     fn next_line(&mut self, line: &mut Vec<u8>) -> io::Result<bool> {
-        if !self.replies.is_empty() && !self.input.buffer().contains(&b'\n') {
+        if !self.replies.bytes.is_empty() && !self.input.buffer().contains(&b'\n') {
             self.write_replies()?;
         }
         line.clear();
@@ -944,23 +984,24 @@ impl Script {
 
 fn main() -> ExitCode {
     let mut slots = Some(1024);
-    let (mut line_writes, mut keep_commands) = (false, false);
+    let (mut line_writes, mut keep_commands, mut tuned) = (false, false, false);
     let mut words = std::env::args().skip(1);
     while let Some(word) = words.next() {
         match word.as_str() {
             "--slots" => slots = words.next().and_then(|number| number.parse().ok()),
             "--line-writes" => line_writes = true,
             "--keep-commands" => keep_commands = true,
+            "--tuned" => tuned = true,
             _ => slots = None,
         }
     }
     let Some(slots) = slots.filter(|slots| (1..=4096).contains(slots)) else {
         eprintln!(
-            "plain [--slots N] [--line-writes] [--keep-commands] < SCRIPT, with 1 to 4096 slots"
+            "plain [--slots N] [--line-writes] [--keep-commands] [--tuned] < SCRIPT, with 1 to 4096 slots"
         );
         return ExitCode::from(2);
     };
-    let board = Board::new(slots, keep_commands);
+    let board = Board::new(slots, keep_commands, tuned);
     match Script::new(board, line_writes).and_then(|mut script| script.run()) {
         Ok(()) => ExitCode::SUCCESS,
         Err(error) => {
