@@ -11,6 +11,7 @@ use Rattle.kf_tree.specs.Causes.{doom_cause}
 use Rattle.kf_tree.specs.Ends.{EndsWith}
 use Rattle.kf_tree.specs.TreeLogs.{IsAccepted}
 use Rattle.kf_words.specs.Callers.{TableId, Handle, IsSameSeat}
+use Rattle.kf_words.specs.Nodes.{MasterState}
 use Rattle.kf_shared.specs.Locked.{Locked}
 use Rattle.kf_shared.specs.Removal.{keys_of, AreHolds, DoomHolds, DoomDone, DoomMarked}
 use Rattle.kf_shared.specs.Receipts.{AreOf, AllDifferent, Owner, owner, owners_of, EndsAt, IsDoomList, WasDoomed}
@@ -62,8 +63,8 @@ next_finished table items rest receipts new hold parted all e n same a b h = (
 )
 
 -- the holds of a removal are of the table
-pub are_of : (table : TableId) (hold : Handle) (holds : List Handle) → hold.table ≡ table → AreHolds table hold holds → AreOf table holds
-are_of table hold holds t h = subst (AreOf table) (sym h.1) (of_more table h.0 hold (λ i d l. (h.2 i d l).0) t)
+pub are_of : (table : TableId) (m : MasterState) (hold : Handle) (holds : List Handle) → m.table ≡ table → hold.table ≡ table → AreHolds m hold holds → AreOf table holds
+are_of table m hold holds e t h = subst (AreOf table) (sym h.1) (of_more table h.0 hold (λ i d l. (h.2 i d l).table ∙ e) t)
 
 -- the last of two lists of the same owners are of one seat
 ends_alike : (front xs : List Handle) (hold : Handle) → owners_of xs ≡ owners_of front ++ owner hold ∷ [] → EndsAt xs hold
@@ -85,7 +86,7 @@ ends_alike (f ∷ front) (x ∷ xs) hold e =
     tail_of [] = []
     tail_of (y ∷ ys) = ys
 
-module _ (table : TableId) (hold : Handle) (holds old before result : List Handle) (same : before ≡ old) (none : old ≡ []) (made : owners_of result ≡ owners_of before ++ owners_of holds) where
+module _ (hold : Handle) (holds old before result : List Handle) (same : before ≡ old) (none : old ≡ []) (made : owners_of result ≡ owners_of before ++ owners_of holds) where
   same_owners : owners_of result ≡ owners_of holds
   same_owners = made ∙ ap (λ xs. owners_of xs ++ owners_of holds) (same ∙ none)
 
@@ -93,8 +94,8 @@ module _ (table : TableId) (hold : Handle) (holds old before result : List Handl
   same_keys = owner_keys result ∙ ap (map (λ (o : Owner). o.key)) same_owners ∙ sym (owner_keys holds)
 
   -- the last receipt is of the given hold's seat
-  pub receipts_end : AreHolds table hold holds → EndsAt result hold
-  receipts_end h = ends_alike h.0 result hold (same_owners ∙ ap owners_of h.1 ∙ owners_more h.0 (hold ∷ []))
+  pub receipts_end : (m : MasterState) → AreHolds m hold holds → EndsAt result hold
+  receipts_end m h = ends_alike h.0 result hold (same_owners ∙ ap owners_of h.1 ∙ owners_more h.0 (hold ∷ []))
 
   -- they are of the nodes that were doomed
   pub receipts_listed : (t : Tree) → DoomHolds t hold holds → IsDoomList t hold.key (keys_of result)

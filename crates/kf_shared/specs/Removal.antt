@@ -1,7 +1,6 @@
 -- Holds of a subtree, and what its doom makes of what the tree lock keeps.
 use Rattle.std.specs.Prelude.{◌≡◌, ◌≢◌, ◌⊎◌, ℕ, List, [], ◌∷◌, ◌++◌, map, All, MatchBool, true}
 use Rattle.kf_core.specs.declared.key.Key.{Key}
-use Rattle.kf_core.specs.declared.caller.Phase.TheVariants.{Still}
 use Rattle.kf_core.specs.declared.command.Command.TheVariants.{Doom}
 use Rattle.kf_core.specs.declared.refusal.Refusal.{Refusal}
 use Rattle.kf_core.specs.declared.refusal.Refusal.TheVariants.{NoEntry, NoMemory, TooManyHolds, Invalid}
@@ -11,20 +10,20 @@ use Rattle.kf_core.specs.PostOrder.{IsPostOrder}
 use Rattle.kf_tree.specs.Causes.{doom_cause}
 use Rattle.kf_tree.specs.TreeLogs.{IsAccepted}
 use Rattle.kf_words.specs.declared.view.MasterView.{MasterView}
-use Rattle.kf_words.specs.Callers.{TableId, Handle}
-use Rattle.kf_words.specs.Nodes.{FoundFull, FoundRoom, IsLastKey}
+use Rattle.kf_words.specs.Callers.{Handle}
+use Rattle.kf_words.specs.Nodes.{MasterState, FoundFull, FoundRoom, IsLastKey, IsNewHold}
 use Rattle.kf_shared.specs.Locked.{Locked}
 
 abbrev pub keys_of : List Handle → List Key
 keys_of holds = map (λ h. h.key) holds
 
--- of this table, with no reference
-abbrev pub IsStill : TableId → Handle → Type 0
-IsStill table hold = (hold.table ≡ table) × (hold.phase ≡ Still)
+-- a new hold of the key that it tells, whichever that is
+abbrev pub IsNew : MasterState → Handle → Type 0
+IsNew m hold = IsNewHold m hold.key hold
 
 -- new holds, and the given one last
-abbrev pub AreHolds : TableId → Handle → List Handle → Type 0
-AreHolds table hold holds = (front : List Handle) × (holds ≡ front ++ hold ∷ []) × All (IsStill table) front
+abbrev pub AreHolds : MasterState → Handle → List Handle → Type 0
+AreHolds m hold holds = (front : List Handle) × (holds ≡ front ++ hold ∷ []) × All (IsNew m) front
 
 -- one hold for each node of the subtree, in post-order; where the node is no longer linked, the given hold
 -- alone

@@ -13,7 +13,7 @@ ghost use Rattle.kf_words.specs.Nodes.{KeepsNodes, IsVacant, UnlinkAnswer};
 ghost use Rattle.kf_words.specs.Runs.{WasAHide, WasAShow};
 ghost use Rattle.kf_shared.specs.Locked.{IsWhole, Created, CreateRefused, BornLowest, move_cause, IsNewHold, HoldRefused, Unchanged, UnlinkDone, UnlinkRefused, is_claimed};
 ghost use Rattle.kf_shared.specs.Hiding.{hold_cause, HideRefused, ShowDone};
-ghost use Rattle.kf_shared.specs.Removal.{IsStill, AreHolds, DoomHolds, DoomDone, DoomMarked, DoomRefused, SelfRemovalRefused};
+ghost use Rattle.kf_shared.specs.Removal.{IsNew, AreHolds, DoomHolds, DoomDone, DoomMarked, DoomRefused, SelfRemovalRefused};
 
 use crate::locked::Locked;
 use crate::naming::Naming;
@@ -139,7 +139,7 @@ impl<N: Naming> Editor<'_, N> {
     pub fn doom(&mut self, hold: Hold) -> Result<Vec<Hold>, (Hold, Refusal)>
         requires table { hold.table ≡ N.table }
         ensures order { IfOk result (λ holds. DoomHolds self.old.state.tree hold holds.items) }
-        ensures holds { IfOk result (λ holds. AreHolds N.table hold holds.items) }
+        ensures holds { IfOk result (λ holds. AreHolds self.old.master hold holds.items) }
         ensures done { IfOk result (λ _. DoomDone self.old self.new hold.key) }
         ensures back { IfErr result (λ r. r.0 ≡ hold) }
         ensures refused { IfErr result (λ r. DoomRefused self.old self.new hold.key r.1) }
@@ -231,7 +231,7 @@ impl<N: Naming> Editor<'_, N> {
     ) -> Result<Vec<Hold>, (Hold, Refusal)>
         requires table { hold.table ≡ N.table }
         ensures order { IfOk result (λ holds. DoomHolds self.old.state.tree hold holds.items) }
-        ensures holds { IfOk result (λ holds. AreHolds N.table hold holds.items) }
+        ensures holds { IfOk result (λ holds. AreHolds self.old.master hold holds.items) }
         ensures done { IfOk result (λ _. DoomDone self.old self.new hold.key) }
         ensures whole { IsWhole N.table self.new }
         ensures room { IfOk result
@@ -259,8 +259,8 @@ impl<N: Naming> Editor<'_, N> {
         ensures broken { OnOk result (call.new.phase ≡ phase_of.Broken) }
         ensures kept { OnErr result (call.new ≡ call.old) }
         ensures holds { IfOk result
-            (λ r. (hold : Handle) × IsStill N.table hold × (hold.key ≡ call.old.key)
-            × AreHolds N.table hold r.1.items × DoomHolds self.old.state.tree hold r.1.items) }
+            (λ r. (hold : Handle) × (hold.key ≡ call.old.key) × IsNew self.old.master hold
+            × AreHolds self.old.master hold r.1.items × DoomHolds self.old.state.tree hold r.1.items) }
         ensures first { IfOk result (λ r. r.0 ≡ not (is_claimed self.old.claims call.old.key)) }
         ensures claimed { OnOk result
             (self.new.claims ≡ slice_set self.old.claims call.old.key.slot call.old.key.generation) }

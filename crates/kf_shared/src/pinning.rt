@@ -4,7 +4,7 @@ ghost use Rattle.kf_core.specs.declared.key.Key.{Key};
 ghost use Rattle.kf_core.specs.declared.refusal.Refusal.TheVariants as refusal_of;
 ghost use Rattle.kf_words.specs.Nodes.{KeepsNodes, KeepsRooms, FoundFull};
 ghost use Rattle.kf_shared.specs.Agreement.{marks_at};
-ghost use Rattle.kf_shared.specs.Removal.{keys_of, IsStill, FoundFullBelow, HasRoomIfBelow, HoldsBelowRefused};
+ghost use Rattle.kf_shared.specs.Removal.{keys_of, IsNew, FoundFullBelow, HasRoomIfBelow, HoldsBelowRefused};
 
 use kf_core::{Key, Refusal};
 use kf_tree::State;
@@ -24,7 +24,7 @@ pub fn pin_each(master: &mut Master, alloc: Global, keys: &[Key]) -> Result<Vec<
     requires linked { All (λ key. is_some (marks_at master.old.view.slots key) ≡ true) keys.now }
     ensures kept { KeepsNodes master.old master.new }
     ensures keys { IfOk result (λ holds. keys_of holds.items ≡ keys.now) }
-    ensures still { IfOk result (λ holds. All (IsStill master.old.table) holds.items) }
+    ensures new { IfOk result (λ holds. All (IsNew master.old) holds.items) }
     ensures room { IfOk result (λ holds. vec_len holds < vec_capacity holds) }
     ensures refused { IfErr result
         (λ refusal. (refusal ≡ refusal_of.NoMemory)

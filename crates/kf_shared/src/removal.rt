@@ -11,7 +11,7 @@ ghost use Rattle.kf_tree.specs.TreeLogs.{IsAccepted};
 ghost use Rattle.kf_words.specs.Callers.{Handle, IsSameSeat};
 ghost use Rattle.kf_words.specs.Nodes.{IsLastKey};
 ghost use Rattle.kf_shared.specs.Locked.{Unchanged, is_claimed};
-ghost use Rattle.kf_shared.specs.Removal.{keys_of, IsStill, AreHolds, DoomHolds, DoomDone, DoomMarked, DoomRefused, HoldsInRefused, SelfRemovalRefused};
+ghost use Rattle.kf_shared.specs.Removal.{keys_of, IsNew, AreHolds, DoomHolds, DoomDone, DoomMarked, DoomRefused, HoldsInRefused, SelfRemovalRefused};
 
 use crate::locked::Locked;
 use crate::marking::doom_each;
@@ -57,7 +57,7 @@ impl<N: Naming> Locked<N> {
         ensures not_root { OnOk result (same_key key self.old.state.root ≡ false) }
         ensures order { IfOk result (λ r. IsPostOrder self.old.state.tree key r.0.items) }
         ensures below { IfOk result (λ r. r.0.items ≡ keys_of r.1.items ++ key ∷ []) }
-        ensures still { IfOk result (λ r. All (IsStill N.table) r.1.items) }
+        ensures new { IfOk result (λ r. All (IsNew self.old.master) r.1.items) }
         ensures room { IfOk result (λ r. vec_len r.1 < vec_capacity r.1) }
         ensures refused { IfErr result (λ refusal. DoomRefused self.old self.new key refusal) }
         ensures state { self.new.state ≡ self.old.state }
@@ -113,7 +113,7 @@ impl<N: Naming> Locked<N> {
     pub fn doom(&mut self, hold: Hold) -> Result<Vec<Hold>, (Hold, Refusal)>
         requires table { hold.table ≡ N.table }
         ensures order { IfOk result (λ holds. DoomHolds self.old.state.tree hold holds.items) }
-        ensures holds { IfOk result (λ holds. AreHolds N.table hold holds.items) }
+        ensures holds { IfOk result (λ holds. AreHolds self.old.master hold holds.items) }
         ensures done { IfOk result (λ _. DoomDone self.old self.new hold.key) }
         ensures back { IfErr result (λ r. r.0 ≡ hold) }
         ensures refused { IfErr result (λ r. DoomRefused self.old self.new hold.key r.1) }
@@ -141,7 +141,7 @@ impl<N: Naming> Locked<N> {
     ) -> Result<Vec<Hold>, (Hold, Refusal)>
         requires table { hold.table ≡ N.table }
         ensures order { IfOk result (λ holds. DoomHolds self.old.state.tree hold holds.items) }
-        ensures holds { IfOk result (λ holds. AreHolds N.table hold holds.items) }
+        ensures holds { IfOk result (λ holds. AreHolds self.old.master hold holds.items) }
         ensures done { IfOk result (λ _. DoomDone self.old self.new hold.key) }
         ensures room { IfOk result
             (λ holds. vec_len receipts.new + vec_len holds ≤ vec_capacity receipts.new) }
@@ -185,8 +185,8 @@ impl<N: Naming> Locked<N> {
         ensures broken { OnOk result (call.new.phase ≡ phase_of.Broken) }
         ensures kept { OnErr result (call.new ≡ call.old) }
         ensures holds { IfOk result
-            (λ r. (hold : Handle) × IsStill N.table hold × (hold.key ≡ call.old.key)
-            × AreHolds N.table hold r.1.items × DoomHolds self.old.state.tree hold r.1.items) }
+            (λ r. (hold : Handle) × (hold.key ≡ call.old.key) × IsNew self.old.master hold
+            × AreHolds self.old.master hold r.1.items × DoomHolds self.old.state.tree hold r.1.items) }
         ensures first { IfOk result (λ r. r.0 ≡ not (is_claimed self.old.claims call.old.key)) }
         ensures claimed { OnOk result
             (self.new.claims ≡ slice_set self.old.claims call.old.key.slot call.old.key.generation) }

@@ -8,7 +8,7 @@ returns-in-Ok-clause-doomed g c = record {
   new = c.start_removal-started.new.self;
   was_whole = c.edit-editor.ensures;
   is_whole = c.start_removal-started.ensures.whole;
-  listed = receipts_listed g.N.Naming.table c.args.hold c.in-Ok.holds.items c.new-receipts.result.items c.start_removal-started.new.receipts.items c.finish_each.result.items
+  listed = receipts_listed c.args.hold c.in-Ok.holds.items c.new-receipts.result.items c.start_removal-started.new.receipts.items c.finish_each.result.items
       c.in-Ok.ensures.receipts c.new-receipts.ensures.items c.finish_each.ensures.owners c.edit-editor.result.state.tree c.in-Ok.ensures.order;
   done = done_marked c.edit-editor.result c.start_removal-started.new.self c.args.hold.key c.in-Ok.ensures.done;
 }
@@ -18,8 +18,8 @@ returns-in-Ok-clause-different g c = doomed_different _ _ _ (returns-in-Ok-claus
 
 pub returns-in-Ok-clause-last : goal.returns-in-Ok-clause-last
 returns-in-Ok-clause-last g c =
-    receipts_end g.N.Naming.table c.args.hold c.in-Ok.holds.items c.new-receipts.result.items c.start_removal-started.new.receipts.items c.finish_each.result.items
-    c.in-Ok.ensures.receipts c.new-receipts.ensures.items c.finish_each.ensures.owners c.in-Ok.ensures.holds
+    receipts_end c.args.hold c.in-Ok.holds.items c.new-receipts.result.items c.start_removal-started.new.receipts.items c.finish_each.result.items
+    c.in-Ok.ensures.receipts c.new-receipts.ensures.items c.finish_each.ensures.owners c.edit-editor.result.master c.in-Ok.ensures.holds
 
 pub returns-in-Err-clause-refused : goal.returns-in-Err-clause-refused
 returns-in-Err-clause-refused g c = record {

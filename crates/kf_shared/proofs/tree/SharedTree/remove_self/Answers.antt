@@ -15,8 +15,8 @@ returns-in-Ok-clause-doomed g c =
         new = c.start_self_removal-started.new.self;
         was_whole = c.edit-editor.ensures;
         is_whole = c.start_self_removal-started.ensures.whole;
-        listed = subst (λ k. IsDoomList c.edit-editor.result.state.tree k (keys_of c.finish_each-receipts.result.items)) h.2
-            (receipts_listed g.N.Naming.table h.0 c.in-Ok.holds.items c.new-receipts.result.items c.start_self_removal-started.new.receipts.items c.finish_each-receipts.result.items
+        listed = subst (λ k. IsDoomList c.edit-editor.result.state.tree k (keys_of c.finish_each-receipts.result.items)) h.1
+            (receipts_listed h.0 c.in-Ok.holds.items c.new-receipts.result.items c.start_self_removal-started.new.receipts.items c.finish_each-receipts.result.items
             c.in-Ok.ensures.receipts c.new-receipts.ensures.items c.finish_each-receipts.ensures.owners c.edit-editor.result.state.tree h.4);
         done = c.in-Ok.ensures.done;
       };
@@ -30,9 +30,9 @@ returns-in-Ok-clause-different g c = doomed_different _ _ _ (returns-in-Ok-claus
 pub returns-in-Ok-clause-last : goal.returns-in-Ok-clause-last
 returns-in-Ok-clause-last g c =
     let h = c.in-Ok.ensures.holds in
-    subst (EndsWith (keys_of c.finish_each-receipts.result.items)) h.2
-    (end_key h.0 c.finish_each-receipts.result.items (receipts_end g.N.Naming.table h.0 c.in-Ok.holds.items c.new-receipts.result.items c.start_self_removal-started.new.receipts.items c.finish_each-receipts.result.items
-    c.in-Ok.ensures.receipts c.new-receipts.ensures.items c.finish_each-receipts.ensures.owners h.3))
+    subst (EndsWith (keys_of c.finish_each-receipts.result.items)) h.1
+    (end_key h.0 c.finish_each-receipts.result.items (receipts_end h.0 c.in-Ok.holds.items c.new-receipts.result.items c.start_self_removal-started.new.receipts.items c.finish_each-receipts.result.items
+    c.in-Ok.ensures.receipts c.new-receipts.ensures.items c.finish_each-receipts.ensures.owners c.edit-editor.result.master h.3))
 
 pub returns-in-Err-clause-refused : goal.returns-in-Err-clause-refused
 returns-in-Err-clause-refused g c = record {
