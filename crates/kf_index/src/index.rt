@@ -73,9 +73,9 @@ impl Index {
     }
 
     /// How many entries there are.
-    #[cfg(test)]
+    #[inline(always)]
     #[tactic(auto, using(crate::proofs::Edited::len_of_rising))]
-    pub(crate) fn len(&self) -> usize
+    pub fn len(&self) -> usize
         ensures known { result ≡ map.len self.now }
     {
         self.entries.all().len()

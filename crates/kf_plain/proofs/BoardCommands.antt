@@ -7,7 +7,6 @@ use Rattle.kf_core.specs.declared.key.Node.TheVariants.{Link}
 use Rattle.kf_core.specs.declared.refusal.Refusal.{Refusal}
 use Rattle.kf_core.specs.declared.command.Command.{Command}
 use Rattle.kf_core.specs.declared.command.Command.TheVariants.{Activate, Rename}
-use Rattle.kf_core.specs.Commands.{after}
 use Rattle.kf_tree.specs.Canonical.{IsCanonical}
 use Rattle.kf_tree.specs.TreeLogs.{TreeLog}
 use Rattle.kf_table.specs.Children.{is_there_already}

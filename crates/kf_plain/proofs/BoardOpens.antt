@@ -1,5 +1,5 @@
 -- A letter is given a file, has one, or loses it.
-use Rattle.std.proofs.Common.{◌≡◌, inl, inr, ℕ, ◌+◌, refl, ap, sym, ◌∙◌, subst, false, List, [], ◌∷◌, ◌++◌, slice_set}
+use Rattle.std.proofs.Common.{◌≡◌, inl, inr, ℕ, refl, ap, sym, ◌∙◌, subst, false, List, [], ◌∷◌, ◌++◌, slice_set}
 use Rattle.std.specs.Prelude.{Option, None, Some, slice_get, is_some, IsTrue, Result, Ok, Err, not}
 use Rattle.std.specs.Option.{option_map, option_and_then, ok_or}
 use Rattle.std.proofs.lemmas.Option.{slice_get-map}

@@ -1,5 +1,5 @@
 -- The board keeps a token by slot, and lets it go.
-use Rattle.std.proofs.Common.{◌≡◌, ℕ, ◌+◌, ◌<◌, refl, ap, sym, ◌∙◌, subst, Bool, true, false, List, [], ◌∷◌, ◌++◌, length, slice_set}
+use Rattle.std.proofs.Common.{◌≡◌, ℕ, ◌<◌, refl, ap, sym, ◌∙◌, subst, Bool, true, false, List, [], ◌∷◌, ◌++◌, length, slice_set}
 use Rattle.std.specs.Prelude.{Option, None, Some, slice_get, is_some, Result, Ok, Err}
 use Rattle.std.specs.Option.{option_map, option_and_then, option_map_or, ok_or}
 use Rattle.std.proofs.lemmas.Option.{slice_get_within, slice_get-map}

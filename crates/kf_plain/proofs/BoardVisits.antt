@@ -26,7 +26,7 @@ use Rattle.kf_tree.specs.TreeLogs.{TreeLog}
 use Rattle.kf_core.specs.declared.records.Record.{Record}
 use Rattle.kf_core.specs.Tree.{record_at}
 use Rattle.kf_core.proofs.FoundRecords.{found_in}
-use Rattle.kf_tree.specs.Causes.{live_in, lives_in}
+use Rattle.kf_table.specs.Live.{lives_in, live_in}
 use Rattle.kf_files.specs.declared.contents.Want.{Want}
 use Rattle.kf_files.specs.declared.ops.Fault.{Fault}
 use Rattle.kf_files.specs.declared.ops.FileError.{FileError}

@@ -1,5 +1,5 @@
 -- Hiding a node, and showing it again, by the one caller: what the steps make of the tree and of the callers' world.
-use Rattle.std.proofs.Common.{◌≡◌, ◌≢◌, ◌⊎◌, inl, inr, ℕ, ◌+◌, ◌<◌, ◌≤◌, refl, ap, sym, ◌∙◌, subst, Bool, true, false, cond, List, [], ◌∷◌, ◌++◌, length, slice_set}
+use Rattle.std.proofs.Common.{◌≡◌, ◌≢◌, ◌⊎◌, inl, inr, ℕ, ◌<◌, ◌≤◌, refl, ap, sym, ◌∙◌, subst, Bool, true, false, cond, List, [], ◌∷◌, ◌++◌, length, slice_set}
 use Rattle.std.specs.Prelude.{Option, None, Some, slice_get, is_some, IsTrue, IsFalse, ◌&&◌, not}
 use Rattle.std.specs.Option.{option_map, option_map_or}
 use Rattle.std.proofs.lemmas.Bool.Decides.{eqb_tells}
@@ -18,7 +18,7 @@ use Rattle.kf_core.specs.declared.command.Command.{Command}
 use Rattle.kf_core.specs.declared.command.Command.TheVariants.{Hide, Show}
 use Rattle.kf_core.specs.declared.event.Event.TheVariants.{Pin, Release, LookHidden, Hide as HideStep, Show as ShowStep}
 use Rattle.kf_core.specs.Agrees.{AgreesHidden}
-use Rattle.kf_core.specs.Bare.{BareWorld, IsCaller, IsLast, marks, marks_in, hides, any_hides, is_hidden}
+use Rattle.kf_core.specs.Bare.{BareWorld, IsCaller, IsLast, marks, marks_in, any_hides, is_hidden}
 use Rattle.kf_core.specs.Bounded.{BoundedWorld, Happens, May}
 use Rattle.kf_core.specs.Commands.{after, hidden_record}
 use Rattle.kf_core.specs.Keys.{same_key}

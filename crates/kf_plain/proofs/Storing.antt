@@ -4,7 +4,7 @@ use Rattle.kf_core.specs.declared.refusal.Refusal.{Refusal}
 use Rattle.kf_core.specs.declared.refusal.Refusal.TheVariants.{Access, NoDevice}
 use Rattle.kf_core.specs.Refusals.{unless, first_cause}
 use Rattle.kf_core.specs.Calls.{Visit, tried}
-use Rattle.kf_tree.specs.Causes.{live_in}
+use Rattle.kf_table.specs.Live.{live_in}
 use Rattle.kf_tree.specs.Paths.{and_then}
 use Rattle.kf_files.specs.declared.ops.Fault.{Fault}
 use Rattle.kf_files.specs.declared.ops.FileError.{FileError}

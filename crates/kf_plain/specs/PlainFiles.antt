@@ -10,7 +10,8 @@ use Rattle.kf_core.specs.Refusals.{unless, first_cause}
 use Rattle.kf_core.specs.Tree.{record_at}
 use Rattle.kf_core.specs.Calls.{Visit}
 use Rattle.kf_tree.specs.Paths.{and_then, walked, seen}
-use Rattle.kf_tree.specs.Causes.{live_in, linked_cause}
+use Rattle.kf_tree.specs.Causes.{linked_cause}
+use Rattle.kf_table.specs.Live.{live_in}
 use Rattle.kf_files.specs.declared.contents.Want.{Want}
 use Rattle.kf_files.specs.declared.ops.Fault.{Fault}
 use Rattle.kf_files.specs.Files.{Shown, open_cause, new_file}

@@ -26,7 +26,7 @@ fn answer_line<B: Board>(board: &mut B, reply: &mut Reply, line: &[u8])
     requires { length line.now ≤ line_limit }
     ensures { MayReply B.step line.now reply.new }
 {
-    match parse(line) {
+    match &parse(line) {
         Some(request) => board.answer(request, reply),
         None => reply.set_bad_line(),
     }

@@ -22,8 +22,8 @@ struct CountingBoard<'a> {
 impl<'a> Board for CountingBoard<'a> {
     ghost step = { λ before _ _ _ after. after.who ≡ before.who };
 
-    fn answer(&mut self, request: Request<'_>, reply: &mut Reply) {
-        match request {
+    fn answer(&mut self, request: &Request<'_>, reply: &mut Reply) {
+        match *request {
             Request::CountCommands => reply.set_number(self.all.load(Ordering::SeqCst)),
             _ => {
                 self.answered = self.answered.saturating_add(1);

@@ -14,7 +14,7 @@ pub trait Board {
     ghost step: { Step Self };
 
     /// Answers a request: puts the text of the reply in place of what `reply` holds.
-    fn answer(&mut self, request: Request<'_>, reply: &mut Reply)
-        requires { IsInRange (request_words request) }
-        ensures { (starved : Bool) × step self.old (request_words request.entry) starved reply.new self.new };
+    fn answer(&mut self, request: &Request<'_>, reply: &mut Reply)
+        requires { IsInRange (request_words request.now) }
+        ensures { (starved : Bool) × step self.old (request_words request.now) starved reply.new self.new };
 }

@@ -105,7 +105,7 @@ pub struct OkBoard {}
 impl Board for OkBoard {
     ghost step = { λ before request starved reply now. (reply ≡ done_text) × (now ≡ before) };
 
-    fn answer(&mut self, request: Request<'_>, reply: &mut Reply) {
+    fn answer(&mut self, request: &Request<'_>, reply: &mut Reply) {
         reply.set_done();
     }
 }

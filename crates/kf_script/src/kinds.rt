@@ -102,6 +102,7 @@ pub fn file_in(word: &[u8]) -> Option<usize>
 }
 
 /// What a file is opened for: reading, writing.
+#[inline(always)]
 pub fn want_in(word: &[u8]) -> Option<(bool, bool)>
     ensures { result ≡ want_of word.now }
 {

@@ -29,7 +29,7 @@ fn answer_line<B: Board>(board: &mut B, reply: &mut Reply, line: &[u8])
     ensures { (starved : Bool)
         × AnswersRequest B.step board.old (request_of line.now) starved reply.new board.new }
 {
-    match parse(line) {
+    match &parse(line) {
         Some(request) => board.answer(request, reply),
         None => reply.set_bad_line(),
     }

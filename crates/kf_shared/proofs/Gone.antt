@@ -1,5 +1,5 @@
 -- A key that was linked and is no more is never linked again.
-use Rattle.std.proofs.Common.{◌≡◌, ◌≢◌, inl, inr, ℕ, ◌+◌, ◌≤◌, refl, ap, arith, sym, ◌∙◌, subst, Bool, true, false, cond}
+use Rattle.std.proofs.Common.{◌≡◌, ◌≢◌, inl, inr, ℕ, ◌+◌, ◌≤◌, refl, ap, arith, sym, ◌∙◌, subst, true, false, cond}
 use Rattle.std.specs.Prelude.{Option, None, Some, slice_get, is_some}
 use Rattle.std.proofs.lemmas.Option.{none-some, same_Some, slice_get_within}
 use Rattle.std.proofs.lemmas.Bool.Decides.{eqb_tells}

@@ -7,7 +7,6 @@ use Rattle.kf_core.specs.declared.key.Key.{Key}
 use Rattle.kf_core.specs.declared.key.Node.{Node}
 use Rattle.kf_core.specs.declared.key.Node.TheVariants.{Dir}
 use Rattle.kf_core.specs.declared.records.Record.{Record}
-use Rattle.kf_core.specs.Bare.{opening}
 use Rattle.kf_core.specs.Commands.{root_alone}
 use Rattle.kf_core.specs.Tree.{record_at, marks_of}
 use Rattle.kf_core.proofs.Opened.{same_opening, length_opening}

@@ -1,5 +1,5 @@
 -- The receipts of a removal are those of its holds.
-use Rattle.std.proofs.Common.{◌≡◌, zero, suc, ◌+◌, refl, ap, arith, sym, ◌∙◌, subst, Bool, true, false, List, [], ◌∷◌, ◌++◌, length}
+use Rattle.std.proofs.Common.{◌≡◌, zero, suc, refl, ap, arith, sym, ◌∙◌, subst, Bool, true, false, List, [], ◌∷◌, ◌++◌, length}
 use Rattle.std.specs.Prelude.{MatchBool, map}
 use Rattle.std.proofs.lemmas.List.{append_assoc}
 use Rattle.kf_core.specs.declared.key.Key.{Key}

@@ -8,5 +8,6 @@ pub mod Rooms
 pub mod KeptRecords
 pub mod Swapped
 pub mod KeptMoves
+pub mod LiveKeys
 pub mod LookUps
 pub mod Climbing

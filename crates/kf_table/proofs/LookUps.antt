@@ -82,6 +82,23 @@ module _ (t : Tree) (root : Key) (lawful : Lawful t root) where
           let keys = lawful.siblings s r s_in is (key_is dir s.parent parts.0 ∙ sym parent) ((bytes_eq-Decides s.name name).0 parts.1 ∙ sym named) in
           ap Some (same_record t s r s_in is keys)
 
+  -- a record in a slot stands there by its key
+  stands_in : (slot : ℕ) (r : Record) → Some r ≡ option_and_then (λ place. place) (slice_get t slot) → IsIn t r × (r.key.slot ≡ slot)
+  stands_in slot r read =
+      let here : slice_get t slot ≡ Some (Some r) = elim (slice_get t slot) as (λ o. Some r ≡ option_and_then (λ place. place) o → o ≡ Some (Some r)) [
+        | None ↦ λ e. absurd (none-some r (sym e))
+        | Some o ↦ λ e. ap Some (sym e)
+      ] read in
+      let place = lawful.in_place slot r here in
+      (ap (slice_get t) place ∙ here, place)
+
+  -- a record in this directory under this name, wherever it was found, is the child
+  pub seen_child : (dir : Key) (name : List ℕ) (slot : ℕ) (r : Record) → Some r ≡ option_and_then (λ place. place) (slice_get t slot)
+      → (is_key dir r.parent && bytes_eq r.name name) ≡ true → Some r ≡ child t dir name
+  seen_child dir name slot r read passes =
+      let parts = both (is_key dir r.parent) (bytes_eq r.name name) passes in
+      sym (child_is dir name r (stands_in slot r read).0 (key_is dir r.parent parts.0) ((bytes_eq-Decides r.name name).0 parts.1))
+
   child_none : (dir : Key) (name : List ℕ) → ((r : Record) → IsIn t r → r.parent ≡ Some dir → r.name ≡ name → ⊥) → child t dir name ≡ None
   child_none dir name nobody = go (first test t) refl
     where

@@ -2,3 +2,4 @@ pub mod Children
 pub mod Next
 pub mod Changes
 pub mod Directories
+pub mod Live

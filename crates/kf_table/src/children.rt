@@ -1,9 +1,11 @@
 //! Tests of a record: whether it is a directory, and whether it is in this one.
 
-ghost use Rattle.std.specs.Prelude.{◌≡◌, false};
+ghost use Rattle.std.specs.Prelude.{◌≡◌, ◌&&◌, false};
+ghost use Rattle.std.specs.Str.{bytes_eq};
 ghost use Rattle.std.specs.Option.{option_copied, option_map_or};
 ghost use Rattle.kf_core.specs.Tree.{is_dir};
 ghost use Rattle.kf_table.specs.Children.{is_key};
+ghost use Rattle.kf_table.specs.Live.{lives};
 
 use kf_core::{Key, Node, Record};
 
@@ -17,6 +19,14 @@ pub fn is_directory(node: &Node) -> bool
     }
 }
 
+/// Whether a record is live: activated, not doomed and not hidden.
+#[inline(always)]
+pub fn is_live(entry: &Record) -> bool
+    ensures known { result ≡ lives entry.now }
+{
+    entry.marks.activated && !entry.marks.doomed && !entry.hidden
+}
+
 /// Whether a record is in this directory.
 pub fn is_in(entry: &Record, dir: Key) -> bool
     ensures known { result ≡ is_key dir entry.now.parent }
@@ -25,6 +35,14 @@ pub fn is_in(entry: &Record, dir: Key) -> bool
         Some(parent) => parent == dir,
         None => false,
     }
+}
+
+/// Whether a record is in this directory under this name.
+#[inline(always)]
+pub(crate) fn is_child(entry: &Record, dir: Key, name: &[u8]) -> bool
+    ensures known { result ≡ (is_key dir entry.now.parent && bytes_eq entry.now.name name.now) }
+{
+    is_in(entry, dir) && entry.name.bytes() == name
 }
 
 /// Whether there is a record, and it is a directory.

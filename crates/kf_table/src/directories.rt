@@ -11,6 +11,9 @@ use kf_core::{Key, Record, Refusal};
 use kf_index::{Index, Listed, Name};
 use std::alloc::Global;
 
+/// So many children a large directory has.
+const LARGE: usize = 64;
+
 /// The index of a directory's children, and how many of them are directories.
 #[derive(Drop)]
 pub(crate) struct Directory {
@@ -35,6 +38,12 @@ impl Directory {
         ensures found { result ≡ map_of.get self.now.index name.now }
     {
         self.index.get(name)
+    }
+
+    /// Whether a search takes longer than a look where a hint leads.
+    #[inline(always)]
+    pub(crate) fn is_large(&self) -> bool {
+        self.index.len() >= LARGE
     }
 
     /// The names and keys of the children above the bound, in byte order of names.

@@ -3,8 +3,10 @@
 
 mod children;
 mod directories;
+mod hints;
+mod records;
 mod slots;
 mod table;
 
-pub use children::{is_directory, is_directory_record, is_in};
+pub use children::{is_directory, is_directory_record, is_in, is_live};
 pub use table::Table;

@@ -7,12 +7,14 @@ ghost use Rattle.kf_core.specs.Tree.{IsIn, record_at, parent_of, is_linked, in_s
 ghost use Rattle.kf_core.specs.Lawful.{Lawful};
 ghost use Rattle.kf_core.specs.Commands.{root_alone, doomed_record, hidden_record, moved_record};
 ghost use Rattle.kf_table.specs.Children.{has_child, is_there_already, child, subdirs};
+ghost use Rattle.kf_table.specs.Live.{live_in};
 ghost use Rattle.kf_table.specs.Next.{AreNext};
 ghost use Rattle.kf_table.specs.Changes.{with_changed_slot, activated_unless_doomed, is_undoomed};
 
-use crate::children::is_directory_record;
+use crate::children::{is_child, is_directory_record};
 use crate::directories::{Directory, empty_directories, enter, enter_record, leave};
-use crate::slots::{activate_slot, doom_slot, empty_slots, hide_slot, move_slot};
+use crate::hints::Hints;
+use crate::records::Records;
 use kf_core::{Key, Marks, NameBytes, Node, Record, Refusal};
 use kf_index::Listed;
 use std::alloc::Global;
@@ -22,8 +24,9 @@ use std::marker::Model;
 /// directories. Contracts see the tree.
 #[derive(Drop)]
 pub struct Table {
-    records: Vec<Option<Record>>,
+    records: Records,
     directories: Vec<Directory>,
+    hints: Hints,
 }
 
 impl Model for Table {
@@ -33,9 +36,9 @@ impl Model for Table {
 
     ghost Value = { List (Option Record) };
 
-    ghost view = { λ table. table.records.items };
+    ghost view = { λ table. table.records };
 
-    ghost invariant = { λ table. AreKept table.records.items table.directories.items };
+    ghost invariant = { λ table. AreKept table.records table.directories.items };
 }
 
 impl Table {
@@ -45,8 +48,8 @@ impl Table {
         ensures made { IfOk result (λ table. table ≡ root_alone slots root) }
         ensures refused { IfErr result (λ refusal. refusal ≡ Refusal.NoMemory) }
     {
-        let mut records = empty_slots(alloc, slots)?;
-        records[root.slot as usize] = Some(Record {
+        let mut records = Records::new(alloc, slots)?;
+        let top = Record {
             key: root,
             parent: None,
             marks: Marks {
@@ -56,11 +59,14 @@ impl Table {
             hidden: false,
             node: Node::Dir,
             name: NameBytes::empty(alloc),
-        });
+        };
+        records.put(root.slot, Some(top));
         let directories = empty_directories(alloc, slots)?;
+        let hints = Hints::new(alloc, slots)?;
         Ok(Table {
             records,
             directories,
+            hints,
         })
     }
 
@@ -76,7 +82,7 @@ impl Table {
     pub fn in_slot(&self, slot: u32) -> Option<&Record>
         ensures known { option_copied result ≡ option_and_then (λ entry. entry) (slice_get self.now slot) }
     {
-        match self.records.get(slot as usize) {
+        match self.records.get(slot) {
             Some(entry) => entry.as_ref(),
             None => None,
         }
@@ -86,7 +92,7 @@ impl Table {
     pub fn is_vacant(&self, slot: u32) -> bool
         ensures known { IsTrue result ↔ (slice_get self.now slot ≡ Some None) }
     {
-        match self.records.get(slot as usize) {
+        match self.records.get(slot) {
             Some(entry) => entry.is_none(),
             None => false,
         }
@@ -97,10 +103,18 @@ impl Table {
     pub fn record(&self, key: Key) -> Option<&Record>
         ensures known { option_copied result ≡ record_at self.now key }
     {
-        match self.records.get(key.slot as usize) {
+        match self.records.get(key.slot) {
             Some(Some(found)) => { if found.key == key { Some(found) } else { None } }
             _ => None,
         }
+    }
+
+    /// Whether the record of a key is live.
+    #[inline(always)]
+    pub fn is_live(&self, key: Key) -> bool
+        ensures known { result ≡ live_in self.now key }
+    {
+        self.records.is_live(key)
     }
 
     /// The directory of a key's record.
@@ -142,8 +156,25 @@ impl Table {
         Some(found)
     }
 
-    /// The record with this name in a linked directory, and its key, which is known before the record is
-    /// read.
+    /// The record with this name in a directory, and its key, where its hint leads to it.
+    #[inline(always)]
+    fn hinted(&self, dir: Key, name: &[u8]) -> Option<(Key, &Record)>
+        requires lawful { (root : Key) × Lawful self.now root }
+        ensures found { IfSome result (λ found. Some found.1.now ≡ child self.now dir name.now) }
+        ensures keyed { IfSome result (λ found. found.1.now.key ≡ found.0) }
+        ensures inside { IfSome result (λ found. IsIn self.now found.1.now) }
+    {
+        let slot = self.hints.get(dir.slot, name);
+        let found = self.in_slot(slot)?;
+        if !is_child(found, dir, name) {
+            return None;
+        }
+        let generation = found.key.generation;
+        Some((Key { slot, generation }, found))
+    }
+
+    /// The record with this name in a linked directory, and its key. The slot is known before the record is
+    /// read, mostly without a search.
     #[inline(always)]
     pub fn child_of(&self, dir: Key, name: &[u8]) -> Option<(Key, &Record)>
         requires lawful { (root : Key) × Lawful self.now root }
@@ -152,7 +183,13 @@ impl Table {
         ensures keyed { IfSome result (λ found. found.1.now.key ≡ found.0) }
         ensures inside { IfSome result (λ found. IsIn self.now found.1.now) }
     {
-        let key = self.directories[dir.slot as usize].get(name)?;
+        let kept = &self.directories[dir.slot as usize];
+        if kept.is_large() {
+            if let Some(found) = self.hinted(dir, name) {
+                return Some(found);
+            }
+        }
+        let key = kept.get(name)?;
         match self.in_slot(key.slot) {
             Some(found) => Some((key, found)),
             None => None,
@@ -201,8 +238,8 @@ impl Table {
         ensures refused { IfErr result (λ refusal. refusal ≡ Refusal.NoMemory) }
     {
         enter_record(&mut self.directories, &entry)?;
-        let slot = entry.key.slot as usize;
-        self.records[slot] = Some(entry);
+        self.hints.put_record(&self.directories, &entry);
+        self.records.put(entry.key.slot, Some(entry));
         Ok(())
     }
 
@@ -211,9 +248,9 @@ impl Table {
         requires linked { IsTrue (is_linked self.old key) }
         ensures taken { self.new ≡ slice_set self.old key.slot None }
     {
-        let slot = key.slot as usize;
-        leave(&mut self.directories, self.records[slot].as_ref());
-        self.records[slot] = None;
+        let gone = self.records.at(key.slot).as_ref();
+        leave(&mut self.directories, gone);
+        self.records.put(key.slot, None);
     }
 
     /// Whether the slot of a key has a record that is not doomed.
@@ -232,7 +269,7 @@ impl Table {
         ensures newly { result ≡ is_undoomed (slice_get self.old key.slot) }
     {
         let newly = self.is_undoomed(key);
-        doom_slot(&mut self.records, key.slot);
+        self.records.doom(key.slot);
         newly
     }
 
@@ -240,14 +277,14 @@ impl Table {
     pub fn hide(&mut self, key: Key, hides: bool)
         ensures changed { self.new ≡ with_changed_slot (hidden_record hides) self.old key.slot }
     {
-        hide_slot(&mut self.records, key.slot, hides);
+        self.records.hide(key.slot, hides);
     }
 
     /// Activates the record in a key's slot, unless it is doomed.
     pub fn activate(&mut self, key: Key)
         ensures changed { self.new ≡ with_changed_slot activated_unless_doomed self.old key.slot }
     {
-        activate_slot(&mut self.records, key.slot);
+        self.records.activate(key.slot);
     }
 
     /// Puts the record of a linked key into a directory, under a name, and its entry into the index there.
@@ -269,11 +306,10 @@ impl Table {
             key,
             is_subdir,
         )?;
-        leave(
-            &mut self.directories,
-            self.records[key.slot as usize].as_ref(),
-        );
-        move_slot(&mut self.records, key.slot, dir, name);
+        leave(&mut self.directories, self.records.at(key.slot).as_ref());
+        self.hints
+            .put(&self.directories, dir.slot, name.bytes(), key.slot);
+        self.records.move_to(key.slot, dir, name);
         Ok(())
     }
 }

@@ -12,11 +12,10 @@ use Rattle.kf_core.specs.declared.records.Record.{Record}
 use Rattle.kf_core.specs.Tree.{Tree, IsIn}
 use Rattle.kf_core.specs.Lawful.{Lawful}
 use Rattle.kf_table.specs.Children.{is_key, is_under, child}
-use Rattle.kf_tree.specs.Paths.{lives}
+use Rattle.kf_table.specs.Live.{lives, lives_in, live_in}
 use Rattle.kf_core.specs.Names.{IsBefore}
 use Rattle.kf_index.specs.Entries.{IsAbove}
 use Rattle.kf_tree.specs.Listing.{IsListed, IsListing, live_names}
-use Rattle.kf_tree.specs.Causes.{lives_in, live_in}
 use Rattle.kf_table.specs.Next.{before, above, IsNext, NoneAbove, AreNext}
 use Rattle.kf_core.proofs.FoundRecords.{same_record, in_found}
 use Rattle.kf_table.proofs.ChildTests.{some_first, is_key_self, both, key_is}

@@ -14,7 +14,8 @@ use Rattle.kf_core.specs.Keys.{same_key}
 use Rattle.kf_core.specs.Tree.{Tree, IsIn, with_key, record_at, is_dir}
 use Rattle.kf_core.specs.Lawful.{root_record, Lawful}
 use Rattle.kf_table.specs.Children.{is_key, is_under, child}
-use Rattle.kf_tree.specs.Paths.{entry_key, found, lives, only_live}
+use Rattle.kf_tree.specs.Paths.{entry_key, found, only_live}
+use Rattle.kf_table.specs.Live.{lives}
 use Rattle.kf_tree.specs.Shown.{shown, shown_record}
 use Rattle.kf_core.proofs.FoundRecords.{in_found, found_in}
 use Rattle.kf_table.proofs.ChildTests.{both, key_is}

@@ -12,7 +12,8 @@ use Rattle.kf_core.specs.Names.{name_fault}
 use Rattle.kf_core.specs.Keys.{same_key}
 use Rattle.kf_core.specs.Marks.{are_live}
 use Rattle.kf_core.specs.Tree.{Tree, is_linked, is_dir, in_subtree}
-use Rattle.kf_tree.specs.Causes.{is_directory, lives_in, live_in, has_entry, early_rename_cause, late_rename_cause, rename_cause}
+use Rattle.kf_tree.specs.Causes.{is_directory, has_entry, early_rename_cause, late_rename_cause, rename_cause}
+use Rattle.kf_table.specs.Live.{lives_in, live_in}
 use Rattle.kf_table.specs.Children.{is_there_already}
 use Rattle.kf_core.proofs.Climbs.{same_key_self}
 use Rattle.kf_core.proofs.Names.{lawful_without_fault}

@@ -18,9 +18,9 @@ use Rattle.kf_core.specs.Tree.{Tree, record_at, is_linked, is_dir, in_subtree, I
 use Rattle.kf_core.specs.Lawful.{Lawful}
 use Rattle.kf_core.specs.Worlds.{MayMove}
 use Rattle.kf_core.proofs.Names.{lawful_without_fault, no_fault_of_lawful}
-use Rattle.kf_tree.specs.Causes.{is_directory, lives_in, live_in, has_entry, early_rename_cause, late_rename_cause, rename_cause}
+use Rattle.kf_tree.specs.Causes.{is_directory, has_entry, early_rename_cause, late_rename_cause, rename_cause}
+use Rattle.kf_table.specs.Live.{lives, lives_in, live_in}
 use Rattle.kf_table.specs.Children.{is_there_already, is_key, child}
-use Rattle.kf_tree.specs.Paths.{lives}
 use Rattle.kf_core.proofs.Climbs.{keys_tell, same_key_self}
 use Rattle.kf_core.proofs.FoundRecords.{found_in, root_found}
 use Rattle.kf_table.proofs.ChildTests.{both, key_is}

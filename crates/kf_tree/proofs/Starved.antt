@@ -10,7 +10,8 @@ use Rattle.kf_core.specs.Refusals.{unless, first_cause}
 use Rattle.kf_core.specs.Names.{has_byte, name_fault}
 use Rattle.kf_core.specs.Keys.{same_key}
 use Rattle.kf_core.specs.Tree.{Tree, is_linked, in_subtree}
-use Rattle.kf_tree.specs.Causes.{is_directory, live_in, has_entry, early_rename_cause, late_rename_cause, rename_cause}
+use Rattle.kf_tree.specs.Causes.{is_directory, has_entry, early_rename_cause, late_rename_cause, rename_cause}
+use Rattle.kf_table.specs.Live.{live_in}
 use Rattle.kf_table.specs.Children.{is_there_already}
 
 abbrev IsFed : Option Refusal → Type 0

@@ -3,7 +3,6 @@ use Rattle.std.specs.Prelude.{◌≡◌, ◌⊎◌, ℕ, Bool, false, not, List,
 use Rattle.std.specs.Option.{option_map_or, option_and_then}
 use Rattle.kf_core.specs.declared.key.Key.{Key}
 use Rattle.kf_core.specs.declared.key.Node.{Node}
-use Rattle.kf_core.specs.declared.records.Record.{Record}
 use Rattle.kf_core.specs.declared.key.Node.TheVariants.{Dir, File, Link}
 use Rattle.kf_core.specs.declared.refusal.Refusal.{Refusal}
 use Rattle.kf_core.specs.declared.refusal.Refusal.TheVariants.{NoEntry, NoMemory, Busy, Exists, NotDir, IsDir, Invalid, NoSpace}
@@ -13,20 +12,13 @@ use Rattle.kf_core.specs.Keys.{same_key}
 use Rattle.kf_core.specs.Marks.{are_doomed}
 use Rattle.kf_core.specs.Tree.{Tree, record_at, marks_of, is_linked, is_dir, in_subtree}
 use Rattle.kf_table.specs.Children.{child, has_child, is_there_already}
-use Rattle.kf_tree.specs.Paths.{lives}
+use Rattle.kf_table.specs.Live.{live_in}
 
 -- there was this cause, or none but want of memory
 abbrev pub Refuses : Option Refusal → Refusal → Type 0
 Refuses cause refusal = (cause ≡ Some refusal) ⊎ ((cause ≡ None) × (refusal ≡ NoMemory))
 
 -- ---- what the causes ask
-
-abbrev pub lives_in : Option Record → Bool
-lives_in None = false
-lives_in (Some r) = lives r
-
-abbrev pub live_in : Tree → Key → Bool
-live_in t key = lives_in (record_at t key)
 
 -- a key that is not linked counts as doomed
 abbrev pub doomed_in : Tree → Key → Bool

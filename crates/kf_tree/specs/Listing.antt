@@ -5,8 +5,7 @@ use Rattle.kf_core.specs.Names.{IsBefore}
 use Rattle.kf_core.specs.Tree.{Tree}
 use Rattle.kf_index.specs.Entries.{IsAbove}
 use Rattle.kf_table.specs.Children.{child}
-use Rattle.kf_tree.specs.Causes.{live_in}
-use Rattle.kf_tree.specs.Paths.{lives}
+use Rattle.kf_table.specs.Live.{lives, live_in}
 
 -- the directory has a live child of this name, above the bound
 pub record IsListed (t : Tree) (dir : Key) (bound : Option (List ℕ)) (name : List ℕ) : Type 0 where

@@ -1,14 +1,14 @@
 -- What a name in a directory leads to, and what a path does.
-use Rattle.std.specs.Prelude.{ℕ, Bool, true, false, not, ◌&&◌, ◌==◌, List, [], ◌∷◌, map, Option, None, Some, Result, Ok, Err, if◌then◌else◌}
+use Rattle.std.specs.Prelude.{ℕ, Bool, true, false, ◌==◌, List, [], ◌∷◌, map, Option, None, Some, Result, Ok, Err, if◌then◌else◌}
 use Rattle.std.specs.List.{list_any, slice_split}
 use Rattle.std.specs.Option.{option_and_then, ok_or}
 use Rattle.kf_core.specs.declared.key.Key.{Key}
 use Rattle.kf_core.specs.declared.records.Record.{Record}
 use Rattle.kf_core.specs.declared.refusal.Refusal.{Refusal}
 use Rattle.kf_core.specs.declared.refusal.Refusal.TheVariants.{NoEntry, NotDir, Invalid}
-use Rattle.kf_core.specs.Marks.{are_live}
 use Rattle.kf_core.specs.Tree.{Tree, record_at, is_dir}
 use Rattle.kf_table.specs.Children.{child}
+use Rattle.kf_table.specs.Live.{lives}
 
 -- what follows, where nothing was refused before
 abbrev pub and_then : {X Y : Type 0} → Result X Refusal → (X → Result Y Refusal) → Result Y Refusal
@@ -61,10 +61,6 @@ names_of path = option_and_then (λ bytes. all_named (parts bytes)) (after_slash
 -- the node that a path names, live or not
 abbrev pub walked : Tree → Key → List ℕ → Result Key Refusal
 walked t root path = and_then (ok_or (names_of path) Invalid) (walk t root)
-
--- a record is live where it is activated, not doomed and not hidden
-abbrev pub lives : Record → Bool
-lives r = are_live (Some r.marks) && not r.hidden
 
 abbrev pub only_live : Option Record → Option Record
 only_live None = None

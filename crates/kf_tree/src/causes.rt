@@ -3,14 +3,13 @@
 ghost use Rattle.std.specs.Prelude.{◌≡◌, Option, None, Some, Result, Ok, Err, MatchResult, true, false, not};
 ghost use Rattle.kf_core.specs.declared.key.Key.{Key};
 ghost use Rattle.kf_core.specs.Lawful.{Lawful};
-ghost use Rattle.kf_tree.specs.Paths.{lives};
 ghost use Rattle.kf_core.specs.Tree.{is_linked, parent_of};
 ghost use Rattle.kf_tree.specs.Causes.{target_fault, target_of, link_target, create_cause, linked_cause, unlink_cause, doom_cause, hide_cause, rename_cause, list_cause, text_cause};
 ghost use Rattle.kf_table.specs.Children.{is_there_already};
 
 use kf_core::{Key, Node, Record, Refusal};
 use kf_index::name_fault;
-use kf_table::{Table, is_directory, is_in};
+use kf_table::{Table, is_directory, is_in, is_live};
 
 /// The key that a link leads to.
 fn target_of(node: &Node) -> Option<Key>
@@ -141,12 +140,6 @@ pub(crate) fn check_hide(table: &Table, key: Key) -> Result<(), Refusal>
         return Err(Refusal::Busy);
     }
     Ok(())
-}
-
-pub(crate) fn is_live(entry: &Record) -> bool
-    ensures known { result ≡ lives entry.now }
-{
-    entry.marks.activated && !entry.marks.doomed && !entry.hidden
 }
 
 /// Whether a record is to move, or why it may not. One that is there already stays.

@@ -4,10 +4,8 @@ ghost use Rattle.std.specs.Prelude.{◌≡◌, ◌∷◌, [], IfOk, IfErr, IfSom
 ghost use Rattle.std.specs.Option.{option_copied};
 ghost use Rattle.kf_core.specs.declared.key.Key.{Key};
 ghost use Rattle.kf_core.specs.Lawful.{Lawful};
-ghost use Rattle.kf_tree.specs.Causes.{live_in};
 ghost use Rattle.kf_tree.specs.Listing.{IsListing};
 
-use crate::causes::is_live;
 use kf_core::{Key, Refusal};
 use kf_index::{Listed, Name};
 use kf_table::Table;
@@ -32,17 +30,6 @@ impl<'a> Model for Names<'a> {
     ghost Value = { List (List ℕ) };
 
     ghost view = { λ names. take names.limit (live_names names.table.now names.later) };
-}
-
-/// Whether the node of a key is live.
-#[inline(always)]
-fn has_live(table: &Table, key: Key) -> bool
-    ensures known { result ≡ live_in table.now key }
-{
-    match table.record(key) {
-        Some(found) => is_live(found),
-        None => false,
-    }
 }
 
 impl<'a> Names<'a> {
@@ -74,7 +61,7 @@ impl<'a> Names<'a> {
         }
         'children: while let Some(((name, key), rest)) = later.split_first() {
             later = rest;
-            if has_live(table, key) {
+            if table.is_live(key) {
                 let others = Names {
                     table,
                     later,

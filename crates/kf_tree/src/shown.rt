@@ -8,9 +8,8 @@ ghost use Rattle.kf_core.specs.Lawful.{Lawful};
 ghost use Rattle.kf_tree.specs.Paths.{found};
 ghost use Rattle.kf_tree.specs.Shown.{shown, shown_record};
 
-use crate::causes::is_live;
 use kf_core::{Key, Record, Refusal};
-use kf_table::{Table, is_directory};
+use kf_table::{Table, is_directory, is_live};
 
 /// The record, where it is shown.
 #[inline(always)]

@@ -18,8 +18,8 @@ impl Board for Counter {
 
     /// Answers a request for a node with the next key, `commands` with their number, all others with
     /// `Invalid`.
-    fn answer(&mut self, request: Request<'_>, reply: &mut Reply) {
-        match request {
+    fn answer(&mut self, request: &Request<'_>, reply: &mut Reply) {
+        match *request {
             Request::MakeDirectory { .. } | Request::MakeFile { .. } => {
                 self.nodes = self.nodes.saturating_add(1);
                 reply.set_key(Key {

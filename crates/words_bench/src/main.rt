@@ -14,7 +14,7 @@ use std::time::{Clock, Duration, Instant};
 use std::{env, fmt, io};
 
 /// Each measurement is the best of so many rounds.
-const ROUNDS: u32 = 7;
+const ROUNDS: u32 = 25;
 
 /// How often each thread does in one round what is measured.
 const TURNS: u32 = 1_000_000;

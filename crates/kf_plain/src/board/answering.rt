@@ -206,8 +206,8 @@ impl PlainBoard {
 impl Board for PlainBoard {
     ghost step = { PlainStep };
 
-    fn answer(&mut self, request: Request<'_>, reply: &mut Reply) {
-        match request {
+    fn answer(&mut self, request: &Request<'_>, reply: &mut Reply) {
+        match *request {
             Request::MakeDirectory { path, is_live } => self.answer_make_directory(
                 path, is_live, reply,
             ),

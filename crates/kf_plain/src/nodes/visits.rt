@@ -7,7 +7,7 @@ ghost use Rattle.kf_core.specs.declared.caller.Phase.TheVariants.{Spent};
 ghost use Rattle.kf_core.specs.declared.refusal.Refusal.TheVariants.{NoMemory, TooManyHolds};
 ghost use Rattle.kf_core.specs.Phases.{is_waiting};
 ghost use Rattle.kf_core.specs.Tree.{is_linked};
-ghost use Rattle.kf_tree.specs.Causes.{live_in};
+ghost use Rattle.kf_table.specs.Live.{live_in};
 ghost use Rattle.kf_files.specs.Files.{Polls, Reads, Stored, Writes, new_file, tag_of, text_told};
 ghost use Rattle.kf_plain.specs.Nodes.{StillWaits, Waits, hold_count, with_spent};
 ghost use Rattle.kf_plain.specs.TextTable.{ShowsOf, StoresIn};

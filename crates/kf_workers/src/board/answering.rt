@@ -55,8 +55,8 @@ impl<W: WaitOps, N: Naming, R: Wait> Board for WorkerBoard<'_, W, N, R> {
 
     ghost step = { λ before request starved reply now. Suits request reply };
 
-    fn answer(&mut self, request: Request<'_>, reply: &mut Reply) {
-        match request {
+    fn answer(&mut self, request: &Request<'_>, reply: &mut Reply) {
+        match *request {
             Request::MakeDirectory { path, is_live } => tell_key(
                 reply,
                 self.make_directory(path, is_live)

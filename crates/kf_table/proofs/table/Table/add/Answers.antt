@@ -9,10 +9,10 @@ enter_record-requires c =
     let after = rw (← c.self.view_is) at c.requires.lawful_after in
     record { lawful = may_enter _ _ c.self.invariant c.args.entry vacant after }
 
-pub index_mut-requires : goal.index_mut-requires
-index_mut-requires c =
+pub put-requires : goal.put-requires
+put-requires c =
     let vacant = rw (← c.self.view_is) at c.requires.vacant in
-    let low : c.args.entry.key.slot < length c.self.inside.records.items = slice_get_within _ _ _ vacant in
+    let low : c.args.entry.key.slot < length c.self.inside.records = slice_get_within _ _ _ vacant in
     omega (arith, low)
 
 pub invariant_of-self-2 : goal.invariant_of-self-2
@@ -20,4 +20,4 @@ invariant_of-self-2 c =
     let vacant = rw (← c.self.view_is) at c.requires.vacant in
     let after = rw (← c.self.view_is) at c.requires.lawful_after in
     let may = may_enter _ _ c.self.invariant c.args.entry vacant after in
-    rw c.in_ok-enter_record.ensures.entered (kept_added _ _ c.self.invariant c.args.entry vacant may)
+    rw (c.put.ensures.put, c.in_ok-enter_record.ensures.entered) (kept_added _ _ c.self.invariant c.args.entry vacant may)

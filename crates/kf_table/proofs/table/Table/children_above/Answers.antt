@@ -13,14 +13,14 @@ returns-in_default c =
 
 pub index-requires : goal.index-requires
 index-requires c =
-    let known : record_at c.self.inside.records.items c.args.dir ≡ Some c.in-Some.field-0.now = rw c.self.view_is (sym c.record.ensures.known ∙ ap option_copied c.in-Some.is) in
+    let known : record_at c.self.inside.records c.args.dir ≡ Some c.in-Some.field-0.now = rw c.self.view_is (sym c.record.ensures.known ∙ ap option_copied c.in-Some.is) in
     let lawful = rw (← c.self.view_is) at c.requires.lawful in
     let low : c.args.dir.slot < length c.self.inside.directories.items = dir_low _ lawful.0 lawful.1 _ c.self.invariant c.args.dir _ known in
     omega (arith, low)
 
 pub returns : goal.returns
 returns c =
-    let known : record_at c.self.inside.records.items c.args.dir ≡ Some c.in-Some.field-0.now = rw c.self.view_is (sym c.record.ensures.known ∙ ap option_copied c.in-Some.is) in
+    let known : record_at c.self.inside.records c.args.dir ≡ Some c.in-Some.field-0.now = rw c.self.view_is (sym c.record.ensures.known ∙ ap option_copied c.in-Some.is) in
     let lawful = rw (← c.self.view_is) at c.requires.lawful in
     let listed = all_read _ lawful.0 lawful.1 _ c.self.invariant c.args.dir _ known c.index.result.now c.index.ensures _ _ c.above.ensures.listed in
     rw (← c.self.view_is) (record { listed = listed })

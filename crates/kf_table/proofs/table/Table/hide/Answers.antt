@@ -3,4 +3,4 @@ use Rattle.kf_table.proofs.KeptMarks.{kept_changed, hidden_stays}
 use Rattle.kf_table.proofs.table.Table.hide.Goals as goal
 
 pub invariant_of-self : goal.invariant_of-self
-invariant_of-self c = rw c.hide_slot.ensures.changed (kept_changed (hidden_record c.args.hides) (hidden_stays c.args.hides) _ _ c.self.invariant c.args.key.slot)
+invariant_of-self c = rw c.hide.ensures.changed (kept_changed (hidden_record c.args.hides) (hidden_stays c.args.hides) _ _ c.self.invariant c.args.key.slot)

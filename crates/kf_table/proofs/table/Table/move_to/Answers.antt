@@ -6,7 +6,7 @@ use Rattle.kf_table.proofs.table.Table.move_to.Goals as goal
 
 pub enter-requires : goal.enter-requires
 enter-requires c =
-    let m : MayMoveTo c.self.inside.records.items c.args.key c.args.dir c.args.name = rw c.self.view_is (record {
+    let m : MayMoveTo c.self.inside.records c.args.key c.args.dir c.args.name = rw c.self.view_is (record {
       linked = c.requires.linked;
       lawful = c.requires.lawful;
       lawful_after = c.requires.lawful_after;
@@ -15,15 +15,15 @@ enter-requires c =
     let h = linked_here _ c.args.key m.linked in
     rw c.bytes.ensures.same (record { room = has_room _ _ c.self.invariant c.args.key c.args.dir c.args.name m h.0 h.1 h.2 })
 
-pub index-requires : goal.index-requires
-index-requires c =
+pub at-requires : goal.at-requires
+at-requires c =
     let linked = rw (← c.self.view_is) at c.requires.linked in
-    let low : c.args.key.slot < length c.self.inside.records.items = linked_low _ c.args.key linked in
+    let low : c.args.key.slot < length c.self.inside.records = linked_low _ c.args.key linked in
     omega (arith, low)
 
 pub leave-requires : goal.leave-requires
 leave-requires c =
-    let m : MayMoveTo c.self.inside.records.items c.args.key c.args.dir c.args.name = rw c.self.view_is (record {
+    let m : MayMoveTo c.self.inside.records c.args.key c.args.dir c.args.name = rw c.self.view_is (record {
       linked = c.requires.linked;
       lawful = c.requires.lawful;
       lawful_after = c.requires.lawful_after;
@@ -31,11 +31,11 @@ leave-requires c =
     }) in
     let tells = rw (c.record.ensures.known, ← c.self.view_is) at c.is_directory_record-is_subdir.ensures.known in
     let entered = rw c.bytes.ensures.same at c.in_ok-enter.ensures.entered in
-    record { counted = may_move_out _ _ c.self.invariant c.args.key c.args.dir c.args.name m _ _ _ _ tells entered c.index.ensures c.as_ref.ensures.value }
+    record { counted = may_move_out _ _ c.self.invariant c.args.key c.args.dir c.args.name m _ _ _ _ tells entered c.at.ensures.read c.as_ref.ensures.value }
 
 pub invariant_of-self-2 : goal.invariant_of-self-2
 invariant_of-self-2 c =
-    let m : MayMoveTo c.self.inside.records.items c.args.key c.args.dir c.args.name = rw c.self.view_is (record {
+    let m : MayMoveTo c.self.inside.records c.args.key c.args.dir c.args.name = rw c.self.view_is (record {
       linked = c.requires.linked;
       lawful = c.requires.lawful;
       lawful_after = c.requires.lawful_after;
@@ -43,4 +43,4 @@ invariant_of-self-2 c =
     }) in
     let tells = rw (c.record.ensures.known, ← c.self.view_is) at c.is_directory_record-is_subdir.ensures.known in
     let entered = rw c.bytes.ensures.same at c.in_ok-enter.ensures.entered in
-    rw (c.move_slot.ensures.changed, c.leave.ensures.left) (kept_by_move _ _ c.self.invariant c.args.key c.args.dir c.args.name m _ _ _ _ tells entered c.index.ensures c.as_ref.ensures.value)
+    rw (c.move_to.ensures.changed, c.leave.ensures.left) (kept_by_move _ _ c.self.invariant c.args.key c.args.dir c.args.name m _ _ _ _ tells entered c.at.ensures.read c.as_ref.ensures.value)

@@ -5,15 +5,15 @@ use Rattle.kf_table.proofs.table.Table.take_out.Goals as goal
 pub leave-requires : goal.leave-requires
 leave-requires c =
     let linked = rw (← c.self.view_is) at c.requires.linked in
-    record { counted = may_take _ _ c.self.invariant c.args.key _ _ linked c.index.ensures c.as_ref.ensures.value }
+    record { counted = may_take _ _ c.self.invariant c.args.key _ _ linked c.at.ensures.read c.as_ref-gone.ensures.value }
 
-pub index_mut-requires : goal.index_mut-requires
-index_mut-requires c =
+pub put-requires : goal.put-requires
+put-requires c =
     let linked = rw (← c.self.view_is) at c.requires.linked in
-    let low : c.args.key.slot < length c.self.inside.records.items = linked_low _ c.args.key linked in
+    let low : c.args.key.slot < length c.self.inside.records = linked_low _ c.args.key linked in
     omega (arith, low)
 
 pub invariant_of-self : goal.invariant_of-self
 invariant_of-self c =
     let linked = rw (← c.self.view_is) at c.requires.linked in
-    rw c.leave.ensures.left (kept_taken _ _ c.self.invariant c.args.key _ _ linked c.index.ensures c.as_ref.ensures.value)
+    rw (c.put.ensures.put, c.leave.ensures.left) (kept_taken _ _ c.self.invariant c.args.key _ _ linked c.at.ensures.read c.as_ref-gone.ensures.value)

@@ -1,0 +1,98 @@
+//! Where a child of a large directory is looked for first: the slot where its name was last put.
+
+ghost use Rattle.std.specs.Prelude.{◌≡◌, IfErr};
+
+use crate::directories::Directory;
+use kf_core::{Record, Refusal};
+use std::alloc::Global;
+
+/// So many places there are for each slot: of a full table, one child in ten has its place taken by another.
+const PLACES: usize = 4;
+
+/// An odd number whose multiples are spread (the kernel's `GOLDEN_RATIO_64`).
+const SPREAD: u64 = 0x61C8_8646_80B5_83EB;
+
+/// By a hash of a directory's slot and a name, the slot in which a record with them was last put: what the
+/// kernel's table of names is to a walk (`dentry_hashtable`). Nobody believes it: who reads a slot here
+/// looks whether the record there is the one that is asked for, and searches the index where it is not. So a
+/// record that goes leaves its slot here, and no clause tells what is read. It serves large directories: in
+/// others a search is as short.
+#[derive(Drop)]
+pub(crate) struct Hints {
+    slots: Vec<u32>,
+}
+
+/// A hash, with some more bits in it.
+#[inline(always)]
+fn mixed(hash: u64, bits: u64) -> u64 {
+    (hash.rotate_left(5) ^ bits).wrapping_mul(SPREAD)
+}
+
+/// A hash of a name, by eight bytes at a time, then four, then one.
+#[inline(always)]
+fn hash_of(name: &[u8]) -> u64 {
+    let mut hash = 0;
+    let mut rest = name;
+    while let Some((word, more)) = rest.split_first_chunk::<8>() {
+        hash = mixed(hash, u64::from_le_bytes(*word));
+        rest = more;
+    }
+    if let Some((half, more)) = rest.split_first_chunk::<4>() {
+        hash = mixed(hash, u32::from_le_bytes(*half) as u64);
+        rest = more;
+    }
+    for byte in rest {
+        hash = mixed(hash, *byte as u64);
+    }
+    hash
+}
+
+impl Hints {
+    /// Hints for so many slots, which all lead to the first.
+    pub(crate) fn new(alloc: Global, slots: u32) -> Result<Hints, Refusal>
+        ensures refused { IfErr result (λ refusal. refusal ≡ Refusal.NoMemory) }
+    {
+        match Vec::from_elem(alloc, 0, slots as usize * PLACES) {
+            Ok(slots) => Ok(Hints { slots }),
+            Err(_) => Err(Refusal::NoMemory),
+        }
+    }
+
+    /// The place for a name in the directory in this slot. The hash of the name alone comes first, so a walk
+    /// need not wait for the slot to begin it.
+    #[inline(always)]
+    fn place(&self, dir: u32, name: &[u8]) -> usize {
+        let hash = mixed(hash_of(name), dir as u64);
+        ((hash >> 32).wrapping_mul(self.slots.len() as u64) >> 32) as usize
+    }
+
+    /// The slot to look at first.
+    #[inline(always)]
+    pub(crate) fn get(&self, dir: u32, name: &[u8]) -> u32 {
+        match self.slots.get(self.place(dir, name)) {
+            Some(slot) => *slot,
+            None => 0,
+        }
+    }
+
+    /// From now on that is the slot of this child, where its directory is a large one.
+    pub(crate) fn put(&mut self, directories: &[Directory], dir: u32, name: &[u8], slot: u32) {
+        let Some(kept) = directories.get(dir as usize) else {
+            return;
+        };
+        if !kept.is_large() {
+            return;
+        }
+        let place = self.place(dir, name);
+        if let Some(hint) = self.slots.get_mut(place) {
+            *hint = slot;
+        }
+    }
+
+    /// The same for a record, where it has a directory.
+    pub(crate) fn put_record(&mut self, directories: &[Directory], entry: &Record) {
+        if let Some(parent) = entry.parent {
+            self.put(directories, parent.slot, entry.name.bytes(), entry.key.slot);
+        }
+    }
+}

@@ -1,0 +1,166 @@
+//! The records by slot, and beside each the key of the live one.
+
+ghost use Rattle.std.specs.Prelude.{◌≡◌, ◌<◌, Option, Some, None, IfOk, IfErr, length, map, replicate, slice_get, slice_index_or, slice_set};
+ghost use Rattle.std.specs.Option.{option_copied, option_and_then};
+ghost use Rattle.kf_core.specs.declared.records.Record.{Record};
+ghost use Rattle.kf_core.specs.Commands.{doomed_record, hidden_record, moved_record};
+ghost use Rattle.kf_core.specs.Tree.{Tree};
+ghost use Rattle.kf_table.specs.Changes.{with_changed_slot, activated_unless_doomed};
+ghost use Rattle.kf_table.specs.Live.{live_in, live_key};
+
+use crate::children::is_live;
+use crate::slots::{activate_slot, doom_slot, empty_slots, hide_slot, move_slot};
+use kf_core::{Key, NameBytes, Record, Refusal};
+use std::alloc::Global;
+use std::marker::Model;
+
+/// The records by slot. Contracts see the tree.
+#[derive(Drop)]
+pub(crate) struct Records {
+    slots: Vec<Option<Record>>,
+    /// The keys of the live ones, by slot: a listing looks at 12 bytes for each name and not at 88.
+    live: Vec<Option<Key>>,
+}
+
+impl Model for Records {
+    ghost use Rattle.std.specs.Prelude.{◌≡◌, List, Option, map};
+    ghost use Rattle.kf_core.specs.declared.records.Record.{Record};
+    ghost use Rattle.kf_table.specs.Live.{live_key};
+
+    ghost Value = { List (Option Record) };
+
+    ghost view = { λ records. records.slots.items };
+
+    ghost invariant = { λ records. records.live.items ≡ map live_key records.slots.items };
+}
+
+/// So many slots in which nothing is live.
+fn nothing_live(alloc: Global, slots: u32) -> Result<Vec<Option<Key>>, Refusal>
+    ensures made { IfOk result (λ live. live.items ≡ replicate slots None) }
+    ensures refused { IfErr result (λ refusal. refusal ≡ Refusal.NoMemory) }
+{
+    match Vec::from_elem(alloc, None, slots as usize) {
+        Ok(live) => Ok(live),
+        Err(_) => Err(Refusal::NoMemory),
+    }
+}
+
+/// The key of a slot's record, where that is live.
+fn live_key(entry: Option<&Option<Record>>) -> Option<Key>
+    ensures known { result ≡ option_and_then live_key (option_copied entry.entry) }
+{
+    match entry {
+        Some(Some(found)) if is_live(found) => Some(found.key),
+        _ => None,
+    }
+}
+
+/// What is in a slot.
+#[inline(always)]
+fn entry_in(slots: &Vec<Option<Record>>, slot: u32) -> Option<&Option<Record>>
+    ensures known { option_copied result ≡ slice_get slots.now.items slot }
+{
+    slots.get(slot as usize)
+}
+
+/// Notes whether the record in this slot is live, which may have changed.
+fn note(live: &mut Vec<Option<Key>>, slots: &Vec<Option<Record>>, slot: u32)
+    ensures kept { (before : Tree) (entry : Option Record) → live.old.items ≡ map live_key before
+        → slots.now.items ≡ slice_set before slot entry → live.new.items ≡ map live_key slots.now.items }
+{
+    let key = live_key(entry_in(slots, slot));
+    let at = slot as usize;
+    if at < live.len() {
+        live[at] = key;
+    }
+}
+
+impl Records {
+    /// So many slots without a record.
+    pub(crate) fn new(alloc: Global, slots: u32) -> Result<Records, Refusal>
+        ensures made { IfOk result (λ records. records ≡ replicate slots None) }
+        ensures refused { IfErr result (λ refusal. refusal ≡ Refusal.NoMemory) }
+    {
+        Ok(Records {
+            slots: empty_slots(alloc, slots)?,
+            live: nothing_live(alloc, slots)?,
+        })
+    }
+
+    /// The number of slots.
+    #[inline(always)]
+    pub(crate) fn len(&self) -> usize
+        ensures known { result ≡ length self.now }
+    {
+        self.slots.len()
+    }
+
+    /// What is in a slot.
+    #[inline(always)]
+    pub(crate) fn get(&self, slot: u32) -> Option<&Option<Record>>
+        ensures known { option_copied result ≡ slice_get self.now slot }
+    {
+        entry_in(&self.slots, slot)
+    }
+
+    /// What is in a slot that is there.
+    #[inline(always)]
+    pub(crate) fn at(&self, slot: u32) -> &Option<Record>
+        requires within { slot < length self.now }
+        ensures read { result.now ≡ slice_index_or self.now slot result.now }
+    {
+        &self.slots[slot as usize]
+    }
+
+    /// Whether the record of a key is live.
+    #[inline(always)]
+    pub(crate) fn is_live(&self, key: Key) -> bool
+        ensures known { result ≡ live_in self.now key }
+    {
+        match self.live.get(key.slot as usize) {
+            Some(Some(found)) => *found == key,
+            _ => false,
+        }
+    }
+
+    /// Puts a record into a slot, or empties it.
+    pub(crate) fn put(&mut self, slot: u32, entry: Option<Record>)
+        requires within { slot < length self.old }
+        ensures put { self.new ≡ slice_set self.old slot entry }
+    {
+        self.slots[slot as usize] = entry;
+        note(&mut self.live, &self.slots, slot);
+    }
+
+    /// Dooms the record in a slot.
+    pub(crate) fn doom(&mut self, slot: u32)
+        ensures changed { self.new ≡ with_changed_slot doomed_record self.old slot }
+    {
+        doom_slot(&mut self.slots, slot);
+        note(&mut self.live, &self.slots, slot);
+    }
+
+    /// Activates the record in a slot, unless it is doomed.
+    pub(crate) fn activate(&mut self, slot: u32)
+        ensures changed { self.new ≡ with_changed_slot activated_unless_doomed self.old slot }
+    {
+        activate_slot(&mut self.slots, slot);
+        note(&mut self.live, &self.slots, slot);
+    }
+
+    /// Hides the record in a slot, or shows it.
+    pub(crate) fn hide(&mut self, slot: u32, hides: bool)
+        ensures changed { self.new ≡ with_changed_slot (hidden_record hides) self.old slot }
+    {
+        hide_slot(&mut self.slots, slot, hides);
+        note(&mut self.live, &self.slots, slot);
+    }
+
+    /// Puts the record in a slot into a directory, under a name.
+    pub(crate) fn move_to(&mut self, slot: u32, dir: Key, name: NameBytes)
+        ensures changed { self.new ≡ with_changed_slot (moved_record dir name) self.old slot }
+    {
+        move_slot(&mut self.slots, slot, dir, name);
+        note(&mut self.live, &self.slots, slot);
+    }
+}
