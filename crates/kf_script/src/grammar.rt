@@ -46,13 +46,27 @@ fn request<'a>(command: &[u8], words: Words<'a>) -> Option<Request<'a>>
     }
 }
 
+/// The same as [`parse`], put into a place of the caller's: what a function answers is copied once more, and
+/// the board would wait for that copy.
+pub(crate) fn parse_into<'a>(line: &'a [u8], asked: &mut Option<Request<'a>>)
+    requires { length line.now ≤ line_limit }
+    ensures value { option_map request_words asked.new ≡ request_of line.now }
+    ensures range { IfSome asked.new (λ request. IsInRange (request_words request)) }
+{
+    let mut words = Words::new(line);
+    *asked = match words.next() {
+        Some(command) => request(command, words),
+        None => None,
+    };
+}
+
 /// What a line of at most 8,192 bytes asks for, or nothing where it matches no row of the grammar.
 pub fn parse(line: &[u8]) -> Option<Request<'_>>
     requires { length line.now ≤ line_limit }
     ensures value { option_map request_words result ≡ request_of line.now }
     ensures range { IfSome result (λ request. IsInRange (request_words request)) }
 {
-    let mut words = Words::new(line);
-    let command = words.next()?;
-    request(command, words)
+    let mut asked = None;
+    parse_into(line, &mut asked);
+    asked
 }

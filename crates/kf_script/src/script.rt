@@ -11,7 +11,7 @@ ghost use Rattle.kf_script.specs.Running.{Running, Stopped, AnsweredOrCut, ended
 
 use super::board::Board;
 use super::fault::RunFault;
-use super::grammar::parse;
+use super::grammar::parse_into;
 use super::line::{LINE_LIMIT, LineBuffer};
 use super::output::Output;
 use super::reads::{Input, READ_LIMIT};
@@ -29,7 +29,9 @@ fn answer_line<B: Board>(board: &mut B, reply: &mut Reply, line: &[u8])
     ensures { (starved : Bool)
         × AnswersRequest B.step board.old (request_of line.now) starved reply.new board.new }
 {
-    match &parse(line) {
+    let mut asked = None;
+    parse_into(line, &mut asked);
+    match &asked {
         Some(request) => board.answer(request, reply),
         None => reply.set_bad_line(),
     }
