@@ -10,8 +10,9 @@ use Rattle.kf_core.specs.Refusals.{first_cause}
 use Rattle.kf_core.specs.Tree.{Tree}
 use Rattle.kf_tree.specs.Causes.{Refuses, hide_cause, hidden_in}
 use Rattle.kf_tree.specs.TreeLogs.{IsAccepted}
+use Rattle.kf_words.specs.declared.view.CallerView.{CallerView}
 use Rattle.kf_words.specs.Callers.{TableId, Handle, IsSameSeat, FoundHidden, seat_view}
-use Rattle.kf_words.specs.Runs.{WasAHide}
+use Rattle.kf_words.specs.Runs.{WasAHide, OnlyLookedHidden}
 use Rattle.kf_shared.specs.Locked.{Locked, IsWhole, Unchanged}
 
 -- files alone are hidden
@@ -37,6 +38,10 @@ abbrev pub ShowDone : Locked → Locked → Key → Type 0
 ShowDone old new key = MatchBool (hidden_in old.state.tree key)
     (IsAccepted old.state new.state None (Show key)) (new.state ≡ old.state)
 
+-- one step hid the key, and all others were looks
+abbrev pub HidAndLooked : CallerView → CallerView → Type 0
+HidAndLooked before after = (hid : CallerView) × WasAHide before hid × OnlyLookedHidden hid after
+
 -- a whole value, as the lock may keep one, in which the file of a hold was hidden, and the value after that
 pub record HidingAccepted (table : TableId) (hold : Handle) : Type 0 where
   pub old : Locked
@@ -51,3 +56,10 @@ pub record HidingRefused (table : TableId) (hold back : Handle) (refusal : Refus
   pub whole : IsWhole table old
   pub why : HideRefused old.state.tree hold back refusal
   pub same : Unchanged old new
+
+-- a whole value, as the lock may keep one, when a key was shown, and the value after that
+pub record ShowingDone (table : TableId) (key : Key) : Type 0 where
+  pub old : Locked
+  pub new : Locked
+  pub whole : IsWhole table old
+  pub done : ShowDone old new key

@@ -68,12 +68,13 @@ abbrev pub UnlinkDone : Locked → Locked → Key → Bool → Type 0
 UnlinkDone old new key unlinked = MatchBool unlinked
     (IsAccepted old.state new.state (unlink_cause old.state.tree key) (Unlink key)) (new ≡ old)
 
--- a new hold of this linked node
-pub record IsNewHold (table : TableId) (t : Tree) (key : Key) (hold : Handle) : Type 0 where
+-- a new hold of this linked node, which has made no step
+pub record IsHoldOfNode (table : TableId) (t : Tree) (key : Key) (hold : Handle) : Type 0 where
   pub same_table : hold.table ≡ table
   pub key_is : hold.key ≡ key
   pub node : option_map (λ r. r.node) (record_at t key) ≡ Some hold.node
   pub still : hold.phase ≡ Still
+  pub steps : hold.steps ≡ 0
 
 -- the node is not linked, and nothing changed; or one load found as many holds as there may be; or there was
 -- no memory

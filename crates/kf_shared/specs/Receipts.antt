@@ -4,7 +4,9 @@ use Rattle.kf_core.specs.declared.key.Key.{Key}
 use Rattle.kf_core.specs.declared.refusal.Refusal.{Refusal}
 use Rattle.kf_core.specs.PostOrder.{IsPostOrder}
 use Rattle.kf_core.specs.Tree.{Tree, is_linked}
+use Rattle.kf_words.specs.declared.view.CallerView.{CallerView}
 use Rattle.kf_words.specs.Callers.{TableId, Handle, SeatId, IsSameSeat, id_of}
+use Rattle.kf_words.specs.Runs.{OnlyLooked, OnlyMade, parts}
 use Rattle.kf_shared.specs.Locked.{Locked, IsWhole, Unchanged, is_claimed}
 use Rattle.kf_shared.specs.Removal.{DoomMarked, DoomRefused, SelfRemovalRefused}
 
@@ -31,6 +33,11 @@ owners_of handles = map owner handles
 abbrev pub EndsAt : List Handle → Handle → Type 0
 EndsAt handles hold =
     (front : List Handle) × (last : Handle) × (handles ≡ front ++ last ∷ []) × IsSameSeat hold last
+
+-- all that a hold does while its node is finished: it looks until it sees the drain, and then whether the
+-- node has left the tree
+abbrev pub OnlyWaited : CallerView → CallerView → Type 0
+OnlyWaited before after = (saw : CallerView) × OnlyLooked before saw × OnlyMade parts saw after
 
 -- the keys of the node's subtree, in post-order; where the node is not linked, its own alone
 abbrev pub IsDoomList : Tree → Key → List Key → Type 0

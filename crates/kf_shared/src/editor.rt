@@ -9,9 +9,9 @@ ghost use Rattle.kf_tree.specs.Causes.{linked_cause};
 ghost use Rattle.kf_table.specs.Children.{is_there_already};
 ghost use Rattle.kf_tree.specs.TreeLogs.{IsAccepted, IsRefused, IsCompacted};
 ghost use Rattle.kf_words.specs.Callers.{Handle, IsSameSeat, WasHidden, WasShown, seat_view};
-ghost use Rattle.kf_words.specs.Nodes.{KeepsNodes, IsVacant, UnlinkAnswer};
+ghost use Rattle.kf_words.specs.Nodes.{KeepsNodes, IsVacant, UnlinkAnswer, WasPinned};
 ghost use Rattle.kf_words.specs.Runs.{WasAHide, WasAShow};
-ghost use Rattle.kf_shared.specs.Locked.{IsWhole, Created, CreateRefused, BornLowest, move_cause, IsNewHold, HoldRefused, Unchanged, UnlinkDone, UnlinkRefused, is_claimed};
+ghost use Rattle.kf_shared.specs.Locked.{IsWhole, Created, CreateRefused, BornLowest, move_cause, IsHoldOfNode, HoldRefused, Unchanged, UnlinkDone, UnlinkRefused, is_claimed};
 ghost use Rattle.kf_shared.specs.Hiding.{hold_cause, HideRefused, ShowDone};
 ghost use Rattle.kf_shared.specs.Removal.{IsNew, AreHolds, DoomHolds, DoomDone, DoomMarked, DoomRefused, SelfRemovalRefused};
 
@@ -118,7 +118,8 @@ impl<N: Naming> Editor<'_, N> {
     /// Refusals, in order: NoEntry (not linked), TooManyHolds (the slot was found to have as many holds as
     /// there may be), NoMemory. After a refusal the slot has the holds that it had.
     pub fn hold(&mut self, key: Key) -> Result<Hold, Refusal>
-        ensures hold { IfOk result (λ hold. IsNewHold N.table self.old.state.tree key hold) }
+        ensures hold { IfOk result (λ hold. IsHoldOfNode N.table self.old.state.tree key hold) }
+        ensures pinned { OnOk result (WasPinned self.old.master.view key.slot self.new.master.view) }
         ensures refused { IfErr result (λ refusal. HoldRefused self.old self.new key refusal) }
         ensures state { self.new.state ≡ self.old.state }
         ensures words { KeepsNodes self.old.master self.new.master }

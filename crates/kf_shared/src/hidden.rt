@@ -3,8 +3,8 @@ ghost use Rattle.std.specs.Prelude.{◌≡◌, true, IfErr, IfOk};
 ghost use Rattle.kf_core.specs.declared.caller.Phase.TheVariants as phase_of;
 ghost use Rattle.kf_words.specs.Callers.{IsSameSeat, WasShown, seat_view};
 ghost use Rattle.kf_words.specs.Layout.{is_unused};
-ghost use Rattle.kf_words.specs.Runs.{LastWasALookHidden, WasAShow};
-ghost use Rattle.kf_shared.specs.Hiding.{HidingAccepted, HidingRefused};
+ghost use Rattle.kf_words.specs.Runs.{WasAShow};
+ghost use Rattle.kf_shared.specs.Hiding.{HidAndLooked, HidingAccepted, HidingRefused, ShowingDone};
 
 use crate::naming::Naming;
 use crate::tree::SharedTree;
@@ -29,7 +29,7 @@ impl<N: Naming> SharedTree<N> {
         ensures same { IfOk result (λ hidden. IsSameSeat hold hidden) }
         ensures hidden { IfOk result (λ hidden. hidden.phase ≡ phase_of.Hidden) }
         ensures unused { IfOk result (λ hidden. is_unused hidden.found ≡ true) }
-        ensures looked { IfOk result (λ hidden. LastWasALookHidden (seat_view hidden)) }
+        ensures looked { IfOk result (λ hidden. HidAndLooked (seat_view hold) (seat_view hidden)) }
         ensures accepted { IfOk result (λ _. HidingAccepted N.table hold) }
         ensures refused { IfErr result (λ r. HidingRefused N.table hold r.0 r.1) }
     {
@@ -51,6 +51,7 @@ impl<N: Naming> SharedTree<N> {
         requires table { hidden.table ≡ N.table }
         ensures hold { IsSameSeat hidden result × WasShown hidden result }
         ensures made { WasAShow (seat_view hidden) (seat_view result) }
+        ensures shown { ShowingDone N.table hidden.key }
     {
         let mut editor = self.edit(rt);
         editor.show(hidden)

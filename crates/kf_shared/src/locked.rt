@@ -1,5 +1,5 @@
 //! What the tree lock keeps, and its commands on one node.
-ghost use Rattle.std.specs.Prelude.{◌≡◌, IfOk, IfErr, OnErr, Some, None, true, false, not, slice_set};
+ghost use Rattle.std.specs.Prelude.{◌≡◌, IfOk, IfErr, OnOk, OnErr, Some, None, true, false, not, slice_set};
 ghost use Rattle.kf_core.specs.declared.key.Key.{Key};
 ghost use Rattle.kf_core.specs.declared.command.Command.TheVariants.{Activate, Rename};
 ghost use Rattle.kf_core.specs.declared.refusal.Refusal.TheVariants as refusal_of;
@@ -7,8 +7,8 @@ ghost use Rattle.kf_core.specs.Tree.{is_linked};
 ghost use Rattle.kf_tree.specs.Causes.{linked_cause};
 ghost use Rattle.kf_table.specs.Children.{is_there_already};
 ghost use Rattle.kf_tree.specs.TreeLogs.{IsAccepted, IsRefused};
-ghost use Rattle.kf_words.specs.Nodes.{KeepsNodes, IsVacant, UnlinkAnswer};
-ghost use Rattle.kf_shared.specs.Locked.{IsWhole, Created, CreateRefused, BornLowest, move_cause, IsNewHold, HoldRefused, Unchanged, UnlinkDone, UnlinkRefused, is_claimed};
+ghost use Rattle.kf_words.specs.Nodes.{KeepsNodes, IsVacant, UnlinkAnswer, WasPinned};
+ghost use Rattle.kf_shared.specs.Locked.{IsWhole, Created, CreateRefused, BornLowest, move_cause, IsHoldOfNode, HoldRefused, Unchanged, UnlinkDone, UnlinkRefused, is_claimed};
 
 use crate::marking::rise_each;
 use crate::naming::Naming;
@@ -115,7 +115,8 @@ impl<N: Naming> Locked<N> {
 
     /// A new hold of a linked node.
     pub fn hold(&mut self, key: Key) -> Result<Hold, Refusal>
-        ensures hold { IfOk result (λ hold. IsNewHold N.table self.old.state.tree key hold) }
+        ensures hold { IfOk result (λ hold. IsHoldOfNode N.table self.old.state.tree key hold) }
+        ensures pinned { OnOk result (WasPinned self.old.master.view key.slot self.new.master.view) }
         ensures refused { IfErr result (λ refusal. HoldRefused self.old self.new key refusal) }
         ensures state { self.new.state ≡ self.old.state }
         ensures words { KeepsNodes self.old.master self.new.master }

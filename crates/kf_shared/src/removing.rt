@@ -3,9 +3,9 @@ ghost use Rattle.std.specs.Prelude.{◌≡◌, ◌+◌, ◌≤◌, ◌++◌, IfE
 ghost use Rattle.kf_core.specs.declared.caller.Phase.TheVariants as phase_of;
 ghost use Rattle.kf_core.specs.declared.refusal.Refusal.TheVariants as refusal_of;
 ghost use Rattle.kf_tree.specs.Ends.{EndsWith};
-ghost use Rattle.kf_words.specs.Callers.{IsSameSeat};
+ghost use Rattle.kf_words.specs.Callers.{IsSameSeat, seat_view};
 ghost use Rattle.kf_shared.specs.Removal.{keys_of};
-ghost use Rattle.kf_shared.specs.Receipts.{AllDifferent, AreOf, EndsAt, RemovalRefused, SelfRemovalWasRefused, WasDoomed, WasSelfDoomed, owners_of};
+ghost use Rattle.kf_shared.specs.Receipts.{AllDifferent, AreOf, EndsAt, OnlyWaited, RemovalRefused, SelfRemovalWasRefused, WasDoomed, WasSelfDoomed, owners_of};
 
 use crate::naming::Naming;
 use crate::tree::SharedTree;
@@ -25,6 +25,7 @@ impl<N: Naming> SharedTree<N> {
         requires table { hold.table ≡ N.table }
         ensures same { IsSameSeat hold result }
         ensures parted { result.phase ≡ phase_of.Parted }
+        ensures waited { OnlyWaited (seat_view hold) (seat_view result) }
     {
         let mut drained = wait_drained(rt, hold);
         for _ in rt.forever() {

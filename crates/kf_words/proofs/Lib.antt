@@ -18,3 +18,4 @@ pub mod Events
 pub mod WordSteps
 pub mod Runs
 pub mod Made
+pub mod Waits

@@ -1,5 +1,5 @@
 -- One atomic step of the table as a whole, by any of its seats, and runs of such steps.
-use Rattle.std.specs.Prelude.{◌≡◌, ◌≢◌, ◌⊎◌, ℕ, suc, ◌+◌, ◌-◌, ◌%◌, ◌^◌, ◌<◌, ◌≤◌, bit_or, true, false, List, [], ◌∷◌, ◌++◌, map, length, slice_index, slice_set, Some, None, is_some, IsTrue, IsFalse}
+use Rattle.std.specs.Prelude.{◌≡◌, ◌≢◌, ◌⊎◌, ℕ, zero, suc, ◌+◌, ◌-◌, ◌%◌, ◌^◌, ◌<◌, ◌≤◌, bit_or, true, false, List, [], ◌∷◌, ◌++◌, map, length, slice_index, slice_set, Some, None, is_some, IsTrue, IsFalse}
 use mathlib.Core.Option.{some}
 use lib.ListN.{get_elem?}
 use Rattle.atomic_table.specs.Table.{State, Step, stepped, keeps}
@@ -363,12 +363,24 @@ MakesRelease = Makes hold_index releases (CallerBecomes after_release)
 abbrev pub WasARelease : CallerView → CallerView → Type 0
 WasARelease = WasMade releases
 
--- the last step of a seat with this view was a look, or one of a hider
-abbrev pub LastWasALook : CallerView → Type 0
-LastWasALook after = (before : CallerView) × WasALook before after
+-- so many steps of this kind, one after another and no other between them, each made by a table that met the
+-- rule
+abbrev pub WereMade : (ℕ → Kind) → ℕ → CallerView → CallerView → Type 0
+WereMade kind zero before after = after ≡ before
+WereMade kind (suc count) before after =
+    (between : CallerView) × WereMade kind count before between × WasMade kind between after
 
-abbrev pub LastWasALookHidden : CallerView → Type 0
-LastWasALookHidden after = (before : CallerView) × WasALookHidden before after
+-- one step of this kind or more, and no other
+abbrev pub OnlyMade : (ℕ → Kind) → CallerView → CallerView → Type 0
+OnlyMade kind before after = (count : ℕ) × WereMade kind (suc count) before after
+
+-- all that a wait for a drain does: it looks, and looks again
+abbrev pub OnlyLooked : CallerView → CallerView → Type 0
+OnlyLooked = OnlyMade looks
+
+-- the same of a wait for a hidden key
+abbrev pub OnlyLookedHidden : CallerView → CallerView → Type 0
+OnlyLookedHidden = OnlyMade looks_hidden
 
 -- a try, and the step that takes it back
 abbrev pub WasATryUndone : CallerView → CallerView → Type 0

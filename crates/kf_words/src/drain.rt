@@ -3,7 +3,7 @@ ghost use Rattle.std.specs.Prelude.{◌≡◌, true};
 ghost use Rattle.kf_core.specs.declared.caller.Phase.TheVariants as phase_of;
 ghost use Rattle.kf_words.specs.Callers.{IsSameSeat, seat_view};
 ghost use Rattle.kf_words.specs.Layout.{is_drained};
-ghost use Rattle.kf_words.specs.Runs.{LastWasALook};
+ghost use Rattle.kf_words.specs.Runs.{OnlyLooked};
 
 use crate::hold::Hold;
 use crate::layout::{DOOM, USERS, has_hide, is_drained, is_unused};
@@ -57,12 +57,13 @@ impl Drained {
 }
 
 /// Waits until the node is doomed and nobody has a reference to it (`kernfs_drain`).
-/// It may never return, and its number of word steps is not told.
+/// It may never return. All its word steps are looks at the node's active word; how many is not told.
+#[tactic(auto, using(crate::proofs::Waits::at_least_one))]
 pub fn wait_drained<R: Wait>(rt: &R, hold: Hold) -> Drained
     ensures same { IsSameSeat hold result }
     ensures drained { result.phase ≡ phase_of.Drained }
     ensures found { is_drained result.found ≡ true }
-    ensures looked { LastWasALook (seat_view result) }
+    ensures looked { OnlyLooked (seat_view hold) (seat_view result) }
     ensures untried { result.tries ≡ hold.tries }
 {
     let Hold { mut seat } = hold;

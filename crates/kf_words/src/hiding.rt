@@ -3,7 +3,7 @@ ghost use Rattle.std.specs.Prelude.{◌≡◌, true, IfOk, IfErr, MatchResult};
 ghost use Rattle.kf_core.specs.declared.caller.Phase.TheVariants as phase_of;
 ghost use Rattle.kf_words.specs.Callers.{IsSameSeat, SawUnused, SawUser, WasShown, FoundThere, seat_view};
 ghost use Rattle.kf_words.specs.Layout.{is_unused};
-ghost use Rattle.kf_words.specs.Runs.{LastWasALookHidden, WasALookHidden, WasAShow};
+ghost use Rattle.kf_words.specs.Runs.{OnlyLookedHidden, WasALookHidden, WasAShow};
 
 use crate::hold::Hold;
 use crate::layout::is_unused;
@@ -98,12 +98,13 @@ impl Hidden {
 }
 
 /// Waits until nobody has a reference to the node whose key it hides.
-/// It may never return, and its number of word steps is not told.
+/// It may never return. All its word steps are looks at the node's active word; how many is not told.
+#[tactic(auto, using(crate::proofs::Waits::at_least_one))]
 pub fn wait_hidden<R: Wait>(rt: &R, hiding: Hiding) -> Hidden
     ensures same { IsSameSeat hiding result }
     ensures hidden { result.phase ≡ phase_of.Hidden }
     ensures found { is_unused result.found ≡ true }
-    ensures looked { LastWasALookHidden (seat_view result) }
+    ensures looked { OnlyLookedHidden (seat_view hiding) (seat_view result) }
 {
     let Hiding { mut seat } = hiding;
     let mut slept = false;

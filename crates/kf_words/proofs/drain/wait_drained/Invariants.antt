@@ -1,5 +1,6 @@
-use Rattle.std.proofs.Common.{◌≡◌}
+use Rattle.std.proofs.Common.{◌≡◌, ℕ}
 use Rattle.kf_words.specs.Callers.{IsSameSeat, IsAtRest, handle_of, view_of}
+use Rattle.kf_words.specs.Runs.{WereMade, looks}
 use Rattle.kf_words.proofs.drain.wait_drained.Given as goal
 
 abbrev pub invariant-loop : goal.invariant-loop
@@ -7,4 +8,5 @@ invariant-loop g l = record {
   same : IsSameSeat (handle_of l.initial.seat) (handle_of l.seat);
   waits : IsAtRest (view_of l.seat);
   untried : (view_of l.seat).tries ≡ (view_of l.initial.seat).tries;
+  looked : (count : ℕ) × WereMade looks count (view_of l.initial.seat) (view_of l.seat);
 }

@@ -1,6 +1,12 @@
+use Rattle.std.proofs.Common.{ℕ}
 use Rattle.kf_core.specs.declared.caller.Phase.TheVariants.{Hiding}
 use Rattle.kf_words.specs.Callers.{IsSameSeat, IsIn, handle_of, view_of}
+use Rattle.kf_words.specs.Runs.{WereMade, looks_hidden}
 use Rattle.kf_words.proofs.hiding.wait_hidden.Given as goal
 
 abbrev pub invariant-loop : goal.invariant-loop
-invariant-loop g l = record { same : IsSameSeat (handle_of l.initial.seat) (handle_of l.seat); hiding : IsIn Hiding (view_of l.seat) }
+invariant-loop g l = record {
+  same : IsSameSeat (handle_of l.initial.seat) (handle_of l.seat);
+  hiding : IsIn Hiding (view_of l.seat);
+  looked : (count : ℕ) × WereMade looks_hidden count (view_of l.initial.seat) (view_of l.seat);
+}

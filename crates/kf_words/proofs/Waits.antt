@@ -1,0 +1,15 @@
+-- What a wait does: one step of a kind, and then another.
+use Rattle.std.proofs.Common.{ℕ, suc}
+use Rattle.kf_words.specs.declared.view.CallerView.{CallerView}
+use Rattle.kf_words.specs.Runs.{Kind, WasMade, WereMade, OnlyMade}
+
+-- one more of them, after any number
+pub one_more : (kind : ℕ → Kind) (before between after : CallerView)
+    → ((count : ℕ) × WereMade kind count before between) → WasMade kind between after
+    → (count : ℕ) × WereMade kind count before after
+one_more kind before between after so_far step = (suc so_far.0, (between, so_far.1, step))
+
+-- and with it there is one at least
+pub at_least_one : (kind : ℕ → Kind) (before between after : CallerView)
+    → ((count : ℕ) × WereMade kind count before between) → WasMade kind between after → OnlyMade kind before after
+at_least_one kind before between after so_far step = (so_far.0, (between, so_far.1, step))
