@@ -56,10 +56,3 @@ pub record HidingRefused (table : TableId) (hold back : Handle) (refusal : Refus
   pub whole : IsWhole table old
   pub why : HideRefused old.state.tree hold back refusal
   pub same : Unchanged old new
-
--- a whole value, as the lock may keep one, when a key was shown, and the value after that
-pub record ShowingDone (table : TableId) (key : Key) : Type 0 where
-  pub old : Locked
-  pub new : Locked
-  pub whole : IsWhole table old
-  pub done : ShowDone old new key

@@ -4,7 +4,7 @@ ghost use Rattle.kf_core.specs.declared.caller.Phase.TheVariants as phase_of;
 ghost use Rattle.kf_words.specs.Callers.{IsSameSeat, WasShown, seat_view};
 ghost use Rattle.kf_words.specs.Layout.{is_unused};
 ghost use Rattle.kf_words.specs.Runs.{WasAShow};
-ghost use Rattle.kf_shared.specs.Hiding.{HidAndLooked, HidingAccepted, HidingRefused, ShowingDone};
+ghost use Rattle.kf_shared.specs.Hiding.{HidAndLooked, HidingAccepted, HidingRefused};
 
 use crate::naming::Naming;
 use crate::tree::SharedTree;
@@ -51,7 +51,6 @@ impl<N: Naming> SharedTree<N> {
         requires table { hidden.table ≡ N.table }
         ensures hold { IsSameSeat hidden result × WasShown hidden result }
         ensures made { WasAShow (seat_view hidden) (seat_view result) }
-        ensures shown { ShowingDone N.table hidden.key }
     {
         let mut editor = self.edit(rt);
         editor.show(hidden)
