@@ -9,7 +9,7 @@ ghost use Rattle.kf_words.specs.Layout.{line_words, active_index, hold_index, ha
 ghost use Rattle.kf_words.specs.Runs.{WasATry, WasAUndo, WasALeave, WasABreak, WasARestore, WasALook, WasAPart, WasAHide, WasALookHidden, WasAShow, WasARelease};
 ghost use Rattle.kf_words.specs.declared.view.View.TheVariants as seat_of;
 
-use crate::layout::{HIDE, active_index, hold_index, wants_wake};
+use crate::layout::{HIDE, active_index, hold_index, keeps_out, wants_wake};
 use crate::plays::{
     Breaks, Hides, Leaves, Looks, LooksHidden, Parts, Releases, Restores, Shows, Tries, Undoes,
 };
@@ -212,9 +212,10 @@ impl CallerSeat {
     }
 
     /// Wakes one sleeper where the caller's own step, which took one user off this word, left nobody who uses
-    /// a doomed node or one with a hidden key.
+    /// a doomed node or one with a hidden key. Nobody sleeps at the word of a live node whose key is shown, so
+    /// most callers are done after one test, with the same mask as in `enter`.
     pub(crate) fn wake_if_unused(&self, found: u64) {
-        if wants_wake(found.wrapping_sub(1)) {
+        if keeps_out(found) && wants_wake(found.wrapping_sub(1)) {
             self.wake_one();
         }
     }
