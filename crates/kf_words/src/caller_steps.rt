@@ -212,7 +212,7 @@ impl CallerSeat {
     }
 
     /// Wakes one sleeper where the caller's own step, which took one user off this word, left nobody who uses
-    /// a doomed node or one with a hidden key. Nobody sleeps at the word of a live node whose key is shown, so
+    /// a doomed node or one with a hidden key. Nobody sleeps at the word of a live node whose key is shown:
     /// most callers are done after one test, with the same mask as in `enter`.
     pub(crate) fn wake_if_unused(&self, found: u64) {
         if keeps_out(found) && wants_wake(found.wrapping_sub(1)) {
