@@ -1,19 +1,22 @@
-/* Loaded before the C library (LD_PRELOAD): memory, reads and writes that fail where the environment says so.
+/* Loaded before the C library (LD_PRELOAD): memory, reads, writes and threads that fail where the environment says so.
 
    FAIL_MEMORY=N   the Nth request for memory is refused, that one alone
    FAIL_READ=N     the Nth read fails, and the next are well again
    FAIL_WRITE=N    the Nth write fails, and the next are well again
    EMPTY_WRITE=N   the Nth write takes no byte
+   FAIL_THREAD=N   the Nth thread cannot be made
+   NO_THREADS=1    none can
    READ_MOST=N     a read gives N bytes at most
    WRITE_MOST=N    a write takes N bytes at most
    NEWLINES=N      the input is N newlines, one a read, and then its end
-   FAIL_REPORT=F   at the end the file F has what was counted: requests, reads, writes, and how often one failed
+   FAIL_REPORT=F   at the end the file F has what was counted: requests, reads, writes, threads, and how often one failed
 
    Requests are counted from the moment when this file has been loaded, shortly before main begins. */
 #define _GNU_SOURCE
 #include <dlfcn.h>
 #include <errno.h>
 #include <fcntl.h>
+#include <pthread.h>
 #include <stdatomic.h>
 #include <stdio.h>
 #include <stdlib.h>
@@ -21,8 +24,9 @@
 #include <sys/syscall.h>
 #include <unistd.h>
 
-static atomic_ulong requests, reads, writes, failed;
-static unsigned long fail_memory, fail_read, fail_write, empty_write, read_most, write_most, newlines;
+static atomic_ulong requests, reads, writes, threads, failed;
+static unsigned long fail_memory, fail_read, fail_write, empty_write, fail_thread, no_threads, read_most, write_most, newlines;
+static int (*make_thread)(pthread_t *, const pthread_attr_t *, void *(*)(void *), void *);
 static const char *report;
 static atomic_int is_on;
 
@@ -41,10 +45,13 @@ __attribute__((constructor)) static void begin(void) {
     fail_read = number("FAIL_READ");
     fail_write = number("FAIL_WRITE");
     empty_write = number("EMPTY_WRITE");
+    fail_thread = number("FAIL_THREAD");
+    no_threads = number("NO_THREADS");
     read_most = number("READ_MOST");
     write_most = number("WRITE_MOST");
     newlines = number("NEWLINES");
     report = getenv("FAIL_REPORT");
+    *(void **)&make_thread = dlsym(RTLD_NEXT, "pthread_create");
     atomic_store(&is_on, 1);
 }
 
@@ -53,8 +60,8 @@ __attribute__((destructor)) static void tell(void) {
     if (!report)
         return;
     int file = open(report, O_WRONLY | O_CREAT | O_TRUNC, 0600);
-    int size = snprintf(text, sizeof text, "%lu %lu %lu %lu\n", atomic_load(&requests), atomic_load(&reads),
-                        atomic_load(&writes), atomic_load(&failed));
+    int size = snprintf(text, sizeof text, "%lu %lu %lu %lu %lu\n", atomic_load(&requests), atomic_load(&reads),
+                        atomic_load(&writes), atomic_load(&threads), atomic_load(&failed));
     if (file >= 0 && syscall(SYS_write, file, text, (size_t)size) == size)
         close(file);
 }
@@ -113,4 +120,12 @@ ssize_t write(int file, const void *from, size_t size) {
         return turn == fail_write ? -1 : 0;
     }
     return syscall(SYS_write, file, from, write_most && size > write_most ? write_most : size);
+}
+
+int pthread_create(pthread_t *thread, const pthread_attr_t *how, void *(*body)(void *), void *with) {
+    if (atomic_fetch_add(&threads, 1) + 1 == fail_thread || no_threads) {
+        atomic_fetch_add(&failed, 1);
+        return EAGAIN;
+    }
+    return make_thread(thread, how, body, with);
 }

@@ -2,42 +2,128 @@
 
 ONE_CALLER, ONE_WORKER = (), ("--workers", "1")
 
-# By name, what is run by one caller and by the owner of a tree with one worker.
+# By name, what is run by one caller and by the owner of a tree with one worker, and its replies, worked out by hand.
 BY_BOTH = {
-    "nodes": "mkdir /a ; mkdir /a/b ; file /a/x 644 5 ; ls /a ; stat /a ; commands ; mkdir /a/c ; ls /a ; ls /",
-    "removal": "mkdir /a ; mkdir /a ; file /a/x 644 v ; rm /a ; ls / ; rm /a ; mkdir /a ; file /a/x 644 w ; commands ; "
-    "stat /a ; ls /",
-    "forest": "mkdir /p ; mkdir /p/q ; file /p/q/x 444 1 ; file /p/y 444 2 ; rm /p/q ; ls /p ; rm /p ; "
-    "commands ; mkdir /r ; mkdir /s ; mkdir /t ; mkdir /u ; ls /",
-    "activation": "mkdir /a off ; mkdir /a/b off ; ls / ; mkdir /a ; activate /a ; ls / ; ls /a ; stat /a/b ; commands",
-    "pages": "file /t 644 abcd ; open f /t r ; open g /t w ; read f 0 4 ; write g wxyz ; read f 2 4 ; read f 0 4",
-    "old text": "file /t 644 abcd ; open f /t rw ; write f ; read f 0 4 ; rm /t ; read f 1 4 ; read f 0 4 ; write f ; read f 2 4",
-    "poll": "file /t 644 v ; open f /t r ; poll f ; read f 0 9 ; poll f ; notify /t ; poll f ; rm /t ; poll f",
-    "moves": "mkdir /a ; mkdir /b ; mkdir /a/c ; mv /a / a ; commands ; mv /a / b ; mv /a /a/c z ; mv / /a r ; mv /a/c /b d ; "
-    "stat /a ; stat /b ; commands ; ls /a ; ls /b",
-    "links": "mkdir /devices ; mkdir /devices/d0 ; mkdir /bus ; mkdir /bus/devices ; link /bus/devices/d0 /devices/d0 ; "
-    "readlink /bus/devices/d0 ; link /devices/e /devices/d0 ; readlink /devices/e ; rm /devices/d0 ; readlink /devices/e ; "
-    "stat /devices/e ; link /r / ; commands",
-    "held slot": "file /a 644 x ; open f /a r ; rm /a ; file /b 644 y ; close f ; file /b 644 y ; ls /",
-    "modes": "file /f 200 x ; open f /f r ; open f / r ; read f 0 1 ; open f /f w ; open f /f w ; read f 0 1 ; close f",
-    "off": "mkdir /p off ; file /p/x 444 t ; open f /p/x r ; stat /p ; stat /p/x ; activate /p ; open f /p/x r ; read f 3 2 ; close f",
-    "hiding": "file /t 644 v ; open f /t r ; hide /t ; read f 0 1 ; ls / ; stat /t ; hide /t ; show /t ; read f 0 1 ; show /t ; "
-    "hide / ; commands",
-    "hidden and removed": "file /t 644 v ; hide /t ; rm /t ; file /t 644 w ; show /t ; commands ; ls /",
-    "compaction": "mkdir /a ; file /a/x 644 v ; mkdir /b off ; mv /a/x / y ; hide /y ; rm /b ; commands ; compact ; commands ; "
-    "show /y ; ls / ; mkdir /c ; commands",
-    "texts": "file /a 666 one ; open a /a rw ; write a two and more ; read a 0 99 ; write a three ; read a 0 99 ; read a 1 2 ; "
-    "notify /a ; poll a ; close a ; rm /a ; file /a 666 four ; open a /a r ; read a 0 99",
+    "nodes": (
+        "mkdir /a ; mkdir /a/b ; file /a/x 644 5 ; ls /a ; stat /a ; commands ; mkdir /a/c ; ls /a ; ls /",
+        "ok 1.1 ; ok 2.1 ; ok 3.1 ; b x ; dir subdirs=1 nlink=3 live ; 3 ; ok 4.1 ; b c x ; a",
+    ),
+    "removal": (
+        "mkdir /a ; mkdir /a ; file /a/x 644 v ; rm /a ; ls / ; rm /a ; mkdir /a ; file /a/x 644 w ; commands ; "
+        "stat /a ; ls /",
+        "ok 1.1 ; err Exists 17 ; ok 2.1 ; ok ;  ; err NoEntry 2 ; ok 1.2 ; ok 2.2 ; 7 ; "
+        "dir subdirs=0 nlink=2 live ; a",
+    ),
+    "forest": (
+        "mkdir /p ; mkdir /p/q ; file /p/q/x 444 1 ; file /p/y 444 2 ; rm /p/q ; ls /p ; rm /p ; commands ; "
+        "mkdir /r ; mkdir /s ; mkdir /t ; mkdir /u ; ls /",
+        "ok 1.1 ; ok 2.1 ; ok 3.1 ; ok 4.1 ; ok ; y ; ok ; 10 ; ok 1.2 ; ok 2.2 ; ok 3.2 ; ok 4.2 ; r s t u",
+    ),
+    "activation": (
+        "mkdir /a off ; mkdir /a/b off ; ls / ; mkdir /a ; activate /a ; ls / ; ls /a ; stat /a/b ; commands",
+        "ok 1.1 ; ok 2.1 ;  ; err Exists 17 ; ok ; a ; b ; dir subdirs=0 nlink=2 live ; 3",
+    ),
+    "pages": (
+        "file /t 644 abcd ; open f /t r ; open g /t w ; read f 0 4 ; write g wxyz ; read f 2 4 ; read f 0 4",
+        "ok 1.1 ; ok ; ok ; abcd ; 4 ; cd ; wxyz",
+    ),
+    "old text": (
+        "file /t 644 abcd ; open f /t rw ; write f ; read f 0 4 ; rm /t ; read f 1 4 ; read f 0 4 ; write f ; "
+        "read f 2 4",
+        "ok 1.1 ; ok ; 0 ; abcd ; ok ; bcd ; err NoDevice 19 ; err NoDevice 19 ; cd",
+    ),
+    "poll": (
+        "file /t 644 v ; open f /t r ; poll f ; read f 0 9 ; poll f ; notify /t ; poll f ; rm /t ; poll f",
+        "ok 1.1 ; ok ; changed ; v ; same ; ok ; changed ; ok ; changed",
+    ),
+    "moves": (
+        "mkdir /a ; mkdir /b ; mkdir /a/c ; mv /a / a ; commands ; mv /a / b ; mv /a /a/c z ; mv / /a r ; "
+        "mv /a/c /b d ; stat /a ; stat /b ; commands ; ls /a ; ls /b",
+        "ok 1.1 ; ok 2.1 ; ok 3.1 ; ok ; 3 ; err Exists 17 ; err Invalid 22 ; err Invalid 22 ; ok ; "
+        "dir subdirs=0 nlink=2 live ; dir subdirs=1 nlink=3 live ; 4 ;  ; d",
+    ),
+    "links": (
+        "mkdir /devices ; mkdir /devices/d0 ; mkdir /bus ; mkdir /bus/devices ; "
+        "link /bus/devices/d0 /devices/d0 ; readlink /bus/devices/d0 ; link /devices/e /devices/d0 ; "
+        "readlink /devices/e ; rm /devices/d0 ; readlink /devices/e ; stat /devices/e ; link /r / ; commands",
+        "ok 1.1 ; ok 2.1 ; ok 3.1 ; ok 4.1 ; ok 5.1 ; ../../devices/d0 ; ok 6.1 ; d0 ; ok ; err NoEntry 2 ; "
+        "link live ; err Invalid 22 ; 8",
+    ),
+    "held slot": (
+        "file /a 644 x ; open f /a r ; rm /a ; file /b 644 y ; close f ; file /b 644 y ; ls /",
+        "ok 1.1 ; ok ; ok ; ok 2.1 ; ok ; err Exists 17 ; b",
+    ),
+    "modes": (
+        "file /f 200 x ; open f /f r ; open f / r ; read f 0 1 ; open f /f w ; open f /f w ; read f 0 1 ; close f",
+        "ok 1.1 ; err Access 13 ; err IsDir 21 ; err Invalid 22 ; ok ; err Busy 16 ; err Access 13 ; ok",
+    ),
+    "off": (
+        "mkdir /p off ; file /p/x 444 t ; open f /p/x r ; stat /p ; stat /p/x ; activate /p ; open f /p/x r ; "
+        "read f 3 2 ; close f",
+        "ok 1.1 ; ok 2.1 ; err NoEntry 2 ; dir subdirs=0 nlink=2 off ; file mode=444 live ; ok ; ok ;  ; ok",
+    ),
+    "hiding": (
+        "file /t 644 v ; open f /t r ; hide /t ; read f 0 1 ; ls / ; stat /t ; hide /t ; show /t ; read f 0 1 ; "
+        "show /t ; hide / ; commands",
+        "ok 1.1 ; ok ; ok ; err NoDevice 19 ;  ; file mode=644 hidden ; err Busy 16 ; ok ; v ; err Invalid 22 ; "
+        "err IsDir 21 ; 3",
+    ),
+    "hidden and removed": (
+        "file /t 644 v ; hide /t ; rm /t ; file /t 644 w ; show /t ; commands ; ls /",
+        "ok 1.1 ; ok ; ok ; ok 2.1 ; err Invalid 22 ; 5 ; t",
+    ),
+    "compaction": (
+        "mkdir /a ; file /a/x 644 v ; mkdir /b off ; mv /a/x / y ; hide /y ; rm /b ; commands ; compact ; "
+        "commands ; show /y ; ls / ; mkdir /c ; commands",
+        "ok 1.1 ; ok 2.1 ; ok 3.1 ; ok ; ok ; ok ; 7 ; ok ; 3 ; ok ; a y ; ok 3.2 ; 5",
+    ),
+    "texts": (
+        "file /a 666 one ; open a /a rw ; write a two and more ; read a 0 99 ; write a three ; read a 0 99 ; "
+        "read a 1 2 ; notify /a ; poll a ; close a ; rm /a ; file /a 666 four ; open a /a r ; read a 0 99",
+        "ok 1.1 ; ok ; 12 ; two and more ; 5 ; three ; hr ; ok ; changed ; ok ; ok ; ok 1.2 ; ok ; four",
+    ),
 }
 
 # What devices do, which only the owner of a tree with workers has.
 DEVICES = {
-    "a device": "plug d0 on ; unplug d0 ; unplug d0 ; ls /devices ; plug d0 on ; ls /devices/d0 ; unplug d0 ; unplug d0",
-    "a device that is read": "plug d0 on ; readlink /bus/devices/d0 ; open f /devices/d0/value rw ; write f off ; read f 0 9 ; "
-    "unplug d0 ; unplug d0 ; ls /devices",
-    "a device that deletes itself": "plug d0 on ; wait ; @1 open d /devices/d0/delete w ; @1 write d 1 ; wait ; unplug d0 ; "
-    "unplug d0 ; ls /devices ; plug d0 on ; ls /devices/d0",
-    "a device without slots": "mkdir /s ; mkdir /s/a ; mkdir /s/b ; plug d0 on ; unplug d0 ; unplug d0 ; ls /devices ; mkdir /x",
+    "a device": (
+        "plug d0 on ; unplug d0 ; unplug d0 ; ls /devices ; plug d0 on ; ls /devices/d0 ; unplug d0 ; unplug d0",
+        "ok 4.1 ; ok ; err NoEntry 2 ;  ; ok 4.2 ; delete serial value ; ok ; err NoEntry 2",
+    ),
+    "a device that is read": (
+        "plug d0 on ; readlink /bus/devices/d0 ; open f /devices/d0/value rw ; write f off ; read f 0 9 ; "
+        "unplug d0 ; unplug d0 ; ls /devices",
+        "ok 4.1 ; ../../devices/d0 ; ok ; 3 ; off ; ok ; err NoEntry 2 ; ",
+    ),
+    "a device that deletes itself": (
+        "plug d0 on ; wait ; @1 open d /devices/d0/delete w ; @1 write d 1 ; wait ; unplug d0 ; unplug d0 ; "
+        "ls /devices ; plug d0 on ; ls /devices/d0",
+        "ok 4.1 ; ok ; ok ; 1 ; ok ; err NoEntry 2 ; err NoEntry 2 ;  ; ok 4.2 ; delete serial value",
+    ),
+    "a device without slots": (
+        "mkdir /s ; mkdir /s/a ; mkdir /s/b ; plug d0 on ; unplug d0 ; unplug d0 ; ls /devices ; mkdir /x",
+        "ok 1.1 ; ok 2.1 ; ok 3.1 ; err NoSpace 28 ; err NoEntry 2 ; err NoEntry 2 ;  ; ok 7.2",
+    ),
+}
+
+# Rounds in which the owner and workers have lines, whose replies are the same whoever runs them, and in which order.
+THREADS = {
+    "a worker": (
+        "file /t 644 v ; wait ; @1 open f /t r ; @1 read f 0 9 ; ls / ; wait ; @1 close f",
+        "ok 1.1 ; ok ; ok ; v ; t ; ok ; ok",
+    ),
+    "three workers": (
+        "file /a 666 a ; file /b 666 b ; file /c 666 c ; wait ; @1 open f /a rw ; @2 open f /b rw ; "
+        "@3 open f /c rw ; @2 write f bb ; @1 write f aa ; @3 write f cc ; wait ; @3 read f 0 9 ; ls / ; "
+        "@1 read f 0 9 ; @2 read f 0 9 ; wait ; @1 rm /a ; @2 close f ; wait ; ls /",
+        "ok 1.1 ; ok 2.1 ; ok 3.1 ; ok ; ok ; ok ; ok ; 2 ; 2 ; 2 ; ok ; cc ; a b c ; aa ; bb ; ok ; ok ; ok ; "
+        "ok ; b c",
+    ),
+    "devices": (
+        "plug d0 on ; plug d1 off ; wait ; @1 open d /devices/d0/delete w ; @2 open d /devices/d1/delete w ; wait ; "
+        "@1 write d 1 ; @2 write d 1 ; @3 stat /bus ; wait ; ls /devices ; ls /bus/devices",
+        "ok 4.1 ; ok 9.1 ; ok ; ok ; ok ; ok ; 1 ; 1 ; dir subdirs=1 nlink=3 live ; ok ;  ; ",
+    ),
 }
 
 
@@ -46,19 +132,29 @@ def script_of(text):
 
 
 def scripts():
-    for name, text in BY_BOTH.items():
+    for name, (text, _) in BY_BOTH.items():
         for options in (ONE_CALLER, ONE_WORKER):
             yield name, script_of(text), options
 
 
 def of_devices():
-    for name, text in DEVICES.items():
+    for name, (text, _) in DEVICES.items():
         slots = ("--slots", "8") if "slots" in name else ()
         yield name, script_of(text), (*slots, *ONE_WORKER)
 
 
+def of_threads():
+    for name, (text, _) in THREADS.items():
+        yield name, script_of(text), ("--workers", "3")
+
+
+def replies_of(name):
+    """The replies of a script, as they were worked out by hand."""
+    return script_of({**BY_BOTH, **DEVICES, **THREADS}[name][1])
+
+
 def long_script():
-    return b"\n".join(script_of(text) for text in BY_BOTH.values())
+    return b"\n".join(script_of(text) for text, _ in BY_BOTH.values())
 
 
 def device_mistake(lines, replies):

@@ -1,0 +1,208 @@
+"""Scripts whose names, texts, lines and listings have each length around each bound, with the replies that they must have."""
+
+from heapq import heapify, heappop, heappush
+
+NAME, PAGE, LINE, TEXT = 255, 4096, 8192, b"err Line 22"
+ONE_CALLER, ONE_WORKER = (), ("--workers", "1")
+# What workers are given is read whole, and so has a bound.
+LONGEST_SCRIPT = 1_048_576
+# Bytes of which no two neighbours are alike, so that a text that was cut or moved is another one.
+BYTES = bytes(33 + 7 * at % 89 for at in range(89)) * 800
+
+
+class Run:
+    """A script that grows, and its replies. It knows which slot a new node takes, and with which generation."""
+
+    def __init__(self, slots=1024):
+        self.lines, self.replies, self.size = [], [], 0
+        self.unused, self.generations = list(range(1, slots)), [0] * slots
+
+    def ask(self, line, reply):
+        self.lines.append(line)
+        self.replies.append(reply)
+        self.size += len(line) + 1
+
+    def make(self, line):
+        """A line that makes a node, and the slot that it takes: the lowest one that is free, with its next generation."""
+        slot = heappop(self.unused)
+        self.generations[slot] += 1
+        self.ask(line, b"ok %d.%d" % (slot, self.generations[slot]))
+        return slot
+
+    def free(self, line, slots):
+        """A line that is accepted and leaves these slots free."""
+        self.ask(line, b"ok")
+        for slot in slots:
+            heappush(self.unused, slot)
+
+    def script(self):
+        return b"".join(line + b"\n" for line in self.lines)
+
+    def output(self):
+        return b"".join(reply + b"\n" for reply in self.replies)
+
+
+def cut(piece, lengths, slots=1024):
+    """Runs that each have some of the lengths, within the bound of what workers are given."""
+    run = Run(slots)
+    for length in lengths:
+        ahead = Run(slots)
+        piece(ahead, length)
+        if run.size + ahead.size > LONGEST_SCRIPT:
+            yield run
+            run = Run(slots)
+        piece(run, length)
+    yield run
+
+
+def of_line(line, reply):
+    """The reply of a line, which may be too long."""
+    return reply if len(line) <= LINE else TEXT
+
+
+def names(run, length):
+    """The length is looked at first, and the name of no bytes is none."""
+    name = BYTES.replace(b"/", b"_")[:length]
+    for command in (b"mkdir /%s", b"file /%s 644 x", b"link /%s /a", b"mv /a / %s"):
+        slot = run.make(b"mkdir /a")
+        line = command % name
+        if 1 <= length <= NAME:
+            made = [slot]
+            if line.startswith(b"mv"):
+                run.ask(line, b"ok")
+                run.ask(b"ls /", name)
+            else:
+                made.append(run.make(line))
+                run.ask(b"ls /", b" ".join(sorted([name, b"a"])))
+                run.free(b"rm /a", made[:1])
+            run.free(b"rm /" + name, made[-1:])
+        else:
+            # words are never empty; a path may end in a slash, and the name behind it is not lawful
+            refusal = b"err NameTooLong 36" if length else TEXT if line.startswith(b"mv") else b"err Invalid 22"
+            run.ask(line, refusal)
+            run.free(b"rm /a", [slot])
+
+
+def first_texts(run, length):
+    """A file's first text is kept whole, and shown up to one byte less than a page."""
+    line = b"file /t 666 " + BYTES[:length]
+    if len(line) > LINE:
+        run.ask(line, TEXT)
+        run.ask(b"stat /t", b"err NoEntry 2")
+        return
+    slot = run.make(line)
+    run.ask(b"open f /t r", b"ok")
+    run.ask(b"read f 0 65535", BYTES[: min(length, PAGE - 1)])
+    run.ask(b"close f", b"ok")
+    run.free(b"rm /t", [slot])
+
+
+def writes(run, length):
+    """A write hands over at most one page, which becomes the whole text; of no bytes, it changes nothing."""
+    if not run.lines:
+        run.make(b"file /t 666 old")
+        run.ask(b"open f /t rw", b"ok")
+        run.ask(b"read f 0 65535", b"old")
+        run.is_old = True
+    line = b"write f " + BYTES[:length]
+    run.ask(line, of_line(line, b"%d" % min(length, PAGE)))
+    if 0 < length and len(line) <= LINE:
+        run.text = BYTES[: min(length, PAGE - 1)]
+        run.is_old = False
+    run.ask(b"read f 0 65535", b"old" if run.is_old else run.text)
+
+
+def reads(run, length):
+    """A read gives as many bytes as there are from its offset on, and not more than it is asked for."""
+    shown = BYTES[: PAGE - 1]
+    if not run.lines:
+        run.make(b"file /t 444 " + BYTES[: PAGE + 1])
+        run.ask(b"open f /t r", b"ok")
+    run.ask(b"read f 0 %d" % length, shown[:length])
+    run.ask(b"read f %d 65535" % length, shown[length:])
+    run.ask(b"read f 5 %d" % length, shown[5 : 5 + length])
+
+
+def lines(run, length):
+    """A path that leads nowhere, in a line of this length."""
+    line = b"ls /" + b"n" * (length - 4)
+    run.ask(line, of_line(line, b"err NoEntry 2"))
+
+
+def names_of(length):
+    """Names that are so long together, with a space between two, in byte order."""
+    chosen = []
+    while length > NAME:
+        # (what is left must be enough for a space and one byte more)
+        size = NAME - 1 if length == NAME + 1 else NAME
+        chosen.append((b"%04d" % len(chosen)).ljust(size, b"n"))
+        length -= size + 1
+    return chosen + [b"z" * length]
+
+
+def listings(run, length):
+    """A listing is whole, however long."""
+    chosen = names_of(length)
+    slots = [run.make(b"mkdir /d")] + [run.make(b"file /d/%s 444" % name) for name in reversed(chosen)]
+    run.ask(b"ls /d", b" ".join(chosen))
+    run.free(b"rm /d", slots)
+
+
+def link_texts(run, length):
+    """A link's text has the names on the way to its target."""
+    chosen = names_of(length)
+    slots = [run.make(b"mkdir /" + b"/".join(chosen[: count + 1])) for count in range(len(chosen))]
+    slots.append(run.make(b"link /l /" + b"/".join(chosen)))
+    run.ask(b"readlink /l", b"/".join(chosen))
+    run.free(b"rm /l", slots[-1:])
+    run.free(b"rm /" + chosen[0], slots[:-1])
+
+
+def ways_up(run, length):
+    """A link in a directory so deep, to a directory beside the first one above it."""
+    slots = [run.make(b"mkdir /t")] + [run.make(b"mkdir " + b"/a" * count) for count in range(1, length + 1)]
+    slots.append(run.make(b"link %s/l /t" % (b"/a" * length)))
+    run.ask(b"readlink %s/l" % (b"/a" * length), b"../" * length + b"t")
+    run.free(b"rm /t", slots[:1])
+    run.free(b"rm /a", slots[1:])
+
+
+def many_names(run, length):
+    """A directory that takes all slots, in a listing."""
+    chosen = [b"%04d" % (at * 2039 % 4095) for at in range(4095)]
+    chosen = [name.ljust(length, b"n") for name in chosen]
+    for name in chosen:
+        run.make(b"mkdir /" + name)
+    run.ask(b"ls /", b" ".join(sorted(chosen)))
+    run.ask(b"mkdir /one_more", b"err NoSpace 28")
+
+
+def around(*bounds, by=6):
+    return sorted({at for bound in bounds for at in range(max(bound - by, 0), bound + by + 1)})
+
+
+# What is tried, by name: a piece of a script, the lengths it is tried with, and the slots of its tree.
+TRIED = {
+    "names of 0 to 300 bytes": (names, range(301), 1024),
+    "first texts of each length that a line can have, and more": (first_texts, range(LINE - 8), 1024),
+    "writes of each length that a line can have, and more": (writes, range(LINE - 4), 1024),
+    "reads of each length up to a page, at each offset": (reads, range(PAGE + 4), 1024),
+    "reads of the greatest lengths": (reads, [8191, 8192, 16_384, 65_534, 65_535], 1024),
+    "lines of each length up to the longest, and more": (
+        lines,
+        [*range(5, 8300), *around(16_384, 65_536, 131_072, 1_000_000, by=2)],
+        1024,
+    ),
+    "listings around each bound": (listings, [*range(1, 300), *around(4096, 8192, 16_384, 65_536)], 1024),
+    "texts of links around each bound": (link_texts, [*range(1, 4), *around(256, 4096), *range(8170, 8184)], 1024),
+    "texts of links that go up": (ways_up, [1, 2, 100, 600], 1024),
+    "4,095 names, listed": (many_names, [4], 4096),
+    "4,095 names of 200 bytes, listed": (many_names, [200], 4096),
+}
+
+
+def runs(name):
+    """The runs of one of these, each with the words for the size of its tree."""
+    piece, chosen, slots = TRIED[name]
+    for run in cut(piece, chosen, slots):
+        yield run, ("--slots", str(slots))
