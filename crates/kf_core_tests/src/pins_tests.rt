@@ -1,0 +1,49 @@
+//! A hundred thousand holds of one node one after another: the list of callers grows with each.
+
+ghost use Rattle.std.specs.Prelude.{◌≡◌};
+ghost use Rattle.kf_core.specs.Phases.{may_release};
+
+use kf_core::{Key, Limits, Phase, World};
+use std::test::Fail;
+
+const TIMES: usize = 100_000;
+
+fn may_release(phase: Phase) -> bool
+    ensures { result ≡ may_release phase }
+{
+    matches!(
+        phase,
+        Phase::Still | Phase::Turned | Phase::Drained | Phase::Parted
+    )
+}
+
+fn release(world: &mut World, id: usize) -> Option<()> {
+    let (_, phase) = world.caller(id)?;
+    if !may_release(phase) {
+        return None;
+    }
+    world.release(id);
+    Some(())
+}
+
+/// A hold and its release. The number of the caller that it was.
+fn hold_once(world: &mut World, key: Key) -> Option<usize> {
+    let id = world.pin(key).ok()?;
+    release(world, id)?;
+    Some(id)
+}
+
+#[test]
+fn a_node_is_held_again_and_again(rt: HostRuntime) -> Result<(), Fail> {
+    let limits = Limits::new(2, 1).ok_or("limits")?;
+    let mut world = World::new_at(rt.alloc(), limits, 0)?;
+    let root = Key {
+        slot: 0,
+        generation: 1,
+    };
+    for time in 0..TIMES {
+        assert_eq!(rt; hold_once(&mut world, root), Some(time));
+    }
+    assert_eq!(rt; world.caller(TIMES - 1), Some((root, Phase::Spent)));
+    Ok(())
+}

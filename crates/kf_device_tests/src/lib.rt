@@ -1,0 +1,11 @@
+//! The tests of `kf_device`, over its public calls: proved over the crate, and not with it.
+#![tactic(auto)]
+
+#[cfg(test)]
+mod fixtures;
+#[cfg(test)]
+mod hostile_tests;
+#[cfg(test)]
+mod text_tests;
+#[cfg(test)]
+mod thread_tests;

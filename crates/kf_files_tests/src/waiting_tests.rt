@@ -1,0 +1,249 @@
+//! Files of a shared tree: what their callbacks may do, and a removal that waits for one of them.
+ghost use Rattle.std.specs.Prelude.{◌≡◌};
+
+use crate::tree_hold::TreeHold;
+use crate::waiting_fixtures::{
+    Before, Latch, close, failing, file_of, held, made, new_driver, new_latch, opened, post_of,
+    posts_of, release_all, remove, wait_for,
+};
+use kf_core::{Key, Refusal};
+use kf_files::{Fault, FileError};
+use kf_shared::{Naming, NewTree, SharedTree};
+use kf_words::Hold;
+use std::alloc::Global;
+use std::marker::Brand;
+use std::process::Abort;
+use std::sync::atomic::{AtomicU64, Ordering};
+use std::sync::{Mutex, Wait};
+use std::thread::{Threads, join};
+
+// ---- one thread
+
+fn notifies_itself<N: Naming, R: Abort + Wait>(rt: &R, alloc: Global, new: NewTree)
+    requires { new.master.table ≡ N.table }
+{
+    let tree = new.named::<N>();
+    let key = file_of(rt, &tree, b"t");
+    let mut posts = posts_of(rt, alloc);
+    let mut file = opened(rt, &tree, key, post_of(rt, &mut posts));
+    assert!(rt; file.poll(), "a file that was never shown has changed");
+    let quiet = new_driver(Before::Nothing, b"v");
+    let loud = new_driver(Before::Notifies(Mutex::new(post_of(rt, &mut posts))), b"v");
+    let mut out = [0u8; 4];
+    assert_eq!(rt; file.read(rt, &tree, &quiet, 0, &mut out), Ok(1));
+    assert!(rt; !file.poll(), "nothing was notified");
+    assert_eq!(rt; file.read(rt, &tree, &loud, 0, &mut out), Ok(1));
+    assert!(rt; file.poll(), "the show notified after its number was taken");
+    close(file);
+}
+
+#[test]
+fn a_show_that_notifies_its_own_slot_leaves_a_change(rt: HostRuntime) {
+    let new = made(&rt, rt.alloc());
+    notifies_itself::<Brand, _>(&rt, rt.alloc(), new);
+}
+
+fn outlives_its_node<N: Naming, R: Abort + Wait>(rt: &R, alloc: Global, new: NewTree)
+    requires { new.master.table ≡ N.table }
+{
+    let tree = new.named::<N>();
+    let key = file_of(rt, &tree, b"t");
+    let mut posts = posts_of(rt, alloc);
+    let mut file = opened(rt, &tree, key, post_of(rt, &mut posts));
+    let quiet = new_driver(Before::Nothing, b"v");
+    let mut out = [0u8; 4];
+    assert_eq!(rt; file.write(rt, &tree, &quiet, b""), Ok(0));
+    assert_eq!(rt; quiet.calls(), (0, 0));
+    assert_eq!(rt; file.write(rt, &tree, &quiet, &[b'q'; 5000]), Ok(4096));
+    assert_eq!(rt; quiet.calls(), (0, 1));
+    assert_eq!(rt; file.read(rt, &tree, &quiet, 0, &mut out), Ok(1));
+    assert_eq!(rt; remove(rt, &tree, key), 1);
+    let gone = Err(FileError::Refused(Refusal::NoDevice));
+    assert_eq!(rt; file.read(rt, &tree, &quiet, 1, &mut out), Ok(0));
+    assert_eq!(rt; file.read(rt, &tree, &quiet, 0, &mut out), gone);
+    assert_eq!(rt; file.write(rt, &tree, &quiet, b""), gone);
+    assert_eq!(rt; file.write(rt, &tree, &quiet, b"x"), gone);
+    assert!(rt; file.poll(), "a file whose node is gone has changed");
+    assert_eq!(rt; quiet.calls(), (1, 1));
+    close(file);
+}
+
+#[test]
+fn a_file_outlives_its_node(rt: HostRuntime) {
+    let new = made(&rt, rt.alloc());
+    outlives_its_node::<Brand, _>(&rt, rt.alloc(), new);
+}
+
+fn faults<N: Naming, R: Abort + Wait>(rt: &R, alloc: Global, new: NewTree)
+    requires { new.master.table ≡ N.table }
+{
+    let tree = new.named::<N>();
+    let key = file_of(rt, &tree, b"t");
+    let mut posts = posts_of(rt, alloc);
+    let mut file = opened(rt, &tree, key, post_of(rt, &mut posts));
+    let faulty = failing(5);
+    let mut out = [0u8; 4];
+    let fault = Err(FileError::Callback(Fault { number: 5 }));
+    assert_eq!(rt; file.read(rt, &tree, &faulty, 0, &mut out), fault);
+    assert!(rt; !file.poll(), "its number was taken");
+    assert_eq!(rt; file.read(rt, &tree, &faulty, 3, &mut out), fault);
+    assert_eq!(rt; faulty.calls(), (2, 0));
+    close(file);
+    assert_eq!(rt; remove(rt, &tree, key), 1);
+}
+
+#[test]
+fn a_fault_of_a_show_ends_its_call(rt: HostRuntime) {
+    let new = made(&rt, rt.alloc());
+    faults::<Brand, _>(&rt, rt.alloc(), new);
+}
+
+// ---- a removal while a show runs
+
+/// The hold of a removal, and how many receipts it got, of other nodes than its own among them.
+pub(crate) struct Removal<N: Naming> {
+    hold: Option<TreeHold<N>>,
+    receipts: usize,
+    others: usize,
+}
+
+pub(crate) fn removal_by<N: Naming>(hold: TreeHold<N>) -> Removal<N> {
+    Removal {
+        hold: Some(hold),
+        receipts: 0,
+        others: 0,
+    }
+}
+
+fn removes<N: Naming, R: Wait>(
+    rt: &R,
+    tree: &SharedTree<N>,
+    key: Key,
+    removal: &mut Removal<N>,
+    answered: &AtomicU64,
+) {
+    let Some(hold) = removal.hold.take() else {
+        return;
+    };
+    match tree.remove(rt, hold.into_hold()) {
+        Ok(receipts) => {
+            removal.receipts = receipts.len();
+            removal.others = receipts
+                .iter()
+                .filter(|receipt| receipt.key() != key)
+                .count();
+            release_all(receipts);
+        }
+        Err((hold, _)) => hold.release(),
+    }
+    answered.fetch_add(1, Ordering::SeqCst);
+}
+
+fn is_doomed<N: Naming, R: Wait>(rt: &R, tree: &SharedTree<N>, key: Key) -> bool {
+    match tree.edit(rt).state().stat(key) {
+        Ok(stat) => stat.doomed,
+        Err(_) => true,
+    }
+}
+
+fn wait_for_mark<N: Naming, R: Wait>(rt: &R, tree: &SharedTree<N>, key: Key) -> bool {
+    for _ in 0..100_000_000u64 {
+        if is_doomed(rt, tree, key) {
+            return true;
+        }
+    }
+    false
+}
+
+// Lets the show go, once the node is marked and 10,000 looks have not seen the removal answer.
+fn lets_go_late<N: Naming, R: Wait>(
+    rt: &R,
+    tree: &SharedTree<N>,
+    key: Key,
+    let_go: &AtomicU64,
+    answered: &AtomicU64,
+) -> bool {
+    let marked = wait_for_mark(rt, tree, key);
+    let mut early = false;
+    for _ in 0..10_000 {
+        early = early || answered.load(Ordering::SeqCst) != 0;
+    }
+    let_go.fetch_add(1, Ordering::SeqCst);
+    marked && !early
+}
+
+/// Removes the node once the show is inside, and lets the show go late. False where the removal answered
+/// early.
+pub(crate) fn removes_under<N: Naming + Send + Sync, R: Threads + Wait + Sync>(
+    rt: &R,
+    tree: &SharedTree<N>,
+    key: Key,
+    removal: &mut Removal<N>,
+    latch: &Latch,
+) -> bool {
+    let answered = AtomicU64::new(0);
+    let entered = wait_for(1, &latch.inside);
+    let (_, late) = join(
+        rt,
+        || removes(rt, tree, key, removal, &answered),
+        || entered && lets_go_late(rt, tree, key, &latch.let_go, &answered),
+    );
+    late
+}
+
+/// The removal got one receipt, of its node, and a hold that was taken before it gets no call any more.
+pub(crate) fn has_removed<N: Naming, R: Abort>(rt: &R, removal: Removal<N>, second: Hold) {
+    let Removal {
+        hold,
+        receipts,
+        others,
+    } = removal;
+    if let Some(hold) = hold {
+        hold.into_hold().release();
+    }
+    match second.enter() {
+        Ok(call) => {
+            let _phase = call.phase();
+            call.leave().release();
+            panic!(rt; "a node that is gone gave a call")
+        }
+        Err(hold) => hold.release(),
+    }
+    assert_eq!(rt; receipts, 1);
+    assert_eq!(rt; others, 0);
+}
+
+fn waits_for_a_show<N: Naming + Send + Sync, R: Abort + Threads + Wait + Sync>(
+    rt: &R,
+    alloc: Global,
+    new: NewTree,
+)
+    requires { new.master.table ≡ N.table }
+{
+    let tree = new.named::<N>();
+    let key = file_of(rt, &tree, b"t");
+    let mut posts = posts_of(rt, alloc);
+    let mut file = opened(rt, &tree, key, post_of(rt, &mut posts));
+    let second = held(rt, &tree, key).into_hold();
+    let mut removal = removal_by(held(rt, &tree, key));
+    let ops = new_driver(Before::Waits(new_latch()), b"v");
+    let Before::Waits(latch) = &ops.before else {
+        panic!(rt; "it waits")
+    };
+    let mut out = [0u8; 4];
+    let (told, late) = join(
+        rt,
+        || file.read(rt, &tree, &ops, 0, &mut out),
+        || removes_under(rt, &tree, key, &mut removal, latch),
+    );
+    close(file);
+    has_removed(rt, removal, second);
+    assert_eq!(rt; told, Ok(1));
+    assert!(rt; late, "the removal answered while the show ran");
+}
+
+#[test]
+fn a_removal_waits_for_a_show(rt: HostRuntime) {
+    let new = made(&rt, rt.alloc());
+    waits_for_a_show::<Brand, _>(&rt, rt.alloc(), new);
+}

@@ -1,0 +1,19 @@
+//! The tests of `kf_shared`, over its public calls: proved over the crate, and not with it.
+#![tactic(auto)]
+
+#[cfg(test)]
+mod crowd_tests;
+#[cfg(test)]
+mod fixtures;
+#[cfg(test)]
+mod hiding_tests;
+#[cfg(test)]
+mod kept_tests;
+#[cfg(test)]
+mod large_tests;
+#[cfg(test)]
+mod tests;
+#[cfg(test)]
+mod thread_tests;
+#[cfg(test)]
+mod waiting_tests;

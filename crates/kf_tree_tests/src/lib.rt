@@ -1,0 +1,7 @@
+//! The tests of `kf_tree`, over its public calls: proved over the crate, and not with it.
+#![tactic(auto)]
+
+#[cfg(test)]
+mod size_tests;
+#[cfg(test)]
+mod tests;

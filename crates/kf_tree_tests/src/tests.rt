@@ -1,0 +1,263 @@
+//! The calls of a tree that no script makes in this form, with answers known from outside, and walks of long
+//! paths. (What scripts show of the tree stands in scripts/tree.txt.)
+//! What is done more than once stands in a function of its own, which keeps the proofs of the tests short.
+
+ghost use Rattle.std.specs.Prelude.{◌≡◌, slice_get, IfSome, Some, None};
+
+mod compaction_tests;
+mod hiding_tests;
+mod large_tests;
+mod places_tests;
+
+use kf_core::{Command, Key, Limits, Node, Refusal};
+use kf_tree::{Stat, State};
+use std::alloc::Global;
+use std::test::Fail;
+
+const ROOT: Key = Key {
+    slot: 0,
+    generation: 1,
+};
+
+/// The first key of a slot.
+fn key(slot: u32) -> Key {
+    Key {
+        slot,
+        generation: 1,
+    }
+}
+
+fn new_state(alloc: Global, slots: u32) -> Result<State, Refusal> {
+    match Limits::new(slots, 1) {
+        Some(limits) => State::new(alloc, limits, ROOT),
+        None => Err(Refusal::Invalid),
+    }
+}
+
+/// The key of this slot and generation, where the slot is vacant.
+fn vacant(state: &State, slot: u32, generation: u32) -> Option<Key>
+    ensures vacant { IfSome result (λ key. slice_get state.now.tree key.slot ≡ Some None) }
+{
+    if state.is_vacant(slot) {
+        Some(Key { slot, generation })
+    } else {
+        None
+    }
+}
+
+/// A node at a path, in this slot where it is vacant.
+fn add(state: &mut State, path: &[u8], node: Node, live: bool, slot: u32) -> Result<Key, Refusal> {
+    let (parent, name) = state.walk_parent(path)?;
+    let next = vacant(state, slot, 1);
+    state.create(parent, name, node, live, next)
+}
+
+/// Whether the doom of a key answers these keys.
+fn dooms(state: &mut State, key: Key, expected: &[Key]) -> bool {
+    match state.doom(key) {
+        Ok(keys) => keys.as_slice() == expected,
+        Err(_) => false,
+    }
+}
+
+/// Whether the post-order of a key's subtree is these keys.
+fn has_order(state: &State, key: Key, expected: &[Key]) -> bool {
+    match state.post_order(key) {
+        Ok(keys) => keys.as_slice() == expected,
+        Err(_) => false,
+    }
+}
+
+fn unlink(state: &mut State, key: Key) -> Result<bool, Refusal> {
+    state.unlink(key)
+}
+
+/// The letter of each stored command: Create, Activate, Doom, Unlink, Rename, Hide, Show.
+fn letter(command: &Command) -> u8 {
+    match command {
+        Command::Create { .. } => b'C',
+        Command::Activate { .. } => b'A',
+        Command::Doom { .. } => b'D',
+        Command::Unlink { .. } => b'U',
+        Command::Rename { .. } => b'R',
+        Command::Hide { .. } => b'H',
+        Command::Show { .. } => b'S',
+    }
+}
+
+/// The key that a stored command is about.
+fn key_of(command: &Command) -> Key {
+    match command {
+        Command::Create { key, .. }
+        | Command::Activate { key }
+        | Command::Doom { key }
+        | Command::Unlink { key }
+        | Command::Rename { key, .. }
+        | Command::Hide { key }
+        | Command::Show { key } => *key,
+    }
+}
+
+/// Whether the stored commands are of these kinds, in this order.
+fn has_stored(state: &State, letters: &[u8]) -> bool {
+    let commands = state.commands();
+    commands.len() == letters.len()
+        && commands
+            .iter()
+            .zip(letters)
+            .all(|(command, expected)| letter(command) == *expected)
+}
+
+fn remove(state: &mut State, path: &[u8]) -> Result<(), Refusal> {
+    let top = state.walk(path)?;
+    let keys = state.doom(top)?;
+    for key in &keys {
+        state.unlink(*key)?;
+    }
+    Ok(())
+}
+
+fn move_to(state: &mut State, from: &[u8], dir: &[u8], name: &[u8]) -> Result<(), Refusal> {
+    let key = state.walk(from)?;
+    let dir = state.walk(dir)?;
+    state.rename(key, dir, name)
+}
+
+/// Whether both the list and the names that it copies are these.
+fn shows(state: &State, dir: Key, after: Option<&[u8]>, limit: usize, names: &[&[u8]]) -> bool {
+    let (Ok(list), Ok(mut lent)) = (
+        state.list(dir, after, limit),
+        state.names(dir, after, limit),
+    ) else {
+        return false;
+    };
+    for name in names {
+        let Some((shown, rest)) = lent.split_first() else {
+            return false;
+        };
+        if shown.bytes() != *name {
+            return false;
+        }
+        lent = rest;
+    }
+    lent.split_first().is_none()
+        && list.len() == names.len()
+        && list
+            .iter()
+            .zip(names)
+            .all(|(shown, name)| shown.bytes() == *name)
+}
+
+fn directory(subdirs: u32, links: u32, activated: bool) -> Stat {
+    Stat {
+        node: Node::Dir,
+        subdirs,
+        links,
+        activated,
+        doomed: false,
+        hidden: false,
+    }
+}
+
+#[test]
+fn lists_and_tells_of_what_was_created(rt: HostRuntime) -> Result<(), Fail> {
+    let mut state = new_state(rt.alloc(), 1024)?;
+    let file = Node::File {
+        mode: 0o644,
+        tag: 3,
+    };
+    assert_eq!(rt; add(&mut state, b"/a", Node::Dir, true, 1), Ok(key(1)));
+    assert_eq!(rt; add(&mut state, b"/a/b", Node::Dir, true, 2), Ok(key(2)));
+    assert_eq!(rt; add(&mut state, b"/a/x", file, true, 3), Ok(key(3)));
+    assert!(rt; shows(&state, key(1), None, 10, &[b"b", b"x"]));
+    assert_eq!(rt; state.stat(key(1)), Ok(directory(1, 3, true)));
+    assert_eq!(rt; state.root(), ROOT);
+    assert_eq!(rt; state.find(key(1), b"x"), Ok(key(3)));
+    assert_eq!(rt; state.find(key(3), b"x"), Err(Refusal::NotDir));
+    assert_eq!(rt; state.walk(b"/a/x"), Ok(key(3)));
+    assert_eq!(rt; state.walk(b"/"), Ok(ROOT));
+    assert_eq!(rt; state.lookup(b"/a/b"), Ok(key(2)));
+    let told = Stat {
+        node: file,
+        subdirs: 0,
+        links: 1,
+        activated: true,
+        doomed: false,
+        hidden: false,
+    };
+    assert_eq!(rt; state.stat(key(3)), Ok(told));
+    assert_eq!(rt;
+        add(&mut state, b"/b", Node::Dir, true, 3),
+        Err(Refusal::NoSpace)
+    );
+    Ok(())
+}
+
+#[test]
+fn removes_a_directory(rt: HostRuntime) -> Result<(), Fail> {
+    let mut state = new_state(rt.alloc(), 1024)?;
+    assert_eq!(rt; add(&mut state, b"/a", Node::Dir, true, 1), Ok(key(1)));
+    assert_eq!(rt;
+        add(&mut state, b"/a", Node::Dir, true, 2),
+        Err(Refusal::Exists)
+    );
+    assert_eq!(rt; add(&mut state, b"/a/c", Node::Dir, true, 2), Ok(key(2)));
+    assert_eq!(rt; add(&mut state, b"/a/b", Node::Dir, false, 3), Ok(key(3)));
+    assert!(rt; has_order(&state, key(1), &[key(3), key(2), key(1)]));
+    assert_eq!(rt; unlink(&mut state, key(2)), Err(Refusal::Invalid));
+    assert!(rt; dooms(&mut state, key(1), &[key(3), key(2), key(1)]));
+    assert_eq!(rt; state.lookup(b"/a/c"), Err(Refusal::NoEntry));
+    assert_eq!(rt; state.may_unlink(key(1)), Err(Refusal::Busy));
+    assert_eq!(rt; remove(&mut state, b"/a"), Ok(()));
+    assert!(rt; shows(&state, ROOT, None, 10, &[]));
+    assert_eq!(rt; remove(&mut state, b"/a"), Err(Refusal::NoEntry));
+    assert_eq!(rt; unlink(&mut state, key(1)), Ok(false));
+    assert!(rt; has_stored(&state, b"CCCDDUUU"));
+    assert_eq!(rt; remove(&mut state, b"/"), Err(Refusal::Invalid));
+    Ok(())
+}
+
+#[test]
+fn lists_in_byte_order_above_a_bound(rt: HostRuntime) -> Result<(), Fail> {
+    let mut state = new_state(rt.alloc(), 1024)?;
+    assert_eq!(rt; add(&mut state, b"/b", Node::Dir, true, 1), Ok(key(1)));
+    assert_eq!(rt; add(&mut state, b"/a", Node::Dir, true, 2), Ok(key(2)));
+    assert_eq!(rt; add(&mut state, b"/ab", Node::Dir, true, 3), Ok(key(3)));
+    assert_eq!(rt;
+        add(
+            &mut state,
+            b"/B",
+            Node::File {
+                mode: 0o444,
+                tag: 4
+            },
+            true,
+            4
+        ),
+        Ok(key(4))
+    );
+    assert!(rt; shows(&state, ROOT, None, 10, &[b"B", b"a", b"ab", b"b"]));
+    assert!(rt; shows(&state, ROOT, Some(b"a"), 1, &[b"ab"]));
+    assert!(rt; shows(&state, ROOT, Some(b"aa"), 2, &[b"ab", b"b"]));
+    assert!(rt; shows(&state, ROOT, Some(b"b"), 5, &[]));
+    assert!(rt; shows(&state, ROOT, None, 0, &[]));
+    Ok(())
+}
+
+#[test]
+fn walks_long_paths_without_stack(rt: HostRuntime) -> Result<(), Fail> {
+    let alloc = rt.alloc();
+    let mut state = new_state(alloc, 1024)?;
+    let mut path = Vec::new(alloc);
+    for _ in 0..400_000 {
+        path.extend_from_slice(b"/a")?;
+    }
+    assert_eq!(rt; state.walk(&path), Err(Refusal::NoEntry));
+    assert_eq!(rt; add(&mut state, b"/a", Node::Dir, true, 1), Ok(key(1)));
+    assert_eq!(rt; state.lookup(&path), Err(Refusal::NoEntry));
+    assert_eq!(rt; state.walk_parent(&path).err(), Some(Refusal::NoEntry));
+    path.push(b'/')?;
+    assert_eq!(rt; state.walk(&path), Err(Refusal::Invalid));
+    assert_eq!(rt; state.walk(b"a"), Err(Refusal::Invalid));
+    Ok(())
+}

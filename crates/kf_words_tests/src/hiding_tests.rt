@@ -1,0 +1,173 @@
+//! Keys that are hidden and shown, by one thread.
+ghost use Rattle.kf_words.specs.Callers.{IsSameSeat};
+
+use crate::test_fixtures::{
+    activate, born, doom, enter, hide, look, made, part, pin, refused, unlink,
+};
+use crate::thread_tests::let_through;
+use kf_core::Key;
+use kf_words::{Hidden, Hiding, Hold};
+use std::alloc::Global;
+use std::process::Abort;
+use std::sync::atomic::AtomicU64;
+
+fn hidden_before<R: Abort>(rt: &R, hold: Hold) -> Hold
+    ensures { IsSameSeat hold result }
+{
+    match hold.hide() {
+        Ok(_hiding) => panic!(rt; "a hidden key was hidden again"),
+        Err(back) => back,
+    }
+}
+
+fn see_hidden<R: Abort>(rt: &R, hiding: Hiding) -> Hidden
+    ensures { IsSameSeat hiding result }
+{
+    match hiding.look() {
+        Ok(hidden) => hidden,
+        Err(_back) => panic!(rt; "an unused node looked used"),
+    }
+}
+
+fn hides_used<R: Abort>(rt: &R, hiding: Hiding) -> Hiding
+    ensures { IsSameSeat hiding result }
+{
+    match hiding.look() {
+        Ok(_hidden) => panic!(rt; "a used node looked unused"),
+        Err(back) => back,
+    }
+}
+
+#[test]
+fn a_hidden_key_refuses_until_it_is_shown(rt: HostRuntime) {
+    let mut master = made(&rt, rt.alloc(), 2, 4, 0);
+    let key = born(&rt, &mut master, 1, 1);
+    activate(&rt, &mut master, key);
+    let call = enter(&rt, pin(&rt, &mut master, key));
+    let first = pin(&rt, &mut master, key);
+    let second = pin(&rt, &mut master, key);
+    let hiding = hide(&rt, first);
+    assert_eq!(rt; hiding.key(), key);
+    let second = refused(&rt, second);
+    let second = hidden_before(&rt, second);
+    let hiding = hides_used(&rt, hiding);
+    call.leave().release();
+    let hidden = see_hidden(&rt, hiding);
+    assert_eq!(rt; hidden.key(), key);
+    let second = refused(&rt, second);
+    let first = hidden.show();
+    assert_eq!(rt; first.key(), key);
+    let second = enter(&rt, second).leave();
+    enter(&rt, first).leave().release();
+    second.release();
+}
+
+// A node that is not activated when it is hidden.
+fn hidden_and_shown<R: Abort>(rt: &R, alloc: Global, activates: bool) {
+    let mut master = made(rt, alloc, 2, 4, 0);
+    let key = born(rt, &mut master, 1, 1);
+    let first = pin(rt, &mut master, key);
+    let second = pin(rt, &mut master, key);
+    let hidden = see_hidden(rt, hide(rt, first));
+    if activates {
+        activate(rt, &mut master, key);
+    }
+    let second = refused(rt, second);
+    hidden.show().release();
+    if activates {
+        enter(rt, second).leave().release();
+    } else {
+        refused(rt, second).release();
+    }
+}
+
+#[test]
+fn a_key_that_is_shown_is_as_it_was_marked_meanwhile(rt: HostRuntime) {
+    hidden_and_shown(&rt, rt.alloc(), true);
+    hidden_and_shown(&rt, rt.alloc(), false);
+}
+
+#[test]
+fn a_hidden_node_is_drained_and_taken_out(rt: HostRuntime) {
+    let mut master = made(&rt, rt.alloc(), 2, 4, 0);
+    let key = born(&rt, &mut master, 1, 1);
+    activate(&rt, &mut master, key);
+    let first = pin(&rt, &mut master, key);
+    let second = pin(&rt, &mut master, key);
+    let hidden = see_hidden(&rt, hide(&rt, first));
+    doom(&rt, &mut master, key);
+    let drained = look(&rt, second);
+    assert!(rt; unlink(&rt, &mut master, &drained));
+    part(&rt, drained).release();
+    assert_eq!(rt; master.free_key(), None, "the token holds the slot");
+    let first = hidden.show();
+    refused(&rt, first).release();
+    assert_eq!(rt;
+        born(&rt, &mut master, 1, 2),
+        Key {
+            slot: 1,
+            generation: 2
+        }
+    );
+}
+
+/// What the steps that wake nobody tell, on a node that is doomed, hidden, or in use by another call.
+fn told_quietly<R: Abort>(
+    rt: &R,
+    alloc: Global,
+    dooms: bool,
+    hides: bool,
+    uses: bool,
+    wanted: bool,
+) {
+    let mut master = made(rt, alloc, 2, 8, 0);
+    let key = born(rt, &mut master, 1, 1);
+    activate(rt, &mut master, key);
+    let call = enter(rt, pin(rt, &mut master, key));
+    let mut other = enter(rt, pin(rt, &mut master, key));
+    let third = pin(rt, &mut master, key);
+    let hider = pin(rt, &mut master, key);
+    if dooms {
+        doom(rt, &mut master, key);
+    }
+    let hiding = if hides {
+        Ok(hide(rt, hider))
+    } else {
+        Err(hider)
+    };
+    if !uses {
+        assert!(rt; !other.break_quiet().told(), "there is a call yet");
+    }
+    let (hold, due) = call.leave_quiet();
+    assert_eq!(rt; due.told(), wanted);
+    hold.release();
+    match third.enter_quiet() {
+        Ok(call) => {
+            assert!(rt; !dooms && !hides);
+            call.leave().release();
+        }
+        Err((back, due)) => {
+            assert_eq!(rt; due.told(), wanted);
+            back.release();
+        }
+    }
+    let_through(other, false, 0, &AtomicU64::new(0));
+    match hiding {
+        Ok(hiding) => see_hidden(rt, hiding).show().release(),
+        Err(hold) => hold.release(),
+    }
+}
+
+#[test]
+fn who_wakes_nobody_is_told_of_sleepers(rt: HostRuntime) {
+    for (dooms, hides, uses, wanted) in [
+        (false, false, false, false),
+        (true, false, false, true),
+        (false, true, false, true),
+        (true, true, false, true),
+        (true, false, true, false),
+        (false, true, true, false),
+    ] {
+        told_quietly(&rt, rt.alloc(), dooms, hides, uses, wanted);
+    }
+}

@@ -1,0 +1,15 @@
+//! The tests of `kf_words`, over its public calls: proved over the crate, and not with it.
+#![tactic(auto)]
+
+#[cfg(test)]
+mod hider_tests;
+#[cfg(test)]
+mod hiding_tests;
+#[cfg(test)]
+mod test_fixtures;
+#[cfg(test)]
+mod tests;
+#[cfg(test)]
+mod thread_tests;
+#[cfg(test)]
+mod wait_tests;
