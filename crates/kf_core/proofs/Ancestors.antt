@@ -2,34 +2,21 @@
 use Rattle.std.proofs.Common.{◌≡◌, ◌≢◌, ◌⊎◌, inl, inr, ℕ, zero, suc, ◌+◌, ◌<◌, ◌≤◌, [], ◌∷◌, length, refl, ap, arith, sym, ◌∙◌, subst, true, false, cond, slice_set, ◌↔◌}
 use Rattle.std.specs.Prelude.{slice_get, Option, None, Some, IsTrue, is_some, count_by}
 use Rattle.std.specs.Option.{option_and_then}
-use Rattle.std.proofs.lemmas.Option.{same_Some, none-some, cond_some}
+use Rattle.std.proofs.lemmas.Option.{same_Some, none-some}
 use Rattle.std.proofs.lemmas.List.Sums.{count_by-le-length}
 use Rattle.std.proofs.lemmas.List.Recursion.{is_count_by}
 use Rattle.std.proofs.lemmas.Bool.Decides.{eqb_tells}
 use Rattle.kf_core.specs.declared.key.Key.{Key}
 use Rattle.kf_core.specs.declared.records.Record.{Record}
-use Rattle.kf_core.specs.Keys.{same_key}
 use Rattle.kf_core.specs.Tree.{Tree, with_key, record_at, parent_of, ancestor, in_subtree, IsIn}
 use Rattle.kf_core.proofs.Lists.{slice_get-set_same, slice_get-set_other}
-use Rattle.kf_core.proofs.Climbs.{same_key_is, meets_to, meets_from}
+use Rattle.kf_core.proofs.Climbs.{meets_to, meets_from}
+use Rattle.kf_core.proofs.FoundRecords.{found_in}
 
 -- what a chain of options found
 pub chained : {A B : Type 0} (f : A → Option B) (o : Option A) (y : B) → option_and_then f o ≡ Some y → (x : A) × (o ≡ Some x) × (f x ≡ Some y)
 chained f None y h = absurd (none-some y h)
 chained f (Some x) y h = (x, refl, h)
-
-has_key : (key : Key) (o : Option Record) (r : Record) → with_key key o ≡ Some r → (o ≡ Some r) × (r.key ≡ key)
-has_key key None r h = absurd (none-some r h)
-has_key key (Some s) r h =
-    let p : (same_key s.key key ≡ true) × (s ≡ r) = cond_some (same_key s.key key) s r h in
-    (ap (λ (x : Record). Some x) p.1, subst (λ (x : Record). x.key ≡ key) p.1 (same_key_is s.key key p.0))
-
--- what is found is there, under its key
-pub found_in : (t : Tree) (key : Key) (r : Record) → record_at t key ≡ Some r → IsIn t r × (r.key ≡ key)
-found_in t key r h =
-    let c : (o : Option Record) × (slice_get t key.slot ≡ Some o) × (with_key key o ≡ Some r) = chained (with_key key) (slice_get t key.slot) r h in
-    let k : (c.0 ≡ Some r) × (r.key ≡ key) = has_key key c.0 r c.2 in
-    (ap (λ (x : Key). slice_get t x.slot) k.1 ∙ c.1 ∙ ap (λ (x : Option Record). Some x) k.0, k.1)
 
 -- a write elsewhere leaves a key as it is
 pub record_other : (t : Tree) (slot : ℕ) (o : Option Record) (key : Key) → key.slot ≢ slot → record_at (slice_set t slot o) key ≡ record_at t key

@@ -10,6 +10,7 @@ use Rattle.kf_core.specs.Keys.{same_key}
 use Rattle.kf_core.specs.Marks.{live_marks, are_live, are_doomed}
 use Rattle.kf_core.specs.Phases.{is_hiding}
 
+-- the slots and the callers, without the parents, names and nodes of the tree
 pub record BareWorld : Type 0 where
   pub slots : List SlotState  -- by slot
   pub callers : List Caller  -- by the number of the caller
@@ -23,6 +24,7 @@ marks_in (Some slot) generation = if slot.generation == generation then slot.mar
 abbrev pub marks : BareWorld → Key → Option Marks
 marks w key = marks_in (slice_get w.slots key.slot) key.generation
 
+-- whether the node of this key is linked
 abbrev pub is_linked : BareWorld → Key → Bool
 is_linked w key = is_some (marks w key)
 

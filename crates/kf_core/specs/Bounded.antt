@@ -9,10 +9,12 @@ use Rattle.kf_core.specs.Phases.{is_spent}
 use Rattle.kf_core.specs.Bare.{BareWorld}
 use Rattle.kf_core.specs.Steps.{BareStep, MayPin, OnlySpent}
 
+-- the bare world, and the most holds that one slot may have
 pub record BoundedWorld : Type 0 where
   pub world : BareWorld
   pub limit : ℕ
 
+-- the bare world with this limit of holds
 abbrev pub bounded : BareWorld → ℕ → BoundedWorld
 bounded world limit = record { world = world; limit = limit }
 

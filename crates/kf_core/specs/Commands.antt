@@ -14,18 +14,23 @@ use Rattle.kf_core.specs.Lawful.{root_record}
 abbrev pub change : (Record → Bool) → (Record → Record) → Tree → Tree
 change chosen f t = map (option_map (λ r. if chosen r then f r else r)) t
 
+-- the record with the mark of an activated one, doomed or not as before
 abbrev pub activated_record : Record → Record
 activated_record r = record r { marks = record { activated = true; doomed = r.marks.doomed } }
 
+-- the record with the mark of a doomed one, activated or not as before
 abbrev pub doomed_record : Record → Record
 doomed_record r = record r { marks = record { activated = r.marks.activated; doomed = true } }
 
+-- the record, hidden or shown
 abbrev pub hidden_record : Bool → Record → Record
 hidden_record b r = record r { hidden = b }
 
+-- the record in this directory, under this name
 abbrev pub moved_record : Key → List ℕ → Record → Record
 moved_record dir name r = record r { parent = Some dir; name = name }
 
+-- the record of a new node, activated at once or not, neither doomed nor hidden
 abbrev pub new_record : Key → Key → List ℕ → Node → Bool → Record
 new_record key parent name node is_live = record {
   key = key;

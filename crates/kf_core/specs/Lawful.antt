@@ -20,6 +20,8 @@ pub record HasDirectory (t : Tree) (r : Record) (parent : Key) : Type 0 where
   pub doomed : dir.marks.doomed ≡ true → r.marks.doomed ≡ true
   pub lawful_name : IsLawfulName r.name
 
+-- the records are one tree: a live root directory, below it each other record in a directory, and no two
+-- siblings of one name
 pub record Lawful (t : Tree) (root : Key) : Type 0 where
   -- each record stands in its own slot, so no two have the same
   pub in_place : (slot : ℕ) (r : Record) → slice_get t slot ≡ Some (Some r) → r.key.slot ≡ slot

@@ -12,6 +12,7 @@ use Rattle.kf_core.specs.declared.event.Event.TheVariants.{Born, Rise, Mark, Mov
 use Rattle.kf_core.specs.Worlds.{World}
 use Rattle.kf_core.specs.Lawful.{root_record}
 
+-- the key of the root, in slot 0
 abbrev pub root : Key
 root = record { slot = 0; generation = 1 }
 
@@ -19,6 +20,7 @@ root = record { slot = 0; generation = 1 }
 abbrev pub first : Key
 first = record { slot = 1; generation = 1 }
 
+-- the key of the node that is born in slot 1 after the first is gone
 abbrev pub second : Key
 second = record { slot = 1; generation = 2 }
 
@@ -26,9 +28,11 @@ second = record { slot = 1; generation = 2 }
 abbrev pub a : List ℕ
 a = 97 ∷ []
 
+-- the name `b`, to which the first node moves
 abbrev pub b : List ℕ
 b = 98 ∷ []
 
+-- what is born in slot 1 each time: a file of mode 0644 with the tag 7
 abbrev pub file : Node
 file = File 420 7
 
@@ -49,6 +53,7 @@ at last linked callers = record {
   callers = callers;
 }
 
+-- the marks of a node that was activated, and then doomed
 abbrev pub doomed_marks : Marks
 doomed_marks = record { activated = true; doomed = true }
 

@@ -18,6 +18,7 @@ pub record IsLawfulName (name : List ℕ) : Type 0 where
   pub no_dot : name ≢ 46 ∷ []
   pub no_dots : name ≢ 46 ∷ 46 ∷ []
 
+-- whether the byte stands in the name
 abbrev pub has_byte : List ℕ → ℕ → Bool
 has_byte name byte = list_any (λ b. b == byte) name
 

@@ -3,6 +3,7 @@ use Rattle.std.specs.Prelude.{ℕ, Bool, true, false, List, [], ◌∷◌, Optio
 use Rattle.kf_core.specs.declared.refusal.Refusal.{Refusal}
 use Rattle.kf_core.specs.declared.refusal.Refusal.TheVariants.{NoEntry, NoMemory, Access, Busy, Exists, NoDevice, NotDir, IsDir, Invalid, TooManyHolds, NoSpace, NameTooLong}
 
+-- the number that Linux has for the refusal
 abbrev pub number_of : Refusal → ℕ
 number_of NoEntry = 2
 number_of NoMemory = 12
@@ -17,6 +18,7 @@ number_of TooManyHolds = 24
 number_of NoSpace = 28
 number_of NameTooLong = 36
 
+-- the refusal's own name, as bytes
 abbrev pub name_of : Refusal → List ℕ
 name_of NoEntry = codes "NoEntry"
 name_of NoMemory = codes "NoMemory"

@@ -18,6 +18,8 @@ OnlyHider w c key = (d : ℕ) (phase : Phase) → IsCaller w d key phase → IsT
 abbrev pub NoneHolding : BareWorld → Key → Type 0
 NoneHolding w key = (c : ℕ) (phase : Phase) → IsCaller w c key phase → phase ≡ Spent
 
+-- nobody is running where a caller saw that none has a reference, each holder has its slot's last generation,
+-- and one caller at most hides a key
 pub record Safe (w : BareWorld) : Type 0 where
   -- nobody is running on a key on which a caller is drained, parted or hidden
   pub none_running : (c : ℕ) (key : Key) (phase : Phase) → IsCaller w c key phase → IsTrue (saw_unused phase)

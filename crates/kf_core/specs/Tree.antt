@@ -21,15 +21,19 @@ with_key key (Some r) = if same_key r.key key then Some r else None
 abbrev pub record_at : Tree → Key → Option Record
 record_at t key = option_and_then (with_key key) (slice_get t key.slot)
 
+-- whether the tree has a record of this key
 abbrev pub is_linked : Tree → Key → Bool
 is_linked t key = is_some (record_at t key)
 
+-- the directory that a key's record is in; the root, and a key that is not linked, have none
 abbrev pub parent_of : Tree → Key → Option Key
 parent_of t key = option_and_then (λ r. r.parent) (record_at t key)
 
+-- the marks of a key's record, where it is linked
 abbrev pub marks_of : Tree → Key → Option Marks
 marks_of t key = option_map (λ r. r.marks) (record_at t key)
 
+-- whether the node is a directory
 abbrev pub is_dir : Node → Bool
 is_dir Dir = true
 is_dir (File mode tag) = false

@@ -21,14 +21,17 @@ use Rattle.kf_core.specs.Tree.{Tree, record_at, in_subtree}
 use Rattle.kf_core.specs.Lawful.{root_record}
 use Rattle.kf_core.specs.Commands.{change, activated_record, doomed_record, after}
 
+-- a slot: its last generation, and the record of its node where one is linked
 pub record Slot : Type 0 where
   pub last : ℕ
   pub linked : Option Record
 
+-- the slots with their records, and the callers with their keys and phases
 pub record World : Type 0 where
   pub slots : List Slot  -- by slot
   pub callers : List Caller  -- by the number of the caller
 
+-- the tree of a world: by slot, the record of the linked node
 abbrev pub tree : World → Tree
 tree w = map (λ (s : Slot). s.linked) w.slots
 

@@ -32,14 +32,14 @@ pub enum Phase {
 
 impl Phase {
     /// Whether a caller may try for a reference, and look for the drain.
-    pub(crate) fn is_waiting(self) -> bool
+    pub fn is_waiting(self) -> bool
         ensures known { result ≡ is_waiting self }
     {
         matches!(self, Phase::Still | Phase::Turned)
     }
 
     /// Whether a caller has a reference, which a drain waits for.
-    pub(crate) fn has_reference(self) -> bool
+    pub fn has_reference(self) -> bool
         ensures known { result ≡ has_reference self }
     {
         matches!(self, Phase::Running | Phase::Restored)

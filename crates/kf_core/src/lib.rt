@@ -14,8 +14,6 @@ mod name_bytes;
 mod records;
 mod refusal;
 mod slot;
-#[cfg(test)]
-mod tests;
 mod world;
 mod world_guard;
 

@@ -4,3 +4,4 @@ mod Found
 mod Edited
 mod Above
 mod Reordered
+mod Turned

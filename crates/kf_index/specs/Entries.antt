@@ -16,6 +16,7 @@ abbrev pub key_code : Coded Key
 key_code = code_by (ℕ × ℕ) (coded× coded_ℕ coded_ℕ)
     (λ key. (key.slot, key.generation)) (λ p. record { slot = p.0; generation = p.1 }) (λ _. refl)
 
+-- entries are stored as a map is, each name as a list of bytes, each key as the pair of its fields
 abbrev pub entries_code : Coded Entries
 entries_code = map_of.code (coded_list coded_ℕ) key_code
 

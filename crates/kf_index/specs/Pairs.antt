@@ -4,6 +4,7 @@ use Rattle.kf_core.specs.declared.key.Key.{Key}
 use Rattle.kf_core.specs.Names.{IsBefore}
 use Rattle.kf_index.specs.Entries.{IsAbove}
 
+-- the names of an index, each with its key, one after another
 abbrev pub Pairs : Type 0
 Pairs = List (List ℕ × Key)
 

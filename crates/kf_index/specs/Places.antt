@@ -1,5 +1,5 @@
 -- Entries at places of their own, and their places in an order.
-use Rattle.std.specs.Prelude.{◌≡◌, ◌≢◌, ℕ, ◌<◌, ◌≤◌, List, [], length, map, take, slice_index_or, unwrap_or, Option, None, IsSome, All, AllPairs}
+use Rattle.std.specs.Prelude.{◌≡◌, ◌≢◌, ℕ, ◌+◌, ◌*◌, ◌<◌, ◌≤◌, List, [], length, map, take, slice_index_or, unwrap_or, Option, None, IsSome, All, AllPairs}
 use Rattle.kf_core.specs.declared.key.Key.{Key}
 use Rattle.kf_index.specs.Pairs.{Pairs}
 
@@ -35,3 +35,7 @@ pub record AreInOrder (entries : Places) (order : List ℕ) (len : ℕ) : Type 0
   pub as_many : length entries ≡ length order
   pub few : len ≤ length order
   pub taken : AreTaken entries (take len order)
+
+-- memory for this many entries is no more than so many of them may keep
+abbrev pub IsFitting : ℕ → ℕ → Type 0
+IsFitting len capacity = capacity ≤ 4 * len + 3

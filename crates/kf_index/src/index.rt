@@ -1,6 +1,6 @@
 //! The sibling index of a directory: its entries in byte order of their names, found by binary search.
 
-ghost use Rattle.std.specs.Prelude.{◌≡◌, ◌<◌, ◌^◌, None, IfErr, OnOk, OnErr, IfSome, IfNone, if◌then◌else◌};
+ghost use Rattle.std.specs.Prelude.{◌≡◌, ◌<◌, ◌≤◌, ◌^◌, None, IfErr, OnOk, OnErr, IfSome, IfNone, if◌then◌else◌};
 ghost use Rattle.std.specs.Option.{option_copied};
 ghost use Rattle.std.specs.FinMap as map;
 ghost use Rattle.kf_index.specs.Entries.{IsLeastAbove, NoneAbove, AreAbove};
@@ -15,9 +15,11 @@ use std::alloc::Global;
 use std::marker::Model;
 
 /// The entries of one directory: each name once, with the key of its node, in byte order of names.
-/// Contracts see an ordered map from names to keys. Of its calls `insert` alone takes memory, by the
-/// allocator that `new` was given. The kernel keeps the children of a node so too, in the tree
-/// `kn->dir.children`, but orders them by hashes of their names.
+/// Contracts see an ordered map from names to keys. Of its calls `insert` alone wants memory, by the
+/// allocator that `new` was given: `remove` asks for less than there is, and does without. Where it is not
+/// refused, there is room for four times as many entries as there are, and three more, at most. The kernel
+/// keeps the children of a node so too, in the tree `kn->dir.children`, but orders them by hashes of their
+/// names.
 #[derive(Drop)]
 pub struct Index {
     entries: Sequence,
@@ -81,6 +83,15 @@ impl Index {
         self.entries.all().len()
     }
 
+    /// For how many entries there is memory. An index without entries has none.
+    #[tactic(auto, using(crate::proofs::Edited::len_of_rising))]
+    pub fn room(&self) -> usize
+        ensures enough { map.len self.now ≤ result }
+        ensures none { map.len self.now ≡ 0 → result ≡ 0 }
+    {
+        self.entries.room()
+    }
+
     /// Adds an entry (`kernfs_link_sibling`). Refuses `Exists` where the name is there, then
     /// `NoMemory` where the growth by one entry wants memory. After a refusal all is as before, and
     /// the name is dropped. So a caller that makes it the last growth of a command has nothing to undo.
@@ -103,7 +114,8 @@ impl Index {
     }
 
     /// Takes the entry of this name out and answers its key, or None where there is none
-    /// (`kernfs_unlink_sibling`). With the last entry the memory of all is given back.
+    /// (`kernfs_unlink_sibling`). With the last entry the memory of all is given back. Where few of many are
+    /// left, they move to less memory, or stay where there is none to be had.
     pub fn remove(&mut self, name: &[u8]) -> Option<Key>
         ensures found { result ≡ map.get self.old name.now }
         ensures removed { self.new ≡ map.remove self.old name.now }

@@ -1,6 +1,6 @@
 //! Lawful names: the bytes that a node may be called by in its directory.
 
-ghost use Rattle.std.specs.Prelude.{◌≡◌, ◌≤◌, ℕ, List, length, IsOk, IfOk, IfErr};
+ghost use Rattle.std.specs.Prelude.{◌≡◌, ◌≤◌, ℕ, List, length, None, IsOk, IfOk, IfErr};
 ghost use Rattle.std.specs.Option.{unwrap_or};
 ghost use Rattle.kf_core.specs.Names.{IsLawfulName, name_fault};
 
@@ -50,6 +50,7 @@ impl Name {
         ensures lawful { IfOk result (λ name. IsLawfulName name) }
         ensures refused { IfErr result (λ refusal.
             refusal ≡ unwrap_or (name_fault bytes.now) Refusal.NoMemory) }
+        ensures short { name_fault bytes.now ≡ None → length bytes.now ≤ 24 → IsOk result }
     {
         if let Some(fault) = name_fault(bytes) {
             return Err(fault);

@@ -18,7 +18,7 @@ each_after : (views : List View) (seat : ℕ) (w : View) (P : View → Type 0) �
 each_after views seat w P own others j s e = ⊎_elim (λ x. subst P x.1 own) (λ x. others j s x.1) (at_set views seat j w s e)
 
 -- a seat's place is among the views
-seat_within : (views : List View) (seat : ℕ) (v : View) → get_elem? views seat ≡ some v → seat < length views
+pub seat_within : (views : List View) (seat : ℕ) (v : View) → get_elem? views seat ≡ some v → seat < length views
 seat_within [] seat v e = absurd (some-ne-none v (sym e))
 seat_within (x ∷ xs) zero v e = omega arith
 seat_within (x ∷ xs) (suc seat) v e = let r = seat_within xs seat v e in omega arith

@@ -21,7 +21,7 @@ first_or_made slots start t shown slot near = dite (dec_le (number_at t slot) st
 pub opens_well : OpensWell
 opens_well slots start = opening_shown slots (max slots 1) start (omega arith)
 
-step_keeps : (slots start : ℕ) (t : Table) (kind : Kind) (t' : Table) → Shown slots start t → NumberStep slots t kind t' → Shown slots start t'
+pub step_keeps : (slots start : ℕ) (t : Table) (kind : Kind) (t' : Table) → Shown slots start t → NumberStep slots t kind t' → Shown slots start t'
 step_keeps slots start t (loads seat slot) t' h s = subst (λ (u : Table). Shown slots start u) (sym s.4) (load_keeps slots start t seat s.0 slot h s.1 s.2 s.3)
 step_keeps slots start t (raises seat slot number) t' h s =
     let kept : Shown slots start (stepped t s.0.slot (max (number_at t s.0.slot) number) seat [] (raised number s.0) keeps) =

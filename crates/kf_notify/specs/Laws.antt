@@ -63,3 +63,17 @@ NoneSkipped = (slots start : ℕ) (t : Table) (kinds : List Kind) (t' : Table)
     → Shown slots start t → NumberRun slots t kinds t' → (slot number : ℕ)
     → number_at t slot < number → number ≤ number_at t' slot
     → (seat : ℕ) × Contains kinds (raises seat slot number)
+
+-- once a slot's number was raised to this one, it is never below it again
+abbrev pub StaysRaised : Type 0
+StaysRaised = (slots start : ℕ) (t : Table) (seat slot number : ℕ) (kinds : List Kind) (t' : Table)
+    → Shown slots start t → NumberRun slots t (raises seat slot number ∷ kinds) t' → number ≤ number_at t' slot
+
+-- a notify that begins where another of its slot has ended makes a greater number, whatever all seats do between
+-- them, and between its load and its raise
+abbrev pub LaterIsGreater : Type 0
+LaterIsGreater = (slots start : ℕ) (t : Table) (one other slot number later : ℕ) (kinds more : List Kind)
+    (t' : Table) → Shown slots start t
+    → NumberRun slots t (raises one slot number
+    ∷ (kinds ++ loads other slot ∷ (more ++ raises other slot later ∷ []))) t'
+    → number < later

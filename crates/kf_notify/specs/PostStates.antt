@@ -11,6 +11,7 @@ pub record Numbers : Type 0 where
   pub slots : ℕ
   pub start : ℕ
 
+-- what a contract sees of a post
 pub record PostState : Type 0 where
   pub numbers : Numbers
   pub slot : ℕ
@@ -19,9 +20,11 @@ pub record PostState : Type 0 where
   pub made : ℕ  -- the last number that it has made; 0: none
   pub steps : ℕ  -- how many steps it has made on its slot's word
 
+-- which numbers a seat is of: the table, how many slots, the first number
 abbrev pub numbers_of : PostSeat → Numbers
 numbers_of s = record { table = s.token.table_id; slots = s.slots; start = s.token.me.0.start }
 
+-- the post that a seat is
 abbrev pub post_of : PostSeat → PostState
 post_of s = record {
   numbers = numbers_of s;
@@ -48,6 +51,7 @@ pub record IsIdle (s : PostSeat) : Type 0 where
   pub no_step : s.token.me.0.steps ≡ 0
   pub none_made : s.token.me.0.made ≡ 0
 
+-- still a post of the same slot of the same numbers
 pub record IsSamePost (old new : PostState) : Type 0 where
   pub numbers : new.numbers ≡ old.numbers
   pub slot : new.slot ≡ old.slot

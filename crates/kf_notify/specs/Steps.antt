@@ -4,6 +4,7 @@ use Rattle.atomic_table.specs.Table.{Me, Step}
 use Rattle.kf_notify.specs.declared.view.View.{View}
 use Rattle.kf_notify.specs.Rule.{Table, Shown, IsSeated, number_at}
 
+-- a seat at the table of numbers, with what it knows
 abbrev pub Seated : Type 0
 Seated = Me (Unit {0}) View
 
@@ -35,5 +36,6 @@ abbrev pub MakesLoad : Step (Unit {0}) → Seated → ℕ → Seated → Type 0
 MakesLoad st me found me' = (me' ≡ (loaded st.word found me.0, me.1)) × (me.0.start ≤ found)
     × (me.0.slot ≡ st.word → me.0.known ≤ found) × WasFound me.0 st.word found
 
+-- a raise is made on the seat's own slot, and what the seat knows after it
 abbrev pub MakesRaise : Step (Unit {0}) → Seated → ℕ → Seated → Type 0
 MakesRaise st me found me' = (st.word ≡ me.0.slot) × (me' ≡ (raised st.first me.0, me.1))

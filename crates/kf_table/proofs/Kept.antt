@@ -10,7 +10,7 @@ use Rattle.kf_core.specs.declared.key.Key.{Key}
 use Rattle.kf_core.specs.declared.records.Record.{Record}
 use Rattle.kf_core.specs.Tree.{Tree, IsIn, is_dir}
 use Rattle.kf_table.specs.declared.directories.Directory.{Directory}
-use Rattle.kf_table.specs.Directories.{with_entry, without_entry, without_record, MayLeave, entry_at, subdirs_at, is_slot_of, is_subdir_in, IsEntry, AreKept}
+use Rattle.kf_table.specs.Directories.{with_entry, without_entry, without_record, MayRemove, entry_at, subdirs_at, is_slot_of, is_subdir_in, IsEntry, AreKept}
 use Rattle.kf_core.proofs.Lists.{slice_get-set_same, slice_get-set_other}
 use Rattle.kf_table.proofs.Entries.{entries_tell, entered_there, entered_elsewhere, entered_counted, left_there, left_elsewhere, left_counted, subdirs_elsewhere}
 
@@ -19,12 +19,12 @@ use Rattle.kf_table.proofs.Entries.{entries_tell, entered_there, entered_elsewhe
 abbrev pub counted : Bool → ℕ
 counted b = cond b 1 0
 
--- what a write of one slot makes of the number of child directories
-pub count_written : (t : Tree) (slot at : ℕ) (old new : Option Record) → slice_get t at ≡ Some old →
-    count_by (is_subdir_in slot) (slice_set t at new) + counted (is_subdir_in slot old) ≡ count_by (is_subdir_in slot) t + counted (is_subdir_in slot new)
-count_written t slot at old new h =
+-- what a write of one slot makes of the number of slots that pass a test
+pub count_written : (test : Option Record → Bool) (t : Tree) (at : ℕ) (old new : Option Record) → slice_get t at ≡ Some old →
+    count_by test (slice_set t at new) + counted (test old) ≡ count_by test t + counted (test new)
+count_written test t at old new h =
     let e : get_or t at None ≡ old = get_or_from_slice_get t at old None h in
-    rw e at (sum_by-set (λ o. counted (is_subdir_in slot o)) t at new None (slice_get_within t at old h))
+    rw e at (sum_by-set (λ o. counted (test o)) t at new None (slice_get_within t at old h))
 
 in_parent : (slot : ℕ) (r : Record) (p : Key) → r.parent ≡ Some p → slot ≡ p.slot → is_subdir_in slot (Some r) ≡ is_dir r.node
 in_parent slot r p parent is = elim (eqb_tells p.slot slot) [
@@ -123,7 +123,7 @@ module _ (t : Tree) (ds : List Directory) (kept : AreKept t ds) (r : Record) (va
 
     count_grown : (slot : ℕ) → slot < length t → subdirs_at entered slot ≡ count_by (is_subdir_in slot) grown
     count_grown slot low =
-        let w = count_written t slot r.key.slot None (Some r) vacant in
+        let w = count_written (is_subdir_in slot) t r.key.slot None (Some r) vacant in
         let was = kept.counted slot low in
         elim (eqb_tells slot p.slot) [
           | inl e ↦ (let now : subdirs_at entered slot ≡ cond (is_dir r.node) (subdirs_at ds slot + 1) (subdirs_at ds slot) =
@@ -215,13 +215,13 @@ module _ (t : Tree) (ds : List Directory) (kept : AreKept t ds) (r : Record) (is
 
   pub dir_counts : (p : Key) → r.parent ≡ Some p → is_dir r.node ≡ true → 0 < subdirs_at ds p.slot
   dir_counts p parent is_subdir =
-      let w = count_written t p.slot r.key.slot (Some r) None is_in in
+      let w = count_written (is_subdir_in p.slot) t r.key.slot (Some r) None is_in in
       let one = ap counted (in_parent p.slot r p parent refl ∙ is_subdir) in
       let was = kept.counted p.slot (rw (← kept.as_many) (dir_within p parent)) in
       omega (arith, w, one, was)
 
-  pub may_leave : MayLeave ds (Some r)
-  may_leave = λ p parent. (dir_within p parent, dir_counts p parent)
+  pub may_remove : MayRemove ds (Some r)
+  may_remove = λ p parent. (dir_within p parent, dir_counts p parent)
 
   module _ (p : Key) (parent : r.parent ≡ Some p) where
     abbrev left : List Directory
@@ -253,7 +253,7 @@ module _ (t : Tree) (ds : List Directory) (kept : AreKept t ds) (r : Record) (is
 
     count_left : (slot : ℕ) → slot < length t → subdirs_at left slot ≡ count_by (is_subdir_in slot) cleared
     count_left slot low =
-        let w = count_written t slot r.key.slot (Some r) None is_in in
+        let w = count_written (is_subdir_in slot) t r.key.slot (Some r) None is_in in
         let was = kept.counted slot low in
         elim (eqb_tells slot p.slot) [
           | inl e ↦ (let now : subdirs_at left slot ≡ cond (is_dir r.node) (subdirs_at ds slot - 1) (subdirs_at ds slot) =
@@ -289,7 +289,7 @@ module _ (t : Tree) (ds : List Directory) (kept : AreKept t ds) (r : Record) (is
       (λ i. (kept.entries slot name key).1 (entry_was slot name key i)),
     );
     counted = λ slot low.
-        let w = count_written t slot r.key.slot (Some r) None is_in in
+        let w = count_written (is_subdir_in slot) t r.key.slot (Some r) None is_in in
         let none = ap counted (in_none slot r orphan) in
         let was = kept.counted slot (rw (length-set t r.key.slot None) at low) in
         was ∙ omega (arith, w, none);

@@ -92,7 +92,7 @@ module _ (f : Record → Record) (same : (r : Record) → SamePlace (f r) r) (t 
         })),
       );
       counted = λ s low.
-          let w = count_written t s slot place (option_map f place) is in
+          let w = count_written (is_subdir_in s) t slot place (option_map f place) is in
           let one = ap counted (same_test s place) in
           let was = kept.counted s (rw (length-set t slot (option_map f place)) at low) in
           was ∙ omega (arith, w, one);
@@ -160,7 +160,7 @@ kept_opening n root few low = record {
   where
     counts : (slot : ℕ) → 0 ≡ count_by (is_subdir_in slot) (root_alone n root)
     counts slot =
-        let w = count_written (nobody n) slot root.slot None (Some (root_record root)) (vacant_at n root.slot low) in
+        let w = count_written (is_subdir_in slot) (nobody n) root.slot None (Some (root_record root)) (vacant_at n root.slot low) in
         let none = none_counted slot n 0 in
         omega (arith, w, none)
 

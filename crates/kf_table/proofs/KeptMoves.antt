@@ -13,7 +13,7 @@ use Rattle.kf_core.specs.Commands.{moved_record}
 use Rattle.kf_table.specs.declared.directories.Directory.{Directory}
 use Rattle.kf_table.specs.Children.{is_there_already}
 use Rattle.kf_table.specs.Changes.{with_changed_slot}
-use Rattle.kf_table.specs.Directories.{empty_directory, with_child, with_entry, without_entry, without_record, HasRoom, MayLeave, entry_at, subdirs_at, AreKept}
+use Rattle.kf_table.specs.Directories.{empty_directory, with_child, with_entry, without_entry, without_record, HasRoom, MayRemove, entry_at, subdirs_at, AreKept}
 use Rattle.kf_core.proofs.FoundRecords.{in_found}
 use Rattle.kf_table.proofs.Entries.{entered_counted, left_elsewhere, subdirs_elsewhere}
 use Rattle.kf_table.proofs.Kept.{kept_with, kept_without, none_there, own_entry, dir_within, dir_counts}
@@ -22,13 +22,14 @@ use Rattle.kf_table.proofs.Rooms.{few_subdirs, move_is, move_low, move_named, mo
 use Rattle.kf_table.proofs.KeptRecords.{linked_place}
 use Rattle.kf_table.proofs.Swapped.{kept_along, swap_length, swap_entries, swap_counts}
 
-pub record MayMoveTo (t : Tree) (key dir : Key) (name : List ℕ) : Type 0 where
+-- what a move asks of the tree
+pub record IsLawfulMove (t : Tree) (key dir : Key) (name : List ℕ) : Type 0 where
   pub linked : is_some (record_at t key) ≡ true
   pub lawful : (root : Key) × Lawful t root
   pub lawful_after : (root : Key) × Lawful (with_changed_slot (moved_record dir name) t key.slot) root
   pub elsewhere : is_there_already t key dir name ≡ false
 
-module _ (t : Tree) (ds : List Directory) (kept : AreKept t ds) (key dir : Key) (name : List ℕ) (m : MayMoveTo t key dir name) where
+module _ (t : Tree) (ds : List Directory) (kept : AreKept t ds) (key dir : Key) (name : List ℕ) (m : IsLawfulMove t key dir name) where
   module _ (r : Record) (is_in : IsIn t r) (has_key : r.key ≡ key) where
     known : record_at t key ≡ Some r
     known = ap (record_at t) (sym has_key) ∙ in_found t r is_in
@@ -48,7 +49,7 @@ module _ (t : Tree) (ds : List Directory) (kept : AreKept t ds) (key dir : Key) 
     with_new = with_entry dir.slot name key (is_dir r.node) ds
 
     -- the old name may still leave
-    pub may_leave_after : MayLeave with_new (Some r)
+    pub may_leave_after : MayRemove with_new (Some r)
     may_leave_after p parent =
         let low = dir_within t ds kept r is_in p parent in (
           rw (length-set ds dir.slot (with_child name key (is_dir r.node) (get_or ds dir.slot empty_directory))) low,
@@ -117,12 +118,12 @@ module _ (t : Tree) (ds : List Directory) (kept : AreKept t ds) (key dir : Key) 
 
   -- as the code has it: the record that was read, and what was seen of it
   pub may_move_out : (b : Bool) (entered : List Directory) (place seen : Option Record) → b ≡ option_map_or (λ (r : Record). is_dir r.node) (record_at t key) false
-      → entered ≡ with_entry dir.slot name key b ds → place ≡ get_or t key.slot place → seen ≡ place → MayLeave entered seen
+      → entered ≡ with_entry dir.slot name key b ds → place ≡ get_or t key.slot place → seen ≡ place → MayRemove entered seen
   may_move_out b entered place seen tells is read same =
       let h = linked_place t key place m.linked read in
       let b_is : b ≡ is_dir h.0.node = tells ∙ ap (λ o. option_map_or (λ (r : Record). is_dir r.node) o false) (known h.0 h.1 h.2) in
-      subst (λ (o : Option Record). MayLeave entered o) (sym (same ∙ h.3))
-      (subst (λ (es : List Directory). MayLeave es (Some h.0)) (sym (is ∙ ap (λ v. with_entry dir.slot name key v ds) b_is)) (may_leave_after h.0 h.1 h.2))
+      subst (λ (o : Option Record). MayRemove entered o) (sym (same ∙ h.3))
+      (subst (λ (es : List Directory). MayRemove es (Some h.0)) (sym (is ∙ ap (λ v. with_entry dir.slot name key v ds) b_is)) (may_leave_after h.0 h.1 h.2))
 
   pub kept_by_move : (b : Bool) (entered : List Directory) (place seen : Option Record) → b ≡ option_map_or (λ (r : Record). is_dir r.node) (record_at t key) false
       → entered ≡ with_entry dir.slot name key b ds → place ≡ get_or t key.slot place → seen ≡ place

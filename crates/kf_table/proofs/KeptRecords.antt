@@ -8,15 +8,15 @@ use Rattle.kf_core.specs.declared.records.Record.{Record}
 use Rattle.kf_core.specs.Tree.{Tree, IsIn, is_dir, record_at}
 use Rattle.kf_core.specs.Lawful.{Lawful}
 use Rattle.kf_table.specs.declared.directories.Directory.{Directory}
-use Rattle.kf_table.specs.Directories.{with_entry, with_record, without_record, MayEnter, MayLeave, AreKept}
+use Rattle.kf_table.specs.Directories.{is_subdir_in, with_entry, with_record, without_record, MayInsert, MayRemove, AreKept}
 use Rattle.kf_core.proofs.FoundRecords.{linked_here}
-use Rattle.kf_table.proofs.Kept.{counted, count_written, in_none, stays, new_or_old, kept_with, kept_without, may_leave}
+use Rattle.kf_table.proofs.Kept.{counted, count_written, in_none, stays, new_or_old, kept_with, kept_without, may_remove}
 use Rattle.kf_table.proofs.FewNames.{few_names}
 use Rattle.kf_table.proofs.Rooms.{few_subdirs, add_low, add_named, add_absent}
 
-pub may_enter : (t : Tree) (ds : List Directory) → AreKept t ds → (r : Record) → slice_get t r.key.slot ≡ Some None
-    → (root : Key) × Lawful (slice_set t r.key.slot (Some r)) root → MayEnter ds r
-may_enter t ds kept r vacant after p parent =
+pub may_insert : (t : Tree) (ds : List Directory) → AreKept t ds → (r : Record) → slice_get t r.key.slot ≡ Some None
+    → (root : Key) × Lawful (slice_set t r.key.slot (Some r)) root → MayInsert ds r
+may_insert t ds kept r vacant after p parent =
     let low = add_low t ds kept r vacant after.0 after.1 p parent in
     record {
       within = rw kept.as_many low;
@@ -55,13 +55,13 @@ kept_orphan t ds kept r vacant orphan = record {
     ]),
   );
   counted = λ slot low.
-      let w = count_written t slot r.key.slot None (Some r) vacant in
+      let w = count_written (is_subdir_in slot) t r.key.slot None (Some r) vacant in
       let none = ap counted (in_none slot r orphan) in
       let was = kept.counted slot (rw (length-set t r.key.slot (Some r)) at low) in
       was ∙ omega (arith, w, none);
 }
 
-pub kept_added : (t : Tree) (ds : List Directory) → AreKept t ds → (r : Record) → slice_get t r.key.slot ≡ Some None → MayEnter ds r → AreKept (slice_set t r.key.slot (Some r)) (with_record r ds)
+pub kept_added : (t : Tree) (ds : List Directory) → AreKept t ds → (r : Record) → slice_get t r.key.slot ≡ Some None → MayInsert ds r → AreKept (slice_set t r.key.slot (Some r)) (with_record r ds)
 kept_added t ds kept r vacant may = elim r.parent as (λ o. r.parent ≡ o → AreKept (slice_set t r.key.slot (Some r)) (option_map_or (λ (parent : Key). with_entry parent.slot r.name r.key (is_dir r.node) ds) o ds)) [
   | None ↦ λ e. kept_orphan t ds kept r vacant e
   | Some p ↦ λ e. let room = may p e in kept_with t ds kept r vacant p e room.within room.absent
@@ -83,10 +83,10 @@ linked_low t key linked =
     slice_get_within t key.slot (Some h.0) (ap (λ (k : Key). slice_get t k.slot) (sym h.2) ∙ h.1)
 
 pub may_take : (t : Tree) (ds : List Directory) → AreKept t ds → (key : Key) (place seen : Option Record) → is_some (record_at t key) ≡ true
-    → place ≡ get_or t key.slot place → seen ≡ place → MayLeave ds seen
+    → place ≡ get_or t key.slot place → seen ≡ place → MayRemove ds seen
 may_take t ds kept key place seen linked read is =
     let h = linked_place t key place linked read in
-    subst (λ o. MayLeave ds o) (sym (is ∙ h.3)) (may_leave t ds kept h.0 h.1)
+    subst (λ o. MayRemove ds o) (sym (is ∙ h.3)) (may_remove t ds kept h.0 h.1)
 
 pub kept_taken : (t : Tree) (ds : List Directory) → AreKept t ds → (key : Key) (place seen : Option Record) → is_some (record_at t key) ≡ true
     → place ≡ get_or t key.slot place → seen ≡ place → AreKept (slice_set t key.slot None) (without_record seen ds)

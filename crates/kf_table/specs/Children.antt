@@ -8,6 +8,7 @@ use Rattle.kf_core.specs.declared.records.Record.{Record}
 use Rattle.kf_core.specs.Keys.{same_key}
 use Rattle.kf_core.specs.Tree.{Tree, record_at, is_dir}
 
+-- whether there is a parent, and it is this directory
 abbrev pub is_key : Key → Option Key → Bool
 is_key dir None = false
 is_key dir (Some parent) = same_key parent dir
@@ -21,6 +22,7 @@ is_under dir test (Some r) = is_key dir r.parent && test r
 abbrev pub child : Tree → Key → List ℕ → Option Record
 child t dir name = option_and_then (λ slot. slot) (first (is_under dir (λ r. bytes_eq r.name name)) t)
 
+-- whether any record is in this directory, live or not
 abbrev pub has_child : Tree → Key → Bool
 has_child t dir = list_any (is_under dir (λ r. true)) t
 

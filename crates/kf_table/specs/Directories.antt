@@ -69,13 +69,14 @@ pub record HasRoom (directories : List Directory) (slot : ℕ) (name : List ℕ)
   pub few : subdirs_at directories slot + 1 < 2 ^ 64
   pub few_names : names_at directories slot < 2 ^ 32
 
-abbrev pub MayEnter : List Directory → Record → Type 0
-MayEnter directories r = (parent : Key) → r.parent ≡ Some parent → HasRoom directories parent.slot r.name
+-- where the record has a parent, its name may enter the index of the parent's slot
+abbrev pub MayInsert : List Directory → Record → Type 0
+MayInsert directories r = (parent : Key) → r.parent ≡ Some parent → HasRoom directories parent.slot r.name
 
 -- there is a directory for the record's parent, which counts it if it is a directory
-abbrev pub MayLeave : List Directory → Option Record → Type 0
-MayLeave directories None = Unit {0}
-MayLeave directories (Some r) = (parent : Key) → r.parent ≡ Some parent
+abbrev pub MayRemove : List Directory → Option Record → Type 0
+MayRemove directories None = Unit {0}
+MayRemove directories (Some r) = (parent : Key) → r.parent ≡ Some parent
     → (parent.slot < length directories) × (is_dir r.node ≡ true → 0 < subdirs_at directories parent.slot)
 
 -- whether the parent is in this slot

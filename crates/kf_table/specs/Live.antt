@@ -9,10 +9,12 @@ use Rattle.kf_core.specs.Tree.{Tree, record_at}
 abbrev pub lives : Record → Bool
 lives r = are_live (Some r.marks) && not r.hidden
 
+-- whether the slot has a live record
 abbrev pub lives_in : Option Record → Bool
 lives_in None = false
 lives_in (Some r) = lives r
 
+-- whether the key is linked, and its record is live
 abbrev pub live_in : Tree → Key → Bool
 live_in t key = lives_in (record_at t key)
 

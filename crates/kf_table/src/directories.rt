@@ -4,7 +4,7 @@ ghost use Rattle.std.specs.Prelude.{◌≡◌, ◌+◌, ◌^◌, ◌<◌, replic
 ghost use Rattle.std.specs.Option.{option_copied};
 ghost use Rattle.std.specs.FinMap as map_of;
 ghost use Rattle.kf_index.specs.Entries.{AreAbove};
-ghost use Rattle.kf_table.specs.Directories.{empty_directory, with_child, without_child, with_entry, with_record, without_record, HasRoom, MayEnter, MayLeave};
+ghost use Rattle.kf_table.specs.Directories.{empty_directory, with_child, without_child, with_entry, with_record, without_record, HasRoom, MayInsert, MayRemove};
 
 use crate::children::is_directory;
 use kf_core::{Key, Record, Refusal};
@@ -60,11 +60,11 @@ impl Directory {
         self.subdirs
     }
 
-    /// Enters a child. After a refusal all is as before.
-    pub(crate) fn enter(&mut self, name: Name, key: Key, is_subdir: bool) -> Result<(), Refusal>
+    /// Puts a child in. After a refusal all is as before.
+    pub(crate) fn insert(&mut self, name: Name, key: Key, is_subdir: bool) -> Result<(), Refusal>
         requires few { self.old.subdirs + 1 < 2 ^ 64 }
         requires few_names { map_of.len self.old.index < 2 ^ 32 }
-        ensures entered { OnOk result (self.new ≡ with_child name key is_subdir self.old) }
+        ensures inserted { OnOk result (self.new ≡ with_child name key is_subdir self.old) }
         ensures unchanged { OnErr result (self.new ≡ self.old) }
         ensures refused { IfErr result (λ refusal. refusal
             ≡ (if map_of.contains_key self.old.index name then Refusal.Exists else Refusal.NoMemory)) }
@@ -77,9 +77,9 @@ impl Directory {
     }
 
     /// Takes a child out.
-    pub(crate) fn leave(&mut self, name: &[u8], is_subdir: bool)
+    pub(crate) fn remove(&mut self, name: &[u8], is_subdir: bool)
         requires counted { IsTrue is_subdir → 0 < self.old.subdirs }
-        ensures left { self.new ≡ without_child name.now is_subdir self.old }
+        ensures removed { self.new ≡ without_child name.now is_subdir self.old }
     {
         self.index.remove(name);
         if is_subdir {
@@ -88,8 +88,8 @@ impl Directory {
     }
 }
 
-/// Enters a child into the index of its directory. After a refusal all is as before.
-pub(crate) fn enter(
+/// Puts a child into the index of its directory. After a refusal all is as before.
+pub(crate) fn insert_child(
     directories: &mut Vec<Directory>,
     slot: u32,
     name: &[u8],
@@ -97,7 +97,7 @@ pub(crate) fn enter(
     is_subdir: bool,
 ) -> Result<(), Refusal>
     requires room { HasRoom directories.old.items slot name.now }
-    ensures entered { OnOk result
+    ensures inserted { OnOk result
         (directories.new.items ≡ with_entry slot name.now key is_subdir directories.old.items) }
     ensures unchanged { OnErr result (directories.new.items ≡ directories.old.items) }
     ensures refused { IfErr result (λ refusal. refusal ≡ Refusal.NoMemory) }
@@ -105,21 +105,21 @@ pub(crate) fn enter(
     let Ok(name) = Name::of_lawful(*directories.allocator(), name) else {
         return Err(Refusal::NoMemory);
     };
-    directories[slot as usize].enter(name, key, is_subdir)
+    directories[slot as usize].insert(name, key, is_subdir)
 }
 
-/// Enters a record's name into the index of its directory, where it has one. After a refusal all is as
+/// Puts a record's name into the index of its directory, where it has one. After a refusal all is as
 /// before.
-pub(crate) fn enter_record(directories: &mut Vec<Directory>, entry: &Record) -> Result<(), Refusal>
-    requires lawful { MayEnter directories.old.items entry.now }
-    ensures entered { OnOk result (directories.new.items ≡ with_record entry.now directories.old.items) }
+pub(crate) fn insert_record(directories: &mut Vec<Directory>, entry: &Record) -> Result<(), Refusal>
+    requires lawful { MayInsert directories.old.items entry.now }
+    ensures inserted { OnOk result (directories.new.items ≡ with_record entry.now directories.old.items) }
     ensures unchanged { OnErr result (directories.new.items ≡ directories.old.items) }
     ensures refused { IfErr result (λ refusal. refusal ≡ Refusal.NoMemory) }
 {
     match entry.parent {
         Some(parent) => {
             let is_subdir = is_directory(&entry.node);
-            enter(
+            insert_child(
                 directories,
                 parent.slot,
                 entry.name.bytes(),
@@ -132,14 +132,14 @@ pub(crate) fn enter_record(directories: &mut Vec<Directory>, entry: &Record) -> 
 }
 
 /// Takes a record's name out of the index of its directory, where it has one.
-pub(crate) fn leave(directories: &mut Vec<Directory>, entry: Option<&Record>)
-    requires counted { MayLeave directories.old.items (option_copied entry) }
-    ensures left { directories.new.items ≡ without_record (option_copied entry.entry) directories.old.items }
+pub(crate) fn remove_record(directories: &mut Vec<Directory>, entry: Option<&Record>)
+    requires counted { MayRemove directories.old.items (option_copied entry) }
+    ensures removed { directories.new.items ≡ without_record (option_copied entry.entry) directories.old.items }
 {
     if let Some(entry) = entry {
         if let Some(parent) = entry.parent {
             let is_subdir = is_directory(&entry.node);
-            directories[parent.slot as usize].leave(entry.name.bytes(), is_subdir);
+            directories[parent.slot as usize].remove(entry.name.bytes(), is_subdir);
         }
     }
 }

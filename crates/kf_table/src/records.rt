@@ -9,7 +9,7 @@ ghost use Rattle.kf_table.specs.Changes.{with_changed_slot, activated_unless_doo
 ghost use Rattle.kf_table.specs.Live.{live_in, live_key};
 
 use crate::children::is_live;
-use crate::slots::{activate_slot, doom_slot, empty_slots, hide_slot, move_slot};
+use crate::slots::{activate_slot, doom_slot, empty_slots, move_slot, set_hidden_slot};
 use kf_core::{Key, NameBytes, Record, Refusal};
 use std::alloc::Global;
 use std::marker::Model;
@@ -149,10 +149,10 @@ impl Records {
     }
 
     /// Hides the record in a slot, or shows it.
-    pub(crate) fn hide(&mut self, slot: u32, hides: bool)
-        ensures changed { self.new ≡ with_changed_slot (hidden_record hides) self.old slot }
+    pub(crate) fn set_hidden(&mut self, slot: u32, hidden: bool)
+        ensures changed { self.new ≡ with_changed_slot (hidden_record hidden) self.old slot }
     {
-        hide_slot(&mut self.slots, slot, hides);
+        set_hidden_slot(&mut self.slots, slot, hidden);
         note(&mut self.live, &self.slots, slot);
     }
 

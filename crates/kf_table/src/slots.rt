@@ -60,25 +60,25 @@ pub(crate) fn activate_slot(records: &mut Vec<Option<Record>>, slot: u32)
     }
 }
 
-fn hide(slot: &mut Option<Record>, hides: bool)
-    ensures changed { slot.new ≡ option_map (hidden_record hides) slot.old }
+fn set_hidden(slot: &mut Option<Record>, hidden: bool)
+    ensures changed { slot.new ≡ option_map (hidden_record hidden) slot.old }
 {
     if let Some(found) = slot {
-        found.hidden = hides;
+        found.hidden = hidden;
     }
 }
 
 /// Hides the record in a slot, or shows it.
-pub(crate) fn hide_slot(records: &mut Vec<Option<Record>>, slot: u32, hides: bool)
-    ensures changed { records.new.items ≡ with_changed_slot (hidden_record hides) records.old.items slot }
+pub(crate) fn set_hidden_slot(records: &mut Vec<Option<Record>>, slot: u32, hidden: bool)
+    ensures changed { records.new.items ≡ with_changed_slot (hidden_record hidden) records.old.items slot }
 {
     let at = slot as usize;
     if at < records.len() {
-        hide(&mut records[at], hides);
+        set_hidden(&mut records[at], hidden);
     }
 }
 
-fn put(slot: &mut Option<Record>, dir: Key, name: NameBytes)
+fn move_to(slot: &mut Option<Record>, dir: Key, name: NameBytes)
     ensures changed { slot.new ≡ option_map (moved_record dir name) slot.old }
 {
     if let Some(found) = slot {
@@ -93,6 +93,6 @@ pub(crate) fn move_slot(records: &mut Vec<Option<Record>>, slot: u32, dir: Key, 
 {
     let at = slot as usize;
     if at < records.len() {
-        put(&mut records[at], dir, name);
+        move_to(&mut records[at], dir, name);
     }
 }

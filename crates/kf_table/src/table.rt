@@ -12,7 +12,9 @@ ghost use Rattle.kf_table.specs.Next.{AreNext};
 ghost use Rattle.kf_table.specs.Changes.{with_changed_slot, activated_unless_doomed, is_undoomed};
 
 use crate::children::{is_child, is_directory_record};
-use crate::directories::{Directory, empty_directories, enter, enter_record, leave};
+use crate::directories::{
+    Directory, empty_directories, insert_child, insert_record, remove_record,
+};
 use crate::hints::Hints;
 use crate::records::Records;
 use kf_core::{Key, Marks, NameBytes, Node, Record, Refusal};
@@ -237,7 +239,7 @@ impl Table {
         ensures unchanged { OnErr result (self.new ≡ self.old) }
         ensures refused { IfErr result (λ refusal. refusal ≡ Refusal.NoMemory) }
     {
-        enter_record(&mut self.directories, &entry)?;
+        insert_record(&mut self.directories, &entry)?;
         self.hints.put_record(&self.directories, &entry);
         self.records.put(entry.key.slot, Some(entry));
         Ok(())
@@ -249,42 +251,49 @@ impl Table {
         ensures taken { self.new ≡ slice_set self.old key.slot None }
     {
         let gone = self.records.at(key.slot).as_ref();
-        leave(&mut self.directories, gone);
+        remove_record(&mut self.directories, gone);
         self.records.put(key.slot, None);
     }
 
-    /// Whether the slot of a key has a record that is not doomed.
-    pub fn is_undoomed(&self, key: Key) -> bool
-        ensures known { result ≡ is_undoomed (slice_get self.now key.slot) }
+    /// Whether the slot has a record that is not doomed.
+    pub fn is_undoomed(&self, slot: u32) -> bool
+        ensures known { result ≡ is_undoomed (slice_get self.now slot) }
     {
-        let Some(found) = self.in_slot(key.slot) else {
+        let Some(found) = self.in_slot(slot) else {
             return false;
         };
         !found.marks.doomed
     }
 
-    /// Dooms the record in a key's slot, and tells whether it was not doomed before.
-    pub fn doom(&mut self, key: Key) -> bool
-        ensures changed { self.new ≡ with_changed_slot doomed_record self.old key.slot }
-        ensures newly { result ≡ is_undoomed (slice_get self.old key.slot) }
+    /// Dooms the record in a slot, and tells whether it was not doomed before.
+    pub fn doom(&mut self, slot: u32) -> bool
+        ensures changed { self.new ≡ with_changed_slot doomed_record self.old slot }
+        ensures newly { result ≡ is_undoomed (slice_get self.old slot) }
     {
-        let newly = self.is_undoomed(key);
-        self.records.doom(key.slot);
+        let newly = self.is_undoomed(slot);
+        self.records.doom(slot);
         newly
     }
 
-    /// Hides the record in a key's slot, or shows it.
-    pub fn hide(&mut self, key: Key, hides: bool)
-        ensures changed { self.new ≡ with_changed_slot (hidden_record hides) self.old key.slot }
+    /// Hides the record in a slot.
+    pub fn hide(&mut self, slot: u32)
+        ensures changed { self.new ≡ with_changed_slot (hidden_record true) self.old slot }
     {
-        self.records.hide(key.slot, hides);
+        self.records.set_hidden(slot, true);
     }
 
-    /// Activates the record in a key's slot, unless it is doomed.
-    pub fn activate(&mut self, key: Key)
-        ensures changed { self.new ≡ with_changed_slot activated_unless_doomed self.old key.slot }
+    /// Shows the record in a slot again.
+    pub fn show(&mut self, slot: u32)
+        ensures changed { self.new ≡ with_changed_slot (hidden_record false) self.old slot }
     {
-        self.records.activate(key.slot);
+        self.records.set_hidden(slot, false);
+    }
+
+    /// Activates the record in a slot, unless it is doomed.
+    pub fn activate(&mut self, slot: u32)
+        ensures changed { self.new ≡ with_changed_slot activated_unless_doomed self.old slot }
+    {
+        self.records.activate(slot);
     }
 
     /// Puts the record of a linked key into a directory, under a name, and its entry into the index there.
@@ -299,14 +308,14 @@ impl Table {
         ensures refused { IfErr result (λ refusal. refusal ≡ Refusal.NoMemory) }
     {
         let is_subdir = is_directory_record(self.record(key));
-        enter(
+        insert_child(
             &mut self.directories,
             dir.slot,
             name.bytes(),
             key,
             is_subdir,
         )?;
-        leave(&mut self.directories, self.records.at(key.slot).as_ref());
+        remove_record(&mut self.directories, self.records.at(key.slot).as_ref());
         self.hints
             .put(&self.directories, dir.slot, name.bytes(), key.slot);
         self.records.move_to(key.slot, dir, name);

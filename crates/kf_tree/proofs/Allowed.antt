@@ -11,13 +11,13 @@ use Rattle.kf_core.specs.declared.key.Node.{Node}
 use Rattle.kf_core.specs.declared.key.Node.TheVariants.{Dir, File, Link}
 use Rattle.kf_core.specs.declared.records.Record.{Record}
 use Rattle.kf_core.specs.declared.refusal.Refusal.{Refusal}
-use Rattle.kf_core.specs.declared.refusal.Refusal.TheVariants.{NoEntry, Exists, NoSpace, Busy, Invalid, IsDir}
+use Rattle.kf_core.specs.declared.refusal.Refusal.TheVariants.{NoEntry, Exists, Busy, Invalid, IsDir}
 use Rattle.kf_core.specs.Refusals.{unless, first_cause}
 use Rattle.kf_core.specs.Keys.{same_key}
 use Rattle.kf_core.specs.Marks.{are_doomed}
 use Rattle.kf_core.specs.Tree.{Tree, record_at, IsIn, is_dir, is_linked}
 use Rattle.kf_table.specs.Children.{is_under, has_child}
-use Rattle.kf_tree.specs.Causes.{create_cause, doom_cause, unlink_cause, hide_cause, is_directory, is_link, hidden_in, target_fault, doomed_in, has_entry, target_of}
+use Rattle.kf_tree.specs.Causes.{create_fault, doom_cause, unlink_cause, hide_cause, is_directory, is_link, hidden_in, target_fault, doomed_in, has_entry, target_of}
 use Rattle.kf_core.proofs.Climbs.{same_key_self}
 use Rattle.kf_core.proofs.Names.{lawful_without_fault}
 use Rattle.kf_table.proofs.ChildTests.{some_first, some_any, is_key_self}
@@ -60,14 +60,14 @@ name_free t dir name h s i p n =
 pub childless : (t : Tree) (dir : Key) → has_child t dir ≡ false → (s : Record) → IsIn t s → s.parent ≡ Some dir → ⊥
 childless t dir h s i p = (let any = some_any (is_under dir (λ r. true)) t s.key.slot (Some s) i (ap (λ b. b && true) (is_key_self dir s.parent p)) in cc (any, h))
 
-pub may_create : (t : Tree) (root key parent : Key) (name : List ℕ) (node : Node) (next : Option Key) → create_cause t root parent name node next ≡ None → slice_get t key.slot ≡ Some None → MayCreate t key parent name
-may_create t root key parent name node next h v =
+pub may_create : (t : Tree) (root key parent : Key) (name : List ℕ) (node : Node) → create_fault t root parent name node ≡ None → slice_get t key.slot ≡ Some None → MayCreate t key parent name
+may_create t root key parent name node h v =
     (let c = no_first _ _ h in
     let d = linked_record t parent (passed _ _ c.0) in
     let c2 = no_first _ _ c.1 in
     let c3 = no_first _ _ c2.1 in
     let c4 = no_first _ _ c3.1 in
-    let last : List (Option Refusal) = unless (is_some next) NoSpace ∷ [] in
+    let last : List (Option Refusal) = [] in
     let c5 = no_first (target_fault t root (target_of node)) (unless (not (has_entry t parent name)) Exists ∷ last) c4.1 in
     let c6 = no_first (unless (not (has_entry t parent name)) Exists) last c5.1 in
     record {

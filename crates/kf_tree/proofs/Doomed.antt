@@ -1,31 +1,19 @@
 -- How many records are doomed or hidden, after each change.
-use Rattle.std.proofs.Common.{◌≡◌, inl, inr, ℕ, zero, suc, ◌+◌, ◌≤◌, refl, ap, arith, sym, ◌∙◌, true, false, cond, not, List, [], ◌∷◌, slice_set, get_or, replicate}
+use Rattle.std.proofs.Common.{◌≡◌, inl, inr, ℕ, zero, suc, ◌+◌, ◌≤◌, refl, ap, arith, sym, ◌∙◌, true, false, cond, not, List, [], ◌∷◌, slice_set, replicate}
 use Rattle.std.specs.Prelude.{Option, None, Some, slice_get, map, fold}
 use Rattle.std.specs.Option.{option_map, option_and_then}
-use Rattle.std.proofs.lemmas.Option.{none-some, slice_get_within, get_or_from_slice_get}
-use Rattle.std.proofs.lemmas.List.Sums.{sum_by-set, sum_by-cons}
+use Rattle.std.proofs.lemmas.Option.{none-some}
+use Rattle.std.proofs.lemmas.List.Sums.{sum_by-cons}
 use Rattle.std.proofs.lemmas.Bool.Decides.{eqb_tells}
 use Rattle.kf_core.specs.declared.key.Key.{Key}
 use Rattle.kf_core.specs.declared.records.Record.{Record}
 use Rattle.kf_core.specs.Tree.{Tree}
 use Rattle.kf_core.specs.Commands.{doomed_record}
 use Rattle.kf_core.proofs.Lists.{count_at_most}
+use Rattle.kf_table.proofs.Kept.{count_written}
 use Rattle.kf_table.proofs.Altered.{altered_at, altered_other}
 use Rattle.kf_table.specs.Changes.{with_changed_slot, is_undoomed}
 use Rattle.kf_tree.specs.Subtrees.{with_changed_slots, is_doomed_record, doomed_count, is_hidden_record, hidden_count, undoomed_count}
-
--- what a write of one slot makes of the number
-pub doomed_written : (t : Tree) (slot : ℕ) (old new : Option Record) → slice_get t slot ≡ Some old →
-    doomed_count (slice_set t slot new) + cond (is_doomed_record old) 1 0 ≡ doomed_count t + cond (is_doomed_record new) 1 0
-doomed_written t slot old new h =
-    (let e : get_or t slot None ≡ old = get_or_from_slice_get t slot old None h in
-    rw e at (sum_by-set (λ o. cond (is_doomed_record o) 1 0) t slot new None (slice_get_within t slot old h)))
-
-pub hidden_written : (t : Tree) (slot : ℕ) (old new : Option Record) → slice_get t slot ≡ Some old →
-    hidden_count (slice_set t slot new) + cond (is_hidden_record old) 1 0 ≡ hidden_count t + cond (is_hidden_record new) 1 0
-hidden_written t slot old new h =
-    (let e : get_or t slot None ≡ old = get_or_from_slice_get t slot old None h in
-    rw e at (sum_by-set (λ o. cond (is_hidden_record o) 1 0) t slot new None (slice_get_within t slot old h)))
 
 none_hidden : (m k : ℕ) → fold (λ a x. a + cond (is_hidden_record x) 1 0) k (replicate m None) ≡ k
 none_hidden zero k = refl
@@ -72,8 +60,8 @@ doomed_changed t slot = go (slice_get t slot) refl
 
     go : (o : Option (Option Record)) → slice_get t slot ≡ o → doomed_count (slice_set t slot (option_and_then (option_map doomed_record) o)) ≡ doomed_count t + cond (is_undoomed o) 1 0
     go None h = ap doomed_count (past t slot _ h) ∙ omega arith
-    go (Some None) h = (let d = doomed_written t slot None None h in omega (arith, d))
-    go (Some (Some r)) h = (let d = doomed_written t slot (Some r) (Some (doomed_record r)) h in
+    go (Some None) h = (let d = count_written is_doomed_record t slot None None h in omega (arith, d))
+    go (Some (Some r)) h = (let d = count_written is_doomed_record t slot (Some r) (Some (doomed_record r)) h in
         elim (r.marks.doomed) as (λ b. doomed_count (slice_set t slot (Some (doomed_record r))) + cond b 1 0 ≡ doomed_count t + 1 → doomed_count (slice_set t slot (Some (doomed_record r))) ≡ doomed_count t + cond (not b) 1 0) [
           | true ↦ λ e. omega (arith, e)
           | false ↦ λ e. omega (arith, e)

@@ -7,7 +7,7 @@ use Rattle.kf_core.specs.declared.records.Record.{Record}
 use Rattle.kf_core.specs.Tree.{Tree, record_at}
 use Rattle.kf_core.proofs.FoundRecords.{found_in, same_record}
 use Rattle.kf_table.specs.Next.{AreNext}
-use Rattle.kf_tree.specs.Walks.{AreLater}
+use Rattle.kf_tree.specs.Orders.{AreLater}
 
 -- behind the first of what is listed stand its later siblings
 pub later_listed : (t : Tree) (dir : Key) (bound : Option (List ℕ)) (entry : List ℕ × Key) (later : List (List ℕ × Key)) → AreNext t dir bound (entry ∷ later)

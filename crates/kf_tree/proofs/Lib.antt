@@ -6,7 +6,6 @@ pub mod Renamed
 pub mod Doomed
 pub mod Opening
 pub mod Allowed
-pub mod Moving
 pub mod Sound
 pub mod Next
 pub mod PostOrder

@@ -1,4 +1,4 @@
--- A tree stays lawful where marks change, as long as what is in a doomed_record directory is doomed_record.
+-- A tree stays lawful where marks change, as long as what is in a doomed directory is doomed.
 use Rattle.std.proofs.Common.{◌≡◌, ◌≢◌, ℕ, zero, suc, refl, ap, arith, subst, sym, ◌∙◌, Bool, true, false, cond}
 use Rattle.std.specs.Prelude.{Option, None, Some, slice_get, ◌&&◌, not}
 use Rattle.std.specs.Option.{option_map, option_and_then}

@@ -12,10 +12,11 @@ use Rattle.kf_core.specs.Tree.{Tree, is_linked, IsIn}
 use Rattle.kf_core.specs.Lawful.{root_record, Lawful}
 use Rattle.kf_core.specs.Commands.{after, replay, root_alone}
 use Rattle.kf_tree.specs.TreeLogs.{TreeLog, IsKept}
-use Rattle.kf_tree.specs.Subtrees.{doomed_count, hidden_count}
+use Rattle.kf_tree.specs.Subtrees.{is_doomed_record, is_hidden_record, doomed_count, hidden_count}
 use Rattle.kf_tree.specs.Sound.{IsSound}
 use Rattle.kf_core.proofs.Lists.{length_set, slice_get-set_same, slice_get-set_other}
-use Rattle.kf_tree.proofs.Doomed.{doomed_written, hidden_written, empty_undoomed, empty_shown}
+use Rattle.kf_table.proofs.Kept.{count_written}
+use Rattle.kf_tree.proofs.Doomed.{empty_undoomed, empty_shown}
 
 abbrev empty_slots : ℕ → Tree
 empty_slots n = replicate n None
@@ -61,11 +62,11 @@ module _ (n : ℕ) (root : Key) (within : root.slot < n) where
   length_alone = length_set (empty_slots n) root.slot (Some (root_record root)) ∙ length_empty n
 
   alone_undoomed : doomed_count (root_alone n root) ≡ 0
-  alone_undoomed = (let d = doomed_written (empty_slots n) root.slot None (Some (root_record root)) (empty_there n root.slot within) in
+  alone_undoomed = (let d = count_written is_doomed_record (empty_slots n) root.slot None (Some (root_record root)) (empty_there n root.slot within) in
       let none = empty_undoomed n in omega (arith, d, none))
 
   alone_shown : hidden_count (root_alone n root) ≡ 0
-  alone_shown = (let d = hidden_written (empty_slots n) root.slot None (Some (root_record root)) (empty_there n root.slot within) in
+  alone_shown = (let d = count_written is_hidden_record (empty_slots n) root.slot None (Some (root_record root)) (empty_there n root.slot within) in
       let none = empty_shown n in omega (arith, d, none))
 
   alone_kept : IsKept (record { root = root; tree = root_alone n root; commands = []; ready = None })

@@ -13,7 +13,7 @@ use Rattle.kf_core.proofs.FoundRecords.{in_found, found_in, linked_here, parent_
 use Rattle.kf_table.specs.Next.{IsNext, AreNext, NoneAbove}
 use Rattle.kf_tree.specs.Subtrees.{is_over_key}
 use Rattle.kf_tree.specs.Canonical.{Precedes, IsPreOrder}
-use Rattle.kf_tree.specs.Walks.{IsNextInPreOrder, IsLastInPreOrder}
+use Rattle.kf_tree.specs.Orders.{IsNextInPreOrder, IsLastInPreOrder}
 use Rattle.kf_tree.proofs.Over.{fewer_over}
 use Rattle.kf_tree.proofs.PostOrder.{pairs_append, child_below}
 use Rattle.kf_tree.proofs.Apart.{dir_of, sub_self, sub_parent, sub_trans, sub_up, sub_down, not_apart, apart_above, apart_child, apart_sibling, before_parent}

@@ -4,7 +4,6 @@ use Rattle.std.specs.Prelude.{Option, None, Some}
 use Rattle.std.specs.Option.{option_map, option_and_then}
 use Rattle.std.proofs.lemmas.Option.{same_Some, none-some}
 use Rattle.kf_core.specs.declared.key.Key.{Key}
-use Rattle.kf_core.specs.declared.key.Node.TheVariants.{Dir}
 use Rattle.kf_core.specs.declared.records.Record.{Record}
 use Rattle.kf_core.specs.declared.slot.Marks.{Marks}
 use Rattle.kf_core.specs.declared.command.Command.TheVariants.{Rename}
@@ -13,23 +12,18 @@ use Rattle.kf_core.specs.Keys.{same_key}
 use Rattle.kf_core.specs.Tree.{Tree, record_at, parent_of, ancestor, IsIn, in_subtree}
 use Rattle.kf_core.specs.Lawful.{root_record, Lawful}
 use Rattle.kf_core.specs.Commands.{after}
+use Rattle.kf_core.specs.Worlds.{MayMove}
 use Rattle.kf_core.proofs.Climbs.{keys_tell, climb_rest, climb_same, after_step, no_return}
 use Rattle.kf_core.proofs.FoundRecords.{found_in, root_found, root_parent, root_met, subtree_to, subtree_from, way_short}
 use Rattle.kf_core.proofs.Mapped.{mapped, from_slot, mapped_from, find_mapped}
 
-pub record MayMove (t : Tree) (root key dir : Key) (name : List ℕ) : Type 0 where
-  pub not_root : key ≢ root
-  pub mover : Record
-  pub known : record_at t key ≡ Some mover
-  pub target : Record
-  pub target_known : record_at t dir ≡ Some target
-  pub is_dir : target.node ≡ Dir
-  pub undoomed : target.marks.doomed ≡ false
-  pub lawful_name : IsLawfulName name
-  pub not_below : in_subtree t key dir ≡ false
-  pub unused : (s : Record) → IsIn t s → s.parent ≡ Some dir → s.name ≡ name → ⊥
+module _ (t : Tree) (root key dir : Key) (name : List ℕ) (l : Lawful t root) (m : MayMove t key dir name) where
+  not_root : key ≢ root
+  not_root e = m.no_root (let same = same_Some m.moving _ (sym m.found ∙ ap (record_at t) e ∙ root_found t root l) in ap (λ (x : Record). x.parent) same)
 
-module _ (t : Tree) (root key dir : Key) (name : List ℕ) (l : Lawful t root) (m : MayMove t root key dir name) where
+  unused : (s : Record) → IsIn t s → s.parent ≡ Some dir → s.name ≡ name → ⊥
+  unused s i p n = m.free s.key.slot s i p n
+
   abbrev put : Record → Record
   put r = record r { parent = Some dir; name = name }
 
@@ -51,14 +45,14 @@ module _ (t : Tree) (root key dir : Key) (name : List ℕ) (l : Lawful t root) (
   abbrev moved : Tree
   moved = mapped t move same
 
-  target_in : IsIn t m.target
-  target_in = (found_in t dir m.target m.target_known).0
+  target_in : IsIn t m.into
+  target_in = (found_in t dir m.into m.into_found).0
 
-  target_key : m.target.key ≡ dir
-  target_key = (found_in t dir m.target m.target_known).1
+  target_key : m.into.key ≡ dir
+  target_key = (found_in t dir m.into m.into_found).1
 
   not_below : (n : ℕ) → ancestor t n dir ≡ Some key → ⊥
-  not_below n c = (let i = subtree_from t root l m.target n key target_in (ap (ancestor t n) target_key ∙ c) in
+  not_below n c = (let i = subtree_from t root l m.into n key target_in (ap (ancestor t n) target_key ∙ c) in
       absurd (let no : false ≡ true = sym m.not_below ∙ ap (in_subtree t key) (sym target_key) ∙ i in cc))
 
   dir_other : dir ≢ key
@@ -76,8 +70,8 @@ module _ (t : Tree) (root key dir : Key) (name : List ℕ) (l : Lawful t root) (
       ]
 
   parent_this : parent_of moved key ≡ Some dir
-  parent_this = ap (λ o. option_and_then (λ (r : Record). r.parent) o) (find_mapped t move same key ∙ ap (option_map move) m.known) ∙
-      elim (moves m.mover) [ inl h ↦ ap (λ (x : Record). x.parent) h.1 | inr h ↦ absurd (h.0 (found_in t key m.mover m.known).1) ]
+  parent_this = ap (λ o. option_and_then (λ (r : Record). r.parent) o) (find_mapped t move same key ∙ ap (option_map move) m.found) ∙
+      elim (moves m.moving) [ inl h ↦ ap (λ (x : Record). x.parent) h.1 | inr h ↦ absurd (h.0 (found_in t key m.moving m.found).1) ]
 
   -- a way that does not come by the key stays
   way_apart : (n : ℕ) (k : Key) → ((i : ℕ) → i < n → ancestor t i k ≡ Some key → ⊥) → ancestor t n k ≡ ancestor moved n k
@@ -86,7 +80,7 @@ module _ (t : Tree) (root key dir : Key) (name : List ℕ) (l : Lawful t root) (
   root_kept : record_at moved root ≡ Some (root_record root)
   root_kept = find_mapped t move same root ∙ ap (option_map move) (root_found t root l) ∙
       elim (moves (root_record root)) [
-        | inl h ↦ absurd (m.not_root (sym h.0 ∙ (found_in t root (root_record root) (root_found t root l)).1))
+        | inl h ↦ absurd (not_root (sym h.0 ∙ (found_in t root (root_record root) (root_found t root l)).1))
         | inr h ↦ ap Some h.1
       ]
 
@@ -95,7 +89,7 @@ module _ (t : Tree) (root key dir : Key) (name : List ℕ) (l : Lawful t root) (
 
   -- from the key the way goes by its new directory
   way_here : (n : ℕ) × (ancestor moved n key ≡ Some root)
-  way_here = (let w = root_met t root l m.target target_in in
+  way_here = (let w = root_met t root l m.into target_in in
       let up : ancestor t w.0 dir ≡ Some root = ap (ancestor t w.0) (sym target_key) ∙ w.1 in
       (suc w.0, after_step (parent_of moved) w.0 key dir parent_this ∙ sym (way_apart w.0 dir (λ i g. not_below i)) ∙ up))
 
@@ -113,8 +107,8 @@ module _ (t : Tree) (root key dir : Key) (name : List ℕ) (l : Lawful t root) (
       first n c i g d =
           (let parts : n ≡ i + suc (n - (i + 1)) = omega arith in
           let again : ancestor t (suc (n - (i + 1))) key ≡ Some key = sym (climb_rest (parent_of t) i (suc (n - (i + 1))) r.key key d) ∙ ap (λ j. ancestor t j r.key) (sym parts) ∙ c in
-          let f = found_in t key m.mover m.known in
-          let w = root_met t root l m.mover f.0 in
+          let f = found_in t key m.moving m.found in
+          let w = root_met t root l m.moving f.0 in
           no_return (parent_of t) root (root_parent t root l) w.0 (n - (i + 1)) key (ap (ancestor t w.0) (sym f.1) ∙ w.1) again)
 
   pub lawful_renamed : Lawful (after t (Rename key dir name)) root
@@ -127,11 +121,11 @@ module _ (t : Tree) (root key dir : Key) (name : List ℕ) (l : Lawful t root) (
     ]);
     in_directory = λ r' p h e. (let f = mapped_from t move same r' h in elim (moves f.0) [
       | inl g ↦ (let at : dir ≡ p = same_Some dir p (ap (λ (x : Record). x.parent) (sym (f.2 ∙ g.1)) ∙ e) in record {
-        dir = move m.target;
-        known = ap (record_at moved) (sym at) ∙ find_mapped t move same dir ∙ ap (option_map move) m.target_known;
-        is_dir = same_node m.target ∙ m.is_dir;
-        doomed = λ d. absurd (let x : false ≡ true = sym m.undoomed ∙ ap (λ (y : Marks). y.doomed) (sym (same_marks m.target)) ∙ d in cc);
-        lawful_name = subst (λ (x : Record). IsLawfulName x.name) (sym (f.2 ∙ g.1)) m.lawful_name;
+        dir = move m.into;
+        known = ap (record_at moved) (sym at) ∙ find_mapped t move same dir ∙ ap (option_map move) m.into_found;
+        is_dir = same_node m.into ∙ m.into_dir;
+        doomed = λ d. absurd (let x : false ≡ true = sym (ap (λ (y : Marks). y.doomed) m.into_is_live) ∙ ap (λ (y : Marks). y.doomed) (sym (same_marks m.into)) ∙ d in cc);
+        lawful_name = subst (λ (x : Record). IsLawfulName x.name) (sym (f.2 ∙ g.1)) m.lawful;
       })
       | inr g ↦ (let is = f.2 ∙ g.1 in let o = l.in_directory f.0 p f.1 (ap (λ (x : Record). x.parent) (sym is) ∙ e) in record {
         dir = move o.dir;
@@ -157,10 +151,10 @@ module _ (t : Tree) (root key dir : Key) (name : List ℕ) (l : Lawful t root) (
       apart r s h h' e e' = elim (moves r) [
         | inl g ↦ elim (moves s) [
           | inl g' ↦ g.0 ∙ sym g'.0
-          | inr g' ↦ absurd (m.unused s h' (ap (λ (x : Record). x.parent) (sym g'.1) ∙ sym e ∙ ap (λ (x : Record). x.parent) g.1) (ap (λ (x : Record). x.name) (sym g'.1) ∙ sym e' ∙ ap (λ (x : Record). x.name) g.1))
+          | inr g' ↦ absurd (unused s h' (ap (λ (x : Record). x.parent) (sym g'.1) ∙ sym e ∙ ap (λ (x : Record). x.parent) g.1) (ap (λ (x : Record). x.name) (sym g'.1) ∙ sym e' ∙ ap (λ (x : Record). x.name) g.1))
         ]
         | inr g ↦ elim (moves s) [
-          | inl g' ↦ absurd (m.unused r h (ap (λ (x : Record). x.parent) (sym g.1) ∙ e ∙ ap (λ (x : Record). x.parent) g'.1) (ap (λ (x : Record). x.name) (sym g.1) ∙ e' ∙ ap (λ (x : Record). x.name) g'.1))
+          | inl g' ↦ absurd (unused r h (ap (λ (x : Record). x.parent) (sym g.1) ∙ e ∙ ap (λ (x : Record). x.parent) g'.1) (ap (λ (x : Record). x.name) (sym g.1) ∙ e' ∙ ap (λ (x : Record). x.name) g'.1))
           | inr g' ↦ l.siblings r s h h' (ap (λ (x : Record). x.parent) (sym g.1) ∙ e ∙ ap (λ (x : Record). x.parent) g'.1) (ap (λ (x : Record). x.name) (sym g.1) ∙ e' ∙ ap (λ (x : Record). x.name) g'.1)
         ]
       ]

@@ -1,6 +1,6 @@
 -- A state stays sound with each command that is stored.
 use Rattle.std.proofs.Common.{◌≡◌, ℕ, ◌+◌, ◌<◌, ◌≤◌, refl, ap, arith, sym, ◌∙◌, subst, Bool, true, false, cond, not, ◌&&◌, List, [], ◌∷◌, ◌++◌, length, length-append, slice_set}
-use Rattle.std.specs.Prelude.{Option, None, Some, slice_get, IfSome, IsTrue, is_some, map}
+use Rattle.std.specs.Prelude.{Option, None, Some, slice_get, IsTrue, is_some, map}
 use Rattle.std.specs.Option.{option_map, option_map_or, option_and_then}
 use Rattle.std.proofs.lemmas.Option.{same_Some, none-some}
 use Rattle.std.proofs.lemmas.List.Sums.{count_by-le-length}
@@ -10,12 +10,13 @@ use Rattle.kf_core.specs.declared.records.Record.{Record}
 use Rattle.kf_core.specs.declared.command.Command.{Command}
 use Rattle.kf_core.specs.declared.command.Command.TheVariants.{Create, Activate, Doom, Unlink, Rename, Hide, Show}
 use Rattle.kf_core.specs.declared.refusal.Refusal.{Refusal}
+use Rattle.kf_core.specs.Refusals.{first_cause}
 use Rattle.kf_core.specs.Keys.{same_key}
 use Rattle.kf_core.specs.Tree.{Tree, record_at, is_linked, is_dir, in_subtree}
 use Rattle.kf_core.specs.Lawful.{root_record, Lawful}
 use Rattle.kf_core.specs.Commands.{after, change, activated_record, new_record, doomed_record, moved_record, hidden_record}
 use Rattle.kf_core.specs.PostOrder.{IsPostOrder}
-use Rattle.kf_tree.specs.Causes.{create_cause, doom_cause, linked_cause, rename_cause, unlink_cause, hide_cause, hidden_in}
+use Rattle.kf_tree.specs.Causes.{create_fault, create_cause, doom_cause, linked_cause, rename_cause, unlink_cause, hide_cause, hidden_in}
 use Rattle.kf_table.specs.Children.{is_there_already}
 use Rattle.kf_table.specs.Changes.{with_changed_slot, activated_unless_doomed}
 use Rattle.kf_tree.specs.Subtrees.{with_changed_slots, is_doomed_record, doomed_count, undoomed_count, is_hidden_record, owed_count}
@@ -25,10 +26,11 @@ use Rattle.kf_tree.proofs.Replays.{canonical_replays}
 use Rattle.kf_tree.specs.Sound.{IsSound}
 use Rattle.kf_tree.proofs.Allowed.{may_create, MayUnlink, may_unlink, not_root, may_hide, hidden_record_of}
 use Rattle.kf_tree.proofs.Created.{lawful_created}
-use Rattle.kf_tree.proofs.Doomed.{doomed_written, doomed_mapped, hidden_written, hidden_mapped, doomed_at_most}
+use Rattle.kf_table.proofs.Kept.{count_written}
+use Rattle.kf_tree.proofs.Doomed.{doomed_mapped, hidden_mapped, doomed_at_most}
 use Rattle.kf_tree.proofs.Each.{each_doomed, each_risen, slot_moved, slot_changed}
 use Rattle.kf_tree.proofs.Marked.{lawful_activated, lawful_doomed, lawful_hidden}
-use Rattle.kf_tree.proofs.Moving.{may_move}
+use Rattle.kf_tree.proofs.RenameRule.{may_move_from}
 use Rattle.kf_tree.proofs.Opening.{kept_after, length_after}
 use Rattle.kf_core.proofs.Climbs.{same_key_is}
 use Rattle.kf_core.proofs.FoundRecords.{found_in, root_found}
@@ -63,8 +65,8 @@ follows s before capacity had doomed c cause tree reserved commands sound lawful
     subst (λ (t : List (Option Record)). P t commands) (sym changed)
     (subst (λ (cs : List Command). P (after s.tree c) cs) (sym (pushed ∙ ap (λ (cs : List Command). cs ++ c ∷ []) same)) at))
 
-pub vacant_of : (t : Tree) (next : Option Key) (key : Key) → IfSome next (λ k. slice_get t k.slot ≡ Some None) → next ≡ Some key → slice_get t key.slot ≡ Some None
-vacant_of t next key h e = rw e at h
+uncaused : (t : Tree) (root key parent : Key) (name : List ℕ) (node : Node) → create_fault t root parent name node ≡ None → create_cause t root parent name node (Some key) ≡ None
+uncaused t root key parent name node h = ap (λ c. first_cause (c ∷ None ∷ [])) h
 
 module _ (s : TreeLog) (before had : ℕ) (sound : IsSound s before had) where
   -- a growth of the list
@@ -81,29 +83,29 @@ module _ (s : TreeLog) (before had : ℕ) (sound : IsSound s before had) where
   same_owed : (g : Record → Record) → ((r : Record) → (g r).marks.doomed ≡ r.marks.doomed) → ((r : Record) → (g r).hidden ≡ r.hidden) → had ≡ owed_count (map (option_map g) s.tree)
   same_owed g marks hidden = (let c = sound.counted in let d = doomed_mapped g marks s.tree in let h = hidden_mapped g hidden s.tree in omega (arith, c, d, h))
 
-  pub created_follows : (capacity : ℕ) (key parent : Key) (name own kept_name : List ℕ) (node : Node) (is_live : Bool) (next : Option Key) (tree : List (Option Record)) (reserved commands : List Command) →
-      slice_get s.tree key.slot ≡ Some None → create_cause s.tree s.root parent name node next ≡ None → own ≡ name → kept_name ≡ name →
+  pub created_follows : (capacity : ℕ) (key parent : Key) (name own kept_name : List ℕ) (node : Node) (is_live : Bool) (tree : List (Option Record)) (reserved commands : List Command) →
+      slice_get s.tree key.slot ≡ Some None → create_fault s.tree s.root parent name node ≡ None → own ≡ name → kept_name ≡ name →
       tree ≡ slice_set s.tree key.slot (Some (new_record key parent own node is_live)) →
       reserved ≡ s.commands → commands ≡ reserved ++ Create key parent kept_name node is_live ∷ [] → length s.commands + 1 + had ≤ capacity →
-      Follows s (Create key parent name node is_live) (create_cause s.tree s.root parent name node next) capacity had (record { root = s.root; tree = tree; commands = commands; ready = None })
-  created_follows capacity key parent name own kept_name node is_live next tree reserved commands vacant none same_own same_kept changed same pushed room =
-      (let m = may_create s.tree s.root key parent name node next none vacant in
-      let d = doomed_written s.tree key.slot None (Some (new_record key parent name node is_live)) vacant in
-      let h = hidden_written s.tree key.slot None (Some (new_record key parent name node is_live)) vacant in
+      Follows s (Create key parent name node is_live) (create_cause s.tree s.root parent name node (Some key)) capacity had (record { root = s.root; tree = tree; commands = commands; ready = None })
+  created_follows capacity key parent name own kept_name node is_live tree reserved commands vacant none same_own same_kept changed same pushed room =
+      (let m = may_create s.tree s.root key parent name node none vacant in
+      let d = count_written is_doomed_record s.tree key.slot None (Some (new_record key parent name node is_live)) vacant in
+      let h = count_written is_hidden_record s.tree key.slot None (Some (new_record key parent name node is_live)) vacant in
       let c = sound.counted in
       follows s before capacity had had (Create key parent name node is_live) _ tree reserved commands sound
-      (lawful_created s.tree s.root key parent name node is_live sound.kept.lawful m) none
+      (lawful_created s.tree s.root key parent name node is_live sound.kept.lawful m) (uncaused s.tree s.root key parent name node none)
       (changed ∙ ap (λ (n : List ℕ). slice_set s.tree key.slot (Some (new_record key parent n node is_live))) same_own) same
       (pushed ∙ ap (λ (n : List ℕ). reserved ++ Create key parent n node is_live ∷ []) same_kept)
       (omega (arith, c, d, h)) room)
 
-  pub created_lawful : (key parent : Key) (name own : List ℕ) (node : Node) (is_live : Bool) (next : Option Key) →
-      slice_get s.tree key.slot ≡ Some None → create_cause s.tree s.root parent name node next ≡ None → own ≡ name →
+  pub created_lawful : (key parent : Key) (name own : List ℕ) (node : Node) (is_live : Bool) →
+      slice_get s.tree key.slot ≡ Some None → create_fault s.tree s.root parent name node ≡ None → own ≡ name →
       (root : Key) × Lawful (slice_set s.tree key.slot (Some (new_record key parent own node is_live))) root
-  created_lawful key parent name own node is_live next vacant none same_own = (
+  created_lawful key parent name own node is_live vacant none same_own = (
     s.root,
     subst (λ (n : List ℕ). Lawful (slice_set s.tree key.slot (Some (new_record key parent n node is_live))) s.root) (sym same_own)
-        (lawful_created s.tree s.root key parent name node is_live sound.kept.lawful (may_create s.tree s.root key parent name node next none vacant)),
+        (lawful_created s.tree s.root key parent name node is_live sound.kept.lawful (may_create s.tree s.root key parent name node none vacant)),
   )
 
   pub activated_follows : (capacity : ℕ) (key : Key) (keys : List Key) (tree : List (Option Record)) (reserved commands : List Command) →
@@ -163,8 +165,8 @@ module _ (s : TreeLog) (before had : ℕ) (sound : IsSound s before had) where
   pub room_to_unlink : (key : Key) → MayUnlink s.tree s.root key → (length s.commands < before) × (cond (hidden_in s.tree key) 2 1 ≤ had)
   room_to_unlink key m =
       (let f = found_in s.tree key m.gone m.known in
-      let d = rw m.is_doomed at (doomed_written s.tree m.gone.key.slot (Some m.gone) None f.0) in
-      let h = hidden_written s.tree m.gone.key.slot (Some m.gone) None f.0 in
+      let d = rw m.is_doomed at (count_written is_doomed_record s.tree m.gone.key.slot (Some m.gone) None f.0) in
+      let h = count_written is_hidden_record s.tree m.gone.key.slot (Some m.gone) None f.0 in
       let o = owed_here key m in
       let c = sound.counted in
       let r = sound.room in (omega (arith, c, d, r), omega (arith, c, d, h, o)))
@@ -176,8 +178,8 @@ module _ (s : TreeLog) (before had : ℕ) (sound : IsSound s before had) where
       (let m = may_unlink s.tree s.root key linked none in
       let f = found_in s.tree key m.gone m.known in
       let slot : m.gone.key.slot ≡ key.slot = ap (λ (k : Key). k.slot) f.1 in
-      let d = rw slot at (rw m.is_doomed at (doomed_written s.tree m.gone.key.slot (Some m.gone) None f.0)) in
-      let h = rw slot at (hidden_written s.tree m.gone.key.slot (Some m.gone) None f.0) in
+      let d = rw slot at (rw m.is_doomed at (count_written is_doomed_record s.tree m.gone.key.slot (Some m.gone) None f.0)) in
+      let h = rw slot at (count_written is_hidden_record s.tree m.gone.key.slot (Some m.gone) None f.0) in
       let o = owed_here key m in
       let lawful = rw slot at (lawful_unlinked s.tree s.root sound.kept.lawful m.gone f.0
       (λ e. undoomed_root m.gone (ap (record_at s.tree) (sym (sym f.1 ∙ e)) ∙ m.known) m.is_doomed)
@@ -195,15 +197,15 @@ module _ (s : TreeLog) (before had : ℕ) (sound : IsSound s before had) where
   pub renamed_lawful : (key dir : Key) (name own : List ℕ) → rename_cause s.tree s.root key dir name ≡ None → is_there_already s.tree key dir name ≡ false → own ≡ name →
       (root : Key) × Lawful (with_changed_slot (moved_record dir own) s.tree key.slot) root
   renamed_lawful key dir name own none away same_own =
-      (let m = may_move s.tree s.root key dir name none away in (
+      (let m = may_move_from s.tree s.root key dir name sound.kept.lawful (none, away) in (
         s.root,
         subst (λ (t : Tree). Lawful t s.root)
-            (sym (ap (λ (n : List ℕ). with_changed_slot (moved_record dir n) s.tree key.slot) same_own ∙ slot_moved s.tree s.root key dir name m.mover sound.kept.lawful m.known))
+            (sym (ap (λ (n : List ℕ). with_changed_slot (moved_record dir n) s.tree key.slot) same_own ∙ slot_moved s.tree s.root key dir name m.moving sound.kept.lawful m.found))
             (lawful_renamed s.tree s.root key dir name sound.kept.lawful m),
       ))
 
   pub renamed_linked : (key dir : Key) (name : List ℕ) → rename_cause s.tree s.root key dir name ≡ None → is_there_already s.tree key dir name ≡ false → IsTrue (is_linked s.tree key)
-  renamed_linked key dir name none away = (let m = may_move s.tree s.root key dir name none away in ap is_some m.known)
+  renamed_linked key dir name none away = (let m = may_move_from s.tree s.root key dir name sound.kept.lawful (none, away) in ap is_some m.found)
 
   -- what is said of where a record is, of the name or of its copy
   pub still_elsewhere : (key dir : Key) (name own : List ℕ) → is_there_already s.tree key dir name ≡ false → own ≡ name → is_there_already s.tree key dir own ≡ false
@@ -214,10 +216,10 @@ module _ (s : TreeLog) (before had : ℕ) (sound : IsSound s before had) where
       tree ≡ with_changed_slot (moved_record dir own) s.tree key.slot → reserved ≡ s.commands → commands ≡ reserved ++ Rename key dir kept_name ∷ [] → length s.commands + 1 + had ≤ capacity →
       Follows s (Rename key dir name) (rename_cause s.tree s.root key dir name) capacity had (record { root = s.root; tree = tree; commands = commands; ready = None })
   renamed_follows capacity key dir name own kept_name tree reserved commands none away same_own same_kept changed same pushed room =
-      (let m = may_move s.tree s.root key dir name none away in
+      (let m = may_move_from s.tree s.root key dir name sound.kept.lawful (none, away) in
       follows s before capacity had had (Rename key dir name) _ tree reserved commands sound
       (lawful_renamed s.tree s.root key dir name sound.kept.lawful m) none
-      (changed ∙ ap (λ (n : List ℕ). with_changed_slot (moved_record dir n) s.tree key.slot) same_own ∙ slot_moved s.tree s.root key dir name m.mover sound.kept.lawful m.known) same
+      (changed ∙ ap (λ (n : List ℕ). with_changed_slot (moved_record dir n) s.tree key.slot) same_own ∙ slot_moved s.tree s.root key dir name m.moving sound.kept.lawful m.found) same
       (pushed ∙ ap (λ (n : List ℕ). reserved ++ Rename key dir n ∷ []) same_kept)
       (same_owed (λ (r : Record). cond (same_key r.key key) (moved_record dir name r) r) unmarked shown) room)
     where
@@ -239,8 +241,8 @@ module _ (s : TreeLog) (before had : ℕ) (sound : IsSound s before had) where
       let slot : r.key.slot ≡ key.slot = ap (λ (k : Key). k.slot) f.1 in
       let is = sym (slot_changed (hidden_record b) s.tree s.root key r sound.kept.lawful known) ∙ changed_slot_is (hidden_record b) key r known in
       let at : slice_get s.tree key.slot ≡ Some (Some r) = ap (slice_get s.tree) (sym slot) ∙ f.0 in
-      let d = doomed_written s.tree key.slot (Some r) (Some (hidden_record b r)) at in
-      let h = hidden_written s.tree key.slot (Some r) (Some (hidden_record b r)) at in
+      let d = count_written is_doomed_record s.tree key.slot (Some r) (Some (hidden_record b r)) at in
+      let h = count_written is_hidden_record s.tree key.slot (Some r) (Some (hidden_record b r)) at in
       let e = ap (λ (t : Tree). owed_count t) is in
       omega (arith, d, h, e))
 

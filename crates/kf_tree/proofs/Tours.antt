@@ -19,7 +19,7 @@ use Rattle.kf_tree.proofs.PostOrder.{pairs_append}
 use Rattle.std.proofs.lemmas.List.Elements.{Contains-append_left, Contains-append_right, Contains-append_cases}
 use Rattle.std.specs.List.{list_any}
 use Rattle.std.proofs.lemmas.List.Folds.{list_any-append}
-use Rattle.kf_tree.specs.Walks.{IsFirstBelow, IsNextInPostOrder}
+use Rattle.kf_tree.specs.Orders.{IsFirstBelow, IsNextInPostOrder}
 use Rattle.kf_tree.proofs.Over.{fewer_over}
 use Rattle.kf_tree.proofs.Apart.{dir_of, sub_self, sub_parent, sub_trans, sub_up, sub_down, not_apart, apart_above, apart_child, apart_sibling, before_parent}
 

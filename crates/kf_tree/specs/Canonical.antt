@@ -29,6 +29,7 @@ creation None = []
 creation (Some r) =
     option_map_or (λ parent. Create r.key parent r.name r.node r.marks.activated ∷ []) r.parent []
 
+-- the creation of a key's record; of a key that is not linked, and of the root, none
 abbrev pub create_of : Tree → Key → List Command
 create_of t key = creation (record_at t key)
 
@@ -37,9 +38,11 @@ abbrev pub is_doomed_top : Tree → Key → Bool
 is_doomed_top t key = option_map_or (λ r. r.marks.doomed && not (option_map_or (doomed_in t) r.parent false))
     (record_at t key) false
 
+-- the doom of a key that is the top of a doomed subtree; of another key, none
 abbrev pub doom_of : Tree → Key → List Command
 doom_of t key = if is_doomed_top t key then Doom key ∷ [] else []
 
+-- the hiding of a key whose record is hidden; of another key, none
 abbrev pub hide_of : Tree → Key → List Command
 hide_of t key = if hidden_in t key then Hide key ∷ [] else []
 

@@ -24,12 +24,15 @@ Refuses cause refusal = (cause ≡ Some refusal) ⊎ ((cause ≡ None) × (refus
 abbrev pub doomed_in : Tree → Key → Bool
 doomed_in t key = are_doomed (marks_of t key)
 
+-- whether the key is linked, and its record is a directory
 abbrev pub is_directory : Tree → Key → Bool
 is_directory t key = option_map_or (λ r. is_dir r.node) (record_at t key) false
 
+-- whether the directory has a child of this name, live or not
 abbrev pub has_entry : Tree → Key → List ℕ → Bool
 has_entry t dir name = is_some (child t dir name)
 
+-- the target of a link; a directory and a file have none
 abbrev pub target_of : Node → Option Key
 target_of Dir = None
 target_of (File mode tag) = None
@@ -39,9 +42,11 @@ target_of (Link target) = Some target
 abbrev pub link_target : Tree → Key → Option Key
 link_target t key = option_and_then (λ r. target_of r.node) (record_at t key)
 
+-- whether the key is linked, and its record is a link
 abbrev pub is_link : Tree → Key → Bool
 is_link t key = is_some (link_target t key)
 
+-- whether the key's record is hidden; a key that is not linked counts as shown
 abbrev pub hidden_in : Tree → Key → Bool
 hidden_in t key = option_map_or (λ r. r.hidden) (record_at t key) false
 
@@ -55,14 +60,21 @@ target_fault t root (Some target) = first_cause (
     ∷ unless (not (same_key target root)) Invalid
     ∷ [])
 
-abbrev pub create_cause : Tree → Key → Key → List ℕ → Node → Option Key → Option Refusal
-create_cause t root parent name node next = first_cause (
+-- what is wrong with a create, whichever key is next
+abbrev pub create_fault : Tree → Key → Key → List ℕ → Node → Option Refusal
+create_fault t root parent name node = first_cause (
     unless (is_linked t parent) NoEntry
     ∷ name_fault name
     ∷ unless (is_directory t parent) NotDir
     ∷ unless (not (doomed_in t parent)) NoEntry
     ∷ target_fault t root (target_of node)
     ∷ unless (not (has_entry t parent name)) Exists
+    ∷ [])
+
+-- why a create is refused: what is wrong with it, and after that the want of a next key
+abbrev pub create_cause : Tree → Key → Key → List ℕ → Node → Option Key → Option Refusal
+create_cause t root parent name node next = first_cause (
+    create_fault t root parent name node
     ∷ unless (is_some next) NoSpace
     ∷ [])
 
@@ -70,6 +82,7 @@ create_cause t root parent name node next = first_cause (
 abbrev pub linked_cause : Tree → Key → Option Refusal
 linked_cause t key = unless (is_linked t key) NoEntry
 
+-- why a doom is refused: the key is not linked, or is the root
 abbrev pub doom_cause : Tree → Key → Key → Option Refusal
 doom_cause t root key = first_cause (
     unless (is_linked t key) NoEntry
@@ -119,12 +132,14 @@ rename_cause t root key dir name = first_cause (
     ∷ (if is_there_already t key dir name then None else late_rename_cause t key dir name)
     ∷ [])
 
+-- why a listing is refused: the key is not linked, or is no directory
 abbrev pub list_cause : Tree → Key → Option Refusal
 list_cause t dir = first_cause (
     unless (is_linked t dir) NoEntry
     ∷ unless (is_directory t dir) NotDir
     ∷ [])
 
+-- why the text of a link is refused: the key is not linked, or is no link, or its target is not linked
 abbrev pub text_cause : Tree → Key → Option Refusal
 text_cause t key = first_cause (
     unless (is_linked t key) NoEntry

@@ -9,5 +9,5 @@ pub mod Subtrees
 pub mod Sound
 pub mod Shown
 pub mod Ways
-pub mod Walks
+pub mod Orders
 pub mod Canonical

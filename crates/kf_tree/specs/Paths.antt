@@ -17,6 +17,7 @@ and_then (Err refusal) next = Err refusal
 
 -- ---- names
 
+-- the key of an entry in a directory, where both records are there and the first is a directory
 abbrev pub entry_key : Option Record → Option Record → Result Key Refusal
 entry_key None entry = Err NoEntry
 entry_key (Some dir) entry =
@@ -33,9 +34,11 @@ walk t key (name ∷ names) = and_then (found t key name) (λ next. walk t next 
 
 -- ---- paths
 
+-- whether the byte is a slash
 abbrev pub is_slash : ℕ → Bool
 is_slash byte = byte == 47
 
+-- whether a name has no byte
 abbrev pub is_empty : List ℕ → Bool
 is_empty [] = true
 is_empty (byte ∷ bytes) = false
@@ -62,6 +65,7 @@ names_of path = option_and_then (λ bytes. all_named (parts bytes)) (after_slash
 abbrev pub walked : Tree → Key → List ℕ → Result Key Refusal
 walked t root path = and_then (ok_or (names_of path) Invalid) (walk t root)
 
+-- the record of a slot, where it is live, and else none
 abbrev pub only_live : Option Record → Option Record
 only_live None = None
 only_live (Some r) = if lives r then Some r else None
@@ -72,11 +76,13 @@ seen t root path = walked (map only_live t) root path
 
 -- ---- all names of a path but the last, and the last
 
+-- all names but the last
 abbrev pub front : List (List ℕ) → List (List ℕ)
 front [] = []
 front (name ∷ []) = []
 front (name ∷ next ∷ names) = name ∷ front (next ∷ names)
 
+-- the last of the names; where there is none, the empty name
 abbrev pub final : List (List ℕ) → List ℕ
 final [] = []
 final (name ∷ []) = name

@@ -22,17 +22,21 @@ with_changed_slots f t keys = fold (λ x key. with_changed_slot f x key.slot) t 
 
 -- ---- doomed records
 
+-- whether the slot has a record that is doomed
 abbrev pub is_doomed_record : Option Record → Bool
 is_doomed_record None = false
 is_doomed_record (Some r) = r.marks.doomed
 
+-- how many records are doomed
 abbrev pub doomed_count : Tree → ℕ
 doomed_count t = count_by is_doomed_record t
 
+-- whether the slot has a record that is hidden
 abbrev pub is_hidden_record : Option Record → Bool
 is_hidden_record None = false
 is_hidden_record (Some r) = r.hidden
 
+-- how many records are hidden
 abbrev pub hidden_count : Tree → ℕ
 hidden_count t = count_by is_hidden_record t
 

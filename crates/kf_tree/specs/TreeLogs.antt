@@ -9,6 +9,7 @@ use Rattle.kf_core.specs.Commands.{after, replay, root_alone}
 use Rattle.kf_tree.specs.Canonical.{IsCanonical}
 use Rattle.kf_tree.specs.Causes.{Refuses}
 
+-- the tree with its root, the commands that make it, and the key that is ready to be hidden, if any
 pub record TreeLog : Type 0 where
   pub root : Key
   pub tree : List (Option Record)  -- by slot

@@ -6,7 +6,7 @@ ghost use Rattle.kf_tree.specs.Canonical.{IsPreOrder, IsCanonical, collected, cr
 
 use crate::growth::fit_room;
 use crate::marks::is_hidden;
-use crate::walks::{later_siblings, next_in_pre_order};
+use crate::orders::{later_siblings, next_in_pre_order};
 use kf_core::{Command, Key, Refusal};
 use kf_table::Table;
 use std::alloc::{AllocError, Global};

@@ -4,7 +4,7 @@ ghost use Rattle.std.specs.Prelude.{◌≡◌, Option, None, Some, Result, Ok, E
 ghost use Rattle.kf_core.specs.declared.key.Key.{Key};
 ghost use Rattle.kf_core.specs.Lawful.{Lawful};
 ghost use Rattle.kf_core.specs.Tree.{is_linked, parent_of};
-ghost use Rattle.kf_tree.specs.Causes.{target_fault, target_of, link_target, create_cause, linked_cause, unlink_cause, doom_cause, hide_cause, rename_cause, list_cause, text_cause};
+ghost use Rattle.kf_tree.specs.Causes.{target_fault, target_of, link_target, create_fault, create_cause, linked_cause, unlink_cause, doom_cause, hide_cause, rename_cause, list_cause, text_cause};
 ghost use Rattle.kf_table.specs.Children.{is_there_already};
 
 use kf_core::{Key, Node, Record, Refusal};
@@ -37,6 +37,38 @@ fn target_fault(table: &Table, root: Key, target: Option<Key>) -> Option<Refusal
     None
 }
 
+/// What is wrong with a new record, whichever key it would take.
+pub(crate) fn create_fault(
+    table: &Table,
+    root: Key,
+    parent: Key,
+    name: &[u8],
+    node: &Node,
+) -> Option<Refusal>
+    requires lawful { (root : Key) × Lawful table.now root }
+    ensures first { result ≡ create_fault table.now root parent name.now node.now }
+{
+    let Some(dir) = table.record(parent) else {
+        return Some(Refusal::NoEntry);
+    };
+    if let Some(fault) = name_fault(name) {
+        return Some(fault);
+    }
+    if !is_directory(&dir.node) {
+        return Some(Refusal::NotDir);
+    }
+    if dir.marks.doomed {
+        return Some(Refusal::NoEntry);
+    }
+    if let Some(fault) = target_fault(table, root, target_of(node)) {
+        return Some(fault);
+    }
+    if table.child(parent, name).is_some() {
+        return Some(Refusal::Exists);
+    }
+    None
+}
+
 /// The key that a new record takes, or why there is none.
 pub(crate) fn check_create(
     table: &Table,
@@ -48,26 +80,11 @@ pub(crate) fn check_create(
 ) -> Result<Key, Refusal>
     requires lawful { (root : Key) × Lawful table.now root }
     ensures checked { MatchResult result
-        (λ key. (create_cause table.now root parent name.now node.now next ≡ None) × (next ≡ Some key))
+        (λ key. (create_fault table.now root parent name.now node.now ≡ None) × (next ≡ Some key))
         (λ cause. create_cause table.now root parent name.now node.now next ≡ Some cause) }
 {
-    let Some(dir) = table.record(parent) else {
-        return Err(Refusal::NoEntry);
-    };
-    if let Some(fault) = name_fault(name) {
+    if let Some(fault) = create_fault(table, root, parent, name, node) {
         return Err(fault);
-    }
-    if !is_directory(&dir.node) {
-        return Err(Refusal::NotDir);
-    }
-    if dir.marks.doomed {
-        return Err(Refusal::NoEntry);
-    }
-    if let Some(fault) = target_fault(table, root, target_of(node)) {
-        return Err(fault);
-    }
-    if table.child(parent, name).is_some() {
-        return Err(Refusal::Exists);
     }
     match next {
         Some(key) => Ok(key),

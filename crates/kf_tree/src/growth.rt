@@ -1,27 +1,39 @@
 //! What takes memory: names, and room for commands.
 
-ghost use Rattle.std.specs.Prelude.{◌≡◌, ◌≤◌, ◌<◌, ◌+◌, ◌^◌, ◌++◌, ◌∷◌, [], vec_capacity, length, IfOk, IfErr, OnOk};
+ghost use Rattle.std.specs.Prelude.{◌≡◌, ◌≤◌, ◌<◌, ◌+◌, ◌*◌, ◌^◌, ◌++◌, ◌∷◌, [], vec_capacity, length, IsOk, IfOk, IfErr, OnOk};
 
 use kf_core::{Command, NameBytes, Refusal};
 use std::alloc::Global;
 
-/// A name of its own.
+/// A name of its own. It takes memory for more than 24 bytes alone, and is refused where there is none.
 pub(crate) fn copy_name(alloc: Global, name: &[u8]) -> Result<NameBytes, Refusal>
     ensures made { IfOk result (λ copy. copy ≡ name.now) }
+    ensures short { length name.now ≤ 24 → IsOk result }
     ensures refused { IfErr result (λ refusal. refusal ≡ Refusal.NoMemory) }
 {
-    NameBytes::copied(alloc, name).map_err(|_| Refusal::NoMemory)
+    match NameBytes::copied(alloc, name) {
+        Ok(copy) => Ok(copy),
+        Err(_) => Err(Refusal::NoMemory),
+    }
 }
 
-/// Takes room for one command, and for so many after it.
+/// Takes room for one command, and for so many after it. A list that grows has room for twice its commands, so
+/// that they are copied seldom.
 pub(crate) fn make_room(commands: &mut Vec<Command>, later: usize) -> Result<(), Refusal>
     requires fits { later + 1 < 2 ^ 64 }
     ensures items { commands.new.items ≡ commands.old.items }
     ensures kept { vec_capacity commands.old ≤ vec_capacity commands.new }
     ensures room { OnOk result (length commands.old.items + 1 + later ≤ vec_capacity commands.new) }
+    ensures doubles { OnOk result (vec_capacity commands.old < vec_capacity commands.new
+        → 2 * length commands.old.items ≤ vec_capacity commands.new) }
+    ensures succeeds { length commands.old.items + 1 + later ≤ vec_capacity commands.old → IsOk result }
     ensures refused { IfErr result (λ refusal. refusal ≡ Refusal.NoMemory) }
 {
-    match commands.reserve(1 + later) {
+    let wanted = 1 + later;
+    if wanted <= commands.capacity() - commands.len() {
+        return Ok(());
+    }
+    match commands.reserve_exact(commands.len().max(wanted)) {
         Ok(()) => Ok(()),
         Err(_) => Err(Refusal::NoMemory),
     }
@@ -40,11 +52,11 @@ pub(crate) fn fit_room(commands: &mut Vec<Command>, later: usize) -> Result<(), 
     Ok(())
 }
 
-/// Stores a command for which there is room.
+/// Stores a command for which there is room. It takes no memory.
 pub(crate) fn store(commands: &mut Vec<Command>, command: Command)
     requires room { length commands.old.items < vec_capacity commands.old }
     ensures items { commands.new.items ≡ commands.old.items ++ command ∷ [] }
-    ensures kept { vec_capacity commands.old ≤ vec_capacity commands.new }
+    ensures in_place { vec_capacity commands.new ≡ vec_capacity commands.old }
 {
-    let _ = commands.push(command);
+    commands.push_reserved(command);
 }

@@ -1,12 +1,15 @@
 //! What holds of the definitions that the contracts cite.
 
-ghost use Rattle.std.specs.Prelude.{◌≡◌, ℕ, List, Option};
+ghost use Rattle.std.specs.Prelude.{◌≡◌, ◌↔◌, ℕ, List, Option, None, false};
 ghost use Rattle.kf_core.specs.declared.key.Key.{Key};
 ghost use Rattle.kf_core.specs.declared.command.Command.{Command};
 ghost use Rattle.kf_core.specs.Lawful.{Lawful};
 ghost use Rattle.kf_core.specs.PostOrder.{IsPostOrder};
 ghost use Rattle.kf_core.specs.Tree.{Tree};
+ghost use Rattle.kf_core.specs.Worlds.{MayMove};
+ghost use Rattle.kf_table.specs.Children.{is_there_already};
 ghost use Rattle.kf_tree.specs.Canonical.{IsCanonical};
+ghost use Rattle.kf_tree.specs.Causes.{rename_cause};
 ghost use Rattle.kf_tree.specs.Links.{HasLinkText};
 ghost use Rattle.kf_tree.specs.Listing.{IsListing};
 
@@ -26,4 +29,12 @@ pub fn answers_are_unique()
     // A link has one text.
     ensures link_text { (t : Tree) (root key : Key) (a b : List ℕ) → Lawful t root →
         HasLinkText t root key a → HasLinkText t root key b → a ≡ b }
+{}
+
+/// The rule of renames stands twice, and is one: a rename has no cause against it, and goes somewhere else,
+/// exactly where a run of the world may take it as a step.
+pub fn renames_have_one_rule()
+    ensures one_rule { (t : Tree) (root key dir : Key) (name : List ℕ) → Lawful t root →
+        MayMove t key dir name
+        ↔ ((rename_cause t root key dir name ≡ None) × (is_there_already t key dir name ≡ false)) }
 {}

@@ -3,19 +3,19 @@
 
 mod canonical;
 mod causes;
+mod find;
 mod growth;
 mod laws;
 mod links;
 mod listing;
 mod marks;
+mod orders;
 mod paths;
-mod post;
-mod shown;
+mod post_order;
 mod stat;
 mod state;
-mod walks;
 
-pub use laws::answers_are_unique;
+pub use laws::{answers_are_unique, renames_have_one_rule};
 pub use listing::Names;
 pub use stat::Stat;
 pub use state::State;

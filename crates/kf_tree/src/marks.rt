@@ -30,7 +30,9 @@ pub(crate) fn count_undoomed(table: &Table, keys: &[Key]) -> usize
     ensures value { result ≡ undoomed_count table.now keys.now }
     ensures few { result ≤ length keys.now }
 {
-    keys.iter().filter(|key| table.is_undoomed(**key)).count()
+    keys.iter()
+        .filter(|key| table.is_undoomed(key.slot))
+        .count()
 }
 
 /// Dooms the record of each key, and tells how many were not doomed before.
@@ -40,7 +42,7 @@ pub(crate) fn doom_each(table: &mut Table, keys: &[Key]) -> usize
 {
     let mut newly = 0;
     for key in keys {
-        if table.doom(*key) {
+        if table.doom(key.slot) {
             newly += 1;
         }
     }
@@ -52,6 +54,6 @@ pub(crate) fn activate_each(table: &mut Table, keys: &[Key])
     ensures changed { table.new ≡ with_changed_slots activated_unless_doomed table.old keys.now }
 {
     for key in keys {
-        table.activate(*key);
+        table.activate(key.slot);
     }
 }

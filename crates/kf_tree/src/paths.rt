@@ -10,7 +10,7 @@ ghost use Rattle.kf_tree.specs.Paths.{is_slash, is_empty, walk, walked, walked_p
 ghost use Rattle.kf_tree.specs.Shown.{shown};
 ghost use Rattle.kf_tree.specs.Ways.{later_parts};
 
-use crate::shown::step;
+use crate::find::step;
 use kf_core::{Key, Record, Refusal};
 use kf_table::Table;
 

@@ -4,14 +4,12 @@ ghost use Rattle.std.specs.Prelude.{◌≡◌, ◌<◌, IfOk, IfErr, IfSome, sli
 ghost use Rattle.kf_core.specs.declared.command.Command.TheVariants.{Create, Activate, Doom, Unlink, Rename, Hide, Show};
 ghost use Rattle.kf_core.specs.Tree.{is_linked};
 ghost use Rattle.kf_core.specs.PostOrder.{IsPostOrder};
-ghost use Rattle.kf_tree.specs.Causes.{create_cause, linked_cause, doom_cause, unlink_cause, hide_cause, hidden_in, rename_cause};
+ghost use Rattle.kf_tree.specs.Causes.{create_fault, create_cause, linked_cause, doom_cause, unlink_cause, hide_cause, hidden_in, rename_cause};
 ghost use Rattle.kf_table.specs.Children.{is_there_already};
 ghost use Rattle.kf_tree.specs.Ends.{EndsWith};
 ghost use Rattle.kf_tree.specs.TreeLogs.{IsNew, IsAccepted, IsReadied, IsCompacted, IsRefused};
 
 mod reads;
-#[cfg(test)]
-mod tests;
 
 use crate::canonical::canonical_commands;
 use crate::causes::{
@@ -19,7 +17,7 @@ use crate::causes::{
 };
 use crate::growth::{copy_name, make_room, store};
 use crate::marks::{activate_each, count_undoomed, doom_each, is_hidden, owed_for};
-use crate::post::post_order;
+use crate::post_order::post_order;
 use kf_core::{Command, Key, Limits, Marks, Node, Record, Refusal};
 use kf_table::Table;
 use std::alloc::Global;
@@ -107,6 +105,29 @@ impl State {
             refusal) }
     {
         let key = check_create(&self.table, self.root, parent, name, &node, next)?;
+        self.create_at(key, parent, name, node, live)?;
+        Ok(key)
+    }
+
+    /// [`State::create`] under this key, for a caller that has asked [`State::create_fault`] already. The only
+    /// refusal is `NoMemory`; after it nothing is changed.
+    ///
+    /// Condition: nothing is wrong with the new record, as `create_fault` tells. The key is as `create` asks.
+    pub fn create_at(
+        &mut self,
+        key: Key,
+        parent: Key,
+        name: &[u8],
+        node: Node,
+        live: bool,
+    ) -> Result<(), Refusal>
+        requires no_fault { create_fault self.old.tree self.old.root parent name.now node ≡ None }
+        requires vacant { slice_get self.old.tree key.slot ≡ Some None }
+        ensures accepted { IfOk result (λ _. IsAccepted self.old self.new
+            (create_cause self.old.tree self.old.root parent name.now node (Some key))
+            (Create key parent name.now node live)) }
+        ensures refused { IfErr result (λ refusal. (refusal ≡ Refusal.NoMemory) × (self.new ≡ self.old)) }
+    {
         let own_name = copy_name(self.alloc, name)?;
         let stored_name = copy_name(self.alloc, name)?;
         make_room(&mut self.commands, self.owed)?;
@@ -132,7 +153,7 @@ impl State {
                 live,
             },
         );
-        Ok(key)
+        Ok(())
     }
 
     /// Activates each node of the subtree that is not doomed (`kernfs_activate`).
@@ -245,7 +266,7 @@ impl State {
     }
 
     /// Takes a doomed record without linked children out, and tells whether the key was linked
-    /// (`kernfs_unlink_sibling` in `__kernfs_remove`). It takes no memory. Refusals in order, of a linked
+    /// (`kernfs_unlink_sibling` in `__kernfs_remove`). It wants no memory. Refusals in order, of a linked
     /// key: `Invalid` (not doomed), `Busy` (a linked child). After a refusal, and after the answer false,
     /// nothing is changed.
     pub fn unlink(&mut self, key: Key) -> Result<bool, Refusal>
@@ -291,7 +312,7 @@ impl State {
         requires ready { self.old.ready ≡ Some key }
         ensures accepted { IsAccepted self.old self.new (hide_cause self.old.tree key) (Hide key) }
     {
-        self.table.hide(key, true);
+        self.table.hide(key.slot);
         self.owed += 1;
         self.ready = None;
         store(&mut self.commands, Command::Hide { key });
@@ -308,7 +329,7 @@ impl State {
     {
         let hidden = is_hidden(&self.table, key);
         if hidden {
-            self.table.hide(key, false);
+            self.table.show(key.slot);
             self.owed -= 1;
             self.ready = None;
             store(&mut self.commands, Command::Show { key });

@@ -1,5 +1,5 @@
 -- What the Master knows of a slot and of its keys, and a search load by load.
-use Rattle.std.proofs.Common.{◌≡◌, ℕ, zero, suc, get_or, slice_set, ◌+◌, ◌<◌, ◌≤◌, ◌/◌, true, false, List, [], ◌∷◌, ◌++◌, length, refl, sym, ap, ◌∙◌, arith, subst}
+use Rattle.std.proofs.Common.{◌≡◌, ℕ, zero, suc, get_or, slice_set, ◌<◌, ◌≤◌, ◌/◌, true, false, List, [], ◌∷◌, ◌++◌, length, refl, sym, ap, ◌∙◌, arith, subst}
 use Rattle.std.specs.Prelude.{slice_get, Option, Some, None, is_some}
 use Rattle.std.specs.Option.{option_map}
 use Rattle.std.proofs.lemmas.Option.{slice_get_within, get_or_from_slice_get, none-some, same_Some}
@@ -12,14 +12,10 @@ use Rattle.kf_words.specs.declared.view.Load.{Load}
 use Rattle.kf_words.specs.declared.view.MasterView.{MasterView}
 use Rattle.kf_words.specs.Layout.{IsFree}
 use Rattle.kf_words.specs.Rule.{last_key}
-use Rattle.kf_words.specs.Steps.{with_load, without_node, state_at, no_state, TellsSlot}
-use Rattle.kf_words.specs.Nodes.{FoundRoom, KeepsRooms, NoneFree, with_loads, IsLastKey, HasNext, marks_of, slots_with}
+use Rattle.kf_words.specs.Steps.{with_load, without_node, state_at, no_state, remarked, TellsSlot}
+use Rattle.kf_words.specs.Nodes.{FoundRoom, KeepsRooms, with_loads, IsLastKey, HasNext, marks_of, slots_with}
 use Rattle.kf_words.proofs.Bits.{free_unlinked}
 use Rattle.kf_words.proofs.MasterAllowed.{state_there}
-
-pub none_free_more : (s : ℕ) (loads : List Load) (x : Load) → NoneFree s loads → x.slot ≡ length loads + s → ¬ IsFree x.word → NoneFree s (loads ++ x ∷ [])
-none_free_more s [] x n at free = (omega arith, free, tt)
-none_free_more s (l ∷ ls) x n at free = (n.0, n.1, none_free_more (s + 1) ls x n.2 (omega arith) free)
 
 pub with_loads_more : (loads : List Load) (x : Load) (m : MasterView) → with_loads (loads ++ x ∷ []) m ≡ with_load x.slot x.word (with_loads loads m)
 with_loads_more [] x m = refl
@@ -98,3 +94,9 @@ pub slots_unlinked : (m m' : MasterView) (key : Key) → IsLastKey m key → m'.
 slots_unlinked m m' key last same =
     ap (λ (l : List SlotState). slice_set l key.slot (record { generation = (state_at m' key.slot).generation; marks = None })) same
     ∙ ap (λ (g : ℕ). slice_set m.slots key.slot (record { generation = g; marks = None })) (ap (λ (k : Key). k.generation) (last_is m m' key last same))
+
+-- the slots when a node of these marks gets others
+pub slots_remarked : (m : MasterView) (key : Key) (change : Marks → Marks) (x : Marks) → marks_of m key ≡ Some x → slice_set m.slots key.slot (remarked change (state_at m key.slot)) ≡ slots_with m.slots key (Some (change x))
+slots_remarked m key change x had =
+    let its : slice_get m.slots key.slot ≡ Some (record { generation = key.generation; marks = Some x }) = in_place (slice_get m.slots key.slot) key.generation x had in
+    ap (λ (s : SlotState). slice_set m.slots key.slot (remarked change s)) (get_or_from_slice_get m.slots key.slot (record { generation = key.generation; marks = Some x }) no_state its)

@@ -12,6 +12,7 @@ pub mod CallerAllowed
 pub mod MasterViews
 pub mod MasterAllowed
 pub mod Keys
+pub mod Searching
 pub mod Opening
 pub mod Tells
 pub mod Events
@@ -19,3 +20,4 @@ pub mod WordSteps
 pub mod Runs
 pub mod Made
 pub mod Waits
+pub mod Life

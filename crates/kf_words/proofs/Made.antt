@@ -15,7 +15,7 @@ use Rattle.kf_words.specs.Layout.{hide, active_index, hold_index, keeps_out, is_
 use Rattle.kf_words.specs.Rule.{Shown, bare}
 use Rattle.kf_words.specs.Steps.{Seated, caller_of, after_try, after_undo, after_leave, after_break, after_restore, after_look, after_part, after_hide, after_look_hidden, after_show, after_release, CallerBecomes, ShowsKey, WasFound}
 use Rattle.kf_words.specs.Callers.{IsAtRest, HasReference, IsIn}
-use Rattle.kf_words.specs.Runs.{Table, WasLetInLive, world, Kind, tries, undoes, leaves, breaks, restores, looks, parts, hides, looks_hidden, shows, releases, plus, minus, same, with_hide, Plays, CallerPlays, IsSeated, WordStep, WasMade}
+use Rattle.kf_words.specs.Runs.{Table, WasLetInLive, world, Kind, tries, undoes, leaves, breaks, restores, looks, parts, hides, looks_hidden, shows, releases, plus, minus, same, with_hide, Plays, CallerPlays, IsSeated, WordStep, WasMade, WasUndone}
 use Rattle.kf_words.proofs.Seating.{caller_seat}
 use Rattle.kf_words.proofs.WordSteps.{word_step, world_is, at_seat, in_world}
 use Rattle.kf_words.proofs.Runs.{let_in_live}
@@ -35,12 +35,16 @@ module _ (count limit homes id : ℕ) (me : Seated) (i : ℕ) (is : me ≡ (seat
   abbrev me_c : CallerView
   me_c = caller_of me.0
 
-  made : (kind : ℕ → Kind) (f : ℕ → ℕ) (aft : ℕ → CallerView → CallerView) (told : ℕ → Seated → Type 0)
+  -- the step found this word
+  abbrev MadeFinding : (ℕ → Kind) → ℕ → CallerView → Type 0
+  MadeFinding kind n c' = (m : WasMade kind me_c c') × (slice_index m.found.words i ≡ n)
+
+  finding : (kind : ℕ → Kind) (f : ℕ → ℕ) (aft : ℕ → CallerView → CallerView) (told : ℕ → Seated → Type 0)
       → ((n : ℕ) (me' : Seated) → told n me' → me'.0 ≡ seat.Caller (aft n me_c))
       → ((t t' : Table) (j : ℕ) → Plays t (suc j) i f (seat.Caller me_c) (seat.Caller (aft (slice_index t.words i) me_c)) t' → WordStep t (kind j) t')
       → Allows (Shown count limit) homes id me i f told
-      → Allows (Shown count limit) homes id me i f (λ n me'. told n me' × WasMade kind me_c (caller_of me'.0))
-  made kind f aft told tells makes allowed t h far at small =
+      → Allows (Shown count limit) homes id me i f (λ n me'. told n me' × MadeFinding kind n (caller_of me'.0))
+  finding kind f aft told tells makes allowed t h far at small =
       let r = allowed t h far at small in
       let n : ℕ = slice_index t.words i in
       let c' : CallerView = aft n me_c in
@@ -56,19 +60,31 @@ module _ (count limit homes id : ℕ) (me : Seated) (i : ℕ) (is : me ≡ (seat
         r.3,
         (
           r.4,
-          subst (λ (x : View). WasMade kind me_c (caller_of x)) (sym w_is) (record {
-            slots = count;
-            limit = limit;
-            found = t;
-            left = t';
-            caller = j;
-            shown = h;
-            step = makes t t' j (record { there = there; fits = small; becomes = refl });
-            was = there;
-            is = put t.views (suc j) (seat.Caller me_c) (seat.Caller c') there;
-          }),
+          subst (λ (x : View). MadeFinding kind n (caller_of x)) (sym w_is) (
+            record {
+              slots = count;
+              limit = limit;
+              found = t;
+              left = t';
+              caller = j;
+              shown = h;
+              step = makes t t' j (record { there = there; fits = small; becomes = refl });
+              was = there;
+              is = put t.views (suc j) (seat.Caller me_c) (seat.Caller c') there;
+            },
+            refl,
+          ),
         ),
       )
+
+  made : (kind : ℕ → Kind) (f : ℕ → ℕ) (aft : ℕ → CallerView → CallerView) (told : ℕ → Seated → Type 0)
+      → ((n : ℕ) (me' : Seated) → told n me' → me'.0 ≡ seat.Caller (aft n me_c))
+      → ((t t' : Table) (j : ℕ) → Plays t (suc j) i f (seat.Caller me_c) (seat.Caller (aft (slice_index t.words i) me_c)) t' → WordStep t (kind j) t')
+      → Allows (Shown count limit) homes id me i f told
+      → Allows (Shown count limit) homes id me i f (λ n me'. told n me' × WasMade kind me_c (caller_of me'.0))
+  made kind f aft told tells makes allowed t h far at small =
+      let r = finding kind f aft told tells makes allowed t h far at small in
+      (r.0, r.1, r.2, r.3, (r.4.0, r.4.1.0))
 
 -- the same of a step on a word of the caller's slot, by the word's index
 step_made : (count limit homes id : ℕ) (me : Seated) (i : ℕ) → me ≡ (seat.Caller (caller_of me.0), []) → (index : ℕ → ℕ) → index (caller_of me.0).key.slot ≡ i
@@ -90,9 +106,15 @@ module _ (count limit homes id : ℕ) (me : Seated) (i : ℕ) (is : me ≡ (seat
   try_made may = step_made count limit homes id me i is active_index its tries (plus 1) after_try (CallerBecomes after_try no_step me)
       (λ n me' e. ap (λ (x : Seated). x.0) e) (try_allowed count limit homes id me (active_index at_c.key.slot) is refl may) (λ t t' j p. (at_c, may, p))
 
-  pub undo_made : at_c.phase ≡ Turned → at_c.undo_due ≡ true → Allows (Shown count limit) homes id me i (minus 1) (MadeAt active_index i me undoes (CallerBecomes (λ _. after_undo) no_step me))
-  undo_made turned due = step_made count limit homes id me i is active_index its undoes (minus 1) (λ _. after_undo) (CallerBecomes (λ _. after_undo) no_step me)
-      (λ n me' e. ap (λ (x : Seated). x.0) e) (undo_allowed count limit homes id me (active_index at_c.key.slot) is refl turned due) (λ t t' j p. (at_c, (turned, due), p))
+  pub undo_made : at_c.phase ≡ Turned → at_c.undo_due ≡ true → Allows (Shown count limit) homes id me i (minus 1)
+      (λ n me'. (i ≡ active_index at_c.key.slot) × (CallerBecomes (λ _. after_undo) no_step me n me' × WasUndone at_c (caller_of me'.0) n))
+  undo_made turned due =
+      let told : ℕ → Seated → Type 0 = CallerBecomes (λ _. after_undo) no_step me in
+      let at : ℕ = active_index at_c.key.slot in
+      on_word (Shown count limit) homes id me i (minus 1) (λ n me'. told n me' × WasUndone at_c (caller_of me'.0) n) (i ≡ at) (sym its)
+      (subst (λ (k : ℕ). Allows (Shown count limit) homes id me k (minus 1) (λ n me'. told n me' × WasUndone at_c (caller_of me'.0) n)) its
+      (finding count limit homes id me at is undoes (minus 1) (λ _. after_undo) told (λ n me' e. ap (λ (x : Seated). x.0) e)
+      (λ t t' j p. (at_c, (turned, due), p)) (undo_allowed count limit homes id me at is refl turned due)))
 
   pub leave_made : HasReference at_c → Allows (Shown count limit) homes id me i (minus 1) (MadeAt active_index i me leaves (CallerBecomes after_leave no_step me))
   leave_made may = step_made count limit homes id me i is active_index its leaves (minus 1) after_leave (CallerBecomes after_leave no_step me)

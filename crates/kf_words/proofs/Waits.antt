@@ -1,5 +1,5 @@
 -- What a wait does: one step of a kind, and then another.
-use Rattle.std.proofs.Common.{ℕ, suc}
+use Rattle.std.proofs.Common.{◌≡◌, ℕ, suc, subst, sym}
 use Rattle.kf_words.specs.declared.view.CallerView.{CallerView}
 use Rattle.kf_words.specs.Runs.{Kind, WasMade, WereMade, OnlyMade}
 
@@ -13,3 +13,10 @@ one_more kind before between after so_far step = (suc so_far.0, (between, so_far
 pub at_least_one : (kind : ℕ → Kind) (before between after : CallerView)
     → ((count : ℕ) × WereMade kind count before between) → WasMade kind between after → OnlyMade kind before after
 at_least_one kind before between after so_far step = (so_far.0, (between, so_far.1, step))
+
+-- the same between views that are told in other words
+pub since : (kind : ℕ → Kind) (start first between last end : CallerView) → first ≡ start → end ≡ last
+    → ((count : ℕ) × WereMade kind count first between) → WasMade kind between last → OnlyMade kind start end
+since kind start first between last end is_start is_end so_far step =
+    subst (λ x. OnlyMade kind x end) is_start
+    (subst (λ x. OnlyMade kind first x) (sym is_end) (at_least_one kind _ _ _ so_far step))

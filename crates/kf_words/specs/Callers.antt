@@ -14,6 +14,7 @@ use Rattle.kf_words.specs.declared.view.CallerView.{CallerView}
 use Rattle.kf_words.specs.Layout.{active_index, hold_index, keeps_out, is_drained, has_hide, is_unused, has_linked}
 use Rattle.kf_words.specs.Steps.{caller_of, WasFound}
 
+-- what contracts see of a hold, call or receipt: its seat, its key and node, and how far it is
 pub record Handle : Type 0 where
   pub table : TableId  -- which table of words
   pub seat : ℕ  -- which seat there
@@ -31,9 +32,11 @@ pub record SeatId : Type 0 where
   pub seat : ℕ
   pub node : Node
 
+-- which seat it is, and the node that was born with its key
 abbrev pub id_of : Handle → SeatId
 id_of h = record { table = h.table; seat = h.seat; node = h.node }
 
+-- the caller's view, which the token of its seat has
 abbrev pub view_of : CallerSeat → CallerView
 view_of s = caller_of s.token.me.0
 
@@ -43,6 +46,7 @@ node_of kind.Dir _ _ = node.Dir
 node_of (kind.File mode) tag _ = node.File mode tag
 node_of kind.Link _ target = node.Link target
 
+-- what contracts see of this seat
 abbrev pub handle_of : CallerSeat → Handle
 handle_of s = record {
   table = s.token.table_id;
@@ -56,6 +60,7 @@ handle_of s = record {
   undo_due = (view_of s).undo_due;
 }
 
+-- it is the same seat of the same table still, with the same key and node
 pub record IsSameSeat (old new : Handle) : Type 0 where
   pub table : new.table ≡ old.table
   pub seat : new.seat ≡ old.seat
@@ -168,6 +173,16 @@ seat_view h = record {
   found = h.found;
   undo_due = h.undo_due;
 }
+
+-- what a step that took one user off an active word owes to those who sleep there: a wake, where one of them may
+-- wait for what the word that it found is without that user
+pub record Owed : Type 0 where
+  pub slot : ℕ
+  pub found : ℕ
+
+-- what the last step of this seat owes
+abbrev pub owed : Handle → Owed
+owed h = record { slot = h.key.slot; found = h.found }
 
 -- once, while the rule held and this seat was as told, the active word of its slot was as found
 abbrev pub FoundThere : Handle → ℕ → Type 0

@@ -69,15 +69,18 @@ LeaveIsLeave =
     OfEachCaller (λ words m cs j c. HasReference c → (found : ℕ)
     → Moves m cs j (after_leave found c) (Leave j))
 
+-- a reference given up inside its call is a Break, at any word that the step finds
 abbrev pub BreakIsBreak : Type 0
 BreakIsBreak =
     OfEachCaller (λ words m cs j c. IsIn Running c → (found : ℕ)
     → Moves m cs j (after_break found c) (Break j))
 
+-- a reference taken again inside its call is a Restore, at any word that the step finds
 abbrev pub RestoreIsRestore : Type 0
 RestoreIsRestore = OfEachCaller
     (λ words m cs j c. IsIn Broken c → (found : ℕ) → Moves m cs j (after_restore found c) (Restore j))
 
+-- a hold given back is a Release, at any word that the step finds
 abbrev pub ReleaseIsRelease : Type 0
 ReleaseIsRelease = OfEachCaller
     (λ words m cs j c. may_release c.phase ≡ true → (found : ℕ)
@@ -115,6 +118,7 @@ RiseIsRise = OfTheMaster
     (λ m cs. (key : Key) → marks_of m key ≡ Some fresh_marks
     → Changes m cs (with_marks activated_marks key.slot m) (Rise key))
 
+-- the mark of a linked node that is not doomed yet is a Mark
 abbrev pub MarkIsMark : Type 0
 MarkIsMark = OfTheMaster
     (λ m cs. (key : Key) (x : Marks) → marks_of m key ≡ Some x → x.doomed ≡ false

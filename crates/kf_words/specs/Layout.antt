@@ -12,6 +12,7 @@ line_words = 8
 abbrev pub active_index : ℕ → ℕ
 active_index slot = slot * line_words
 
+-- where the hold word of a slot stands: right behind its active word
 abbrev pub hold_index : ℕ → ℕ
 hold_index slot = slot * line_words + 1
 
@@ -19,9 +20,11 @@ hold_index slot = slot * line_words + 1
 abbrev pub slot_of : ℕ → ℕ
 slot_of index = index / line_words
 
+-- the active word of a slot, among the words of all slots
 abbrev pub active_word : List ℕ → ℕ → ℕ
 active_word words slot = slice_index words (active_index slot)
 
+-- the hold word of a slot, among the words of all slots
 abbrev pub hold_word : List ℕ → ℕ → ℕ
 hold_word words slot = slice_index words (hold_index slot)
 
@@ -30,9 +33,11 @@ hold_word words slot = slice_index words (hold_index slot)
 abbrev pub bias : ℕ
 bias = 4294967296
 
+-- in an active word, the bit of a doomed node
 abbrev pub doom : ℕ
 doom = 8589934592
 
+-- in an active word, the bit of a hidden key
 abbrev pub hide : ℕ
 hide = 17179869184
 
@@ -40,6 +45,7 @@ hide = 17179869184
 abbrev pub linked : ℕ
 linked = 2147483648
 
+-- one generation in a hold word, whose upper half is the last generation of the slot
 abbrev pub one_generation : ℕ
 one_generation = 4294967296
 
@@ -48,6 +54,7 @@ abbrev pub bit : Bool → ℕ → ℕ
 bit true b = b
 bit false b = 0
 
+-- whether this active word has the bit of a node that is not at once linked, activated and undoomed
 abbrev pub has_bias : ℕ → Bool
 has_bias word = (word / bias) % 2 == 1
 

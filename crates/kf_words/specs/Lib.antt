@@ -6,3 +6,4 @@ pub mod Nodes
 pub mod Laws
 pub mod Events
 pub mod Runs
+pub mod Life

@@ -1,5 +1,5 @@
 -- What contracts see of the Master, and what each of its calls tells.
-use Rattle.std.specs.Prelude.{◌≡◌, ◌≤◌, ◌<◌, ◌↔◌, ℕ, ◌+◌, Bool, true, false, List, [], ◌∷◌, length, Option, None, Some, slice_get, slice_set, IsTrue}
+use Rattle.std.specs.Prelude.{◌≡◌, ◌≤◌, ◌<◌, ◌↔◌, ◌⊎◌, ℕ, zero, suc, ◌+◌, ◌*◌, ◌/◌, Bool, true, false, not, ◌&&◌, ◌==◌, List, [], ◌∷◌, ◌++◌, length, Option, None, Some, is_some, slice_get, slice_set, IsTrue}
 use Rattle.std.specs.Option.{option_map}
 use Rattle.kf_core.specs.declared.key.Key.{Key}
 use Rattle.kf_core.specs.declared.key.Node.{Node}
@@ -22,6 +22,7 @@ pub record MasterState : Type 0 where
   pub view : MasterView
   pub nodes : List Node
 
+-- the Master's view, which the token of its seat has
 abbrev pub master_view : MasterSeat → MasterView
 master_view s = master_of s.token.me.0
 
@@ -45,9 +46,11 @@ abbrev pub Found : (ℕ → Type 0) → MasterView → ℕ → Type 0
 Found Such m slot =
     (i : ℕ) × (load : Load) × (slice_get m.loads i ≡ Some load) × (load.slot ≡ slot) × Such load.word
 
+-- a load that still counts found the slot free: no node linked, nobody holding it, and a generation left
 abbrev pub FoundFree : MasterView → ℕ → Type 0
 FoundFree m slot = Found IsFree m slot
 
+-- a load that still counts found room for one hold more in the slot
 abbrev pub FoundRoom : MasterView → ℕ → Type 0
 FoundRoom m slot = Found (HasRoom m.limit) m slot
 
@@ -55,6 +58,7 @@ FoundRoom m slot = Found (HasRoom m.limit) m slot
 abbrev pub KeepsRooms : MasterView → MasterView → Type 0
 KeepsRooms m m' = (slot : ℕ) → FoundRoom m slot → FoundRoom m' slot
 
+-- a load that still counts found as many holds in the slot as there may be
 abbrev pub FoundFull : MasterView → ℕ → Type 0
 FoundFull m slot = Found (λ word. m.limit ≤ holds_in word) m slot
 
@@ -74,29 +78,43 @@ pub record MayBear (m : MasterView) (key : Key) : Type 0 where
   pub vacant : IsVacant m key
   pub free : FoundFree m key.slot
 
--- loads of the slots from this one up, none of which found a free slot
-abbrev pub NoneFree : ℕ → List Load → Type 0
-NoneFree slot [] = Unit {0}
-NoneFree slot (load ∷ loads) = (load.slot ≡ slot) × (¬ IsFree load.word) × NoneFree (slot + 1) loads
+-- no node is linked in a slot of this state, where there is one
+abbrev pub lacks_node : Option SlotState → Bool
+lacks_node None = false
+lacks_node (Some state) = not (is_some state.marks)
 
+-- the slot is not the root's, and no node is linked there
+abbrev pub is_unlinked : List SlotState → ℕ → Bool
+is_unlinked slots slot = not (slot == 0) && lacks_node (slice_get slots slot)
+
+-- the slots below this one were passed with these loads, in turn: each that is not the root's has a node linked,
+-- or else a load found it not free
+abbrev pub Passed : List SlotState → ℕ → List Load → Type 0
+Passed slots zero loads = loads ≡ []
+Passed slots (suc slot) loads = ((is_unlinked slots slot ≡ false) × Passed slots slot loads)
+    ⊎ ((is_unlinked slots slot ≡ true) × (before : List Load) × (word : ℕ) × (¬ IsFree word)
+    × (loads ≡ before ++ record { slot = slot; word = word } ∷ []) × Passed slots slot before)
+
+-- the Master's view after these loads of hold words, one after another
 abbrev pub with_loads : List Load → MasterView → MasterView
 with_loads [] m = m
 with_loads (load ∷ loads) m = with_loads loads (with_load load.slot load.word m)
 
--- the slots from 1 up were loaded, and this one is the first that was found free
+-- the slots from 1 up were passed, and this one is the first that was found free
 pub record FoundFirst (m : MasterView) (slot : ℕ) (m' : MasterView) : Type 0 where
   pub before : List Load
   pub word : ℕ
-  pub none_before : NoneFree 1 before
-  pub here : slot ≡ length before + 1
+  pub passed : Passed m.slots slot before
+  pub unlinked : is_unlinked m.slots slot ≡ true
   pub free : IsFree word
   pub view : m' ≡ with_load slot word (with_loads before m)
 
--- the slots from 1 up were loaded, and none was found free
+-- all slots were passed, and none was found free
 pub record FoundNone (m : MasterView) (m' : MasterView) : Type 0 where
   pub loads : List Load
-  pub none_free : NoneFree 1 loads
-  pub all : length loads + 1 ≡ length m.slots
+  pub below : ℕ
+  pub passed : Passed m.slots below loads
+  pub all : length m.slots ≤ below
   pub view : m' ≡ with_loads loads m
 
 -- what a search for a free slot answers
@@ -123,6 +141,8 @@ abbrev pub WasUnpinned : MasterView → ℕ → MasterView → Type 0
 WasUnpinned m slot m' =
     (found : ℕ) × HasRoom m.limit found × (m' ≡ without_pin slot (with_pin slot (with_load slot found m)))
 
+-- a pin is refused as one hold too many where its load found the slot full, and for want of memory where the
+-- hold that was counted has been taken back; for no other cause
 abbrev pub PinRefused : MasterView → ℕ → Refusal → MasterView → Type 0
 PinRefused m slot TooManyHolds m' = WasFull m slot m'
 PinRefused m slot NoMemory m' = WasUnpinned m slot m'
@@ -180,11 +200,18 @@ abbrev pub HasLooked : MasterView → ℕ → Type 0
 HasLooked m slot =
     (found : ℕ) × (m.looked ≡ Some (record { slot = slot; word = found })) × (is_drained found ≡ true)
 
+-- no search need look at a slot of a block that is marked full: each has a node linked
+abbrev pub AreFull : List Bool → List SlotState → Type 0
+AreFull full slots = (slot : ℕ) → slice_get full (slot / 64) ≡ Some true → is_unlinked slots slot ≡ false
+
 -- what the Master keeps at run time is what its view says, between any two calls
-pub record IsMirrored (m : MasterView) (slots : List SlotState) (nodes : List Node) (holds : ℕ) : Type 0 where
+pub record IsMirrored (m : MasterView) (slots : List SlotState) (nodes : List Node) (holds : ℕ) (full : List Bool) : Type 0 where
   pub root : 1 ≤ length slots
   pub few : length slots ≤ 4096
   pub same_slots : m.slots ≡ slots
   pub same_limit : m.limit ≡ holds
   pub no_pin : m.pinning ≡ None
   pub all_nodes : length nodes ≡ length slots
+  pub full_blocks : AreFull full slots
+  pub covered : length slots ≤ 64 * length full
+  pub few_blocks : length full ≤ 64

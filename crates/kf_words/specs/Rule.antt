@@ -37,12 +37,15 @@ is_hider slot c = (c.key.slot == slot) && is_hiding c.phase
 abbrev pub is_holder : ℕ → CallerView → Bool
 is_holder slot c = (c.key.slot == slot) && not (is_spent c.phase)
 
+-- how many callers count in the active word of this slot
 abbrev pub users : ℕ → List CallerView → ℕ
 users slot cs = tally (is_user slot) cs
 
+-- how many callers hide a key that has this slot
 abbrev pub hiders : ℕ → List CallerView → ℕ
 hiders slot cs = tally (is_hider slot) cs
 
+-- how many callers count in the hold word of this slot
 abbrev pub holders : ℕ → List CallerView → ℕ
 holders slot cs = tally (is_holder slot) cs
 
@@ -66,6 +69,7 @@ ShowsHolds limit word state n =
 abbrev pub StillHolds : ℕ → ℕ → ℕ → Type 0
 StillHolds limit found word = (IsFree found → IsFree word) × (HasRoom limit found → HasRoom limit word)
 
+-- the caller that a view names: its key and its phase
 abbrev pub caller : CallerView → Caller
 caller c = record { key = c.key; phase = c.phase }
 
@@ -73,6 +77,7 @@ caller c = record { key = c.key; phase = c.phase }
 abbrev pub bare : MasterView → List CallerView → BareWorld
 bare m cs = record { slots = m.slots; callers = map caller cs }
 
+-- the key of a slot with its last generation
 abbrev pub last_key : ℕ → SlotState → Key
 last_key slot state = record { slot = slot; generation = state.generation }
 

@@ -22,17 +22,19 @@ use Rattle.kf_words.specs.declared.view.View.TheVariants as seat
 use Rattle.kf_words.specs.Layout.{bit, bias, doom, hide, linked, one_generation, active_index, hold_index, opening_words}
 use Rattle.kf_words.specs.Rule.{bare, Shown}
 use Rattle.kf_words.specs.Steps.{Seated, caller_of, no_master, master_of, state_at, after_try, after_undo, after_leave, after_break, after_restore, after_look, after_part, after_hide, after_look_hidden, after_show, after_release, after_split, hold_for, with_load, with_pin, without_pin, after_store, with_birth, with_marks, activated_marks, doomed_marks, with_look, without_node, unread, opened, CallerBecomes, ShowsKey}
-use Rattle.kf_words.specs.Callers.{IsAtRest, HasReference, IsIn}
+use Rattle.kf_words.specs.Callers.{Handle, Owed, IsAtRest, HasReference, IsIn, seat_view}
 use Rattle.kf_words.specs.Nodes.{FoundRoom, FoundFree, HasMarks, HasLooked, marks_of}
 
 -- the words, and the views of all seats
 abbrev pub Table : Type 0
 Table = State (Unit {0}) View
 
+-- the Master's view, which is that of the first seat
 abbrev pub master_in : List View → MasterView
 master_in [] = no_master
 master_in (v ∷ vs) = master_of v
 
+-- the views of the callers, which have all seats but the first
 abbrev pub callers_in : List View → List CallerView
 callers_in [] = []
 callers_in (v ∷ vs) = map caller_of vs
@@ -70,9 +72,11 @@ pub data Kind : Type 0 where
 abbrev pub plus : ℕ → ℕ → ℕ
 plus k n = (n + k) % 2 ^ 64
 
+-- the word with k taken off, which wraps round in 64 bits
 abbrev pub minus : ℕ → ℕ → ℕ
 minus k n = (n + (2 ^ 64 - k)) % 2 ^ 64
 
+-- the word as it was, which is all that a load makes of it
 abbrev pub same : ℕ → ℕ
 same n = n
 
@@ -136,18 +140,23 @@ IsDrainedOn t slot j = (c : CallerView) × IsSeated t j c × (c.key.slot ≡ slo
 abbrev pub SeesRoom : ℕ → MasterView → Type 0
 SeesRoom slot m = (slot < length m.slots) × (m.pinning ≡ None) × FoundRoom m slot
 
+-- a hold of this slot is counted, and has no seat yet
 abbrev pub HasPin : ℕ → MasterView → Type 0
 HasPin slot m = (slot < length m.slots) × (m.pinning ≡ Some slot)
 
+-- a load that still counts found this slot free
 abbrev pub SeesFree : ℕ → MasterView → Type 0
 SeesFree slot m = (slot < length m.slots) × FoundFree m slot
 
+-- the Master's last step stored a new active word in this slot
 abbrev pub HasFresh : ℕ → MasterView → Type 0
 HasFresh slot m = (slot < length m.slots) × (m.fresh ≡ Some slot)
 
+-- the slot has a node with these marks, which is not doomed
 abbrev pub IsUndoomed : ℕ → Marks → MasterView → Type 0
 IsUndoomed slot x m = HasMarks m slot x × (x.doomed ≡ false)
 
+-- the slot has a node, and the Master's last step found its active word drained
 abbrev pub SeesDrained : ℕ → MasterView → Type 0
 SeesDrained slot m = ((x : Marks) × HasMarks m slot x) × HasLooked m slot
 
@@ -297,69 +306,97 @@ Makes index kind tells st me found me' =
     (st.word ≡ index (caller_of me.0).key.slot)
     × (tells st me found me' × WasMade kind (caller_of me.0) (caller_of me'.0))
 
+-- what a try on the active word tells: whether the caller runs, or has the try to undo
 abbrev pub MakesTry : Step (Unit {0}) → Seated → ℕ → Seated → Type 0
 MakesTry = Makes active_index tries (CallerBecomes after_try)
 
+-- a table that met the rule made a try between these two views of a caller
 abbrev pub WasATry : CallerView → CallerView → Type 0
 WasATry = WasMade tries
 
-abbrev pub MakesUndo : Step (Unit {0}) → Seated → ℕ → Seated → Type 0
-MakesUndo = Makes active_index undoes (CallerBecomes (λ _. after_undo))
-
+-- a table that met the rule took a refused try back between these two views of a caller
 abbrev pub WasAUndo : CallerView → CallerView → Type 0
 WasAUndo = WasMade undoes
 
+-- a refused try was taken back, by a step that found this word, which the view after it does not tell
+abbrev pub WasUndone : CallerView → CallerView → ℕ → Type 0
+WasUndone before after found = (made : WasAUndo before after)
+    × (slice_index made.found.words (active_index before.key.slot) ≡ found)
+
+-- what the step tells that takes a refused try back: with the view also the word that it found
+abbrev pub MakesUndo : Step (Unit {0}) → Seated → ℕ → Seated → Type 0
+MakesUndo st me found me' = (st.word ≡ active_index (caller_of me.0).key.slot)
+    × (CallerBecomes (λ _. after_undo) st me found me' × WasUndone (caller_of me.0) (caller_of me'.0) found)
+
+-- what the end of a call tells, which is a step on the active word
 abbrev pub MakesLeave : Step (Unit {0}) → Seated → ℕ → Seated → Type 0
 MakesLeave = Makes active_index leaves (CallerBecomes after_leave)
 
+-- a table that met the rule ended a call between these two views of a caller
 abbrev pub WasALeave : CallerView → CallerView → Type 0
 WasALeave = WasMade leaves
 
+-- what a step on the active word tells that gives the reference up inside a call
 abbrev pub MakesBreak : Step (Unit {0}) → Seated → ℕ → Seated → Type 0
 MakesBreak = Makes active_index breaks (CallerBecomes after_break)
 
+-- a table that met the rule gave a call's reference up between these two views of a caller
 abbrev pub WasABreak : CallerView → CallerView → Type 0
 WasABreak = WasMade breaks
 
+-- what a step on the active word tells that takes a reference again inside a call
 abbrev pub MakesRestore : Step (Unit {0}) → Seated → ℕ → Seated → Type 0
 MakesRestore = Makes active_index restores (CallerBecomes after_restore)
 
+-- a table that met the rule took a call's reference again between these two views of a caller
 abbrev pub WasARestore : CallerView → CallerView → Type 0
 WasARestore = WasMade restores
 
+-- what a waiting caller's load of the active word tells: whether that is drained
 abbrev pub MakesLook : Step (Unit {0}) → Seated → ℕ → Seated → Type 0
 MakesLook = Makes active_index looks (CallerBecomes after_look)
 
+-- a table that met the rule loaded the active word, for a drain, between these two views of a caller
 abbrev pub WasALook : CallerView → CallerView → Type 0
 WasALook = WasMade looks
 
+-- what a drained caller's load of the hold word tells: whether a node is linked still
 abbrev pub MakesPart : Step (Unit {0}) → Seated → ℕ → Seated → Type 0
 MakesPart = Makes hold_index parts (CallerBecomes after_part)
 
+-- a table that met the rule loaded the hold word between these two views of a drained caller
 abbrev pub WasAPart : CallerView → CallerView → Type 0
 WasAPart = WasMade parts
 
+-- what a step tells that sets the bit of a hidden key: whether it was clear, so that this caller hides it
 abbrev pub MakesHide : Step (Unit {0}) → Seated → ℕ → Seated → Type 0
 MakesHide = Makes active_index hides (CallerBecomes after_hide)
 
+-- a table that met the rule set the bit of a hidden key between these two views of a caller
 abbrev pub WasAHide : CallerView → CallerView → Type 0
 WasAHide = WasMade hides
 
+-- what a hider's load of the active word tells: whether nobody uses the node
 abbrev pub MakesLookHidden : Step (Unit {0}) → Seated → ℕ → Seated → Type 0
 MakesLookHidden = Makes active_index looks_hidden (CallerBecomes after_look_hidden)
 
+-- a table that met the rule loaded the active word between these two views of a hider
 abbrev pub WasALookHidden : CallerView → CallerView → Type 0
 WasALookHidden = WasMade looks_hidden
 
+-- what a step tells that takes the bit of a hidden key off: also that it found the bit set
 abbrev pub MakesShow : Step (Unit {0}) → Seated → ℕ → Seated → Type 0
 MakesShow = Makes active_index shows ShowsKey
 
+-- a table that met the rule took the bit of a hidden key off between these two views of its hider
 abbrev pub WasAShow : CallerView → CallerView → Type 0
 WasAShow = WasMade shows
 
+-- what a step on the hold word tells that gives a caller's hold back
 abbrev pub MakesRelease : Step (Unit {0}) → Seated → ℕ → Seated → Type 0
 MakesRelease = Makes hold_index releases (CallerBecomes after_release)
 
+-- a table that met the rule took a hold back between these two views of the caller who gave it
 abbrev pub WasARelease : CallerView → CallerView → Type 0
 WasARelease = WasMade releases
 
@@ -385,6 +422,11 @@ OnlyLookedHidden = OnlyMade looks_hidden
 -- a try, and the step that takes it back
 abbrev pub WasATryUndone : CallerView → CallerView → Type 0
 WasATryUndone before after = (tried : CallerView) × WasATry before tried × WasAUndo tried after
+
+-- what a refused try owes, by the word that its second step found
+abbrev pub OwedForUndo : Handle → Handle → Owed → Type 0
+OwedForUndo before after due = (due.slot ≡ after.key.slot) × (tried : CallerView)
+    × WasATry (seat_view before) tried × WasUndone tried (seat_view after) due.found
 
 -- a try that a table which met the rule made where it had the key live
 pub record WasLetInLive (before after : CallerView) : Type 0 where

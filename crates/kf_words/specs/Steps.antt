@@ -17,9 +17,11 @@ use Rattle.kf_words.specs.declared.view.View.TheVariants as seat
 use Rattle.kf_words.specs.Layout.{slot_of, keeps_out, is_drained, has_hide, is_unused, has_linked, one_generation}
 use Rattle.kf_words.specs.Rule.{last_key, Shown}
 
+-- a seat at the table of words: its view, and the homes that it has taken, of which this table has none
 abbrev pub Seated : Type 0
 Seated = Me (Unit {0}) View
 
+-- the view that is read of a seat which is no caller's: nothing held, and no step made
 abbrev pub no_caller : CallerView
 no_caller = record {
   key = record { slot = 0; generation = 0 };
@@ -30,10 +32,12 @@ no_caller = record {
   undo_due = false;
 }
 
+-- the view of a caller's seat; the Master's seat has that of no caller
 abbrev pub caller_of : View → CallerView
 caller_of (seat.Caller c) = c
 caller_of (seat.Master m) = no_caller
 
+-- the view that is read of a seat which is not the Master's: no slots, holds or loads
 abbrev pub no_master : MasterView
 no_master = record {
   limit = 0;
@@ -46,6 +50,7 @@ no_master = record {
   looked = None;
 }
 
+-- the view of the Master's seat; a caller's seat has that of no Master
 abbrev pub master_of : View → MasterView
 master_of (seat.Master m) = m
 master_of (seat.Caller c) = no_master
@@ -61,6 +66,7 @@ after_step phase undo_due found c = record {
   undo_due = undo_due;
 }
 
+-- the caller's view with one try more in its count
 abbrev pub with_try : CallerView → CallerView
 with_try c = record c { tries = c.tries + 1 }
 
@@ -81,9 +87,12 @@ after_leave found c = after_step Still false found c
 abbrev pub after_break : ℕ → CallerView → CallerView
 after_break found c = after_step Broken false found c
 
+-- the caller's view after it took a reference again inside its call
 abbrev pub after_restore : ℕ → CallerView → CallerView
 after_restore found c = after_step Restored false found c
 
+-- the caller's view after a load of the active word: Drained where it found that drained, and else in its
+-- phase of before
 abbrev pub after_look : ℕ → CallerView → CallerView
 after_look found c =
     if is_drained found then after_step Drained false found c else after_step c.phase c.undo_due found c
@@ -106,13 +115,17 @@ after_show found c = after_step Still false found c
 abbrev pub after_release : ℕ → CallerView → CallerView
 after_release found c = after_step Spent false found c
 
+-- the caller's view after a load of the hold word: Parted where it found no node linked, and else in its
+-- phase of before
 abbrev pub after_part : ℕ → CallerView → CallerView
 after_part found c =
     if has_linked found then after_step c.phase c.undo_due found c else after_step Parted false found c
 
+-- what is read of a slot that is not there: no node, and the generation 0
 abbrev pub no_state : SlotState
 no_state = record { generation = 0; marks = None }
 
+-- what the Master knows of a slot: its last generation, and the marks of its linked node
 abbrev pub state_at : MasterView → ℕ → SlotState
 state_at m slot = slice_index_or m.slots slot no_state
 
@@ -120,9 +133,11 @@ state_at m slot = slice_index_or m.slots slot no_state
 abbrev pub on_active : MasterView → MasterView
 on_active m = record m { fresh = None; looked = None }
 
+-- the Master's view after a step on a hold word that is no load: what it loaded before counts no more
 abbrev pub on_hold : MasterView → MasterView
 on_hold m = record m { fresh = None; loads = []; looked = None }
 
+-- the slot with the marks of its linked node changed, and its generation as before
 abbrev pub remarked : (Marks → Marks) → SlotState → SlotState
 remarked change state = record { generation = state.generation; marks = option_map change state.marks }
 
@@ -131,9 +146,11 @@ abbrev pub with_marks : (Marks → Marks) → ℕ → MasterView → MasterView
 with_marks change slot m =
     record (on_active m) { slots = slice_set m.slots slot (remarked change (state_at m slot)) }
 
+-- the marks with the node activated, doomed or not as before
 abbrev pub activated_marks : Marks → Marks
 activated_marks m = record { activated = true; doomed = m.doomed }
 
+-- the marks with the node doomed, activated or not as before
 abbrev pub doomed_marks : Marks → Marks
 doomed_marks m = record { activated = m.activated; doomed = true }
 
@@ -145,6 +162,7 @@ with_load slot found m = record (on_active m) { loads = m.loads ++ record { slot
 abbrev pub with_pin : ℕ → MasterView → MasterView
 with_pin slot m = record (on_hold m) { pinning = Some slot }
 
+-- the Master's view after it took back a hold that no seat had yet
 abbrev pub without_pin : ℕ → MasterView → MasterView
 without_pin slot m = record (on_hold m) { pinning = None }
 
@@ -152,6 +170,7 @@ without_pin slot m = record (on_hold m) { pinning = None }
 abbrev pub after_split : MasterView → MasterView
 after_split m = record (on_active m) { pins = m.pins + 1; pinning = None }
 
+-- the view of a new hold of this key, which has made no step
 abbrev pub new_hold : Key → CallerView
 new_hold key = record { key = key; phase = Still; steps = 0; tries = 0; found = 0; undo_due = false }
 
@@ -164,6 +183,8 @@ hold_for m (Some slot) = new_hold (last_key slot (state_at m slot))
 abbrev pub after_store : ℕ → MasterView → MasterView
 after_store slot m = record (on_active m) { fresh = Some slot }
 
+-- the Master's view after a birth in this slot: a fresh node of the next generation, and the loads that
+-- the birth ends are kept apart
 abbrev pub with_birth : ℕ → MasterView → MasterView
 with_birth slot m = record (on_hold m) {
   slots = slice_set m.slots slot
@@ -175,6 +196,7 @@ with_birth slot m = record (on_hold m) {
 abbrev pub with_look : ℕ → ℕ → MasterView → MasterView
 with_look slot found m = record (on_active m) { looked = Some (record { slot = slot; word = found }) }
 
+-- the Master's view after it took the node out of this slot, whose last generation stays
 abbrev pub without_node : ℕ → MasterView → MasterView
 without_node slot m = record (on_hold m) {
   slots = slice_set m.slots slot
@@ -208,6 +230,7 @@ abbrev pub TellsSlot : MasterView → ℕ → ℕ → Type 0
 TellsSlot m slot found = (found / one_generation ≡ (state_at m slot).generation)
     × (has_linked found ≡ is_some (state_at m slot).marks)
 
+-- what the Master's load of a hold word tells: its view after it, and what the word says of the slot
 abbrev pub LoadsHold : Step (Unit {0}) → Seated → ℕ → Seated → Type 0
 LoadsHold st me found me' =
     MasterBecomes with_load st me found me' × TellsSlot (master_of me.0) (slot_of st.word) found

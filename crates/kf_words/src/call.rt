@@ -33,7 +33,7 @@ impl Call {
     pub fn key(&self) -> Key
         ensures { result ≡ self.now.key }
     {
-        self.seat.key
+        self.seat.key()
     }
 
     /// The node that was born with the key.
@@ -60,10 +60,9 @@ impl Call {
         ensures hold { WasLeft self result }
         ensures made { WasALeave (seat_view self) (seat_view result) }
     {
-        let Call { mut seat, phase: _ } = self;
-        let found = seat.drop_reference();
-        seat.wake_if_unused(found);
-        Hold { seat: seat.moved() }
+        let (hold, due) = self.leave_quiet();
+        due.spend(&hold.seat);
+        hold
     }
 
     /// Gives the reference up inside the callback (`kernfs_break_active_protection`), in one word step.
@@ -75,9 +74,8 @@ impl Call {
         ensures call { WasBroken self.old self.new }
         ensures made { WasABreak (seat_view self.old) (seat_view self.new) }
     {
-        let found = self.seat.break_off();
-        self.phase = Phase::Broken;
-        self.seat.wake_if_unused(found);
+        let due = self.break_quiet();
+        due.spend(&self.seat);
     }
 
     /// Takes a reference again, whatever became of the node (`kernfs_unbreak_active_protection`), in one word

@@ -51,7 +51,7 @@ impl Hiding {
         ensures value { result ≡ self.now.key }
         ensures phase { self.now.phase ≡ phase_of.Hiding }
     {
-        self.seat.key
+        self.seat.key()
     }
 
     /// Looks, in one word step, whether nobody uses the node: no reference, and no refused try not yet taken
@@ -67,7 +67,6 @@ impl Hiding {
     {
         let Hiding { mut seat } = self;
         if is_unused(seat.load_hidden()) {
-            seat.wake_one();
             Ok(Hidden { seat })
         } else {
             Err(Hiding { seat })
@@ -81,7 +80,7 @@ impl Hidden {
         ensures value { result ≡ self.now.key }
         ensures phase { self.now.phase ≡ phase_of.Hidden }
     {
-        self.seat.key
+        self.seat.key()
     }
 
     /// Shows the key again, in one word step: the bit of the hidden key goes, and all other bits stay as they
@@ -107,17 +106,12 @@ pub fn wait_hidden<R: Wait>(rt: &R, hiding: Hiding) -> Hidden
     ensures looked { OnlyLookedHidden (seat_view hiding) (seat_view result) }
 {
     let Hiding { mut seat } = hiding;
-    let mut slept = false;
     for _ in rt.forever() {
         let seen = seat.load_hidden();
         if is_unused(seen) {
             break;
         }
         seat.park(rt, seen);
-        slept = true;
-    }
-    if slept {
-        seat.wake_one();
     }
     Hidden { seat }
 }

@@ -5,12 +5,11 @@ ghost use Rattle.kf_words.specs.Callers.{IsSameSeat, Entered, WasTurned, SawDrai
 ghost use Rattle.kf_words.specs.Runs.{WasATry, WasATryUndone, WasALook, WasAHide, WasLetInLive};
 
 use crate::call::Call;
-use crate::caller_steps::release_seat;
 use crate::hiding::Hiding;
-use crate::layout::{has_hide, is_drained, keeps_out};
+use crate::layout::{has_hide, is_drained};
 use crate::receipt::Drained;
-use crate::seat::CallerSeat;
-use kf_core::{Key, Node, Phase};
+use crate::seat::{CallerSeat, release_seat};
+use kf_core::{Key, Node};
 use std::marker::Model;
 
 /// Holds the slot of a node, with no reference to it. While it is out the slot is not given again.
@@ -35,7 +34,7 @@ impl Hold {
         ensures value { result ≡ self.now.key }
         ensures waits { is_waiting self.now.phase ≡ true }
     {
-        self.seat.key
+        self.seat.key()
     }
 
     /// The node that was born with the key.
@@ -58,16 +57,13 @@ impl Hold {
             (λ hold. WasATryUndone (seat_view self) (seat_view hold)) }
         ensures live { IfOk result (λ call. WasLetInLive (seat_view self) (seat_view call)) }
     {
-        let Hold { mut seat } = self;
-        if !keeps_out(seat.try_reference()) {
-            return Ok(Call {
-                seat: seat.moved(),
-                phase: Phase::Running,
-            });
+        match self.enter_quiet() {
+            Ok(call) => Ok(call),
+            Err((hold, due)) => {
+                due.spend(&hold.seat);
+                Err(hold)
+            }
         }
-        let found = seat.undo();
-        seat.wake_if_unused(found);
-        Err(Hold { seat })
     }
 
     /// Looks, in one word step, whether the node is doomed and nobody uses it. Gives the hold back where it
@@ -83,7 +79,6 @@ impl Hold {
     {
         let Hold { mut seat } = self;
         if is_drained(seat.load()) {
-            seat.wake_one();
             Ok(Drained { seat })
         } else {
             Err(Hold { seat })

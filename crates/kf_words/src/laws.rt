@@ -1,6 +1,7 @@
 //! What the words tell at every moment, and which event each step is.
 ghost use Rattle.kf_words.specs.Laws.{AlwaysSafe, LetsInTheLive, DrainedIsUnused, FreeIsUnheld, TellsTheLinked, TellsTheHidden, HiddenIsRefused, ShownLetsIn};
 ghost use Rattle.kf_words.specs.Events.{TryIsEnter, UndoIsUndo, LookIsLook, PartIsPart, LeaveIsLeave, BreakIsBreak, RestoreIsRestore, ReleaseIsRelease, HideIsHide, LookHiddenIsLook, ShowIsShow, MissIsNothing, RiseIsRise, MarkIsMark, BirthIsBorn, UnlinkIsUnlink, SplitIsPin, HeldSplitIsPin, RestIsNothing};
+ghost use Rattle.kf_words.specs.Life.{WordLife};
 ghost use Rattle.kf_words.specs.Runs.{OpensWell, RuleKept, RunIsRun, RunIsSafe, MarkedKeepsOut, DrainedForGood, HiddenKeepsOut, PassedForGood, BornUnheld, LetInLive, TakenLive};
 
 /// What the words tell between any two steps of any number of seats, for as long as the table lives. It does
@@ -81,4 +82,10 @@ pub fn words_run()
     ensures born_unheld { BornUnheld }
     ensures let_in_live { LetInLive }
     ensures taken_live { TakenLive }
+{}
+
+/// A run of words in which every kind of step stands: a call, a hiding, a removal seen through, and the next
+/// node of the slot. So the laws here speak of runs that there are. It does nothing.
+pub fn words_life()
+    ensures lives { WordLife }
 {}

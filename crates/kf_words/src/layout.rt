@@ -1,6 +1,6 @@
 //! Where the words of a slot stand, the numbers of which active words and hold words are made, and the tests
 //! on a word that was found.
-ghost use Rattle.std.specs.Prelude.{◌≡◌, ◌+◌, ◌↔◌, IsTrue};
+ghost use Rattle.std.specs.Prelude.{◌≡◌, ◌+◌, ◌-◌, ◌↔◌, IsTrue};
 ghost use Rattle.kf_words.specs.Layout.{active_index, hold_index, keeps_out, has_bias, has_hide, is_drained, is_unused, wants_wake, has_linked, bit, bias, doom, IsFree, HasRoom};
 
 use kf_core::Marks;
@@ -85,6 +85,15 @@ pub(crate) fn wants_wake(word: u64) -> bool
     ensures { result ≡ wants_wake word }
 {
     is_drained(word) || has_hide(word) && is_unused(word)
+}
+
+/// Whether the step that found this active word, and took one user off it, left it so that a sleeper may wait
+/// for it. Nobody sleeps at the word of a live node whose key is shown: most callers are done after one test, with
+/// the same mask as in `enter`.
+pub(crate) fn ends_a_wait(found: u64) -> bool
+    ensures { result ≡ wants_wake (found - 1) }
+{
+    keeps_out(found) && wants_wake(found - 1)
 }
 
 /// Whether a node is linked in the slot of this hold word.

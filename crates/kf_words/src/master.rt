@@ -20,6 +20,8 @@ pub struct Master {
     pub(crate) slots: Vec<SlotState>,
     pub(crate) nodes: Vec<Node>,
     pub(crate) holds: u32,
+    /// By block of 64 slots, whether each of its slots, but for the root's, is known to have a node linked.
+    pub(crate) full: Vec<bool>,
 }
 
 impl Model for Master {
@@ -33,7 +35,8 @@ impl Model for Master {
       nodes = m.nodes.items;
     } };
 
-    ghost invariant = { λ m. IsMirrored (master_view m.steps) m.slots.items m.nodes.items m.holds };
+    ghost invariant = { λ m. IsMirrored (master_view m.steps) m.slots.items m.nodes.items m.holds
+        m.full.items };
 }
 
 impl Master {

@@ -6,6 +6,7 @@ ghost use Rattle.kf_core.specs.Marks.{fresh_marks, live_marks, are_doomed};
 ghost use Rattle.kf_words.specs.Steps.{with_birth, after_store, with_marks, activated_marks, doomed_marks};
 ghost use Rattle.kf_words.specs.Nodes.{KeepsNodes, MayBear, Searched, UnlinkAnswer, marks_of, slots_with};
 
+use crate::blocks::block_of;
 use crate::layout::is_drained;
 use crate::master::Master;
 use crate::receipt::Drained;
@@ -13,13 +14,15 @@ use kf_core::{Key, Marks, Node, SlotState};
 
 impl Master {
     /// The lowest slot from 1 up that is found free, with its next generation. None where no slot was found
-    /// free. It takes one word step for each slot that it looks at.
+    /// free. It takes one word step for each slot up to that one where no node is linked.
     pub fn free_key(&mut self) -> Option<Key>
         ensures kept { KeepsNodes self.old self.new }
         ensures searched { Searched self.old.view (option_map (λ key. key.slot) result) self.new.view }
         ensures may_bear { IfSome result (λ key. MayBear self.new.view key) }
     {
-        let slot = self.steps.find_free(self.slots.len() as u32)?;
+        let slot = self
+            .steps
+            .find_free(self.slots.as_slice(), self.full.as_mut_slice())?;
         Some(Key {
             slot,
             generation: self.slots[slot as usize].generation + 1,
@@ -115,6 +118,7 @@ impl Master {
             generation: key.generation,
             marks: None,
         };
+        self.full[block_of(key.slot)] = false;
         true
     }
 }

@@ -4,9 +4,8 @@ ghost use Rattle.kf_core.specs.declared.caller.Phase.TheVariants as phase_of;
 ghost use Rattle.kf_words.specs.Callers.{IsSameSeat, SawParted, SawLinked, FoundInHold, seat_view};
 ghost use Rattle.kf_words.specs.Runs.{WasAPart};
 
-use crate::caller_steps::release_seat;
 use crate::layout::has_linked;
-use crate::seat::CallerSeat;
+use crate::seat::{CallerSeat, release_seat};
 use kf_core::Key;
 use std::marker::Model;
 
@@ -50,7 +49,7 @@ impl Drained {
         ensures value { result ≡ self.now.key }
         ensures phase { self.now.phase ≡ phase_of.Drained }
     {
-        self.seat.key
+        self.seat.key()
     }
 
     /// Looks, in one word step, whether the node has left the tree. Err while it is linked.
@@ -85,7 +84,7 @@ impl Parted {
         ensures value { result ≡ self.now.key }
         ensures phase { self.now.phase ≡ phase_of.Parted }
     {
-        self.seat.key
+        self.seat.key()
     }
 
     /// Gives its hold of the slot back (`kernfs_put`), in one word step.

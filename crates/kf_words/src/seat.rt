@@ -1,19 +1,25 @@
-//! A caller's seat at the table of words.
+//! A caller's seat at the table of words. Its fields are private: the files of this module alone read them, and
+//! `new`, `moved` and `end` alone take it apart.
 ghost use Rattle.std.specs.Prelude.{◌≡◌, ◌*◌, ◌<◌, []};
 ghost use Rattle.std.specs.Arc.{arc_value};
 ghost use Rattle.kf_words.specs.Layout.{line_words};
 ghost use Rattle.kf_words.specs.Steps.{caller_of};
 ghost use Rattle.kf_words.specs.declared.view.View.TheVariants as seat_of;
 
+mod parts;
+mod sleep;
+mod steps;
+
 use crate::table::WordTable;
 use crate::view::View;
 use atomic_table::Seat;
 use kf_core::Key;
 use std::sync::Arc;
+pub use steps::release_seat;
 
 /// What a node is, but for a file's tag and a link's target.
 #[derive(Clone, Copy)]
-pub(crate) enum Kind {
+enum Kind {
     Dir,
     File { mode: u16 },
     Link,
@@ -25,13 +31,13 @@ pub(crate) enum Kind {
 /// The node lies in three fields, since a value of sixteen bytes would go through memory at each atomic step.
 pub struct CallerSeat {
     /// Of a file.
-    pub(crate) tag: u64,
-    pub(crate) table: Arc<WordTable>,
+    tag: u64,
+    table: Arc<WordTable>,
     /// Of a link.
-    pub(crate) target: Key,
-    pub(crate) key: Key,
-    pub(crate) kind: Kind,
-    pub(crate) token: Seat<(), View>,
+    target: Key,
+    key: Key,
+    kind: Kind,
+    token: Seat<(), View>,
     ghost of_table: { token.table_id ≡ (arc_value table).shared.table_id },
     ghost a_caller: { token.me ≡ (seat_of.Caller (caller_of token.me.0), []) },
     ghost same_key: { (caller_of token.me.0).key ≡ key },

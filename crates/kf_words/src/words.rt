@@ -6,6 +6,7 @@ ghost use Rattle.kf_core.specs.declared.refusal.Refusal.TheVariants as refusal_o
 ghost use Rattle.kf_words.specs.Layout.{opening_words};
 ghost use Rattle.kf_words.specs.Steps.{opened};
 
+use crate::blocks::block_of;
 use crate::layout::{BIAS, GENERATION, LINKED, active_index, hold_index};
 use crate::master::Master;
 use crate::master_seat::MasterSeat;
@@ -94,6 +95,7 @@ impl Words {
         let words = first_words(alloc, count, start)?;
         let slots = first_slots(alloc, count, start)?;
         let nodes = vec![in alloc; Node::Dir; count as usize]?;
+        let full = vec![in alloc; false; block_of(count - 1) + 1]?;
         let opening = Opening {
             holds,
             slots: count,
@@ -110,6 +112,7 @@ impl Words {
             slots,
             nodes,
             holds,
+            full,
         };
         Ok((Words { table }, master))
     }

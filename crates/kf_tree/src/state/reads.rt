@@ -4,7 +4,7 @@ ghost use Rattle.std.specs.Prelude.{◌≡◌, ◌↔◌, IfOk, IfErr, IsTrue, s
 ghost use Rattle.std.specs.Option.{option_copied, option_map, ok_or};
 ghost use Rattle.kf_core.specs.Tree.{record_at, is_linked, in_subtree};
 ghost use Rattle.kf_core.specs.PostOrder.{IsPostOrder};
-ghost use Rattle.kf_tree.specs.Causes.{Refuses, create_cause, linked_cause, doom_cause, unlink_cause, list_cause, text_cause};
+ghost use Rattle.kf_tree.specs.Causes.{Refuses, create_fault, create_cause, linked_cause, doom_cause, unlink_cause, list_cause, text_cause};
 ghost use Rattle.kf_tree.specs.Ends.{EndsWith};
 ghost use Rattle.kf_tree.specs.Links.{HasLinkText};
 ghost use Rattle.kf_tree.specs.Listing.{IsListing};
@@ -14,12 +14,14 @@ ghost use Rattle.kf_tree.specs.Subtrees.{key_in};
 ghost use Rattle.kf_tree.specs.TreeLogs.{IsKept};
 
 use super::State;
-use crate::causes::{check_create, check_doom, check_linked, check_list, check_text, check_unlink};
+use crate::causes::{
+    check_create, check_doom, check_linked, check_list, check_text, check_unlink, create_fault,
+};
+use crate::find::find_in;
 use crate::links::link_text;
 use crate::listing::{Names, copy_names};
 use crate::paths::{walk, walk_parent};
-use crate::post::post_order;
-use crate::shown::find_in;
+use crate::post_order::post_order;
 use crate::stat::{Stat, stat_of};
 use kf_core::{Command, Key, Node, Refusal};
 use kf_index::Name;
@@ -91,6 +93,15 @@ impl State {
     {
         check_create(&self.table, self.root, parent, name, &node, next)?;
         Ok(())
+    }
+
+    /// Why [`State::create`] would refuse this new record now whichever key is next, or None: the first of its
+    /// refusals but `NoSpace` and `NoMemory`. So a caller asks it before it searches for a key, and then makes
+    /// the record by [`State::create_at`]. It takes no memory.
+    pub fn create_fault(&self, parent: Key, name: &[u8], node: Node) -> Option<Refusal>
+        ensures first { result ≡ create_fault self.now.tree self.now.root parent name.now node }
+    {
+        create_fault(&self.table, self.root, parent, name, &node)
     }
 
     /// Why [`State::doom`] would refuse this key now, want of memory aside: `NoEntry` (not linked), then

@@ -1,5 +1,5 @@
 use Rattle.std.specs.Prelude.{count_by}
-use Rattle.kf_tree.specs.Walks.{AreLater}
+use Rattle.kf_tree.specs.Orders.{AreLater}
 use Rattle.kf_tree.proofs.PreOrder.{IsAheadOf}
 use Rattle.kf_tree.proofs.Tours.{is_left}
 use Rattle.kf_tree.proofs.canonical.pre_order.Given as goal

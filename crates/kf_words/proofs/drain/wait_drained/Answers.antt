@@ -1,6 +1,8 @@
-use Rattle.std.proofs.Common.{rules}
+use Rattle.std.proofs.Common.{rules, ap}
+use Rattle.kf_words.specs.Callers.{seat_view, view_of}
 use Rattle.kf_words.specs.Runs.{looks}
-use Rattle.kf_words.proofs.Waits.{one_more}
+use Rattle.kf_words.proofs.Waits.{one_more, since}
+use Rattle.kf_words.proofs.drain.wait_drained.Goals.{in-None, in-Some+then-is_drained}
 use Rattle.kf_words.proofs.drain.wait_drained.Goals as goal
 
 pub loop-preserved : goal.loop-preserved
@@ -10,3 +12,11 @@ loop-preserved g c = record {
   untried = search rules;
   looked = one_more looks _ _ _ c.loop.invariant.looked c.load-seen.ensures.made;
 }
+
+pub returns-clause-looked : goal.returns-clause-looked
+returns-clause-looked g c = elim c.match-next.branch [
+  | in-None w ↦ search rules
+  | in-Some+then-is_drained w ↦
+      since looks _ _ _ _ _ (ap seat_view c.hold.view_is) (ap view_of w.seat-is)
+      c.loop.invariant.looked w.load-seen.ensures.made
+]

@@ -1,6 +1,8 @@
-use Rattle.std.proofs.Common.{rules}
+use Rattle.std.proofs.Common.{rules, ap}
+use Rattle.kf_words.specs.Callers.{seat_view, view_of}
 use Rattle.kf_words.specs.Runs.{looks_hidden}
-use Rattle.kf_words.proofs.Waits.{one_more}
+use Rattle.kf_words.proofs.Waits.{one_more, since}
+use Rattle.kf_words.proofs.hiding.wait_hidden.Goals.{in-None, in-Some+then-is_unused}
 use Rattle.kf_words.proofs.hiding.wait_hidden.Goals as goal
 
 pub loop-preserved : goal.loop-preserved
@@ -9,3 +11,11 @@ loop-preserved g c = record {
   hiding = search rules;
   looked = one_more looks_hidden _ _ _ c.loop.invariant.looked c.load_hidden-seen.ensures.made;
 }
+
+pub returns-clause-looked : goal.returns-clause-looked
+returns-clause-looked g c = elim c.match-next.branch [
+  | in-None w ↦ search rules
+  | in-Some+then-is_unused w ↦
+      since looks_hidden _ _ _ _ _ (ap seat_view c.hiding.view_is) (ap view_of w.seat-is)
+      c.loop.invariant.looked w.load_hidden-seen.ensures.made
+]

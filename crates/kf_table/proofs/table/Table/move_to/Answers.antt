@@ -1,12 +1,12 @@
 use Rattle.std.proofs.Common.{◌<◌, arith, length}
 use Rattle.kf_core.proofs.FoundRecords.{linked_here}
 use Rattle.kf_table.proofs.KeptRecords.{linked_low}
-use Rattle.kf_table.proofs.KeptMoves.{MayMoveTo, has_room, may_move_out, kept_by_move}
+use Rattle.kf_table.proofs.KeptMoves.{IsLawfulMove, has_room, may_move_out, kept_by_move}
 use Rattle.kf_table.proofs.table.Table.move_to.Goals as goal
 
-pub enter-requires : goal.enter-requires
-enter-requires c =
-    let m : MayMoveTo c.self.inside.records c.args.key c.args.dir c.args.name = rw c.self.view_is (record {
+pub insert_child-requires : goal.insert_child-requires
+insert_child-requires c =
+    let m : IsLawfulMove c.self.inside.records c.args.key c.args.dir c.args.name = rw c.self.view_is (record {
       linked = c.requires.linked;
       lawful = c.requires.lawful;
       lawful_after = c.requires.lawful_after;
@@ -21,26 +21,26 @@ at-requires c =
     let low : c.args.key.slot < length c.self.inside.records = linked_low _ c.args.key linked in
     omega (arith, low)
 
-pub leave-requires : goal.leave-requires
-leave-requires c =
-    let m : MayMoveTo c.self.inside.records c.args.key c.args.dir c.args.name = rw c.self.view_is (record {
+pub remove_record-requires : goal.remove_record-requires
+remove_record-requires c =
+    let m : IsLawfulMove c.self.inside.records c.args.key c.args.dir c.args.name = rw c.self.view_is (record {
       linked = c.requires.linked;
       lawful = c.requires.lawful;
       lawful_after = c.requires.lawful_after;
       elsewhere = c.requires.elsewhere;
     }) in
     let tells = rw (c.record.ensures.known, ← c.self.view_is) at c.is_directory_record-is_subdir.ensures.known in
-    let entered = rw c.bytes.ensures.same at c.in_ok-enter.ensures.entered in
+    let entered = rw c.bytes.ensures.same at c.in_ok-insert_child.ensures.inserted in
     record { counted = may_move_out _ _ c.self.invariant c.args.key c.args.dir c.args.name m _ _ _ _ tells entered c.at.ensures.read c.as_ref.ensures.value }
 
 pub invariant_of-self-2 : goal.invariant_of-self-2
 invariant_of-self-2 c =
-    let m : MayMoveTo c.self.inside.records c.args.key c.args.dir c.args.name = rw c.self.view_is (record {
+    let m : IsLawfulMove c.self.inside.records c.args.key c.args.dir c.args.name = rw c.self.view_is (record {
       linked = c.requires.linked;
       lawful = c.requires.lawful;
       lawful_after = c.requires.lawful_after;
       elsewhere = c.requires.elsewhere;
     }) in
     let tells = rw (c.record.ensures.known, ← c.self.view_is) at c.is_directory_record-is_subdir.ensures.known in
-    let entered = rw c.bytes.ensures.same at c.in_ok-enter.ensures.entered in
-    rw (c.move_to.ensures.changed, c.leave.ensures.left) (kept_by_move _ _ c.self.invariant c.args.key c.args.dir c.args.name m _ _ _ _ tells entered c.at.ensures.read c.as_ref.ensures.value)
+    let entered = rw c.bytes.ensures.same at c.in_ok-insert_child.ensures.inserted in
+    rw (c.move_to.ensures.changed, c.remove_record.ensures.removed) (kept_by_move _ _ c.self.invariant c.args.key c.args.dir c.args.name m _ _ _ _ tells entered c.at.ensures.read c.as_ref.ensures.value)

@@ -2,8 +2,8 @@ use Rattle.std.proofs.Common.{◌<◌, arith, length}
 use Rattle.kf_table.proofs.KeptRecords.{may_take, kept_taken, linked_low}
 use Rattle.kf_table.proofs.table.Table.take_out.Goals as goal
 
-pub leave-requires : goal.leave-requires
-leave-requires c =
+pub remove_record-requires : goal.remove_record-requires
+remove_record-requires c =
     let linked = rw (← c.self.view_is) at c.requires.linked in
     record { counted = may_take _ _ c.self.invariant c.args.key _ _ linked c.at.ensures.read c.as_ref-gone.ensures.value }
 
@@ -16,4 +16,4 @@ put-requires c =
 pub invariant_of-self : goal.invariant_of-self
 invariant_of-self c =
     let linked = rw (← c.self.view_is) at c.requires.linked in
-    rw (c.put.ensures.put, c.leave.ensures.left) (kept_taken _ _ c.self.invariant c.args.key _ _ linked c.at.ensures.read c.as_ref-gone.ensures.value)
+    rw (c.put.ensures.put, c.remove_record.ensures.removed) (kept_taken _ _ c.self.invariant c.args.key _ _ linked c.at.ensures.read c.as_ref-gone.ensures.value)

@@ -12,7 +12,7 @@ both : (c : goal.After-store) → Follows (record { root = c.self.inside.root; t
 both c = activated_follows (record { root = c.self.inside.root; tree = c.self.inside.table; commands = c.self.inside.commands.items; ready = c.self.inside.ready }) _ _ c.self.invariant _ c.args.key c.args.order.now c.activate_each.new.table c.make_room.new.commands.items c.store.new.commands.items
     c.in_ok-check_linked.ensures.checked (rw (← c.self.view_is) at c.requires.in_order)
     c.activate_each.ensures.changed
-    c.in_ok-make_room.ensures.items c.store.ensures.items (omega (arith, c.in_ok-make_room.ensures.room, c.store.ensures.kept))
+    c.in_ok-make_room.ensures.items c.store.ensures.items (omega (arith, c.in_ok-make_room.ensures.room, c.store.ensures.in_place))
 
 pub invariant_of-self-2 : goal.invariant_of-self-2
 invariant_of-self-2 c = (both c).0

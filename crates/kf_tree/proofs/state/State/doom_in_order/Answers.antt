@@ -14,7 +14,7 @@ both c = doomed_follows (record { root = c.self.inside.root; tree = c.self.insid
     c.doom_each.ensures.counted
     (newly_few (record { root = c.self.inside.root; tree = c.self.inside.table; commands = c.self.inside.commands.items; ready = c.self.inside.ready }) _ _ c.self.invariant c.doom_each.result c.count_undoomed-newly.result c.args.order.now c.args.order.now c.doom_each.new.table
     c.doom_each.ensures.changed c.doom_each.ensures.counted refl c.count_undoomed-newly.ensures.value)
-    c.in_ok-make_room.ensures.items c.store.ensures.items (omega (arith, c.in_ok-make_room.ensures.room, c.store.ensures.kept))
+    c.in_ok-make_room.ensures.items c.store.ensures.items (omega (arith, c.in_ok-make_room.ensures.room, c.store.ensures.in_place))
 
 pub invariant_of-self-2 : goal.invariant_of-self-2
 invariant_of-self-2 c = (both c).0

@@ -18,7 +18,7 @@ store-requires c = record {
 both : (c : goal.After-store) → Follows (record { root = c.self.inside.root; tree = c.self.inside.table; commands = c.self.inside.commands.items; ready = c.self.inside.ready }) (Hide c.args.key) (hide_cause c.self.inside.table c.args.key) (vec_capacity c.store.new.commands) (c.self.inside.owed + 1)
     (record { root = c.self.inside.root; tree = c.hide.new.self; commands = c.store.new.commands.items; ready = None })
 both c = hidden_follows (record { root = c.self.inside.root; tree = c.self.inside.table; commands = c.self.inside.commands.items; ready = c.self.inside.ready }) _ _ c.self.invariant _ c.args.key c.hide.new.self c.store.new.commands.items
-    (rw (← c.self.view_is) at c.requires.ready) c.hide.ensures.changed c.store.ensures.items c.store.ensures.kept
+    (rw (← c.self.view_is) at c.requires.ready) c.hide.ensures.changed c.store.ensures.items (omega (arith, c.store.ensures.in_place))
 
 pub invariant_of-self : goal.invariant_of-self
 invariant_of-self c = (both c).0

@@ -25,7 +25,7 @@ both : (c : goal.After-store) → Follows (record { root = c.self.inside.root; t
     (record { root = c.self.inside.root; tree = c.move_to.new.self; commands = c.store.new.commands.items; ready = None })
 both c = renamed_follows (record { root = c.self.inside.root; tree = c.self.inside.table; commands = c.self.inside.commands.items; ready = c.self.inside.ready }) _ _ c.self.invariant _ c.args.key c.args.dir c.args.name.now c.in_ok-own_name.own_name c.in_ok-stored_name.stored_name c.move_to.new.self c.make_room.new.commands.items c.store.new.commands.items
     c.in_ok-moves.ensures.checked.0 (flip _ c.in_ok-moves.moves c.in_ok-moves.ensures.checked.1 c.if-moves.true) c.in_ok-own_name.ensures.made c.in_ok-stored_name.ensures.made
-    c.in_ok-move_to.ensures.moved c.in_ok-make_room.ensures.items c.store.ensures.items (omega (arith, c.in_ok-make_room.ensures.room, c.store.ensures.kept))
+    c.in_ok-move_to.ensures.moved c.in_ok-make_room.ensures.items c.store.ensures.items (omega (arith, c.in_ok-make_room.ensures.room, c.store.ensures.in_place))
 
 pub invariant_of-self-then-moves : goal.invariant_of-self-then-moves
 invariant_of-self-then-moves c = (both c).0

@@ -15,18 +15,18 @@ store-requires c = record {
 }
 
 both : (c : goal.After-store) → Follows (record { root = c.self.inside.root; tree = c.self.inside.table; commands = c.self.inside.commands.items; ready = c.self.inside.ready }) (Show c.args.key) None (vec_capacity c.store.new.commands) (c.self.inside.owed - 1)
-    (record { root = c.self.inside.root; tree = c.hide.new.self; commands = c.store.new.commands.items; ready = None })
+    (record { root = c.self.inside.root; tree = c.show.new.self; commands = c.store.new.commands.items; ready = None })
 both c = (let hidden : hidden_in c.self.inside.table c.args.key ≡ true = sym c.is_hidden-hidden.ensures.known ∙ c.if-hidden.true in
     let some = room_to_show (record { root = c.self.inside.root; tree = c.self.inside.table; commands = c.self.inside.commands.items; ready = c.self.inside.ready }) _ _ c.self.invariant c.args.key hidden in
-    shown_follows (record { root = c.self.inside.root; tree = c.self.inside.table; commands = c.self.inside.commands.items; ready = c.self.inside.ready }) _ _ c.self.invariant _ (c.self.inside.owed - 1) c.args.key c.hide.new.self c.store.new.commands.items
-    hidden c.hide.ensures.changed (omega (arith, some.1)) c.store.ensures.items c.store.ensures.kept)
+    shown_follows (record { root = c.self.inside.root; tree = c.self.inside.table; commands = c.self.inside.commands.items; ready = c.self.inside.ready }) _ _ c.self.invariant _ (c.self.inside.owed - 1) c.args.key c.show.new.self c.store.new.commands.items
+    hidden c.show.ensures.changed (omega (arith, some.1)) c.store.ensures.items (omega (arith, c.store.ensures.in_place)))
 
 pub invariant_of-self : goal.invariant_of-self
 invariant_of-self c = (both c).0
 
 pub returns-then-hidden-clause-accepted : goal.returns-then-hidden-clause-accepted
 returns-then-hidden-clause-accepted c = subst (λ b. MatchBool b
-    (IsAccepted c.args.self.now (record { root = c.self.inside.root; tree = c.hide.new.self; commands = c.store.new.commands.items; ready = None }) None (Show c.args.key))
-    (record { root = c.self.inside.root; tree = c.hide.new.self; commands = c.store.new.commands.items; ready = None } ≡ c.args.self.now)) (sym c.if-hidden.true)
-    (subst (λ (old : TreeLog). IsAccepted old (record { root = c.self.inside.root; tree = c.hide.new.self; commands = c.store.new.commands.items; ready = None }) None (Show c.args.key))
+    (IsAccepted c.args.self.now (record { root = c.self.inside.root; tree = c.show.new.self; commands = c.store.new.commands.items; ready = None }) None (Show c.args.key))
+    (record { root = c.self.inside.root; tree = c.show.new.self; commands = c.store.new.commands.items; ready = None } ≡ c.args.self.now)) (sym c.if-hidden.true)
+    (subst (λ (old : TreeLog). IsAccepted old (record { root = c.self.inside.root; tree = c.show.new.self; commands = c.store.new.commands.items; ready = None }) None (Show c.args.key))
     c.self.view_is (both c).1)

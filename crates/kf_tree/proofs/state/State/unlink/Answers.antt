@@ -23,7 +23,7 @@ both : (c : goal.After-store) → Follows (record { root = c.self.inside.root; t
 both c = (let some = room_to_unlink (record { root = c.self.inside.root; tree = c.self.inside.table; commands = c.self.inside.commands.items; ready = c.self.inside.ready }) _ _ c.self.invariant c.args.key
     (may_unlink c.self.inside.table c.self.inside.root c.args.key (c.in_ok-linked.ensures.checked.0 ∙ c.if-linked.true) (c.in_ok-linked.ensures.checked.1 c.if-linked.true)) in
     unlinked_follows (record { root = c.self.inside.root; tree = c.self.inside.table; commands = c.self.inside.commands.items; ready = c.self.inside.ready }) _ _ c.self.invariant _ (c.self.inside.owed - c.owed_for.result) c.args.key c.take_out.new.self c.store.new.commands.items
-    (c.in_ok-linked.ensures.checked.0 ∙ c.if-linked.true) (c.in_ok-linked.ensures.checked.1 c.if-linked.true) c.take_out.ensures.taken (omega (arith, some.1, c.owed_for.ensures.value)) c.store.ensures.items c.store.ensures.kept)
+    (c.in_ok-linked.ensures.checked.0 ∙ c.if-linked.true) (c.in_ok-linked.ensures.checked.1 c.if-linked.true) c.take_out.ensures.taken (omega (arith, some.1, c.owed_for.ensures.value)) c.store.ensures.items (omega (arith, c.store.ensures.in_place)))
 
 pub invariant_of-self : goal.invariant_of-self
 invariant_of-self c = (both c).0

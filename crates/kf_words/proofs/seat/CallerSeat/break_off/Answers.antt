@@ -4,8 +4,8 @@ use Rattle.kf_words.specs.Steps.{caller_of}
 use Rattle.kf_words.proofs.Made.{break_made}
 use Rattle.kf_words.proofs.seat.CallerSeat.break_off.Goals as goal
 
-pub fetch_sub-requires : goal.fetch_sub-requires
-fetch_sub-requires c =
+pub fetch_sub-found-requires : goal.fetch_sub-found-requires
+fetch_sub-found-requires c =
     let seat = c.args.self.now in
     let words : c.deref.result.now.shared.table_id.words ≡ (arc_value seat.table).shared.table_id.words = ap (λ t. t.shared.table_id.words) c.deref.ensures in
     let slot : (caller_of seat.token.me.0).key.slot ≡ seat.key.slot = ap (λ k. k.slot) seat.same_key in

@@ -1,0 +1,115 @@
+//! A seat made, moved and ended, part by part, and its key and node.
+ghost use Rattle.std.specs.Prelude.{◌≡◌, ◌*◌, ◌<◌, []};
+ghost use Rattle.std.specs.Arc.{arc_value};
+ghost use Rattle.kf_core.specs.declared.caller.Phase.TheVariants as phase_of;
+ghost use Rattle.kf_words.specs.Callers.{node_of, handle_of, view_of};
+ghost use Rattle.kf_words.specs.Layout.{line_words};
+ghost use Rattle.kf_words.specs.Steps.{caller_of};
+ghost use Rattle.kf_words.specs.declared.view.View.TheVariants as seat_of;
+
+use crate::seat::{CallerSeat, Kind};
+use crate::table::WordTable;
+use crate::view::View;
+use atomic_table::Seat;
+use kf_core::{Key, Node};
+use std::sync::Arc;
+
+impl CallerSeat {
+    /// The first seat of a new hold.
+    pub(crate) fn new(
+        table: Arc<WordTable>,
+        key: Key,
+        node: Node,
+        token: Seat<(), View>,
+    ) -> CallerSeat
+        requires table { token.table_id ≡ (arc_value table).shared.table_id }
+        requires caller { token.me ≡ (seat_of.Caller (caller_of token.me.0), []) }
+        requires key { (caller_of token.me.0).key ≡ key }
+        requires words { (arc_value table).shared.table_id.words
+            ≡ (arc_value table).shared.key.slots * line_words }
+        requires slot { key.slot < (arc_value table).shared.key.slots }
+        ensures token { result.token ≡ token }
+        ensures node { (handle_of result).node ≡ node }
+    {
+        let (kind, tag, target) = parts_of(node, key);
+        CallerSeat {
+            table,
+            key,
+            kind,
+            tag,
+            target,
+            token,
+        }
+    }
+
+    /// The key whose slot it holds.
+    pub(crate) fn key(&self) -> Key
+        ensures { result ≡ self.now.key }
+    {
+        self.key
+    }
+
+    /// The node that was born with the key.
+    pub(crate) fn node(&self) -> Node
+        ensures { result ≡ node_of self.now.kind self.now.tag self.now.target }
+    {
+        match self.kind {
+            Kind::Dir => Node::Dir,
+            Kind::File { mode } => Node::File {
+                mode,
+                tag: self.tag,
+            },
+            Kind::Link => Node::Link {
+                target: self.target,
+            },
+        }
+    }
+
+    /// The same seat, moved field by field: so it stays in registers from one atomic step to the next.
+    pub(crate) fn moved(self) -> CallerSeat
+        ensures same { result ≡ self }
+    {
+        let CallerSeat {
+            tag,
+            table,
+            target,
+            key,
+            kind,
+            token,
+        } = self;
+        CallerSeat {
+            tag,
+            table,
+            target,
+            key,
+            kind,
+            token,
+        }
+    }
+
+    /// The one way in which a seat ends, and only where its hold was given back: the view says Spent after the
+    /// step of `release_seat` alone.
+    pub(crate) fn end(self)
+        requires { (view_of self).phase ≡ phase_of.Spent }
+    {
+        let CallerSeat {
+            table: _,
+            key: _,
+            kind: _,
+            tag: _,
+            target: _,
+            token: _,
+        } = self;
+    }
+}
+
+/// The kind, tag and target of a node. What a node has not is told by the key.
+fn parts_of(node: Node, key: Key) -> (Kind, u64, Key)
+    ensures { node_of result.0 result.1 result.2 ≡ node }
+{
+    match node {
+        Node::Dir => (Kind::Dir, 0, key),
+        Node::File { mode, tag } => (Kind::File { mode }, tag, key),
+        Node::Link { target } => (Kind::Link, 0, target),
+    }
+}

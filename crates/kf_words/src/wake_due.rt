@@ -1,0 +1,74 @@
+//! The wake that a step owes to those who sleep at its slot.
+ghost use Rattle.std.specs.Prelude.{◌≡◌, ◌-◌, false};
+ghost use Rattle.kf_words.specs.Layout.{wants_wake};
+
+use crate::layout::ends_a_wait;
+use crate::seat::CallerSeat;
+use std::marker::Model;
+
+/// What a step that took one user off an active word owes to those who sleep there: a wake, where the word that
+/// it found tells that one of them may wait for what is left. It must be spent: a step that forgets it does
+/// not compile.
+pub struct WakeDue {
+    slot: u32,
+    found: u64,
+}
+
+impl Model for WakeDue {
+    ghost use Rattle.kf_words.specs.Callers.{Owed};
+
+    ghost Value = { Owed };
+
+    ghost view = { λ d. record { slot = d.slot; found = d.found } };
+}
+
+impl WakeDue {
+    /// What the step owes that found this word, and took one user off it.
+    pub(crate) fn new(slot: u32, found: u64) -> WakeDue
+        ensures slot { result.slot ≡ slot }
+        ensures found { result.found ≡ found }
+    {
+        WakeDue { slot, found }
+    }
+
+    /// Whether a sleeper may wait for the word as the step left it.
+    pub fn is_wanted(&self) -> bool
+        ensures { result ≡ wants_wake (self.now.found - 1) }
+    {
+        ends_a_wait(self.found)
+    }
+
+    /// Ends where nobody waits for the word as the step left it.
+    pub fn none(self)
+        requires { wants_wake (self.found - 1) ≡ false }
+    {
+        let WakeDue { slot: _, found: _ } = self;
+    }
+
+    /// Ends by telling whether a wake is wanted, to a caller who has sleepers of its own or none.
+    pub fn told(self) -> bool
+        ensures { result ≡ wants_wake (self.found - 1) }
+    {
+        let WakeDue { slot: _, found } = self;
+        ends_a_wait(found)
+    }
+
+    /// Wakes all who sleep at the slot, which is the seat's.
+    fn wake(self, seat: &CallerSeat)
+        requires { self.slot ≡ seat.now.key.slot }
+    {
+        let WakeDue { slot: _, found: _ } = self;
+        seat.wake_all();
+    }
+
+    /// Wakes all who sleep at the slot, where a wake is wanted.
+    pub(crate) fn spend(self, seat: &CallerSeat)
+        requires { self.slot ≡ seat.now.key.slot }
+    {
+        if self.is_wanted() {
+            self.wake(seat);
+        } else {
+            self.none();
+        }
+    }
+}
