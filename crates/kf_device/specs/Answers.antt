@@ -16,6 +16,7 @@ ShowsFile Value serial answer = IfErr answer (λ fault. fault ≡ unknown)
 ShowsFile Serial serial answer = (answer ≡ Ok (decimal serial)) ⊎ (answer ≡ Err unknown)
 ShowsFile Delete serial answer = answer ≡ Err unknown
 
+-- what a show may give, by what the tag means: a tag without a meaning is unknown
 abbrev pub ShowsMeant : Option DeviceTag → Result (List ℕ) Fault → Type 0
 ShowsMeant None answer = answer ≡ Err unknown
 ShowsMeant (Some tag) answer = ShowsFile tag.file tag.serial answer
@@ -36,11 +37,13 @@ ValueFault fault = (fault ≡ unknown) ⊎ (fault ≡ fault_of NoMemory)
 abbrev pub DeleteFault : Fault → Type 0
 DeleteFault fault = (refusal : Refusal) × (fault ≡ fault_of refusal)
 
+-- what a store may answer, by the device's file
 abbrev pub StoresFile : DeviceFile → List ℕ → Result ℕ Fault → Type 0
 StoresFile Value bytes answer = TakesAll ValueFault bytes answer
 StoresFile Serial bytes answer = answer ≡ Err unknown
 StoresFile Delete bytes answer = TakesAll DeleteFault bytes answer
 
+-- what a store may answer, by what the tag means
 abbrev pub StoresMeant : Option DeviceTag → List ℕ → Result ℕ Fault → Type 0
 StoresMeant None bytes answer = answer ≡ Err unknown
 StoresMeant (Some tag) bytes answer = StoresFile tag.file bytes answer

@@ -37,9 +37,11 @@ abbrev pub Cleared : TableId → List ℕ → List ℕ → Bool → Type 0
 Cleared table path name was_there =
     MatchBool was_there (WasRemoved table path name) (WasMissing table path name)
 
+-- the directory of all devices
 abbrev pub devices_path : List ℕ
 devices_path = codes "/devices"
 
+-- the directory of the links to all devices
 abbrev pub links_path : List ℕ
 links_path = codes "/bus/devices"
 

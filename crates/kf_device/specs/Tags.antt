@@ -15,6 +15,7 @@ file_at place =
     if place == 0 then Some Value
     else (if place == 1 then Some Serial else (if place == 2 then Some Delete else None))
 
+-- the file of the plug of this number, where there is such a file
 abbrev pub with_serial : ℕ → Option DeviceFile → Option DeviceTag
 with_serial serial file = option_map (λ f. record { serial = serial; file = f }) file
 
@@ -24,6 +25,7 @@ meaning tag =
     if nat_lt tag first_tag then None
     else with_serial ((tag - first_tag) / 4) (file_at ((tag - first_tag) % 4))
 
+-- the device's file whose store unplugs the device
 abbrev pub is_delete_file : DeviceFile → Bool
 is_delete_file Value = false
 is_delete_file Serial = false

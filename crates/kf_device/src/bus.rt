@@ -100,6 +100,14 @@ impl Bus {
         settled
     }
 
+    /// How many devices the bus keeps texts of: those that are plugged, and those that went past it since it
+    /// last looked.
+    ///
+    /// It may never return: it waits for the lock of the bus.
+    pub fn kept<R: Wait>(&self, rt: &R) -> usize {
+        self.devices.lock(rt).len()
+    }
+
     /// Unplugs a device (`device_del`): removes the link `/bus/devices/NAME`, then the directory
     /// `/devices/NAME`, each where it is there. Each is looked for by its whole name, so a name that is not
     /// lawful finds nothing.

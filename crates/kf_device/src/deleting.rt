@@ -1,5 +1,7 @@
 //! What a store of `delete` does.
-ghost use Rattle.std.specs.Prelude.{◌≡◌, true, IfErr, OnOk};
+ghost use Rattle.std.specs.Prelude.{◌≡◌, true, Bool, List, IfErr, OnOk};
+ghost use Rattle.kf_core.specs.declared.key.Key.{Key};
+ghost use Rattle.kf_shared.specs.Receipts.{WasSelfDoomed};
 ghost use Rattle.kf_core.specs.Phases.{has_reference};
 ghost use Rattle.kf_core.specs.declared.caller.Phase.TheVariants.{Running, Restored};
 ghost use Rattle.kf_words.specs.Callers.{IsSameSeat};
@@ -41,6 +43,7 @@ impl Bus {
         serial: u64,
     ) -> Result<(), Refusal>
         requires restored { call.now.phase ≡ Restored }
+        requires first { (keys : List Key) × WasSelfDoomed N.table call.now.key true keys }
     {
         let _ = call;
         match self.unplug(rt, tree, name.bytes()) {
@@ -69,6 +72,7 @@ impl Bus {
         ensures seat { IsSameSeat call.old call.new }
         ensures restored { OnOk result (call.new.phase ≡ Restored) }
         ensures reference { has_reference call.new.phase ≡ true }
+        ensures removed { OnOk result ((first : Bool) × (keys : List Key) × WasSelfDoomed N.table call.old.key first keys) }
         ensures refused { IfErr result (λ fault. DeleteFault fault) }
     {
         let name = self.name_of(rt, serial)?;

@@ -1,5 +1,5 @@
 //! The texts that a bus keeps of its devices, by the number of each plug.
-ghost use Rattle.std.specs.Prelude.{◌≡◌, ◌≤◌, ◌+◌, ◌^◌, ◌&&◌, nat_le, true, IfOk, IfErr, IfSome, IfNone, OnOk, OnErr, Some, None};
+ghost use Rattle.std.specs.Prelude.{◌≡◌, ◌≢◌, ◌≤◌, ℕ, ◌+◌, ◌^◌, ◌&&◌, nat_le, true, IfOk, IfErr, IfSome, IfNone, OnOk, OnErr, Some, None};
 ghost use Rattle.kf_core.specs.declared.refusal.Refusal.TheVariants.{NoMemory, NoSpace};
 
 use kf_core::{Key, Refusal};
@@ -127,6 +127,7 @@ impl Devices {
     /// Forgets a device.
     pub(crate) fn forget(&mut self, serial: u64)
         ensures gone { get nat_cmp self.new.devices serial ≡ None }
+        ensures others { (n : ℕ) → n ≢ serial → get nat_cmp self.new.devices n ≡ get nat_cmp self.old.devices n }
         ensures counted { self.new.begun ≡ self.old.begun }
     {
         if self.devices.remove(&serial).is_some() {
@@ -166,6 +167,10 @@ impl Devices {
         ensures stored { IfOk result (λ known. known ≡ true →
             value_in (get nat_cmp self.new.devices serial) ≡ Some bytes.now) }
         ensures refused { IfErr result (λ refusal. refusal ≡ NoMemory) }
+        ensures kept { OnErr result
+            (get nat_cmp self.new.devices serial ≡ get nat_cmp self.old.devices serial) }
+        ensures others { (n : ℕ) → n ≢ serial →
+            get nat_cmp self.new.devices n ≡ get nat_cmp self.old.devices n }
         ensures counted { self.new.begun ≡ self.old.begun }
     {
         match self.devices.get_mut(&serial) {
@@ -178,7 +183,6 @@ impl Devices {
     }
 
     /// How many devices it keeps.
-    #[cfg(test)]
     pub(crate) fn len(&self) -> usize {
         self.devices.len()
     }

@@ -33,6 +33,7 @@ abbrev pub held_refusal : {Hold Page : Type 0} → Result (Held Hold) (Hold × P
 held_refusal (Ok file) = None
 held_refusal (Err back) = Some back.2
 
+-- why an open was refused, where it was
 abbrev pub refusal_of : {Hold : Type 0} → Result (Opened Hold) (Hold × PostState × Refusal) → Option Refusal
 refusal_of (Ok file) = None
 refusal_of (Err back) = Some back.2
@@ -42,6 +43,7 @@ abbrev pub held_after : {Hold Page : Type 0} → Result (Held Hold) (Hold × Pag
 held_after (Ok file) = file.hold
 held_after (Err back) = back.0
 
+-- the hold after an open: in the file, or given back
 abbrev pub hold_after : {Hold : Type 0} → Result (Opened Hold) (Hold × PostState × Refusal) → Hold
 hold_after (Ok file) = file.hold
 hold_after (Err back) = back.0

@@ -1,8 +1,6 @@
 //! Open files of attributes: pages, the callbacks that show and store, and when a file has changed.
 #![tactic(auto)]
 
-#[cfg(test)]
-mod callback_tests;
 mod contents;
 mod event_numbers;
 mod held_file;
@@ -10,15 +8,9 @@ mod hold;
 mod open_file;
 mod ops;
 mod page_holder;
-#[cfg(test)]
-mod seats_tests;
 mod tree_seats;
 mod wait_ops;
 mod waiting_file;
-#[cfg(test)]
-mod waiting_fixtures;
-#[cfg(test)]
-mod waiting_tests;
 
 pub use contents::Want;
 pub use event_numbers::EventNumbers;
@@ -28,6 +20,3 @@ pub use ops::{Fault, FileError, Ops, Page};
 pub use page_holder::PageHolder;
 pub use wait_ops::WaitOps;
 pub use waiting_file::WaitingFile;
-
-#[cfg(test)]
-mod tests;

@@ -79,6 +79,8 @@ impl<N: Naming> WaitingFile<N> {
         post: Post,
     ) -> Result<WaitingFile<N>, (Hold, Post, Refusal)>
         requires table { hold.table ≡ N.table }
+        requires node { node ≡ hold.node }
+        requires slot { post.slot ≡ hold.key.slot }
         ensures opens { Opens (WaitVisits (Unit {0}) (λ _. Unit {0}) hold (hold_after result))
             node want (refusal_of result) }
         ensures new { IfOk result (λ file. file.state ≡ new_file want) }

@@ -13,13 +13,16 @@ use Rattle.kf_core.specs.Tree.{Tree, marks_of}
 abbrev pub SameMarks : BareWorld → Tree → Type 0
 SameMarks w tree = (key : Key) → marks w key ≡ marks_of tree key
 
+-- the key is in the list
 abbrev pub contains_key : List Key → Key → Bool
 contains_key keys key = list_any (λ k. same_key k key) keys
 
--- marks with the mark doomed where this is set, and risen: activated unless doomed
+-- the marks after a doom that may have chosen this key
 abbrev pub doomed_if : Bool → Marks → Marks
 doomed_if chosen m = record { activated = m.activated; doomed = chosen || m.doomed }
 
+-- the marks after an activation that may have chosen this key: activated now, where it was chosen and is
+-- not doomed
 abbrev pub risen_if : Bool → Marks → Marks
 risen_if chosen m = record { activated = (chosen && not m.doomed) || m.activated; doomed = m.doomed }
 
@@ -33,5 +36,6 @@ abbrev pub is_fresh_marked : Option Marks → Bool
 is_fresh_marked None = false
 is_fresh_marked (Some m) = not m.activated && not m.doomed
 
+-- the key's node is neither activated nor doomed
 abbrev pub is_fresh_key : Tree → Key → Bool
 is_fresh_key tree key = is_fresh_marked (marks_of tree key)

@@ -26,9 +26,11 @@ pub record Nodes : Type 0 where
   pub limit : ℕ
   pub callers : List Caller
 
+-- by slot, its last generation
 abbrev pub last_of : List SlotState → List ℕ
 last_of slots = map (λ (s : SlotState). s.generation) slots
 
+-- tree and callers as one value
 abbrev pub nodes_of : TreeLog → BoundedWorld → Nodes
 nodes_of log w =
     record { log = log; last = last_of w.world.slots; limit = w.limit; callers = w.world.callers }
@@ -60,6 +62,7 @@ listed log cs = record { root = log.root; tree = log.tree; commands = cs; ready 
 abbrev pub root_key : ℕ → Key
 root_key start = record { slot = 0; generation = start + 1 }
 
+-- the root alone, where each slot has had so many generations, and no caller
 abbrev pub new_nodes : ℕ → ℕ → ℕ → Nodes
 new_nodes slots holds start = record {
   log =
@@ -77,6 +80,7 @@ pub record Waits (callers : List Caller) (id : ℕ) (key : Key) : Type 0 where
   pub there : slice_get callers id ≡ Some (record { key = key; phase = phase })
   pub waits : IsTrue (is_waiting phase)
 
+-- the caller is on a key of this slot, and holds it
 abbrev pub holds_slot : ℕ → Caller → Bool
 holds_slot slot c = (c.key.slot == slot) && not (is_spent c.phase)
 
@@ -121,6 +125,7 @@ with_spent n keys = record n { callers = n.callers ++ map spent_on keys }
 
 -- ---- free slots
 
+-- there is such a slot, and no node is in it
 abbrev pub is_vacant : Option (Option Record) → Bool
 is_vacant None = false
 is_vacant (Some None) = true
@@ -147,5 +152,6 @@ is_full_in n top None = false
 is_full_in n top (Some r) =
     in_subtree n.log.tree top r.key && not (nat_lt (hold_count n.callers r.key.slot) n.limit)
 
+-- some node of the subtree has as many holds as it may have
 abbrev pub is_full_below : Nodes → Key → Bool
 is_full_below n top = list_any (is_full_in n top) n.log.tree

@@ -13,6 +13,7 @@ pub record OpenPlainFile : Type 0 where
   pub key : Key
   pub kept : FileState
 
+-- what a script can see of the board of one caller
 pub record Plain : Type 0 where
   pub log : TreeLog  -- the tree with its stored commands
   pub last : List ℕ  -- by slot, its last generation
@@ -37,9 +38,11 @@ new_board slots holds start = record {
 
 -- ---- files and holds
 
+-- the open file of this letter, where there is one
 abbrev pub file_at : Plain → ℕ → Option OpenPlainFile
 file_at b file = option_and_then (λ opened. opened) (slice_get b.files file)
 
+-- there is an open file, and its node is in this slot
 abbrev pub is_on : ℕ → Option OpenPlainFile → Bool
 is_on slot None = false
 is_on slot (Some opened) = opened.key.slot == slot
@@ -48,6 +51,7 @@ is_on slot (Some opened) = opened.key.slot == slot
 abbrev pub token_at : Plain → ℕ → Option Key
 token_at b slot = option_and_then (λ token. token) (slice_get b.tokens slot)
 
+-- how many tokens are kept here: one or none
 abbrev pub token_count : Option (Option Key) → ℕ
 token_count None = 0
 token_count (Some None) = 0
@@ -82,11 +86,14 @@ with_commands b cs = record b { log = logged b.log cs }
 abbrev pub with_list : Plain → List Command → Plain
 with_list b cs = record b { log = listed b.log cs }
 
+-- the board with this text for the file of a slot
 abbrev pub with_text : Plain → ℕ → List ℕ → Plain
 with_text b slot text = record b { texts = slice_set b.texts slot text }
 
+-- the board with this open file, or none, at a letter's place
 abbrev pub with_file : Plain → ℕ → Option OpenPlainFile → Plain
 with_file b file opened = record b { files = slice_set b.files file opened }
 
+-- the board with this token, or none, for a slot
 abbrev pub with_token : Plain → ℕ → Option Key → Plain
 with_token b slot token = record b { tokens = slice_set b.tokens slot token }

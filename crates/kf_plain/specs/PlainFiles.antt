@@ -22,6 +22,7 @@ use Rattle.kf_plain.specs.Settled.{ok_unless}
 
 -- ---- open
 
+-- why a file's command is refused, by the record that was found: there is none, or its kind
 abbrev pub record_cause : (ℕ → Option Refusal) → Option Record → Option Refusal
 record_cause cause None = Some NoEntry
 record_cause cause (Some r) = kind_cause cause r.node
@@ -49,6 +50,7 @@ abbrev pub open_held : Plain → ℕ → List ℕ → Result Key Refusal
 open_held b file path = and_then (ok_unless (unless (not (is_some (file_at b file))) Busy) file)
     (λ _. seen b.log.tree b.log.root path)
 
+-- a file that was just opened, by its key and what it was opened for
 abbrev pub new_open : Key → Want → OpenPlainFile
 new_open key want = record { key = key; kept = new_file want }
 
@@ -71,11 +73,13 @@ notified_key b path = and_then (walked b.log.tree b.log.root path) (λ key.
     ok_unless (record_cause (λ mode. unless (nat_lt (slice_index b.events key.slot) (2 ^ 64 - 1)) NoSpace)
     (record_at b.log.tree key)) key)
 
+-- the board after a notify of a slot: its event number is one more
 abbrev pub with_event : Plain → ℕ → Plain
 with_event b slot = record b { events = slice_set b.events slot (slice_index b.events slot + 1) }
 
 -- ---- visits
 
+-- what a visit to the key's node does, by whether the node is live
 abbrev pub VisitsNode : {Done : Type 0} → Plain → Key → Type 0 → (Done → Type 0) → Visit Done → Type 0
 VisitsNode b key idle does visit = VisitsLive (live_in b.log.tree key) idle does visit
 

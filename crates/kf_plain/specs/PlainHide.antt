@@ -38,9 +38,11 @@ with_hidden b key = with_token (with_commands b (Hide key ∷ [])) key.slot (Som
 
 -- ---- show
 
+-- the board has a token for this very key
 abbrev pub has_token : Plain → Key → Bool
 has_token b key = option_map_or (λ token. same_key token key) (token_at b key.slot) false
 
+-- why a key may not be shown: it is not linked, or the board has no token for it
 abbrev pub shown_cause : Plain → Key → Option Refusal
 shown_cause b key = first_cause (linked_cause b.log.tree key ∷ unless (has_token b key) Invalid ∷ [])
 

@@ -19,6 +19,7 @@ use Rattle.kf_plain.specs.Plain.{Plain, OpenPlainFile, count_on}
 abbrev pub plain_file : BoardFile → OpenPlainFile
 plain_file f = record { key = f.key; kept = f.file.state }
 
+-- what a script can see of the open files
 abbrev pub plain_files : List (Option BoardFile) → List (Option OpenPlainFile)
 plain_files files = map (option_map plain_file) files
 
@@ -26,6 +27,7 @@ plain_files files = map (option_map plain_file) files
 abbrev pub plain_token : BoardToken → Key
 plain_token t = t.key
 
+-- what a script can see of the tokens
 abbrev pub plain_tokens : List (Option BoardToken) → List (Option Key)
 plain_tokens tokens = map (option_map plain_token) tokens
 
@@ -64,10 +66,13 @@ IsTaggedNode slot Dir = Unit {0}
 IsTaggedNode slot (File mode tag) = tag ≡ slot
 IsTaggedNode slot (Link target) = Unit {0}
 
+-- the record, where there is one, is tagged with its slot
 abbrev pub IsTagged : Option Record → Type 0
 IsTagged None = Unit {0}
 IsTagged (Some r) = IsTaggedNode r.key.slot r.node
 
+-- what holds of the board's fields at all times: a place in each list for each slot or letter, and callers
+-- that are those of open files and tokens
 pub record IsWhole (n : Nodes) (events : List ℕ) (texts : List (List ℕ)) (files : List (Option BoardFile))
     (tokens : List (Option BoardToken)) : Type 0 where
   pub few : length n.log.tree ≤ 4096

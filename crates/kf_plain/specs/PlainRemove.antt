@@ -27,6 +27,7 @@ remove_cause log holds limit key = first_cause (
     ∷ unless (not (list_any (is_full_below log.tree holds limit key) log.tree)) TooManyHolds
     ∷ [])
 
+-- the key that a removal by path is about, or why it is refused
 abbrev pub removed_key : TreeLog → (ℕ → ℕ) → ℕ → List ℕ → Result Key Refusal
 removed_key log holds limit path =
     and_then (walked log.tree log.root path) (λ key. ok_unless (remove_cause log holds limit key) key)

@@ -22,6 +22,7 @@ still_on key = record { key = key; phase = Still }
 abbrev pub released : Caller → Caller
 released c = record { key = c.key; phase = Spent }
 
+-- the world with these callers
 abbrev pub with_callers : BoundedWorld → List Caller → BoundedWorld
 with_callers w callers = bounded (record { slots = w.world.slots; callers = callers }) w.limit
 
@@ -32,10 +33,11 @@ PinsRefused w keys refusal =
     × ((key : Key) × Contains keys key × (w.limit ≤ hold_count w.world.callers key.slot)))
     ⊎ (refusal ≡ NoMemory)
 
--- the marks of a linked node that is doomed, and of one that isn't
+-- a node is linked, and doomed
 abbrev pub IsMarkedDoomed : Option Marks → Type 0
 IsMarkedDoomed found = (m : Marks) × (found ≡ Some m) × (m.doomed ≡ true)
 
+-- a node is linked, and not doomed
 abbrev pub IsMarkedUndoomed : Option Marks → Type 0
 IsMarkedUndoomed found = (m : Marks) × (found ≡ Some m) × (m.doomed ≡ false)
 

@@ -74,35 +74,3 @@ impl<'a, C: ActiveCall> EventNumbers<C> for SlotEvents<'a> {
         self.table.at(self.slot)
     }
 }
-
-#[cfg(test)]
-mod tests {
-    use super::*;
-    use std::test::Fail;
-
-    /// The last number is reached, and then it is raised no more.
-    #[test]
-    fn the_number_ends(rt: HostRuntime) -> Result<(), Fail> {
-        let mut table = EventTable {
-            numbers: vec![in rt.alloc(); u64::MAX - 1; 1]?,
-        };
-        assert_eq!(rt; table.raise(0), Ok(()));
-        assert_eq!(rt; table.raise(0), Err(Refusal::NoSpace));
-        assert_eq!(rt; table.at(0), 18_446_744_073_709_551_615);
-        Ok(())
-    }
-
-    /// A slot's number is raised alone.
-    #[test]
-    fn a_number_belongs_to_its_slot(rt: HostRuntime) -> Result<(), Fail> {
-        let mut table = EventTable::new(rt.alloc(), 3)?;
-        assert_eq!(rt; table.at(2), 1);
-        table.raise(2)?;
-        table.raise(2)?;
-        assert_eq!(rt;
-            (table.at(0), table.at(1), table.at(2), table.at(3)),
-            (1, 1, 3, 0)
-        );
-        Ok(())
-    }
-}

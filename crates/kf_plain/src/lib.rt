@@ -7,8 +7,3 @@ mod nodes;
 mod text_table;
 
 pub use board::PlainBoard;
-
-#[cfg(test)]
-mod file_script_tests;
-#[cfg(test)]
-mod script_tests;

@@ -15,6 +15,7 @@ state_of s =
     else (if s.hidden then Hidden
     else Live))
 
+-- what a `stat` replies of a node of the tree
 abbrev pub told_text : Stat → List ℕ
 told_text s = stat_text s.node s.subdirs s.links (state_of s)
 
@@ -23,10 +24,12 @@ abbrev pub error_text : FileError → List ℕ
 error_text (Refused refusal) = refusal_text refusal
 error_text (Callback fault) = fault_text fault.number
 
+-- what a read replies
 abbrev pub bytes_text : Result (List ℕ) FileError → List ℕ
 bytes_text (Ok bytes) = bytes
 bytes_text (Err error) = error_text error
 
+-- what a write replies
 abbrev pub count_text : Result ℕ FileError → List ℕ
 count_text (Ok count) = decimal count
 count_text (Err error) = error_text error

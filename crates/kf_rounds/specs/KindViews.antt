@@ -3,6 +3,7 @@ use Rattle.kf_rounds.specs.Kinds.{Kind, bad, ends_round, of_seat}
 use Rattle.kf_rounds.specs.declared.kind.LineKind.{LineKind}
 use Rattle.kf_rounds.specs.declared.kind.LineKind.TheVariants.{Bad, EndsRound, Command}
 
+-- the kind of line that the code's kind stands for
 abbrev pub kind_view : LineKind → Kind
 kind_view Bad = bad
 kind_view EndsRound = ends_round

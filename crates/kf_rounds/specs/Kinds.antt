@@ -28,6 +28,7 @@ kind_for (Some worker) command = if bytes_eq command (codes "wait") then bad els
 abbrev pub worker_line : ℕ → List ℕ → Kind
 worker_line workers words = kind_for (worker_of workers (first_word words)) (rest words)
 
+-- the kind of a line that is not too long: a worker's where it begins with `@`, else the owner's
 abbrev pub short_line : ℕ → List ℕ → Kind
 short_line workers [] = bad
 short_line workers (byte ∷ line) =
@@ -39,15 +40,18 @@ short_line workers (byte ∷ line) =
 abbrev pub kind_by : ℕ → List ℕ → Kind
 kind_by workers line = if nat_le (length line) line_limit then short_line workers line else bad
 
+-- the line ends its round
 abbrev pub is_end : Kind → Bool
 is_end ends_round = true
 is_end _ = false
 
+-- whose line it is: 0 for the owner, where it is nobody's too
 abbrev pub seat_in : Kind → ℕ
 seat_in bad = 0
 seat_in ends_round = 0
 seat_in (of_seat seat command) = seat
 
+-- the line's command, without its `@W`
 abbrev pub command_in : Kind → List ℕ
 command_in bad = []
 command_in ends_round = []

@@ -14,5 +14,6 @@ said seat = map (λ reply. reply.items) seat.replies.items
 abbrev pub untaken : {B : Type 0} → Seat B → List (List ℕ)
 untaken seat = drop seat.taken (said seat)
 
+-- of each seat, the replies that were not taken yet
 abbrev pub untakens : {B : Type 0} → List (Seat B) → List (List (List ℕ))
 untakens seats = map untaken seats

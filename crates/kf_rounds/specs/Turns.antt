@@ -16,9 +16,11 @@ pub record Turn : Type 0 where
   pub line : List ℕ
   pub reply : List ℕ
 
+-- the line that was answered in this turn
 abbrev pub line_of : Turn → List ℕ
 line_of turn = turn.line
 
+-- the reply with its newline
 abbrev pub reply_line : Turn → List ℕ
 reply_line turn = turn.reply ++ 10 ∷ []
 
@@ -32,6 +34,7 @@ IsReply may bad reply = reply ≡ bad_line_text
 IsReply may ends_round reply = reply ≡ done_text
 IsReply may (of_seat seat command) reply = may command reply
 
+-- the turn's reply is one that a line of its kind may have
 abbrev pub IsTurn : (List ℕ → List ℕ → Type 0) → ℕ → Turn → Type 0
 IsTurn may workers turn = IsReply may (kind_by workers turn.line) turn.reply
 

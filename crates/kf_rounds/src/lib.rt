@@ -10,8 +10,3 @@ mod seat;
 
 pub use rounds::run_rounds;
 pub use seat::Seat;
-
-#[cfg(test)]
-mod round_tests;
-#[cfg(test)]
-mod test_board;

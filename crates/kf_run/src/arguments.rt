@@ -16,9 +16,16 @@ const ABOUT: &str = "Runs a script on an attribute tree that behaves like Linux 
     The script has one command a line, and each line is answered by one line on\n\
     standard output: as soon as it was read, or, with workers, when all was run.";
 
-/// What the program's status says, as help tells it.
-const STATUSES: &str =
-    "Status: 0 where the script was run, whatever its replies; 1 after a fault of\n\
+/// What stands at the end of help: the commands of scripts, and what the program's status says.
+const COMMANDS_AND_STATUSES: &str = "Commands, one a line, words apart by one space:\n  \
+    mkdir PATH [off]    file PATH MODE TEXT   link PATH TARGET   activate PATH\n  \
+    ls PATH             stat PATH             readlink PATH      mv PATH DIR NAME\n  \
+    rm PATH             open H PATH r|w|rw    read H OFF LEN     write H TEXT\n  \
+    poll H              notify PATH           close H            hide PATH\n  \
+    show PATH           commands              compact            wait\n  \
+    plug NAME TEXT      unplug NAME           @W COMMAND (worker W)\n\
+    \n\
+    Status: 0 where the script was run, whatever its replies; 1 after a fault of\n\
     reading, writing or memory, which standard error names; 2 where the arguments\n\
     are refused or the script cannot be opened.";
 
@@ -65,7 +72,7 @@ fn command<'a>(alloc: Global) -> Result<Command<'a>, Error> {
     let command = Command::new(alloc, "kernfs_run")
         .version(VERSION)
         .about(ABOUT)
-        .after_help(STATUSES)
+        .after_help(COMMANDS_AND_STATUSES)
         .arg(slots)?
         .arg(workers)?
         .arg(script)?;

@@ -9,6 +9,7 @@ pub record Turn : Type 0 where
   pub starved : Bool
   pub reply : List ℕ
 
+-- the line that was answered in this turn
 abbrev pub line_of : Turn → List ℕ
 line_of turn = turn.line
 

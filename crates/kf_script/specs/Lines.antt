@@ -2,6 +2,7 @@
 use Rattle.std.specs.Prelude.{ℕ, Bool, true, false, List, [], ◌∷◌, nat_le, ◌==◌, filter, length, Option, Some, None, if◌then◌else◌}
 use Rattle.std.specs.List.{slice_split}
 
+-- the byte that ends a line
 abbrev pub is_newline : ℕ → Bool
 is_newline byte = byte == 10
 

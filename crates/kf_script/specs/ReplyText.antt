@@ -9,6 +9,7 @@ use Rattle.kf_core.specs.Refusals.{number_of, name_of}
 use Rattle.kf_script.specs.declared.reply.NodeState.{NodeState}
 use Rattle.kf_script.specs.declared.reply.NodeState.TheVariants.{Removing, Off, Hidden, Live}
 
+-- the reply of a command that was done and has nothing to tell
 abbrev pub done_text : List ℕ
 done_text = codes "ok"
 
@@ -16,6 +17,7 @@ done_text = codes "ok"
 abbrev pub bad_line_text : List ℕ
 bad_line_text = codes "err Line 22"
 
+-- `err`, the refusal's name and its number in Linux
 abbrev pub refusal_text : Refusal → List ℕ
 refusal_text refusal = codes "err " ++ name_of refusal ++ codes " " ++ decimal (number_of refusal)
 
@@ -23,9 +25,11 @@ refusal_text refusal = codes "err " ++ name_of refusal ++ codes " " ++ decimal (
 abbrev pub fault_text : ℕ → List ℕ
 fault_text number = codes "err Callback " ++ decimal number
 
+-- `ok` and the key as SLOT.GENERATION
 abbrev pub key_text : Key → List ℕ
 key_text key = codes "ok " ++ decimal key.slot ++ codes "." ++ decimal key.generation
 
+-- what a poll replies
 abbrev pub poll_text : Bool → List ℕ
 poll_text changed = if changed then codes "changed" else codes "same"
 
@@ -39,17 +43,20 @@ names_text names = join_with_byte 32 names
 abbrev pub octal : ℕ → List ℕ
 octal mode = (48 + mode / 64 % 8) ∷ (48 + mode / 8 % 8) ∷ (48 + mode % 8) ∷ []
 
+-- what a `stat` replies of the kind of a node, up to its state
 abbrev pub node_text : Node → ℕ → ℕ → List ℕ
 node_text Dir subdirs links =
     codes "dir subdirs=" ++ decimal subdirs ++ codes " nlink=" ++ decimal links ++ codes " "
 node_text (File mode tag) subdirs links = codes "file mode=" ++ octal mode ++ codes " "
 node_text (Link target) subdirs links = codes "link "
 
+-- what a `stat` replies of the state of a node
 abbrev pub state_text : NodeState → List ℕ
 state_text Removing = codes "removing"
 state_text Off = codes "off"
 state_text Hidden = codes "hidden"
 state_text Live = codes "live"
 
+-- what a `stat` replies
 abbrev pub stat_text : Node → ℕ → ℕ → NodeState → List ℕ
 stat_text node subdirs links state = node_text node subdirs links ++ state_text state

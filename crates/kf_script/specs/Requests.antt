@@ -69,6 +69,7 @@ IsInRange _ = ⊤
 
 -- ---- words
 
+-- the byte that sets words apart
 abbrev pub is_space : ℕ → Bool
 is_space byte = byte == 32
 
@@ -76,6 +77,7 @@ is_space byte = byte == 32
 abbrev pub first_word : List ℕ → List ℕ
 first_word line = before_first is_space line
 
+-- what stands behind the first space of a line
 abbrev pub rest : List ℕ → List ℕ
 rest line = after_first is_space line
 
@@ -87,6 +89,7 @@ behind line = option_map (λ at. drop (at + 1) line) (position is_space line)
 abbrev pub next_word : Option (List ℕ) → Option (List ℕ)
 next_word later = option_map first_word later
 
+-- what stands behind the next word, where there is one
 abbrev pub behind_next : Option (List ℕ) → Option (List ℕ)
 behind_next later = option_and_then behind later
 
@@ -96,16 +99,17 @@ behind_next later = option_and_then behind later
 abbrev pub path_of : List ℕ → Option (List ℕ)
 path_of word = if has_bytes word then Some word else None
 
--- three octal digits
+-- an octal digit
 abbrev pub is_octal : ℕ → Bool
 is_octal byte = nat_le 48 byte && nat_le byte 55
 
+-- a file's mode: exactly three octal digits
 abbrev pub mode_of : List ℕ → Option ℕ
 mode_of (a ∷ b ∷ c ∷ []) =
     if is_octal a && is_octal b && is_octal c then Some (64 * (a - 48) + 8 * (b - 48) + (c - 48)) else None
 mode_of _ = None
 
--- decimal digits: at least one, no more than so many, and no greater number than the greatest
+-- a decimal digit
 abbrev pub is_digit : ℕ → Bool
 is_digit byte = nat_le 48 byte && nat_le byte 57
 
@@ -113,6 +117,7 @@ is_digit byte = nat_le 48 byte && nat_le byte 57
 abbrev pub number_of : List ℕ → ℕ
 number_of digits = fold (λ number digit. number * 10 + (digit - 48)) 0 digits
 
+-- a number of at least one digit and at most so many, and no greater than this
 abbrev pub decimal_of : ℕ → ℕ → List ℕ → Option ℕ
 decimal_of most greatest word =
     if has_bytes word && nat_le (length word) most && list_all is_digit word && nat_le
@@ -124,10 +129,11 @@ abbrev pub file_of : List ℕ → Option ℕ
 file_of (letter ∷ []) = if nat_le 97 letter && nat_le letter 122 then Some (letter - 97) else None
 file_of _ = None
 
--- an offset in at most ten digits, and a length in at most five
+-- an offset, in at most ten digits
 abbrev pub offset_of : List ℕ → Option ℕ
 offset_of word = decimal_of 10 4294967295 word
 
+-- the most bytes that a read asks for, in at most five digits
 abbrev pub length_of : List ℕ → Option ℕ
 length_of word = decimal_of 5 65535 word
 
@@ -155,6 +161,7 @@ abbrev pub is_over : Option (List ℕ) → Bool
 is_over None = true
 is_over (Some later) = false
 
+-- this request, where no word is left
 abbrev pub ends : RequestWords → Reads
 ends request later = if is_over later then Some request else None
 
@@ -163,6 +170,7 @@ abbrev pub last_word : List ℕ → Option (List ℕ) → Option Bool
 last_word last None = Some false
 last_word last (Some later) = if bytes_eq later last then Some true else None
 
+-- a request with or without this last word
 abbrev pub ends_or : List ℕ → (Bool → RequestWords) → Reads
 ends_or last request later = option_map request (last_word last later)
 
@@ -171,6 +179,7 @@ abbrev pub whole_text : Option (List ℕ) → List ℕ
 whole_text None = []
 whole_text (Some later) = later
 
+-- a request with all that is left of the line for its text
 abbrev pub text : (List ℕ → RequestWords) → Reads
 text request later = Some (request (whole_text later))
 
@@ -181,6 +190,7 @@ pub record Row : Type 0 where
   pub command : List ℕ
   pub reads : Reads
 
+-- a row of the grammar: a command, and how the words behind it are read
 abbrev pub row : List ℕ → Reads → Row
 row command reads = record { command = command; reads = reads }
 

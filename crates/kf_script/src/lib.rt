@@ -24,8 +24,3 @@ pub use output::write_whole;
 pub use reply::{NodeState, Reply, SHORT_REPLY};
 pub use request::Request;
 pub use script::run_script;
-
-#[cfg(test)]
-mod fakes;
-#[cfg(test)]
-mod tests;

@@ -8,6 +8,7 @@ pub mod Ends
 pub mod Rooms
 pub mod Pins
 pub mod Receipts
+pub mod Hidings
 pub mod Opening
 pub mod Gone
 pub mod Running

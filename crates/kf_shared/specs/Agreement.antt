@@ -25,13 +25,16 @@ abbrev pub HasNodes : List Node → Tree → Type 0
 HasNodes nodes tree =
     (key : Key) (r : Record) → record_at tree key ≡ Some r → slice_get nodes key.slot ≡ Some r.node
 
+-- the key is in the list
 abbrev pub contains_key : List Key → Key → Bool
 contains_key keys key = list_any (λ k. same_key k key) keys
 
--- marks with the mark doomed where this is set, and risen: activated unless doomed
+-- the marks after a doom that may have chosen this key
 abbrev pub doomed_if : Bool → Marks → Marks
 doomed_if chosen m = record { activated = m.activated; doomed = chosen || m.doomed }
 
+-- the marks after an activation that may have chosen this key: activated now, where it was chosen and is
+-- not doomed
 abbrev pub risen_if : Bool → Marks → Marks
 risen_if chosen m = record { activated = (chosen && not m.doomed) || m.activated; doomed = m.doomed }
 

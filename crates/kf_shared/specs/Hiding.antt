@@ -56,3 +56,14 @@ pub record HidingRefused (table : TableId) (hold back : Handle) (refusal : Refus
   pub whole : IsWhole table old
   pub why : HideRefused old.state.tree hold back refusal
   pub same : Unchanged old new
+
+-- what a hiding makes of this value, as it began under the lock
+pub record HiddenFrom (old : Locked) (hold : Handle) : Type 0 where
+  pub new : Locked
+  pub accepted : IsAccepted old.state new.state (hold_cause old.state.tree hold) (Hide hold.key)
+
+-- why it is refused
+pub record HideRefusedFrom (old : Locked) (hold back : Handle) (refusal : Refusal) : Type 0 where
+  pub new : Locked
+  pub why : HideRefused old.state.tree hold back refusal
+  pub same : Unchanged old new

@@ -98,6 +98,7 @@ UnlinkRefused old new key refusal =
     ⊎ ((unlink_cause old.state.tree key ≡ None) × (refusal ≡ Busy)
     × UnlinkAnswer old.master.view key.slot false new.master.view × Unchanged old new)
 
+-- there is a number, and it is this one
 abbrev pub is_some_of : Option ℕ → ℕ → Bool
 is_some_of None n = false
 is_some_of (Some m) n = m == n

@@ -23,9 +23,11 @@ pub record Owner : Type 0 where
   pub key : Key
   pub seat : SeatId
 
+-- the owner of this hold, call or receipt
 abbrev pub owner : Handle → Owner
 owner h = record { key = h.key; seat = id_of h }
 
+-- the owners of all these, in their order
 abbrev pub owners_of : List Handle → List Owner
 owners_of handles = map owner handles
 
@@ -72,5 +74,29 @@ pub record SelfRemovalWasRefused (table : TableId) (key : Key) (refusal : Refusa
   pub old : Locked
   pub new : Locked
   pub whole : IsWhole table old
+  pub why : SelfRemovalRefused old new key refusal
+  pub same : Unchanged old new
+
+-- what a removal makes of this value, as it began under the lock: some whole value in which its nodes are
+-- doomed
+pub record DoomedFrom (table : TableId) (old : Locked) (key : Key) : Type 0 where
+  pub new : Locked
+  pub is_whole : IsWhole table new
+  pub done : DoomMarked old new key
+
+-- the same of a self-removal, which claims the node
+pub record SelfDoomedFrom (table : TableId) (old : Locked) (key : Key) : Type 0 where
+  pub doomed : DoomedFrom table old key
+  pub claimed : doomed.new.claims ≡ slice_set old.claims key.slot key.generation
+
+-- why a removal is refused that began with this value
+pub record RefusedFrom (old : Locked) (key : Key) (refusal : Refusal) : Type 0 where
+  pub new : Locked
+  pub why : DoomRefused old new key refusal
+  pub same : Unchanged old new
+
+-- and a self-removal
+pub record SelfRefusedFrom (old : Locked) (key : Key) (refusal : Refusal) : Type 0 where
+  pub new : Locked
   pub why : SelfRemovalRefused old new key refusal
   pub same : Unchanged old new

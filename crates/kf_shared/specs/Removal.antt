@@ -14,6 +14,7 @@ use Rattle.kf_words.specs.Callers.{Handle}
 use Rattle.kf_words.specs.Nodes.{MasterState, FoundFull, FoundRoom, IsLastKey, IsNewHold}
 use Rattle.kf_shared.specs.Locked.{Locked}
 
+-- the keys of these holds, in their order
 abbrev pub keys_of : List Handle → List Key
 keys_of holds = map (λ h. h.key) holds
 

@@ -17,6 +17,8 @@ ghost use Rattle.kf_shared.specs.Removal.{IsNew, AreHolds, DoomHolds, DoomDone, 
 
 use crate::locked::Locked;
 use crate::naming::Naming;
+use crate::tree::SharedTree;
+use crate::under_way::Removing;
 use kf_core::{Key, Node, Refusal};
 use kf_tree::State;
 use kf_words::{Call, Drained, Hidden, Hiding, Hold, Parted};
@@ -26,6 +28,7 @@ use std::sync::MutexGuard;
 /// The tree while its lock is held. To a contract it is what the lock keeps.
 #[derive(Drop)]
 pub struct Editor<'a, N: Naming> {
+    pub(crate) tree: &'a SharedTree<N>,
     pub(crate) guard: MutexGuard<'a, Locked<N>>,
 }
 
@@ -276,5 +279,72 @@ impl<N: Naming> Editor<'_, N> {
         let started = self.guard.start_self_removal(call, receipts);
         let _ = self.state();
         started
+    }
+
+    /// As `doom`, with room for the receipts made before anything is marked: [`Removing::finish`] then waits,
+    /// with the lock let go, and takes no memory.
+    ///
+    /// Condition: the hold is of this table.
+    ///
+    /// Refusals: those of `doom`. After a refusal nothing is marked, and the hold comes back.
+    pub fn begin_removal(&mut self, hold: Hold) -> Result<Removing<N>, (Hold, Refusal)>
+        requires table { hold.table ≡ N.table }
+        ensures order { IfOk result (λ removing. DoomHolds self.old.state.tree hold removing) }
+        ensures holds { IfOk result (λ removing. AreHolds self.old.master hold removing) }
+        ensures done { IfOk result (λ _. DoomDone self.old self.new hold.key) }
+        ensures was_whole { IsWhole N.table self.old }
+        ensures whole { IsWhole N.table self.new }
+        ensures back { IfErr result (λ r. r.0 ≡ hold) }
+        ensures refused { IfErr result (λ r. DoomRefused self.old self.new hold.key r.1) }
+        ensures same { OnErr result (Unchanged self.old self.new) }
+        ensures claims { self.new.claims ≡ self.old.claims }
+    {
+        let _ = self.state();
+        let mut receipts = Vec::new(self.tree.alloc);
+        match self.start_removal(hold, &mut receipts) {
+            Ok(holds) => Ok(Removing::new(holds, receipts)),
+            Err(refused) => {
+                receipts.destroy_empty();
+                Err(refused)
+            }
+        }
+    }
+
+    /// Begins the removal of a call's own node: takes holds of its own of the subtree's nodes, dooms them,
+    /// claims the node, and breaks the call's protection. True for the first that claims the node.
+    /// [`Removing::finish`] then waits, with the lock let go; after that the call may be restored.
+    ///
+    /// Conditions: the call is Running, and of this table. After an answer it is Broken.
+    ///
+    /// Refusals: those of [`SharedTree::remove_self`]. After a refusal the call is as it was, nothing is
+    /// marked, and the node is not claimed.
+    pub fn begin_self_removal(&mut self, call: &mut Call) -> Result<(bool, Removing<N>), Refusal>
+        requires table { call.old.table ≡ N.table }
+        requires running { call.old.phase ≡ phase_of.Running }
+        ensures seat { IsSameSeat call.old call.new }
+        ensures broken { OnOk result (call.new.phase ≡ phase_of.Broken) }
+        ensures kept { OnErr result (call.new ≡ call.old) }
+        ensures holds { IfOk result
+            (λ r. (hold : Handle) × (hold.key ≡ call.old.key) × IsNew self.old.master hold
+            × AreHolds self.old.master hold r.1 × DoomHolds self.old.state.tree hold r.1) }
+        ensures first { IfOk result (λ r. r.0 ≡ not (is_claimed self.old.claims call.old.key)) }
+        ensures claimed { OnOk result
+            (self.new.claims ≡ slice_set self.old.claims call.old.key.slot call.old.key.generation) }
+        ensures done { IfOk result (λ _. DoomMarked self.old self.new call.old.key) }
+        ensures was_whole { IsWhole N.table self.old }
+        ensures whole { IsWhole N.table self.new }
+        ensures refused { IfErr result
+            (λ refusal. SelfRemovalRefused self.old self.new call.old.key refusal) }
+        ensures same { OnErr result (Unchanged self.old self.new) }
+    {
+        let _ = self.state();
+        let mut receipts = Vec::new(self.tree.alloc);
+        match self.start_self_removal(call, &mut receipts) {
+            Ok((first, holds)) => Ok((first, Removing::new(holds, receipts))),
+            Err(refusal) => {
+                receipts.destroy_empty();
+                Err(refusal)
+            }
+        }
     }
 }

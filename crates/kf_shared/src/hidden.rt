@@ -1,11 +1,12 @@
 //! Files that are hidden and shown again, by threads that do not have the lock.
-ghost use Rattle.std.specs.Prelude.{◌≡◌, true, IfErr, IfOk};
+ghost use Rattle.std.specs.Prelude.{◌≡◌, true, IfErr, IfOk, OnOk};
 ghost use Rattle.kf_core.specs.declared.caller.Phase.TheVariants as phase_of;
 ghost use Rattle.kf_words.specs.Callers.{IsSameSeat, WasShown, seat_view};
 ghost use Rattle.kf_words.specs.Layout.{is_unused};
 ghost use Rattle.kf_words.specs.Runs.{WasAShow};
-ghost use Rattle.kf_shared.specs.Hiding.{HidAndLooked, HidingAccepted, HidingRefused};
+ghost use Rattle.kf_shared.specs.Hiding.{HidAndLooked, HiddenFrom, HideRefusedFrom, HidingAccepted, HidingRefused};
 
+use crate::editor::Editor;
 use crate::naming::Naming;
 use crate::tree::SharedTree;
 use kf_core::Refusal;
@@ -33,14 +34,7 @@ impl<N: Naming> SharedTree<N> {
         ensures accepted { IfOk result (λ _. HidingAccepted N.table hold) }
         ensures refused { IfErr result (λ r. HidingRefused N.table hold r.0 r.1) }
     {
-        let started = {
-            let mut editor = self.edit(rt);
-            editor.hide(hold)
-        };
-        match started {
-            Ok(hiding) => Ok(wait_hidden(rt, hiding)),
-            Err(refused) => Err(refused),
-        }
+        self.edit(rt).hide_and_wait(rt, hold)
     }
 
     /// Shows a hidden file again, under the lock, which its caller must not have. It refuses nothing and
@@ -54,5 +48,28 @@ impl<N: Naming> SharedTree<N> {
     {
         let mut editor = self.edit(rt);
         editor.show(hidden)
+    }
+}
+
+impl<N: Naming> Editor<'_, N> {
+    /// As `hide`, and then it lets the lock go and waits until nobody has a reference to the file, as
+    /// [`SharedTree::hide`] does.
+    ///
+    /// Condition: the hold is of this table.
+    ///
+    /// Refusals: those of `hide`. After a refusal the tree is as before, and the lock is let go.
+    pub fn hide_and_wait<R: Wait>(self, rt: &R, hold: Hold) -> Result<Hidden, (Hold, Refusal)>
+        requires table { hold.table ≡ N.table }
+        ensures same { IfOk result (λ hidden. IsSameSeat hold hidden) }
+        ensures hidden { IfOk result (λ hidden. hidden.phase ≡ phase_of.Hidden) }
+        ensures unused { IfOk result (λ hidden. is_unused hidden.found ≡ true) }
+        ensures looked { IfOk result (λ hidden. HidAndLooked (seat_view hold) (seat_view hidden)) }
+        ensures accepted { OnOk result (HiddenFrom self.entry hold) }
+        ensures refused { IfErr result (λ r. HideRefusedFrom self.entry hold r.0 r.1) }
+    {
+        let mut editor = self;
+        let started = editor.hide(hold);
+        drop(editor);
+        Ok(wait_hidden(rt, started?))
     }
 }

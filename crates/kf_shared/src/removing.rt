@@ -1,12 +1,14 @@
 //! Removal that waits: until every node that it dooms is drained and out of the tree.
-ghost use Rattle.std.specs.Prelude.{◌≡◌, ◌+◌, ◌≤◌, ◌++◌, IfErr, IfOk, OnErr, OnOk, vec_capacity, vec_len};
+ghost use Rattle.std.specs.Prelude.{◌≡◌, ◌+◌, ◌≤◌, ◌++◌, IfErr, IfOk, OnErr, OnOk, not, vec_capacity, vec_len};
 ghost use Rattle.kf_core.specs.declared.caller.Phase.TheVariants as phase_of;
 ghost use Rattle.kf_core.specs.declared.refusal.Refusal.TheVariants as refusal_of;
 ghost use Rattle.kf_tree.specs.Ends.{EndsWith};
 ghost use Rattle.kf_words.specs.Callers.{IsSameSeat, seat_view};
+ghost use Rattle.kf_shared.specs.Locked.{is_claimed};
 ghost use Rattle.kf_shared.specs.Removal.{keys_of};
-ghost use Rattle.kf_shared.specs.Receipts.{AllDifferent, AreOf, EndsAt, OnlyWaited, RemovalRefused, SelfRemovalWasRefused, WasDoomed, WasSelfDoomed, owners_of};
+ghost use Rattle.kf_shared.specs.Receipts.{AllDifferent, AreOf, DoomedFrom, EndsAt, IsDoomList, OnlyWaited, RefusedFrom, RemovalRefused, SelfDoomedFrom, SelfRefusedFrom, SelfRemovalWasRefused, WasDoomed, WasSelfDoomed, owners_of};
 
+use crate::editor::Editor;
 use crate::naming::Naming;
 use crate::tree::SharedTree;
 use kf_core::Refusal;
@@ -43,7 +45,7 @@ impl<N: Naming> SharedTree<N> {
     }
 
     /// Finishes each hold in turn. There is room for the receipts.
-    pub(crate) fn finish_each<R: Wait>(
+    pub fn finish_each<R: Wait>(
         &self,
         rt: &R,
         holds: Vec<Hold>,
@@ -85,18 +87,7 @@ impl<N: Naming> SharedTree<N> {
         ensures refused { IfErr result (λ r. RemovalRefused N.table hold.key r.1) }
         ensures root { IfErr result (λ r. r.1 ≡ refusal_of.Invalid → hold.key.slot ≡ 0) }
     {
-        let mut receipts = Vec::new(self.alloc);
-        let started = {
-            let mut editor = self.edit(rt);
-            editor.start_removal(hold, &mut receipts)
-        };
-        match started {
-            Ok(holds) => Ok(self.finish_each(rt, holds, receipts)),
-            Err(refused) => {
-                receipts.destroy_empty();
-                Err(refused)
-            }
-        }
+        self.edit(rt).remove(rt, hold)
     }
 
     /// Removes the node of a call from within its own callback (`kernfs_remove_self`). Under the lock it
@@ -131,22 +122,74 @@ impl<N: Naming> SharedTree<N> {
         ensures refused { IfErr result (λ refusal. SelfRemovalWasRefused N.table call.old.key refusal) }
         ensures root { IfErr result (λ refusal. refusal ≡ refusal_of.Invalid → call.old.key.slot ≡ 0) }
     {
-        let mut receipts = Vec::new(self.alloc);
-        let started = {
-            let mut editor = self.edit(rt);
-            editor.start_self_removal(call, &mut receipts)
-        };
-        match started {
-            Ok((first, holds)) => {
-                let receipts = self.finish_each(rt, holds, receipts);
-                let _editor = self.edit(rt);
-                call.restore();
-                Ok((first, receipts))
-            }
-            Err(refusal) => {
-                receipts.destroy_empty();
-                Err(refusal)
-            }
-        }
+        self.edit(rt).remove_self(rt, call)
+    }
+}
+
+impl<N: Naming> Editor<'_, N> {
+    /// Dooms the subtree of the hold's node, lets the lock go, and waits until each of its nodes is drained
+    /// and out of the tree (`kernfs_remove`). What was looked up under this lock is what is removed: the
+    /// receipts are of the subtree as this tree has it, in post-order, the given hold's last. Where the node
+    /// is no longer linked, the receipt is for it alone. Its caller need not let the lock go, and may not
+    /// have it any more; it may never return, as [`SharedTree::remove`].
+    ///
+    /// Condition: the hold is of this table.
+    ///
+    /// Refusals: those of `doom`. After a refusal nothing is marked, the lock is let go, and the hold comes
+    /// back as it was.
+    pub fn remove<R: Wait>(self, rt: &R, hold: Hold) -> Result<Vec<Parted>, (Hold, Refusal)>
+        requires table { hold.table ≡ N.table }
+        ensures tables { IfOk result (λ receipts. AreOf N.table receipts.items) }
+        ensures last { IfOk result (λ receipts. EndsAt receipts.items hold) }
+        ensures different { IfOk result (λ receipts. AllDifferent (keys_of receipts.items)) }
+        ensures listed { IfOk result
+            (λ receipts. IsDoomList self.entry.state.tree hold.key (keys_of receipts.items)) }
+        ensures doomed { OnOk result (DoomedFrom N.table self.entry hold.key) }
+        ensures back { IfErr result (λ r. r.0 ≡ hold) }
+        ensures refused { IfErr result (λ r. RefusedFrom self.entry hold.key r.1) }
+    {
+        let mut editor = self;
+        let tree = editor.tree;
+        let begun = editor.begin_removal(hold);
+        drop(editor);
+        Ok(begun?.finish(rt, tree))
+    }
+
+    /// Removes the node of a call from within its own callback (`kernfs_remove_self`), as
+    /// [`SharedTree::remove_self`] does, of the subtree as this tree has it. True where this lock's claims
+    /// do not have the node. It lets the lock go before it waits, and takes it again to restore the call.
+    ///
+    /// Conditions: the call is Running, and of this table. After an answer it is Restored.
+    ///
+    /// Refusals: those of [`SharedTree::remove_self`]. After a refusal the call is as it was, nothing is
+    /// marked, the node is not claimed, and the lock is let go.
+    pub fn remove_self<R: Wait>(
+        self,
+        rt: &R,
+        call: &mut Call,
+    ) -> Result<(bool, Vec<Parted>), Refusal>
+        requires table { call.old.table ≡ N.table }
+        requires running { call.old.phase ≡ phase_of.Running }
+        ensures same { IsSameSeat call.old call.new }
+        ensures answered { OnOk result (call.new.phase ≡ phase_of.Restored) }
+        ensures kept { OnErr result (call.new ≡ call.old) }
+        ensures first { IfOk result (λ r. r.0 ≡ not (is_claimed self.entry.claims call.old.key)) }
+        ensures tables { IfOk result (λ r. AreOf N.table r.1.items) }
+        ensures last { IfOk result (λ r. EndsWith (keys_of r.1.items) call.old.key) }
+        ensures different { IfOk result (λ r. AllDifferent (keys_of r.1.items)) }
+        ensures listed { IfOk result
+            (λ r. IsDoomList self.entry.state.tree call.old.key (keys_of r.1.items)) }
+        ensures doomed { OnOk result (SelfDoomedFrom N.table self.entry call.old.key) }
+        ensures refused { IfErr result (λ refusal. SelfRefusedFrom self.entry call.old.key refusal) }
+    {
+        let mut editor = self;
+        let tree = editor.tree;
+        let begun = editor.begin_self_removal(call);
+        drop(editor);
+        let (first, removing) = begun?;
+        let receipts = removing.finish(rt, tree);
+        let _editor = tree.edit(rt);
+        call.restore();
+        Ok((first, receipts))
     }
 }

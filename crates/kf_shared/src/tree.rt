@@ -131,6 +131,7 @@ impl<N: Naming> SharedTree<N> {
         ensures { IsWhole N.table result }
     {
         let editor = Editor {
+            tree: self,
             guard: self.lock.lock(rt),
         };
         let _ = editor.state();

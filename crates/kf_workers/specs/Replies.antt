@@ -24,6 +24,7 @@ IsKey reply = (told : Result Key FileError) × (reply ≡ key_told told)
 abbrev pub AreNames : List ℕ → Type 0
 AreNames reply = (told : Result (List (List ℕ)) Refusal) × (reply ≡ names_told told)
 
+-- what a `stat` tells, or why not
 abbrev pub IsStat : List ℕ → Type 0
 IsStat reply = (told : Result Stat Refusal) × (reply ≡ stat_told told)
 
@@ -42,12 +43,15 @@ AreBytes most reply =
 abbrev pub IsCount : List ℕ → Type 0
 IsCount reply = (told : Result ℕ FileError) × (reply ≡ count_text told)
 
+-- what a poll tells, or why not
 abbrev pub IsChange : List ℕ → Type 0
 IsChange reply = (told : Result Bool Refusal) × (reply ≡ changed_told told)
 
+-- a number in decimal
 abbrev pub IsNumber : List ℕ → Type 0
 IsNumber reply = (number : ℕ) × (reply ≡ decimal number)
 
+-- the form that the reply to each request has
 abbrev pub Suits : RequestWords → List ℕ → Type 0
 Suits (make_directory path is_live) reply = IsKey reply
 Suits (make_file path mode text) reply = IsKey reply
@@ -68,5 +72,6 @@ abbrev pub AnswersTo : Option RequestWords → List ℕ → Type 0
 AnswersTo None reply = reply ≡ bad_line_text
 AnswersTo (Some request) reply = Suits request reply
 
+-- the reply suits the request that this line makes
 abbrev pub Answers : List ℕ → List ℕ → Type 0
 Answers command reply = AnswersTo (request_of command) reply

@@ -2,6 +2,7 @@
 use Rattle.std.specs.Prelude.{ℕ, List, Bool, true, false, nat_le, Result}
 use Rattle.kf_files.specs.declared.ops.Fault.{Fault}
 
+-- 2^63, the least tag of a device's file
 abbrev pub first_device_tag : ℕ
 first_device_tag = 9223372036854775808
 
@@ -10,16 +11,19 @@ abbrev pub OfDevices : Bool → Type 0 → Type 0 → Type 0
 OfDevices true devices texts = devices
 OfDevices false devices texts = texts
 
+-- what a show may give: by the devices or by the texts, as the tag is
 abbrev pub shown_by : (ℕ → Result (List ℕ) Fault → Type 0) → (ℕ → Result (List ℕ) Fault → Type 0) → ℕ
     → Result (List ℕ) Fault → Type 0
 shown_by texts devices tag filled =
     OfDevices (nat_le first_device_tag tag) (devices tag filled) (texts tag filled)
 
+-- what a store may answer, likewise
 abbrev pub stored_by : (ℕ → List ℕ → Result ℕ Fault → Type 0) → (ℕ → List ℕ → Result ℕ Fault → Type 0) → ℕ
     → List ℕ → Result ℕ Fault → Type 0
 stored_by texts devices tag bytes answer =
     OfDevices (nat_le first_device_tag tag) (devices tag bytes answer) (texts tag bytes answer)
 
+-- what the first text of a file may answer, likewise
 abbrev pub begun_by : (ℕ → List ℕ → Result (Unit {0}) Fault → Type 0)
     → (ℕ → List ℕ → Result (Unit {0}) Fault → Type 0) → ℕ → List ℕ → Result (Unit {0}) Fault → Type 0
 begun_by texts devices tag bytes answer =

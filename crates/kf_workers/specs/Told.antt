@@ -7,14 +7,17 @@ use Rattle.kf_tree.specs.declared.stat.Stat.{Stat}
 use Rattle.kf_script.specs.ReplyText.{done_text, refusal_text, key_text, names_text, poll_text}
 use Rattle.kf_replies.specs.ReplyParts.{error_text, told_text}
 
+-- the reply of what was done, or why not
 abbrev pub done_told : {T : Type 0} → Result T Refusal → List ℕ
 done_told (Ok _) = done_text
 done_told (Err refusal) = refusal_text refusal
 
+-- the reply of what gives a key, or why not
 abbrev pub key_told : Result Key FileError → List ℕ
 key_told (Ok key) = key_text key
 key_told (Err error) = error_text error
 
+-- the reply of a poll, or why not
 abbrev pub changed_told : Result Bool Refusal → List ℕ
 changed_told (Ok changed) = poll_text changed
 changed_told (Err refusal) = refusal_text refusal
@@ -24,14 +27,17 @@ abbrev pub read_told : Result ℕ FileError → List ℕ → List ℕ
 read_told (Ok count) buffer = take count buffer
 read_told (Err error) buffer = error_text error
 
+-- the reply of a `stat`, or why not
 abbrev pub stat_told : Result Stat Refusal → List ℕ
 stat_told (Ok stat) = told_text stat
 stat_told (Err refusal) = refusal_text refusal
 
+-- the reply of a listing, or why not
 abbrev pub names_told : Result (List (List ℕ)) Refusal → List ℕ
 names_told (Ok names) = names_text names
 names_told (Err refusal) = refusal_text refusal
 
+-- the reply of a link's text, or why not
 abbrev pub text_told : Result (List ℕ) Refusal → List ℕ
 text_told (Ok text) = text
 text_told (Err refusal) = refusal_text refusal

@@ -15,20 +15,3 @@ pub use reading::read_script;
 pub use run::run_workers;
 pub use texts::Texts;
 pub use whole::run_whole;
-
-#[cfg(test)]
-mod crowd_tests;
-#[cfg(test)]
-mod device_tests;
-#[cfg(test)]
-mod file_script_tests;
-#[cfg(test)]
-mod meeting_tests;
-#[cfg(test)]
-mod reading_tests;
-#[cfg(test)]
-mod script_tests;
-#[cfg(test)]
-mod test_fixtures;
-#[cfg(test)]
-mod worker_tests;

@@ -31,7 +31,9 @@ impl<W: WaitOps, N: Naming, R: Wait> WorkerBoard<'_, W, N, R> {
     }
 
     /// A post of a slot of the tree. There is no slot without a number.
-    fn post(&mut self, slot: u32) -> Result<Post, Refusal> {
+    fn post(&mut self, slot: u32) -> Result<Post, Refusal>
+        ensures slot { IfOk result (λ post. post.slot ≡ slot) }
+    {
         if slot >= self.posts.slots() {
             return Err(Refusal::NoEntry);
         }

@@ -1,0 +1,65 @@
+//! A removal that has marked its nodes, and has yet to wait for them.
+ghost use Rattle.std.specs.Prelude.{◌≡◌, ◌+◌, ◌≤◌, [], vec_capacity, vec_len};
+ghost use Rattle.kf_shared.specs.Receipts.{AreOf, owners_of};
+
+use crate::naming::Naming;
+use crate::tree::SharedTree;
+use kf_words::{Hold, Parted};
+use std::marker::{Model, PhantomData};
+use std::sync::Wait;
+
+/// The holds of nodes that a removal of this tree has marked, each after all that is below it, and room for
+/// their receipts. To a contract it is the list of the holds. It must be spent, by [`Removing::finish`], with
+/// the lock let go.
+pub struct Removing<N: Naming> {
+    holds: Vec<Hold>,
+    receipts: Vec<Parted>,
+    name: PhantomData<N>,
+}
+
+impl<N: Naming> Model for Removing<N> {
+    ghost use Rattle.std.specs.Prelude.{◌≡◌, ◌+◌, ◌≤◌, List, [], vec_capacity, vec_len};
+    ghost use Rattle.kf_words.specs.Callers.{Handle};
+    ghost use Rattle.kf_shared.specs.Receipts.{AreOf};
+
+    ghost Value = { List Handle };
+
+    ghost view = { λ s. s.holds.items };
+
+    ghost invariant = { λ s. AreOf N.table s.holds.items × (s.receipts.items ≡ [])
+        × (vec_len s.receipts + vec_len s.holds ≤ vec_capacity s.receipts) };
+}
+
+impl<N: Naming> Removing<N> {
+    /// The removal of these holds' nodes.
+    ///
+    /// Conditions: the holds are of this tree's table, there is no receipt yet, and room for one of each.
+    pub(crate) fn new(holds: Vec<Hold>, receipts: Vec<Parted>) -> Removing<N>
+        requires table { AreOf N.table holds.items }
+        requires none { receipts.items ≡ [] }
+        requires room { vec_len receipts + vec_len holds ≤ vec_capacity receipts }
+        ensures same { result ≡ holds.items }
+    {
+        Removing {
+            holds,
+            receipts,
+            name: PhantomData,
+        }
+    }
+
+    /// Waits, with the lock let go, until each node is drained, and takes it out of the tree. The receipts
+    /// stand in the order of the holds, each of its hold's own seat. It takes no memory, and may never
+    /// return: it waits for every callback that runs on the nodes, its caller's own among them, and for the
+    /// lock, which its caller must not have.
+    pub fn finish<R: Wait>(self, rt: &R, tree: &SharedTree<N>) -> Vec<Parted>
+        ensures tables { AreOf N.table result.items }
+        ensures owners { owners_of result.items ≡ owners_of self }
+    {
+        let Removing {
+            holds,
+            receipts,
+            name: _,
+        } = self;
+        tree.finish_each(rt, holds, receipts)
+    }
+}
