@@ -48,7 +48,9 @@ pub(crate) fn new_bus<R: Abort>(rt: &R, alloc: Global) -> Bus {
     }
 }
 
-fn posted<R: Abort>(rt: &R, alloc: Global, slot: u32) -> Post {
+pub(crate) fn posted<R: Abort>(rt: &R, alloc: Global, slot: u32) -> Post
+    ensures { result.slot ≡ slot }
+{
     let Ok(mut posts) = Posts::new(alloc, 64) else {
         panic!(rt; "no memory")
     };

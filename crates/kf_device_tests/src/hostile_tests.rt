@@ -2,7 +2,7 @@
 ghost use Rattle.std.specs.Prelude.{◌≡◌};
 
 use crate::fixtures::{
-    BOTH, READ, WRITE, close, hold, key_at, live_in, made, new_bus, open, shows, walked,
+    BOTH, READ, WRITE, close, hold, key_at, live_in, made, new_bus, open, posted, shows, walked,
 };
 use kf_core::{Key, Refusal};
 use kf_device::Bus;
@@ -18,12 +18,19 @@ use std::sync::{Mutex, Wait};
 
 // ---- a second file of the own node
 
+/// A post of slot 5, which is that of the `value` of the first device.
+#[derive(Drop)]
+struct ValuePost {
+    post: Post,
+    ghost of_value: { post.slot ≡ 5 },
+}
+
 /// The callbacks of a bus, where each show first writes `new` to its own node through a second file, and
 /// reads that.
 #[derive(Drop)]
 struct Nested<'a> {
     bus: &'a Bus,
-    post: Mutex<Option<Post>>,
+    post: Mutex<Option<ValuePost>>,
     answered: AtomicU64,
 }
 
@@ -44,9 +51,12 @@ impl<'a> Nested<'a> {
     }
 
     fn opens<N: Naming, R: Wait>(&self, rt: &R, tree: &SharedTree<N>, key: Key) {
-        let Some(post) = self.post.lock(rt).take() else {
+        let Some(ValuePost { post }) = self.post.lock(rt).take() else {
             return;
         };
+        if key.slot != 5 {
+            return;
+        }
         let held = tree.edit(rt).hold(key);
         let Ok(hold) = held else {
             return;
@@ -105,11 +115,11 @@ fn writes_itself<N: Naming, R: Abort + Wait>(rt: &R, alloc: Global, new: NewTree
     assert_eq!(rt; bus.plug(rt, &tree, b"d0", b""), Ok(key_at(4, 1)));
     let mut value = open(rt, alloc, &tree, b"/devices/d0/value", READ);
     shows(rt, &tree, &bus, &mut value, b"");
-    let (spare, post) = open(rt, alloc, &tree, b"/devices/d0/value", READ).close();
-    spare.release();
     let nested = Nested {
         bus: &bus,
-        post: Mutex::new(Some(post)),
+        post: Mutex::new(Some(ValuePost {
+            post: posted(rt, alloc, 5),
+        })),
         answered: AtomicU64::new(0),
     };
     shows(rt, &tree, &nested, &mut value, b"new");

@@ -227,12 +227,19 @@ fn a_store_removes_its_own_node(rt: HostRuntime) {
 
 // ---- a second file of the own node
 
+/// A post of slot 1, which is that of a test's first file.
+#[derive(Drop)]
+struct FirstPost {
+    post: Post,
+    ghost first: { post.slot ≡ 1 },
+}
+
 /// Shows `out`, once it has read its own node by a second file, whose callbacks are others, and counts the
 /// reads that gave `in`.
 #[derive(Drop)]
 struct Nested<'a> {
     inner: &'a Driver,
-    post: Mutex<Option<Post>>,
+    post: Mutex<Option<FirstPost>>,
     answered: AtomicU64,
 }
 
@@ -244,9 +251,12 @@ impl<'a> Nested<'a> {
     }
 
     fn opens<N: Naming, R: Wait>(&self, rt: &R, tree: &SharedTree<N>, key: Key) {
-        let Some(post) = self.post.lock(rt).take() else {
+        let Some(FirstPost { post }) = self.post.lock(rt).take() else {
             return;
         };
+        if key.slot != 1 {
+            return;
+        }
         let held = tree.edit(rt).hold(key);
         let Ok(hold) = held else {
             return;
@@ -309,7 +319,9 @@ fn reads_itself<N: Naming, R: Abort + Wait>(rt: &R, alloc: Global, new: NewTree)
     let inner = showing(b"in");
     let nested = Nested {
         inner: &inner,
-        post: Mutex::new(Some(post_of(rt, &mut posts))),
+        post: Mutex::new(Some(FirstPost {
+            post: post_of(rt, &mut posts),
+        })),
         answered: AtomicU64::new(0),
     };
     assert!(rt; gives(rt, &tree, &mut file, &nested, 0, b"out"));

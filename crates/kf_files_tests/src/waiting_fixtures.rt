@@ -242,9 +242,11 @@ pub(crate) fn posts_of<R: Abort>(rt: &R, alloc: Global) -> Posts
     }
 }
 
+/// A post of slot 1, which is that of a test's first file.
 pub(crate) fn post_of<R: Abort>(rt: &R, posts: &mut Posts) -> Post
     requires { posts.old.slots ≡ 4 }
-    ensures { posts.new.slots ≡ 4 }
+    ensures posts { posts.new.slots ≡ 4 }
+    ensures slot { result.slot ≡ 1 }
 {
     match posts.post(1) {
         Ok(post) => post,
@@ -257,8 +259,14 @@ pub(crate) fn opened<N: Naming, R: Abort + Wait>(
     tree: &SharedTree<N>,
     key: Key,
     post: Post,
-) -> WaitingFile<N> {
-    let hold = held(rt, tree, key).into_hold();
+) -> WaitingFile<N>
+    requires slot { post.slot ≡ 1 }
+{
+    assert_eq!(rt; key.slot, 1, "the post is of slot 1");
+    let held = tree.edit(rt).hold(key);
+    let Ok(hold) = held else {
+        panic!(rt; "no hold")
+    };
     let node = hold.node();
     match WaitingFile::open(hold, node, BOTH, post) {
         Ok(file) => file,

@@ -9,6 +9,7 @@ use crate::thread_tests::{Held, call_of, hold_of, leave, stays_zero, wait_for, w
 use kf_core::{Command, Node, Refusal};
 use kf_shared::{Naming, NewTree, SharedTree};
 use kf_words::Hidden;
+use std::alloc::Global;
 use std::marker::{Brand, PhantomData};
 use std::process::Abort;
 use std::sync::Wait;
@@ -64,7 +65,7 @@ fn a_shown_file_is_live_where_it_was_activated(rt: HostRuntime) {
     activated_while_hidden::<Brand, _>(&rt, made(&rt, rt.alloc(), 4, 4, 0));
 }
 
-fn removed_while_hidden<N: Naming, R: Abort + Wait>(rt: &R, new: NewTree)
+fn removed_while_hidden<N: Naming, R: Abort + Wait>(rt: &R, alloc: Global, new: NewTree)
     requires { new.master.table ≡ N.table }
 {
     let tree = new.named::<N>();
@@ -75,7 +76,7 @@ fn removed_while_hidden<N: Naming, R: Abort + Wait>(rt: &R, new: NewTree)
     let holds = doom(rt, &tree, kept);
     not_hidden(rt, &tree, late, Refusal::NoEntry);
     let gone = hold(rt, &tree, a);
-    told(rt, finished(rt, rt.alloc(), &tree, holds), &[a]);
+    told(rt, finished(rt, alloc, &tree, holds), &[a]);
     not_hidden(rt, &tree, gone, Refusal::NoEntry);
     assert_eq!(rt;
         add(rt, &tree, b"/a", FILE, true),
@@ -95,10 +96,10 @@ fn removed_while_hidden<N: Naming, R: Abort + Wait>(rt: &R, new: NewTree)
 
 #[test]
 fn a_hidden_file_is_removed_and_its_token_keeps_the_slot(rt: HostRuntime) {
-    removed_while_hidden::<Brand, _>(&rt, made(&rt, rt.alloc(), 4, 8, 0));
+    removed_while_hidden::<Brand, _>(&rt, rt.alloc(), made(&rt, rt.alloc(), 4, 8, 0));
 }
 
-fn compacted<N: Naming, R: Abort + Wait>(rt: &R, new: NewTree)
+fn compacted<N: Naming, R: Abort + Wait>(rt: &R, alloc: Global, new: NewTree)
     requires { new.master.table ≡ N.table }
 {
     let tree = new.named::<N>();
@@ -118,14 +119,14 @@ fn compacted<N: Naming, R: Abort + Wait>(rt: &R, new: NewTree)
         assert!(rt; matches!(list[1], Command::Create { key, live: true, .. } if key == x));
         assert!(rt; matches!(list[2], Command::Doom { key } if key == p));
     }
-    told(rt, finished(rt, rt.alloc(), &tree, holds), &[x, p]);
+    told(rt, finished(rt, alloc, &tree, holds), &[x, p]);
     assert_eq!(rt; commands(rt, &tree), 5);
     assert!(rt; is_bare(rt, &tree));
 }
 
 #[test]
 fn commands_are_compacted_under_a_removal(rt: HostRuntime) {
-    compacted::<Brand, _>(&rt, made(&rt, rt.alloc(), 4, 4, 0));
+    compacted::<Brand, _>(&rt, rt.alloc(), made(&rt, rt.alloc(), 4, 4, 0));
 }
 
 // ---- hiding waits for a call

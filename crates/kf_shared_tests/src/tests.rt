@@ -8,11 +8,12 @@ use crate::fixtures::{
 };
 use kf_core::{Limits, Node, Refusal};
 use kf_shared::{Naming, NewTree, SharedTree};
+use std::alloc::Global;
 use std::marker::Brand;
 use std::process::Abort;
 use std::sync::Wait;
 
-fn commands_and_removal<N: Naming, R: Abort + Wait>(rt: &R, new: NewTree)
+fn commands_and_removal<N: Naming, R: Abort + Wait>(rt: &R, alloc: Global, new: NewTree)
     requires { new.master.table ≡ N.table }
 {
     let tree = new.named::<N>();
@@ -34,7 +35,7 @@ fn commands_and_removal<N: Naming, R: Abort + Wait>(rt: &R, new: NewTree)
     assert_eq!(rt; commands(rt, &tree), 6);
     let first = turned_away(rt, first);
     assert!(rt; is_linked(rt, &tree, x) && !is_live(rt, &tree, x));
-    let receipts = finished(rt, rt.alloc(), &tree, holds);
+    let receipts = finished(rt, alloc, &tree, holds);
     told(rt, receipts, &[x, b, a]);
     assert_eq!(rt; commands(rt, &tree), 9);
     assert!(rt; is_bare(rt, &tree));
@@ -44,7 +45,7 @@ fn commands_and_removal<N: Naming, R: Abort + Wait>(rt: &R, new: NewTree)
 
 #[test]
 fn a_subtree_is_made_doomed_and_finished(rt: HostRuntime) {
-    commands_and_removal::<Brand, _>(&rt, made(&rt, rt.alloc(), 4, 4, 0));
+    commands_and_removal::<Brand, _>(&rt, rt.alloc(), made(&rt, rt.alloc(), 4, 4, 0));
 }
 
 fn last_generation<N: Naming, R: Abort + Wait>(rt: &R, new: NewTree)
@@ -70,7 +71,7 @@ fn the_last_generation_is_given_once(rt: HostRuntime) {
 
 /// Two holds of each node at most. `by_hand` says whether the last removal is a doom, and then a finish of
 /// each hold.
-fn full_below<N: Naming, R: Abort + Wait>(rt: &R, new: NewTree, by_hand: bool)
+fn full_below<N: Naming, R: Abort + Wait>(rt: &R, alloc: Global, new: NewTree, by_hand: bool)
     requires { new.master.table ≡ N.table }
 {
     let tree = new.named::<N>();
@@ -94,7 +95,7 @@ fn full_below<N: Naming, R: Abort + Wait>(rt: &R, new: NewTree, by_hand: bool)
     let last = hold(rt, &tree, x);
     let receipts = if by_hand {
         let holds = doom(rt, &tree, top);
-        finished(rt, rt.alloc(), &tree, holds)
+        finished(rt, alloc, &tree, holds)
     } else {
         removed(rt, &tree, top)
     };
@@ -105,12 +106,12 @@ fn full_below<N: Naming, R: Abort + Wait>(rt: &R, new: NewTree, by_hand: bool)
 
 #[test]
 fn a_removal_needs_room_for_a_hold_of_each_node(rt: HostRuntime) {
-    full_below::<Brand, _>(&rt, made(&rt, rt.alloc(), 8, 2, 0), false);
+    full_below::<Brand, _>(&rt, rt.alloc(), made(&rt, rt.alloc(), 8, 2, 0), false);
 }
 
 #[test]
 fn a_doom_needs_room_for_a_hold_of_each_node(rt: HostRuntime) {
-    full_below::<Brand, _>(&rt, made(&rt, rt.alloc(), 8, 2, 0), true);
+    full_below::<Brand, _>(&rt, rt.alloc(), made(&rt, rt.alloc(), 8, 2, 0), true);
 }
 
 fn root_alone<N: Naming, R: Abort + Wait>(rt: &R, new: NewTree)
@@ -148,7 +149,7 @@ fn the_root_is_not_removed(rt: HostRuntime) {
     root_stays::<Brand, _>(&rt, new);
 }
 
-fn removed_again<N: Naming, R: Abort + Wait>(rt: &R, new: NewTree)
+fn removed_again<N: Naming, R: Abort + Wait>(rt: &R, alloc: Global, new: NewTree)
     requires { new.master.table ≡ N.table }
 {
     let tree = new.named::<N>();
@@ -162,7 +163,7 @@ fn removed_again<N: Naming, R: Abort + Wait>(rt: &R, new: NewTree)
     let before = commands(rt, &tree);
     told(rt, removed(rt, &tree, kept), &[a]);
     let holds = doom(rt, &tree, other);
-    let receipts = finished(rt, rt.alloc(), &tree, holds);
+    let receipts = finished(rt, alloc, &tree, holds);
     told(rt, receipts, &[a]);
     assert_eq!(rt; commands(rt, &tree), before);
     assert!(rt; is_live(rt, &tree, again));
@@ -171,7 +172,7 @@ fn removed_again<N: Naming, R: Abort + Wait>(rt: &R, new: NewTree)
 
 #[test]
 fn a_node_that_has_left_gives_one_receipt(rt: HostRuntime) {
-    removed_again::<Brand, _>(&rt, made(&rt, rt.alloc(), 4, 4, 0));
+    removed_again::<Brand, _>(&rt, rt.alloc(), made(&rt, rt.alloc(), 4, 4, 0));
 }
 
 fn self_removals<N: Naming, R: Abort + Wait>(rt: &R, new: NewTree)
