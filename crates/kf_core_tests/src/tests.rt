@@ -123,8 +123,8 @@ fn release(world: &mut World, id: usize) -> Option<()> {
     Some(())
 }
 
-/// The place of the first answer that is not as it must be. (One comparison after the other makes the proof of a test
-/// much longer.)
+/// The place of the first answer that is not as it must be. (One comparison after the other makes the proof
+/// of a test much longer.)
 fn first_wrong(answers: &[bool]) -> Option<usize> {
     answers.iter().position(|is_right| !*is_right)
 }
