@@ -1,6 +1,6 @@
 """Scripts whose names, texts, lines and listings have each length around each bound, with the replies that they must have."""
 
-from heapq import heapify, heappop, heappush
+from heapq import heappop, heappush
 from zlib import crc32
 
 NAME, PAGE, LINE, TEXT = 255, 4096, 8192, b"err Line 22"

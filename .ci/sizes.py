@@ -4,8 +4,8 @@ chain, links across that chain, names of each length, and a long list of command
 from lengths import BYTES, NAME, Run
 
 SLOTS = 4096
-# A function that takes stack for each node of a chain would need more.
-STACK = 256 * 1024
+# The program needs some 128 KiB, and a function that took stack for each node of a chain would need more than is left.
+STACK = 160 * 1024
 
 
 def name_of(number):
