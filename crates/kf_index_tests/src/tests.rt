@@ -1,5 +1,5 @@
-//! The limits of names, listings by a loop over `next_after`, and each public call where memory is there. (That
-//! names stand in byte order, however they came, is shown by scripts/tree.txt and .ci/lengths.py.)
+//! The limits of names, listings by a loop over `next_after`, and each public call where memory is there.
+//! (That names stand in byte order, however they came, is shown by scripts/tree.txt and .ci/lengths.py.)
 
 use kf_core::{Key, Refusal};
 use kf_index::{Index, Listed, Name, name_fault};

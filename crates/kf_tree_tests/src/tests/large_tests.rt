@@ -1,5 +1,5 @@
-//! Every slot in one directory, and a path of many names: calls that no script makes in this form. (Trees as large
-//! as they can be, made by scripts, stand in .ci/sizes.py.)
+//! Every slot in one directory, and a path of many names: calls that no script makes in this form. (Trees as
+//! large as they can be, made by scripts, stand in .ci/sizes.py.)
 
 use super::{ROOT, add, first_wrong, key, new_state, vacant};
 use kf_core::{Key, Node, Refusal};
