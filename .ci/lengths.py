@@ -1,6 +1,7 @@
 """Scripts whose names, texts, lines and listings have each length around each bound, with the replies that they must have."""
 
-from heapq import heapify, heappop, heappush
+from heapq import heappop, heappush
+from zlib import crc32
 
 NAME, PAGE, LINE, TEXT = 255, 4096, 8192, b"err Line 22"
 ONE_CALLER, ONE_WORKER = (), ("--workers", "1")
@@ -81,6 +82,16 @@ def names(run, length):
             refusal = b"err NameTooLong 36" if length else TEXT if line.startswith(b"mv") else b"err Invalid 22"
             run.ask(line, refusal)
             run.free(b"rm /a", [slot])
+
+
+def names_in_order(run, length):
+    """Names of this length that differ in one byte, and each with a byte more behind it, in byte order."""
+    same = b"k" * length
+    chosen = {same} | {same[:at] + bytes([byte]) + same[at + 1 :] for at in range(length) for byte in (1, 127, 128, 255)}
+    chosen = [name + more for name in chosen for more in (b"", b"\1")]
+    slots = [run.make(b"mkdir /d")] + [run.make(b"file /d/%s 444" % name) for name in sorted(chosen, key=crc32)]
+    run.ask(b"ls /d", b" ".join(sorted(chosen)))
+    run.free(b"rm /d", slots)
 
 
 def first_texts(run, length):
@@ -184,6 +195,7 @@ def around(*bounds, by=6):
 # What is tried, by name: a piece of a script, the lengths it is tried with, and the slots of its tree.
 TRIED = {
     "names of 0 to 300 bytes": (names, range(301), 1024),
+    "names that differ in one byte, in byte order": (names_in_order, range(1, 26), 1024),
     "first texts of each length that a line can have, and more": (first_texts, range(LINE - 8), 1024),
     "writes of each length that a line can have, and more": (writes, range(LINE - 4), 1024),
     "reads of each length up to a page, at each offset": (reads, range(PAGE + 4), 1024),

@@ -123,122 +123,15 @@ fn release(world: &mut World, id: usize) -> Option<()> {
     Some(())
 }
 
-#[test]
-fn a_slot_comes_back_after_its_last_hold(rt: HostRuntime) -> Result<(), Fail> {
-    let mut world = world_of(rt.alloc(), 2, 2, 0)?;
-    assert_eq!(rt; world.free_key(), Some(key(1, 1)));
-    assert_eq!(rt; make(&mut world), Some(key(1, 1)));
-    let c = world.pin(key(1, 1))?;
-    assert!(rt; world.room(key(1, 1)), "one hold of two");
-    let d = world.pin(key(1, 1))?;
-    assert!(rt; !world.room(key(1, 1)), "two holds of two");
-    assert_eq!(rt; world.pin(key(1, 1)), Err(Refusal::TooManyHolds));
-    assert_eq!(rt; enter_and_doom(&mut world, c), Some(true));
-    assert!(rt; !world.look(d), "c is running");
-    assert_eq!(rt; leave(&mut world, c), Some(()));
-    assert!(rt; world.look(d), "nobody has a reference");
-    assert!(rt; !world.part(d), "still linked");
-    assert_eq!(rt; take_out(&mut world, d), Some(()));
-    assert!(rt; world.part(d), "taken out");
-    assert_eq!(rt; world.free_key(), None, "held twice");
-    assert_eq!(rt; release(&mut world, c), Some(()));
-    assert_eq!(rt; world.free_key(), None, "held once");
-    assert_eq!(rt; release(&mut world, d), Some(()));
-    assert_eq!(rt; world.free_key(), Some(key(1, 2)));
-    assert_eq!(rt; world.pin(key(1, 1)), Err(Refusal::NoEntry));
-    assert_eq!(rt; world.caller(c), Some((key(1, 1), Phase::Spent)));
-    assert_eq!(rt; world.caller(2), None);
-    Ok(())
+/// The place of the first answer that is not as it must be. (One comparison after the other makes the proof
+/// of a test much longer.)
+fn first_wrong(answers: &[bool]) -> Option<usize> {
+    answers.iter().position(|is_right| !*is_right)
 }
 
-#[test]
-fn a_slot_without_generations_is_not_given_again(rt: HostRuntime) -> Result<(), Fail> {
-    let mut world = world_of(rt.alloc(), 2, 1, 4_294_967_294)?;
-    let last = key(1, 4_294_967_295);
-    assert_eq!(rt; make(&mut world), Some(last));
-    let c = world.pin(last)?;
-    assert_eq!(rt; enter_and_doom(&mut world, c), Some(true));
-    assert_eq!(rt; leave(&mut world, c), Some(()));
-    assert!(rt; world.look(c), "nobody has a reference");
-    assert_eq!(rt; take_out(&mut world, c), Some(()));
-    assert_eq!(rt; release(&mut world, c), Some(()));
-    assert_eq!(rt; world.free_key(), None);
-    Ok(())
-}
-
-#[test]
-fn a_broken_call_is_not_waited_for(rt: HostRuntime) -> Result<(), Fail> {
-    let mut world = world_of(rt.alloc(), 4, 3, 0)?;
-    assert_eq!(rt; make(&mut world), Some(key(1, 1)));
-    assert_eq!(rt; make(&mut world), Some(key(2, 1)));
-    let c = world.pin(key(2, 1))?;
-    let d = world.pin(key(2, 1))?;
-    let e = world.pin(key(2, 1))?;
-    assert_eq!(rt; enter_and_doom(&mut world, c), Some(true));
-    assert_eq!(rt; enter(&mut world, d), Some(false), "doomed");
-    assert_eq!(rt; world.caller(d), Some((key(2, 1), Phase::Turned)));
-    assert!(rt; !world.look(d), "c is running");
-    assert_eq!(rt; break_at(&mut world, c), Some(()));
-    assert!(rt; world.look(d), "c gave its reference up");
-    assert_eq!(rt; restore(&mut world, c), Some(()));
-    assert!(rt; !world.look(e), "c has a reference again");
-    assert_eq!(rt; leave(&mut world, c), Some(()));
-    assert!(rt; world.look(e), "nobody has a reference");
-    assert_eq!(rt; take_out(&mut world, e), Some(()));
-    assert_eq!(rt; world.free_key(), Some(key(3, 1)), "slot 2 is held");
-    assert_eq!(rt; release(&mut world, c), Some(()));
-    assert_eq!(rt; release(&mut world, d), Some(()));
-    assert_eq!(rt; release(&mut world, e), Some(()));
-    assert_eq!(rt; world.free_key(), Some(key(2, 2)), "lower than slot 3");
-    Ok(())
-}
-
-/// Dooms the node, waits for its calls, takes it out and gives its slot back.
-fn remove(world: &mut World, key: Key) -> Option<()> {
-    let id = world.pin(key).ok()?;
-    if !enter_and_doom(world, id)? {
-        return None;
-    }
-    leave(world, id)?;
-    if !world.look(id) {
-        return None;
-    }
-    take_out(world, id)?;
-    release(world, id)
-}
-
-#[test]
-fn the_lowest_slot_comes_back_first_out_of_many_blocks(rt: HostRuntime) -> Result<(), Fail> {
-    let mut world = world_of(rt.alloc(), 200, 1, 0)?;
-    for slot in 1..200u32 {
-        assert_eq!(rt; make(&mut world), Some(key(slot, 1)));
-    }
-    assert_eq!(rt; world.free_key(), None, "all are taken");
-    for slot in [130, 70, 199, 64, 63, 131, 1, 127] {
-        assert_eq!(rt; remove(&mut world, key(slot, 1)), Some(()), "{slot}");
-    }
-    for slot in [1, 63, 64] {
-        assert_eq!(rt; make(&mut world), Some(key(slot, 2)));
-    }
-    assert_eq!(rt; remove(&mut world, key(2, 1)), Some(()), "lower again");
-    for slot in [2, 70, 127, 130, 131, 199] {
-        assert_eq!(rt; make(&mut world), Some(key(slot, 2)));
-    }
-    assert_eq!(rt; world.free_key(), None, "all are taken again");
-    Ok(())
-}
-
-#[test]
-fn a_guard_gives_calls_on_live_nodes_alone(rt: HostRuntime) -> Result<(), Fail> {
-    let mut world = world_of(rt.alloc(), 2, 2, 0)?;
-    assert_eq!(rt; make(&mut world), Some(key(1, 1)));
-    let c = world.pin(key(1, 1))?;
-    assert_eq!(rt; call_once(&mut world, c), Some((key(1, 1), Phase::Running)));
-    assert_eq!(rt; world.caller(c), Some((key(1, 1), Phase::Still)));
-    assert_eq!(rt; enter_and_doom(&mut world, c), Some(true));
-    assert_eq!(rt; leave(&mut world, c), Some(()));
-    assert_eq!(rt; call_once(&mut world, c), None, "doomed");
-    Ok(())
+/// Holds, each of the caller with the next number.
+fn pins(world: &mut World, keys: &[Key]) -> bool {
+    keys.iter().all(|key| world.pin(*key).is_ok())
 }
 
 /// One call by the guard, from its start to its end.
@@ -251,6 +144,110 @@ fn call_once(world: &mut World, id: usize) -> Option<(Key, Phase)> {
     let seen = (call.key(), call.phase());
     Guard::leave(world, call);
     Some(seen)
+}
+
+#[test]
+fn a_slot_comes_back_after_its_last_hold(rt: HostRuntime) -> Result<(), Fail> {
+    let mut world = world_of(rt.alloc(), 2, 2, 0)?;
+    let answers = [
+        world.free_key() == Some(key(1, 1)),
+        make(&mut world) == Some(key(1, 1)),
+        world.pin(key(1, 1)) == Ok(0),
+        world.room(key(1, 1)),
+        world.pin(key(1, 1)) == Ok(1),
+        !world.room(key(1, 1)),
+        world.pin(key(1, 1)) == Err(Refusal::TooManyHolds),
+        enter_and_doom(&mut world, 0) == Some(true),
+        !world.look(1),
+        leave(&mut world, 0) == Some(()),
+        world.look(1),
+        !world.part(1),
+        take_out(&mut world, 1) == Some(()),
+        world.part(1),
+        world.free_key() == None,
+        release(&mut world, 0) == Some(()),
+        world.free_key() == None,
+        release(&mut world, 1) == Some(()),
+        world.free_key() == Some(key(1, 2)),
+        world.pin(key(1, 1)) == Err(Refusal::NoEntry),
+        world.caller(0) == Some((key(1, 1), Phase::Spent)),
+        world.caller(2) == None,
+    ];
+    assert_eq!(rt; first_wrong(&answers), None);
+    Ok(())
+}
+
+#[test]
+fn a_broken_call_is_not_waited_for(rt: HostRuntime) -> Result<(), Fail> {
+    let mut world = world_of(rt.alloc(), 4, 3, 0)?;
+    let answers = [
+        make(&mut world) == Some(key(1, 1)),
+        make(&mut world) == Some(key(2, 1)),
+        pins(&mut world, &[key(2, 1), key(2, 1), key(2, 1)]),
+        enter_and_doom(&mut world, 0) == Some(true),
+        enter(&mut world, 1) == Some(false),
+        world.caller(1) == Some((key(2, 1), Phase::Turned)),
+        !world.look(1),
+        break_at(&mut world, 0) == Some(()),
+        world.look(1),
+        restore(&mut world, 0) == Some(()),
+        !world.look(2),
+        leave(&mut world, 0) == Some(()),
+        world.look(2),
+        take_out(&mut world, 2) == Some(()),
+        world.free_key() == Some(key(3, 1)),
+        release(&mut world, 0) == Some(()),
+        release(&mut world, 1) == Some(()),
+        release(&mut world, 2) == Some(()),
+        world.free_key() == Some(key(2, 2)),
+    ];
+    assert_eq!(rt; first_wrong(&answers), None);
+    Ok(())
+}
+
+#[test]
+fn a_hidden_node_is_not_live_until_it_is_shown(rt: HostRuntime) -> Result<(), Fail> {
+    let mut world = world_of(rt.alloc(), 3, 4, 0)?;
+    let answers = [
+        make(&mut world) == Some(key(1, 1)),
+        make(&mut world) == Some(key(2, 1)),
+        pins(&mut world, &[key(1, 1), key(1, 1), key(2, 1)]),
+        enter(&mut world, 0) == Some(true),
+        hide(&mut world, 1) == Some(true),
+        world.caller(1) == Some((key(1, 1), Phase::Hiding)),
+        !world.look_hidden(1),
+        !world.look_hidden(2),
+        leave(&mut world, 0) == Some(()),
+        world.look_hidden(1),
+        world.caller(1) == Some((key(1, 1), Phase::Hidden)),
+        enter(&mut world, 0) == Some(false),
+        hide(&mut world, 0) == Some(false),
+        enter(&mut world, 2) == Some(true),
+        show(&mut world, 1) == Some(()),
+        world.caller(1) == Some((key(1, 1), Phase::Still)),
+        enter(&mut world, 0) == Some(true),
+        hide(&mut world, 1) == Some(true),
+        leave(&mut world, 0) == Some(()),
+        hide(&mut world, 0) == Some(false),
+    ];
+    assert_eq!(rt; first_wrong(&answers), None);
+    Ok(())
+}
+
+#[test]
+fn a_guard_gives_calls_on_live_nodes_alone(rt: HostRuntime) -> Result<(), Fail> {
+    let mut world = world_of(rt.alloc(), 2, 2, 0)?;
+    let answers = [
+        make(&mut world) == Some(key(1, 1)),
+        pins(&mut world, &[key(1, 1)]),
+        call_once(&mut world, 0) == Some((key(1, 1), Phase::Running)),
+        world.caller(0) == Some((key(1, 1), Phase::Still)),
+        enter_and_doom(&mut world, 0) == Some(true),
+        leave(&mut world, 0) == Some(()),
+        call_once(&mut world, 0) == None,
+    ];
+    assert_eq!(rt; first_wrong(&answers), None);
+    Ok(())
 }
 
 #[test]
@@ -285,32 +282,4 @@ fn refusals_have_the_names_and_numbers_of_linux(rt: HostRuntime) {
         assert_eq!(rt; refusal.name(), name);
         assert_eq!(rt; refusal.number(), number, "{name}");
     }
-}
-
-#[test]
-fn a_hidden_node_is_not_live_until_it_is_shown(rt: HostRuntime) -> Result<(), Fail> {
-    let mut world = world_of(rt.alloc(), 3, 4, 0)?;
-    assert_eq!(rt; make(&mut world), Some(key(1, 1)));
-    assert_eq!(rt; make(&mut world), Some(key(2, 1)));
-    let c = world.pin(key(1, 1))?;
-    let d = world.pin(key(1, 1))?;
-    let e = world.pin(key(2, 1))?;
-    assert_eq!(rt; enter(&mut world, c), Some(true));
-    assert_eq!(rt; hide(&mut world, d), Some(true));
-    assert_eq!(rt; world.caller(d), Some((key(1, 1), Phase::Hiding)));
-    assert!(rt; !world.look_hidden(d), "c is running");
-    assert!(rt; !world.look_hidden(e), "e hides nothing");
-    assert_eq!(rt; leave(&mut world, c), Some(()));
-    assert!(rt; world.look_hidden(d), "nobody has a reference");
-    assert_eq!(rt; world.caller(d), Some((key(1, 1), Phase::Hidden)));
-    assert_eq!(rt; enter(&mut world, c), Some(false), "hidden");
-    assert_eq!(rt; hide(&mut world, c), Some(false), "hidden already");
-    assert_eq!(rt; enter(&mut world, e), Some(true), "another node");
-    assert_eq!(rt; show(&mut world, d), Some(()));
-    assert_eq!(rt; world.caller(d), Some((key(1, 1), Phase::Still)));
-    assert_eq!(rt; enter(&mut world, c), Some(true), "shown again");
-    assert_eq!(rt; hide(&mut world, d), Some(true));
-    assert_eq!(rt; leave(&mut world, c), Some(()));
-    assert_eq!(rt; hide(&mut world, c), Some(false), "d hides it");
-    Ok(())
 }

@@ -27,6 +27,12 @@ pub(crate) const BOTH: Want = Want {
     write: true,
 };
 
+/// The place of the first answer that is not as it must be. (One comparison after the other makes the proof
+/// of a test much longer.)
+pub(crate) fn first_wrong(answers: &[bool]) -> Option<usize> {
+    answers.iter().position(|is_right| !*is_right)
+}
+
 pub(crate) fn key_at(slot: u32, generation: u32) -> Key {
     Key { slot, generation }
 }
@@ -146,17 +152,17 @@ pub(crate) fn close<N: Naming>(file: WaitingFile<N>) {
     hold.release();
 }
 
-/// Reads of a file from its start are answered by this text.
-pub(crate) fn shows<N: Naming, W: WaitOps, R: Abort + Wait>(
+/// Whether a read of a file from its start is answered by this text.
+pub(crate) fn shows<N: Naming, W: WaitOps, R: Wait>(
     rt: &R,
     tree: &SharedTree<N>,
     ops: &W,
     file: &mut WaitingFile<N>,
     text: &[u8],
-) {
+) -> bool {
     let mut out = [0u8; 64];
     match file.read(rt, tree, ops, 0, &mut out) {
-        Ok(count) => assert!(rt; &out[..count] == text, "another text"),
-        Err(_) => panic!(rt; "not shown"),
+        Ok(count) => &out[..count] == text,
+        Err(_) => false,
     }
 }

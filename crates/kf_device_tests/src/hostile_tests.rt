@@ -2,7 +2,8 @@
 ghost use Rattle.std.specs.Prelude.{◌≡◌};
 
 use crate::fixtures::{
-    BOTH, READ, WRITE, close, hold, key_at, live_in, made, new_bus, open, posted, shows, walked,
+    BOTH, READ, WRITE, close, first_wrong, hold, key_at, live_in, made, new_bus, open, posted,
+    shows, walked,
 };
 use kf_core::{Key, Refusal};
 use kf_device::Bus;
@@ -114,7 +115,6 @@ fn writes_itself<N: Naming, R: Abort + Wait>(rt: &R, alloc: Global, new: NewTree
     let bus = new_bus(rt, alloc);
     assert_eq!(rt; bus.plug(rt, &tree, b"d0", b""), Ok(key_at(4, 1)));
     let mut value = open(rt, alloc, &tree, b"/devices/d0/value", READ);
-    shows(rt, &tree, &bus, &mut value, b"");
     let nested = Nested {
         bus: &bus,
         post: Mutex::new(Some(ValuePost {
@@ -122,11 +122,18 @@ fn writes_itself<N: Naming, R: Abort + Wait>(rt: &R, alloc: Global, new: NewTree
         })),
         answered: AtomicU64::new(0),
     };
-    shows(rt, &tree, &nested, &mut value, b"new");
-    assert_eq!(rt; nested.answered.load(Ordering::SeqCst), 2);
+    let answers = [
+        shows(rt, &tree, &bus, &mut value, b""),
+        shows(rt, &tree, &nested, &mut value, b"new"),
+        nested.answered.load(Ordering::SeqCst) == 2,
+    ];
+    assert_eq!(rt; first_wrong(&answers), None);
     close(value);
-    assert_eq!(rt; bus.unplug(rt, &tree, b"d0"), Ok(()));
-    assert_eq!(rt; bus.plug(rt, &tree, b"d0", b""), Ok(key_at(4, 2)));
+    let after = [
+        bus.unplug(rt, &tree, b"d0") == Ok(()),
+        bus.plug(rt, &tree, b"d0", b"") == Ok(key_at(4, 2)),
+    ];
+    assert_eq!(rt; first_wrong(&after), None);
 }
 
 #[test]
@@ -172,14 +179,22 @@ fn delete_refused<N: Naming, R: Abort + Wait>(rt: &R, alloc: Global, new: NewTre
     assert_eq!(rt; bus.plug(rt, &tree, b"d0", b"on"), Ok(key_at(4, 1)));
     let mut delete = open(rt, alloc, &tree, b"/devices/d0/delete", WRITE);
     let holds = fill(rt, alloc, &tree, b"/devices/d0/delete", 99);
-    assert_eq!(rt; delete.write(rt, &tree, &bus, b"1"), Err(FULL));
-    assert_eq!(rt; live_in(rt, &tree, b"/devices/d0"), 3);
-    assert_eq!(rt; live_in(rt, &tree, b"/bus/devices"), 1);
-    assert_eq!(rt; bus.kept(rt), 1);
+    let refused = [
+        delete.write(rt, &tree, &bus, b"1") == Err(FULL),
+        live_in(rt, &tree, b"/devices/d0") == 3,
+        live_in(rt, &tree, b"/bus/devices") == 1,
+        bus.kept(rt) == 1,
+    ];
     release_holds(holds);
-    assert_eq!(rt; delete.write(rt, &tree, &bus, b"1"), Ok(1));
-    assert_eq!(rt; live_in(rt, &tree, b"/devices"), 0);
-    assert_eq!(rt; bus.kept(rt), 0);
+    let answered = [
+        delete.write(rt, &tree, &bus, b"1") == Ok(1),
+        live_in(rt, &tree, b"/devices") == 0,
+        bus.kept(rt) == 0,
+    ];
+    assert_eq!(rt;
+        (first_wrong(&refused), first_wrong(&answered)),
+        (None, None)
+    );
     close(delete);
 }
 
@@ -197,17 +212,22 @@ fn rest_refused<N: Naming, R: Abort + Wait>(rt: &R, alloc: Global, new: NewTree)
     assert_eq!(rt; bus.plug(rt, &tree, b"d0", b"on"), Ok(key_at(4, 1)));
     let mut delete = open(rt, alloc, &tree, b"/devices/d0/delete", WRITE);
     let holds = fill(rt, alloc, &tree, b"/devices/d0/value", 100);
-    assert_eq!(rt; delete.write(rt, &tree, &bus, b"1"), Err(FULL));
-    assert_eq!(rt;
-        delete.write(rt, &tree, &bus, b"1"),
-        Err(FileError::Refused(Refusal::NoDevice))
-    );
-    assert_eq!(rt; live_in(rt, &tree, b"/devices/d0"), 2);
-    assert_eq!(rt; live_in(rt, &tree, b"/bus/devices"), 0);
-    assert_eq!(rt; bus.unplug(rt, &tree, b"d0"), Err(Refusal::TooManyHolds));
+    let refused = [
+        delete.write(rt, &tree, &bus, b"1") == Err(FULL),
+        delete.write(rt, &tree, &bus, b"1") == Err(FileError::Refused(Refusal::NoDevice)),
+        live_in(rt, &tree, b"/devices/d0") == 2,
+        live_in(rt, &tree, b"/bus/devices") == 0,
+        bus.unplug(rt, &tree, b"d0") == Err(Refusal::TooManyHolds),
+    ];
     release_holds(holds);
-    assert_eq!(rt; bus.unplug(rt, &tree, b"d0"), Ok(()));
-    assert_eq!(rt; walked(rt, &tree, b"/devices/d0"), Err(Refusal::NoEntry));
+    let answered = [
+        bus.unplug(rt, &tree, b"d0") == Ok(()),
+        walked(rt, &tree, b"/devices/d0") == Err(Refusal::NoEntry),
+    ];
+    assert_eq!(rt;
+        (first_wrong(&refused), first_wrong(&answered)),
+        (None, None)
+    );
     close(delete);
 }
 

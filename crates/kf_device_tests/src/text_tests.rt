@@ -1,7 +1,9 @@
 //! What a bus keeps of its devices: which texts it shows, and that it forgets those of devices that are gone.
 ghost use Rattle.std.specs.Prelude.{◌≡◌};
 
-use crate::fixtures::{BOTH, READ, close, key_at, made, new_bus, open, removed, shows, walked};
+use crate::fixtures::{
+    BOTH, READ, close, first_wrong, key_at, made, new_bus, open, removed, shows, walked,
+};
 use kf_core::{Node, Refusal};
 use kf_device::Bus;
 use kf_files::{Fault, FileError, WaitOps};
@@ -24,21 +26,18 @@ fn knows_nothing_of<N: Naming, R: Abort + Wait>(
 ) {
     let file = Node::File { mode: 0o666, tag };
     let made = tree.edit(rt).create(key_at(0, 1), b"odd", file, true);
-    assert!(rt; made.is_ok());
     let mut file = open(rt, alloc, tree, b"/odd", BOTH);
     let mut out = [0u8; 9];
     let unknown = Fault { number: 22 };
-    assert_eq!(rt;
-        file.read(rt, tree, bus, 0, &mut out),
-        Err(FileError::Callback(unknown))
-    );
-    assert_eq!(rt;
-        file.write(rt, tree, bus, b"x"),
-        Err(FileError::Callback(unknown))
-    );
-    assert_eq!(rt; bus.first(rt, tag, b"x"), Err(unknown));
+    let answers = [
+        made.is_ok(),
+        file.read(rt, tree, bus, 0, &mut out) == Err(FileError::Callback(unknown)),
+        file.write(rt, tree, bus, b"x") == Err(FileError::Callback(unknown)),
+        bus.first(rt, tag, b"x") == Err(unknown),
+    ];
     close(file);
     removed(rt, tree, b"/odd");
+    assert_eq!(rt; first_wrong(&answers), None);
 }
 
 fn meets_odd_tags<N: Naming, R: Abort + Wait>(rt: &R, alloc: Global, new: NewTree)
@@ -47,17 +46,21 @@ fn meets_odd_tags<N: Naming, R: Abort + Wait>(rt: &R, alloc: Global, new: NewTre
     let tree = new.named::<N>();
     let bus = new_bus(rt, alloc);
     assert!(rt; bus.plug(rt, &tree, b"d1", b"one").is_ok());
-    knows_nothing_of(rt, alloc, &tree, &bus, 0);
-    knows_nothing_of(rt, alloc, &tree, &bus, FIRST - 1);
-    knows_nothing_of(rt, alloc, &tree, &bus, FIRST);
-    knows_nothing_of(rt, alloc, &tree, &bus, FIRST + 1);
-    knows_nothing_of(rt, alloc, &tree, &bus, FIRST + 2);
-    knows_nothing_of(rt, alloc, &tree, &bus, FIRST + 7);
-    knows_nothing_of(rt, alloc, &tree, &bus, FIRST + 8);
-    knows_nothing_of(rt, alloc, &tree, &bus, FIRST + 9);
-    knows_nothing_of(rt, alloc, &tree, &bus, u64::MAX);
+    for tag in [
+        0,
+        FIRST - 1,
+        FIRST,
+        FIRST + 1,
+        FIRST + 2,
+        FIRST + 7,
+        FIRST + 8,
+        FIRST + 9,
+        u64::MAX,
+    ] {
+        knows_nothing_of(rt, alloc, &tree, &bus, tag);
+    }
     let mut value = open(rt, alloc, &tree, b"/devices/d1/value", READ);
-    shows(rt, &tree, &bus, &mut value, b"one");
+    assert!(rt; shows(rt, &tree, &bus, &mut value, b"one"));
     close(value);
 }
 
@@ -71,17 +74,46 @@ fn a_tag_of_no_device_is_a_fault(rt: HostRuntime) {
 
 // The text of a value that was moved is kept until the value goes.
 fn moves_a_value<N: Naming, R: Abort + Wait>(rt: &R, tree: &SharedTree<N>, bus: &Bus) {
-    assert!(rt; bus.plug(rt, tree, b"moved", b"on").is_ok());
+    let plugged = bus.plug(rt, tree, b"moved", b"on").is_ok();
     let Ok(value) = walked(rt, tree, b"/devices/moved/value") else {
         panic!(rt; "no value")
     };
-    assert_eq!(rt; tree.edit(rt).rename(value, key_at(0, 1), b"v"), Ok(()));
-    assert_eq!(rt; bus.unplug(rt, tree, b"moved"), Ok(()));
-    assert!(rt;
+    let renamed = tree.edit(rt).rename(value, key_at(0, 1), b"v");
+    let answers = [
+        plugged,
+        renamed == Ok(()),
+        bus.unplug(rt, tree, b"moved") == Ok(()),
+        // its text, and those of the others
         matches!(bus.kept(rt), 2 | 3),
-        "its text, and those of the others"
-    );
+    ];
+    assert_eq!(rt; first_wrong(&answers), None);
     removed(rt, tree, b"/v");
+}
+
+// Whether the stored commands are compacted. (An editor within a longer expression would keep the lock.)
+fn compacts<N: Naming, R: Wait>(rt: &R, tree: &SharedTree<N>) -> bool {
+    tree.edit(rt).compact() == Ok(())
+}
+
+// Another device comes, and goes by its name.
+fn comes_and_goes<N: Naming, R: Abort + Wait>(rt: &R, tree: &SharedTree<N>, bus: &Bus) {
+    let answers = [
+        bus.plug(rt, tree, b"goes", b"away").is_ok(),
+        bus.unplug(rt, tree, b"goes") == Ok(()),
+        bus.plug(rt, tree, b"stays", b"twice") == Err(Refusal::Exists),
+        compacts(rt, tree),
+        bus.kept(rt) == 1,
+    ];
+    assert_eq!(rt; first_wrong(&answers), None);
+}
+
+// Another device comes, and its nodes are removed past the bus.
+fn comes_and_is_removed<N: Naming, R: Abort + Wait>(rt: &R, tree: &SharedTree<N>, bus: &Bus) {
+    let comes = bus.plug(rt, tree, b"goes", b"away").is_ok();
+    removed(rt, tree, b"/devices/goes");
+    removed(rt, tree, b"/bus/devices/goes");
+    let answers = [comes, compacts(rt, tree), bus.kept(rt) <= 3];
+    assert_eq!(rt; first_wrong(&answers), None);
 }
 
 fn stays_small<N: Naming, R: Abort + Wait>(rt: &R, alloc: Global, new: NewTree)
@@ -91,28 +123,20 @@ fn stays_small<N: Naming, R: Abort + Wait>(rt: &R, alloc: Global, new: NewTree)
     let bus = new_bus(rt, alloc);
     assert!(rt; bus.plug(rt, &tree, b"stays", b"here").is_ok());
     for _ in 0..10_000 {
-        assert!(rt; bus.plug(rt, &tree, b"goes", b"away").is_ok());
-        assert_eq!(rt; bus.unplug(rt, &tree, b"goes"), Ok(()));
-        assert_eq!(rt;
-            bus.plug(rt, &tree, b"stays", b"twice"),
-            Err(Refusal::Exists)
-        );
-        assert_eq!(rt; tree.edit(rt).compact(), Ok(()));
-        assert_eq!(rt; bus.kept(rt), 1);
+        comes_and_goes(rt, &tree, &bus);
     }
     for _ in 0..10_000 {
-        assert!(rt; bus.plug(rt, &tree, b"goes", b"away").is_ok());
-        removed(rt, &tree, b"/devices/goes");
-        removed(rt, &tree, b"/bus/devices/goes");
-        assert_eq!(rt; tree.edit(rt).compact(), Ok(()));
-        assert!(rt; bus.kept(rt) <= 3);
+        comes_and_is_removed(rt, &tree, &bus);
     }
-    assert_eq!(rt; bus.unplug(rt, &tree, b"goes"), Err(Refusal::NoEntry));
-    assert!(rt; bus.kept(rt) <= 2);
+    let missing = bus.unplug(rt, &tree, b"goes") == Err(Refusal::NoEntry);
+    assert!(rt; missing && bus.kept(rt) <= 2);
     moves_a_value(rt, &tree, &bus);
-    assert_eq!(rt; bus.unplug(rt, &tree, b"stays"), Ok(()));
-    assert_eq!(rt; bus.unplug(rt, &tree, b"stays"), Err(Refusal::NoEntry));
-    assert_eq!(rt; bus.kept(rt), 0);
+    let answers = [
+        bus.unplug(rt, &tree, b"stays") == Ok(()),
+        bus.unplug(rt, &tree, b"stays") == Err(Refusal::NoEntry),
+        bus.kept(rt) == 0,
+    ];
+    assert_eq!(rt; first_wrong(&answers), None);
 }
 
 #[test]

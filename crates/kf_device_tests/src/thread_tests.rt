@@ -1,10 +1,7 @@
 //! Devices on a shared tree, in threads.
-ghost use Rattle.std.specs.Prelude.{◌≡◌, ◌<◌, true};
-ghost use Rattle.kf_core.specs.Phases.{has_reference};
-ghost use Rattle.kf_core.specs.declared.caller.Phase.TheVariants.{Running};
-ghost use Rattle.kf_words.specs.Callers.{IsSameSeat};
+ghost use Rattle.std.specs.Prelude.{◌≡◌};
 
-use crate::fixtures::{WRITE, close, key_at, live_in, made, new_bus, open, release_all, walked};
+use crate::fixtures::{WRITE, close, first_wrong, key_at, live_in, made, new_bus, open, walked};
 use kf_core::Refusal;
 use kf_device::Bus;
 use kf_files::{Fault, Page, WaitOps, WaitingFile};
@@ -17,32 +14,14 @@ use std::sync::Wait;
 use std::sync::atomic::{AtomicU64, Ordering};
 use std::thread::{Threads, join};
 
-/// What a store does once both are there.
-#[derive(Clone, Copy, Drop)]
-enum Then<'a> {
-    AsksTheBus(&'a Bus),
-    RemovesItself,
-}
-
-/// Stores that meet in their callbacks before either goes on.
+/// Stores that meet in their callbacks before either asks the bus.
 #[derive(Drop)]
 struct Meeting<'a> {
-    then: Then<'a>,
+    bus: &'a Bus,
     arrived: AtomicU64,
-    first: AtomicU64,
-    later: AtomicU64,
 }
 
 impl<'a> Meeting<'a> {
-    fn new(then: Then<'a>) -> Meeting<'a> {
-        Meeting {
-            then,
-            arrived: AtomicU64::new(0),
-            first: AtomicU64::new(0),
-            later: AtomicU64::new(0),
-        }
-    }
-
     // Turns until both are there.
     fn meets(&self) -> bool {
         self.arrived.fetch_add(1, Ordering::SeqCst);
@@ -52,31 +31,6 @@ impl<'a> Meeting<'a> {
             }
         }
         false
-    }
-
-    // Removes the node of the call, and counts the answer.
-    fn removes_itself<N: Naming, R: Wait>(
-        &self,
-        rt: &R,
-        tree: &SharedTree<N>,
-        call: &mut Call,
-    ) -> Result<(), Fault>
-        requires table { call.old.table ≡ N.table }
-        requires running { call.old.phase ≡ Running }
-        ensures seat { IsSameSeat call.old call.new }
-        ensures reference { has_reference call.new.phase ≡ true }
-    {
-        match tree.remove_self(rt, call) {
-            Ok((first, receipts)) => {
-                release_all(receipts);
-                let count = if first { &self.first } else { &self.later };
-                count.fetch_add(1, Ordering::SeqCst);
-                Ok(())
-            }
-            Err(refusal) => Err(Fault {
-                number: refusal.number(),
-            }),
-        }
     }
 }
 
@@ -114,13 +68,7 @@ impl<'a> WaitOps for Meeting<'a> {
         if !self.meets() {
             return Err(Fault { number: 16 });
         }
-        match self.then {
-            Then::AsksTheBus(bus) => bus.store(rt, tree, call, tag, bytes),
-            Then::RemovesItself => {
-                self.removes_itself(rt, tree, call)?;
-                Ok(bytes.len())
-            }
-        }
+        self.bus.store(rt, tree, call, tag, bytes)
     }
 
     fn first<R: Wait>(&self, rt: &R, tag: u64, bytes: &[u8]) -> Result<(), Fault> {
@@ -169,42 +117,24 @@ fn both_delete<N: Naming + Send + Sync, R: Abort + Threads + Wait + Sync>(
     let tree = new.named::<N>();
     let bus = new_bus(rt, alloc);
     assert_eq!(rt; bus.plug(rt, &tree, b"d0", b"on"), Ok(key_at(4, 1)));
-    both_store(rt, alloc, &tree, &Meeting::new(Then::AsksTheBus(&bus)));
-    assert_eq!(rt; live_in(rt, &tree, b"/devices"), 0);
-    assert_eq!(rt; live_in(rt, &tree, b"/bus/devices"), 0);
-    assert_eq!(rt; walked(rt, &tree, b"/devices/d0"), Err(Refusal::NoEntry));
-    assert_eq!(rt; bus.kept(rt), 0);
+    let meeting = Meeting {
+        bus: &bus,
+        arrived: AtomicU64::new(0),
+    };
+    both_store(rt, alloc, &tree, &meeting);
+    let answers = [
+        live_in(rt, &tree, b"/devices") == 0,
+        live_in(rt, &tree, b"/bus/devices") == 0,
+        walked(rt, &tree, b"/devices/d0") == Err(Refusal::NoEntry),
+        bus.kept(rt) == 0,
+    ];
+    assert_eq!(rt; first_wrong(&answers), None);
 }
 
 #[test]
 fn two_stores_of_delete_meet(rt: HostRuntime) {
     let new = made(&rt, rt.alloc(), 16);
     both_delete::<Brand, _>(&rt, rt.alloc(), new);
-}
-
-fn both_remove<N: Naming + Send + Sync, R: Abort + Threads + Wait + Sync>(
-    rt: &R,
-    alloc: Global,
-    new: NewTree,
-)
-    requires { new.master.table ≡ N.table }
-{
-    let tree = new.named::<N>();
-    let bus = new_bus(rt, alloc);
-    assert_eq!(rt; bus.plug(rt, &tree, b"d0", b"on"), Ok(key_at(4, 1)));
-    let meeting = Meeting::new(Then::RemovesItself);
-    both_store(rt, alloc, &tree, &meeting);
-    assert_eq!(rt; meeting.first.load(Ordering::SeqCst), 1);
-    assert_eq!(rt; meeting.later.load(Ordering::SeqCst), 1);
-    assert_eq!(rt; live_in(rt, &tree, b"/devices/d0"), 2);
-    assert_eq!(rt; bus.unplug(rt, &tree, b"d0"), Ok(()));
-    assert_eq!(rt; live_in(rt, &tree, b"/devices"), 0);
-}
-
-#[test]
-fn one_of_two_self_removals_is_the_first(rt: HostRuntime) {
-    let new = made(&rt, rt.alloc(), 16);
-    both_remove::<Brand, _>(&rt, rt.alloc(), new);
 }
 
 // Many plugs of one name, each taken out again by an unplug or by a store of `delete`, whichever comes first.
@@ -246,10 +176,13 @@ fn plug_side_by_side<N: Naming + Send + Sync, R: Abort + Threads + Wait + Sync>(
         || plugs_and_deletes(rt, alloc, &tree, &bus, 200),
         || unplugs(rt, &tree, &bus, 200),
     );
-    assert_eq!(rt; walked(rt, &tree, b"/devices/d0"), Err(Refusal::NoEntry));
-    assert_eq!(rt; bus.unplug(rt, &tree, b"d1"), Ok(()));
-    assert_eq!(rt; live_in(rt, &tree, b"/bus/devices"), 0);
-    assert_eq!(rt; bus.kept(rt), 0);
+    let answers = [
+        walked(rt, &tree, b"/devices/d0") == Err(Refusal::NoEntry),
+        bus.unplug(rt, &tree, b"d1") == Ok(()),
+        live_in(rt, &tree, b"/bus/devices") == 0,
+        bus.kept(rt) == 0,
+    ];
+    assert_eq!(rt; first_wrong(&answers), None);
 }
 
 #[test]

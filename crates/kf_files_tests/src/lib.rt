@@ -4,8 +4,6 @@
 #[cfg(test)]
 mod callback_tests;
 #[cfg(test)]
-mod seats_tests;
-#[cfg(test)]
 mod tests;
 #[cfg(test)]
 mod tree_hold;

@@ -24,6 +24,12 @@ pub(crate) const BOTH: Want = Want {
 
 const LOOKS: u64 = 1_000_000_000;
 
+/// The place of the first answer that is not as it must be. (One comparison after the other makes the proof
+/// of a test much longer.)
+pub(crate) fn first_wrong(answers: &[bool]) -> Option<usize> {
+    answers.iter().position(|is_right| !*is_right)
+}
+
 /// What keeps a show inside: it counts itself, and goes on once it is let go.
 #[derive(Drop)]
 pub(crate) struct Latch {

@@ -3,11 +3,11 @@ ghost use Rattle.std.specs.Prelude.{◌≡◌};
 
 use crate::tree_hold::TreeHold;
 use crate::waiting_fixtures::{
-    Before, Latch, close, failing, file_of, held, made, new_driver, new_latch, opened, post_of,
+    Before, Latch, close, file_of, first_wrong, held, made, new_driver, new_latch, opened, post_of,
     posts_of, release_all, remove, wait_for,
 };
 use kf_core::{Key, Refusal};
-use kf_files::{Fault, FileError};
+use kf_files::FileError;
 use kf_shared::{Naming, NewTree, SharedTree};
 use kf_words::Hold;
 use std::alloc::Global;
@@ -26,14 +26,17 @@ fn notifies_itself<N: Naming, R: Abort + Wait>(rt: &R, alloc: Global, new: NewTr
     let key = file_of(rt, &tree, b"t");
     let mut posts = posts_of(rt, alloc);
     let mut file = opened(rt, &tree, key, post_of(rt, &mut posts));
-    assert!(rt; file.poll(), "a file that was never shown has changed");
     let quiet = new_driver(Before::Nothing, b"v");
     let loud = new_driver(Before::Notifies(Mutex::new(post_of(rt, &mut posts))), b"v");
     let mut out = [0u8; 4];
-    assert_eq!(rt; file.read(rt, &tree, &quiet, 0, &mut out), Ok(1));
-    assert!(rt; !file.poll(), "nothing was notified");
-    assert_eq!(rt; file.read(rt, &tree, &loud, 0, &mut out), Ok(1));
-    assert!(rt; file.poll(), "the show notified after its number was taken");
+    let answers = [
+        file.poll(),
+        file.read(rt, &tree, &quiet, 0, &mut out) == Ok(1),
+        !file.poll(),
+        file.read(rt, &tree, &loud, 0, &mut out) == Ok(1),
+        file.poll(),
+    ];
+    assert_eq!(rt; first_wrong(&answers), None);
     close(file);
 }
 
@@ -52,19 +55,22 @@ fn outlives_its_node<N: Naming, R: Abort + Wait>(rt: &R, alloc: Global, new: New
     let mut file = opened(rt, &tree, key, post_of(rt, &mut posts));
     let quiet = new_driver(Before::Nothing, b"v");
     let mut out = [0u8; 4];
-    assert_eq!(rt; file.write(rt, &tree, &quiet, b""), Ok(0));
-    assert_eq!(rt; quiet.calls(), (0, 0));
-    assert_eq!(rt; file.write(rt, &tree, &quiet, &[b'q'; 5000]), Ok(4096));
-    assert_eq!(rt; quiet.calls(), (0, 1));
-    assert_eq!(rt; file.read(rt, &tree, &quiet, 0, &mut out), Ok(1));
-    assert_eq!(rt; remove(rt, &tree, key), 1);
     let gone = Err(FileError::Refused(Refusal::NoDevice));
-    assert_eq!(rt; file.read(rt, &tree, &quiet, 1, &mut out), Ok(0));
-    assert_eq!(rt; file.read(rt, &tree, &quiet, 0, &mut out), gone);
-    assert_eq!(rt; file.write(rt, &tree, &quiet, b""), gone);
-    assert_eq!(rt; file.write(rt, &tree, &quiet, b"x"), gone);
-    assert!(rt; file.poll(), "a file whose node is gone has changed");
-    assert_eq!(rt; quiet.calls(), (1, 1));
+    let answers = [
+        file.write(rt, &tree, &quiet, b"") == Ok(0),
+        quiet.calls() == (0, 0),
+        file.write(rt, &tree, &quiet, &[b'q'; 5000]) == Ok(4096),
+        quiet.calls() == (0, 1),
+        file.read(rt, &tree, &quiet, 0, &mut out) == Ok(1),
+        remove(rt, &tree, key) == 1,
+        file.read(rt, &tree, &quiet, 1, &mut out) == Ok(0),
+        file.read(rt, &tree, &quiet, 0, &mut out) == gone,
+        file.write(rt, &tree, &quiet, b"") == gone,
+        file.write(rt, &tree, &quiet, b"x") == gone,
+        file.poll(),
+        quiet.calls() == (1, 1),
+    ];
+    assert_eq!(rt; first_wrong(&answers), None);
     close(file);
 }
 
@@ -74,40 +80,16 @@ fn a_file_outlives_its_node(rt: HostRuntime) {
     outlives_its_node::<Brand, _>(&rt, rt.alloc(), new);
 }
 
-fn faults<N: Naming, R: Abort + Wait>(rt: &R, alloc: Global, new: NewTree)
-    requires { new.master.table ≡ N.table }
-{
-    let tree = new.named::<N>();
-    let key = file_of(rt, &tree, b"t");
-    let mut posts = posts_of(rt, alloc);
-    let mut file = opened(rt, &tree, key, post_of(rt, &mut posts));
-    let faulty = failing(5);
-    let mut out = [0u8; 4];
-    let fault = Err(FileError::Callback(Fault { number: 5 }));
-    assert_eq!(rt; file.read(rt, &tree, &faulty, 0, &mut out), fault);
-    assert!(rt; !file.poll(), "its number was taken");
-    assert_eq!(rt; file.read(rt, &tree, &faulty, 3, &mut out), fault);
-    assert_eq!(rt; faulty.calls(), (2, 0));
-    close(file);
-    assert_eq!(rt; remove(rt, &tree, key), 1);
-}
-
-#[test]
-fn a_fault_of_a_show_ends_its_call(rt: HostRuntime) {
-    let new = made(&rt, rt.alloc());
-    faults::<Brand, _>(&rt, rt.alloc(), new);
-}
-
 // ---- a removal while a show runs
 
 /// The hold of a removal, and how many receipts it got, of other nodes than its own among them.
-pub(crate) struct Removal<N: Naming> {
+struct Removal<N: Naming> {
     hold: Option<TreeHold<N>>,
     receipts: usize,
     others: usize,
 }
 
-pub(crate) fn removal_by<N: Naming>(hold: TreeHold<N>) -> Removal<N> {
+fn removal_by<N: Naming>(hold: TreeHold<N>) -> Removal<N> {
     Removal {
         hold: Some(hold),
         receipts: 0,
@@ -174,7 +156,7 @@ fn lets_go_late<N: Naming, R: Wait>(
 
 /// Removes the node once the show is inside, and lets the show go late. False where the removal answered
 /// early.
-pub(crate) fn removes_under<N: Naming + Send + Sync, R: Threads + Wait + Sync>(
+fn removes_under<N: Naming + Send + Sync, R: Threads + Wait + Sync>(
     rt: &R,
     tree: &SharedTree<N>,
     key: Key,
@@ -192,7 +174,7 @@ pub(crate) fn removes_under<N: Naming + Send + Sync, R: Threads + Wait + Sync>(
 }
 
 /// The removal got one receipt, of its node, and a hold that was taken before it gets no call any more.
-pub(crate) fn has_removed<N: Naming, R: Abort>(rt: &R, removal: Removal<N>, second: Hold) {
+fn has_removed<N: Naming, R: Abort>(rt: &R, removal: Removal<N>, second: Hold) {
     let Removal {
         hold,
         receipts,

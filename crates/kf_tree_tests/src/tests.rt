@@ -1,5 +1,5 @@
-//! The calls of a tree that no script makes in this form, with answers known from outside, and walks of long
-//! paths. (What scripts show of the tree stands in scripts/tree.txt.)
+//! The calls of a tree that no script makes in this form, with answers known from outside. (What scripts show
+//! of the tree stands in scripts/tree.txt and .ci/sizes.py.)
 //! What is done more than once stands in a function of its own, which keeps the proofs of the tests short.
 
 ghost use Rattle.std.specs.Prelude.{◌≡◌, slice_get, IfSome, Some, None};
@@ -7,7 +7,6 @@ ghost use Rattle.std.specs.Prelude.{◌≡◌, slice_get, IfSome, Some, None};
 mod compaction_tests;
 mod hiding_tests;
 mod large_tests;
-mod places_tests;
 
 use kf_core::{Command, Key, Limits, Node, Refusal};
 use kf_tree::{Stat, State};
@@ -117,35 +116,18 @@ fn remove(state: &mut State, path: &[u8]) -> Result<(), Refusal> {
     Ok(())
 }
 
-fn move_to(state: &mut State, from: &[u8], dir: &[u8], name: &[u8]) -> Result<(), Refusal> {
-    let key = state.walk(from)?;
-    let dir = state.walk(dir)?;
-    state.rename(key, dir, name)
-}
-
-/// Whether both the list and the names that it copies are these.
-fn shows(state: &State, dir: Key, after: Option<&[u8]>, limit: usize, names: &[&[u8]]) -> bool {
-    let (Ok(list), Ok(mut lent)) = (
-        state.list(dir, after, limit),
-        state.names(dir, after, limit),
-    ) else {
-        return false;
-    };
-    for name in names {
-        let Some((shown, rest)) = lent.split_first() else {
-            return false;
-        };
-        if shown.bytes() != *name {
-            return false;
+/// Whether a directory lists these names.
+fn shows(state: &State, dir: Key, names: &[&[u8]]) -> bool {
+    match state.list(dir, None, 10) {
+        Ok(list) => {
+            list.len() == names.len()
+                && list
+                    .iter()
+                    .zip(names)
+                    .all(|(shown, name)| shown.bytes() == *name)
         }
-        lent = rest;
+        Err(_) => false,
     }
-    lent.split_first().is_none()
-        && list.len() == names.len()
-        && list
-            .iter()
-            .zip(names)
-            .all(|(shown, name)| shown.bytes() == *name)
 }
 
 fn directory(subdirs: u32, links: u32, activated: bool) -> Stat {
@@ -159,6 +141,12 @@ fn directory(subdirs: u32, links: u32, activated: bool) -> Stat {
     }
 }
 
+/// The place of the first answer that is not as it must be. (One comparison after the other makes the proof
+/// of a test much longer.)
+fn first_wrong(answers: &[bool]) -> Option<usize> {
+    answers.iter().position(|is_right| !*is_right)
+}
+
 #[test]
 fn lists_and_tells_of_what_was_created(rt: HostRuntime) -> Result<(), Fail> {
     let mut state = new_state(rt.alloc(), 1024)?;
@@ -166,17 +154,6 @@ fn lists_and_tells_of_what_was_created(rt: HostRuntime) -> Result<(), Fail> {
         mode: 0o644,
         tag: 3,
     };
-    assert_eq!(rt; add(&mut state, b"/a", Node::Dir, true, 1), Ok(key(1)));
-    assert_eq!(rt; add(&mut state, b"/a/b", Node::Dir, true, 2), Ok(key(2)));
-    assert_eq!(rt; add(&mut state, b"/a/x", file, true, 3), Ok(key(3)));
-    assert!(rt; shows(&state, key(1), None, 10, &[b"b", b"x"]));
-    assert_eq!(rt; state.stat(key(1)), Ok(directory(1, 3, true)));
-    assert_eq!(rt; state.root(), ROOT);
-    assert_eq!(rt; state.find(key(1), b"x"), Ok(key(3)));
-    assert_eq!(rt; state.find(key(3), b"x"), Err(Refusal::NotDir));
-    assert_eq!(rt; state.walk(b"/a/x"), Ok(key(3)));
-    assert_eq!(rt; state.walk(b"/"), Ok(ROOT));
-    assert_eq!(rt; state.lookup(b"/a/b"), Ok(key(2)));
     let told = Stat {
         node: file,
         subdirs: 0,
@@ -185,79 +162,46 @@ fn lists_and_tells_of_what_was_created(rt: HostRuntime) -> Result<(), Fail> {
         doomed: false,
         hidden: false,
     };
-    assert_eq!(rt; state.stat(key(3)), Ok(told));
-    assert_eq!(rt;
-        add(&mut state, b"/b", Node::Dir, true, 3),
-        Err(Refusal::NoSpace)
-    );
+    let answers = [
+        add(&mut state, b"/a", Node::Dir, true, 1) == Ok(key(1)),
+        add(&mut state, b"/a/b", Node::Dir, true, 2) == Ok(key(2)),
+        add(&mut state, b"/a/x", file, true, 3) == Ok(key(3)),
+        shows(&state, key(1), &[b"b", b"x"]),
+        state.stat(key(1)) == Ok(directory(1, 3, true)),
+        state.root() == ROOT,
+        state.find(key(1), b"x") == Ok(key(3)),
+        state.find(key(3), b"x") == Err(Refusal::NotDir),
+        state.walk(b"/a/x") == Ok(key(3)),
+        state.walk(b"/") == Ok(ROOT),
+        state.lookup(b"/a/b") == Ok(key(2)),
+        state.stat(key(3)) == Ok(told),
+        add(&mut state, b"/b", Node::Dir, true, 3) == Err(Refusal::NoSpace),
+    ];
+    assert_eq!(rt; first_wrong(&answers), None);
     Ok(())
 }
 
 #[test]
 fn removes_a_directory(rt: HostRuntime) -> Result<(), Fail> {
     let mut state = new_state(rt.alloc(), 1024)?;
-    assert_eq!(rt; add(&mut state, b"/a", Node::Dir, true, 1), Ok(key(1)));
-    assert_eq!(rt;
-        add(&mut state, b"/a", Node::Dir, true, 2),
-        Err(Refusal::Exists)
-    );
-    assert_eq!(rt; add(&mut state, b"/a/c", Node::Dir, true, 2), Ok(key(2)));
-    assert_eq!(rt; add(&mut state, b"/a/b", Node::Dir, false, 3), Ok(key(3)));
-    assert!(rt; has_order(&state, key(1), &[key(3), key(2), key(1)]));
-    assert_eq!(rt; unlink(&mut state, key(2)), Err(Refusal::Invalid));
-    assert!(rt; dooms(&mut state, key(1), &[key(3), key(2), key(1)]));
-    assert_eq!(rt; state.lookup(b"/a/c"), Err(Refusal::NoEntry));
-    assert_eq!(rt; state.may_unlink(key(1)), Err(Refusal::Busy));
-    assert_eq!(rt; remove(&mut state, b"/a"), Ok(()));
-    assert!(rt; shows(&state, ROOT, None, 10, &[]));
-    assert_eq!(rt; remove(&mut state, b"/a"), Err(Refusal::NoEntry));
-    assert_eq!(rt; unlink(&mut state, key(1)), Ok(false));
-    assert!(rt; has_stored(&state, b"CCCDDUUU"));
-    assert_eq!(rt; remove(&mut state, b"/"), Err(Refusal::Invalid));
-    Ok(())
-}
-
-#[test]
-fn lists_in_byte_order_above_a_bound(rt: HostRuntime) -> Result<(), Fail> {
-    let mut state = new_state(rt.alloc(), 1024)?;
-    assert_eq!(rt; add(&mut state, b"/b", Node::Dir, true, 1), Ok(key(1)));
-    assert_eq!(rt; add(&mut state, b"/a", Node::Dir, true, 2), Ok(key(2)));
-    assert_eq!(rt; add(&mut state, b"/ab", Node::Dir, true, 3), Ok(key(3)));
-    assert_eq!(rt;
-        add(
-            &mut state,
-            b"/B",
-            Node::File {
-                mode: 0o444,
-                tag: 4
-            },
-            true,
-            4
-        ),
-        Ok(key(4))
-    );
-    assert!(rt; shows(&state, ROOT, None, 10, &[b"B", b"a", b"ab", b"b"]));
-    assert!(rt; shows(&state, ROOT, Some(b"a"), 1, &[b"ab"]));
-    assert!(rt; shows(&state, ROOT, Some(b"aa"), 2, &[b"ab", b"b"]));
-    assert!(rt; shows(&state, ROOT, Some(b"b"), 5, &[]));
-    assert!(rt; shows(&state, ROOT, None, 0, &[]));
-    Ok(())
-}
-
-#[test]
-fn walks_long_paths_without_stack(rt: HostRuntime) -> Result<(), Fail> {
-    let alloc = rt.alloc();
-    let mut state = new_state(alloc, 1024)?;
-    let mut path = Vec::new(alloc);
-    for _ in 0..400_000 {
-        path.extend_from_slice(b"/a")?;
-    }
-    assert_eq!(rt; state.walk(&path), Err(Refusal::NoEntry));
-    assert_eq!(rt; add(&mut state, b"/a", Node::Dir, true, 1), Ok(key(1)));
-    assert_eq!(rt; state.lookup(&path), Err(Refusal::NoEntry));
-    assert_eq!(rt; state.walk_parent(&path).err(), Some(Refusal::NoEntry));
-    path.push(b'/')?;
-    assert_eq!(rt; state.walk(&path), Err(Refusal::Invalid));
-    assert_eq!(rt; state.walk(b"a"), Err(Refusal::Invalid));
+    let order = [key(3), key(2), key(1)];
+    let answers = [
+        add(&mut state, b"/a", Node::Dir, true, 1) == Ok(key(1)),
+        add(&mut state, b"/a", Node::Dir, true, 2) == Err(Refusal::Exists),
+        add(&mut state, b"/a/c", Node::Dir, true, 2) == Ok(key(2)),
+        add(&mut state, b"/a/b", Node::Dir, false, 3) == Ok(key(3)),
+        has_order(&state, key(1), &order),
+        unlink(&mut state, key(2)) == Err(Refusal::Invalid),
+        dooms(&mut state, key(1), &order),
+        state.lookup(b"/a/c") == Err(Refusal::NoEntry),
+        state.may_unlink(key(1)) == Err(Refusal::Busy),
+        remove(&mut state, b"/a") == Ok(()),
+        shows(&state, ROOT, &[]),
+        remove(&mut state, b"/a") == Err(Refusal::NoEntry),
+        unlink(&mut state, key(1)) == Ok(false),
+        has_stored(&state, b"CCCDDUUU"),
+        remove(&mut state, b"/") == Err(Refusal::Invalid),
+    ];
+    assert_eq!(rt; first_wrong(&answers), None);
     Ok(())
 }

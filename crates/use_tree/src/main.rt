@@ -46,24 +46,46 @@ fn go(state: &mut State, key: Key) -> Result<(), Refusal> {
     Ok(())
 }
 
-fn fans(rt: &impl Print, alloc: Global) -> anyhow::Result<()> {
-    let limits = Limits::new(16, 100).context("16 slots and 100 holds are within the limits")?;
-    let mut state = State::new(alloc, limits, ROOT)?;
-    let fan1 = come(&mut state, b"fan1", 1, 0)?;
-    come(&mut state, b"fan0", 0, 0)?;
-    if let Err(refusal) = come(&mut state, b"fan1", 2, 0) {
+/// Two fans come. A third one, of a name that is taken, is refused.
+fn two_come(rt: &impl Print, state: &mut State) -> anyhow::Result<Key> {
+    let fan1 = come(state, b"fan1", 1, 0)?;
+    come(state, b"fan0", 0, 0)?;
+    if let Err(refusal) = come(state, b"fan1", 2, 0) {
         println!(rt; "fan1 again: {refusal}")?;
     }
-    go(&mut state, fan1)?;
-    let again = come(&mut state, b"fan1", 1, 1)?;
+    Ok(fan1)
+}
+
+/// A fan goes and comes again, under a new key.
+fn come_again(rt: &impl Print, state: &mut State, fan1: Key) -> anyhow::Result<()> {
+    go(state, fan1)?;
+    let again = come(state, b"fan1", 1, 1)?;
     println!(rt; "fan1 came again as {}.{}", again.slot, again.generation)?;
+    Ok(())
+}
+
+fn print_names(rt: &impl Print, alloc: Global, state: &State) -> anyhow::Result<()> {
     for name in state.list(ROOT, None, 10)? {
         println!(rt; "{}", String::from_utf8_lossy(alloc, name.bytes())?)?;
     }
+    Ok(())
+}
+
+/// The stored commands make the tree, before and after they are compacted.
+fn compact(rt: &impl Print, state: &mut State) -> anyhow::Result<()> {
     println!(rt; "{} commands make this tree", state.commands().len())?;
     state.compact()?;
     println!(rt; "{} commands make it too", state.commands().len())?;
     Ok(())
+}
+
+fn fans(rt: &impl Print, alloc: Global) -> anyhow::Result<()> {
+    let limits = Limits::new(16, 100).context("16 slots and 100 holds are within the limits")?;
+    let mut state = State::new(alloc, limits, ROOT)?;
+    let fan1 = two_come(rt, &mut state)?;
+    come_again(rt, &mut state, fan1)?;
+    print_names(rt, alloc, &state)?;
+    compact(rt, &mut state)
 }
 
 fn main(rt: HostRuntime) -> anyhow::Result<()> {

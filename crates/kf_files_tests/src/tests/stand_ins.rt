@@ -1,11 +1,10 @@
-//! A guard of one node, three sets of callbacks, and plain event numbers, for the tests.
+//! A guard of one node, and callbacks that fault, for the tests.
 
 ghost use Rattle.std.specs.Prelude.{◌≡◌, ℕ};
 ghost use Rattle.kf_core.specs.declared.caller.Phase.TheVariants.{Running};
 
 use kf_core::{ActiveCall, Guard, Key, Phase};
-use kf_files::{EventNumbers, Fault, Ops, Page};
-use kf_notify::Post;
+use kf_files::{Fault, Ops, Page};
 
 /// Whether the one node is live. Holds are numbers.
 #[derive(Drop)]
@@ -67,43 +66,6 @@ impl Guard for Gate {
     }
 }
 
-/// Shows its text, and a store replaces it. It counts its callbacks.
-#[derive(Drop)]
-pub struct Note {
-    pub text: Page,
-    pub calls: u32,
-}
-
-impl Note {
-    pub fn new(text: &[u8]) -> Note {
-        let mut page = Page::new();
-        let _fits = page.try_extend_from_slice(text);
-        Note {
-            text: page,
-            calls: 0,
-        }
-    }
-}
-
-impl<C: ActiveCall> Ops<C> for Note {
-    ghost shows = { λ _ _ _ _. Unit {0} };
-
-    ghost stores = { λ _ _ _ _ _. Unit {0} };
-
-    fn show(&mut self, _call: &mut C, _tag: u64, page: &mut Page) -> Result<(), Fault> {
-        self.calls = self.calls.saturating_add(1);
-        let _fits = page.try_extend_from_slice(self.text.as_slice());
-        Ok(())
-    }
-
-    fn store(&mut self, _call: &mut C, _tag: u64, bytes: &[u8]) -> Result<usize, Fault> {
-        self.calls = self.calls.saturating_add(1);
-        self.text.clear();
-        let _fits = self.text.try_extend_from_slice(bytes);
-        Ok(bytes.len())
-    }
-}
-
 /// Shows `abcd`, then faults with 5, then shows `wxyz`. Its first store faults with 7, and the next answer 9.
 #[derive(Drop)]
 pub struct Faulty {
@@ -137,47 +99,5 @@ impl<C: ActiveCall> Ops<C> for Faulty {
             return Err(Fault { number: 7 });
         }
         Ok(9)
-    }
-}
-
-/// Shows `rung`, and notifies its slot by a post of its own in its first shows, so many of them.
-#[derive(Drop)]
-pub struct Bell {
-    pub post: Post,
-    pub rings: u32,
-}
-
-impl<C: ActiveCall> Ops<C> for Bell {
-    ghost shows = { λ _ _ _ _. Unit {0} };
-
-    ghost stores = { λ _ _ _ _ _. Unit {0} };
-
-    fn show(&mut self, _call: &mut C, _tag: u64, page: &mut Page) -> Result<(), Fault> {
-        if self.rings > 0 {
-            self.rings -= 1;
-            self.post.notify().map_err(|_| Fault { number: 1 })?;
-        }
-        let _fits = page.try_extend_from_slice(b"rung");
-        Ok(())
-    }
-
-    fn store(&mut self, _call: &mut C, _tag: u64, bytes: &[u8]) -> Result<usize, Fault> {
-        Ok(bytes.len())
-    }
-}
-
-/// An event number that counts how often it was taken.
-#[derive(Drop)]
-pub struct Plain {
-    pub number: u64,
-    pub taken: u32,
-}
-
-impl<C: ActiveCall> EventNumbers<C> for Plain {
-    ghost gives = { λ _ _ _. Unit {0} };
-
-    fn now(&mut self, _call: &C) -> u64 {
-        self.taken = self.taken.saturating_add(1);
-        self.number
     }
 }

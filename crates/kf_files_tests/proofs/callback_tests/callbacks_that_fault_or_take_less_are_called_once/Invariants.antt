@@ -1,4 +1,4 @@
-use Rattle.kf_files_tests.proofs.waiting_tests.a_fault_of_a_show_ends_its_call.Given as goal
+use Rattle.kf_files_tests.proofs.callback_tests.callbacks_that_fault_or_take_less_are_called_once.Given as goal
 
 -- the tree that was just made
 abbrev pub ghosts-faults : goal.ghosts-faults

@@ -1,0 +1,158 @@
+"""Scripts that make trees as large as they can be, with the replies that they must have: every slot in one directory and in one
+chain, links across that chain, names of each length, and a long list of commands."""
+
+from lengths import BYTES, NAME, Run
+
+SLOTS = 4096
+# The program needs some 128 KiB, and a function that took stack for each node of a chain would need more than is left.
+STACK = 160 * 1024
+
+
+def name_of(number):
+    """A name that takes memory of its own, in the order of numbers."""
+    return b"%04d" % number + b"-" * 26
+
+
+def shuffled(count):
+    """The numbers below this one, in another order. (It shares no divisor with the step.)"""
+    return [at * 2039 % count for at in range(count)]
+
+
+def one_directory(run):
+    """Filled three times over, each time not activated at first."""
+    for _ in range(3):
+        slots = [run.make(b"mkdir /d off")]
+        chosen = [b"%04d" % at for at in shuffled(SLOTS - 2)]
+        slots += [run.make(b"mkdir /d/%s off" % name) for name in chosen]
+        run.ask(b"mkdir /more", b"err NoSpace 28")
+        run.ask(b"ls /", b"")
+        run.ask(b"activate /d", b"ok")
+        run.ask(b"ls /d", b" ".join(sorted(chosen)))
+        run.ask(b"stat /d", b"dir subdirs=4094 nlink=4096 live")
+        run.ask(b"compact", b"ok")
+        run.ask(b"commands", b"4095")
+        run.free(b"rm /d", slots)
+        run.ask(b"ls /", b"")
+        run.ask(b"compact", b"ok")
+        run.ask(b"commands", b"0")
+
+
+def put_above(run, count):
+    """So many directories, each put above `/a`, whose name it takes. The slots that they take."""
+    slots = []
+    for _ in range(count):
+        slots.append(run.make(b"mkdir /b"))
+        run.ask(b"mv /a /b a", b"ok")
+        run.ask(b"mv /b / a", b"ok")
+    return slots
+
+
+def one_chain(run):
+    """Filled three times over. A line is too short for the way to the last directory."""
+    for _ in range(3):
+        slots = [run.make(b"mkdir /a"), *put_above(run, SLOTS - 2)]
+        run.ask(b"mkdir /more", b"err NoSpace 28")
+        run.ask(b"ls " + b"/a" * (SLOTS - 2), b"a")
+        run.ask(b"stat /a", b"dir subdirs=1 nlink=3 live")
+        run.ask(b"mv /a %s x" % (b"/a" * 1000), b"err Invalid 22")
+        run.ask(b"activate /a", b"ok")
+        run.ask(b"compact", b"ok")
+        run.ask(b"commands", b"4095")
+        run.free(b"rm /a", slots)
+        run.ask(b"ls /", b"")
+        run.ask(b"compact", b"ok")
+        run.ask(b"commands", b"0")
+
+
+def links_across(run):
+    """From the last directory up to one beside the first, as far as a line leads; and from the root down to the last."""
+    up, down = 4090, 4092
+    for line in (b"mkdir /t", b"mkdir /a", b"link /a/u /t", b"link /d /a"):
+        run.make(line)
+    put_above(run, up - 1)
+    run.ask(b"readlink %s/u" % (b"/a" * up), b"../" * up + b"t")
+    run.ask(b"readlink /d", b"/".join([b"a"] * up))
+    put_above(run, down - up)
+    run.ask(b"mkdir /more", b"err NoSpace 28")
+    run.ask(b"readlink /d", b"/".join([b"a"] * down))
+
+
+def removed_one_by_one(run):
+    """The widest directory, whose files go in another order than they came."""
+    slot_of = {at: run.make(b"file /%s 644" % name_of(at)) for at in shuffled(SLOTS - 1)}
+    run.ask(b"ls /", b" ".join(name_of(at) for at in range(SLOTS - 1)))
+    for at in range(1, SLOTS - 1, 2):
+        run.free(b"rm /" + name_of(at), [slot_of[at]])
+    run.ask(b"ls /", b" ".join(name_of(at) for at in range(0, SLOTS - 1, 2)))
+    for at in range(SLOTS - 2, -1, -2):
+        run.free(b"rm /" + name_of(at), [slot_of[at]])
+    run.ask(b"ls /", b"")
+    run.ask(b"commands", b"%d" % (3 * (SLOTS - 1)))
+    run.ask(b"compact", b"ok")
+    run.ask(b"commands", b"0")
+
+
+def slots_again(run):
+    """Slots that were freed in another order are given again, the lowest first."""
+    slot_of = {at: run.make(b"mkdir /%d" % at) for at in range(SLOTS - 1)}
+    for at in shuffled(SLOTS - 1)[: SLOTS // 2]:
+        run.free(b"rm /%d" % at, [slot_of.pop(at)])
+        if at % 3 == 0:
+            slot_of[at] = run.make(b"mkdir /%d" % at)
+    while run.unused:
+        run.make(b"mkdir /again%d" % len(run.unused))
+    run.ask(b"mkdir /more", b"err NoSpace 28")
+
+
+def half_removed(run):
+    """A file that moves 30,000 times, beside a tree of which half is removed and some are hidden, compacted."""
+    moves, files = 30_000, SLOTS - 3
+    run.make(b"mkdir /d")
+    run.make(b"file /d/x 644")
+    for at in range(moves):
+        run.ask(b"mv /d/x /d y" if at % 2 == 0 else b"mv /d/y /d x", b"ok")
+    slot_of = [run.make(b"file /%s 644" % name_of(at)) for at in range(files)]
+    gone, kept = range(0, files, 2), range(1, files, 2)
+    for at in gone:
+        run.free(b"rm /" + name_of(at), [slot_of[at]])
+    hidden = kept[:100]
+    for at in hidden:
+        run.ask(b"hide /" + name_of(at), b"ok")
+    run.ask(b"commands", b"%d" % (2 + moves + files + 2 * len(gone) + len(hidden)))
+    run.ask(b"compact", b"ok")
+    run.ask(b"commands", b"%d" % (2 + len(kept) + len(hidden)))
+    run.ask(b"ls /", b" ".join([*(name_of(at) for at in kept[100:]), b"d"]))
+    for at in hidden:
+        run.ask(b"show /" + name_of(at), b"ok")
+    run.ask(b"ls /", b" ".join([*(name_of(at) for at in kept), b"d"]))
+
+
+def names_compacted(run):
+    """A file under a name of each length, moved under another one of that length, kept by a compaction."""
+    run.make(b"mkdir /d")
+    first, last = b"n" * NAME, BYTES.replace(b"/", b"_")
+    for length in range(1, NAME + 1):
+        run.make(b"file /%s 644" % first[:length])
+        run.ask(b"mv /%s /d %s" % (first[:length], last[:length]), b"ok")
+    for reply in (b"511", b"256"):
+        run.ask(b"commands", reply)
+        run.ask(b"compact", b"ok")
+    run.ask(b"ls /d", b" ".join(last[:length] for length in range(1, NAME + 1)))
+
+
+# What is tried, by name.
+TRIED = {
+    "every slot in one directory, three times over": one_directory,
+    "every slot in one chain, three times over": one_chain,
+    "links across the longest chain": links_across,
+    "4,095 files of one directory, removed one by one": removed_one_by_one,
+    "4,096 slots, freed in another order and given again": slots_again,
+    "38,000 commands of a tree half removed, compacted": half_removed,
+    "names of each length, moved and compacted": names_compacted,
+}
+
+
+def run_of(name):
+    run = Run(SLOTS)
+    TRIED[name](run)
+    return run
