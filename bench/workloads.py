@@ -2,7 +2,8 @@
 """Writes the scripts that bench/run measures: `workloads.py FOLDER [NAME..]` makes FOLDER/NAME.kf for these
 names, or for all, and prints them; of scripts for workers FOLDER/NAME_1.kf, NAME_2.kf and NAME_4.kf, by how many
 workers they have, and of those for one worker beside other nodes FOLDER/NAME_10.kf and NAME_4000.kf, by how many of
-these there are. Each script is the same wherever Python is the same. They need 4,096 slots."""
+these there are, and NAME_10_alone.kf and NAME_4000_alone.kf, which make these nodes and end. Scripts for workers have a
+megabyte at most. Each script is the same wherever Python is the same. They need 4,096 slots."""
 import os
 import random
 import sys
@@ -188,7 +189,7 @@ def beside(nodes):
 def makes(nodes):
     """A directory made and removed again by one worker, beside so many nodes."""
     yield from beside(nodes)
-    for _ in range(100_000):
+    for _ in range(36_000):
         yield "@1 mkdir /new"
         yield "@1 rm /new"
 
@@ -196,7 +197,7 @@ def makes(nodes):
 def refusals(nodes):
     """A directory that is there already, made in vain by one worker, beside so many nodes."""
     yield from beside(nodes)
-    for _ in range(200_000):
+    for _ in range(65_000):
         yield "@1 mkdir /old"
 
 
@@ -231,7 +232,8 @@ def scripts_of(names):
     for workload in BESIDE:
         name = workload.__name__
         if not names or name in names:
-            yield name, [(f"{name}_{nodes}", workload(nodes)) for nodes in (10, 4000)]
+            yield name, [it for nodes in (10, 4000)
+                         for it in ((f"{name}_{nodes}", workload(nodes)), (f"{name}_{nodes}_alone", beside(nodes)))]
     for name, spacing in READERS.items():
         if not names or name in names:
             yield name, [(f"{name}_{workers}", readers(workers, spacing)) for workers in (1, 2, 4)]
