@@ -1,7 +1,9 @@
 #!/usr/bin/env python3
 """Writes the scripts that bench/run measures: `workloads.py FOLDER [NAME..]` makes FOLDER/NAME.kf for these
 names, or for all, and prints them; of scripts for workers FOLDER/NAME_1.kf, NAME_2.kf and NAME_4.kf, by how many
-workers they have. Each script is the same wherever Python is the same. They need 4,096 slots."""
+workers they have, and of those for one worker beside other nodes FOLDER/NAME_10.kf and NAME_4000.kf, by how many of
+these there are, and NAME_10_alone.kf and NAME_4000_alone.kf, which make these nodes and end. Scripts for workers have a
+megabyte at most. Each script is the same wherever Python is the same. They need 4,096 slots."""
 import os
 import random
 import sys
@@ -162,6 +164,43 @@ def compaction(rng):
         yield "commands"
 
 
+def retained(rng):
+    """3,400 names moved through 600 directories, one after another, with a compaction after each."""
+    for number in range(600):
+        yield f"mkdir /directory{number}"
+    names = [f"{number:08x}" for number in rng.sample(range(1 << 32), 3400)]
+    for name in names:
+        yield f"mkdir /directory0/{name}"
+    for number in range(1, 600):
+        for name in names[:3400 - number]:
+            yield f"mv /directory{number - 1}/{name} /directory{number} {name}"
+        yield "compact"
+
+
+def beside(nodes):
+    """So many nodes that stay."""
+    yield "mkdir /old"
+    yield "mkdir /many"
+    for number in range(nodes - 2):
+        yield f"mkdir /many/{number}"
+    yield "wait"
+
+
+def makes(nodes):
+    """A directory made and removed again by one worker, beside so many nodes."""
+    yield from beside(nodes)
+    for _ in range(36_000):
+        yield "@1 mkdir /new"
+        yield "@1 rm /new"
+
+
+def refusals(nodes):
+    """A directory that is there already, made in vain by one worker, beside so many nodes."""
+    yield from beside(nodes)
+    for _ in range(65_000):
+        yield "@1 mkdir /old"
+
+
 def readers(workers, spacing):
     """Workers who read: the first an attribute in slot 1, each further one so many slots on. 60,000 reads in all."""
     for number in range(3 * spacing + 1):
@@ -175,7 +214,10 @@ def readers(workers, spacing):
         yield f"@{worker + 1} read {'abcd'[worker]} 0 9"
 
 
-WORKLOADS = [churn, wide, deep, attributes, pages, openings, listings, links, forests, hiding, compaction]
+WORKLOADS = [churn, wide, deep, attributes, pages, openings, listings, links, forests, hiding, compaction, retained]
+
+# One worker, beside few nodes and beside many.
+BESIDE = [makes, refusals]
 
 # How many slots lie between those of two readers.
 READERS = {"readers_of_one": 0, "readers_of_distant": 16}
@@ -187,6 +229,11 @@ def scripts_of(names):
         name = workload.__name__
         if not names or name in names:
             yield name, [(name, workload(random.Random(name)))]
+    for workload in BESIDE:
+        name = workload.__name__
+        if not names or name in names:
+            yield name, [it for nodes in (10, 4000)
+                         for it in ((f"{name}_{nodes}", workload(nodes)), (f"{name}_{nodes}_alone", beside(nodes)))]
     for name, spacing in READERS.items():
         if not names or name in names:
             yield name, [(f"{name}_{workers}", readers(workers, spacing)) for workers in (1, 2, 4)]
@@ -196,7 +243,7 @@ def main():
     if len(sys.argv) < 2:
         sys.exit("workloads.py FOLDER [NAME..]")
     folder, names = sys.argv[1], sys.argv[2:]
-    known = [*(it.__name__ for it in WORKLOADS), *READERS]
+    known = [*(it.__name__ for it in WORKLOADS + BESIDE), *READERS]
     if unknown := [it for it in names if it not in known]:
         sys.exit(f"no workload {' '.join(unknown)}; there are {' '.join(known)}")
     os.makedirs(folder, exist_ok=True)

@@ -9,6 +9,7 @@ pub mod CallerSteps
 pub mod HidingSteps
 pub mod HoldSteps
 pub mod CallerAllowed
+pub mod Sleepers
 pub mod MasterViews
 pub mod MasterAllowed
 pub mod Keys

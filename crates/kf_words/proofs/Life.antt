@@ -2,8 +2,8 @@
 use Rattle.std.proofs.Common.{◌≡◌, ◌≢◌, true, false, [], ◌∷◌, refl, ltb-true}
 use Rattle.std.specs.Prelude.{Some, None}
 use Rattle.kf_core.specs.declared.caller.Phase.TheVariants.{Still, Turned, Running, Broken, Restored, Drained, Parted, Hiding, Hidden, Spent}
-use Rattle.kf_words.specs.Runs.{Table, births, breaks, hides, leaves, loads_hold, looks, looks_hidden, looks_over, marks_node, parts, pins_hold, releases, restores, shows, splits_held, splits_linked, stores_fresh, takes_bias, tries, undoes, unlinks, unpins_hold, WordStep}
-use Rattle.kf_words.specs.Life.{with_marks_of, caller_at, master_at, table_at, WordLife}
+use Rattle.kf_words.specs.TableSteps.{Table, births, breaks, hides, leaves, loads_hold, looks, looks_hidden, looks_over, marks_node, parts, pins_hold, releases, restores, shows, sleeps, awakes, splits_held, splits_linked, stores_fresh, takes_bias, tries, undoes, unlinks, unpins_hold, WordStep}
+use Rattle.kf_words.specs.Life.{with_marks_of, caller_at, master_at, table_at, table_with, WordLife}
 
 still_holds : Still ≢ Spent
 still_holds e = let x : Still ≡ Spent = e in cc
@@ -79,6 +79,13 @@ t22 = table_at 12884901889 6442450946 (master_at 1 (Some (with_marks_of true tru
 
 abbrev t23 : Table
 t23 = table_at 12884901888 6442450946 (master_at 1 (Some (with_marks_of true true)) 2 (None) (None) ([]) (record { slot = 1; word = 0 } ∷ []) (None)) ((caller_at Broken 6 3 12884901889 false) ∷ (caller_at Turned 6 1 12884901889 false) ∷ [])
+
+-- the two tables while caller 1 sleeps: before the last user gives its reference up, and after it
+abbrev a22 : Table
+a22 = table_with 12884901889 6442450946 1 (master_at 1 (Some (with_marks_of true true)) 2 (None) (None) ([]) (record { slot = 1; word = 0 } ∷ []) (None)) ((caller_at Running 5 3 0 false) ∷ (caller_at Turned 6 1 12884901889 false) ∷ [])
+
+abbrev a23 : Table
+a23 = table_with 12884901888 6442450946 1 (master_at 1 (Some (with_marks_of true true)) 2 (None) (None) ([]) (record { slot = 1; word = 0 } ∷ []) (None)) ((caller_at Broken 6 3 12884901889 false) ∷ (caller_at Turned 6 1 12884901889 false) ∷ [])
 
 abbrev t24 : Table
 t24 = table_at 12884901888 6442450946 (master_at 1 (Some (with_marks_of true true)) 2 (None) (None) ([]) (record { slot = 1; word = 0 } ∷ []) (None)) ((caller_at Broken 6 3 12884901889 false) ∷ (caller_at Drained 7 1 12884901888 false) ∷ [])
@@ -194,8 +201,14 @@ s20 = (caller_at Still 4 0 17179869184 false, (refl, refl), record { there = ref
 s21 : WordStep t21 (undoes 1) t22
 s21 = (caller_at Turned 5 1 12884901889 true, (refl, refl), record { there = refl; fits = ltb-true 12884901890 18446744073709551616 refl; becomes = refl })
 
-s22 : WordStep t22 (breaks 0) t23
-s22 = (caller_at Running 5 3 0 false, (refl, refl), record { there = refl; fits = ltb-true 12884901889 18446744073709551616 refl; becomes = refl })
+s22 : WordStep t22 (sleeps 1) a22
+s22 = (caller_at Turned 6 1 12884901889 false, tt, record { there = refl; fits = ltb-true 0 18446744073709551616 refl; becomes = refl })
+
+a_breaks : WordStep a22 (breaks 0) a23
+a_breaks = (caller_at Running 5 3 0 false, (refl, refl), record { there = refl; fits = ltb-true 12884901889 18446744073709551616 refl; becomes = refl })
+
+awake : WordStep a23 (awakes 1) t23
+awake = (caller_at Turned 6 1 12884901889 false, tt, record { there = refl; fits = ltb-true 1 18446744073709551616 refl; becomes = refl })
 
 s23 : WordStep t23 (looks 1) t24
 s23 = (caller_at Turned 6 1 12884901889 false, (refl, refl), record { there = refl; fits = ltb-true 12884901888 18446744073709551616 refl; becomes = refl })
@@ -246,4 +259,4 @@ s38 : WordStep t38 (unpins_hold 1) t39
 s38 = (master_at 2 (Some (with_marks_of false false)) 2 (Some 1) (None) ([]) (record { slot = 1; word = 4294967296 } ∷ []) (None), (ltb-true 1 2 refl, refl), record { there = refl; fits = ltb-true 10737418241 18446744073709551616 refl; becomes = refl })
 
 pub lives : WordLife
-lives = (t1, s0, (t2, s1, (t3, s2, (t4, s3, (t5, s4, (t6, s5, (t7, s6, (t8, s7, (t9, s8, (t10, s9, (t11, s10, (t12, s11, (t13, s12, (t14, s13, (t15, s14, (t16, s15, (t17, s16, (t18, s17, (t19, s18, (t20, s19, (t21, s20, (t22, s21, (t23, s22, (t24, s23, (t25, s24, (t26, s25, (t27, s26, (t28, s27, (t29, s28, (t30, s29, (t31, s30, (t32, s31, (t33, s32, (t34, s33, (t35, s34, (t36, s35, (t37, s36, (t38, s37, (t39, s38, refl)))))))))))))))))))))))))))))))))))))))
+lives = (t1, s0, (t2, s1, (t3, s2, (t4, s3, (t5, s4, (t6, s5, (t7, s6, (t8, s7, (t9, s8, (t10, s9, (t11, s10, (t12, s11, (t13, s12, (t14, s13, (t15, s14, (t16, s15, (t17, s16, (t18, s17, (t19, s18, (t20, s19, (t21, s20, (t22, s21, (a22, s22, (a23, a_breaks, (t23, awake, (t24, s23, (t25, s24, (t26, s25, (t27, s26, (t28, s27, (t29, s28, (t30, s29, (t31, s30, (t32, s31, (t33, s32, (t34, s33, (t35, s34, (t36, s35, (t37, s36, (t38, s37, (t39, s38, refl)))))))))))))))))))))))))))))))))))))))))

@@ -15,7 +15,8 @@ use Rattle.kf_words.specs.Layout.{hide, active_index, hold_index, keeps_out, is_
 use Rattle.kf_words.specs.Rule.{Shown, bare}
 use Rattle.kf_words.specs.Steps.{Seated, caller_of, after_try, after_undo, after_leave, after_break, after_restore, after_look, after_part, after_hide, after_look_hidden, after_show, after_release, CallerBecomes, ShowsKey, WasFound}
 use Rattle.kf_words.specs.Callers.{IsAtRest, HasReference, IsIn}
-use Rattle.kf_words.specs.Runs.{Table, WasLetInLive, world, Kind, tries, undoes, leaves, breaks, restores, looks, parts, hides, looks_hidden, shows, releases, plus, minus, same, with_hide, Plays, CallerPlays, IsSeated, WordStep, WasMade, WasUndone}
+use Rattle.kf_words.specs.TableSteps.{Table, world, Kind, tries, undoes, leaves, breaks, restores, looks, parts, hides, looks_hidden, shows, releases, plus, minus, same, with_hide, Plays, CallerPlays, IsSeated, WordStep}
+use Rattle.kf_words.specs.Made.{WasLetInLive, WasMade, WasUndone}
 use Rattle.kf_words.proofs.Seating.{caller_seat}
 use Rattle.kf_words.proofs.WordSteps.{word_step, world_is, at_seat, in_world}
 use Rattle.kf_words.proofs.Runs.{let_in_live}

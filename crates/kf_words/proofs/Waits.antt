@@ -1,7 +1,8 @@
 -- What a wait does: one step of a kind, and then another.
 use Rattle.std.proofs.Common.{◌≡◌, ℕ, suc, subst, sym}
 use Rattle.kf_words.specs.declared.view.CallerView.{CallerView}
-use Rattle.kf_words.specs.Runs.{Kind, WasMade, WereMade, OnlyMade}
+use Rattle.kf_words.specs.TableSteps.{Kind}
+use Rattle.kf_words.specs.Made.{WasMade, WereMade, OnlyMade}
 
 -- one more of them, after any number
 pub one_more : (kind : ℕ → Kind) (before between after : CallerView)

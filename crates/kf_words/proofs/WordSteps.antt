@@ -1,5 +1,5 @@
 -- Each step of the table as a whole keeps the rule, and is an event of the world or none.
-use Rattle.std.proofs.Common.{◌≡◌, ◌⊎◌, inl, inr, ℕ, zero, suc, ◌+◌, ◌<◌, true, false, List, [], ◌∷◌, ◌++◌, map, length, set, refl, sym, ap, ◌∙◌, subst, ⊎_elim}
+use Rattle.std.proofs.Common.{◌≡◌, ◌⊎◌, inl, inr, ℕ, zero, suc, ◌+◌, ◌<◌, true, false, List, [], ◌∷◌, ◌++◌, map, length, set, refl, sym, ap, ◌∙◌, subst, ⊎_elim, arith}
 use Rattle.std.specs.Prelude.{slice_get, slice_index, Option, Some, None, is_some}
 use Rattle.std.proofs.lemmas.Option.{same_Some, get_or_from_slice_get}
 use mathlib.Core.Option.{some, none, some-ne-none, some-injective}
@@ -20,14 +20,15 @@ use Rattle.kf_words.specs.declared.view.CallerView.{CallerView}
 use Rattle.kf_words.specs.declared.view.MasterView.{MasterView}
 use Rattle.kf_words.specs.declared.view.View.{View}
 use Rattle.kf_words.specs.declared.view.View.TheVariants as seat
-use Rattle.kf_words.specs.Layout.{bit, bias, doom, hide, linked, one_generation, active_index, hold_index, slot_of, is_drained, has_hide, is_unused, has_linked}
+use Rattle.kf_words.specs.Layout.{bit, bias, doom, hide, linked, one_generation, active_index, hold_index, sleepers_index, slot_of, is_drained, has_hide, is_unused, has_linked}
 use Rattle.kf_words.specs.Rule.{Shows, Shown, seats, bare, caller, last_key}
-use Rattle.kf_words.specs.Steps.{Seated, caller_of, no_state, state_at, after_try, after_undo, after_leave, after_break, after_restore, after_look, after_part, after_hide, after_look_hidden, after_show, after_release, after_split, hold_for, with_load, with_pin, without_pin, after_store, with_birth, with_marks, activated_marks, doomed_marks, with_look, without_node, unread, CallerBecomes, On, MasterBecomes, LoadsHold, ShowsKey}
+use Rattle.kf_words.specs.Steps.{Seated, caller_of, no_state, state_at, after_try, after_undo, after_leave, after_break, after_restore, after_look, after_part, after_hide, after_look_hidden, after_show, after_release, unmoved, after_split, hold_for, with_load, with_pin, without_pin, after_store, with_birth, with_marks, activated_marks, doomed_marks, with_look, without_node, unread, CallerBecomes, On, MasterBecomes, LoadsHold, ShowsKey}
 use Rattle.kf_words.specs.Nodes.{marks_of}
-use Rattle.kf_words.specs.Runs.{Table, Kind, tries, undoes, leaves, breaks, restores, looks, parts, hides, looks_hidden, shows, releases, loads_hold, pins_hold, unpins_hold, splits_linked, splits_held, stores_fresh, births, takes_bias, marks_node, looks_over, unlinks, plus, minus, same, with_hide, master_in, callers_in, world, IsSeated, HoldsSlot, WordStep}
+use Rattle.kf_words.specs.TableSteps.{Table, Kind, tries, undoes, leaves, breaks, restores, looks, parts, hides, looks_hidden, shows, releases, sleeps, awakes, loads_hold, pins_hold, unpins_hold, splits_linked, splits_held, stores_fresh, births, takes_bias, marks_node, looks_over, unlinks, plus, minus, same, with_hide, master_in, callers_in, world, IsSeated, HoldsSlot, WordStep}
 use Rattle.kf_words.proofs.Bits.{bool_cases}
-use Rattle.kf_words.proofs.Seating.{master_seat, seats-set, seats-push}
+use Rattle.kf_words.proofs.Seating.{caller_seat, master_seat, seats-set, seats-push}
 use Rattle.kf_words.proofs.CallerAllowed.{no_step, try_allowed, undo_allowed, leave_allowed, break_allowed, restore_allowed, look_allowed, release_allowed, part_allowed, hide_allowed, look_hidden_allowed, show_allowed}
+use Rattle.kf_words.proofs.Sleepers.{put_same, sleep_allowed}
 use Rattle.kf_words.proofs.MasterAllowed.{active_slot, hold_slot, hold_allows, pin_owes, unpin_owes, birth_owes, unlink_owes, splits, state_there, look_allowed as look_over_allowed, fresh_allowed, load_allowed, rise_allowed, mark_allowed}
 use Rattle.kf_words.proofs.Events.{try_is_enter, undo_is_undo, look_is_look, part_is_part, leave_is_leave, break_is_break, restore_is_restore, release_is_release, hide_is_hide, look_hidden_is_look, show_is_show, miss_is_nothing, rise_is_rise, mark_is_mark, birth_is_born, unlink_is_unlink, split_is_pin}
 
@@ -104,6 +105,18 @@ module _ (slots limit : ℕ) (t t' : Table) (h : Shown slots limit t) (j : ℕ) 
         by_play slots limit (suc j) word f t t' (seat.Caller c) (seat.Caller c') told allowed h there fits becomes one,
         led kind t t' (bare h.master h.callers) (bare h.master (set h.callers j c')) (world_is t h.master h.callers h.views) (world_is t' h.master (set h.callers j c') views) l,
       )
+
+  -- a step on the count of its slot's sleepers
+  sleeper_goes : (kind : Kind) (f : ℕ → ℕ) → slice_index t.words (sleepers_index c.key.slot) < 18446744073709551616
+      → t' ≡ stepped t (sleepers_index c.key.slot) (f (slice_index t.words (sleepers_index c.key.slot))) (suc j) [] (seat.Caller c) keeps
+      → Goes kind slots limit t t'
+  sleeper_goes kind f fits becomes =
+      let p = caller_seat h.master h.callers (suc j) c (subst (λ (l : List View). get_elem? l (suc j) ≡ some (seat.Caller c)) h.views there) in
+      let here : p.0 ≡ j = (let e = p.1 in omega arith) in
+      let same : set h.callers j c ≡ h.callers = put_same h.callers j c (subst (λ (k : ℕ). get_elem? h.callers k ≡ some c) here p.2) in
+      caller_goes kind (sleepers_index c.key.slot) f unmoved (CallerBecomes unmoved no_step me)
+      (sleep_allowed slots limit (length t.homes) (suc j) me (sleepers_index c.key.slot) f refl refl)
+      (λ me' e. ap (λ (x : Seated). x.0) e) fits becomes (inl (ap (bare h.master) same))
 
 -- what a step of the Master tells, by its slot
 slot_view : (after : ℕ → ℕ → MasterView → MasterView) (m : MasterView) (n i slot : ℕ) (me' : Seated) → slot_of i ≡ slot → me' ≡ (seat.Master (after (slot_of i) n m), []) → me'.0 ≡ seat.Master (after slot n m)
@@ -258,6 +271,8 @@ word_step slots limit t (releases j) t' h s =
     (release_allowed slots limit (length t.homes) (suc j) (seat.Caller c, []) (hold_index c.key.slot) refl refl s.1.0 s.1.1)
     (λ me' e. ap (λ (x : Seated). x.0) e) s.2.fits s.2.becomes
     (inr (Release j, release_is_release slots limit t h j c (at slots limit t t' h j c s.2.there) s.1.0 (slice_index t.words (hold_index c.key.slot)), λ c e. absurd (let x : Release j ≡ Enter c = e in cc)))
+word_step slots limit t (sleeps j) t' h s = sleeper_goes slots limit t t' h j s.0 s.2.there (sleeps j) (plus 1) s.2.fits s.2.becomes
+word_step slots limit t (awakes j) t' h s = sleeper_goes slots limit t t' h j s.0 s.2.there (awakes j) (minus 1) s.2.fits s.2.becomes
 word_step slots limit t (loads_hold slot) t' g s =
     let m : MasterView = s.0 in
     master_goes slots limit t t' g m s.2.there (loads_hold slot) slot (hold_index slot) same (with_load) (On hold_index LoadsHold (step 0 (hold_index slot) 0 0 none) (seat.Master m, []))

@@ -3,8 +3,8 @@
 use Rattle.std.specs.Prelude.{◌≡◌, ℕ, ◌+◌, ◌*◌, ◌/◌, ◌%◌, ◌<◌, ◌||◌, ◌&&◌, Bool, true, false, ◌==◌, List, [], ◌∷◌, slice_index, slice_set}
 use Rattle.std.specs.List.{repeat}
 
--- each slot has a cache line of eight words to itself: its active word, behind that its hold word, and six
--- that nobody uses
+-- each slot has a cache line of eight words to itself: its active word, behind that its hold word, then the
+-- count of those who sleep at the active word, and five that nobody uses
 abbrev pub line_words : ℕ
 line_words = 8
 
@@ -15,6 +15,10 @@ active_index slot = slot * line_words
 -- where the hold word of a slot stands: right behind its active word
 abbrev pub hold_index : ℕ → ℕ
 hold_index slot = slot * line_words + 1
+
+-- where the count of a slot's sleepers stands: right behind its hold word. The rule says nothing of it
+abbrev pub sleepers_index : ℕ → ℕ
+sleepers_index slot = slot * line_words + 2
 
 -- the slot of the word that stands here
 abbrev pub slot_of : ℕ → ℕ

@@ -5,5 +5,7 @@ pub mod Callers
 pub mod Nodes
 pub mod Laws
 pub mod Events
+pub mod TableSteps
+pub mod Made
 pub mod Runs
 pub mod Life

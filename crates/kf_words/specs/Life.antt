@@ -1,4 +1,4 @@
--- A run with every kind of step on words: the whole life of a node, and the birth of the next one in its slot.
+-- A run with every kind of step on words: the whole life of a node, and the birth of the next in its slot.
 use Rattle.std.specs.Prelude.{ℕ, Bool, true, false, List, [], ◌∷◌, map, Option, None, Some}
 use Rattle.kf_core.specs.declared.caller.Phase.{Phase}
 use Rattle.kf_core.specs.declared.caller.Phase.TheVariants.{Spent}
@@ -7,7 +7,8 @@ use Rattle.kf_words.specs.declared.view.CallerView.{CallerView}
 use Rattle.kf_words.specs.declared.view.MasterView.{MasterView}
 use Rattle.kf_words.specs.declared.view.Load.{Load}
 use Rattle.kf_words.specs.declared.view.View.TheVariants as seat
-use Rattle.kf_words.specs.Runs.{Table, Kind, births, breaks, hides, leaves, loads_hold, looks, looks_hidden, looks_over, marks_node, parts, pins_hold, releases, restores, shows, splits_held, splits_linked, stores_fresh, takes_bias, tries, undoes, unlinks, unpins_hold, WordRun, opened_table}
+use Rattle.kf_words.specs.TableSteps.{Table, Kind, births, breaks, hides, leaves, loads_hold, looks, looks_hidden, looks_over, marks_node, parts, pins_hold, releases, restores, shows, sleeps, awakes, splits_held, splits_linked, stores_fresh, takes_bias, tries, undoes, unlinks, unpins_hold}
+use Rattle.kf_words.specs.Runs.{WordRun, opened_table}
 
 -- the marks of a node, by whether it is activated and whether it is doomed
 abbrev pub with_marks_of : Bool → Bool → Marks
@@ -25,7 +26,8 @@ caller_at phase steps tried found due = record {
 }
 
 -- the Master of two slots, with three holds at most, by what it knows of slot 1
-abbrev pub master_at : ℕ → Option Marks → ℕ → Option ℕ → Option ℕ → List Load → List Load → Option Load → MasterView
+abbrev pub master_at : ℕ → Option Marks → ℕ → Option ℕ → Option ℕ → List Load → List Load → Option Load
+    → MasterView
 master_at last marks pins pinning fresh loads at_birth looked = record {
   limit = 3;
   slots = record { generation = 1; marks = Some (with_marks_of true false) }
@@ -38,21 +40,25 @@ master_at last marks pins pinning fresh loads at_birth looked = record {
   looked = looked;
 }
 
--- the table, by the two words of slot 1
-abbrev pub table_at : ℕ → ℕ → MasterView → List CallerView → Table
-table_at active hold m cs = record {
-  words = 0 ∷ 6442450944 ∷ 0 ∷ 0 ∷ 0 ∷ 0 ∷ 0 ∷ 0 ∷ active ∷ hold ∷ 0 ∷ 0 ∷ 0 ∷ 0 ∷ 0 ∷ 0 ∷ [];
+-- the table, by the three words of slot 1: active word, hold word and count of sleepers
+abbrev pub table_with : ℕ → ℕ → ℕ → MasterView → List CallerView → Table
+table_with active hold sleepers m cs = record {
+  words = 0 ∷ 6442450944 ∷ 0 ∷ 0 ∷ 0 ∷ 0 ∷ 0 ∷ 0 ∷ active ∷ hold ∷ sleepers ∷ 0 ∷ 0 ∷ 0 ∷ 0 ∷ 0 ∷ [];
   homes = [];
   views = seat.Master m ∷ map seat.Caller cs;
 }
+
+-- the table while nobody sleeps
+abbrev pub table_at : ℕ → ℕ → MasterView → List CallerView → Table
+table_at active hold m cs = table_with active hold 0 m cs
 
 -- caller 0 calls into the node, caller 1 hides it, shows it, and removes it
 abbrev pub word_life : List Kind
 word_life = loads_hold 1 ∷ stores_fresh 1 ∷ births 1 ∷ takes_bias 1 ∷ loads_hold 1 ∷ pins_hold 1
     ∷ splits_linked 1 ∷ loads_hold 1 ∷ pins_hold 1 ∷ splits_held 1 0 ∷ tries 0 ∷ hides 1
     ∷ looks_hidden 1 ∷ leaves 0 ∷ looks_hidden 1 ∷ tries 0 ∷ undoes 0 ∷ shows 1 ∷ tries 0
-    ∷ marks_node 1 ∷ tries 1 ∷ undoes 1 ∷ breaks 0 ∷ looks 1 ∷ restores 0 ∷ parts 1 ∷ looks_over 1
-    ∷ leaves 0 ∷ looks_over 1 ∷ unlinks 1 1 ∷ parts 1 ∷ releases 1 ∷ releases 0 ∷ loads_hold 1
+    ∷ marks_node 1 ∷ tries 1 ∷ undoes 1 ∷ sleeps 1 ∷ breaks 0 ∷ awakes 1 ∷ looks 1 ∷ restores 0
+    ∷ parts 1 ∷ looks_over 1 ∷ leaves 0 ∷ looks_over 1 ∷ unlinks 1 1 ∷ parts 1 ∷ releases 1 ∷ releases 0 ∷ loads_hold 1
     ∷ stores_fresh 1 ∷ births 1 ∷ loads_hold 1 ∷ pins_hold 1 ∷ unpins_hold 1 ∷ []
 
 -- there is a run of all these steps from the opening of two slots

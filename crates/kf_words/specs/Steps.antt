@@ -121,6 +121,10 @@ abbrev pub after_part : ℕ → CallerView → CallerView
 after_part found c =
     if has_linked found then after_step c.phase c.undo_due found c else after_step Parted false found c
 
+-- the view after a step on the count of sleepers, which is no step on a word that the rule reads: as before
+abbrev pub unmoved : ℕ → CallerView → CallerView
+unmoved found c = c
+
 -- what is read of a slot that is not there: no node, and the generation 0
 abbrev pub no_state : SlotState
 no_state = record { generation = 0; marks = None }

@@ -3,7 +3,7 @@ ghost use Rattle.std.specs.Prelude.{◌≡◌, true};
 ghost use Rattle.kf_core.specs.Phases.{has_reference};
 ghost use Rattle.kf_core.specs.declared.caller.Phase.TheVariants as phase_of;
 ghost use Rattle.kf_words.specs.Callers.{IsSameSeat, WasLeft, WasBroken, WasRestored, is_in_call, seat_view};
-ghost use Rattle.kf_words.specs.Runs.{WasALeave, WasABreak, WasARestore};
+ghost use Rattle.kf_words.specs.Made.{WasALeave, WasABreak, WasARestore};
 
 use crate::hold::Hold;
 use crate::seat::CallerSeat;

@@ -3,7 +3,7 @@ ghost use Rattle.std.specs.Prelude.{◌≡◌, true};
 ghost use Rattle.kf_core.specs.declared.caller.Phase.TheVariants as phase_of;
 ghost use Rattle.kf_words.specs.Callers.{IsSameSeat, seat_view};
 ghost use Rattle.kf_words.specs.Layout.{is_drained};
-ghost use Rattle.kf_words.specs.Runs.{OnlyLooked};
+ghost use Rattle.kf_words.specs.Made.{OnlyLooked};
 
 use crate::hold::Hold;
 use crate::layout::is_drained;
@@ -13,15 +13,18 @@ use std::sync::Wait;
 impl Drained {
     /// Sleeps while somebody uses the node again: a caller that broke its protection and restored it, or one
     /// whose refused try is not yet taken back. With no user there it sleeps for a millisecond at most. It
-    /// may return for no reason, and makes no word step.
-    pub fn rest<R: Wait>(&self, rt: &R) {
+    /// may return for no reason, and makes no step on the slot's active word or hold word.
+    pub fn rest<R: Wait>(&mut self, rt: &R)
+        ensures { self.new ≡ self.old }
+    {
         let seen = self.seat.peek();
         self.seat.rest(rt, seen);
     }
 }
 
 /// Waits until the node is doomed and nobody has a reference to it (`kernfs_drain`).
-/// It may never return. All its word steps are looks at the node's active word; how many is not told.
+/// It may never return. All its steps on the slot's active word and hold word are looks at the active word;
+/// how many is not told.
 #[tactic(auto, using(crate::proofs::Waits::at_least_one))]
 pub fn wait_drained<R: Wait>(rt: &R, hold: Hold) -> Drained
     ensures same { IsSameSeat hold result }

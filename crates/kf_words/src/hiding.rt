@@ -3,7 +3,7 @@ ghost use Rattle.std.specs.Prelude.{◌≡◌, true, IfOk, IfErr, MatchResult};
 ghost use Rattle.kf_core.specs.declared.caller.Phase.TheVariants as phase_of;
 ghost use Rattle.kf_words.specs.Callers.{IsSameSeat, SawUnused, SawUser, WasShown, FoundThere, seat_view};
 ghost use Rattle.kf_words.specs.Layout.{is_unused};
-ghost use Rattle.kf_words.specs.Runs.{OnlyLookedHidden, WasALookHidden, WasAShow};
+ghost use Rattle.kf_words.specs.Made.{OnlyLookedHidden, WasALookHidden, WasAShow};
 
 use crate::hold::Hold;
 use crate::layout::is_unused;
@@ -97,7 +97,8 @@ impl Hidden {
 }
 
 /// Waits until nobody has a reference to the node whose key it hides.
-/// It may never return. All its word steps are looks at the node's active word; how many is not told.
+/// It may never return. All its steps on the slot's active word and hold word are looks at the active word;
+/// how many is not told.
 #[tactic(auto, using(crate::proofs::Waits::at_least_one))]
 pub fn wait_hidden<R: Wait>(rt: &R, hiding: Hiding) -> Hidden
     ensures same { IsSameSeat hiding result }

@@ -2,7 +2,7 @@
 ghost use Rattle.std.specs.Prelude.{◌≡◌, true, IfOk, IfErr, MatchResult};
 ghost use Rattle.kf_core.specs.Phases.{is_waiting};
 ghost use Rattle.kf_words.specs.Callers.{IsSameSeat, Entered, WasTurned, SawDrained, SawUse, WasHidden, FoundHidden, FoundThere, seat_view};
-ghost use Rattle.kf_words.specs.Runs.{WasATry, WasATryUndone, WasALook, WasAHide, WasLetInLive};
+ghost use Rattle.kf_words.specs.Made.{WasATry, WasATryUndone, WasALook, WasAHide, WasLetInLive};
 
 use crate::call::Call;
 use crate::hiding::Hiding;

@@ -1,12 +1,13 @@
 //! Where the words of a slot stand, the numbers of which active words and hold words are made, and the tests
 //! on a word that was found.
 ghost use Rattle.std.specs.Prelude.{◌≡◌, ◌+◌, ◌-◌, ◌↔◌, IsTrue};
-ghost use Rattle.kf_words.specs.Layout.{active_index, hold_index, keeps_out, has_bias, has_hide, is_drained, is_unused, wants_wake, has_linked, bit, bias, doom, IsFree, HasRoom};
+ghost use Rattle.kf_words.specs.Layout.{active_index, hold_index, sleepers_index, keeps_out, has_bias, has_hide, is_drained, is_unused, wants_wake, has_linked, bit, bias, doom, IsFree, HasRoom};
 
 use kf_core::Marks;
 
 /// The words of a cache line. Each slot has a line to itself, so that calls of one node never wait for those
-/// of another: its active word, behind that its hold word, and six words that nobody uses.
+/// of another: its active word, behind that its hold word, then the count of those who sleep at the active
+/// word, and five words that nobody uses.
 pub(crate) const LINE_WORDS: usize = 8;
 
 /// In an active word: the node is not at once linked, activated and undoomed, so a try for a reference fails.
@@ -42,6 +43,13 @@ pub(crate) fn hold_index(slot: u32) -> usize
     ensures { result ≡ hold_index slot }
 {
     slot as usize * LINE_WORDS + 1
+}
+
+/// Where the count of a slot's sleepers stands.
+pub(crate) fn sleepers_index(slot: u32) -> usize
+    ensures { result ≡ sleepers_index slot }
+{
+    slot as usize * LINE_WORDS + 2
 }
 
 #[tactic(auto, using(crate::proofs::Bits::has_bias_test))]
@@ -88,8 +96,8 @@ pub(crate) fn wants_wake(word: u64) -> bool
 }
 
 /// Whether the step that found this active word, and took one user off it, left it so that a sleeper may wait
-/// for it. Nobody sleeps at the word of a live node whose key is shown: most callers are done after one test, with
-/// the same mask as in `enter`.
+/// for it. Nobody sleeps at the word of a live node whose key is shown: most callers are done after one test,
+/// with the same mask as in `enter`.
 pub(crate) fn ends_a_wait(found: u64) -> bool
     ensures { result ≡ wants_wake (found - 1) }
 {

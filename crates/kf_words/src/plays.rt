@@ -6,7 +6,7 @@ use atomic_table::{Play, Split};
 pub(crate) struct Tries;
 
 impl Play<(), View> for Tries {
-    ghost use Rattle.kf_words.specs.Runs.{MakesTry};
+    ghost use Rattle.kf_words.specs.Made.{MakesTry};
 
     ghost then = { MakesTry };
 }
@@ -15,7 +15,7 @@ impl Play<(), View> for Tries {
 pub(crate) struct Undoes;
 
 impl Play<(), View> for Undoes {
-    ghost use Rattle.kf_words.specs.Runs.{MakesUndo};
+    ghost use Rattle.kf_words.specs.Made.{MakesUndo};
 
     ghost then = { MakesUndo };
 }
@@ -24,7 +24,7 @@ impl Play<(), View> for Undoes {
 pub(crate) struct Leaves;
 
 impl Play<(), View> for Leaves {
-    ghost use Rattle.kf_words.specs.Runs.{MakesLeave};
+    ghost use Rattle.kf_words.specs.Made.{MakesLeave};
 
     ghost then = { MakesLeave };
 }
@@ -33,7 +33,7 @@ impl Play<(), View> for Leaves {
 pub(crate) struct Breaks;
 
 impl Play<(), View> for Breaks {
-    ghost use Rattle.kf_words.specs.Runs.{MakesBreak};
+    ghost use Rattle.kf_words.specs.Made.{MakesBreak};
 
     ghost then = { MakesBreak };
 }
@@ -42,7 +42,7 @@ impl Play<(), View> for Breaks {
 pub(crate) struct Restores;
 
 impl Play<(), View> for Restores {
-    ghost use Rattle.kf_words.specs.Runs.{MakesRestore};
+    ghost use Rattle.kf_words.specs.Made.{MakesRestore};
 
     ghost then = { MakesRestore };
 }
@@ -51,7 +51,7 @@ impl Play<(), View> for Restores {
 pub(crate) struct Looks;
 
 impl Play<(), View> for Looks {
-    ghost use Rattle.kf_words.specs.Runs.{MakesLook};
+    ghost use Rattle.kf_words.specs.Made.{MakesLook};
 
     ghost then = { MakesLook };
 }
@@ -60,7 +60,7 @@ impl Play<(), View> for Looks {
 pub(crate) struct Hides;
 
 impl Play<(), View> for Hides {
-    ghost use Rattle.kf_words.specs.Runs.{MakesHide};
+    ghost use Rattle.kf_words.specs.Made.{MakesHide};
 
     ghost then = { MakesHide };
 }
@@ -69,7 +69,7 @@ impl Play<(), View> for Hides {
 pub(crate) struct LooksHidden;
 
 impl Play<(), View> for LooksHidden {
-    ghost use Rattle.kf_words.specs.Runs.{MakesLookHidden};
+    ghost use Rattle.kf_words.specs.Made.{MakesLookHidden};
 
     ghost then = { MakesLookHidden };
 }
@@ -78,7 +78,7 @@ impl Play<(), View> for LooksHidden {
 pub(crate) struct Shows;
 
 impl Play<(), View> for Shows {
-    ghost use Rattle.kf_words.specs.Runs.{MakesShow};
+    ghost use Rattle.kf_words.specs.Made.{MakesShow};
 
     ghost then = { MakesShow };
 }
@@ -87,7 +87,7 @@ impl Play<(), View> for Shows {
 pub(crate) struct Parts;
 
 impl Play<(), View> for Parts {
-    ghost use Rattle.kf_words.specs.Runs.{MakesPart};
+    ghost use Rattle.kf_words.specs.Made.{MakesPart};
 
     ghost then = { MakesPart };
 }
@@ -96,9 +96,27 @@ impl Play<(), View> for Parts {
 pub(crate) struct Releases;
 
 impl Play<(), View> for Releases {
-    ghost use Rattle.kf_words.specs.Runs.{MakesRelease};
+    ghost use Rattle.kf_words.specs.Made.{MakesRelease};
 
     ghost then = { MakesRelease };
+}
+
+/// A caller counts itself among its slot's sleepers.
+pub(crate) struct Sleeps;
+
+impl Play<(), View> for Sleeps {
+    ghost use Rattle.kf_words.specs.Steps.{CallerBecomes, unmoved};
+
+    ghost then = { CallerBecomes unmoved };
+}
+
+/// A caller is no longer among its slot's sleepers.
+pub(crate) struct Awakes;
+
+impl Play<(), View> for Awakes {
+    ghost use Rattle.kf_words.specs.Steps.{CallerBecomes, unmoved};
+
+    ghost then = { CallerBecomes unmoved };
 }
 
 /// The Master loads a hold word.

@@ -4,7 +4,7 @@ ghost use Rattle.std.specs.Prelude.{◌≡◌, true, IfOk, IfErr, MatchResult};
 ghost use Rattle.kf_core.specs.Phases.{has_reference};
 ghost use Rattle.kf_core.specs.declared.caller.Phase.TheVariants as phase_of;
 ghost use Rattle.kf_words.specs.Callers.{IsSameSeat, Entered, WasTurned, WasLeft, WasBroken, FoundThere, owed, seat_view};
-ghost use Rattle.kf_words.specs.Runs.{WasATry, WasATryUndone, OwedForUndo, WasALeave, WasABreak, WasLetInLive};
+ghost use Rattle.kf_words.specs.Made.{WasATry, WasATryUndone, OwedForUndo, WasALeave, WasABreak, WasLetInLive};
 
 use crate::call::Call;
 use crate::hold::Hold;

@@ -2,7 +2,7 @@
 ghost use Rattle.std.specs.Prelude.{◌≡◌, IfOk, IfErr, MatchResult};
 ghost use Rattle.kf_core.specs.declared.caller.Phase.TheVariants as phase_of;
 ghost use Rattle.kf_words.specs.Callers.{IsSameSeat, SawParted, SawLinked, FoundInHold, seat_view};
-ghost use Rattle.kf_words.specs.Runs.{WasAPart};
+ghost use Rattle.kf_words.specs.Made.{WasAPart};
 
 use crate::layout::has_linked;
 use crate::seat::{CallerSeat, release_seat};

@@ -29,7 +29,7 @@ impl Guard for Seats {
     ghost use Rattle.std.specs.Prelude.{◌≡◌, true};
     ghost use Rattle.kf_core.specs.Phases.{has_reference};
     ghost use Rattle.kf_words.specs.Callers.{IsSameSeat, Entered, WasTurned, WasLeft, seat_view};
-    ghost use Rattle.kf_words.specs.Runs.{WasLetInLive, WasATryUndone, WasALeave};
+    ghost use Rattle.kf_words.specs.Made.{WasLetInLive, WasATryUndone, WasALeave};
 
     type Hold = Hold;
 

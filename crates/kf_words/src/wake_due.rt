@@ -6,9 +6,9 @@ use crate::layout::ends_a_wait;
 use crate::seat::CallerSeat;
 use std::marker::Model;
 
-/// What a step that took one user off an active word owes to those who sleep there: a wake, where the word that
-/// it found tells that one of them may wait for what is left. It must be spent: a step that forgets it does
-/// not compile.
+/// What a step that took one user off an active word owes to those who sleep there: a wake, where the word
+/// that it found tells that one of them may wait for what is left. It must be spent: a step that forgets it
+/// does not compile.
 pub struct WakeDue {
     slot: u32,
     found: u64,
@@ -53,7 +53,7 @@ impl WakeDue {
         ends_a_wait(found)
     }
 
-    /// Wakes all who sleep at the slot, which is the seat's.
+    /// Wakes all who sleep at the slot, which is the seat's. It makes a system call only where somebody does.
     fn wake(self, seat: &CallerSeat)
         requires { self.slot ≡ seat.now.key.slot }
     {

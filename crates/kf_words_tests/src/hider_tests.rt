@@ -1,11 +1,13 @@
 //! Keys that are hidden and shown among many threads.
-use crate::test_fixtures::{activate, born, doom, enter, hide, look, made, part, pin, unlink};
+use crate::test_fixtures::{
+    activate, born, doom, enter, hide, look, made, part, pin, refused, unlink,
+};
 use crate::thread_tests::{
     drain_in, free_the_rest, hide_in, let_through, no_hold_left, pins, see_drained, wait_for,
 };
 use crate::wait_tests::{comes, linger};
-use kf_core::Key;
-use kf_words::{Call, Hidden, Hiding, Hold, Master, wait_hidden};
+use kf_core::{Guard, Key};
+use kf_words::{Call, Hidden, Hiding, Hold, Master, Seats, wait_hidden};
 use std::alloc::Global;
 use std::process::Abort;
 use std::rt::Clock;
@@ -55,28 +57,36 @@ fn drained_while_hidden<R: Abort + Threads + Wait + Sync>(
     }
 }
 
-#[test]
-fn a_hidden_node_drains_and_its_slot_waits_for_the_token(rt: HostRuntime) {
-    let mut master = made(&rt, rt.alloc(), 2, 8, 0);
-    let key = born(&rt, &mut master, 1, 1);
-    activate(&rt, &mut master, key);
-    let mut call = enter(&rt, pin(&rt, &mut master, key));
-    let waiter = pin(&rt, &mut master, key);
-    let second = pin(&rt, &mut master, key);
-    let hiding = hide(&rt, pin(&rt, &mut master, key));
+fn a_hidden_node_drains_and_its_slot_waits_for_the_token<R: Abort + Threads + Wait + Sync>(
+    rt: &R,
+    alloc: Global,
+) {
+    let mut master = made(rt, alloc, 2, 8, 0);
+    let key = born(rt, &mut master, 1, 1);
+    activate(rt, &mut master, key);
+    let mut call = enter(rt, pin(rt, &mut master, key));
+    let waiter = pin(rt, &mut master, key);
+    let second = pin(rt, &mut master, key);
+    let hiding = hide(rt, pin(rt, &mut master, key));
     call.break_protection();
-    let hidden = wait_hidden(&rt, hiding);
+    let hidden = wait_hidden(rt, hiding);
     call.restore();
-    doom(&rt, &mut master, key);
-    drained_while_hidden(&rt, rt.alloc(), call, waiter);
-    let drained = look(&rt, second);
-    assert!(rt; unlink(&rt, &mut master, &drained));
-    part(&rt, drained).release();
+    doom(rt, &mut master, key);
+    drained_while_hidden(rt, alloc, call, waiter);
+    let drained = look(rt, second);
+    assert!(rt; unlink(rt, &mut master, &drained));
+    part(rt, drained).release();
     assert_eq!(rt; master.free_key(), None, "the token holds the slot");
     let last = hidden.show();
     assert_eq!(rt; master.free_key(), None, "the hold has the slot");
-    last.release();
-    assert!(rt; master.free_key().is_some());
+    refused(rt, last).release();
+    assert_eq!(rt;
+        master.free_key(),
+        Some(Key {
+            slot: 1,
+            generation: 2
+        })
+    );
 }
 
 /// What eight callers and two hiders count.
@@ -94,19 +104,20 @@ struct Counts {
     done: AtomicU64,
 }
 
-/// In and out until both hiders are done.
+/// In and out, through the guard, until both hiders are done.
 fn in_and_out(place: &mut Option<Hold>, counts: &Counts) {
+    let mut guard = Seats;
     for _ in 0..1_000_000_000u64 {
         if counts.done.load(Ordering::SeqCst) >= 2 {
             return;
         }
         if let Some(hold) = place.take() {
-            let back = match hold.enter() {
+            let back = match guard.enter(hold) {
                 Ok(call) => {
                     counts.running.fetch_add(1, Ordering::SeqCst);
                     counts.calls.fetch_add(1, Ordering::SeqCst);
                     counts.running.fetch_sub(1, Ordering::SeqCst);
-                    call.leave()
+                    guard.leave(call)
                 }
                 Err(back) => back,
             };
@@ -163,12 +174,11 @@ fn eight_and_two<R: Threads + Wait + Sync>(rt: &R, holds: &mut Vec<Option<Hold>>
     );
 }
 
-#[test]
-fn no_call_runs_while_a_token_is_out(rt: HostRuntime) {
-    let mut master = made(&rt, rt.alloc(), 2, 16, 0);
-    let key = born(&rt, &mut master, 1, 1);
-    activate(&rt, &mut master, key);
-    let mut holds = pins(&rt, rt.alloc(), &mut master, key, 10);
+fn no_call_runs_while_a_token_is_out<R: Abort + Threads + Wait + Sync>(rt: &R, alloc: Global) {
+    let mut master = made(rt, alloc, 2, 16, 0);
+    let key = born(rt, &mut master, 1, 1);
+    activate(rt, &mut master, key);
+    let mut holds = pins(rt, alloc, &mut master, key, 10);
     let counts = Counts {
         running: AtomicU64::new(0),
         calls: AtomicU64::new(0),
@@ -176,34 +186,38 @@ fn no_call_runs_while_a_token_is_out(rt: HostRuntime) {
         tokens: AtomicU64::new(0),
         done: AtomicU64::new(0),
     };
-    eight_and_two(&rt, &mut holds, &counts);
+    eight_and_two(rt, &mut holds, &counts);
     assert_eq!(rt; counts.wrong.load(Ordering::SeqCst), 0);
     assert!(rt; counts.tokens.load(Ordering::SeqCst) >= 50);
     assert!(rt; counts.calls.load(Ordering::SeqCst) > 0);
-    doom(&rt, &mut master, key);
-    see_drained(&rt, holds);
+    doom(rt, &mut master, key);
+    see_drained(rt, holds);
 }
 
-/// Ends the last call where both wait, and later marks the node. Tells whether the hider came through by the
-/// call's end, and the other by the mark.
+/// Ends the last call where both wait, and then marks the node, where there is one to `mark`. Tells whether each
+/// came through when it had to: the hider by the call's end, and the waiter when the node is also marked.
 fn end_and_mark<R: Abort + Clock>(
     rt: &R,
     master: &mut Master,
-    key: Key,
+    mark: Option<Key>,
     running: &mut Option<Call>,
     other: &mut Option<Hold>,
     through: &AtomicU64,
 ) -> bool {
     thread::sleep(rt, Duration::from_millis(10));
+    let early = through.load(Ordering::SeqCst) != 0;
     if let Some(call) = running.take() {
         let_through(call, false, 0, through);
     }
-    let hidden = comes(rt, 1, through);
-    free_the_rest(other, 1, through);
-    doom(rt, master, key);
+    let first = if mark.is_some() { 1 } else { 2 };
+    let hidden = comes(rt, first, through);
+    free_the_rest(other, first, through);
+    if let Some(key) = mark {
+        doom(rt, master, key);
+    }
     let drained = comes(rt, 2, through);
     free_the_rest(other, 2, through);
-    hidden && drained
+    !early && hidden && drained
 }
 
 /// One hides and one waits for the drain, the second of them a moment later.
@@ -232,11 +246,12 @@ fn hide_and_drain<R: Threads + Wait + Clock + Sync>(
     hidden
 }
 
-/// A waiter for the drain and a hider sleep on one word, which one first is `hider_first`. The last call's
-/// end wakes the hider, whoever else sleeps there: the waiter sees that it has to wait on, and sleeps again.
-fn two_kinds_wait<R: Abort + Threads + Wait + Clock + Sync>(
+/// A waiter for the drain and a hider sleep on one word, which one first is `hider_first`. The last call's end wakes
+/// both: the hider is through, and the waiter too where the node is marked. Else it sees that it has to wait on.
+fn both_wait<R: Abort + Threads + Wait + Clock + Sync>(
     rt: &R,
     alloc: Global,
+    marked: bool,
     hider_first: bool,
 ) {
     let mut master = made(rt, alloc, 2, 8, 0);
@@ -246,11 +261,16 @@ fn two_kinds_wait<R: Abort + Threads + Wait + Clock + Sync>(
     let mut waiter = Some(pin(rt, &mut master, key));
     let mut other = Some(pin(rt, &mut master, key));
     let mut hiding = Some(hide(rt, pin(rt, &mut master, key)));
+    let mut mark = Some(key);
+    if marked {
+        doom(rt, &mut master, key);
+        mark = None;
+    }
     let through = AtomicU64::new(0);
     let (hidden, woken) = join(
         rt,
         || hide_and_drain(rt, hider_first, &mut hiding, &mut waiter, &through),
-        || { end_and_mark(rt, &mut master, key, &mut running, &mut other, &through) },
+        || { end_and_mark(rt, &mut master, mark, &mut running, &mut other, &through) },
     );
     assert!(rt; woken);
     shown_and_released(rt, hidden, hiding);
@@ -275,61 +295,10 @@ fn shown_and_released<R: Abort + Wait>(rt: &R, hidden: Option<Hidden>, left: Opt
 }
 
 #[test]
-fn no_waiter_takes_the_wake_of_a_hider(rt: HostRuntime) {
-    for _ in 0..20 {
-        two_kinds_wait(&rt, rt.alloc(), false);
-        two_kinds_wait(&rt, rt.alloc(), true);
+fn hiders_among_calls_and_waiters(rt: HostRuntime) {
+    a_hidden_node_drains_and_its_slot_waits_for_the_token(&rt, rt.alloc());
+    no_call_runs_while_a_token_is_out(&rt, rt.alloc());
+    for turn in 0..40u32 {
+        both_wait(&rt, rt.alloc(), turn >= 36, turn % 2 == 0);
     }
-}
-
-/// Ends the last call where both sleep on a word that is doomed and hidden, and tells whether both came
-/// through.
-fn end_for_both<R: Abort + Clock>(
-    rt: &R,
-    running: &mut Option<Call>,
-    other: &mut Option<Hold>,
-    through: &AtomicU64,
-) -> bool {
-    thread::sleep(rt, Duration::from_millis(20));
-    if let Some(call) = running.take() {
-        let_through(call, false, 0, through);
-    }
-    let both = comes(rt, 2, through);
-    free_the_rest(other, 2, through);
-    both
-}
-
-/// A hider and a waiter for the drain sleep on the users of one word, which one first is `hider_first`: the
-/// last call's end wakes both.
-fn both_wait<R: Abort + Threads + Wait + Clock + Sync>(rt: &R, alloc: Global, hider_first: bool) {
-    let mut master = made(rt, alloc, 2, 8, 0);
-    let key = born(rt, &mut master, 1, 1);
-    activate(rt, &mut master, key);
-    let mut running = Some(enter(rt, pin(rt, &mut master, key)));
-    let mut waiter = Some(pin(rt, &mut master, key));
-    let mut other = Some(pin(rt, &mut master, key));
-    let mut hiding = Some(hide(rt, pin(rt, &mut master, key)));
-    doom(rt, &mut master, key);
-    let through = AtomicU64::new(0);
-    let (hidden, woken) = join(
-        rt,
-        || hide_and_drain(rt, hider_first, &mut hiding, &mut waiter, &through),
-        || end_for_both(rt, &mut running, &mut other, &through),
-    );
-    assert!(rt; woken);
-    shown_and_released(rt, hidden, hiding);
-    if let Some(hold) = other {
-        look(rt, hold).release();
-    }
-    no_hold_left(rt, running, Vec::new(alloc));
-    if let Some(left) = waiter {
-        left.release();
-        panic!(rt; "a hold was not drained");
-    }
-}
-
-#[test]
-fn a_hider_and_a_waiter_for_the_drain_are_woken_by_one_leave(rt: HostRuntime) {
-    both_wait(&rt, rt.alloc(), false);
-    both_wait(&rt, rt.alloc(), true);
 }

@@ -1,11 +1,8 @@
 //! Keys that are hidden and shown, by one thread.
 ghost use Rattle.kf_words.specs.Callers.{IsSameSeat};
 
-use crate::test_fixtures::{
-    activate, born, doom, enter, hide, look, made, part, pin, refused, unlink,
-};
+use crate::test_fixtures::{activate, born, doom, enter, hide, made, pin, refused};
 use crate::thread_tests::let_through;
-use kf_core::Key;
 use kf_words::{Hidden, Hiding, Hold};
 use std::alloc::Global;
 use std::process::Abort;
@@ -38,27 +35,26 @@ fn hides_used<R: Abort>(rt: &R, hiding: Hiding) -> Hiding
     }
 }
 
-#[test]
-fn a_hidden_key_refuses_until_it_is_shown(rt: HostRuntime) {
-    let mut master = made(&rt, rt.alloc(), 2, 4, 0);
-    let key = born(&rt, &mut master, 1, 1);
-    activate(&rt, &mut master, key);
-    let call = enter(&rt, pin(&rt, &mut master, key));
-    let first = pin(&rt, &mut master, key);
-    let second = pin(&rt, &mut master, key);
-    let hiding = hide(&rt, first);
+fn a_hidden_key_refuses_until_it_is_shown<R: Abort>(rt: &R, alloc: Global) {
+    let mut master = made(rt, alloc, 2, 4, 0);
+    let key = born(rt, &mut master, 1, 1);
+    activate(rt, &mut master, key);
+    let call = enter(rt, pin(rt, &mut master, key));
+    let first = pin(rt, &mut master, key);
+    let second = pin(rt, &mut master, key);
+    let hiding = hide(rt, first);
     assert_eq!(rt; hiding.key(), key);
-    let second = refused(&rt, second);
-    let second = hidden_before(&rt, second);
-    let hiding = hides_used(&rt, hiding);
+    let second = refused(rt, second);
+    let second = hidden_before(rt, second);
+    let hiding = hides_used(rt, hiding);
     call.leave().release();
-    let hidden = see_hidden(&rt, hiding);
+    let hidden = see_hidden(rt, hiding);
     assert_eq!(rt; hidden.key(), key);
-    let second = refused(&rt, second);
+    let second = refused(rt, second);
     let first = hidden.show();
     assert_eq!(rt; first.key(), key);
-    let second = enter(&rt, second).leave();
-    enter(&rt, first).leave().release();
+    let second = enter(rt, second).leave();
+    enter(rt, first).leave().release();
     second.release();
 }
 
@@ -79,36 +75,6 @@ fn hidden_and_shown<R: Abort>(rt: &R, alloc: Global, activates: bool) {
     } else {
         refused(rt, second).release();
     }
-}
-
-#[test]
-fn a_key_that_is_shown_is_as_it_was_marked_meanwhile(rt: HostRuntime) {
-    hidden_and_shown(&rt, rt.alloc(), true);
-    hidden_and_shown(&rt, rt.alloc(), false);
-}
-
-#[test]
-fn a_hidden_node_is_drained_and_taken_out(rt: HostRuntime) {
-    let mut master = made(&rt, rt.alloc(), 2, 4, 0);
-    let key = born(&rt, &mut master, 1, 1);
-    activate(&rt, &mut master, key);
-    let first = pin(&rt, &mut master, key);
-    let second = pin(&rt, &mut master, key);
-    let hidden = see_hidden(&rt, hide(&rt, first));
-    doom(&rt, &mut master, key);
-    let drained = look(&rt, second);
-    assert!(rt; unlink(&rt, &mut master, &drained));
-    part(&rt, drained).release();
-    assert_eq!(rt; master.free_key(), None, "the token holds the slot");
-    let first = hidden.show();
-    refused(&rt, first).release();
-    assert_eq!(rt;
-        born(&rt, &mut master, 1, 2),
-        Key {
-            slot: 1,
-            generation: 2
-        }
-    );
 }
 
 /// What the steps that wake nobody tell, on a node that is doomed, hidden, or in use by another call.
@@ -158,8 +124,41 @@ fn told_quietly<R: Abort>(
     }
 }
 
+/// What the undo of a refused try tells on a node that was never activated, so that nobody could ever enter.
+fn told_before_activation<R: Abort>(rt: &R, alloc: Global, dooms: bool, hides: bool, wanted: bool) {
+    let mut master = made(rt, alloc, 2, 4, 0);
+    let key = born(rt, &mut master, 1, 1);
+    let other = pin(rt, &mut master, key);
+    let hider = pin(rt, &mut master, key);
+    if dooms {
+        doom(rt, &mut master, key);
+    }
+    let hiding = if hides {
+        Ok(hide(rt, hider))
+    } else {
+        Err(hider)
+    };
+    match other.enter_quiet() {
+        Ok(call) => {
+            call.leave().release();
+            panic!(rt; "a node that is not activated gave a call")
+        }
+        Err((back, due)) => {
+            assert_eq!(rt; due.told(), wanted);
+            back.release();
+        }
+    }
+    match hiding {
+        Ok(hiding) => see_hidden(rt, hiding).show().release(),
+        Err(hold) => hold.release(),
+    }
+}
+
 #[test]
-fn who_wakes_nobody_is_told_of_sleepers(rt: HostRuntime) {
+fn keys_hidden_and_shown(rt: HostRuntime) {
+    a_hidden_key_refuses_until_it_is_shown(&rt, rt.alloc());
+    hidden_and_shown(&rt, rt.alloc(), true);
+    hidden_and_shown(&rt, rt.alloc(), false);
     for (dooms, hides, uses, wanted) in [
         (false, false, false, false),
         (true, false, false, true),
@@ -169,5 +168,13 @@ fn who_wakes_nobody_is_told_of_sleepers(rt: HostRuntime) {
         (false, true, true, false),
     ] {
         told_quietly(&rt, rt.alloc(), dooms, hides, uses, wanted);
+    }
+    for (dooms, hides, wanted) in [
+        (false, false, false),
+        (true, false, true),
+        (false, true, true),
+        (true, true, true),
+    ] {
+        told_before_activation(&rt, rt.alloc(), dooms, hides, wanted);
     }
 }

@@ -1,7 +1,7 @@
 //! The words under many threads.
-use crate::test_fixtures::{activate, born, doom, enter, hide, look, made, pin, refused};
-use kf_core::{Guard, Key, Phase};
-use kf_words::{Call, Hidden, Hiding, Hold, Master, Seats, wait_drained, wait_hidden};
+use crate::test_fixtures::{activate, born, doom, enter, look, made, pin};
+use kf_core::{Key, Phase};
+use kf_words::{Call, Hidden, Hiding, Hold, Master, wait_drained, wait_hidden};
 use std::alloc::Global;
 use std::process::Abort;
 use std::rt::Clock;
@@ -9,44 +9,6 @@ use std::sync::Wait;
 use std::sync::atomic::{AtomicU64, Ordering};
 use std::thread::{self, Threads, for_each_mut, join};
 use std::time::Duration;
-
-/// Enters and leaves until refused, at most 10,000 times, through the guard; counts the thread once it has
-/// entered.
-fn turns(mut hold: Hold, entered: &AtomicU64) -> Hold {
-    let mut guard = Seats;
-    for turn in 0..10_000 {
-        match guard.enter(hold) {
-            Ok(call) => {
-                hold = guard.leave(call);
-                if turn == 0 {
-                    entered.fetch_add(1, Ordering::SeqCst);
-                }
-            }
-            Err(back) => return back,
-        }
-    }
-    hold
-}
-
-/// The same with a hold in its place.
-fn turns_in(place: &mut Option<Hold>, entered: &AtomicU64) {
-    if let Some(hold) = place.take() {
-        let back = turns(hold, entered);
-        if let Some(other) = place.replace(back) {
-            other.release();
-        }
-    }
-}
-
-/// Each hold in a thread of its own.
-fn all_turns<R: Threads + Sync>(rt: &R, holds: &mut Vec<Option<Hold>>, entered: &AtomicU64) {
-    for_each_mut(
-        rt,
-        holds.as_mut_slice(),
-        8,
-        &|_, place| turns_in(place, entered),
-    );
-}
 
 /// Waits until so many threads have counted themselves.
 pub(crate) fn wait_for(count: u64, counter: &AtomicU64) {
@@ -86,25 +48,6 @@ pub(crate) fn see_drained<R: Abort>(rt: &R, mut holds: Vec<Option<Hold>>) {
         }
     }
     holds.destroy_empty();
-}
-
-#[test]
-fn eight_threads_enter_until_the_mark_and_all_see_the_drain(rt: HostRuntime) {
-    let mut master = made(&rt, rt.alloc(), 2, 8, 0);
-    let key = born(&rt, &mut master, 1, 1);
-    activate(&rt, &mut master, key);
-    let mut holds = pins(&rt, rt.alloc(), &mut master, key, 8);
-    let entered = AtomicU64::new(0);
-    join(
-        &rt,
-        || all_turns(&rt, &mut holds, &entered),
-        || {
-            wait_for(8, &entered);
-            doom(&rt, &mut master, key);
-        },
-    );
-    assert_eq!(rt; entered.load(Ordering::SeqCst), 8);
-    see_drained(&rt, holds);
 }
 
 /// Waits for the drain with the hold in its place, and counts the thread when it is through.
@@ -229,26 +172,6 @@ pub(crate) fn no_hold_left<R: Abort>(rt: &R, running: Option<Call>, mut holds: V
     holds.destroy_empty();
 }
 
-#[test]
-fn four_waiters_are_woken_by_one_leave(rt: HostRuntime) {
-    four_wait(&rt, rt.alloc(), Course::MarkWaitLeave);
-}
-
-#[test]
-fn waiters_are_woken_where_the_last_call_breaks_its_protection(rt: HostRuntime) {
-    four_wait(&rt, rt.alloc(), Course::MarkWaitBreak);
-}
-
-#[test]
-fn waiters_that_came_before_the_mark_see_the_last_call_end(rt: HostRuntime) {
-    four_wait(&rt, rt.alloc(), Course::WaitMarkLeave);
-}
-
-#[test]
-fn waiters_that_came_before_a_mark_with_no_call_all_see_it(rt: HostRuntime) {
-    four_wait(&rt, rt.alloc(), Course::WaitLeaveMark);
-}
-
 /// Makes tries until told to end, and counts them.
 fn keep_trying(place: &mut Option<Hold>, tries: &AtomicU64, end: &AtomicU64) {
     for _ in 0..1_000_000_000u64 {
@@ -322,14 +245,7 @@ fn one_waits_among_tries<R: Abort + Threads + Wait + Sync>(rt: &R, alloc: Global
     no_hold_left(rt, running, holds);
 }
 
-#[test]
-fn a_waiter_is_woken_by_the_undo_of_a_refused_try(rt: HostRuntime) {
-    for _ in 0..100 {
-        one_waits_among_tries(&rt, rt.alloc());
-    }
-}
-
-// Waits until nobody uses the hidden key, and then counts itself.
+/// Waits until nobody uses the hidden key, and then counts itself.
 pub(crate) fn hide_in<R: Wait>(
     rt: &R,
     place: &mut Option<Hiding>,
@@ -341,42 +257,17 @@ pub(crate) fn hide_in<R: Wait>(
     Some(hidden)
 }
 
-// Leaves the call after many looks at the count, and tells whether it stood at 0 until then and was raised
-// after.
-fn leave_late(running: &mut Option<Call>, through: &AtomicU64) -> bool {
-    let mut early = false;
-    for _ in 0..10_000 {
-        early = early || through.load(Ordering::SeqCst) != 0;
-    }
-    if let Some(call) = running.take() {
-        let_through(call, false, 0, through);
-    }
-    wait_for(1, through);
-    !early && through.load(Ordering::SeqCst) == 1
-}
-
 #[test]
-fn a_hide_waits_for_the_call(rt: HostRuntime) {
-    let mut master = made(&rt, rt.alloc(), 2, 8, 0);
-    let key = born(&rt, &mut master, 1, 1);
-    activate(&rt, &mut master, key);
-    let mut running = Some(enter(&rt, pin(&rt, &mut master, key)));
-    let mut hiding = Some(hide(&rt, pin(&rt, &mut master, key)));
-    let third = pin(&rt, &mut master, key);
-    let through = AtomicU64::new(0);
-    let (hidden, waited) = join(
-        &rt,
-        || hide_in(&rt, &mut hiding, &through),
-        || leave_late(&mut running, &through),
-    );
-    assert!(rt; waited);
-    refused(&rt, third).release();
-    match hidden {
-        Some(hidden) => enter(&rt, hidden.show()).leave().release(),
-        None => panic!(rt; "nobody hid the key"),
+fn waiters_for_a_drain_are_woken(rt: HostRuntime) {
+    for course in [
+        Course::MarkWaitLeave,
+        Course::MarkWaitBreak,
+        Course::WaitMarkLeave,
+        Course::WaitLeaveMark,
+    ] {
+        four_wait(&rt, rt.alloc(), course);
     }
-    if let Some(left) = hiding {
-        wait_hidden(&rt, left).show().release();
+    for _ in 0..100 {
+        one_waits_among_tries(&rt, rt.alloc());
     }
-    no_hold_left(&rt, running, Vec::new(rt.alloc()));
 }

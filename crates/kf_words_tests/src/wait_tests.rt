@@ -96,7 +96,8 @@ fn mark_in_turn<R: Abort + Clock>(
     alone
 }
 
-/// Marks so many idle nodes, one after the other, each as somebody begins to wait for its drain.
+/// Marks so many idle nodes, one after the other, each as somebody begins to wait for its drain. It may fall
+/// asleep just as the node is marked, and the mark wakes nobody: so its sleep ends by itself.
 fn naps<R: Abort + Threads + Wait + Clock + Sync>(rt: &R, alloc: Global, count: u32) {
     let mut master = made(rt, alloc, 512, 8, 0);
     let mut holds = Vec::new(alloc);
@@ -122,31 +123,21 @@ fn naps<R: Abort + Threads + Wait + Clock + Sync>(rt: &R, alloc: Global, count: 
     see_drained(rt, others);
 }
 
-/// A waiter for an idle node may fall asleep just as the node is marked, and the mark wakes nobody. So it may
-/// sleep for a short time alone.
-#[test]
-fn a_waiter_for_an_idle_node_never_misses_the_mark(rt: HostRuntime) {
-    for _ in 0..4 {
-        naps(&rt, rt.alloc(), 500);
-    }
-}
-
 /// Who rests where nobody uses the node is woken by nobody: its sleep ends by itself.
-#[test]
-fn a_rest_where_nobody_is_ends_by_itself(rt: HostRuntime) {
-    let mut master = made(&rt, rt.alloc(), 2, 8, 0);
-    let key = born(&rt, &mut master, 1, 1);
-    activate(&rt, &mut master, key);
-    let hold = pin(&rt, &mut master, key);
-    doom(&rt, &mut master, key);
-    let drained = look(&rt, hold);
-    drained.rest(&rt);
+fn a_rest_where_nobody_is_ends_by_itself<R: Abort + Wait>(rt: &R, alloc: Global) {
+    let mut master = made(rt, alloc, 2, 8, 0);
+    let key = born(rt, &mut master, 1, 1);
+    activate(rt, &mut master, key);
+    let hold = pin(rt, &mut master, key);
+    doom(rt, &mut master, key);
+    let mut drained = look(rt, hold);
+    drained.rest(rt);
     drained.release();
 }
 
 /// Rests once with its receipt, and counts itself.
 fn rest_in<R: Wait>(rt: &R, place: &mut Option<Drained>, through: &AtomicU64) {
-    if let Some(drained) = place.take() {
+    if let Some(mut drained) = place.take() {
         drained.rest(rt);
         drained.release();
         through.fetch_add(1, Ordering::SeqCst);
@@ -167,39 +158,41 @@ fn two_rest<R: Threads + Wait + Sync>(
 }
 
 /// Two rest on the users of a node, and the end of the last call wakes both: neither wakes the other.
-#[test]
-fn two_who_rest_are_woken_by_one_leave(rt: HostRuntime) {
-    let mut master = made(&rt, rt.alloc(), 2, 8, 0);
-    let key = born(&rt, &mut master, 1, 1);
-    activate(&rt, &mut master, key);
-    let mut call = enter(&rt, pin(&rt, &mut master, key));
-    let first = pin(&rt, &mut master, key);
-    let second = pin(&rt, &mut master, key);
-    let mut other = Some(pin(&rt, &mut master, key));
-    doom(&rt, &mut master, key);
+fn two_who_rest_are_woken_by_one_leave<R: Abort + Threads + Wait + Clock + Sync>(
+    rt: &R,
+    alloc: Global,
+) {
+    let mut master = made(rt, alloc, 2, 8, 0);
+    let key = born(rt, &mut master, 1, 1);
+    activate(rt, &mut master, key);
+    let mut call = enter(rt, pin(rt, &mut master, key));
+    let first = pin(rt, &mut master, key);
+    let second = pin(rt, &mut master, key);
+    let mut other = Some(pin(rt, &mut master, key));
+    doom(rt, &mut master, key);
     call.break_protection();
-    let mut one = Some(look(&rt, first));
-    let mut two = Some(look(&rt, second));
+    let mut one = Some(look(rt, first));
+    let mut two = Some(look(rt, second));
     call.restore();
     let mut restored = Some(call);
     let through = AtomicU64::new(0);
     let ((), woken) = join(
-        &rt,
-        || two_rest(&rt, &mut one, &mut two, &through),
+        rt,
+        || two_rest(rt, &mut one, &mut two, &through),
         || {
-            thread::sleep(&rt, Duration::from_millis(20));
+            thread::sleep(rt, Duration::from_millis(20));
             if let Some(call) = restored.take() {
                 let_through(call, false, 0, &through);
             }
-            let woken = comes(&rt, 2, &through);
+            let woken = comes(rt, 2, &through);
             free_the_rest(&mut other, 2, &through);
             woken
         },
     );
-    assert!(&rt; woken);
-    no_hold_left(&rt, restored, Vec::new(rt.alloc()));
+    assert!(rt; woken);
+    no_hold_left(rt, restored, Vec::new(alloc));
     if let Some(hold) = other {
-        look(&rt, hold).release();
+        look(rt, hold).release();
     }
     if let Some(drained) = one {
         drained.release();
@@ -207,4 +200,13 @@ fn two_who_rest_are_woken_by_one_leave(rt: HostRuntime) {
     if let Some(drained) = two {
         drained.release();
     }
+}
+
+#[test]
+fn sleeps_that_end_by_themselves_and_rests(rt: HostRuntime) {
+    for _ in 0..4 {
+        naps(&rt, rt.alloc(), 500);
+    }
+    a_rest_where_nobody_is_ends_by_itself(&rt, rt.alloc());
+    two_who_rest_are_woken_by_one_leave(&rt, rt.alloc());
 }

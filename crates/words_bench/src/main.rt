@@ -1,15 +1,17 @@
 //! `words_bench run` tells what `enter` and `leave` of a hold cost, beside two additions on an atomic word
-//! and a reader-writer lock, by one thread and by several. Without `run` it does nothing.
+//! and a reader-writer lock, by one thread and by several, and what a refused try costs where nobody sleeps.
+//! `words_bench wait` has four waiters for a node that is hidden, unused and not marked, for a second: who runs it
+//! counts how often they sleep. With neither word it does nothing.
 #![tactic(auto)]
 
 ghost use Rattle.kf_words.specs.Callers.{IsSameSeat};
 
 use kf_core::{Key, Limits, Marks, Node};
-use kf_words::{Hold, Master, Words};
+use kf_words::{Hidden, Hold, Master, Words, wait_drained, wait_hidden};
 use std::alloc::{AllocError, Global};
 use std::sync::atomic::{AtomicU64, Ordering};
 use std::sync::{RwLock, Wait};
-use std::thread::{Threads, for_each_mut};
+use std::thread::{self, Threads, for_each_mut, join};
 use std::time::{Clock, Duration, Instant};
 use std::{env, fmt, io};
 
@@ -76,6 +78,30 @@ fn enter_and_leave(first: Hold, turns: u32) -> Hold
 fn use_place(place: &mut Option<Hold>) {
     if let Some(hold) = place.take() {
         let back = enter_and_leave(hold, TURNS);
+        if let Some(other) = place.replace(back) {
+            other.release();
+        }
+    }
+}
+
+/// Tries so often, and is refused each time.
+fn try_in_vain(first: Hold, turns: u32) -> Hold
+    ensures same { IsSameSeat first result }
+{
+    let mut hold = first;
+    for _ in 0..turns {
+        match hold.enter() {
+            Ok(call) => return call.leave(),
+            Err(back) => hold = back,
+        }
+    }
+    hold
+}
+
+/// Tries in vain with the hold in its place.
+fn refuse_place(place: &mut Option<Hold>) {
+    if let Some(hold) = place.take() {
+        let back = try_in_vain(hold, TURNS);
         if let Some(other) = place.replace(back) {
             other.release();
         }
@@ -160,6 +186,23 @@ fn hold_of(master: &mut Master, slot: u32) -> Option<Hold> {
     };
     let _linked = master.marks(key)?;
     master.pin(key).ok()
+}
+
+/// Marks the first node of a slot, where there is one.
+fn doom(master: &mut Master, slot: u32) {
+    let key = Key {
+        slot,
+        generation: 1,
+    };
+    if let Some(
+        Marks {
+            activated: _,
+            doomed: false,
+        },
+    ) = master.marks(key)
+    {
+        master.doom(key);
+    }
 }
 
 /// The slots that a crowd uses.
@@ -258,6 +301,76 @@ fn measure<R: Threads + Wait + Clock + Print + Sync>(
     println!(rt; "{what:<34}{words}{additions}{reads}")
 }
 
+/// Measures tries that a doomed node refuses, by one thread, and prints their line of the table.
+fn measure_refused<R: Clock + Print>(
+    rt: &R,
+    field: &mut Field,
+    what: &str,
+    slot: u32,
+) -> io::Result<()> {
+    let mut place = hold_of(&mut field.master, slot);
+    doom(&mut field.master, slot);
+    let tries = best_time(rt, || refuse_place(&mut place));
+    if let Some(hold) = place {
+        hold.release();
+    }
+    let word = AtomicU64::new(0);
+    let additions = PerTurn(best_time(rt, || add_and_subtract(&word))?);
+    let tries = PerTurn(tries?);
+    println!(rt; "{what:<34}{tries}{additions}")
+}
+
+/// Waits for the drain with the hold in its place.
+fn wait_in<R: Wait>(rt: &R, place: &mut Option<Hold>) {
+    if let Some(hold) = place.take() {
+        wait_drained(rt, hold).release();
+    }
+}
+
+/// The first node of a slot with its key hidden, where nobody uses it.
+fn hidden<R: Wait>(rt: &R, master: &mut Master, slot: u32) -> Option<Hidden> {
+    match hold_of(master, slot)?.hide() {
+        Ok(hiding) => Some(wait_hidden(rt, hiding)),
+        Err(hold) => {
+            hold.release();
+            None
+        }
+    }
+}
+
+/// Four wait for the drain of a hidden node that nobody uses, until it is marked a second later.
+fn four_wait<R: Threads + Wait + Clock + Sync>(rt: &R, alloc: Global) -> io::Result<()> {
+    let mut field = grown_field(alloc)?;
+    let master = &mut field.master;
+    let slots = slots_of(
+        alloc,
+        Crowd {
+            threads: 4,
+            spacing: 0,
+        },
+    )?;
+    let mut holds = holds_of(alloc, master, &slots)?;
+    let hides = hidden(rt, master, 1);
+    join(
+        rt,
+        || for_each_mut(
+            rt,
+            holds.as_mut_slice(),
+            THREADS,
+            &|_, place| wait_in(rt, place),
+        ),
+        || {
+            thread::sleep(rt, Duration::from_secs(1));
+            doom(master, 1);
+        },
+    );
+    release_all(holds);
+    if let Some(hidden) = hides {
+        hidden.show().release();
+    }
+    Ok(())
+}
+
 /// Measures one crowd after the other.
 fn measure_all<R: Threads + Wait + Clock + Print + Sync>(rt: &R, alloc: Global) -> io::Result<()> {
     let mut field = grown_field(alloc)?;
@@ -277,13 +390,16 @@ fn measure_all<R: Threads + Wait + Clock + Print + Sync>(rt: &R, alloc: Global) 
     for (what, threads, spacing) in crowds {
         measure(rt, alloc, &mut field, what, Crowd { threads, spacing })?;
     }
-    Ok(())
+    measure_refused(rt, &mut field, "refused tries, 1 thread", NODES)
 }
 
 fn main(rt: HostRuntime) -> io::Result<()> {
-    let mut words = env::args(&rt)?.skip(1);
-    if words.any(|word| word.as_str() == "run") {
-        measure_all(&rt, rt.alloc())?;
+    for word in env::args(&rt)?.skip(1) {
+        match word.as_str() {
+            "run" => measure_all(&rt, rt.alloc())?,
+            "wait" => four_wait(&rt, rt.alloc())?,
+            _ => {}
+        }
     }
     Ok(())
 }

@@ -6,7 +6,7 @@ ghost use Rattle.kf_core.specs.declared.caller.Phase.TheVariants as phase_of;
 ghost use Rattle.kf_words.specs.Steps.{after_try, after_undo, after_leave, after_break, after_restore, after_look, after_part, after_hide, after_look_hidden, after_show};
 ghost use Rattle.kf_words.specs.Callers.{IsSameSeat, IsAtRest, HasReference, IsIn, WasReleased, handle_of, owed, view_of};
 ghost use Rattle.kf_words.specs.Layout.{active_index, hold_index, has_hide};
-ghost use Rattle.kf_words.specs.Runs.{WasATry, WasUndone, WasALeave, WasABreak, WasARestore, WasALook, WasAPart, WasAHide, WasALookHidden, WasAShow, WasARelease};
+ghost use Rattle.kf_words.specs.Made.{WasATry, WasUndone, WasALeave, WasABreak, WasARestore, WasALook, WasAPart, WasAHide, WasALookHidden, WasAShow, WasARelease};
 
 use crate::layout::{HIDE, active_index, hold_index};
 use crate::plays::{

@@ -1,6 +1,8 @@
-use Rattle.std.proofs.Common.{rules, ap}
+use Rattle.std.proofs.Common.{ℕ, rules, sym, ap, subst}
+use Rattle.kf_words.specs.declared.view.CallerView.{CallerView}
 use Rattle.kf_words.specs.Callers.{seat_view, view_of}
-use Rattle.kf_words.specs.Runs.{looks}
+use Rattle.kf_words.specs.TableSteps.{looks}
+use Rattle.kf_words.specs.Made.{WereMade}
 use Rattle.kf_words.proofs.Waits.{one_more, since}
 use Rattle.kf_words.proofs.drain.wait_drained.Goals.{in-None, in-Some+then-is_drained}
 use Rattle.kf_words.proofs.drain.wait_drained.Goals as goal
@@ -10,7 +12,8 @@ loop-preserved g c = record {
   same = search rules;
   waits = search rules;
   untried = search rules;
-  looked = one_more looks _ _ _ c.loop.invariant.looked c.load-seen.ensures.made;
+  looked = subst (λ (v : CallerView). (count : ℕ) × WereMade looks count (view_of c.hold.inside.seat) v) (sym (ap seat_view c.rest.ensures))
+      (one_more looks _ _ _ c.loop.invariant.looked c.load-seen.ensures.made);
 }
 
 pub returns-clause-looked : goal.returns-clause-looked

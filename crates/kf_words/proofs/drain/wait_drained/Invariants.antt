@@ -1,6 +1,7 @@
 use Rattle.std.proofs.Common.{◌≡◌, ℕ}
 use Rattle.kf_words.specs.Callers.{IsSameSeat, IsAtRest, handle_of, view_of}
-use Rattle.kf_words.specs.Runs.{WereMade, looks}
+use Rattle.kf_words.specs.TableSteps.{looks}
+use Rattle.kf_words.specs.Made.{WereMade}
 use Rattle.kf_words.proofs.drain.wait_drained.Given as goal
 
 abbrev pub invariant-loop : goal.invariant-loop

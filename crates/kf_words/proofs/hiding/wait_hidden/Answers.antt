@@ -1,6 +1,8 @@
-use Rattle.std.proofs.Common.{rules, ap}
+use Rattle.std.proofs.Common.{ℕ, rules, sym, ap, subst}
+use Rattle.kf_words.specs.declared.view.CallerView.{CallerView}
 use Rattle.kf_words.specs.Callers.{seat_view, view_of}
-use Rattle.kf_words.specs.Runs.{looks_hidden}
+use Rattle.kf_words.specs.TableSteps.{looks_hidden}
+use Rattle.kf_words.specs.Made.{WereMade}
 use Rattle.kf_words.proofs.Waits.{one_more, since}
 use Rattle.kf_words.proofs.hiding.wait_hidden.Goals.{in-None, in-Some+then-is_unused}
 use Rattle.kf_words.proofs.hiding.wait_hidden.Goals as goal
@@ -9,7 +11,8 @@ pub loop-preserved : goal.loop-preserved
 loop-preserved g c = record {
   same = search rules;
   hiding = search rules;
-  looked = one_more looks_hidden _ _ _ c.loop.invariant.looked c.load_hidden-seen.ensures.made;
+  looked = subst (λ (v : CallerView). (count : ℕ) × WereMade looks_hidden count (view_of c.hiding.inside.seat) v) (sym (ap seat_view c.park.ensures))
+      (one_more looks_hidden _ _ _ c.loop.invariant.looked c.load_hidden-seen.ensures.made);
 }
 
 pub returns-clause-looked : goal.returns-clause-looked

@@ -1,7 +1,8 @@
 use Rattle.std.proofs.Common.{ℕ}
 use Rattle.kf_core.specs.declared.caller.Phase.TheVariants.{Hiding}
 use Rattle.kf_words.specs.Callers.{IsSameSeat, IsIn, handle_of, view_of}
-use Rattle.kf_words.specs.Runs.{WereMade, looks_hidden}
+use Rattle.kf_words.specs.TableSteps.{looks_hidden}
+use Rattle.kf_words.specs.Made.{WereMade}
 use Rattle.kf_words.proofs.hiding.wait_hidden.Given as goal
 
 abbrev pub invariant-loop : goal.invariant-loop

@@ -1,6 +1,6 @@
 use Rattle.std.proofs.Common.{◌≡◌, ℕ, rules, sym, ap, ◌∙◌, subst}
 use Rattle.kf_words.specs.Callers.{Handle, FoundThere, handle_of, view_of, seat_view}
-use Rattle.kf_words.specs.Runs.{WasATry, WasLetInLive}
+use Rattle.kf_words.specs.Made.{WasATry, WasLetInLive}
 use Rattle.kf_words.specs.declared.seat.CallerSeat.{CallerSeat}
 use Rattle.kf_words.specs.declared.view.CallerView.{CallerView}
 use Rattle.kf_words.proofs.Made.{was_live, try_found}

@@ -1,7 +1,7 @@
 use Rattle.std.proofs.Common.{◌≡◌, ℕ, rules, arith, ap, subst, sym}
 use Rattle.std.specs.Arc.{arc_value}
 use Rattle.kf_words.specs.Callers.{view_of}
-use Rattle.kf_words.specs.Runs.{WasUndone}
+use Rattle.kf_words.specs.Made.{WasUndone}
 use Rattle.kf_words.specs.Steps.{caller_of}
 use Rattle.kf_words.proofs.Made.{undo_made}
 use Rattle.kf_words.proofs.seat.CallerSeat.undo.Goals as goal

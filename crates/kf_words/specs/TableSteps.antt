@@ -1,0 +1,198 @@
+-- One atomic step of the table as a whole, by any of its seats.
+use Rattle.std.specs.Prelude.{◌≡◌, ◌≢◌, ℕ, suc, ◌+◌, ◌-◌, ◌%◌, ◌^◌, ◌<◌, bit_or, true, false, List, [], ◌∷◌, ◌++◌, map, length, slice_index, slice_set, Some, None, is_some}
+use mathlib.Core.Option.{some}
+use lib.ListN.{get_elem?}
+use Rattle.atomic_table.specs.Table.{State, stepped, keeps}
+use Rattle.kf_core.specs.declared.caller.Phase.TheVariants.{Turned, Running, Broken, Drained, Hiding, Hidden, Spent}
+use Rattle.kf_core.specs.declared.slot.Marks.{Marks}
+use Rattle.kf_core.specs.Marks.{fresh_marks}
+use Rattle.kf_core.specs.Phases.{may_release}
+use Rattle.kf_core.specs.Bare.{BareWorld}
+use Rattle.kf_words.specs.declared.view.CallerView.{CallerView}
+use Rattle.kf_words.specs.declared.view.MasterView.{MasterView}
+use Rattle.kf_words.specs.declared.view.View.{View}
+use Rattle.kf_words.specs.declared.view.View.TheVariants as seat
+use Rattle.kf_words.specs.Layout.{bit, bias, doom, hide, linked, one_generation, active_index, hold_index, sleepers_index}
+use Rattle.kf_words.specs.Rule.{bare}
+use Rattle.kf_words.specs.Steps.{caller_of, no_master, master_of, state_at, after_try, after_undo, after_leave, after_break, after_restore, after_look, after_part, after_hide, after_look_hidden, after_show, after_release, unmoved, after_split, hold_for, with_load, with_pin, without_pin, after_store, with_birth, with_marks, activated_marks, doomed_marks, with_look, without_node, unread}
+use Rattle.kf_words.specs.Callers.{IsAtRest, HasReference, IsIn}
+use Rattle.kf_words.specs.Nodes.{FoundRoom, FoundFree, HasMarks, HasLooked, marks_of}
+
+-- the words, and the views of all seats
+abbrev pub Table : Type 0
+Table = State (Unit {0}) View
+
+-- the Master's view, which is that of the first seat
+abbrev pub master_in : List View → MasterView
+master_in [] = no_master
+master_in (v ∷ vs) = master_of v
+
+-- the views of the callers, which have all seats but the first
+abbrev pub callers_in : List View → List CallerView
+callers_in [] = []
+callers_in (v ∷ vs) = map caller_of vs
+
+-- the world that the views of all seats name
+abbrev pub world : Table → BareWorld
+world t = bare (master_in t.views) (callers_in t.views)
+
+-- what a step does: of a caller, by its number, or of the Master, on a slot
+pub data Kind : Type 0 where
+  tries : ℕ → Kind
+  undoes : ℕ → Kind
+  leaves : ℕ → Kind
+  breaks : ℕ → Kind
+  restores : ℕ → Kind
+  looks : ℕ → Kind
+  parts : ℕ → Kind
+  hides : ℕ → Kind
+  looks_hidden : ℕ → Kind
+  shows : ℕ → Kind
+  releases : ℕ → Kind
+  sleeps : ℕ → Kind
+  awakes : ℕ → Kind
+  loads_hold : ℕ → Kind
+  pins_hold : ℕ → Kind
+  unpins_hold : ℕ → Kind
+  splits_linked : ℕ → Kind
+  splits_held : ℕ → ℕ → Kind
+  stores_fresh : ℕ → Kind
+  births : ℕ → Kind
+  takes_bias : ℕ → Kind
+  marks_node : ℕ → Kind
+  looks_over : ℕ → Kind
+  unlinks : ℕ → ℕ → Kind
+
+-- what a step makes of a word: arithmetic wraps round in 64 bits
+abbrev pub plus : ℕ → ℕ → ℕ
+plus k n = (n + k) % 2 ^ 64
+
+-- the word with k taken off, which wraps round in 64 bits
+abbrev pub minus : ℕ → ℕ → ℕ
+minus k n = (n + (2 ^ 64 - k)) % 2 ^ 64
+
+-- the word as it was, which is all that a load makes of it
+abbrev pub same : ℕ → ℕ
+same n = n
+
+-- the bit of a hidden key set, clear before or not
+abbrev pub with_hide : ℕ → ℕ
+with_hide n = bit_or n hide
+
+-- one seat makes the word f of what it was, and its view becomes this. Nothing else changes
+pub record Plays (t : Table) (place word : ℕ) (f : ℕ → ℕ) (before after : View) (t' : Table) : Type 0 where
+  pub there : get_elem? t.views place ≡ some before
+  pub fits : slice_index t.words word < 18446744073709551616
+  pub becomes : t' ≡ stepped t word (f (slice_index t.words word)) place [] after keeps
+
+-- the caller of this number sits behind the Master
+abbrev pub IsSeated : Table → ℕ → CallerView → Type 0
+IsSeated t j c = get_elem? t.views (suc j) ≡ some (seat.Caller c)
+
+-- a step of the caller of this number on a word of its slot, where its own view allows it; what it finds goes
+-- into its view
+abbrev pub CallerPlays : (ℕ → CallerView → CallerView) → (CallerView → Type 0) → (ℕ → ℕ) → (ℕ → ℕ) → Table → ℕ
+    → Table → Type 0
+CallerPlays after May index f t j t' = (c : CallerView) × May c
+    × Plays t (suc j) (index c.key.slot) f (seat.Caller c)
+    (seat.Caller (after (slice_index t.words (index c.key.slot)) c)) t'
+
+-- a step of the Master on a word of this slot, where its own view allows it; what it finds goes into its view
+abbrev pub MasterPlays : (ℕ → ℕ → MasterView → MasterView) → (MasterView → Type 0) → (ℕ → ℕ) → (ℕ → ℕ) → Table
+    → ℕ → Table → Type 0
+MasterPlays after May index f t slot t' = (m : MasterView) × May m
+    × Plays t 0 (index slot) f (seat.Master m)
+    (seat.Master (after slot (slice_index t.words (index slot)) m)) t'
+
+-- the pinned hold of this slot goes to a new seat, behind all others
+abbrev pub MasterSplits : (MasterView → Type 0) → Table → ℕ → Table → Type 0
+MasterSplits May t slot t' = (m : MasterView) × May m
+    × (get_elem? t.views 0 ≡ some (seat.Master m)) × (slot < length m.slots) × (m.pinning ≡ Some slot)
+    × (t' ≡ record {
+      words = t.words;
+      homes = t.homes;
+      views = slice_set t.views 0 (seat.Master (after_split m)) ++ seat.Caller (hold_for m m.pinning) ∷ [];
+    })
+
+-- the caller was turned away, and its try is not yet undone
+abbrev pub HasUndoDue : CallerView → Type 0
+HasUndoDue c = (c.phase ≡ Turned) × (c.undo_due ≡ true)
+
+-- the caller may give its hold back
+abbrev pub MayRelease : CallerView → Type 0
+MayRelease c = (may_release c.phase ≡ true) × (c.undo_due ≡ false)
+
+-- the caller may step on the count of its slot's sleepers, whatever its view says
+abbrev pub MaySleep : CallerView → Type 0
+MaySleep c = Unit {0}
+
+-- a caller of this slot holds it
+abbrev pub HoldsSlot : Table → ℕ → ℕ → Type 0
+HoldsSlot t slot j = (c : CallerView) × IsSeated t j c × (c.key.slot ≡ slot) × (c.phase ≢ Spent)
+
+-- a caller that was drained on the linked node of this slot
+abbrev pub IsDrainedOn : Table → ℕ → ℕ → Type 0
+IsDrainedOn t slot j = (c : CallerView) × IsSeated t j c × (c.key.slot ≡ slot) × (c.phase ≡ Drained)
+    × (is_some (marks_of (master_in t.views) c.key) ≡ true)
+
+-- what the Master's view must say of the slot for each of its steps
+abbrev pub SeesRoom : ℕ → MasterView → Type 0
+SeesRoom slot m = (slot < length m.slots) × (m.pinning ≡ None) × FoundRoom m slot
+
+-- a hold of this slot is counted, and has no seat yet
+abbrev pub HasPin : ℕ → MasterView → Type 0
+HasPin slot m = (slot < length m.slots) × (m.pinning ≡ Some slot)
+
+-- a load that still counts found this slot free
+abbrev pub SeesFree : ℕ → MasterView → Type 0
+SeesFree slot m = (slot < length m.slots) × FoundFree m slot
+
+-- the Master's last step stored a new active word in this slot
+abbrev pub HasFresh : ℕ → MasterView → Type 0
+HasFresh slot m = (slot < length m.slots) × (m.fresh ≡ Some slot)
+
+-- the slot has a node with these marks, which is not doomed
+abbrev pub IsUndoomed : ℕ → Marks → MasterView → Type 0
+IsUndoomed slot x m = HasMarks m slot x × (x.doomed ≡ false)
+
+-- the slot has a node, and the Master's last step found its active word drained
+abbrev pub SeesDrained : ℕ → MasterView → Type 0
+SeesDrained slot m = ((x : Marks) × HasMarks m slot x) × HasLooked m slot
+
+-- one atomic step of the table, by any seat: what it makes of the view, what the view must say before it,
+-- which of the slot's words it is on, and what it makes of that
+abbrev pub WordStep : Table → Kind → Table → Type 0
+WordStep t (tries j) t' = CallerPlays after_try IsAtRest active_index (plus 1) t j t'
+WordStep t (undoes j) t' = CallerPlays (λ _. after_undo) HasUndoDue active_index (minus 1) t j t'
+WordStep t (leaves j) t' = CallerPlays after_leave HasReference active_index (minus 1) t j t'
+WordStep t (breaks j) t' = CallerPlays after_break (IsIn Running) active_index (minus 1) t j t'
+WordStep t (restores j) t' = CallerPlays after_restore (IsIn Broken) active_index (plus 1) t j t'
+WordStep t (looks j) t' = CallerPlays after_look IsAtRest active_index same t j t'
+WordStep t (parts j) t' = CallerPlays after_part (IsIn Drained) hold_index same t j t'
+WordStep t (hides j) t' = CallerPlays after_hide IsAtRest active_index with_hide t j t'
+WordStep t (looks_hidden j) t' = CallerPlays after_look_hidden (IsIn Hiding) active_index same t j t'
+WordStep t (shows j) t' = CallerPlays after_show (IsIn Hidden) active_index (minus hide) t j t'
+WordStep t (releases j) t' = CallerPlays after_release MayRelease hold_index (minus 1) t j t'
+WordStep t (sleeps j) t' = CallerPlays unmoved MaySleep sleepers_index (plus 1) t j t'
+WordStep t (awakes j) t' = CallerPlays unmoved MaySleep sleepers_index (minus 1) t j t'
+WordStep t (loads_hold slot) t' = MasterPlays with_load (λ m. slot < length m.slots) hold_index same t slot t'
+WordStep t (pins_hold slot) t' = MasterPlays (unread with_pin) (SeesRoom slot) hold_index (plus 1) t slot t'
+WordStep t (unpins_hold slot) t' =
+    MasterPlays (unread without_pin) (HasPin slot) hold_index (minus 1) t slot t'
+WordStep t (splits_linked slot) t' = MasterSplits (λ m. is_some (state_at m slot).marks ≡ true) t slot t'
+WordStep t (splits_held slot j) t' = MasterSplits (λ m. HoldsSlot t slot j) t slot t'
+WordStep t (stores_fresh slot) t' =
+    MasterPlays (unread after_store) (SeesFree slot) active_index (λ _. bias) t slot t'
+WordStep t (births slot) t' =
+    MasterPlays (unread with_birth) (HasFresh slot) hold_index (plus (one_generation + linked)) t slot t'
+WordStep t (takes_bias slot) t' =
+    MasterPlays (unread (with_marks activated_marks)) (λ m. HasMarks m slot fresh_marks) active_index
+    (minus bias) t slot t'
+WordStep t (marks_node slot) t' = (x : Marks)
+    × MasterPlays (unread (with_marks doomed_marks)) (IsUndoomed slot x) active_index
+    (plus (bit x.activated bias + doom)) t slot t'
+WordStep t (looks_over slot) t' =
+    MasterPlays with_look (λ m. slot < length m.slots) active_index same t slot t'
+WordStep t (unlinks slot j) t' =
+    MasterPlays (unread without_node) (SeesDrained slot) hold_index (minus linked) t slot t'
+    × IsDrainedOn t slot j

@@ -1,0 +1,180 @@
+#!/usr/bin/env python3
+"""Tries the waking of those who sleep at an active word, in every order of its steps:  hostile/wake_model.py
+
+No clause speaks of wakes, so this searches all states of a few threads at one word. It is the algorithm of
+crates/kf_words/src/seat/sleep.rt, step by step: who sleeps counts itself, lets the kernel compare and queue it, and is
+counted no more when it is awake; who takes a user off changes the word, loads the count, and wakes all. A state is
+stuck where nobody need move any more, and one sleeps without limit for what is true already. There must be none. Each
+of the VARIANTS has one of the steps taken out or turned round: there must be stuck states then, or the search sees
+nothing. Its last line is 'N passed, M failed'."""
+
+import sys
+from collections import namedtuple
+
+# Of an active word its users, whether its node is doomed and its key hidden, and the count of those who sleep at it.
+Word = namedtuple("Word", "users doom hide sleepers")
+# Who it is, how far, how many users it saw when it looked, how often it begins again.
+Thread = namedtuple("Thread", "kind at seen again")
+
+# A call need not end, a mark, a try or a hiding not begin, a hidden key not be shown: who is there need not move.
+AT_WILL = {("call", "runs"), ("call", "breaks"), ("call", "broken"), ("mark", "begin"), ("try", "begin"),
+           ("try", "runs"), ("hider", "begin"), ("hider", "hidden")}
+
+VARIANTS = ["a leave wakes nobody", "a break wakes nobody", "an undo wakes nobody", "one is woken, not all",
+            "the count is loaded before the word is changed", "who sleeps counts itself when it is queued",
+            "the kernel compares nothing", "a wait before the mark has no limit"]
+
+
+def drained(word):
+    return word.doom and word.users == 0
+
+
+def what_it_waits_for(kind, word):
+    return word.hide and word.users == 0 if kind == "hider" else drained(word)
+
+
+def took_off(thread, word, after, what, variant):
+    """The step that takes one user off, and what it owes: where the word that it found kept tries out, and is now
+    drained, or unused and hidden, it has still to load the count. (In one variant it has loaded it before: `seen`.)"""
+    early = variant == "the count is loaded before the word is changed"
+    if early and not thread.seen:
+        return [(thread._replace(seen=word.sleepers + 1), word)]
+    left = word._replace(users=word.users - 1)
+    wanted = (word.doom or word.hide) and left.users == 0
+    if not wanted or variant == f"{what} wakes nobody" or thread.seen == 1:
+        return [(thread._replace(at=after, seen=0), left)]
+    return [(thread._replace(at=("wake " if early else "count ") + after, seen=0), left)]
+
+
+def caller_steps(thread, word, variant):
+    """A call that is left, or breaks its protection first; and tries, let in or refused."""
+    kind, at = thread.kind, thread.at
+    if at == "begin" and thread.again:
+        inside = "due" if word.doom or word.hide else "runs"
+        return [(thread._replace(at=inside, again=thread.again - 1), word._replace(users=word.users + 1))]
+    if at == "runs":
+        return took_off(thread, word, "begin" if kind == "try" else "done", "a leave", variant)
+    if at == "due":
+        return took_off(thread, word, "begin", "an undo", variant)
+    if at == "breaks":
+        return took_off(thread, word, "broken", "a break", variant)
+    if at == "broken":
+        return [(thread._replace(at="runs"), word._replace(users=word.users + 1))]
+    if at.startswith("count "):
+        after = at.removeprefix("count ")
+        return [(thread._replace(at="wake " + after if word.sleepers else after), word)]
+    return []
+
+
+def sleeper_steps(thread, word, variant):
+    """Who waits for a drain, who rests with a receipt, and who hides: it looks, and sleeps where it has to wait."""
+    kind, at, users = thread.kind, thread.at, word.users
+    late = variant == "who sleeps counts itself when it is queued"
+    if kind == "hider" and at == "begin":
+        return [(thread._replace(at="look"), word._replace(hide=True))]
+    if kind == "hider" and at == "hidden":
+        again = thread._replace(at="begin" if thread.again else "done", again=max(thread.again - 1, 0))
+        return [(again, word._replace(hide=False))]
+    if at == "look":
+        if what_it_waits_for(kind, word):
+            return [(thread._replace(at="hidden" if kind == "hider" else "done"), word)]
+        if kind == "rest":
+            return [(thread._replace(at="peek"), word)]
+        limited = kind == "wait" and not word.doom and variant != "a wait before the mark has no limit"
+        return [(thread._replace(at="nap" if limited or users == 0 else "in", seen=users), word)]
+    if at == "peek":
+        return [(thread._replace(at="in" if users else "nap", seen=users), word)]
+    if at == "nap":
+        return [(thread._replace(at="look", seen=0), word)]
+    if at == "in":
+        return [(thread._replace(at="compare"), word if late else word._replace(sleepers=word.sleepers + 1))]
+    if at == "compare":
+        if users == thread.seen or variant == "the kernel compares nothing":
+            return [(thread._replace(at="queued" if late else "asleep"), word)]
+        return [(thread._replace(at="look" if late else "out", seen=0), word)]
+    if at == "queued":
+        return [(thread._replace(at="asleep"), word._replace(sleepers=word.sleepers + 1))]
+    if at == "out":
+        return [(thread._replace(at="look", seen=0), word._replace(sleepers=word.sleepers - 1))]
+    return []
+
+
+def awake(thread):
+    return thread._replace(at="look" if thread.at == "queued" else "out", seen=0)
+
+
+def woken(threads, variant):
+    """The threads after a wake: all who sleep are awake, or in one variant any one of them."""
+    asleep = [i for i, it in enumerate(threads) if it.at in ("asleep", "queued")]
+    if variant == "one is woken, not all" and asleep:
+        return [tuple(awake(it) if i == one else it for i, it in enumerate(threads)) for one in asleep]
+    return [tuple(awake(it) if i in asleep else it for i, it in enumerate(threads))]
+
+
+def next_states(word, threads, variant):
+    for i, thread in enumerate(threads):
+        if thread.at.startswith("wake "):
+            done = thread._replace(at=thread.at.removeprefix("wake "))
+            yield from ((word, it) for it in woken(threads[:i] + (done,) + threads[i + 1:], variant))
+        elif thread == Thread("mark", "begin", 0, 0):
+            yield word._replace(doom=True), threads[:i] + (thread._replace(at="done"),) + threads[i + 1:]
+        else:
+            steps = caller_steps if thread.kind in ("call", "try") else sleeper_steps
+            for moved, left in steps(thread, word, variant):
+                yield left, threads[:i] + (moved,) + threads[i + 1:]
+
+
+def is_stuck(word, threads):
+    for it in threads:
+        if it.at not in ("asleep", "done", "nap") and (it.kind, it.at) not in AT_WILL:
+            return False
+    return any(it.at == "asleep" and what_it_waits_for(it.kind, word) for it in threads)
+
+
+def search(case, variant=None):
+    """How many states there are, and a stuck one, where it meets one: there it ends."""
+    word, names = case
+    start = (word, tuple(Thread(kind, at, 0, again) for kind, at, again in names))
+    seen, todo = {start}, [start]
+    while todo:
+        word, threads = todo.pop()
+        if is_stuck(word, threads):
+            return len(seen), (word, threads)
+        for state in next_states(word, threads, variant):
+            if state not in seen:
+                seen.add(state)
+                todo.append(state)
+    return len(seen), None
+
+
+MARK, CALL, BREAK = ("mark", "begin", 0), ("call", "runs", 0), ("call", "breaks", 0)
+WAIT, REST, HIDE = ("wait", "look", 0), ("rest", "look", 0), ("hider", "begin", 0)
+TRY, TRIES, HIDES = ("try", "begin", 1), ("try", "begin", 2), ("hider", "begin", 1)
+
+CASES = {
+    "a mark, a call, two waiters, two tries": (Word(1, False, False, 0), [MARK, CALL, WAIT, WAIT, TRIES]),
+    "a call that breaks, two waiters, a try": (Word(1, True, False, 0), [BREAK, WAIT, WAIT, TRY]),
+    "a mark, a call, two hidings, a waiter, a try": (Word(1, False, False, 0), [MARK, CALL, HIDES, WAIT, TRY]),
+    "a restored call, a hiding, a waiter, a rest, a try": (Word(1, True, False, 0), [CALL, HIDE, WAIT, REST, TRY]),
+    "a restored call, two rests, a hiding": (Word(1, True, False, 0), [CALL, REST, REST, HIDE]),
+    "a mark, two calls, a hiding, two waiters": (Word(2, False, False, 0), [MARK, CALL, BREAK, HIDE, WAIT, WAIT]),
+    "two hidings, two waiters, two tries, unused": (Word(0, False, False, 0), [HIDES, WAIT, WAIT, TRIES]),
+}
+
+
+def main():
+    passed = failed = 0
+    for name, case in CASES.items():
+        states, stuck = search(case)
+        print(f"{name}: {states} states, {'STUCK: ' + str(stuck) if stuck else 'nobody is stuck'}")
+        passed, failed = passed + (not stuck), failed + bool(stuck)
+    for variant in VARIANTS:
+        where = next((name for name, case in CASES.items() if search(case, variant)[1]), None)
+        print(f"where {variant}: {'somebody is stuck, in ' + where if where else 'NOT SEEN'}")
+        passed, failed = passed + bool(where), failed + (not where)
+    print(f"{passed} passed, {failed} failed")
+    sys.exit(1 if failed else 0)
+
+
+if __name__ == "__main__":
+    main()
