@@ -20,5 +20,6 @@ pub mod Events
 pub mod WordSteps
 pub mod Runs
 pub mod Made
+pub mod MasterMade
 pub mod Waits
 pub mod Life

@@ -23,7 +23,7 @@ use Rattle.kf_words.proofs.Runs.{let_in_live}
 use Rattle.kf_words.proofs.MasterAllowed.{on_word}
 use Rattle.kf_words.proofs.CallerAllowed.{no_step, try_allowed, undo_allowed, leave_allowed, break_allowed, restore_allowed, look_allowed, release_allowed, part_allowed, hide_allowed, look_hidden_allowed, show_allowed}
 
-put : {A : Type 0} (l : List A) (k : ℕ) (a b : A) → get_elem? l k ≡ some a → get_elem? (set l k b) k ≡ some b
+pub put : {A : Type 0} (l : List A) (k : ℕ) (a b : A) → get_elem? l k ≡ some a → get_elem? (set l k b) k ≡ some b
 put [] k a b e = absurd (some-ne-none a (sym e))
 put (x ∷ xs) zero a b e = refl
 put (x ∷ xs) (suc k) a b e = put xs k a b e

@@ -58,8 +58,8 @@ word_life = loads_hold 1 ∷ stores_fresh 1 ∷ births 1 ∷ takes_bias 1 ∷ lo
     ∷ splits_linked 1 ∷ loads_hold 1 ∷ pins_hold 1 ∷ splits_held 1 0 ∷ tries 0 ∷ hides 1
     ∷ looks_hidden 1 ∷ leaves 0 ∷ looks_hidden 1 ∷ tries 0 ∷ undoes 0 ∷ shows 1 ∷ tries 0
     ∷ marks_node 1 ∷ tries 1 ∷ undoes 1 ∷ sleeps 1 ∷ breaks 0 ∷ awakes 1 ∷ looks 1 ∷ restores 0
-    ∷ parts 1 ∷ looks_over 1 ∷ leaves 0 ∷ looks_over 1 ∷ unlinks 1 1 ∷ parts 1 ∷ releases 1 ∷ releases 0 ∷ loads_hold 1
-    ∷ stores_fresh 1 ∷ births 1 ∷ loads_hold 1 ∷ pins_hold 1 ∷ unpins_hold 1 ∷ []
+    ∷ parts 1 ∷ looks_over 1 ∷ leaves 0 ∷ looks_over 1 ∷ unlinks 1 1 ∷ parts 1 ∷ releases 1 ∷ releases 0
+    ∷ loads_hold 1 ∷ stores_fresh 1 ∷ births 1 ∷ loads_hold 1 ∷ pins_hold 1 ∷ unpins_hold 1 ∷ []
 
 -- there is a run of all these steps from the opening of two slots
 abbrev pub WordLife : Type 0

@@ -1,11 +1,15 @@
 -- What a step of a caller's seat tells: which kind of step a table that met the rule made between its views.
 use Rattle.std.specs.Prelude.{◌≡◌, ℕ, zero, suc, true, slice_index}
+use mathlib.Core.Option.{some}
+use lib.ListN.{get_elem?}
 use Rattle.atomic_table.specs.Table.{Step}
 use Rattle.kf_core.specs.Bare.{is_live}
 use Rattle.kf_words.specs.declared.view.CallerView.{CallerView}
-use Rattle.kf_words.specs.Layout.{active_index, hold_index}
+use Rattle.kf_words.specs.declared.view.MasterView.{MasterView}
+use Rattle.kf_words.specs.declared.view.View.TheVariants as seat
+use Rattle.kf_words.specs.Layout.{active_index, hold_index, slot_of}
 use Rattle.kf_words.specs.Rule.{Shown}
-use Rattle.kf_words.specs.Steps.{Seated, caller_of, after_try, after_undo, after_leave, after_break, after_restore, after_look, after_part, after_hide, after_look_hidden, after_release, CallerBecomes, ShowsKey}
+use Rattle.kf_words.specs.Steps.{Seated, caller_of, after_try, after_undo, after_leave, after_break, after_restore, after_look, after_part, after_hide, after_look_hidden, after_release, CallerBecomes, ShowsKey, master_of, On, MasterBecomes}
 use Rattle.kf_words.specs.Callers.{Handle, Owed, seat_view}
 use Rattle.kf_words.specs.TableSteps.{Table, world, Kind, IsSeated, WordStep, tries, undoes, leaves, breaks, restores, looks, parts, hides, looks_hidden, shows, releases}
 
@@ -155,3 +159,21 @@ OwedForUndo before after due = (due.slot ≡ after.key.slot) × (tried : CallerV
 pub record WasLetInLive (before after : CallerView) : Type 0 where
   pub try : WasATry before after
   pub live : is_live (world try.found) after.key ≡ true
+
+-- a table that met the rule made this step, with the Master's view before it and after it
+pub record WasMadeByMaster (kind : Kind) (before after : MasterView) : Type 0 where
+  pub slots : ℕ
+  pub limit : ℕ
+  pub found : Table
+  pub left : Table
+  pub shown : Shown slots limit found
+  pub step : WordStep found kind left
+  pub was : get_elem? found.views 0 ≡ some (seat.Master before)
+  pub is : get_elem? left.views 0 ≡ some (seat.Master after)
+
+-- what a step of the Master tells: that it is on the word that this index has of some slot, the view after it,
+-- and that a table made it
+abbrev pub MasterMakes : (ℕ → ℕ) → (ℕ → Kind) → (ℕ → ℕ → MasterView → MasterView)
+    → Step (Unit {0}) → Seated → ℕ → Seated → Type 0
+MasterMakes index kind after = On index (λ st me found me'. MasterBecomes after st me found me'
+    × WasMadeByMaster (kind (slot_of st.word)) (master_of me.0) (master_of me'.0))

@@ -7,6 +7,8 @@ ghost use Rattle.kf_words.specs.Rule.{last_key};
 ghost use Rattle.kf_words.specs.Steps.{with_load, with_pin, without_pin, after_split, new_hold, state_at, with_look, without_node, after_store, with_birth, TellsSlot, with_marks, activated_marks, doomed_marks};
 ghost use Rattle.kf_core.specs.declared.slot.Marks.{Marks};
 ghost use Rattle.kf_words.specs.Nodes.{HasMarks, HasLooked, FoundRoom, FoundFree, Searched, HasNext, AreFull, master_view};
+ghost use Rattle.kf_words.specs.TableSteps.{takes_bias, marks_node};
+ghost use Rattle.kf_words.specs.Made.{WasMadeByMaster};
 ghost use Rattle.kf_words.specs.declared.view.View.TheVariants as seat_of;
 
 use crate::blocks::{BLOCK, is_unlinked};
@@ -122,6 +124,7 @@ impl MasterSeat {
         requires { HasMarks (master_view self.old) slot fresh_marks }
         ensures table { self.new.token.table_id ≡ self.old.token.table_id }
         ensures view { master_view self.new ≡ with_marks activated_marks slot (master_view self.old) }
+        ensures made { WasMadeByMaster (takes_bias slot) (master_view self.old) (master_view self.new) }
     {
         let word = self.active_index(slot);
         self.table
@@ -136,6 +139,7 @@ impl MasterSeat {
         requires undoomed { marks.doomed ≡ false }
         ensures table { self.new.token.table_id ≡ self.old.token.table_id }
         ensures view { master_view self.new ≡ with_marks doomed_marks slot (master_view self.old) }
+        ensures made { WasMadeByMaster (marks_node slot) (master_view self.old) (master_view self.new) }
     {
         let bits = mark_bits(marks);
         let word = self.active_index(slot);

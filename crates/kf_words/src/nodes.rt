@@ -4,6 +4,8 @@ ghost use Rattle.std.specs.Option.{option_map};
 ghost use Rattle.kf_core.specs.declared.slot.Marks.{Marks};
 ghost use Rattle.kf_core.specs.Marks.{fresh_marks, live_marks, are_doomed};
 ghost use Rattle.kf_words.specs.Steps.{with_birth, after_store, with_marks, activated_marks, doomed_marks};
+ghost use Rattle.kf_words.specs.TableSteps.{takes_bias, marks_node};
+ghost use Rattle.kf_words.specs.Made.{WasMadeByMaster};
 ghost use Rattle.kf_words.specs.Nodes.{KeepsNodes, MayBear, Searched, UnlinkAnswer, marks_of, slots_with};
 
 use crate::blocks::block_of;
@@ -59,6 +61,7 @@ impl Master {
         ensures table { self.new.table ≡ self.old.table }
         ensures nodes { self.new.nodes ≡ self.old.nodes }
         ensures view { self.new.view ≡ with_marks activated_marks key.slot self.old.view }
+        ensures made { WasMadeByMaster (takes_bias key.slot) self.old.view self.new.view }
         ensures slots { self.new.view.slots ≡ slots_with self.old.view.slots key (Some live_marks) }
     {
         self.steps.take_bias(key.slot);
@@ -80,6 +83,7 @@ impl Master {
         ensures table { self.new.table ≡ self.old.table }
         ensures nodes { self.new.nodes ≡ self.old.nodes }
         ensures view { self.new.view ≡ with_marks doomed_marks key.slot self.old.view }
+        ensures made { WasMadeByMaster (marks_node key.slot) self.old.view self.new.view }
         ensures slots { (x : Marks) → marks_of self.old.view key ≡ Some x →
             self.new.view.slots ≡ slots_with self.old.view.slots key (Some (doomed_marks x)) }
     {

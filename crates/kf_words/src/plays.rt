@@ -174,9 +174,11 @@ pub(crate) struct TakesBias;
 
 impl Play<(), View> for TakesBias {
     ghost use Rattle.kf_words.specs.Layout.{active_index};
-    ghost use Rattle.kf_words.specs.Steps.{On, MasterBecomes, unread, with_marks, activated_marks};
+    ghost use Rattle.kf_words.specs.Steps.{unread, with_marks, activated_marks};
+    ghost use Rattle.kf_words.specs.TableSteps.{takes_bias};
+    ghost use Rattle.kf_words.specs.Made.{MasterMakes};
 
-    ghost then = { On active_index (MasterBecomes (unread (with_marks activated_marks))) };
+    ghost then = { MasterMakes active_index takes_bias (unread (with_marks activated_marks)) };
 }
 
 /// The Master marks a node as doomed.
@@ -184,9 +186,11 @@ pub(crate) struct MarksNode;
 
 impl Play<(), View> for MarksNode {
     ghost use Rattle.kf_words.specs.Layout.{active_index};
-    ghost use Rattle.kf_words.specs.Steps.{On, MasterBecomes, unread, with_marks, doomed_marks};
+    ghost use Rattle.kf_words.specs.Steps.{unread, with_marks, doomed_marks};
+    ghost use Rattle.kf_words.specs.TableSteps.{marks_node};
+    ghost use Rattle.kf_words.specs.Made.{MasterMakes};
 
-    ghost then = { On active_index (MasterBecomes (unread (with_marks doomed_marks))) };
+    ghost then = { MasterMakes active_index marks_node (unread (with_marks doomed_marks)) };
 }
 
 /// The Master loads an active word.

@@ -1,8 +1,11 @@
-use Rattle.std.proofs.Common.{◌≡◌, length, length-set, rules, arith, sym, ap, ◌∙◌}
+use Rattle.std.proofs.Common.{◌≡◌, length, length-set, rules, arith, sym, ap, ◌∙◌, ℕ, subst}
 use Rattle.std.proofs.lemmas.Option.{slice_get_within}
 use Rattle.std.specs.Arc.{arc_value}
 use Rattle.kf_words.specs.Steps.{Seated, master_of, unread, with_marks, activated_marks}
-use Rattle.kf_words.proofs.MasterAllowed.{active_slot, told, rise_allowed, keeps_master}
+use Rattle.kf_words.specs.TableSteps.{takes_bias}
+use Rattle.kf_words.specs.Made.{WasMadeByMaster}
+use Rattle.kf_words.proofs.MasterAllowed.{active_slot, told, keeps_master}
+use Rattle.kf_words.proofs.MasterMade.{rise_made}
 use Rattle.kf_words.proofs.master_seat.MasterSeat.take_bias.Goals as goal
 
 pub active_index-word-requires : goal.active_index-word-requires
@@ -15,12 +18,12 @@ fetch_sub-requires c =
     let at = c.active_index-word.ensures.here in
     let within = c.active_index-word.ensures.within in
     let q = c.requires in
-    (search rules, omega arith, rise_allowed c.deref.result.now.shared.key.slots _ _ _ self.token.me c.args.slot c.active_index-word.result q.0 self.a_master (omega arith) q.1 q.2)
+    (search rules, omega arith, rise_made c.deref.result.now.shared.key.slots _ _ _ self.token.me c.args.slot self.a_master c.active_index-word.result q.0 (omega arith) q.1 q.2)
 
 pub invariant_of-self : goal.invariant_of-self
 invariant_of-self c =
     let self = c.args.self.now in
-    let now = told self.token.me c.fetch_sub.new.seat.me c.args.slot c.active_index-word.result c.fetch_sub.result (unread (with_marks activated_marks)) self.a_master (active_slot c.args.slot c.active_index-word.result (sym c.active_index-word.ensures.here)) c.fetch_sub.ensures.2.1 in
+    let now = told self.token.me c.fetch_sub.new.seat.me c.args.slot c.active_index-word.result c.fetch_sub.result (unread (with_marks activated_marks)) self.a_master (active_slot c.args.slot c.active_index-word.result (sym c.active_index-word.ensures.here)) c.fetch_sub.ensures.2.1.0 in
     record {
       of_table = c.fetch_sub.ensures.0 ∙ self.of_table;
       a_master = keeps_master _ _ now;
@@ -31,5 +34,11 @@ invariant_of-self c =
 pub returns-clause-view : goal.returns-clause-view
 returns-clause-view c =
     let self = c.args.self.now in
-    let now = told self.token.me c.fetch_sub.new.seat.me c.args.slot c.active_index-word.result c.fetch_sub.result (unread (with_marks activated_marks)) self.a_master (active_slot c.args.slot c.active_index-word.result (sym c.active_index-word.ensures.here)) c.fetch_sub.ensures.2.1 in
+    let now = told self.token.me c.fetch_sub.new.seat.me c.args.slot c.active_index-word.result c.fetch_sub.result (unread (with_marks activated_marks)) self.a_master (active_slot c.args.slot c.active_index-word.result (sym c.active_index-word.ensures.here)) c.fetch_sub.ensures.2.1.0 in
     ap (λ (x : Seated). master_of x.0) now
+
+pub returns-clause-made : goal.returns-clause-made
+returns-clause-made c =
+    let self = c.args.self.now in
+    subst (λ (k : ℕ). WasMadeByMaster (takes_bias k) (master_of self.token.me.0) (master_of c.fetch_sub.new.seat.me.0))
+    (active_slot c.args.slot c.active_index-word.result (sym c.active_index-word.ensures.here)) c.fetch_sub.ensures.2.1.1
