@@ -1,5 +1,5 @@
 -- Whose each line of a script is.
-use Rattle.std.specs.Prelude.{ℕ, ◌+◌, ◌-◌, ◌*◌, Bool, true, false, List, [], ◌∷◌, nat_le, ◌==◌, ◌&&◌, length, flat_map, codes, Option, Some, None, if◌then◌else◌}
+use Rattle.std.specs.Prelude.{ℕ, ◌+◌, ◌-◌, ◌*◌, Bool, true, false, List, [], ◌∷◌, nat_le, ◌==◌, ◌&&◌, length, flat_map, map, codes, Option, Some, None, if◌then◌else◌}
 use Rattle.std.specs.Str.{bytes_eq}
 use Rattle.kf_script.specs.Lines.{line_limit}
 use Rattle.kf_script.specs.Requests.{is_digit, first_word, rest}
@@ -64,5 +64,9 @@ own_command who ends_round = []
 own_command who (of_seat seat command) = if seat == who then command ∷ [] else []
 
 -- the commands of one seat, in the order of the lines
-abbrev pub commands_of : ℕ → ℕ → List (List ℕ) → List (List ℕ)
-commands_of workers who lines = flat_map (λ line. own_command who (kind_by workers line)) lines
+abbrev pub commands_of : ℕ → List Kind → List (List ℕ)
+commands_of who kinds = flat_map (own_command who) kinds
+
+-- what each line is for, with so many workers
+abbrev pub kinds_by : ℕ → List (List ℕ) → List Kind
+kinds_by workers lines = map (kind_by workers) lines

@@ -1,24 +1,18 @@
 -- What the lines of a script are answered, where many run them.
-use Rattle.std.specs.Prelude.{ℕ, Bool, List, [], ◌∷◌, ◌++◌, ◌≡◌, flat_map, map, All, get_or, set}
+use Rattle.std.specs.Prelude.{ℕ, ◌==◌, Bool, List, [], ◌∷◌, ◌++◌, ◌≡◌, flat_map, map, All, get_or, set, if◌then◌else◌}
 use Rattle.kf_script.specs.Answers.{Step, AnswersRequest}
 use Rattle.kf_script.specs.Requests.{request_of}
 use Rattle.kf_script.specs.ReplyText.{bad_line_text, done_text}
-use Rattle.kf_rounds.specs.Kinds.{Kind, bad, ends_round, of_seat, kind_by, commands_of}
+use Rattle.kf_rounds.specs.Kinds.{Kind, bad, ends_round, of_seat, commands_of}
 
--- what some board may reply to a command, whatever became of the board before
-abbrev pub MayReply : {Board : Type 0} → Step Board → List ℕ → List ℕ → Type 0
-MayReply {Board} step command reply =
-    (before now : Board) × (starved : Bool)
-    × AnswersRequest step before (request_of command) starved reply now
-
--- one line and its reply
+-- one line, by what it is for, and its reply
 pub record Turn : Type 0 where
-  pub line : List ℕ
+  pub kind : Kind
   pub reply : List ℕ
 
--- the line that was answered in this turn
-abbrev pub line_of : Turn → List ℕ
-line_of turn = turn.line
+-- what the line of this turn is for
+abbrev pub kind_in : Turn → Kind
+kind_in turn = turn.kind
 
 -- the reply with its newline
 abbrev pub reply_line : Turn → List ℕ
@@ -28,42 +22,55 @@ reply_line turn = turn.reply ++ 10 ∷ []
 abbrev pub text : List Turn → List ℕ
 text turns = flat_map reply_line turns
 
--- what a line's reply may be, where a seat may answer a command so
-abbrev pub IsReply : (List ℕ → List ℕ → Type 0) → Kind → List ℕ → Type 0
-IsReply may bad reply = reply ≡ bad_line_text
-IsReply may ends_round reply = reply ≡ done_text
-IsReply may (of_seat seat command) reply = may command reply
+-- a line that is no seat's has always the same reply
+abbrev pub IsFixed : Kind → List ℕ → Type 0
+IsFixed bad reply = reply ≡ bad_line_text
+IsFixed ends_round reply = reply ≡ done_text
+IsFixed (of_seat seat command) reply = Unit {0}
 
--- the turn's reply is one that a line of its kind may have
-abbrev pub IsTurn : (List ℕ → List ℕ → Type 0) → ℕ → Turn → Type 0
-IsTurn may workers turn = IsReply may (kind_by workers turn.line) turn.reply
+-- the turn's reply is that of its kind, where that has always the same
+abbrev pub HasFixed : Turn → Type 0
+HasFixed turn = IsFixed turn.kind turn.reply
 
--- the replies to these lines, one each, in their order, stand behind the bytes
-pub record RepliedAfter (may : List ℕ → List ℕ → Type 0) (workers : ℕ) (lines : List (List ℕ))
-    (old new : List ℕ) : Type 0 where
-  pub turns : List Turn
-  pub lines_are : map line_of turns ≡ lines
-  pub each : All (IsTurn may workers) turns
-  pub bytes_are : new ≡ old ++ text turns
+-- the reply to a line, where it is this seat's
+abbrev pub own_reply : ℕ → Kind → List ℕ → List (List ℕ)
+own_reply who bad reply = []
+own_reply who ends_round reply = []
+own_reply who (of_seat seat command) reply = if seat == who then reply ∷ [] else []
 
--- these bytes are the replies to these lines, one each, in their order
-abbrev pub Replied : (List ℕ → List ℕ → Type 0) → ℕ → List (List ℕ) → List ℕ → Type 0
-Replied may workers lines bytes = RepliedAfter may workers lines [] bytes
+-- the reply of a turn, where its line is this seat's
+abbrev pub reply_of : ℕ → Turn → List (List ℕ)
+reply_of who turn = own_reply who turn.kind turn.reply
 
--- each of the replies answers the command at its place; where some are wanting, these are the last
-abbrev pub Tells : (List ℕ → List ℕ → Type 0) → List (List ℕ) → List (List ℕ) → Type 0
-Tells may commands [] = Unit {0}
-Tells may [] (reply ∷ replies) = ⊥
-Tells may (command ∷ commands) (reply ∷ replies) = may command reply × Tells may commands replies
+-- the replies to the lines of one seat, in the order of the lines
+abbrev pub replies_of : ℕ → List Turn → List (List ℕ)
+replies_of who turns = flat_map (reply_of who) turns
 
--- the reply to a command was added, where there is a command
-abbrev pub Adds : (List ℕ → List ℕ → Type 0) → List (List ℕ) → List (List ℕ) → List (List ℕ) → Type 0
-Adds may [] old new = new ≡ old
-Adds may (command ∷ commands) old new = (reply : List ℕ) × (new ≡ old ++ reply ∷ []) × may command reply
+-- A board answered these commands with these replies, each from where the one before had left it, and is now
+-- where the last has left it. Where memory ran out for a reply, it and the later ones are wanting.
+abbrev pub Tells : {Board : Type 0} → Step Board → Board → List (List ℕ) → List (List ℕ) → Board → Type 0
+Tells step before [] [] now = now ≡ before
+Tells step before [] (reply ∷ replies) now = ⊥
+Tells step before (command ∷ commands) [] now = Unit {0}
+Tells {Board} step before (command ∷ commands) (reply ∷ replies) now =
+    (next : Board) × (starved : Bool)
+    × AnswersRequest step before (request_of command) starved reply next
+    × Tells step next commands replies now
 
--- what each seat said answers its own commands; a seat's number is its place
-abbrev pub EachTells : (List ℕ → List ℕ → Type 0) → ℕ → List (List ℕ) → List (List (List ℕ)) → Type 0
-EachTells may workers lines said = (who : ℕ) → Tells may (commands_of workers who lines) (get_or said who [])
+-- The board answered a command and the reply was added, where there is a command.
+abbrev pub Adds : {Board : Type 0} → Step Board → List (List ℕ) → Board → List (List ℕ) → Board
+    → List (List ℕ) → Type 0
+Adds step [] before old now new = (now ≡ before) × (new ≡ old)
+Adds step (command ∷ commands) before old now new =
+    (reply : List ℕ) × (starved : Bool)
+    × AnswersRequest step before (request_of command) starved reply now × (new ≡ old ++ reply ∷ [])
+
+-- What each seat said are its own board's answers to its own commands; a seat's number is its place.
+abbrev pub EachTells : {Board : Type 0} → Step Board → List Kind → List Board → List (List (List ℕ))
+    → List Board → Type 0
+EachTells {Board} step kinds before said now =
+    (who : ℕ) (d : Board)
+    → Tells step (get_or before who d) (commands_of who kinds) (get_or said who []) (get_or now who d)
 
 -- the reply to a line was put out: the next of its seat's, where it has one
 abbrev pub Puts : Kind → List (List (List ℕ)) → List (List (List ℕ)) → List ℕ → List ℕ → Type 0
@@ -72,3 +79,22 @@ Puts ends_round said said' out out' = (said' ≡ said) × (out' ≡ out ++ done_
 Puts (of_seat seat command) said said' out out' =
     (reply : List ℕ) × (later : List (List ℕ)) × (get_or said seat [] ≡ reply ∷ later)
     × (said' ≡ set said seat later) × (out' ≡ out ++ reply ++ 10 ∷ [])
+
+-- the replies to lines of these kinds were put out, each the next of its seat's
+pub record PutOut (kinds : List Kind) (said said' : List (List (List ℕ))) (out out' : List ℕ) : Type 0 where
+  pub turns : List Turn
+  pub kinds_are : map kind_in turns ≡ kinds
+  pub fixed : All HasFixed turns
+  pub dealt : (who : ℕ) → get_or said who [] ≡ replies_of who turns ++ get_or said' who []
+  pub bytes_are : out' ≡ out ++ text turns
+
+-- The replies to lines of these kinds, one each, in their order, stand behind the bytes. Those to the lines
+-- of a seat are what its board answered to these lines, one after the other.
+pub record Replied {Board : Type 0} (step : Step Board) (kinds : List Kind) (before now : List Board)
+    (old new : List ℕ) : Type 0 where
+  pub turns : List Turn
+  pub kinds_are : map kind_in turns ≡ kinds
+  pub fixed : All HasFixed turns
+  pub ran : (who : ℕ) (d : Board)
+      → Tells step (get_or before who d) (commands_of who kinds) (replies_of who turns) (get_or now who d)
+  pub bytes_are : new ≡ old ++ text turns

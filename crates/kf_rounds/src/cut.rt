@@ -1,11 +1,14 @@
-//! A script in memory as its lines.
+//! A script in memory as its lines, each cut out and looked at once.
 
-ghost use Rattle.std.specs.Prelude.{◌≡◌, ◌∷◌, ◌<◌, map, position, IfOk, IfSome, length};
+ghost use Rattle.std.specs.Prelude.{◌≡◌, ◌≤◌, ◌∷◌, ◌<◌, map, position, IfOk, IfSome, length};
 ghost use Rattle.std.specs.Option.{option_map};
 ghost use Rattle.std.specs.List.{slice_split};
 ghost use Rattle.kf_script.specs.Lines.{is_newline, lines_of};
 ghost use Rattle.kf_rounds.specs.Cutting.{later_lines};
+ghost use Rattle.kf_rounds.specs.Kinds.{kind_by};
+ghost use Rattle.kf_rounds.specs.KindViews.{kind_view};
 
+use crate::kind::{LineKind, kind_of};
 use std::alloc::{AllocError, Global};
 
 /// Where the first newline stands.
@@ -27,18 +30,24 @@ fn cut_line(script: &[u8]) -> (&[u8], Option<&[u8]>)
     }
 }
 
-/// The lines of a script, without those that are empty: these get no reply.
-pub fn lines_in(alloc: Global, script: &[u8]) -> Result<Vec<&[u8]>, AllocError>
-    ensures { IfOk result (λ lines. map (λ line. line.now) lines.items ≡ lines_of script.now) }
+/// What each line of a script is for, without those that are empty: these get no reply.
+pub fn kinds_in(
+    alloc: Global,
+    script: &[u8],
+    workers: usize,
+) -> Result<Vec<LineKind<'_>>, AllocError>
+    requires { workers ≤ 16 }
+    ensures { IfOk result
+        (λ kinds. map kind_view kinds.items ≡ map (kind_by workers) (lines_of script.now)) }
 {
-    let mut lines = Vec::new(alloc);
+    let mut kinds = Vec::new(alloc);
     let mut left = Some(script);
     while let Some(text) = left {
         let (line, later) = cut_line(text);
         if !line.is_empty() {
-            lines.push(line)?;
+            kinds.push(kind_of(line, workers))?;
         }
         left = later;
     }
-    Ok(lines)
+    Ok(kinds)
 }

@@ -3,9 +3,10 @@
 ghost use Rattle.std.specs.Prelude.{◌≡◌, ◌≤◌, IfSome, length, position};
 ghost use Rattle.kf_script.specs.Lines.{line_limit};
 ghost use Rattle.kf_script.specs.Requests.{is_space, first_word as word_of, rest as rest_of};
-ghost use Rattle.kf_rounds.specs.Kinds.{kind_by, worker_of, command_in, seat_in};
+ghost use Rattle.kf_rounds.specs.Kinds.{kind_by, worker_of, seat_in};
 ghost use Rattle.kf_rounds.specs.KindViews.{kind_view};
 
+use crate::command::SeatCommand;
 use kf_script::LINE_LIMIT;
 
 /// What a line is for.
@@ -15,8 +16,8 @@ pub enum LineKind<'a> {
     Bad,
     /// `wait`: it ends a round.
     EndsRound,
-    /// A command of the owner, 0, or of a worker, from 1.
-    Command { seat: usize, text: &'a [u8] },
+    /// A command.
+    Command(SeatCommand<'a>),
 }
 
 /// A worker's number, 1 to `most`, in decimal without leading zeros.
@@ -59,7 +60,6 @@ pub fn kind_of(line: &[u8], workers: usize) -> LineKind<'_>
     requires { workers ≤ 16 }
     ensures value { kind_view result ≡ kind_by workers line.now }
     ensures range { seat_in (kind_view result) ≤ workers }
-    ensures fits { length (command_in (kind_view result)) ≤ line_limit }
 {
     if line.len() > LINE_LIMIT {
         return LineKind::Bad;
@@ -70,15 +70,17 @@ pub fn kind_of(line: &[u8], workers: usize) -> LineKind<'_>
     if *first == b'@' {
         let (word, text) = first_word(rest);
         return match worker(word, workers) {
-            Some(seat) if text != b"wait".as_slice() => LineKind::Command { seat, text },
+            Some(seat) if text != b"wait".as_slice() => {
+                LineKind::Command(SeatCommand { seat, text })
+            }
             _ => LineKind::Bad,
         };
     }
     if line == b"wait".as_slice() {
         return LineKind::EndsRound;
     }
-    LineKind::Command {
+    LineKind::Command(SeatCommand {
         seat: 0,
         text: line,
-    }
+    })
 }

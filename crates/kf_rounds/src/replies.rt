@@ -1,17 +1,93 @@
-//! The replies of a round, put out in the order of its lines.
+//! Replies that wait to be put out: those of a seat, and those of a round in the order of its lines.
 
-ghost use Rattle.std.specs.Prelude.{◌≡◌, ◌≤◌, ◌+◌, ◌++◌, ◌∷◌, [], OnOk, map, length};
-ghost use Rattle.kf_rounds.specs.Kinds.{kind_by};
-ghost use Rattle.kf_rounds.specs.Turns.{EachTells, MayReply, Puts, RepliedAfter};
-ghost use Rattle.kf_rounds.specs.Seats.{untakens};
+ghost use Rattle.std.specs.Prelude.{◌≡◌, ◌≤◌, ◌<◌, ◌+◌, ◌++◌, ◌∷◌, [], ℕ, List, OnOk, OnErr, map, length};
+ghost use Rattle.kf_rounds.specs.KindViews.{kind_view};
+ghost use Rattle.kf_rounds.specs.Turns.{Puts, PutOut};
+ghost use Rattle.kf_rounds.specs.Seats.{boards, untakens};
 
-use crate::kind::{LineKind, kind_of};
+use crate::kind::LineKind;
 use crate::seat::Seat;
 use kf_script::Board;
-use std::alloc::AllocError;
+use std::alloc::{AllocError, Global};
+use std::marker::Model;
+
+/// Texts that wait, in the order in which they came: the first is put out next. All lie in one buffer, so
+/// that a text takes no memory of its own.
+#[derive(Drop)]
+pub struct Replies {
+    bytes: Vec<u8>,
+    lengths: Vec<usize>,
+    // So many bytes and texts at the front have been put out.
+    from: usize,
+    taken: usize,
+}
+
+impl Model for Replies {
+    ghost use Rattle.std.specs.Prelude.{◌≡◌, ◌≤◌, ◌+◌, List, ℕ, drop, length};
+    ghost use Rattle.kf_rounds.specs.Pieces.{pieces, total};
+
+    ghost Value = { List (List ℕ) };
+
+    ghost view = { λ r. pieces (drop r.from r.bytes.items) (drop r.taken r.lengths.items) };
+
+    ghost invariant = { λ r. (r.from + total (drop r.taken r.lengths.items) ≡ length r.bytes.items)
+        × (r.taken ≤ length r.lengths.items) };
+}
+
+impl Replies {
+    /// No text.
+    pub fn new(alloc: Global) -> Replies
+        ensures { result ≡ [] }
+    {
+        Replies {
+            bytes: Vec::new(alloc),
+            lengths: Vec::new(alloc),
+            from: 0,
+            taken: 0,
+        }
+    }
+
+    /// Forgets all texts, and keeps their memory for others.
+    pub fn clear(&mut self)
+        ensures { self.new ≡ [] }
+    {
+        self.bytes.clear();
+        self.lengths.clear();
+        self.from = 0;
+        self.taken = 0;
+    }
+
+    /// Puts a text behind the others. `Err` where there is no memory.
+    pub fn add(&mut self, text: &[u8]) -> Result<(), AllocError>
+        ensures added { OnOk result (self.new ≡ self.old ++ text.now ∷ []) }
+        ensures same { OnErr result (self.new ≡ self.old) }
+    {
+        self.lengths.reserve(1)?;
+        self.bytes.extend_from_slice(text)?;
+        self.lengths.push_reserved(text.len());
+        Ok(())
+    }
+
+    /// Puts the first text and a newline out. `Err` where there is none, or no memory.
+    pub fn put_next(&mut self, out: &mut Vec<u8>) -> Result<(), AllocError>
+        ensures { OnOk result ((reply : List ℕ) × (self.old ≡ reply ∷ self.new)
+            × (out.new.items ≡ out.old.items ++ reply ++ 10 ∷ [])) }
+    {
+        let at = self.taken;
+        if at >= self.lengths.len() {
+            return Err(AllocError);
+        }
+        let from = self.from;
+        let end = from + self.lengths[at];
+        put_line(out, &self.bytes[from..end])?;
+        self.from = end;
+        self.taken = at + 1;
+        Ok(())
+    }
+}
 
 /// Puts a text and a newline out.
-pub fn put_line(out: &mut Vec<u8>, text: &[u8]) -> Result<(), AllocError>
+fn put_line(out: &mut Vec<u8>, text: &[u8]) -> Result<(), AllocError>
     ensures { OnOk result (out.new.items ≡ out.old.items ++ text.now ++ 10 ∷ []) }
 {
     out.extend_from_slice(text)?;
@@ -23,37 +99,38 @@ pub fn put_line(out: &mut Vec<u8>, text: &[u8]) -> Result<(), AllocError>
 fn put_reply<B: Board>(
     out: &mut Vec<u8>,
     seats: &mut [Seat<B>],
-    line: &[u8],
-    workers: usize,
+    kind: &LineKind<'_>,
 ) -> Result<(), AllocError>
-    requires workers { workers ≤ 16 }
-    requires seats { length seats.old ≡ workers + 1 }
-    ensures { OnOk result (Puts (kind_by workers line.now) (untakens seats.old) (untakens seats.new)
+    ensures put { OnOk result (Puts (kind_view kind.now) (untakens seats.old) (untakens seats.new)
         out.old.items out.new.items) }
+    ensures boards { boards seats.new ≡ boards seats.old }
 {
-    match kind_of(line, workers) {
+    match *kind {
         LineKind::Bad => put_line(out, b"err Line 22"),
         LineKind::EndsRound => put_line(out, b"ok"),
-        LineKind::Command { seat, text: _ } => seats[seat].put_next(out),
+        LineKind::Command(command) => {
+            let at = command.seat;
+            if at >= seats.len() {
+                return Err(AllocError);
+            }
+            seats[at].put_next(out)
+        }
     }
 }
 
-/// Puts the reply to each line out, each with a newline, in the order of the lines.
+/// Puts the reply to each line out, each with a newline, in the order of the lines. `Err` where a seat has
+/// none for a line of its own, or where there is no memory.
 pub fn put_replies<B: Board>(
     out: &mut Vec<u8>,
     seats: &mut [Seat<B>],
-    lines: &[&[u8]],
-    workers: usize,
+    kinds: &[LineKind<'_>],
 ) -> Result<(), AllocError>
-    requires workers { workers ≤ 16 }
-    requires seats { length seats.old ≡ workers + 1 }
-    requires told { EachTells (MayReply B.step) workers (map (λ line. line.now) lines.now)
-        (untakens seats.old) }
-    ensures { OnOk result (RepliedAfter (MayReply B.step) workers (map (λ line. line.now) lines.now)
+    ensures put { OnOk result (PutOut (map kind_view kinds.now) (untakens seats.old) (untakens seats.new)
         out.old.items out.new.items) }
+    ensures boards { boards seats.new ≡ boards seats.old }
 {
-    for line in lines {
-        put_reply(out, seats, line, workers)?;
+    for kind in kinds {
+        put_reply(out, seats, kind)?;
     }
     Ok(())
 }

@@ -1,10 +1,12 @@
 //! All rounds of a script.
 
-ghost use Rattle.std.specs.Prelude.{◌≡◌, ◌≤◌, ◌+◌, IfOk, length};
+ghost use Rattle.std.specs.Prelude.{◌≡◌, ◌≤◌, ◌+◌, [], IfOk, length};
 ghost use Rattle.kf_script.specs.Lines.{lines_of};
-ghost use Rattle.kf_rounds.specs.Turns.{MayReply, Replied};
+ghost use Rattle.kf_rounds.specs.Kinds.{kinds_by};
+ghost use Rattle.kf_rounds.specs.Seats.{boards};
+ghost use Rattle.kf_rounds.specs.Turns.{Replied};
 
-use crate::cut::lines_in;
+use crate::cut::kinds_in;
 use crate::replies::put_replies;
 use crate::round::{round_at, run_round};
 use crate::seat::Seat;
@@ -34,16 +36,16 @@ pub fn run_rounds<B: Board + Send, R: Threads + Sync>(
 ) -> Result<Vec<u8>, AllocError>
     requires workers { workers ≤ 16 }
     requires seats { length seats.old ≡ workers + 1 }
-    ensures replied { IfOk result
-        (λ out. Replied (MayReply B.step) workers (lines_of script.now) out.items) }
+    ensures replied { IfOk result (λ out. Replied B.step (kinds_by workers (lines_of script.now))
+        (boards seats.old) (boards seats.new) [] out.items) }
 {
-    let lines = lines_in(alloc, script)?;
+    let kinds = kinds_in(alloc, script, workers)?;
     let mut out = Vec::new(alloc);
     let mut from = 0;
-    while from < lines.len() {
-        let round = round_at(lines.as_slice(), from, workers);
-        run_round(rt, alloc, seats, round, workers);
-        put_replies(&mut out, seats, round, workers)?;
+    while from < kinds.len() {
+        let round = round_at(kinds.as_slice(), from);
+        run_round(rt, seats, round);
+        put_replies(&mut out, seats, round)?;
         from += round.len();
     }
     Ok(out)

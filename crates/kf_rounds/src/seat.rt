@@ -1,13 +1,16 @@
 //! One of those who run lines, with its replies of a round.
 
-ghost use Rattle.std.specs.Prelude.{◌≡◌, ◌≤◌, ◌∷◌, ◌++◌, [], ℕ, List, map, length, OnOk, OnErr};
+ghost use Rattle.std.specs.Prelude.{◌≡◌, ◌≤◌, ◌∷◌, ◌++◌, [], ℕ, Bool, List, map, length, OnOk, OnErr};
 ghost use Rattle.kf_script.specs.Lines.{line_limit};
-ghost use Rattle.kf_rounds.specs.Seats.{board_of, said, untaken};
-ghost use Rattle.kf_rounds.specs.Kinds.{commands_of, own_command, kind_by};
-ghost use Rattle.kf_rounds.specs.Turns.{MayReply, Tells, Adds};
+ghost use Rattle.kf_script.specs.Answers.{AnswersRequest};
+ghost use Rattle.kf_script.specs.Requests.{request_of};
+ghost use Rattle.kf_rounds.specs.Seats.{board_of, untaken};
+ghost use Rattle.kf_rounds.specs.Kinds.{command_in, commands_of, own_command};
+ghost use Rattle.kf_rounds.specs.KindViews.{kind_view};
+ghost use Rattle.kf_rounds.specs.Turns.{Adds, Tells};
 
-use crate::kind::{LineKind, kind_of};
-use crate::replies::put_line;
+use crate::kind::LineKind;
+use crate::replies::Replies;
 use kf_script::{Board, Reply, parse};
 use std::alloc::{AllocError, Global};
 
@@ -17,14 +20,16 @@ use std::alloc::{AllocError, Global};
 pub struct Seat<B> {
     board: B,
     reply: Reply,
-    replies: Vec<Vec<u8>>,
-    taken: usize,
+    replies: Replies,
+    // Two cache lines between what this seat writes and what the next one does, whose thread is another.
+    apart: [u64; 16],
 }
 
 /// Puts the reply to a line into the buffer.
 fn answer_line<B: Board>(board: &mut B, reply: &mut Reply, line: &[u8])
     requires { length line.now ≤ line_limit }
-    ensures { MayReply B.step line.now reply.new }
+    ensures { (starved : Bool)
+        × AnswersRequest B.step board.old (request_of line.now) starved reply.new board.new }
 {
     match &parse(line) {
         Some(request) => board.answer(request, reply),
@@ -34,72 +39,40 @@ fn answer_line<B: Board>(board: &mut B, reply: &mut Reply, line: &[u8])
 
 impl<B: Board> Seat<B> {
     /// Runs a line, where it is its own.
-    fn run_line(
-        &mut self,
-        alloc: Global,
-        who: usize,
-        line: &[u8],
-        workers: usize,
-    ) -> Result<(), AllocError>
-        requires workers { workers ≤ 16 }
-        ensures ran { OnOk result (Adds (MayReply B.step) (own_command who (kind_by workers line.now))
-            (said self.old) (said self.new)) }
-        ensures stopped { OnErr result (said self.new ≡ said self.old) }
-        ensures none_taken { self.new.taken ≡ self.old.taken }
+    fn run_line(&mut self, who: usize, kind: &LineKind<'_>) -> Result<(), AllocError>
+        ensures ran { OnOk result (Adds B.step (own_command who (kind_view kind.now))
+            (board_of self.old) (untaken self.old) (board_of self.new) (untaken self.new)) }
+        ensures stopped { OnErr result ((untaken self.new ≡ untaken self.old)
+            × (own_command who (kind_view kind.now) ≡ command_in (kind_view kind.now) ∷ [])) }
     {
-        match kind_of(line, workers) {
-            LineKind::Command { seat, text } if seat == who => {
-                answer_line(&mut self.board, &mut self.reply, text);
-                let reply = self.reply.text().to_vec(alloc)?;
-                self.replies.push(reply)?;
-                Ok(())
+        match *kind {
+            LineKind::Command(command) if command.seat == who => {
+                answer_line(&mut self.board, &mut self.reply, command.text);
+                self.replies.add(self.reply.text())
             }
             _ => Ok(()),
         }
     }
 
     /// Runs the lines of its own in their order. Where memory runs out it stops.
-    fn run_own(
-        &mut self,
-        alloc: Global,
-        who: usize,
-        lines: &[&[u8]],
-        workers: usize,
-    ) -> Result<(), AllocError>
-        requires workers { workers ≤ 16 }
-        requires empty { said self.old ≡ [] }
-        ensures tells { Tells (MayReply B.step)
-            (commands_of workers who (map (λ line. line.now) lines.now)) (said self.new) }
-        ensures none_taken { self.new.taken ≡ self.old.taken }
+    fn run_own(&mut self, who: usize, kinds: &[LineKind<'_>]) -> Result<(), AllocError>
+        requires empty { untaken self.old ≡ [] }
+        ensures tells { Tells B.step (board_of self.old) (commands_of who (map kind_view kinds.now))
+            (untaken self.new) (board_of self.new) }
     {
-        for line in lines {
-            self.run_line(alloc, who, line, workers)?;
+        for kind in kinds {
+            self.run_line(who, kind)?;
         }
         Ok(())
     }
 
     /// Runs the lines of its own in their order, and keeps the replies. Where memory runs out it stops.
-    pub(crate) fn run(&mut self, alloc: Global, who: usize, lines: &[&[u8]], workers: usize)
-        requires workers { workers ≤ 16 }
-        ensures tells { Tells (MayReply B.step)
-            (commands_of workers who (map (λ line. line.now) lines.now)) (untaken self.new) }
+    pub(crate) fn run(&mut self, who: usize, kinds: &[LineKind<'_>])
+        ensures tells { Tells B.step (board_of self.old) (commands_of who (map kind_view kinds.now))
+            (untaken self.new) (board_of self.new) }
     {
         self.replies.clear();
-        self.taken = 0;
-        let _ = self.run_own(alloc, who, lines, workers);
-    }
-
-    /// Puts the next of its replies and a newline out. `Err` where there is none, or no memory.
-    pub(crate) fn put_next(&mut self, out: &mut Vec<u8>) -> Result<(), AllocError>
-        ensures { OnOk result ((reply : List ℕ) × (untaken self.old ≡ reply ∷ untaken self.new)
-            × (out.new.items ≡ out.old.items ++ reply ++ 10 ∷ [])) }
-    {
-        let at = self.taken;
-        if at >= self.replies.len() {
-            return Err(AllocError);
-        }
-        self.taken += 1;
-        put_line(out, self.replies[at].as_slice())
+        let _ = self.run_own(who, kinds);
     }
 }
 
@@ -107,14 +80,23 @@ impl<B> Seat<B> {
     /// A seat that has run no line. `reply` is the memory in which its replies are built.
     pub fn new(alloc: Global, board: B, reply: Reply) -> Seat<B>
         ensures made { board_of result ≡ board }
-        ensures empty { said result ≡ [] }
+        ensures empty { untaken result ≡ [] }
     {
         Seat {
             board,
             reply,
-            replies: Vec::new(alloc),
-            taken: 0,
+            replies: Replies::new(alloc),
+            apart: [0; 16],
         }
+    }
+
+    /// Puts the next of its replies and a newline out. `Err` where there is none, or no memory.
+    pub(crate) fn put_next(&mut self, out: &mut Vec<u8>) -> Result<(), AllocError>
+        ensures put { OnOk result ((reply : List ℕ) × (untaken self.old ≡ reply ∷ untaken self.new)
+            × (out.new.items ≡ out.old.items ++ reply ++ 10 ∷ [])) }
+        ensures board { board_of self.new ≡ board_of self.old }
+    {
+        self.replies.put_next(out)
     }
 
     /// Its board, as the rounds that it ran have left it.
@@ -125,7 +107,7 @@ impl<B> Seat<B> {
             board,
             reply: _,
             replies: _,
-            taken: _,
+            apart: _,
         } = self;
         board
     }

@@ -42,27 +42,6 @@ impl<'a> Read for ChunkReader<'a> {
     }
 }
 
-/// Gives one newline a call, so many in all, and counts its calls.
-#[derive(Drop)]
-pub struct NewlineReader {
-    pub newlines: u32,
-    pub calls: u32,
-}
-
-impl Read for NewlineReader {
-    fn read(&mut self, buf: &mut [u8]) -> io::Result<usize> {
-        if buf.is_empty() {
-            return Ok(0);
-        }
-        self.calls = self.calls.wrapping_add(1);
-        if self.calls > self.newlines {
-            return Ok(0);
-        }
-        buf[0] = b'\n';
-        Ok(1)
-    }
-}
-
 /// Keeps what is written, a few bytes a call. Fails once after so many calls, and then goes on.
 #[derive(Drop)]
 pub struct FailingWriter {

@@ -1,28 +1,18 @@
--- Turns that may be answered so may be answered in every wider way.
-use Rattle.std.proofs.Common.{ℕ, List}
+-- What boards of the shared tree answer is of the form that each line wants.
+use Rattle.std.proofs.Common.{◌≡◌, ◌≢◌, ◌<◌, zero, suc, ℕ, List, [], ◌∷◌, ◌++◌, map, All, get_or, length, refl, sym, ap, subst, arith, eq-eqb, ne_eqb, if◌then◌else◌}
 use Rattle.std.specs.Prelude.{Option, None, Some}
+use Rattle.std.proofs.lemmas.List.Elements.{All-nil}
+use mathlib.Core.Logic.{dite}
+use native.Mathlib.Decide.{ℕ_discrete}
 use Rattle.kf_script.specs.Answers.{Step, AnswersRequest}
 use Rattle.kf_script.specs.Requests.{RequestWords, request_of}
-use Rattle.kf_rounds.specs.Kinds.{Kind, bad, ends_round, of_seat}
+use Rattle.kf_rounds.specs.Kinds.{Kind, bad, ends_round, of_seat, commands_of, own_command, kinds_by}
+use Rattle.kf_rounds.specs.Turns.{Turn, kind_in, own_reply, replies_of, IsFixed, HasFixed, Tells, Replied as RepliedBy}
 use Rattle.kf_workers.specs.Replies.{Suits, Answers, AnswersTo}
-use Rattle.kf_rounds.specs.Turns.{IsReply, MayReply, RepliedAfter}
+use Rattle.kf_workers.specs.Replied.{MayReply, IsTurn, Replied}
 
-module _ (may wider : List ℕ → List ℕ → Type 0) (widens : (command reply : List ℕ) → may command reply → wider command reply) where
-  reply_wider : (kind : Kind) (reply : List ℕ) → IsReply may kind reply → IsReply wider kind reply
-  reply_wider bad reply is = is
-  reply_wider ends_round reply is = is
-  reply_wider (of_seat seat command) reply is = widens command reply is
-
-  pub replied_wider : (workers : ℕ) (lines : List (List ℕ)) (old new : List ℕ) → RepliedAfter may workers lines old new → RepliedAfter wider workers lines old new
-  replied_wider workers lines old new was = record {
-    turns = was.turns;
-    lines_are = was.lines_are;
-    each = λ at turn near. reply_wider _ _ (was.each at turn near);
-    bytes_are = was.bytes_are;
-  }
-
--- a board whose replies suit their requests answers lines so
-module _ {Board : Type 0} where
+module _ (Board : Type 0) where
+  -- a board whose replies suit their requests
   abbrev pub suits : Step Board
   suits before request starved reply now = Suits request reply
 
@@ -30,5 +20,63 @@ module _ {Board : Type 0} where
   answers_to before now None starved reply said = said.1
   answers_to before now (Some request) starved reply said = said
 
-  pub suits_answers : (command reply : List ℕ) → MayReply suits command reply → Answers command reply
-  suits_answers command reply may = answers_to may.0 may.1 (request_of command) may.2 reply may.3
+  all_turns : (t : Turn) (turns : List Turn) → IsTurn t → All IsTurn turns → All IsTurn (t ∷ turns)
+  all_turns t turns here later zero d near = here
+  all_turns t turns here later (suc k) d near = later k d (omega arith)
+
+  own_command_is : (w : ℕ) (command : List ℕ) → own_command w (of_seat w command) ≡ command ∷ []
+  own_command_is w command = ap (λ b. if b then command ∷ [] else []) (eq-eqb w w refl)
+
+  own_reply_is : (w : ℕ) (command reply : List ℕ) → own_reply w (of_seat w command) reply ≡ reply ∷ []
+  own_reply_is w command reply = ap (λ b. if b then reply ∷ [] else []) (eq-eqb w w refl)
+
+  no_command : (w who : ℕ) (command : List ℕ) → who ≢ w → own_command who (of_seat w command) ≡ []
+  no_command w who command ne = ap (λ b. if b then command ∷ [] else []) (ne_eqb w who (λ e. ne (sym e)))
+
+  no_reply : (w who : ℕ) (command reply : List ℕ) → who ≢ w → own_reply who (of_seat w command) reply ≡ []
+  no_reply w who command reply ne = ap (λ b. if b then reply ∷ [] else []) (ne_eqb w who (λ e. ne (sym e)))
+
+  -- some board answered these commands so
+  abbrev Ran : List (List ℕ) → List (List ℕ) → Type 0
+  Ran commands replies = (before now : Board) × Tells suits before commands replies now
+
+  first_answers : (c r : List ℕ) (cs rs : List (List ℕ)) → Ran (c ∷ cs) (r ∷ rs) → Answers c r
+  first_answers c r cs rs t = answers_to t.0 t.2.0 (request_of c) t.2.1 r t.2.2
+
+  others_answer : (c r : List ℕ) (cs rs : List (List ℕ)) → Ran (c ∷ cs) (r ∷ rs) → Ran cs rs
+  others_answer c r cs rs t = (t.2.0, t.1, t.2.3)
+
+  -- the turns of seat `w` in front are its own
+  own_front : (w : ℕ) (c r : List ℕ) (cs rs : List (List ℕ)) → Ran (own_command w (of_seat w c) ++ cs) (own_reply w (of_seat w c) r ++ rs) → Ran (c ∷ cs) (r ∷ rs)
+  own_front w c r cs rs t = subst (λ a. Ran (a ++ cs) (r ∷ rs)) (own_command_is w c) (subst (λ a. Ran (own_command w (of_seat w c) ++ cs) (a ++ rs)) (own_reply_is w c r) t)
+
+  others_front : (w who : ℕ) (c r : List ℕ) (cs rs : List (List ℕ)) → Ran (own_command who (of_seat w c) ++ cs) (own_reply who (of_seat w c) r ++ rs) → Ran cs rs
+  others_front w who c r cs rs t = dite (ℕ_discrete who w)
+      (λ same. others_answer c r cs rs (own_front w c r cs rs (subst (λ v. Ran (own_command v (of_seat w c) ++ cs) (own_reply v (of_seat w c) r ++ rs)) same t)))
+      (λ ne. subst (λ a. Ran (a ++ cs) rs) (no_command w who c ne) (subst (λ a. Ran (own_command who (of_seat w c) ++ cs) (a ++ rs)) (no_reply w who c r ne) t))
+
+  first_turn : (kind : Kind) (reply : List ℕ) (cs rs : ℕ → List (List ℕ)) → IsFixed kind reply → ((who : ℕ) → Ran (own_command who kind ++ cs who) (own_reply who kind reply ++ rs who))
+      → MayReply kind reply × ((who : ℕ) → Ran (cs who) (rs who))
+  first_turn bad reply cs rs fixed told = (fixed, told)
+  first_turn ends_round reply cs rs fixed told = (fixed, told)
+  first_turn (of_seat w c) reply cs rs fixed told = (
+    first_answers c reply (cs w) (rs w) (own_front w c reply (cs w) (rs w) (told w)),
+    λ who. others_front w who c reply (cs who) (rs who) (told who),
+  )
+
+  each_turn : (turns : List Turn) → All HasFixed turns → ((who : ℕ) → Ran (commands_of who (map kind_in turns)) (replies_of who turns)) → All IsTurn turns
+  each_turn [] fixed told = All-nil IsTurn
+  each_turn (t ∷ turns) fixed told =
+      let first = first_turn t.kind t.reply (λ who. commands_of who (map kind_in turns)) (λ who. replies_of who turns) (fixed 0 t (omega arith)) told in
+      all_turns t turns first.0 (each_turn turns (λ k d near. fixed (suc k) d (omega arith)) first.1)
+
+  pub replied_so : (workers : ℕ) (lines : List (List ℕ)) (before now : List Board) (bytes : List ℕ) → 0 < length before
+      → RepliedBy suits (kinds_by workers lines) before now [] bytes → Replied workers lines bytes
+  replied_so workers lines [] now bytes some was = absurd (omega arith)
+  replied_so workers lines (d ∷ before) now bytes some was = record {
+    turns = was.turns;
+    kinds_are = was.kinds_are;
+    each = each_turn was.turns was.fixed (λ who. (get_or (d ∷ before) who d, get_or now who d,
+        subst (λ ks. Tells suits (get_or (d ∷ before) who d) (commands_of who ks) (replies_of who was.turns) (get_or now who d)) (sym was.kinds_are) (was.ran who d)));
+    bytes_are = was.bytes_are;
+  }

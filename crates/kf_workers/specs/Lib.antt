@@ -2,4 +2,5 @@ pub mod Told
 pub mod Replies
 pub mod TextAnswers
 pub mod Serving
+pub mod Replied
 pub mod RanWhole

@@ -23,7 +23,7 @@ mod removing;
 const FILES: usize = 26;
 
 /// The board of one who runs lines on a shared tree: its open files by letter, its tokens of hidden files by
-/// slot, and a handle of its own of the event numbers.
+/// slot, and a handle of its own of the event numbers. What a file gives is read into a page of its own.
 ///
 /// It must be spent, by [`WorkerBoard::end`], which gives all its holds back.
 pub struct WorkerBoard<'x, W: WaitOps, N: Naming, R: Wait> {
@@ -32,7 +32,9 @@ pub struct WorkerBoard<'x, W: WaitOps, N: Naming, R: Wait> {
     posts: Posts,
     files: Vec<Option<WaitingFile<N>>>,
     tokens: Vec<Option<Token<N>>>,
+    page: Vec<u8>,
     ghost letters: { vec_len files ≡ 26 },
+    ghost whole_page: { vec_len page ≡ 4096 },
 }
 
 /// No file under any of the 26 letters.
@@ -66,6 +68,7 @@ impl<'x, W: WaitOps, N: Naming, R: Wait> WorkerBoard<'x, W, N, R> {
         posts: Posts,
         limits: Limits,
     ) -> Result<WorkerBoard<'x, W, N, R>, Refusal> {
+        let page = vec![in alloc; 0; 4096]?;
         let files = no_files(alloc)?;
         match no_tokens(alloc, limits.slots()) {
             Ok(tokens) => Ok(WorkerBoard {
@@ -74,6 +77,7 @@ impl<'x, W: WaitOps, N: Naming, R: Wait> WorkerBoard<'x, W, N, R> {
                 posts,
                 files,
                 tokens,
+                page,
             }),
             Err(refusal) => {
                 ending::close_all(files);

@@ -1,6 +1,6 @@
 //! The texts of the files that a run makes.
 
-ghost use Rattle.std.specs.Prelude.{◌≡◌, ◌<◌, ◌≤◌, [], length, true, IfErr};
+ghost use Rattle.std.specs.Prelude.{◌≡◌, ◌<◌, ◌≤◌, [], length, true, IfErr, IfOk, vec_len};
 ghost use Rattle.kf_core.specs.declared.caller.Phase.TheVariants.{Running};
 ghost use Rattle.kf_core.specs.declared.refusal.Refusal.TheVariants.{NoMemory};
 ghost use Rattle.kf_core.specs.Phases.{has_reference};
@@ -12,18 +12,31 @@ use kf_core::Refusal;
 use kf_files::{Fault, Page, WaitOps};
 use kf_shared::{Naming, SharedTree};
 use kf_words::Call;
-use std::alloc::Global;
+use std::alloc::{AllocError, Global};
 use std::collections::BTreeMap;
 use std::sync::{Mutex, Wait};
 
+/// How many shelves there are. Tags are given one after the other, so files that are made after one another
+/// lie on different shelves.
+const SHELVES: u64 = 256;
+
+/// The texts of some of the tags, behind a lock of their own.
+#[derive(Drop)]
+struct Shelf {
+    texts: Mutex<BTreeMap<u64, Vec<u8>>>,
+    // Two cache lines between the locks of two shelves, which different threads take at once.
+    apart: [u64; 16],
+}
+
 /// The texts of files by tag, and the callbacks that show and store them. Any number of threads may share it.
 ///
-/// Its lock is held only while a text is copied, put in place or let go; nobody waits meanwhile for anything
-/// else.
+/// A text lies on the shelf of its tag. A shelf's lock is held only while a text is copied, put in place or
+/// let go; nobody waits meanwhile for anything else, and nobody takes two of these locks.
 #[derive(Drop)]
 pub struct Texts {
     alloc: Global,
-    texts: Mutex<BTreeMap<u64, Vec<u8>>>,
+    shelves: Vec<Shelf>,
+    ghost all: { vec_len shelves ≡ 256 },
 }
 
 /// No file has this tag.
@@ -45,15 +58,42 @@ fn fill(page: &mut Page, text: &[u8]) {
     let _ = page.try_extend_from_slice(&text[..end]);
 }
 
+impl Shelf {
+    /// No text.
+    fn new(alloc: Global) -> Shelf {
+        Shelf {
+            texts: Mutex::new(BTreeMap::new(alloc)),
+            apart: [0; 16],
+        }
+    }
+}
+
+/// All shelves, without any text.
+fn new_shelves(alloc: Global) -> Result<Vec<Shelf>, AllocError>
+    ensures { IfOk result (λ shelves. vec_len shelves ≡ 256) }
+{
+    let mut shelves = Vec::with_capacity(alloc, SHELVES as usize)?;
+    for made in 0..SHELVES {
+        prove!(made < SHELVES);
+        shelves.push_reserved(Shelf::new(alloc));
+    }
+    Ok(shelves)
+}
+
 impl Texts {
     /// No text of any file. `NoMemory` where it could not be had.
     pub fn new(alloc: Global) -> Result<Texts, Refusal>
         ensures refused { IfErr result (λ refusal. refusal ≡ NoMemory) }
     {
-        Ok(Texts {
-            alloc,
-            texts: Mutex::new(BTreeMap::new(alloc)),
-        })
+        match new_shelves(alloc) {
+            Ok(shelves) => Ok(Texts { alloc, shelves }),
+            Err(_) => Err(Refusal::NoMemory),
+        }
+    }
+
+    /// The texts among which that of a tag lies.
+    fn shelf(&self, tag: u64) -> &Mutex<BTreeMap<u64, Vec<u8>>> {
+        &self.shelves[(tag % SHELVES) as usize].texts
     }
 }
 
@@ -84,7 +124,7 @@ impl WaitOps for Texts {
     {
         let _ = tree;
         let _ = call;
-        let texts = self.texts.lock(rt);
+        let texts = self.shelf(tag).lock(rt);
         match texts.get(&tag) {
             Some(text) => {
                 fill(page, text.as_slice());
@@ -118,7 +158,7 @@ impl WaitOps for Texts {
         let Ok(copy) = bytes.to_vec(self.alloc) else {
             return Err(no_memory());
         };
-        let mut texts = self.texts.lock(rt);
+        let mut texts = self.shelf(tag).lock(rt);
         match texts.get_mut(&tag) {
             Some(text) => {
                 *text = copy;
@@ -134,7 +174,7 @@ impl WaitOps for Texts {
         let Ok(copy) = bytes.to_vec(self.alloc) else {
             return Err(no_memory());
         };
-        match self.texts.lock(rt).insert(tag, copy) {
+        match self.shelf(tag).lock(rt).insert(tag, copy) {
             Ok(_earlier) => Ok(()),
             Err(_) => Err(no_memory()),
         }

@@ -185,7 +185,7 @@ impl Nodes {
         }
         let keys = self.state.post_order(key)?;
         let first = pin_each(&mut self.world, keys.as_slice())?;
-        if let Err(refusal) = self.state.doom(key) {
+        if let Err(refusal) = self.state.doom_in_order(key, &keys) {
             release_from(&mut self.world, first, keys.len());
             return Err(refusal);
         }

@@ -25,6 +25,7 @@ impl<W: WaitOps, N: Naming, R: Wait> WorkerBoard<'_, W, N, R> {
             posts: _,
             files,
             mut tokens,
+            page: _,
         } = self;
         close_all(files);
         while let Some(place) = tokens.pop() {

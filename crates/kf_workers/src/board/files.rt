@@ -1,9 +1,10 @@
 //! The requests on open files, and notify.
 
-ghost use Rattle.std.specs.Prelude.{◌≡◌, ◌<◌, IfOk, OnOk};
+ghost use Rattle.std.specs.Prelude.{◌≡◌, ◌<◌, IfOk, OnOk, length};
 ghost use Rattle.kf_workers.specs.Replies.{AreBytes, IsCount};
 
 use super::WorkerBoard;
+use crate::common::Common;
 use crate::tell::tell_read;
 use kf_core::{Key, Node, Refusal};
 use kf_files::{WaitOps, WaitingFile, Want};
@@ -18,6 +19,25 @@ use std::sync::Wait;
 pub fn close_file<N: Naming>(file: WaitingFile<N>) {
     let (hold, _post) = file.close();
     hold.release();
+}
+
+/// Reads a file from an offset on, through a page: puts the bytes, at most 4,096, into the reply, or why there
+/// are none.
+fn read_through<W: WaitOps, N: Naming, R: Wait>(
+    rt: &R,
+    common: &Common<'_, W, N>,
+    opened: &mut WaitingFile<N>,
+    offset: u64,
+    most: usize,
+    page: &mut [u8],
+    reply: &mut Reply,
+)
+    requires page { length page.old ≡ 4096 }
+    ensures { AreBytes most reply.new }
+{
+    let out = &mut page[..most.min(4096)];
+    let told = opened.read(rt, &common.tree, &common.serving(), offset, out);
+    tell_read(reply, told, out);
 }
 
 impl<W: WaitOps, N: Naming, R: Wait> WorkerBoard<'_, W, N, R> {
@@ -104,11 +124,8 @@ impl<W: WaitOps, N: Naming, R: Wait> WorkerBoard<'_, W, N, R> {
         let Some(opened) = &mut self.files[file] else {
             return Err(Refusal::Invalid);
         };
-        let mut page = [0u8; 4096];
-        let out = &mut page[..most.min(4096)];
-        let serving = self.common.serving();
-        let told = opened.read(self.rt, &self.common.tree, &serving, offset, out);
-        tell_read(reply, told, out);
+        let page = self.page.as_mut_slice();
+        read_through(self.rt, self.common, opened, offset, most, page, reply);
         Ok(())
     }
 

@@ -34,10 +34,13 @@ impl<W: WaitOps, N: Naming, R: Wait> WorkerBoard<'_, W, N, R> {
         }
     }
 
-    /// Hides the file at a path, waits for the callbacks there, and keeps its token.
+    /// Hides the file at a path, waits for the callbacks there, and keeps its token. What the path named is
+    /// found, held and hidden in one turn of the tree lock.
     pub(super) fn hide(&mut self, path: &[u8]) -> Result<(), Refusal> {
-        let hold = self.hold_at(path)?;
-        match self.common.tree.hide(self.rt, hold) {
+        let mut editor = self.common.tree.edit(self.rt);
+        let key = editor.state().walk(path)?;
+        let hold = editor.hold(key)?;
+        match editor.hide_and_wait(self.rt, hold) {
             Ok(hidden) => {
                 self.keep(Token::new(hidden));
                 Ok(())

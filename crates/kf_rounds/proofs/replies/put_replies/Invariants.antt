@@ -1,10 +1,12 @@
-use Rattle.std.proofs.Common.{map, take, drop}
-use Rattle.kf_rounds.specs.Turns.{MayReply, EachTells, RepliedAfter}
-use Rattle.kf_rounds.specs.Seats.{untakens}
+use Rattle.std.proofs.Common.{◌≡◌, map, take}
+use Rattle.kf_rounds.specs.KindViews.{kind_view}
+use Rattle.kf_rounds.specs.Turns.{PutOut}
+use Rattle.kf_rounds.specs.Seats.{boards, untakens}
 use Rattle.kf_rounds.proofs.replies.put_replies.Given as goal
 
--- the lines so far have their replies, and what is left to say answers those that are left
-abbrev pub invariant-loop-line : goal.invariant-loop-line
-invariant-loop-line g l =
-    RepliedAfter (MayReply g.B.Board.step) l.workers (take l.line-index (map (λ line. line.now) l.lines)) l.fn.out.items l.out.items
-    × EachTells (MayReply g.B.Board.step) l.workers (drop l.line-index (map (λ line. line.now) l.lines)) (untakens l.seats)
+-- the lines so far have their replies
+abbrev pub invariant-loop-kind : goal.invariant-loop-kind
+invariant-loop-kind g l = record {
+  put : PutOut (map kind_view (take l.kind-index l.kinds)) (untakens l.fn.seats) (untakens l.seats) l.fn.out.items l.out.items;
+  boards : boards l.seats ≡ boards l.fn.seats;
+}

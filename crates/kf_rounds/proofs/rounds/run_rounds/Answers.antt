@@ -1,18 +1,24 @@
 use Rattle.std.proofs.Common.{◌≡◌, ◌+◌, ◌++◌, ◌∙◌, List, ℕ, [], map, take, length, subst, sym, ap}
-use Rattle.kf_rounds.specs.Turns.{MayReply, RepliedAfter}
-use Rattle.kf_rounds.proofs.Turning.{more_turns, map_take}
 use mathlib.Core.List.{map-append}
-use denote.Bor.{Bor}
+use Rattle.kf_rounds.specs.Kinds.{Kind}
+use Rattle.kf_rounds.specs.KindViews.{kind_view}
+use Rattle.kf_rounds.specs.Seats.{boards}
+use Rattle.kf_rounds.specs.Turns.{Replied}
+use Rattle.kf_rounds.specs.declared.kind.LineKind.{LineKind}
+use Rattle.kf_rounds.proofs.Turning.{replied_round, replied_more}
 use Rattle.kf_rounds.proofs.rounds.run_rounds.Goals as goal
 
 pub loop-from-preserved : goal.loop-from-preserved
 loop-from-preserved g c =
-    let now : Bor (List ℕ) → List ℕ = λ line. line.now in
-    let lines : List (List ℕ) = map now c.in_ok-lines.lines.items in
-    let count : ℕ = length c.round_at-round.result.now in
-    let all : List (Bor (List ℕ)) = c.in_ok-lines.lines.items in
-    let there : take (c.loop-from.from + count) all ≡ take c.loop-from.from all ++ c.round_at-round.result.now = subst (λ l. take (c.loop-from.from + count) l ≡ take c.loop-from.from l ++ c.round_at-round.result.now) c.as_slice.ensures.value c.round_at-round.ensures.there in
-    let same : take (c.loop-from.from + count) lines ≡ take c.loop-from.from lines ++ map now c.round_at-round.result.now =
-    map_take now (c.loop-from.from + count) all ∙ ap (map now) there ∙ map-append now (take c.loop-from.from all) c.round_at-round.result.now ∙ ap (λ l. l ++ map now c.round_at-round.result.now) (sym (map_take now c.loop-from.from all)) in
-    subst (λ l. RepliedAfter (MayReply g.B.Board.step) c.args.workers l [] c.put_replies.new.out.items) (sym same)
-    (more_turns (MayReply g.B.Board.step) c.args.workers (take c.loop-from.from lines) (map now c.round_at-round.result.now) [] c.loop-from.out.items c.put_replies.new.out.items c.loop-from.invariant c.in_ok-put_replies.ensures)
+    let step = g.B.Board.step in
+    let kinds : List LineKind = c.in_ok-kinds.kinds.items in
+    let from : ℕ = c.loop-from.from in
+    let round : List LineKind = c.round_at-round.result.now in
+    let there : take (from + length round) kinds ≡ take from kinds ++ round =
+    subst (λ l. take (from + length round) l ≡ take from l ++ round) c.as_slice.ensures.value c.round_at-round.ensures.there in
+    let more : map kind_view (take (from + length round) kinds) ≡ map kind_view (take from kinds) ++ map kind_view round =
+    ap (map kind_view) there ∙ map-append kind_view (take from kinds) round in
+    let this = subst (λ bs. Replied step (map kind_view round) (boards c.loop-from.seats) bs c.loop-from.out.items c.put_replies.new.out.items) (sym c.put_replies.ensures.boards)
+    (replied_round step (map kind_view round) (boards c.loop-from.seats) (boards c.run_round.new.seats) _ _ c.loop-from.out.items c.put_replies.new.out.items c.run_round.ensures.told c.in_ok-put_replies.ensures.put) in
+    subst (λ ks. Replied step ks (boards c.args.seats.now) (boards c.put_replies.new.seats) [] c.put_replies.new.out.items) (sym more)
+    (replied_more step (map kind_view (take from kinds)) (map kind_view round) (boards c.args.seats.now) (boards c.loop-from.seats) (boards c.put_replies.new.seats) [] c.loop-from.out.items c.put_replies.new.out.items c.loop-from.invariant this)

@@ -9,9 +9,9 @@ pub returns-in-Some : goal.returns-in-Some
 returns-in-Some g c =
     let (starved, answered) = c.answer.ensures in
     let asks = subst (λ found. option_map request_words found ≡ request_of c.args.line.now) c.in-Some.is c.parse.ensures.value in
-    (c.args.board.now, c.answer.new.self, starved, subst (λ asked. AnswersRequest g.B.Board.step c.args.board.now asked starved c.answer.new.reply c.answer.new.self) asks answered)
+    (starved, subst (λ asked. AnswersRequest g.B.Board.step c.args.board.now asked starved c.answer.new.reply c.answer.new.self) asks answered)
 
 pub returns-in-None : goal.returns-in-None
 returns-in-None g c =
     let asks = subst (λ found. option_map request_words found ≡ request_of c.args.line.now) c.in-None.is c.parse.ensures.value in
-    (c.args.board.now, c.args.board.now, false, subst (λ asked. AnswersRequest g.B.Board.step c.args.board.now asked false c.set_bad_line.new.self c.args.board.now) asks (refl, c.set_bad_line.ensures, refl))
+    (false, subst (λ asked. AnswersRequest g.B.Board.step c.args.board.now asked false c.set_bad_line.new.self c.args.board.now) asks (refl, c.set_bad_line.ensures, refl))

@@ -43,8 +43,8 @@ release_from-requires-clause-held c = may_all_release c.self.inside.world c.pin_
 
 pub returns-in-Err-clause-refused : goal.returns-in-Err-clause-refused
 returns-in-Err-clause-refused c =
-    subst (λ n. RefusedSo n c.args.key c.in-Err.refusal (nodes_of c.doom.new.self c.release_from.new.world)) c.self.view_is
-    (doom_refused c.self.inside.state c.doom.new.self c.self.inside.world c.release_from.new.world c.args.key c.as_slice.result.now c.in-Err.refusal c.in-Err.ensures.refused.named c.in-Err.ensures.refused.unchanged
+    subst (λ n. RefusedSo n c.args.key c.in-Err.refusal (nodes_of c.doom_in_order.new.self c.release_from.new.world)) c.self.view_is
+    (doom_refused c.self.inside.state c.doom_in_order.new.self c.self.inside.world c.release_from.new.world c.args.key c.as_slice.result.now c.in-Err.refusal c.in-Err.ensures.refused.named c.in-Err.ensures.refused.unchanged
     (given_back c.self.inside.world c.pin_each.new.world c.as_slice.result.now c.in_ok-first.first c.in_ok-first.ensures.held c.in_ok-first.ensures.number c.release_from.new.world c.release_from.ensures.released))
 
 pub doom_each-requires-clause-different : goal.doom_each-requires-clause-different
@@ -59,7 +59,7 @@ take_out_each-requires-clause-same c =
     let keys = c.in_ok-keys.keys.items in
     let held = c.in_ok-first.ensures.held ∙ ap (λ ks. with_callers w (w.world.callers ++ map still_on ks)) c.as_slice.ensures.value in
     let doomed = subst (λ ks. Changed doomed_if ks c.pin_each.new.world.world c.doom_each.new.world.world) c.as_slice-2.ensures.value c.doom_each.ensures.doomed in
-    same_after c.self.inside.state w c.args.key keys c.self.invariant.0 c.in_ok-keys.ensures.ordered c.doom.new.self c.pin_each.new.world c.doom_each.new.world c.in_ok-first.first held c.in_ok-first.ensures.number
+    same_after c.self.inside.state w c.args.key keys c.self.invariant.0 c.in_ok-keys.ensures.ordered c.doom_in_order.new.self c.pin_each.new.world c.doom_each.new.world c.in_ok-first.first held c.in_ok-first.ensures.number
     (logs c.in_default.ensures.accepted) doomed c.doom_each.ensures.only
 
 pub take_out_each-requires-clause-doomed : goal.take_out_each-requires-clause-doomed
@@ -68,7 +68,7 @@ take_out_each-requires-clause-doomed c =
     let keys = c.in_ok-keys.keys.items in
     let held = c.in_ok-first.ensures.held ∙ ap (λ ks. with_callers w (w.world.callers ++ map still_on ks)) c.as_slice.ensures.value in
     let doomed = subst (λ ks. Changed doomed_if ks c.pin_each.new.world.world c.doom_each.new.world.world) c.as_slice-2.ensures.value c.doom_each.ensures.doomed in
-    all_doomed c.self.inside.state w c.args.key keys c.self.invariant.0 c.in_ok-keys.ensures.ordered c.doom.new.self c.pin_each.new.world c.doom_each.new.world c.in_ok-first.first held c.in_ok-first.ensures.number
+    all_doomed c.self.inside.state w c.args.key keys c.self.invariant.0 c.in_ok-keys.ensures.ordered c.doom_in_order.new.self c.pin_each.new.world c.doom_each.new.world c.in_ok-first.first held c.in_ok-first.ensures.number
     (logs c.in_default.ensures.accepted) doomed c.doom_each.ensures.only c.as_slice-3.result.now c.as_slice-3.ensures.value
 
 pub take_out_each-requires-clause-different : goal.take_out_each-requires-clause-different
@@ -80,7 +80,7 @@ take_out_each-requires-clause-children c =
     let keys = c.in_ok-keys.keys.items in
     let held = c.in_ok-first.ensures.held ∙ ap (λ ks. with_callers w (w.world.callers ++ map still_on ks)) c.as_slice.ensures.value in
     let doomed = subst (λ ks. Changed doomed_if ks c.pin_each.new.world.world c.doom_each.new.world.world) c.as_slice-2.ensures.value c.doom_each.ensures.doomed in
-    all_children_first c.self.inside.state w c.args.key keys c.self.invariant.0 c.in_ok-keys.ensures.ordered c.doom.new.self c.pin_each.new.world c.doom_each.new.world c.in_ok-first.first held c.in_ok-first.ensures.number
+    all_children_first c.self.inside.state w c.args.key keys c.self.invariant.0 c.in_ok-keys.ensures.ordered c.doom_in_order.new.self c.pin_each.new.world c.doom_each.new.world c.in_ok-first.first held c.in_ok-first.ensures.number
     (logs c.in_default.ensures.accepted) doomed c.doom_each.ensures.only c.as_slice-3.result.now c.as_slice-3.ensures.value
 
 pub take_out_each-requires-clause-idle : goal.take_out_each-requires-clause-idle
@@ -89,7 +89,7 @@ take_out_each-requires-clause-idle c =
     let keys = c.in_ok-keys.keys.items in
     let held = c.in_ok-first.ensures.held ∙ ap (λ ks. with_callers w (w.world.callers ++ map still_on ks)) c.as_slice.ensures.value in
     let doomed = subst (λ ks. Changed doomed_if ks c.pin_each.new.world.world c.doom_each.new.world.world) c.as_slice-2.ensures.value c.doom_each.ensures.doomed in
-    all_idle c.self.inside.state w c.args.key keys c.self.invariant.0 c.in_ok-keys.ensures.ordered c.doom.new.self c.pin_each.new.world c.doom_each.new.world c.in_ok-first.first held c.in_ok-first.ensures.number
+    all_idle c.self.inside.state w c.args.key keys c.self.invariant.0 c.in_ok-keys.ensures.ordered c.doom_in_order.new.self c.pin_each.new.world c.doom_each.new.world c.in_ok-first.first held c.in_ok-first.ensures.number
     (logs c.in_default.ensures.accepted) doomed c.doom_each.ensures.only (subst (λ (n : Nodes). AllIdle n.callers) (sym c.self.view_is) c.requires.idle)
 
 pub invariant_of-self : goal.invariant_of-self
@@ -108,14 +108,14 @@ invariant_of-self-2 c =
     let keys = c.in_ok-keys.keys.items in
     let held = c.in_ok-first.ensures.held ∙ ap (λ ks. with_callers w (w.world.callers ++ map still_on ks)) c.as_slice.ensures.value in
     let doomed = subst (λ ks. Changed doomed_if ks c.pin_each.new.world.world c.doom_each.new.world.world) c.as_slice-2.ensures.value c.doom_each.ensures.doomed in (
-      tied_removed c.self.inside.state w c.args.key keys c.self.invariant.0 c.in_ok-keys.ensures.ordered c.doom.new.self c.pin_each.new.world c.doom_each.new.world c.in_ok-first.first held c.in_ok-first.ensures.number
+      tied_removed c.self.inside.state w c.args.key keys c.self.invariant.0 c.in_ok-keys.ensures.ordered c.doom_in_order.new.self c.pin_each.new.world c.doom_each.new.world c.in_ok-first.first held c.in_ok-first.ensures.number
           (logs c.in_default.ensures.accepted) doomed c.doom_each.ensures.only c.take_out_each.new.state c.take_out_each.new.world
-          (c.take_out_each.ensures.log ∙ ap (λ ks. logged c.doom.new.self (map Unlink ks)) c.as_slice-3.ensures.value)
+          (c.take_out_each.ensures.log ∙ ap (λ ks. logged c.doom_in_order.new.self (map Unlink ks)) c.as_slice-3.ensures.value)
           (subst (λ ks. Cleared ks c.doom_each.new.world.world c.take_out_each.new.world.world) c.as_slice-3.ensures.value c.take_out_each.ensures.cleared)
           c.take_out_each.ensures.last c.take_out_each.ensures.limit c.take_out_each.ensures.released c.take_out_each.ensures.kept c.take_out_each.ensures.same,
-      told_removed c.self.inside.state w c.args.key keys c.self.invariant.0 c.in_ok-keys.ensures.ordered c.doom.new.self c.pin_each.new.world c.doom_each.new.world c.in_ok-first.first held c.in_ok-first.ensures.number
+      told_removed c.self.inside.state w c.args.key keys c.self.invariant.0 c.in_ok-keys.ensures.ordered c.doom_in_order.new.self c.pin_each.new.world c.doom_each.new.world c.in_ok-first.first held c.in_ok-first.ensures.number
           (logs c.in_default.ensures.accepted) doomed c.doom_each.ensures.only c.take_out_each.new.state c.take_out_each.new.world
-          (c.take_out_each.ensures.log ∙ ap (λ ks. logged c.doom.new.self (map Unlink ks)) c.as_slice-3.ensures.value)
+          (c.take_out_each.ensures.log ∙ ap (λ ks. logged c.doom_in_order.new.self (map Unlink ks)) c.as_slice-3.ensures.value)
           (subst (λ ks. Cleared ks c.doom_each.new.world.world c.take_out_each.new.world.world) c.as_slice-3.ensures.value c.take_out_each.ensures.cleared)
           c.take_out_each.ensures.last c.take_out_each.ensures.limit c.take_out_each.ensures.released c.self.invariant.1,
     )
@@ -135,9 +135,9 @@ returns-clause-removed c =
       keys,
       subst (λ (n : Nodes). IsPostOrder n.log.tree c.args.key keys) c.self.view_is c.in_ok-keys.ensures.ordered,
       subst (λ (n : Nodes). nodes_of c.take_out_each.new.state c.take_out_each.new.world ≡ with_spent (record n { log = logged n.log (Doom c.args.key ∷ map Unlink keys) }) keys) c.self.view_is
-          (seen_removed c.self.inside.state w c.args.key keys c.self.invariant.0 c.in_ok-keys.ensures.ordered c.doom.new.self c.pin_each.new.world c.doom_each.new.world c.in_ok-first.first held c.in_ok-first.ensures.number
+          (seen_removed c.self.inside.state w c.args.key keys c.self.invariant.0 c.in_ok-keys.ensures.ordered c.doom_in_order.new.self c.pin_each.new.world c.doom_each.new.world c.in_ok-first.first held c.in_ok-first.ensures.number
           (logs c.in_default.ensures.accepted) doomed c.doom_each.ensures.only c.take_out_each.new.state c.take_out_each.new.world
-          (c.take_out_each.ensures.log ∙ ap (λ ks. logged c.doom.new.self (map Unlink ks)) c.as_slice-3.ensures.value)
+          (c.take_out_each.ensures.log ∙ ap (λ ks. logged c.doom_in_order.new.self (map Unlink ks)) c.as_slice-3.ensures.value)
           (subst (λ ks. Cleared ks c.doom_each.new.world.world c.take_out_each.new.world.world) c.as_slice-3.ensures.value c.take_out_each.ensures.cleared)
           c.take_out_each.ensures.last c.take_out_each.ensures.limit c.take_out_each.ensures.released),
     )
