@@ -86,7 +86,8 @@ ClaimedTo old new key = new.claims ≡ slice_set old.claims key.slot key.generat
 
 -- what becomes of a tree, of this table, that answers this
 abbrev pub Answered : TableId → Question → Locked → Locked → Reply → Type 0
-Answered table asks.Root old new reply = NamedOr (λ key. (key ≡ old.state.root) × (new ≡ old)) (λ why. ⊥) reply
+Answered table asks.Root old new reply =
+    NamedOr (λ key. (key ≡ old.state.root) × (new ≡ old)) (λ why. ⊥) reply
 Answered table (asks.Create parent name node live) old new reply =
     NamedOr (λ key. Created old new parent name.now node live key)
     (λ why. CreateRefused old new parent name.now node why × Unchanged old new) reply
@@ -100,7 +101,8 @@ Answered table (asks.Next dir after) old new reply =
     ListedOr (λ name. IsListing old.state.tree dir (bound_of after.now) 1 (name ∷ []) × (new ≡ old))
     (λ why. NextRefused old.state dir after.now why × (new ≡ old)) reply
 Answered table (asks.Tell key) old new reply =
-    ToldOr (λ stat. (option_map (stat_of old.state.tree) (record_at old.state.tree key) ≡ Some stat) × (new ≡ old))
+    ToldOr (λ stat. (option_map (stat_of old.state.tree) (record_at old.state.tree key) ≡ Some stat)
+    × (new ≡ old))
     (λ why. (record_at old.state.tree key ≡ None) × (why ≡ NoEntry) × (new ≡ old)) reply
 Answered table (asks.ReadLink key) old new reply =
     TextOr (λ text. HasLinkText old.state.tree old.state.root key text × (new ≡ old))
@@ -137,6 +139,13 @@ is_change (asks.Activate key) = true
 is_change (asks.Rename key dir name) = true
 is_change asks.Compact = true
 is_change other = false
+
+-- the questions that read
+abbrev pub is_reading : Question → Bool
+is_reading (asks.Next dir after) = true
+is_reading (asks.Tell key) = true
+is_reading (asks.ReadLink key) = true
+is_reading other = false
 
 -- ---- what lies behind the handle
 

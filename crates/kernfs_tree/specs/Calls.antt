@@ -8,11 +8,11 @@ use Rattle.kf_tree.specs.Causes.{linked_cause}
 use Rattle.kf_tree.specs.TreeLogs.{IsNew, IsAccepted, IsCompacted}
 use Rattle.kf_words.specs.Steps.{opened}
 use Rattle.kf_tree.specs.Paths.{found, walked}
-use Rattle.kf_shared.specs.Locked.{Created, IsHoldOfNode}
+use Rattle.kf_shared.specs.Locked.{Created, IsHoldOfNode, is_claimed}
 use Rattle.kernfs_tree.specs.declared.object.Object.{Object}
 use Rattle.kernfs_tree.specs.declared.replies.KtKey.{KtKey}
 use Rattle.kernfs_tree.specs.declared.object.Object.TheVariants as behind
-use Rattle.kernfs_tree.specs.Answers.{OfTrees, Moved}
+use Rattle.kernfs_tree.specs.Answers.{ClaimedTo, Moved, OfTrees}
 
 -- the key that a program has of a node
 abbrev pub key_in : KtKey → Key
@@ -26,17 +26,19 @@ CreatedIn old new parent name node live key =
 -- the name leads to this key from the directory, and the tree is as it was
 abbrev pub FoundIn : Object → Object → KtKey → List ℕ → KtKey → Type 0
 FoundIn old new dir name key =
-    OfTrees (λ before after. (found before.state.tree (key_in dir) name ≡ Ok (key_in key)) × (after ≡ before)) old new
+    OfTrees (λ before after. (found before.state.tree (key_in dir) name ≡ Ok (key_in key))
+    × (after ≡ before)) old new
 
 -- the path leads to this key, and the tree is as it was
 abbrev pub WalkedIn : Object → Object → List ℕ → KtKey → Type 0
 WalkedIn old new path key =
-    OfTrees (λ before after. (walked before.state.tree before.state.root path ≡ Ok (key_in key)) × (after ≡ before))
-    old new
+    OfTrees (λ before after. (walked before.state.tree before.state.root path ≡ Ok (key_in key))
+    × (after ≡ before)) old new
 
 -- the key is linked in the tree afterwards, or not
 abbrev pub IsLinkedIn : Object → Object → KtKey → Bool → Type 0
-IsLinkedIn old new key linked = OfTrees (λ before after. is_linked after.state.tree (key_in key) ≡ linked) old new
+IsLinkedIn old new key linked =
+    OfTrees (λ before after. is_linked after.state.tree (key_in key) ≡ linked) old new
 
 -- it is a new tree of the root alone, of so many slots and holds of each
 abbrev pub IsNewTree : ℕ → ℕ → Object → Type 0
@@ -61,8 +63,18 @@ ActivatedIn old new key = OfTrees (λ before after. IsAccepted before.state afte
 
 -- the node is in the directory under the name
 abbrev pub MovedIn : Object → Object → KtKey → KtKey → List ℕ → Type 0
-MovedIn old new key dir name = OfTrees (λ before after. Moved before after (key_in key) (key_in dir) name) old new
+MovedIn old new key dir name =
+    OfTrees (λ before after. Moved before after (key_in key) (key_in dir) name) old new
 
 -- the stored commands are the fewest that make this tree
 abbrev pub CompactedIn : Object → Object → Type 0
 CompactedIn old new = OfTrees (λ before after. IsCompacted before.state after.state) old new
+
+-- the removal of the node was claimed before, or not, and is now
+abbrev pub ClaimedIn : Object → Object → KtKey → Bool → Type 0
+ClaimedIn old new key before_this = OfTrees (λ before after.
+    (is_claimed before.claims (key_in key) ≡ before_this) × ClaimedTo before after (key_in key)) old new
+
+-- nothing lies there
+abbrev pub IsNothing : Object → Type 0
+IsNothing object = object ≡ behind.Empty

@@ -2,7 +2,7 @@
 ghost use Rattle.std.specs.Prelude.{◌≡◌, ◌≢◌, ◌⊎◌, pos, negsuc, false, true};
 ghost use Rattle.kf_core.specs.declared.key.Node.TheVariants as kind;
 ghost use Rattle.kernfs_tree.specs.Answers.{IsAsBefore};
-ghost use Rattle.kernfs_tree.specs.Calls.{key_in, CreatedIn, FoundIn, WalkedIn, IsLinkedIn, IsNewTree, HoldsNode, RootIn, ActivatedIn, MovedIn, CompactedIn};
+ghost use Rattle.kernfs_tree.specs.Calls.{key_in, CreatedIn, FoundIn, WalkedIn, IsLinkedIn, IsNewTree, HoldsNode, RootIn, ActivatedIn, MovedIn, CompactedIn, ClaimedIn, IsNothing};
 ghost use Rattle.kernfs_tree.specs.Steps.{WasEntered, WasRefused, WasLeft, WasBroken, WasRestored};
 
 use crate::handle::KtHandle;
@@ -26,7 +26,9 @@ pub extern "C" fn kt_delete(handle: KtHandle) -> i32 {
 
 /// Lets go of what lies behind a handle: a hold is released, and a call ended first.
 #[unsafe(no_mangle)]
-pub extern "C" fn kt_clear(handle: &mut KtHandle) -> i32 {
+pub extern "C" fn kt_clear(handle: &mut KtHandle) -> i32
+    ensures empty { IsNothing handle.new.place.object }
+{
     replies::clear(handle)
 }
 
@@ -48,7 +50,8 @@ pub extern "C" fn kt_create_root(
 #[unsafe(no_mangle)]
 pub extern "C" fn kt_root(tree: &mut KtHandle, out: &mut KtKey) -> i32
     ensures root { result ≡ pos 0 → RootIn tree.old.place.object tree.new.place.object out.new }
-    ensures kept { result ≢ pos 0 → IsAsBefore tree.old.place.object tree.new.place.object × (out.new ≡ out.old) }
+    ensures kept { result ≢ pos 0 →
+        IsAsBefore tree.old.place.object tree.new.place.object × (out.new ≡ out.old) }
 {
     replies::name(tree, Question::Root, out)
 }
@@ -93,7 +96,8 @@ pub extern "C" fn kt_create_file(
     out: &mut KtKey,
 ) -> i32
     ensures created { result ≡ pos 0 →
-        CreatedIn tree.old.place.object tree.new.place.object parent name.now (kind.File mode tag) live out.new }
+        CreatedIn tree.old.place.object tree.new.place.object parent name.now (kind.File mode tag) live
+        out.new }
     ensures kept { result ≢ pos 0 →
         IsAsBefore tree.old.place.object tree.new.place.object × (out.new ≡ out.old) }
 {
@@ -200,7 +204,9 @@ pub extern "C" fn kt_walk(tree: &mut KtHandle, path: &[u8], out: &mut KtKey) -> 
 
 /// The name of the first live child above a name, in byte order; of the first of all where it is empty.
 #[unsafe(no_mangle)]
-pub extern "C" fn kt_next(tree: &mut KtHandle, dir: KtKey, after: &[u8], out: &mut [u8]) -> i64 {
+pub extern "C" fn kt_next(tree: &mut KtHandle, dir: KtKey, after: &[u8], out: &mut [u8]) -> i64
+    ensures tree { IsAsBefore tree.old.place.object tree.new.place.object }
+{
     let dir = Key {
         slot: dir.slot,
         generation: dir.generation,
@@ -210,13 +216,18 @@ pub extern "C" fn kt_next(tree: &mut KtHandle, dir: KtKey, after: &[u8], out: &m
 
 /// What is told of a node.
 #[unsafe(no_mangle)]
-pub extern "C" fn kt_stat(tree: &mut KtHandle, key: KtKey, out: &mut KtStat) -> i32 {
+pub extern "C" fn kt_stat(tree: &mut KtHandle, key: KtKey, out: &mut KtStat) -> i32
+    ensures tree { IsAsBefore tree.old.place.object tree.new.place.object }
+    ensures kept { result ≢ pos 0 → out.new ≡ out.old }
+{
     replies::tell(tree, key_of(key), out)
 }
 
 /// The text of a link (`kernfs_get_target_path`).
 #[unsafe(no_mangle)]
-pub extern "C" fn kt_readlink(tree: &mut KtHandle, key: KtKey, out: &mut [u8]) -> i64 {
+pub extern "C" fn kt_readlink(tree: &mut KtHandle, key: KtKey, out: &mut [u8]) -> i64
+    ensures tree { IsAsBefore tree.old.place.object tree.new.place.object }
+{
     replies::text(tree, Question::ReadLink(key_of(key)), out)
 }
 
@@ -241,12 +252,16 @@ pub extern "C" fn kt_hold(tree: &mut KtHandle, key: KtKey, out: &mut KtHandle) -
 
 /// Claims the removal of a node by itself: 0, or 1 where it was claimed before.
 #[unsafe(no_mangle)]
-pub extern "C" fn kt_claim(tree: &mut KtHandle, key: KtKey) -> i32 {
-    replies::claim(tree, key_of(key))
+pub extern "C" fn kt_claim(tree: &mut KtHandle, key: KtKey) -> i32
+    ensures first { result ≡ pos 0 → ClaimedIn tree.old.place.object tree.new.place.object key false }
+    ensures again { result ≡ pos 1 → ClaimedIn tree.old.place.object tree.new.place.object key true }
+    ensures kept { result ≢ pos 0 → result ≢ pos 1 → IsAsBefore tree.old.place.object tree.new.place.object }
+{
+    replies::claim(tree, key)
 }
 
-/// Marks a node and all below it, and takes each of them out of the tree that nobody uses (`kernfs_remove`). 0
-/// where the node is out, -EAGAIN where it is not, since somebody is inside.
+/// Marks a node and all below it, and takes each of them out of the tree that nobody uses (`kernfs_remove`).
+/// 0 where the node is out, -EAGAIN where it is not, since somebody is inside.
 #[unsafe(no_mangle)]
 pub extern "C" fn kt_remove(tree: &mut KtHandle, key: KtKey) -> i32
     ensures gone { result ≡ pos 0 →
@@ -278,8 +293,8 @@ pub extern "C" fn kt_leave(call: &mut KtHandle) -> i32
     stepping::leave(call)
 }
 
-/// Gives the reference up inside the callback (`kernfs_break_active_protection`): 0, or 1 where one who removes
-/// may wait for that.
+/// Gives the reference up inside the callback (`kernfs_break_active_protection`): 0, or 1 where one who
+/// removes may wait for that.
 #[unsafe(no_mangle)]
 pub extern "C" fn kt_break(call: &mut KtHandle) -> i32
     ensures broken { (result ≡ pos 0) ⊎ (result ≡ pos 1) →

@@ -29,8 +29,8 @@ impl Place {
 }
 
 impl Object {
-    /// Lets go of it: a hold is released, and a call ended first. True where one who sleeps at the node of a call
-    /// may wait for that.
+    /// Lets go of it: a hold is released, and a call ended first. True where one who sleeps at the node of a
+    /// call may wait for that.
     pub fn end(self) -> bool {
         match self {
             Object::Call(inside) => inside.end(),

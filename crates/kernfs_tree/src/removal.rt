@@ -52,8 +52,8 @@ fn take_out<N: Naming>(locked: &mut Locked<N>, key: Key) {
     }
 }
 
-/// Marks a node and all below it, where it is not marked yet, and claims its removal: Done the first time, and
-/// else Not.
+/// Marks a node and all below it, where it is not marked yet, and claims its removal: Done the first time,
+/// and else Not.
 pub fn claim<N: Naming>(locked: &mut Locked<N>, key: Key) -> Reply
     ensures { DoneOr ((is_claimed locked.old.claims key ≡ false) × ClaimedTo locked.old locked.new key)
         ((is_claimed locked.old.claims key ≡ true) × ClaimedTo locked.old locked.new key)
@@ -83,7 +83,8 @@ fn is_linked<N: Naming>(locked: &Locked<N>, key: Key) -> bool
 /// Done where it is out of the tree, and Not where it is still there. A refusal comes before anything is
 /// marked or taken out.
 pub fn remove<N: Naming>(locked: &mut Locked<N>, key: Key) -> Reply
-    ensures { DoneOr (is_linked locked.new.state.tree key ≡ false) (is_linked locked.new.state.tree key ≡ true)
+    ensures { DoneOr (is_linked locked.new.state.tree key ≡ false)
+        (is_linked locked.new.state.tree key ≡ true)
         (λ why. Unchanged locked.old locked.new) result }
 {
     let Ok(stat) = locked.state().stat(key) else {

@@ -1,7 +1,7 @@
 //! What the calls of a program do to what lies behind its handles, and the numbers that they answer.
 ghost use Rattle.std.specs.Prelude.{◌≡◌, ◌≢◌, true, false, pos, negsuc};
-ghost use Rattle.kernfs_tree.specs.Answers.{Answered, AnsweredBehind, OfTrees, IsAsBefore, is_naming, is_change};
-ghost use Rattle.kernfs_tree.specs.Calls.{IsNewTree, HoldsNode, IsLinkedIn};
+ghost use Rattle.kernfs_tree.specs.Answers.{Answered, AnsweredBehind, OfTrees, IsAsBefore, is_change, is_naming, is_reading};
+ghost use Rattle.kernfs_tree.specs.Calls.{IsNewTree, HoldsNode, IsLinkedIn, ClaimedIn, IsNothing};
 ghost use Rattle.kernfs_tree.specs.declared.questions.Reply.TheVariants as told;
 
 use crate::answers::ask_object;
@@ -117,7 +117,10 @@ pub fn remove(handle: &mut KtHandle, key: KtKey) -> i32
 }
 
 /// Asks what is told of a node, and writes it.
-pub fn tell(handle: &mut KtHandle, key: Key, out: &mut KtStat) -> i32 {
+pub fn tell(handle: &mut KtHandle, key: Key, out: &mut KtStat) -> i32
+    ensures tree { IsAsBefore handle.old.place.object handle.new.place.object }
+    ensures kept { result ≢ pos 0 → out.new ≡ out.old }
+{
     match replace_with(handle, Question::Tell(key), ask_handle) {
         Reply::Told(stat) => {
             *out = told_of(stat);
@@ -169,7 +172,10 @@ fn copied(bytes: &[u8], out: &mut [u8]) -> i64 {
 }
 
 /// Asks for a text or a name, and copies it.
-pub fn text(handle: &mut KtHandle, question: Question<'_>, out: &mut [u8]) -> i64 {
+pub fn text(handle: &mut KtHandle, question: Question<'_>, out: &mut [u8]) -> i64
+    requires { is_reading question ≡ true }
+    ensures tree { IsAsBefore handle.old.place.object handle.new.place.object }
+{
     match replace_with(handle, question, ask_handle) {
         Reply::Text(text) => copied(text.as_slice(), out),
         Reply::Listed(name) => copied(name.bytes(), out),
@@ -179,8 +185,16 @@ pub fn text(handle: &mut KtHandle, question: Question<'_>, out: &mut [u8]) -> i6
 }
 
 /// Claims the removal of a node by itself: 0, or 1 where it was claimed before.
-pub fn claim(handle: &mut KtHandle, key: Key) -> i32 {
-    match replace_with(handle, Question::Claim(key), ask_handle) {
+pub fn claim(handle: &mut KtHandle, key: KtKey) -> i32
+    ensures first { result ≡ pos 0 →
+        ClaimedIn handle.old.place.object handle.new.place.object key false }
+    ensures again { result ≡ pos 1 →
+        ClaimedIn handle.old.place.object handle.new.place.object key true }
+    ensures kept { result ≢ pos 0 → result ≢ pos 1 →
+        IsAsBefore handle.old.place.object handle.new.place.object }
+{
+    let question = Question::Claim(key_of(key));
+    match replace_with(handle, question, ask_handle) {
         Reply::Done => 0,
         Reply::Not => 1,
         Reply::Refused(refusal) => error_of(refusal),
@@ -254,19 +268,25 @@ pub fn make_tree(alloc: Global, handle: &mut KtHandle, slots: u32, holds: u32) -
     }
 }
 
-fn end(object: Object, _nothing: ()) -> (Object, i32) {
+fn end(object: Object, _nothing: ()) -> (Object, i32)
+    ensures { IsNothing result.0 }
+{
     let wanted = object.end();
     (Object::Empty, if wanted { 1 } else { 0 })
 }
 
-fn end_handle(handle: KtHandle, nothing: ()) -> (KtHandle, i32) {
+fn end_handle(handle: KtHandle, nothing: ()) -> (KtHandle, i32)
+    ensures { IsNothing result.0.place.object }
+{
     let mut boxed = handle.into_box();
     let answer = replace_with(&mut boxed.as_mut().object, nothing, end);
     (KtHandle::of(boxed), answer)
 }
 
 /// Lets go of what lies behind a handle: 1 where one who sleeps may wait for that.
-pub fn clear(handle: &mut KtHandle) -> i32 {
+pub fn clear(handle: &mut KtHandle) -> i32
+    ensures { IsNothing handle.new.place.object }
+{
     replace_with(handle, (), end_handle)
 }
 

@@ -1,5 +1,5 @@
-//! A box taken apart into its pointer and its allocator, which the module above reaches. What the box owned, they
-//! own.
+//! A box taken apart into its pointer and its allocator, which the module above reaches. What the box owned,
+//! they own.
 ghost use Rattle.std.specs.Prelude.{◌≡◌};
 ghost use Rattle.std.specs.Box.Ownership.{box_owns};
 
