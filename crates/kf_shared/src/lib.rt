@@ -16,6 +16,7 @@ mod under_way;
 
 pub use editor::Editor;
 pub use laws::running_tree;
+pub use locked::Locked;
 pub use naming::Naming;
 pub use tree::{NewTree, SharedTree};
 pub use under_way::Removing;

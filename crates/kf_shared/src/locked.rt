@@ -152,7 +152,7 @@ impl<N: Naming> Locked<N> {
     }
 
     /// Claims the removal of a node by itself. False where it was claimed before.
-    pub(crate) fn claim(&mut self, key: Key) -> bool
+    pub fn claim(&mut self, key: Key) -> bool
         ensures first { result ≡ not (is_claimed self.old.claims key) }
         ensures claimed { self.new.claims ≡ slice_set self.old.claims key.slot key.generation }
         ensures state { self.new.state ≡ self.old.state }

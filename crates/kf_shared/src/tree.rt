@@ -43,6 +43,29 @@ fn no_claims(alloc: Global, slots: u32) -> Result<Vec<u32>, AllocError>
 }
 
 impl NewTree {
+    /// The tree without a lock, under the name of its table, for one owner or for a lock of the caller's own. It
+    /// takes no memory.
+    ///
+    /// Condition: the name is that of the tree's table of words.
+    pub fn owned<N: Naming>(self) -> Locked<N>
+        requires { self.master.table ≡ N.table }
+        ensures same { result ≡ self }
+    {
+        let NewTree {
+            alloc,
+            state,
+            master,
+            claims,
+        } = self;
+        Locked {
+            alloc,
+            state,
+            master,
+            claims,
+            name: PhantomData,
+        }
+    }
+
     /// The tree behind its lock, under the name of its table. It takes no memory.
     ///
     /// Condition: the name is that of the tree's table of words.
@@ -64,6 +87,28 @@ impl NewTree {
                 claims,
                 name: PhantomData,
             }),
+        }
+    }
+}
+
+impl<N: Naming> Locked<N> {
+    /// The tree without its name.
+    pub fn unnamed(self) -> NewTree
+        ensures same { result ≡ self }
+        ensures table { result.master.table ≡ N.table }
+    {
+        let Locked {
+            alloc,
+            state,
+            master,
+            claims,
+            name: _,
+        } = self;
+        NewTree {
+            alloc,
+            state,
+            master,
+            claims,
         }
     }
 }

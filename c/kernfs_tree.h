@@ -1,0 +1,302 @@
+/* kernfs_tree.h: the attribute tree of Linux sysfs (kernfs), as a proved library for programs in user space.
+ *
+ * Link with -lkernfs_tree, or by pkg-config. Every call is declared here with what it needs and what it may answer.
+ *
+ * The promise: once kt_remove() has answered 0, no callback runs under a call of that node or of one that was below it,
+ * and none ever starts. A callback that has broken its protection (kt_break()) is not waited for, as in the kernel.
+ *
+ * What lies behind a handle:
+ *
+ *     nothing --kt_create_root()--> a tree
+ *     nothing --kt_hold()--> a hold --kt_enter()--> a call, running --kt_break()--> broken --kt_restore()--> restored
+ *                             ^--------------kt_leave()-----'<--------------------------kt_leave()--------------'
+ *
+ * A hold keeps its node's slot from being given again; it does not keep the node in the tree. A call is what a callback
+ * runs under. A use that does not fit what lies there (a hold where a tree is asked for, kt_leave() outside a call,
+ * kt_enter() twice, kt_leave() of a broken call) answers -EINVAL.
+ *
+ * Answers: 0 or more where it is done; a Linux error number below 0 where it is not, and then nothing has changed and
+ * what `out` points to is as it was. No call sleeps, takes a lock or calls back.
+ *
+ * What a program has to keep to, which the library cannot see:
+ * - A handle comes from kt_new(), is used by one call at a time, and not after kt_delete(). It may go to another thread
+ *   with what orders such a step (a lock, a join, an atomic).
+ * - Calls that take a tree are made under one lock of the program's, one for each tree, or by one thread.
+ * - Pointers are valid, lengths are those of what is there, a bool is 0 or 1, and no two arguments of one call overlap.
+ * - malloc(), realloc() and free() belong together. No call is made in a signal handler, or between fork() and exec()
+ *   in a program with threads.
+ * - After kt_enter() has answered -ENODEV, and after kt_leave(), kt_break(), kt_clear() or kt_delete() has answered 1,
+ *   those who wait in a removal are woken. The helpers below do so.
+ */
+#ifndef KERNFS_TREE_H
+#define KERNFS_TREE_H
+
+#include <errno.h>
+#include <stdbool.h>
+#include <stddef.h>
+#include <stdint.h>
+
+#define KT_VERSION_MAJOR 0
+#define KT_VERSION_MINOR 1
+
+/* The bytes of a page, of which a show fills some (PAGE_SIZE). */
+#define KT_PAGE_SIZE 4096
+/* The most nodes of a tree, the root counted; the most holds of a node; the most bytes of a name. */
+#define KT_SLOTS_MAX 4096
+#define KT_HOLDS_MAX 65535
+#define KT_NAME_MAX 255
+
+#ifdef __cplusplus
+extern "C" {
+#endif
+
+/* It owns what kt_new() made. The program neither reads nor changes `at`. */
+struct kt_handle {
+    void *at;
+};
+
+/* Names a node. A key is never given twice, so that of a node that is gone names none. 0, 0 is no node's. */
+struct kt_key {
+    uint32_t slot, generation;
+};
+
+enum kt_kind { KT_DIR = 0, KT_FILE = 1, KT_LINK = 2 };
+
+struct kt_stat {
+    uint64_t tag;         /* of a file, what it was created with */
+    struct kt_key target; /* of a link */
+    uint32_t kind;        /* enum kt_kind */
+    uint32_t links;       /* of a directory two and the number of child directories, else 1 */
+    uint16_t mode;        /* of a file, its permission bits, which the library only keeps */
+    bool activated, doomed, hidden;
+};
+
+/* ---- handles ---- */
+
+/* kt_new(&handle.at): a new handle with nothing behind it. 0, -ENOMEM. */
+int32_t kt_new(void **at);
+
+/* Lets go of what lies behind the handle: a hold is released, a call ended first, a tree freed. 0, or 1: wake those who
+ * wait in a removal. Holds of a tree that is freed stay valid. */
+int32_t kt_clear(struct kt_handle *handle);
+
+/* The same, and frees the handle, which is not used again. */
+int32_t kt_delete(struct kt_handle handle);
+
+/* ---- calls on a tree: under its lock ---- */
+
+/* A new tree of the root alone (kernfs_create_root), behind a handle with nothing behind it. 1 to KT_SLOTS_MAX nodes, 1
+ * to KT_HOLDS_MAX holds of each. 0, -EINVAL, -ENOMEM. */
+int32_t kt_create_root(struct kt_handle *tree, uint32_t slots, uint32_t holds);
+
+/* The root's key. 0, -EINVAL. */
+int32_t kt_root(struct kt_handle *tree, struct kt_key *out);
+
+/* A new node in a directory: kernfs_create_dir_ns, __kernfs_create_file, kernfs_create_link. One that is not `live` is
+ * not there for kt_enter() before kt_activate(): so a group of nodes appears at once. In this order: -ENOENT (no such
+ * parent), -ENAMETOOLONG, -EINVAL (the name has no byte, a slash or a zero byte, or is . or ..), -ENOTDIR, -ENOENT (the
+ * parent is being removed, or a link's target is not there), -EINVAL (the target is the root), -EEXIST, -ENOSPC,
+ * -ENOMEM. */
+int32_t kt_create_dir(struct kt_handle *tree, struct kt_key parent, const void *name, size_t length, bool live,
+                      struct kt_key *out);
+int32_t kt_create_file(struct kt_handle *tree, struct kt_key parent, const void *name, size_t length, uint16_t mode,
+                       uint64_t tag, bool live, struct kt_key *out);
+int32_t kt_create_link(struct kt_handle *tree, struct kt_key parent, const void *name, size_t length,
+                       struct kt_key target, bool live, struct kt_key *out);
+
+/* Makes a node and all below it live (kernfs_activate). 0, -ENOENT, -ENOMEM. */
+int32_t kt_activate(struct kt_handle *tree, struct kt_key key);
+
+/* Moves a node into a directory, under a name (kernfs_rename_ns). 0, and in this order: -EINVAL (the root), -ENOENT,
+ * -ENAMETOOLONG, -EINVAL (the name), -ENOTDIR, -ENOENT (not live), -EINVAL (below itself), -EEXIST, -ENOMEM. */
+int32_t kt_rename(struct kt_handle *tree, struct kt_key key, struct kt_key dir, const void *name, size_t length);
+
+/* The child of this name, live or not (kernfs_find_ns). 0, -ENOENT, -ENOTDIR. */
+int32_t kt_find(struct kt_handle *tree, struct kt_key dir, const void *name, size_t length, struct kt_key *out);
+
+/* The node at a path such as /devices/fan0, live or not (kernfs_walk_ns). 0, -EINVAL (its form), -ENOENT, -ENOTDIR. */
+int32_t kt_walk(struct kt_handle *tree, const void *path, size_t length, struct kt_key *out);
+
+/* The name of the first live child above the name `after`, in byte order; of the first of all where it has no byte. So
+ * the last name is the cursor: what is made or removed meanwhile makes no other child come twice or be missed. Its
+ * length, -ENOENT (no more, or no such directory), -ENOTDIR, -ERANGE (over `room`), -ENOMEM. */
+int64_t kt_next(struct kt_handle *tree, struct kt_key dir, const void *after, size_t length, void *name, size_t room);
+
+/* What is told of a node. 0, -ENOENT. */
+int32_t kt_stat(struct kt_handle *tree, struct kt_key key, struct kt_stat *out);
+
+/* The text of a link (kernfs_get_target_path). Its length, -ENOENT (it or its target), -EINVAL (no link), -ERANGE (over
+ * `room`), -ENOMEM. */
+int64_t kt_readlink(struct kt_handle *tree, struct kt_key key, void *text, size_t room);
+
+/* A hold of a node (kernfs_get), behind a handle with nothing behind it. 0, -ENOENT, -EMFILE (as many as there may be),
+ * -ENOMEM. */
+int32_t kt_hold(struct kt_handle *tree, struct kt_key key, struct kt_handle *hold);
+
+/* Removes a node and all below it (kernfs_remove), as far as it can without waiting: marks them all, so that no
+ * kt_enter() there succeeds any more, and takes each out of the tree that nobody is inside. 0: the node is out, now or
+ * before. -EAGAIN: somebody is inside; call again when a callback has left (kt_remove_wait() does). Before anything is
+ * marked: -EINVAL (the root), -EMFILE (a node has as many holds as there may be), -ENOMEM. */
+int32_t kt_remove(struct kt_handle *tree, struct kt_key key);
+
+/* Marks a node and all below it, as kt_remove() does, and claims its removal for a callback of its own: of those who
+ * claim it the first is answered 0, each other 1. -ENOENT, and as of kt_remove(). */
+int32_t kt_claim(struct kt_handle *tree, struct kt_key key);
+
+/* The tree keeps each command that changed it, 88 bytes each. This makes the list as short as may be. 0, -ENOMEM. */
+int32_t kt_compact(struct kt_handle *tree);
+
+/* ---- steps of a hold and a call: no lock, from any thread ---- */
+
+/* Before a callback (kernfs_get_active): 0, and the hold is a call; -ENODEV where the node is not live. After -ENODEV
+ * wake those who wait in a removal: the refused try was counted for a moment. */
+int32_t kt_enter(struct kt_handle *hold);
+
+/* After it (kernfs_put_active): the call is a hold again. 0, or 1: wake those who wait in a removal. */
+int32_t kt_leave(struct kt_handle *call);
+
+/* Inside it, before something that waits for it (kernfs_break_active_protection): 0, or 1 as of kt_leave(). */
+int32_t kt_break(struct kt_handle *call);
+
+/* Takes a reference again, whatever became of the node (kernfs_unbreak_active_protection). 0. */
+int32_t kt_restore(struct kt_handle *call);
+
+#ifdef __cplusplus
+}
+#endif
+
+#ifdef __SANITIZE_THREAD__
+/* ThreadSanitizer does not see the library's own atomic steps. This tells it that what was done in a call comes before
+ * what follows a removal that has answered 0; it tests nothing of the library. */
+#ifdef __cplusplus
+extern "C" {
+#endif
+void __tsan_acquire(void *);
+void __tsan_release(void *);
+#ifdef __cplusplus
+}
+#endif
+#define KT_EDGE ((void *)(uintptr_t)&kt_new)
+static inline int32_t kt_leave_told(struct kt_handle *call) { __tsan_release(KT_EDGE); return kt_leave(call); }
+static inline int32_t kt_break_told(struct kt_handle *call) { __tsan_release(KT_EDGE); return kt_break(call); }
+static inline int32_t kt_clear_told(struct kt_handle *handle) { __tsan_release(KT_EDGE); return kt_clear(handle); }
+static inline int32_t kt_remove_told(struct kt_handle *tree, struct kt_key key)
+{
+    int32_t answer = kt_remove(tree, key);
+    if (!answer)
+        __tsan_acquire(KT_EDGE);
+    return answer;
+}
+#define kt_leave kt_leave_told
+#define kt_break kt_break_told
+#define kt_clear kt_clear_told
+#define kt_remove kt_remove_told
+#endif /* __SANITIZE_THREAD__ */
+
+#ifndef KT_NO_PTHREAD
+/* ---- a lock for a tree, and calls that wait ---- */
+
+#include <pthread.h>
+
+/* The lock of a tree, and where its removals wait. */
+struct kt_lock {
+    pthread_mutex_t mutex;
+    pthread_cond_t left;
+};
+
+#define KT_LOCK_INIT { PTHREAD_MUTEX_INITIALIZER, PTHREAD_COND_INITIALIZER }
+
+/* Wakes those who wait in a removal. It takes the lock, so that none goes to sleep between its look and its sleep. */
+static inline void kt_wake(struct kt_lock *lock)
+{
+    pthread_mutex_lock(&lock->mutex);
+    pthread_cond_broadcast(&lock->left);
+    pthread_mutex_unlock(&lock->mutex);
+}
+
+/* kt_enter(), kt_leave() and kt_break(), with the wakes that they owe. The caller does not have the lock. */
+static inline int32_t kt_enter_wake(struct kt_handle *hold, struct kt_lock *lock)
+{
+    int32_t answer = kt_enter(hold);
+    if (answer == -ENODEV)
+        kt_wake(lock);
+    return answer;
+}
+
+static inline int32_t kt_leave_wake(struct kt_handle *call, struct kt_lock *lock)
+{
+    int32_t answer = kt_leave(call);
+    if (answer != 1)
+        return answer;
+    kt_wake(lock);
+    return 0;
+}
+
+static inline int32_t kt_break_wake(struct kt_handle *call, struct kt_lock *lock)
+{
+    int32_t answer = kt_break(call);
+    if (answer != 1)
+        return answer;
+    kt_wake(lock);
+    return 0;
+}
+
+/* Lets go of what lies behind a handle, with the wake that this may owe. */
+static inline void kt_clear_wake(struct kt_handle *handle, struct kt_lock *lock)
+{
+    if (kt_clear(handle) == 1)
+        kt_wake(lock);
+}
+
+/* Removes a node and all below it, and waits until no callback runs there (kernfs_remove). It sleeps, and takes the
+ * lock, which its caller does not have. A callback that removes its own node calls kt_remove_self_wait(). 0, or as of
+ * kt_remove(); never -EAGAIN. */
+static inline int32_t kt_remove_wait(struct kt_handle *tree, struct kt_key key, struct kt_lock *lock)
+{
+    int32_t answer;
+    pthread_mutex_lock(&lock->mutex);
+    while ((answer = kt_remove(tree, key)) == -EAGAIN)
+        pthread_cond_wait(&lock->left, &lock->mutex);
+    pthread_mutex_unlock(&lock->mutex);
+    return answer;
+}
+
+/* Removes the node of a call from inside its callback (kernfs_remove_self), and waits for every other callback there. 1
+ * for the first that does so, 0 for each other, or where the node was gone: after its own wait, too. Below 0: as of
+ * kt_break() and kt_claim(). The call has its reference again. */
+static inline int32_t kt_remove_self_wait(struct kt_handle *tree, struct kt_handle *call, struct kt_key key,
+                                          struct kt_lock *lock)
+{
+    int32_t claimed, answer = kt_break_wake(call, lock);
+    if (answer)
+        return answer;
+    pthread_mutex_lock(&lock->mutex);
+    claimed = kt_claim(tree, key);
+    while (claimed >= 0 && (answer = kt_remove(tree, key)) == -EAGAIN)
+        pthread_cond_wait(&lock->left, &lock->mutex);
+    pthread_mutex_unlock(&lock->mutex);
+    kt_restore(call);
+    if (claimed < 0)
+        return claimed == -ENOENT ? 0 : claimed;
+    return answer ? answer : claimed == 0;
+}
+
+/* Runs a callback under a call of a hold: what it answers, or -ENODEV where the node is not live, and then it did not
+ * run. It may break and restore its call; where it left it broken, it is restored. */
+typedef int64_t kt_callback(struct kt_handle *call, void *data);
+
+static inline int64_t kt_run(struct kt_handle *hold, struct kt_lock *lock, kt_callback *callback, void *data)
+{
+    int64_t answer = kt_enter_wake(hold, lock);
+    if (answer)
+        return answer;
+    answer = callback(hold, data);
+    if (kt_leave_wake(hold, lock) == -EINVAL) {
+        kt_restore(hold);
+        kt_leave_wake(hold, lock);
+    }
+    return answer;
+}
+#endif /* KT_NO_PTHREAD */
+
+#endif /* KERNFS_TREE_H */

@@ -1,0 +1,77 @@
+/* What kt_enter() and kt_leave() cost beside two additions on an atomic word, by one thread and by four at nodes of their
+ * own. With an argument: status 1 where one thread takes more than so many times as long. */
+#include <kernfs_tree.h>
+#include <pthread.h>
+#include <stdatomic.h>
+#include <stdio.h>
+#include <stdlib.h>
+#include <time.h>
+
+enum { TURNS = 1000000, ROUNDS = 15, THREADS = 4 };
+
+static struct kt_handle tree, holds[THREADS];
+static _Alignas(128) struct {
+    atomic_ulong word;
+    char rest[120];
+} words[THREADS];
+
+static double now(void)
+{
+    struct timespec time;
+    clock_gettime(CLOCK_MONOTONIC, &time);
+    return (double)time.tv_sec * 1e9 + (double)time.tv_nsec;
+}
+
+static void *enter_and_leave(void *data)
+{
+    struct kt_handle *hold = data;
+    for (int i = 0; i < TURNS; i++) {
+        kt_enter(hold);
+        kt_leave(hold);
+    }
+    return NULL;
+}
+
+static void *add(void *data)
+{
+    atomic_ulong *word = data;
+    for (int i = 0; i < TURNS; i++) {
+        atomic_fetch_add(word, 1);
+        atomic_fetch_sub(word, 1);
+    }
+    return NULL;
+}
+
+static double best(int count, void *(*what)(void *), int is_words)
+{
+    double least = 1e18;
+    for (int round = 0; round < ROUNDS; round++) {
+        pthread_t threads[THREADS];
+        double start = now();
+        for (int i = 0; i < count; i++)
+            pthread_create(&threads[i], NULL, what, is_words ? (void *)&words[i].word : (void *)&holds[i]);
+        for (int i = 0; i < count; i++)
+            pthread_join(threads[i], NULL);
+        double took = (now() - start) / TURNS;
+        least = took < least ? took : least;
+    }
+    return least;
+}
+
+int main(int count, char **words_given)
+{
+    struct kt_key root, key;
+    if (kt_new(&tree.at) || kt_create_root(&tree, 256, 16) || kt_root(&tree, &root))
+        return 2;
+    for (int i = 0; i < THREADS; i++) {
+        char name = (char)('a' + i);
+        if (kt_create_file(&tree, root, &name, 1, 0444, 0, true, &key) || kt_new(&holds[i].at) ||
+            kt_hold(&tree, key, &holds[i]))
+            return 2;
+    }
+    double ours = best(1, enter_and_leave, 0), theirs = best(1, add, 1);
+    printf("1 thread: enter and leave %.1f ns, two additions %.1f ns, %.2f times\n", ours, theirs, ours / theirs);
+    double four = best(THREADS, enter_and_leave, 0), others = best(THREADS, add, 1);
+    printf("4 threads: enter and leave %.1f ns, two additions %.1f ns, %.2f times\n", four, others, four / others);
+    return count > 1 && ours > atof(words_given[1]) * theirs;
+}

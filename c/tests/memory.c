@@ -1,0 +1,68 @@
+/* A scenario whose each call is made again where memory was refused once: what it prints must not depend on that. */
+#include <kernfs_tree.h>
+#include <stdio.h>
+#include <string.h>
+
+static struct kt_handle tree, hold;
+static struct kt_key root, dir, file, key;
+static struct kt_stat stat;
+static char text[300], long_name[201];
+
+/* The call, again where memory was refused. */
+#define AGAIN(call)                              \
+    do {                                         \
+        int64_t answer = call;                   \
+        if (answer == -ENOMEM)                   \
+            answer = call;                       \
+        printf(#call ": %lld\n", (long long)answer); \
+    } while (0)
+
+static void list(struct kt_key at)
+{
+    char after[300];
+    int64_t length = 0;
+    for (;;) {
+        int64_t next = kt_next(&tree, at, after, (size_t)length, text, sizeof text);
+        if (next == -ENOMEM)
+            next = kt_next(&tree, at, after, (size_t)length, text, sizeof text);
+        if (next < 0)
+            break;
+        printf("  %.*s\n", (int)next, text);
+        memcpy(after, text, (size_t)next);
+        length = next;
+    }
+}
+
+int main(void)
+{
+    memset(long_name, 'n', 200);
+    AGAIN(kt_new(&tree.at));
+    AGAIN(kt_new(&hold.at));
+    AGAIN(kt_create_root(&tree, 64, 8));
+    AGAIN(kt_root(&tree, &root));
+    AGAIN(kt_create_dir(&tree, root, long_name, 200, false, &dir));
+    for (int i = 0; i < 12; i++) {
+        char name[] = {(char)('a' + i)};
+        AGAIN(kt_create_file(&tree, dir, name, 1, 0644, (uint64_t)i, false, &file));
+    }
+    AGAIN(kt_create_link(&tree, root, "link", 4, file, false, &key));
+    AGAIN(kt_activate(&tree, root));
+    list(root);
+    list(dir);
+    AGAIN(kt_readlink(&tree, key, text, sizeof text));
+    AGAIN(kt_rename(&tree, file, root, long_name, 199));
+    AGAIN(kt_compact(&tree));
+    AGAIN(kt_hold(&tree, file, &hold));
+    AGAIN(kt_enter(&hold));
+    AGAIN(kt_stat(&tree, file, &stat));
+    AGAIN(kt_claim(&tree, dir));
+    AGAIN(kt_remove(&tree, dir));
+    AGAIN(kt_remove(&tree, file));
+    AGAIN(kt_leave(&hold));
+    AGAIN(kt_remove(&tree, file));
+    AGAIN(kt_clear(&hold));
+    list(root);
+    kt_delete(hold);
+    kt_delete(tree);
+    return 0;
+}

@@ -1,0 +1,217 @@
+/* Each call, as it is meant and as it is not. A line tells each thing that was tried; the last one is
+ * 'N passed, M failed'. */
+#include <kernfs_tree.h>
+#include <stdio.h>
+#include <string.h>
+
+static int passed, failed;
+
+static void expect(const char *what, int64_t found, int64_t wanted)
+{
+    if (found == wanted) {
+        passed++;
+        printf("%s: %lld\n", what, (long long)found);
+    } else {
+        failed++;
+        printf("%s: %lld and not %lld\n", what, (long long)found, (long long)wanted);
+    }
+}
+
+#define TRY(call, wanted) expect(#call, call, wanted)
+
+static struct kt_handle tree, hold, other, nothing;
+static struct kt_key root, dir, file, link_key, key, stale;
+static struct kt_stat stat;
+static char text[64], longest[300];
+
+static int same(struct kt_key a, struct kt_key b) { return a.slot == b.slot && a.generation == b.generation; }
+
+static void trees(void)
+{
+    TRY(kt_create_root(&tree, 0, 16), -EINVAL);
+    TRY(kt_create_root(&tree, 4097, 16), -EINVAL);
+    TRY(kt_create_root(&tree, 16, 0), -EINVAL);
+    TRY(kt_create_root(&tree, 16, 65536), -EINVAL);
+    TRY(kt_root(&tree, &root), -EINVAL);
+    TRY(kt_create_root(&tree, 8, 2), 0);
+    TRY(kt_create_root(&tree, 8, 2), -EINVAL);
+    TRY(kt_root(&tree, &root), 0);
+    TRY(root.slot == 0 && root.generation == 1, 1);
+}
+
+static void names(void)
+{
+    memset(longest, 'x', sizeof longest);
+    TRY(kt_create_dir(&tree, root, "d", 1, true, &dir), 0);
+    TRY(kt_create_file(&tree, dir, "f", 1, 0644, 7, true, &file), 0);
+    TRY(kt_create_link(&tree, root, "l", 1, file, true, &link_key), 0);
+    key = file;
+    TRY(kt_create_dir(&tree, root, "d", 1, true, &key), -EEXIST);
+    TRY(kt_create_dir(&tree, root, "", 0, true, &key), -EINVAL);
+    TRY(kt_create_dir(&tree, root, "a/b", 3, true, &key), -EINVAL);
+    TRY(kt_create_dir(&tree, root, "a\0b", 3, true, &key), -EINVAL);
+    TRY(kt_create_dir(&tree, root, ".", 1, true, &key), -EINVAL);
+    TRY(kt_create_dir(&tree, root, "..", 2, true, &key), -EINVAL);
+    TRY(kt_create_dir(&tree, root, longest, 256, true, &key), -ENAMETOOLONG);
+    TRY(kt_create_dir(&tree, file, "x", 1, true, &key), -ENOTDIR);
+    stale = (struct kt_key){3, 9};
+    TRY(kt_create_dir(&tree, stale, "x", 1, true, &key), -ENOENT);
+    TRY(kt_create_link(&tree, root, "r", 1, root, true, &key), -EINVAL);
+    TRY(kt_create_link(&tree, root, "s", 1, stale, true, &key), -ENOENT);
+    TRY(same(key, file), 1); /* what is refused writes nothing */
+    TRY(kt_create_dir(&tree, root, longest, 255, true, &key), 0);
+    TRY(kt_remove(&tree, key), 0);
+}
+
+static void looks(void)
+{
+    TRY(kt_find(&tree, root, "d", 1, &key), 0);
+    TRY(same(key, dir), 1);
+    TRY(kt_find(&tree, root, "e", 1, &key), -ENOENT);
+    TRY(kt_find(&tree, file, "e", 1, &key), -ENOTDIR);
+    TRY(kt_walk(&tree, "/d/f", 4, &key), 0);
+    TRY(same(key, file), 1);
+    TRY(kt_walk(&tree, "d/f", 3, &key), -EINVAL);
+    TRY(kt_walk(&tree, "/d//f", 5, &key), -EINVAL);
+    TRY(kt_walk(&tree, "/d/g", 4, &key), -ENOENT);
+    TRY(kt_walk(&tree, "/", 1, &key), 0);
+    TRY(same(key, root), 1);
+    TRY(kt_next(&tree, root, "", 0, text, sizeof text), 1);
+    TRY(text[0], 'd');
+    TRY(kt_next(&tree, root, "d", 1, text, sizeof text), 1);
+    TRY(text[0], 'l');
+    TRY(kt_next(&tree, root, "l", 1, text, sizeof text), -ENOENT);
+    TRY(kt_next(&tree, file, "", 0, text, sizeof text), -ENOTDIR);
+    TRY(kt_next(&tree, root, "", 0, text, 0), -ERANGE);
+    TRY(kt_stat(&tree, file, &stat), 0);
+    TRY(stat.kind == KT_FILE && stat.mode == 0644 && stat.tag == 7 && stat.links == 1, 1);
+    TRY(stat.activated && !stat.doomed && !stat.hidden, 1);
+    TRY(kt_stat(&tree, dir, &stat), 0);
+    TRY(stat.kind == KT_DIR && stat.links == 2, 1);
+    TRY(kt_stat(&tree, link_key, &stat), 0);
+    TRY(stat.kind == KT_LINK && same(stat.target, file), 1);
+    TRY(kt_stat(&tree, stale, &stat), -ENOENT);
+    TRY(kt_readlink(&tree, link_key, text, sizeof text), 3);
+    TRY(memcmp(text, "d/f", 3), 0);
+    TRY(kt_readlink(&tree, link_key, text, 2), -ERANGE);
+    TRY(kt_readlink(&tree, file, text, sizeof text), -EINVAL);
+}
+
+static void changes(void)
+{
+    TRY(kt_create_file(&tree, dir, "g", 1, 0444, 0, false, &key), 0);
+    TRY(kt_hold(&tree, key, &hold), 0);
+    TRY(kt_enter(&hold), -ENODEV);
+    TRY(kt_activate(&tree, key), 0);
+    TRY(kt_activate(&tree, stale), -ENOENT);
+    TRY(kt_enter(&hold), 0);
+    TRY(kt_leave(&hold), 0);
+    TRY(kt_clear(&hold), 0);
+    TRY(kt_rename(&tree, key, root, "h", 1), 0);
+    TRY(kt_rename(&tree, key, root, "d", 1), -EEXIST);
+    TRY(kt_rename(&tree, dir, dir, "d", 1), -EINVAL);
+    TRY(kt_rename(&tree, root, dir, "d", 1), -EINVAL);
+    TRY(kt_compact(&tree), 0);
+    TRY(kt_remove(&tree, key), 0);
+    TRY(kt_remove(&tree, key), 0); /* it is out of the tree */
+    TRY(kt_remove(&tree, root), -EINVAL);
+    TRY(kt_stat(&tree, key, &stat), -ENOENT);
+    TRY(kt_hold(&tree, key, &hold), -ENOENT);
+    for (int i = 0; i < 4; i++)
+        TRY(kt_create_dir(&tree, root, (char[]){(char)('0' + i)}, 1, true, &stale), 0);
+    TRY(kt_create_dir(&tree, root, "4", 1, true, &key), -ENOSPC);
+    TRY(kt_remove(&tree, stale), 0);
+    TRY(kt_create_dir(&tree, root, "4", 1, true, &key), 0);
+    TRY(key.slot == stale.slot && key.generation == stale.generation + 1, 1);
+    TRY(kt_find(&tree, stale, "x", 1, &key), -ENOENT); /* the old key names nothing */
+}
+
+static void holds(void)
+{
+    TRY(kt_enter(&hold), -EINVAL);
+    TRY(kt_hold(&tree, file, &hold), 0);
+    TRY(kt_hold(&tree, file, &hold), -EINVAL);
+    TRY(kt_leave(&hold), -EINVAL);
+    TRY(kt_break(&hold), -EINVAL);
+    TRY(kt_restore(&hold), -EINVAL);
+    TRY(kt_root(&hold, &root), -EINVAL);
+    TRY(kt_create_dir(&hold, root, "x", 1, true, &key), -EINVAL);
+    TRY(kt_remove(&hold, file), -EINVAL);
+    TRY(kt_compact(&hold), -EINVAL);
+    TRY(kt_stat(&hold, file, &stat), -EINVAL);
+    TRY(kt_next(&hold, root, "", 0, text, sizeof text), -EINVAL);
+    TRY(kt_claim(&hold, file), -EINVAL);
+    TRY(kt_hold(&hold, file, &other), -EINVAL);
+    TRY(kt_create_root(&hold, 8, 8), -EINVAL);
+    TRY(kt_enter(&tree), -EINVAL);
+    TRY(kt_leave(&nothing), -EINVAL);
+    TRY(kt_hold(&tree, file, &other), 0);
+    TRY(kt_hold(&tree, file, &nothing), -EMFILE);
+    TRY(kt_enter(&hold), 0);
+    TRY(kt_enter(&hold), -EINVAL);
+    TRY(kt_restore(&hold), -EINVAL);
+    TRY(kt_break(&hold), 0);
+    TRY(kt_break(&hold), -EINVAL);
+    TRY(kt_leave(&hold), -EINVAL);
+    TRY(kt_restore(&hold), 0);
+    TRY(kt_break(&hold), -EINVAL); /* a call breaks its protection once */
+    TRY(kt_leave(&hold), 0);
+    TRY(kt_clear(&other), 0);
+    TRY(kt_clear(&other), 0);
+}
+
+static void removal(void)
+{
+    TRY(kt_enter(&hold), 0);
+    TRY(kt_remove(&tree, dir), -EAGAIN);
+    TRY(kt_stat(&tree, file, &stat), 0);
+    TRY(stat.doomed, 1);
+    TRY(kt_create_file(&tree, dir, "n", 1, 0444, 0, true, &key), -ENOENT);
+    TRY(kt_hold(&tree, file, &other), 0);
+    TRY(kt_enter(&other), -ENODEV);
+    TRY(kt_clear(&other), 0);
+    TRY(kt_remove(&tree, dir), -EAGAIN);
+    TRY(kt_leave(&hold), 1);
+    TRY(kt_remove(&tree, dir), 0);
+    TRY(kt_enter(&hold), -ENODEV);
+    TRY(kt_stat(&tree, file, &stat), -ENOENT);
+    TRY(kt_readlink(&tree, link_key, text, sizeof text), -ENOENT);
+    TRY(kt_clear(&hold), 0);
+}
+
+static void self_removal(void)
+{
+    TRY(kt_create_file(&tree, root, "own", 3, 0200, 0, true, &file), 0);
+    TRY(kt_hold(&tree, file, &hold), 0);
+    TRY(kt_enter(&hold), 0);
+    TRY(kt_break(&hold), 0);
+    TRY(kt_claim(&tree, file), 0);
+    TRY(kt_claim(&tree, file), 1);
+    TRY(kt_claim(&tree, root), -EINVAL);
+    TRY(kt_remove(&tree, file), 0);
+    TRY(kt_claim(&tree, file), -ENOENT);
+    TRY(kt_restore(&hold), 0);
+    TRY(kt_enter(&hold), -EINVAL);
+    TRY(kt_clear(&hold), 1); /* ends the call too */
+}
+
+int main(void)
+{
+    TRY(kt_new(&tree.at), 0);
+    TRY(kt_new(&hold.at), 0);
+    TRY(kt_new(&other.at), 0);
+    TRY(kt_new(&nothing.at), 0);
+    trees();
+    names();
+    looks();
+    changes();
+    holds();
+    removal();
+    self_removal();
+    TRY(kt_delete(nothing), 0);
+    TRY(kt_delete(other), 0);
+    TRY(kt_delete(hold), 0);
+    TRY(kt_delete(tree), 0);
+    printf("%d passed, %d failed\n", passed, failed);
+    return failed != 0;
+}

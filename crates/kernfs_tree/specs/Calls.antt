@@ -1,0 +1,80 @@
+-- What the calls of a program say in the words of the tree.
+use Rattle.std.specs.Prelude.{◌≡◌, ℕ, List, Bool, Ok}
+use Rattle.kf_core.specs.declared.key.Key.{Key}
+use Rattle.kf_core.specs.declared.key.Node.{Node}
+use Rattle.kf_core.specs.declared.command.Command.TheVariants.{Activate}
+use Rattle.kf_core.specs.Tree.{is_linked}
+use Rattle.kf_tree.specs.Causes.{linked_cause}
+use Rattle.kf_tree.specs.TreeLogs.{IsNew, IsAccepted, IsCompacted}
+use Rattle.kf_words.specs.Steps.{opened}
+use Rattle.kf_tree.specs.Paths.{found, walked}
+use Rattle.kf_shared.specs.Locked.{Created, IsHoldOfNode, is_claimed}
+use Rattle.kernfs_tree.specs.declared.object.Object.{Object}
+use Rattle.kernfs_tree.specs.declared.replies.KtKey.{KtKey}
+use Rattle.kernfs_tree.specs.declared.object.Object.TheVariants as behind
+use Rattle.kernfs_tree.specs.Answers.{ClaimedTo, Moved, OfTrees}
+
+-- the key that a program has of a node
+abbrev pub key_in : KtKey → Key
+key_in key = record { slot = key.slot; generation = key.generation }
+
+-- the node was linked in the directory, under this key, and that is stored
+abbrev pub CreatedIn : Object → Object → KtKey → List ℕ → Node → Bool → KtKey → Type 0
+CreatedIn old new parent name node live key =
+    OfTrees (λ before after. Created before after (key_in parent) name node live (key_in key)) old new
+
+-- the name leads to this key from the directory, and the tree is as it was
+abbrev pub FoundIn : Object → Object → KtKey → List ℕ → KtKey → Type 0
+FoundIn old new dir name key =
+    OfTrees (λ before after. (found before.state.tree (key_in dir) name ≡ Ok (key_in key))
+    × (after ≡ before)) old new
+
+-- the path leads to this key, and the tree is as it was
+abbrev pub WalkedIn : Object → Object → List ℕ → KtKey → Type 0
+WalkedIn old new path key =
+    OfTrees (λ before after. (walked before.state.tree before.state.root path ≡ Ok (key_in key))
+    × (after ≡ before)) old new
+
+-- the key is linked in the tree afterwards, or not
+abbrev pub IsLinkedIn : Object → Object → KtKey → Bool → Type 0
+IsLinkedIn old new key linked =
+    OfTrees (λ before after. is_linked after.state.tree (key_in key) ≡ linked) old new
+
+-- it is a new tree of the root alone, of so many slots and holds of each
+abbrev pub IsNewTree : ℕ → ℕ → Object → Type 0
+IsNewTree slots holds (behind.Tree tree) = IsNew slots (record { slot = 0; generation = 1 }) tree.value.state
+    × (tree.value.master.view ≡ opened holds slots 0)
+IsNewTree slots holds other = ⊥
+
+-- it is a hold of the node that has this key in the tree
+abbrev pub HoldsNode : Object → KtKey → Object → Type 0
+HoldsNode (behind.Tree tree) key (behind.Hold held) =
+    IsHoldOfNode tree.value.master.table tree.value.state.tree (key_in key) held.hold
+HoldsNode tree key other = ⊥
+
+-- it is the root's key, and the tree is as it was
+abbrev pub RootIn : Object → Object → KtKey → Type 0
+RootIn old new key = OfTrees (λ before after. (key_in key ≡ before.state.root) × (after ≡ before)) old new
+
+-- each node of the subtree that is not being removed is activated, and that is stored
+abbrev pub ActivatedIn : Object → Object → KtKey → Type 0
+ActivatedIn old new key = OfTrees (λ before after. IsAccepted before.state after.state
+    (linked_cause before.state.tree (key_in key)) (Activate (key_in key))) old new
+
+-- the node is in the directory under the name
+abbrev pub MovedIn : Object → Object → KtKey → KtKey → List ℕ → Type 0
+MovedIn old new key dir name =
+    OfTrees (λ before after. Moved before after (key_in key) (key_in dir) name) old new
+
+-- the stored commands are the fewest that make this tree
+abbrev pub CompactedIn : Object → Object → Type 0
+CompactedIn old new = OfTrees (λ before after. IsCompacted before.state after.state) old new
+
+-- the removal of the node was claimed before, or not, and is now
+abbrev pub ClaimedIn : Object → Object → KtKey → Bool → Type 0
+ClaimedIn old new key before_this = OfTrees (λ before after.
+    (is_claimed before.claims (key_in key) ≡ before_this) × ClaimedTo before after (key_in key)) old new
+
+-- nothing lies there
+abbrev pub IsNothing : Object → Type 0
+IsNothing object = object ≡ behind.Empty

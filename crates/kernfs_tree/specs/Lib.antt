@@ -1,0 +1,4 @@
+pub mod Ownership
+pub mod Steps
+pub mod Answers
+pub mod Calls

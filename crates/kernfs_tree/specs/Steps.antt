@@ -1,0 +1,37 @@
+-- What the steps of a hold and a call make of what lies behind a handle.
+use Rattle.std.specs.Prelude.{◌≡◌}
+use Rattle.kf_words.specs.Callers.{IsSameSeat, Entered, WasTurned, seat_view}
+use Rattle.kf_words.specs.Callers.{WasLeft as LeftHandle, WasBroken as BrokenHandle, WasRestored as RestoredHandle}
+use Rattle.kf_words.specs.Runs.{WasALeave, WasABreak, WasARestore, WasLetInLive}
+use Rattle.kernfs_tree.specs.declared.object.Object.{Object}
+use Rattle.kernfs_tree.specs.declared.object.Object.TheVariants as behind
+
+-- a hold was let in by one try, while its node was live: it is a running call of the same seat
+abbrev pub WasEntered : Object → Object → Type 0
+WasEntered (behind.Hold held) (behind.Call inside) = IsSameSeat held.hold inside.call
+    × Entered held.hold inside.call × WasLetInLive (seat_view held.hold) (seat_view inside.call)
+WasEntered old new = ⊥
+
+-- a hold's try found its node not live, and was taken back; where there was no hold nothing was done
+abbrev pub WasRefused : Object → Object → Type 0
+WasRefused (behind.Hold held) (behind.Hold back) =
+    IsSameSeat held.hold back.hold × WasTurned held.hold back.hold
+WasRefused old new = new ≡ old
+
+-- one step ended a call: its hold is there again
+abbrev pub WasLeft : Object → Object → Type 0
+WasLeft (behind.Call inside) (behind.Hold held) = IsSameSeat inside.call held.hold
+    × LeftHandle inside.call held.hold × WasALeave (seat_view inside.call) (seat_view held.hold)
+WasLeft old new = ⊥
+
+-- one step gave the reference of a call up
+abbrev pub WasBroken : Object → Object → Type 0
+WasBroken (behind.Call inside) (behind.Call broken) = IsSameSeat inside.call broken.call
+    × BrokenHandle inside.call broken.call × WasABreak (seat_view inside.call) (seat_view broken.call)
+WasBroken old new = ⊥
+
+-- one step took a reference again
+abbrev pub WasRestored : Object → Object → Type 0
+WasRestored (behind.Call broken) (behind.Call inside) = IsSameSeat broken.call inside.call
+    × RestoredHandle broken.call inside.call × WasARestore (seat_view broken.call) (seat_view inside.call)
+WasRestored old new = ⊥

@@ -1,0 +1,119 @@
+//! What a tree answers to each question.
+ghost use Rattle.std.specs.Prelude.{◌≡◌, ◌∷◌, []};
+ghost use Rattle.kernfs_tree.specs.Answers.{Answered, AnsweredBehind, ListedOr, NextRefused, bound_of};
+ghost use Rattle.std.specs.Option.{option_copied};
+ghost use Rattle.kf_tree.specs.Listing.{IsListing};
+
+use crate::holds::Held;
+use crate::object::Object;
+use crate::questions::{Question, Reply};
+use crate::removal::{claim, remove};
+use core::mem::replace_with;
+use kf_core::{Key, Refusal};
+use kf_shared::{Locked, Naming, NewTree};
+use kf_tree::State;
+use std::marker::Brand;
+
+/// The bound of a listing: none where the name is empty.
+fn bound(after: &[u8]) -> Option<&[u8]>
+    ensures { option_copied result ≡ bound_of after.now }
+{
+    if after.is_empty() { None } else { Some(after) }
+}
+
+/// The name of the first live child above the bound.
+fn next(state: &State, dir: Key, after: &[u8]) -> Reply
+    ensures { ListedOr (λ name. IsListing state.now.tree dir (bound_of after.now) 1 (name ∷ []))
+        (λ why. NextRefused state.now dir after.now why) result }
+{
+    match state.list(dir, bound(after), 1) {
+        Ok(mut names) => match names.pop() {
+            Some(name) => Reply::Listed(name),
+            None => Reply::Refused(Refusal::NoEntry),
+        },
+        Err(refusal) => Reply::Refused(refusal),
+    }
+}
+
+/// What the tree answers.
+fn answer<N: Naming>(locked: &mut Locked<N>, question: Question<'_>) -> Reply
+    ensures { Answered N.table question.entry locked.old locked.new result }
+{
+    match question {
+        Question::Root => Reply::Named(locked.state().root()),
+        Question::Create {
+            parent,
+            name,
+            node,
+            live,
+        } => match locked.create(parent, name, node, live) {
+            Ok(key) => Reply::Named(key),
+            Err(refusal) => Reply::Refused(refusal),
+        },
+        Question::Find { dir, name } => match locked.state().find(dir, name) {
+            Ok(key) => Reply::Named(key),
+            Err(refusal) => Reply::Refused(refusal),
+        },
+        Question::Walk(path) => match locked.state().walk(path) {
+            Ok(key) => Reply::Named(key),
+            Err(refusal) => Reply::Refused(refusal),
+        },
+        Question::Next { dir, after } => next(locked.state(), dir, after),
+        Question::Tell(key) => match locked.state().stat(key) {
+            Ok(stat) => Reply::Told(stat),
+            Err(refusal) => Reply::Refused(refusal),
+        },
+        Question::ReadLink(key) => match locked.state().target_text(key) {
+            Ok(text) => Reply::Text(text),
+            Err(refusal) => Reply::Refused(refusal),
+        },
+        Question::Hold(key) => match locked.hold(key) {
+            Ok(hold) => Reply::Held(Held::new(hold)),
+            Err(refusal) => Reply::Refused(refusal),
+        },
+        Question::Activate(key) => match locked.activate(key) {
+            Ok(()) => Reply::Done,
+            Err(refusal) => Reply::Refused(refusal),
+        },
+        Question::Rename { key, dir, name } => match locked.rename(key, dir, name) {
+            Ok(()) => Reply::Done,
+            Err(refusal) => Reply::Refused(refusal),
+        },
+        Question::Compact => match locked.compact() {
+            Ok(()) => Reply::Done,
+            Err(refusal) => Reply::Refused(refusal),
+        },
+        Question::Claim(key) => claim(locked, key),
+        Question::Remove(key) => remove(locked, key),
+    }
+}
+
+/// The tree after it was asked under this name, and what it answers.
+fn ask_named<N: Naming>(tree: NewTree, question: Question<'_>) -> (NewTree, Reply)
+    requires { tree.master.table ≡ N.table }
+    ensures { Answered tree.master.table question.entry tree result.0 result.1 }
+{
+    let mut locked = tree.owned::<N>();
+    let reply = answer(&mut locked, question);
+    (locked.unnamed(), reply)
+}
+
+/// The tree after it was asked, and what it answers.
+fn ask(tree: NewTree, question: Question<'_>) -> (NewTree, Reply)
+    ensures { Answered tree.master.table question.entry tree result.0 result.1 }
+{
+    ask_named::<Brand>(tree, question)
+}
+
+/// What lies there after it was asked, and what it answers.
+pub fn ask_object(object: Object, question: Question<'_>) -> (Object, Reply)
+    ensures { AnsweredBehind question.entry object result.0 result.1 }
+{
+    match object {
+        Object::Tree(mut tree) => {
+            let reply = replace_with(tree.as_mut(), question, ask);
+            (Object::Tree(tree), reply)
+        }
+        other => (other, Reply::Wrong),
+    }
+}

@@ -1,0 +1,314 @@
+//! The calls of a program. Each answers 0 or more, or a Linux error number below 0, and then nothing changed.
+ghost use Rattle.std.specs.Prelude.{◌≡◌, ◌≢◌, ◌⊎◌, pos, negsuc, false, true};
+ghost use Rattle.kf_core.specs.declared.key.Node.TheVariants as kind;
+ghost use Rattle.kernfs_tree.specs.Answers.{IsAsBefore};
+ghost use Rattle.kernfs_tree.specs.Calls.{key_in, CreatedIn, FoundIn, WalkedIn, IsLinkedIn, IsNewTree, HoldsNode, RootIn, ActivatedIn, MovedIn, CompactedIn, ClaimedIn, IsNothing};
+ghost use Rattle.kernfs_tree.specs.Steps.{WasEntered, WasRefused, WasLeft, WasBroken, WasRestored};
+
+use crate::handle::KtHandle;
+use crate::questions::Question;
+use crate::replies::{KtKey, KtStat, key_of};
+use crate::{replies, stepping};
+use kf_core::{Key, Node};
+use std::alloc::Global;
+
+/// A new handle with nothing behind it.
+#[unsafe(no_mangle)]
+pub extern "C" fn kt_new(alloc: Global, out: &mut *mut u8) -> i32 {
+    replies::make(alloc, out)
+}
+
+/// Lets go of a handle and of what lies behind it.
+#[unsafe(no_mangle)]
+pub extern "C" fn kt_delete(handle: KtHandle) -> i32 {
+    replies::delete(handle)
+}
+
+/// Lets go of what lies behind a handle: a hold is released, and a call ended first.
+#[unsafe(no_mangle)]
+pub extern "C" fn kt_clear(handle: &mut KtHandle) -> i32
+    ensures empty { IsNothing handle.new.place.object }
+{
+    replies::clear(handle)
+}
+
+/// A new tree of the root alone (`kernfs_create_root`).
+#[unsafe(no_mangle)]
+pub extern "C" fn kt_create_root(
+    alloc: Global,
+    handle: &mut KtHandle,
+    slots: u32,
+    holds: u32,
+) -> i32
+    ensures made { result ≡ pos 0 → IsNewTree slots holds handle.new.place.object }
+    ensures same { result ≢ pos 0 → handle.new.place.object ≡ handle.old.place.object }
+{
+    replies::make_tree(alloc, handle, slots, holds)
+}
+
+/// The key of the root.
+#[unsafe(no_mangle)]
+pub extern "C" fn kt_root(tree: &mut KtHandle, out: &mut KtKey) -> i32
+    ensures root { result ≡ pos 0 → RootIn tree.old.place.object tree.new.place.object out.new }
+    ensures kept { result ≢ pos 0 →
+        IsAsBefore tree.old.place.object tree.new.place.object × (out.new ≡ out.old) }
+{
+    replies::name(tree, Question::Root, out)
+}
+
+/// A new directory (`kernfs_create_dir_ns`).
+#[unsafe(no_mangle)]
+pub extern "C" fn kt_create_dir(
+    tree: &mut KtHandle,
+    parent: KtKey,
+    name: &[u8],
+    live: bool,
+    out: &mut KtKey,
+) -> i32
+    ensures created { result ≡ pos 0 →
+        CreatedIn tree.old.place.object tree.new.place.object parent name.now kind.Dir live out.new }
+    ensures kept { result ≢ pos 0 →
+        IsAsBefore tree.old.place.object tree.new.place.object × (out.new ≡ out.old) }
+{
+    let node = Node::Dir;
+    let parent = Key {
+        slot: parent.slot,
+        generation: parent.generation,
+    };
+    let question = Question::Create {
+        parent,
+        name,
+        node,
+        live,
+    };
+    replies::name(tree, question, out)
+}
+
+/// A new attribute file (`__kernfs_create_file`).
+#[unsafe(no_mangle)]
+pub extern "C" fn kt_create_file(
+    tree: &mut KtHandle,
+    parent: KtKey,
+    name: &[u8],
+    mode: u16,
+    tag: u64,
+    live: bool,
+    out: &mut KtKey,
+) -> i32
+    ensures created { result ≡ pos 0 →
+        CreatedIn tree.old.place.object tree.new.place.object parent name.now (kind.File mode tag) live
+        out.new }
+    ensures kept { result ≢ pos 0 →
+        IsAsBefore tree.old.place.object tree.new.place.object × (out.new ≡ out.old) }
+{
+    let node = Node::File { mode, tag };
+    let parent = Key {
+        slot: parent.slot,
+        generation: parent.generation,
+    };
+    let question = Question::Create {
+        parent,
+        name,
+        node,
+        live,
+    };
+    replies::name(tree, question, out)
+}
+
+/// A new link to a node (`kernfs_create_link`).
+#[unsafe(no_mangle)]
+pub extern "C" fn kt_create_link(
+    tree: &mut KtHandle,
+    parent: KtKey,
+    name: &[u8],
+    target: KtKey,
+    live: bool,
+    out: &mut KtKey,
+) -> i32
+    ensures created { result ≡ pos 0 →
+        CreatedIn tree.old.place.object tree.new.place.object parent name.now (kind.Link (key_in target)) live
+        out.new }
+    ensures kept { result ≢ pos 0 →
+        IsAsBefore tree.old.place.object tree.new.place.object × (out.new ≡ out.old) }
+{
+    let target = Key {
+        slot: target.slot,
+        generation: target.generation,
+    };
+    let node = Node::Link { target };
+    let parent = Key {
+        slot: parent.slot,
+        generation: parent.generation,
+    };
+    let question = Question::Create {
+        parent,
+        name,
+        node,
+        live,
+    };
+    replies::name(tree, question, out)
+}
+
+/// Makes the nodes of a subtree live (`kernfs_activate`).
+#[unsafe(no_mangle)]
+pub extern "C" fn kt_activate(tree: &mut KtHandle, key: KtKey) -> i32
+    ensures activated { result ≡ pos 0 → ActivatedIn tree.old.place.object tree.new.place.object key }
+    ensures kept { result ≢ pos 0 → IsAsBefore tree.old.place.object tree.new.place.object }
+{
+    replies::change(tree, Question::Activate(key_of(key)))
+}
+
+/// Moves a node into a directory, under a name (`kernfs_rename_ns`).
+#[unsafe(no_mangle)]
+pub extern "C" fn kt_rename(tree: &mut KtHandle, key: KtKey, dir: KtKey, name: &[u8]) -> i32
+    ensures moved { result ≡ pos 0 → MovedIn tree.old.place.object tree.new.place.object key dir name.now }
+    ensures kept { result ≢ pos 0 → IsAsBefore tree.old.place.object tree.new.place.object }
+{
+    let key = Key {
+        slot: key.slot,
+        generation: key.generation,
+    };
+    let dir = Key {
+        slot: dir.slot,
+        generation: dir.generation,
+    };
+    let question = Question::Rename { key, dir, name };
+    replies::change(tree, question)
+}
+
+/// The child of this name, live or not (`kernfs_find_ns`).
+#[unsafe(no_mangle)]
+pub extern "C" fn kt_find(tree: &mut KtHandle, dir: KtKey, name: &[u8], out: &mut KtKey) -> i32
+    ensures found { result ≡ pos 0 →
+        FoundIn tree.old.place.object tree.new.place.object dir name.now out.new }
+    ensures kept { result ≢ pos 0 →
+        IsAsBefore tree.old.place.object tree.new.place.object × (out.new ≡ out.old) }
+{
+    let dir = Key {
+        slot: dir.slot,
+        generation: dir.generation,
+    };
+    replies::name(tree, Question::Find { dir, name }, out)
+}
+
+/// The node that a path names, live or not (`kernfs_walk_ns`).
+#[unsafe(no_mangle)]
+pub extern "C" fn kt_walk(tree: &mut KtHandle, path: &[u8], out: &mut KtKey) -> i32
+    ensures walked { result ≡ pos 0 →
+        WalkedIn tree.old.place.object tree.new.place.object path.now out.new }
+    ensures kept { result ≢ pos 0 →
+        IsAsBefore tree.old.place.object tree.new.place.object × (out.new ≡ out.old) }
+{
+    replies::name(tree, Question::Walk(path), out)
+}
+
+/// The name of the first live child above a name, in byte order; of the first of all where it is empty.
+#[unsafe(no_mangle)]
+pub extern "C" fn kt_next(tree: &mut KtHandle, dir: KtKey, after: &[u8], out: &mut [u8]) -> i64
+    ensures tree { IsAsBefore tree.old.place.object tree.new.place.object }
+{
+    let dir = Key {
+        slot: dir.slot,
+        generation: dir.generation,
+    };
+    replies::text(tree, Question::Next { dir, after }, out)
+}
+
+/// What is told of a node.
+#[unsafe(no_mangle)]
+pub extern "C" fn kt_stat(tree: &mut KtHandle, key: KtKey, out: &mut KtStat) -> i32
+    ensures tree { IsAsBefore tree.old.place.object tree.new.place.object }
+    ensures kept { result ≢ pos 0 → out.new ≡ out.old }
+{
+    replies::tell(tree, key_of(key), out)
+}
+
+/// The text of a link (`kernfs_get_target_path`).
+#[unsafe(no_mangle)]
+pub extern "C" fn kt_readlink(tree: &mut KtHandle, key: KtKey, out: &mut [u8]) -> i64
+    ensures tree { IsAsBefore tree.old.place.object tree.new.place.object }
+{
+    replies::text(tree, Question::ReadLink(key_of(key)), out)
+}
+
+/// Makes the list of the stored commands as short as may be.
+#[unsafe(no_mangle)]
+pub extern "C" fn kt_compact(tree: &mut KtHandle) -> i32
+    ensures compacted { result ≡ pos 0 → CompactedIn tree.old.place.object tree.new.place.object }
+    ensures kept { result ≢ pos 0 → IsAsBefore tree.old.place.object tree.new.place.object }
+{
+    replies::change(tree, Question::Compact)
+}
+
+/// A hold of a node, behind a handle with nothing behind it (`kernfs_get`).
+#[unsafe(no_mangle)]
+pub extern "C" fn kt_hold(tree: &mut KtHandle, key: KtKey, out: &mut KtHandle) -> i32
+    ensures held { result ≡ pos 0 → HoldsNode tree.old.place.object key out.new.place.object }
+    ensures tree { IsAsBefore tree.old.place.object tree.new.place.object }
+    ensures same { result ≢ pos 0 → out.new.place.object ≡ out.old.place.object }
+{
+    replies::hold(tree, key, out)
+}
+
+/// Claims the removal of a node by itself: 0, or 1 where it was claimed before.
+#[unsafe(no_mangle)]
+pub extern "C" fn kt_claim(tree: &mut KtHandle, key: KtKey) -> i32
+    ensures first { result ≡ pos 0 → ClaimedIn tree.old.place.object tree.new.place.object key false }
+    ensures again { result ≡ pos 1 → ClaimedIn tree.old.place.object tree.new.place.object key true }
+    ensures kept { result ≢ pos 0 → result ≢ pos 1 → IsAsBefore tree.old.place.object tree.new.place.object }
+{
+    replies::claim(tree, key)
+}
+
+/// Marks a node and all below it, and takes each of them out of the tree that nobody uses (`kernfs_remove`).
+/// 0 where the node is out, -EAGAIN where it is not, since somebody is inside.
+#[unsafe(no_mangle)]
+pub extern "C" fn kt_remove(tree: &mut KtHandle, key: KtKey) -> i32
+    ensures gone { result ≡ pos 0 →
+        IsLinkedIn tree.old.place.object tree.new.place.object key false }
+    ensures not_yet { result ≡ negsuc 10 →
+        IsLinkedIn tree.old.place.object tree.new.place.object key true }
+    ensures kept { result ≢ pos 0 → result ≢ negsuc 10 →
+        IsAsBefore tree.old.place.object tree.new.place.object }
+{
+    replies::remove(tree, key)
+}
+
+/// Tries for an active reference (`kernfs_get_active`): 0, or -ENODEV where the node is not live.
+#[unsafe(no_mangle)]
+pub extern "C" fn kt_enter(hold: &mut KtHandle) -> i32
+    ensures entered { result ≡ pos 0 → WasEntered hold.old.place.object hold.new.place.object }
+    ensures refused { result ≢ pos 0 → WasRefused hold.old.place.object hold.new.place.object }
+{
+    stepping::enter(hold)
+}
+
+/// Gives the reference back (`kernfs_put_active`): 0, or 1 where one who removes may wait for that.
+#[unsafe(no_mangle)]
+pub extern "C" fn kt_leave(call: &mut KtHandle) -> i32
+    ensures left { (result ≡ pos 0) ⊎ (result ≡ pos 1) →
+        WasLeft call.old.place.object call.new.place.object }
+    ensures same { result ≢ pos 0 → result ≢ pos 1 → call.new.place.object ≡ call.old.place.object }
+{
+    stepping::leave(call)
+}
+
+/// Gives the reference up inside the callback (`kernfs_break_active_protection`): 0, or 1 where one who
+/// removes may wait for that.
+#[unsafe(no_mangle)]
+pub extern "C" fn kt_break(call: &mut KtHandle) -> i32
+    ensures broken { (result ≡ pos 0) ⊎ (result ≡ pos 1) →
+        WasBroken call.old.place.object call.new.place.object }
+    ensures same { result ≢ pos 0 → result ≢ pos 1 → call.new.place.object ≡ call.old.place.object }
+{
+    stepping::break_off(call)
+}
+
+/// Takes a reference again (`kernfs_unbreak_active_protection`).
+#[unsafe(no_mangle)]
+pub extern "C" fn kt_restore(call: &mut KtHandle) -> i32
+    ensures restored { result ≡ pos 0 → WasRestored call.old.place.object call.new.place.object }
+    ensures same { result ≢ pos 0 → call.new.place.object ≡ call.old.place.object }
+{
+    stepping::restore(call)
+}

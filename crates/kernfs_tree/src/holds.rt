@@ -1,0 +1,70 @@
+//! Holds and calls that are given back where they are let go.
+ghost use Rattle.std.specs.Prelude.{◌≡◌};
+ghost use Rattle.kf_words.specs.Callers.{is_in_call};
+
+use kf_core::Phase;
+use kf_words::{Call, Hold};
+
+/// A hold, released where it is let go.
+pub struct Held {
+    hold: Hold,
+}
+
+impl Held {
+    pub fn new(hold: Hold) -> Held
+        ensures { result.hold ≡ hold }
+    {
+        Held { hold }
+    }
+
+    pub fn into_hold(self) -> Hold
+        ensures { result ≡ self.hold }
+    {
+        let Held { hold } = self;
+        hold
+    }
+}
+
+impl Drop for Held {
+    fn drop(self) {
+        self.into_hold().release();
+    }
+}
+
+/// A call, ended and released where it is let go.
+pub struct Inside {
+    call: Call,
+}
+
+impl Inside {
+    pub fn new(call: Call) -> Inside
+        ensures { result.call ≡ call }
+    {
+        Inside { call }
+    }
+
+    pub fn into_call(self) -> Call
+        ensures { result ≡ self.call }
+    {
+        let Inside { call } = self;
+        call
+    }
+
+    /// Ends the call, whatever its phase is, and gives its hold of the slot back. True where one who sleeps
+    /// at the node may wait for that.
+    pub fn end(self) -> bool {
+        let mut call = self.into_call();
+        if call.phase() == Phase::Broken {
+            call.restore();
+        }
+        let (hold, due) = call.leave_quiet();
+        hold.release();
+        due.told()
+    }
+}
+
+impl Drop for Inside {
+    fn drop(self) {
+        self.end();
+    }
+}

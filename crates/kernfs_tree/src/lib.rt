@@ -1,0 +1,23 @@
+//! The attribute tree for programs in C: a static library, whose calls `kernfs_tree.h` declares. Behind each
+//! handle lies nothing, a tree, a hold of a node, or a call of one.
+#![tactic(auto)]
+
+mod answers;
+mod calls;
+mod errors;
+mod handle;
+mod holds;
+mod object;
+mod questions;
+mod removal;
+mod replies;
+mod stepping;
+mod steps;
+
+pub use calls::{
+    kt_activate, kt_break, kt_claim, kt_clear, kt_compact, kt_create_dir, kt_create_file,
+    kt_create_link, kt_create_root, kt_delete, kt_enter, kt_find, kt_hold, kt_leave, kt_new,
+    kt_next, kt_readlink, kt_remove, kt_rename, kt_restore, kt_root, kt_stat, kt_walk,
+};
+pub use handle::KtHandle;
+pub use replies::{KtKey, KtStat};

@@ -1,0 +1,299 @@
+//! What the calls of a program do to what lies behind its handles, and the numbers that they answer.
+ghost use Rattle.std.specs.Prelude.{◌≡◌, ◌≢◌, true, false, pos, negsuc};
+ghost use Rattle.kernfs_tree.specs.Answers.{Answered, AnsweredBehind, OfTrees, IsAsBefore, is_change, is_naming, is_reading};
+ghost use Rattle.kernfs_tree.specs.Calls.{IsNewTree, HoldsNode, IsLinkedIn, ClaimedIn, IsNothing};
+ghost use Rattle.kernfs_tree.specs.declared.questions.Reply.TheVariants as told;
+
+use crate::answers::ask_object;
+use crate::errors::{AGAIN, INVALID, NO_MEMORY, RANGE, error_of};
+use crate::handle::KtHandle;
+use crate::object::{Object, Place};
+use crate::questions::{Question, Reply};
+use core::mem::replace_with;
+use kf_core::{Key, Limits, Node};
+use kf_shared::SharedTree;
+use kf_tree::Stat;
+use std::alloc::Global;
+use std::marker::Brand;
+
+/// A key of a node.
+#[repr(C)]
+#[derive(Clone, Copy)]
+pub struct KtKey {
+    pub slot: u32,
+    pub generation: u32,
+}
+
+/// What is told of a node.
+#[repr(C)]
+#[derive(Clone, Copy)]
+pub struct KtStat {
+    /// Of a file, what it was created with.
+    pub tag: u64,
+    /// Of a link; of others the key 0, 0, which is no node's.
+    pub target: KtKey,
+    /// 0 a directory, 1 a file, 2 a link.
+    pub kind: u32,
+    /// Two and the number of child directories, or 1.
+    pub links: u32,
+    /// The permission bits of a file.
+    pub mode: u16,
+    pub activated: bool,
+    pub doomed: bool,
+    pub hidden: bool,
+}
+
+pub fn key_of(key: KtKey) -> Key
+    ensures { result ≡ record { slot = key.slot; generation = key.generation } }
+{
+    Key {
+        slot: key.slot,
+        generation: key.generation,
+    }
+}
+
+/// Asks what lies behind a handle.
+fn ask_handle(handle: KtHandle, question: Question<'_>) -> (KtHandle, Reply)
+    ensures { AnsweredBehind question.entry handle.place.object result.0.place.object result.1 }
+{
+    let mut boxed = handle.into_box();
+    let reply = replace_with(&mut boxed.as_mut().object, question, ask_object);
+    (KtHandle::of(boxed), reply)
+}
+
+/// Asks for a key, and writes it.
+pub fn name(handle: &mut KtHandle, question: Question<'_>, out: &mut KtKey) -> i32
+    requires { is_naming question ≡ true }
+    ensures done { result ≡ pos 0 → OfTrees (λ old new. Answered old.master.table question.entry old new
+        (told.Named (record { slot = out.new.slot; generation = out.new.generation })))
+        handle.old.place.object handle.new.place.object }
+    ensures kept { result ≢ pos 0 → IsAsBefore handle.old.place.object handle.new.place.object
+        × (out.new ≡ out.old) }
+{
+    match replace_with(handle, question, ask_handle) {
+        Reply::Named(key) => {
+            *out = KtKey {
+                slot: key.slot,
+                generation: key.generation,
+            };
+            0
+        }
+        Reply::Refused(refusal) => error_of(refusal),
+        _ => INVALID,
+    }
+}
+
+/// Asks for a change that is made at once or refused.
+pub fn change(handle: &mut KtHandle, question: Question<'_>) -> i32
+    requires { is_change question ≡ true }
+    ensures done { result ≡ pos 0 →
+        OfTrees (λ old new. Answered old.master.table question.entry old new told.Done)
+        handle.old.place.object handle.new.place.object }
+    ensures kept { result ≢ pos 0 → IsAsBefore handle.old.place.object handle.new.place.object }
+{
+    match replace_with(handle, question, ask_handle) {
+        Reply::Done => 0,
+        Reply::Refused(refusal) => error_of(refusal),
+        _ => INVALID,
+    }
+}
+
+/// Removes a subtree as far as it can be without waiting.
+pub fn remove(handle: &mut KtHandle, key: KtKey) -> i32
+    ensures gone { result ≡ pos 0 →
+        IsLinkedIn handle.old.place.object handle.new.place.object key false }
+    ensures not_yet { result ≡ negsuc 10 →
+        IsLinkedIn handle.old.place.object handle.new.place.object key true }
+    ensures kept { result ≢ pos 0 → result ≢ negsuc 10 →
+        IsAsBefore handle.old.place.object handle.new.place.object }
+{
+    let question = Question::Remove(key_of(key));
+    match replace_with(handle, question, ask_handle) {
+        Reply::Done => 0,
+        Reply::Not => AGAIN,
+        Reply::Refused(refusal) => error_of(refusal),
+        _ => INVALID,
+    }
+}
+
+/// Asks what is told of a node, and writes it.
+pub fn tell(handle: &mut KtHandle, key: Key, out: &mut KtStat) -> i32
+    ensures tree { IsAsBefore handle.old.place.object handle.new.place.object }
+    ensures kept { result ≢ pos 0 → out.new ≡ out.old }
+{
+    match replace_with(handle, Question::Tell(key), ask_handle) {
+        Reply::Told(stat) => {
+            *out = told_of(stat);
+            0
+        }
+        Reply::Refused(refusal) => error_of(refusal),
+        _ => INVALID,
+    }
+}
+
+/// What is told of a node, as C sees it.
+fn told_of(stat: Stat) -> KtStat {
+    let nowhere = KtKey {
+        slot: 0,
+        generation: 0,
+    };
+    let (kind, mode, tag, target) = match stat.node {
+        Node::Dir => (0, 0, 0, nowhere),
+        Node::File { mode, tag } => (1, mode, tag, nowhere),
+        Node::Link { target } => (
+            2,
+            0,
+            0,
+            KtKey {
+                slot: target.slot,
+                generation: target.generation,
+            },
+        ),
+    };
+    KtStat {
+        tag,
+        target,
+        kind,
+        links: stat.links,
+        mode,
+        activated: stat.activated,
+        doomed: stat.doomed,
+        hidden: stat.hidden,
+    }
+}
+
+/// The number of bytes, copied to the front of `out`; -ERANGE where they do not fit there.
+fn copied(bytes: &[u8], out: &mut [u8]) -> i64 {
+    if bytes.len() > out.len() {
+        return i64::from(RANGE);
+    }
+    out[..bytes.len()].copy_from_slice(bytes);
+    bytes.len() as i64
+}
+
+/// Asks for a text or a name, and copies it.
+pub fn text(handle: &mut KtHandle, question: Question<'_>, out: &mut [u8]) -> i64
+    requires { is_reading question ≡ true }
+    ensures tree { IsAsBefore handle.old.place.object handle.new.place.object }
+{
+    match replace_with(handle, question, ask_handle) {
+        Reply::Text(text) => copied(text.as_slice(), out),
+        Reply::Listed(name) => copied(name.bytes(), out),
+        Reply::Refused(refusal) => i64::from(error_of(refusal)),
+        _ => i64::from(INVALID),
+    }
+}
+
+/// Claims the removal of a node by itself: 0, or 1 where it was claimed before.
+pub fn claim(handle: &mut KtHandle, key: KtKey) -> i32
+    ensures first { result ≡ pos 0 →
+        ClaimedIn handle.old.place.object handle.new.place.object key false }
+    ensures again { result ≡ pos 1 →
+        ClaimedIn handle.old.place.object handle.new.place.object key true }
+    ensures kept { result ≢ pos 0 → result ≢ pos 1 →
+        IsAsBefore handle.old.place.object handle.new.place.object }
+{
+    let question = Question::Claim(key_of(key));
+    match replace_with(handle, question, ask_handle) {
+        Reply::Done => 0,
+        Reply::Not => 1,
+        Reply::Refused(refusal) => error_of(refusal),
+        _ => INVALID,
+    }
+}
+
+/// Puts the object where there is nothing.
+fn put(object: Object, new: Object) -> (Object, i32)
+    ensures put { result.1 ≡ pos 0 → result.0 ≡ new }
+    ensures same { result.1 ≢ pos 0 → result.0 ≡ object }
+{
+    match object {
+        Object::Empty => (new, 0),
+        other => {
+            new.end();
+            (other, INVALID)
+        }
+    }
+}
+
+fn put_handle(handle: KtHandle, new: Object) -> (KtHandle, i32)
+    ensures put { result.1 ≡ pos 0 → result.0.place.object ≡ new }
+    ensures same { result.1 ≢ pos 0 → result.0.place.object ≡ handle.place.object }
+{
+    let mut boxed = handle.into_box();
+    let answer = replace_with(&mut boxed.as_mut().object, new, put);
+    (KtHandle::of(boxed), answer)
+}
+
+/// Takes a hold of a node, and puts it behind a handle with nothing behind it.
+pub fn hold(handle: &mut KtHandle, key: KtKey, out: &mut KtHandle) -> i32
+    ensures held { result ≡ pos 0 → HoldsNode handle.old.place.object key out.new.place.object }
+    ensures tree { IsAsBefore handle.old.place.object handle.new.place.object }
+    ensures same { result ≢ pos 0 → out.new.place.object ≡ out.old.place.object }
+{
+    let key = key_of(key);
+    match replace_with(handle, Question::Hold(key), ask_handle) {
+        Reply::Held(held) => replace_with(out, Object::Hold(held), put_handle),
+        Reply::Refused(refusal) => error_of(refusal),
+        _ => INVALID,
+    }
+}
+
+/// A new handle with nothing behind it.
+pub fn make(alloc: Global, out: &mut *mut u8) -> i32 {
+    match Box::new(alloc, Place::new()) {
+        Ok(boxed) => {
+            *out = KtHandle::of(boxed).into_pointer();
+            0
+        }
+        Err(_) => NO_MEMORY,
+    }
+}
+
+/// A new tree of the root alone, behind a handle with nothing behind it.
+pub fn make_tree(alloc: Global, handle: &mut KtHandle, slots: u32, holds: u32) -> i32
+    ensures made { result ≡ pos 0 → IsNewTree slots holds handle.new.place.object }
+    ensures same { result ≢ pos 0 → handle.new.place.object ≡ handle.old.place.object }
+{
+    let Some(limits) = Limits::new(slots, holds) else {
+        return INVALID;
+    };
+    let tree = match SharedTree::<Brand>::new(alloc, limits) {
+        Ok(tree) => tree,
+        Err(refusal) => return error_of(refusal),
+    };
+    match Box::new(alloc, tree) {
+        Ok(tree) => replace_with(handle, Object::Tree(tree), put_handle),
+        Err(_) => NO_MEMORY,
+    }
+}
+
+fn end(object: Object, _nothing: ()) -> (Object, i32)
+    ensures { IsNothing result.0 }
+{
+    let wanted = object.end();
+    (Object::Empty, if wanted { 1 } else { 0 })
+}
+
+fn end_handle(handle: KtHandle, nothing: ()) -> (KtHandle, i32)
+    ensures { IsNothing result.0.place.object }
+{
+    let mut boxed = handle.into_box();
+    let answer = replace_with(&mut boxed.as_mut().object, nothing, end);
+    (KtHandle::of(boxed), answer)
+}
+
+/// Lets go of what lies behind a handle: 1 where one who sleeps may wait for that.
+pub fn clear(handle: &mut KtHandle) -> i32
+    ensures { IsNothing handle.new.place.object }
+{
+    replace_with(handle, (), end_handle)
+}
+
+/// Lets go of a handle and of what lies behind it.
+pub fn delete(handle: KtHandle) -> i32 {
+    let mut boxed = handle.into_box();
+    let answer = replace_with(&mut boxed.as_mut().object, (), end);
+    drop(boxed);
+    answer
+}

@@ -1,0 +1,88 @@
+//! The steps of a hold and a call behind a handle. They need no lock and wake nobody.
+ghost use Rattle.std.specs.Prelude.{◌≡◌, ◌≢◌, ◌⊎◌, pos};
+ghost use Rattle.kernfs_tree.specs.Steps.{WasEntered, WasRefused, WasLeft, WasBroken, WasRestored};
+
+use crate::errors::{INVALID, NO_DEVICE};
+use crate::holds::{Held, Inside};
+use crate::object::Object;
+use kf_core::Phase;
+
+/// 1 where one who sleeps may wait for the step that was made.
+fn told(wanted: bool) -> i32
+    ensures { (result ≡ pos 0) ⊎ (result ≡ pos 1) }
+{
+    if wanted { 1 } else { 0 }
+}
+
+/// Tries for a reference.
+#[inline(always)]
+pub fn enter(object: Object, _nothing: ()) -> (Object, i32)
+    ensures entered { result.1 ≡ pos 0 → WasEntered object result.0 }
+    ensures refused { result.1 ≢ pos 0 → WasRefused object result.0 }
+{
+    match object {
+        Object::Hold(held) => match held.into_hold().enter_quiet() {
+            Ok(call) => (Object::Call(Inside::new(call)), 0),
+            Err((hold, due)) => {
+                due.told();
+                (Object::Hold(Held::new(hold)), NO_DEVICE)
+            }
+        },
+        other => (other, INVALID),
+    }
+}
+
+/// Gives the reference back, where the call has one.
+#[inline(always)]
+pub fn leave(object: Object, _nothing: ()) -> (Object, i32)
+    ensures left { (result.1 ≡ pos 0) ⊎ (result.1 ≡ pos 1) → WasLeft object result.0 }
+    ensures same { result.1 ≢ pos 0 → result.1 ≢ pos 1 → result.0 ≡ object }
+{
+    match object {
+        Object::Call(inside) => {
+            let call = inside.into_call();
+            if call.phase() == Phase::Broken {
+                return (Object::Call(Inside::new(call)), INVALID);
+            }
+            let (hold, due) = call.leave_quiet();
+            (Object::Hold(Held::new(hold)), told(due.told()))
+        }
+        other => (other, INVALID),
+    }
+}
+
+/// Gives the reference up inside the callback, where the call has the one that it entered with.
+pub fn break_off(object: Object, _nothing: ()) -> (Object, i32)
+    ensures broken { (result.1 ≡ pos 0) ⊎ (result.1 ≡ pos 1) → WasBroken object result.0 }
+    ensures same { result.1 ≢ pos 0 → result.1 ≢ pos 1 → result.0 ≡ object }
+{
+    match object {
+        Object::Call(inside) => {
+            let mut call = inside.into_call();
+            if call.phase() != Phase::Running {
+                return (Object::Call(Inside::new(call)), INVALID);
+            }
+            let due = call.break_quiet();
+            (Object::Call(Inside::new(call)), told(due.told()))
+        }
+        other => (other, INVALID),
+    }
+}
+
+/// Takes a reference again, where the call gave its own up.
+pub fn restore(object: Object, _nothing: ()) -> (Object, i32)
+    ensures restored { result.1 ≡ pos 0 → WasRestored object result.0 }
+    ensures same { result.1 ≢ pos 0 → result.0 ≡ object }
+{
+    match object {
+        Object::Call(inside) => {
+            let mut call = inside.into_call();
+            if call.phase() != Phase::Broken {
+                return (Object::Call(Inside::new(call)), INVALID);
+            }
+            call.restore();
+            (Object::Call(Inside::new(call)), 0)
+        }
+        other => (other, INVALID),
+    }
+}
