@@ -1,13 +1,13 @@
 //! The bus: how devices are plugged and unplugged.
 ghost use Rattle.std.specs.Prelude.{◌≡◌, ◌≤◌, ◌^◌, IfOk, IfErr, Some, Err};
 ghost use Rattle.kf_core.specs.declared.refusal.Refusal.{Refusal};
-ghost use Rattle.kf_core.specs.declared.refusal.Refusal.TheVariants.{NoEntry, NoMemory};
+ghost use Rattle.kf_core.specs.declared.refusal.Refusal.TheVariants.{NoMemory};
 ghost use Rattle.kf_core.specs.Names.{name_fault};
-ghost use Rattle.kf_device.specs.Removals.{Unplugged, NotPlugged, UnplugRefusal};
+ghost use Rattle.kf_device.specs.Removals.{UnplugRefusal};
 
 use crate::devices::{Devices, Files};
 use crate::making::{Stopped, make};
-use crate::removal::{plug_at, remove, remove_at};
+use crate::removal::{begin_at, finish, plug_at};
 use kf_core::{Key, Refusal};
 use kf_index::name_fault;
 use kf_shared::{Naming, SharedTree};
@@ -63,8 +63,7 @@ impl Bus {
     /// Refusals: NameTooLong (over 255 bytes) or Invalid (name), then NoSpace where 2^60 plugs have begun:
     /// they change nothing. Then those of each step in its order, as `Editor::create` and `Editor::activate`
     /// have them, and NoMemory: the base directories that were made stay, and the device's directory is
-    /// removed again. Only where that removal, or the hold for it, is refused too does it stay, and `unplug`
-    /// removes it.
+    /// removed again. Only where that removal is refused too does it stay, and `unplug` removes it.
     ///
     /// It may never return: it waits for the tree lock and the lock of the bus, which its caller must not
     /// have, and where its link is refused for the callbacks that run on the new files.
@@ -86,10 +85,8 @@ impl Bus {
         let made = make(&mut tree.edit(rt), name, serial, &mut files);
         let settled = match made {
             Ok(key) => Ok(key),
-            Err(Stopped { refusal, made }) => {
-                if let Some(hold) = made {
-                    let _ = remove(rt, tree, hold);
-                }
+            Err(Stopped { refusal, begun }) => {
+                finish(rt, tree, begun);
                 Err(refusal)
             }
         };
@@ -108,12 +105,14 @@ impl Bus {
         self.devices.lock(rt).len()
     }
 
-    /// Unplugs a device (`device_del`): removes the link `/bus/devices/NAME`, then the directory
-    /// `/devices/NAME`, each where it is there. Each is looked for by its whole name, so a name that is not
-    /// lawful finds nothing.
+    /// Unplugs a device (`device_del`): removes the link `/bus/devices/NAME` and the directory
+    /// `/devices/NAME`, each where it is there. Both are looked for, held and marked in one turn of the tree
+    /// lock; then it waits for the link, and for the directory. Each is looked for by its whole name, so a
+    /// name that is not lawful finds nothing.
     ///
-    /// Refusals: NoEntry where neither is there; else TooManyHolds or NoMemory, as `Editor::hold` of the link
-    /// or the directory and `SharedTree::remove` have them. After one of these it may be called again.
+    /// Refusals: NoEntry where neither is there; else TooManyHolds or NoMemory, as
+    /// `Editor::begin_removal_of` of the link or the directory has them: after that of the directory the link
+    /// is removed. After one of these it may be called again.
     ///
     /// It may never return: it waits for the tree lock and the lock of the bus, which its caller must not
     /// have, and for every callback that runs on the device's files, its caller's own among them.
@@ -123,18 +122,20 @@ impl Bus {
         tree: &SharedTree<N>,
         name: &[u8],
     ) -> Result<(), Refusal>
-        ensures removed { IfOk result (λ _. Unplugged N.table name.now) }
-        ensures nothing { IfErr result (λ refusal. refusal ≡ NoEntry → NotPlugged N.table name.now) }
         ensures refused { IfErr result (λ refusal. UnplugRefusal refusal) }
     {
         self.sweep(rt, tree);
-        let plug = plug_at(tree.edit(rt).state(), DEVICES, name);
-        let link = remove_at(rt, tree, LINKS, name)?;
-        let dir = remove_at(rt, tree, DEVICES, name)?;
+        let mut editor = tree.edit(rt);
+        let plug = plug_at(editor.state(), DEVICES, name);
+        let link = begin_at(&mut editor, LINKS, name)?;
+        let dir = begin_at(&mut editor, DEVICES, name);
+        drop(editor);
+        let was_linked = finish(rt, tree, link);
+        let was_there = finish(rt, tree, dir?);
         if let Some(serial) = plug {
             self.forget_gone(rt, tree, serial);
         }
-        if link || dir {
+        if was_linked || was_there {
             Ok(())
         } else {
             Err(Refusal::NoEntry)

@@ -1,7 +1,5 @@
 //! The callbacks of a device's files.
-ghost use Rattle.kf_core.specs.declared.key.Key.{Key};
-ghost use Rattle.kf_shared.specs.Receipts.{WasSelfDoomed};
-ghost use Rattle.std.specs.Prelude.{Bool, List, ◌≡◌, ◌≢◌, ◌<◌, ◌≤◌, [], Err, Some, None, length, take, decimal, true, MatchResult, IfErr, OnOk};
+ghost use Rattle.std.specs.Prelude.{◌≡◌, ◌≢◌, ◌<◌, ◌≤◌, [], Err, Some, None, length, take, decimal, true, MatchResult, IfErr, OnOk};
 ghost use Rattle.kf_core.specs.Phases.{has_reference};
 ghost use Rattle.kf_core.specs.declared.caller.Phase.TheVariants.{Running, Restored};
 ghost use Rattle.kf_words.specs.Callers.{IsSameSeat};
@@ -125,8 +123,6 @@ impl WaitOps for Bus {
         ensures stored { MayStore tag bytes.now result }
         ensures untouched { is_delete (meaning tag) ≢ true → call.new ≡ call.old }
         ensures deleted { is_delete (meaning tag) ≡ true → OnOk result (call.new.phase ≡ Restored) }
-        ensures removed { is_delete (meaning tag) ≡ true →
-            OnOk result ((first : Bool) × (keys : List Key) × WasSelfDoomed N.table call.old.key first keys) }
         ensures seat { IsSameSeat call.old call.new }
         ensures reference { has_reference call.new.phase ≡ true }
     {

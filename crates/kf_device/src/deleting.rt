@@ -1,7 +1,5 @@
 //! What a store of `delete` does.
-ghost use Rattle.std.specs.Prelude.{◌≡◌, true, Bool, List, IfErr, OnOk};
-ghost use Rattle.kf_core.specs.declared.key.Key.{Key};
-ghost use Rattle.kf_shared.specs.Receipts.{WasSelfDoomed};
+ghost use Rattle.std.specs.Prelude.{◌≡◌, true, IfErr, OnOk};
 ghost use Rattle.kf_core.specs.Phases.{has_reference};
 ghost use Rattle.kf_core.specs.declared.caller.Phase.TheVariants.{Running, Restored};
 ghost use Rattle.kf_words.specs.Callers.{IsSameSeat};
@@ -9,11 +7,10 @@ ghost use Rattle.kf_device.specs.Answers.{DeleteFault};
 
 use crate::bus::Bus;
 use crate::faults::{fault_of, unknown};
-use crate::removal::release_all;
 use kf_core::Refusal;
 use kf_files::Fault;
 use kf_index::Name;
-use kf_shared::{Naming, SharedTree};
+use kf_shared::{Naming, SharedTree, release_all};
 use kf_words::Call;
 use std::sync::Wait;
 
@@ -43,7 +40,6 @@ impl Bus {
         serial: u64,
     ) -> Result<(), Refusal>
         requires restored { call.now.phase ≡ Restored }
-        requires first { (keys : List Key) × WasSelfDoomed N.table call.now.key true keys }
     {
         let _ = call;
         match self.unplug(rt, tree, name.bytes()) {
@@ -72,7 +68,6 @@ impl Bus {
         ensures seat { IsSameSeat call.old call.new }
         ensures restored { OnOk result (call.new.phase ≡ Restored) }
         ensures reference { has_reference call.new.phase ≡ true }
-        ensures removed { OnOk result ((first : Bool) × (keys : List Key) × WasSelfDoomed N.table call.old.key first keys) }
         ensures refused { IfErr result (λ fault. DeleteFault fault) }
     {
         let name = self.name_of(rt, serial)?;

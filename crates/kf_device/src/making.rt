@@ -1,26 +1,25 @@
 //! What a plug makes in the tree, under one turn of its lock.
-ghost use Rattle.std.specs.Prelude.{◌≡◌, ◌≤◌, ◌^◌, IfErr, IfSome, None};
+ghost use Rattle.std.specs.Prelude.{◌≡◌, ◌≤◌, ◌^◌, None};
 
 use crate::devices::Files;
 use crate::tags::{DeviceFile, tag_of};
 use kf_core::{Key, Node, Refusal};
-use kf_shared::{Editor, Naming};
-use kf_words::Hold;
+use kf_shared::{Editor, Naming, Removing};
 
-/// Why a plug stopped, and a hold of the directory that it had made by then, where one could be had.
-pub(crate) struct Stopped {
+/// Why a plug stopped, and the removal of the directory that it had made by then, where one could be begun.
+pub(crate) struct Stopped<N: Naming> {
     pub(crate) refusal: Refusal,
-    pub(crate) made: Option<Hold>,
+    pub(crate) begun: Option<Removing<N>>,
 }
 
-impl Stopped {
+impl<N: Naming> Stopped<N> {
     /// Before the directory was made.
-    fn before(refusal: Refusal) -> Stopped
-        ensures none { result.made ≡ None }
+    fn before(refusal: Refusal) -> Stopped<N>
+        ensures none { result.begun ≡ None }
     {
         Stopped {
             refusal,
-            made: None,
+            begun: None,
         }
     }
 }
@@ -99,9 +98,8 @@ pub(crate) fn make<N: Naming>(
     name: &[u8],
     serial: u64,
     files: &mut Files,
-) -> Result<Key, Stopped>
+) -> Result<Key, Stopped<N>>
     requires few { serial ≤ 2 ^ 60 }
-    ensures table { IfErr result (λ stopped. IfSome stopped.made (λ hold. hold.table ≡ N.table)) }
 {
     let (devices, links) = match bases(editor) {
         Ok(found) => found,
@@ -115,7 +113,7 @@ pub(crate) fn make<N: Naming>(
         Ok(()) => Ok(dir),
         Err(refusal) => Err(Stopped {
             refusal,
-            made: editor.hold(dir).ok(),
+            begun: editor.begin_removal_of(dir).ok(),
         }),
     }
 }

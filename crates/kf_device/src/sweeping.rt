@@ -19,7 +19,7 @@ impl Bus {
         let Some(files) = files else {
             return;
         };
-        let linked = files.are_linked(tree.edit(rt).state());
+        let linked = files.are_linked(tree.read(rt).state());
         if !linked {
             self.devices.lock(rt).forget(serial);
         }

@@ -3,11 +3,13 @@ pub mod Changes
 pub mod Agreement
 pub mod Nodes
 pub mod Ties
+pub mod Creating
 pub mod Unlinked
 pub mod Ends
 pub mod Rooms
 pub mod Pins
 pub mod Receipts
+pub mod Refusals
 pub mod Hidings
 pub mod Opening
 pub mod Gone

@@ -21,9 +21,6 @@ use Rattle.kf_shared.proofs.Ends.{not_last}
 use Rattle.kf_shared.proofs.Rooms.{top_full}
 use Rattle.kf_shared.proofs.Ties.{locked}
 use Rattle.kf_core.proofs.Different.{different}
-use Rattle.kf_shared.specs.Receipts.{RemovalRefused, SelfRemovalWasRefused}
-use Rattle.kf_words.specs.Callers.{TableId}
-use Rattle.kf_core.proofs.Climbs.{same_key_is}
 use Rattle.kf_shared.specs.Removal.{keys_of, FoundFullIn, FoundFullBelow, PinsRefused, HoldsBelowRefused, HoldsInRefused, DoomRefused, SelfRemovalRefused, DoomHolds}
 
 -- what is asked at either answer of a test
@@ -197,22 +194,3 @@ held_refused old new held key IsDir refusal other h full memory stays = absurd h
 held_refused old new held key Invalid refusal other h full memory stays = absurd h
 held_refused old new held key NoSpace refusal other h full memory stays = absurd h
 held_refused old new held key NameTooLong refusal other h full memory stays = absurd h
-
-not_invalid : {P : Type 0} (Full Room : Type 0) → PinsRefused Full Room Invalid → P
-not_invalid Full Room p = elim p [ inl f ↦ absurd (cc (f.0)) | inr e ↦ absurd (cc (e.0)) ]
-
--- a removal that is refused as invalid is of the root, which has slot 0
-pub invalid_root : (table : TableId) (key : Key) (refusal : Refusal) → RemovalRefused table key refusal → refusal ≡ Invalid → key.slot ≡ 0
-invalid_root table key refusal w e = go (is_linked w.old.state.tree key) (same_key key w.old.state.root) refl (subst (λ r. DoomRefused w.old w.new key r) e w.why)
-  where
-    go : (a b : Bool) → same_key key w.old.state.root ≡ b → MatchBool a (MatchBool b (Invalid ≡ Invalid) (HoldsBelowRefused w.old.state.tree key w.new.master.view Invalid)) (Invalid ≡ NoMemory) → key.slot ≡ 0
-    go true true is p = ap (λ (k : Key). k.slot) (same_key_is key w.old.state.root is) ∙ w.whole.tied.root
-    go true false is p = not_invalid _ _ p
-    go false b is p = absurd (cc (p))
-
-pub invalid_self_root : (table : TableId) (key : Key) (refusal : Refusal) → SelfRemovalWasRefused table key refusal → refusal ≡ Invalid → key.slot ≡ 0
-invalid_self_root table key refusal w e = go (same_key key w.old.state.root) refl (subst (λ r. SelfRemovalRefused w.old w.new key r) e w.why)
-  where
-    go : (b : Bool) → same_key key w.old.state.root ≡ b → MatchBool b (Invalid ≡ Invalid) (((Invalid ≡ NoEntry) × (¬ IsLastKey w.old.master.view key)) ⊎ (IsLastKey w.old.master.view key × HoldsInRefused w.old.state.tree key w.new.master.view Invalid)) → key.slot ≡ 0
-    go true is p = ap (λ (k : Key). k.slot) (same_key_is key w.old.state.root is) ∙ w.whole.tied.root
-    go false is p = elim p [ inl n ↦ absurd (cc (n.0)) | inr q ↦ not_invalid _ _ q.1 ]

@@ -1,10 +1,8 @@
 -- The receipts of a removal are those of its holds.
-use Rattle.std.proofs.Common.{◌≡◌, zero, suc, refl, ap, arith, sym, ◌∙◌, subst, Bool, true, false, not, List, [], ◌∷◌, ◌++◌, length}
-use Rattle.std.specs.Prelude.{MatchBool, map, Result, Ok, Err, IfOk, IfErr, OnOk}
+use Rattle.std.proofs.Common.{◌≡◌, zero, suc, refl, ap, arith, sym, ◌∙◌, subst, Bool, true, false, List, [], ◌∷◌, ◌++◌, length}
+use Rattle.std.specs.Prelude.{MatchBool, map}
 use Rattle.std.proofs.lemmas.List.{append_assoc}
 use Rattle.kf_core.specs.declared.key.Key.{Key}
-use Rattle.kf_core.specs.declared.refusal.Refusal.{Refusal}
-use Rattle.kf_core.specs.declared.refusal.Refusal.TheVariants.{Invalid}
 use Rattle.kf_core.specs.Lawful.{Lawful}
 use Rattle.kf_core.specs.PostOrder.{IsPostOrder}
 use Rattle.kf_core.specs.Tree.{Tree, is_linked}
@@ -15,10 +13,9 @@ use Rattle.kf_tree.specs.Ends.{EndsWith}
 use Rattle.kf_tree.specs.TreeLogs.{IsAccepted}
 use Rattle.kf_words.specs.Callers.{TableId, Handle, IsSameSeat}
 use Rattle.kf_words.specs.Nodes.{MasterState}
-use Rattle.kf_shared.specs.Locked.{Locked, IsWhole, is_claimed}
-use Rattle.kf_shared.proofs.Pins.{invalid_root, invalid_self_root}
+use Rattle.kf_shared.specs.Locked.{Locked}
 use Rattle.kf_shared.specs.Removal.{keys_of, AreHolds, DoomHolds, DoomDone, DoomMarked}
-use Rattle.kf_shared.specs.Receipts.{AreOf, AllDifferent, Owner, owner, owners_of, EndsAt, IsDoomList, WasDoomed, WasSelfDoomed, DoomedFrom, SelfDoomedFrom, RefusedFrom, SelfRefusedFrom, RemovalRefused, SelfRemovalWasRefused}
+use Rattle.kf_shared.specs.Receipts.{AreOf, AllDifferent, Owner, owner, owners_of, EndsAt, IsDoomList}
 
 owners_more : (xs ys : List Handle) → owners_of (xs ++ ys) ≡ owners_of xs ++ owners_of ys
 owners_more [] ys = refl
@@ -65,6 +62,10 @@ next_finished table items rest receipts new hold parted all e n same a b h = (
   ap (λ xs. owners_of xs ++ owners_of rest) n ∙ ap (λ xs. xs ++ owners_of rest) (owners_more receipts (parted ∷ [])) ∙ append_assoc (owners_of receipts) (owner parted ∷ []) (owners_of rest)
       ∙ ap (λ x. owners_of receipts ++ x ∷ owners_of rest) (same_owner hold parted same) ∙ sym (ap (λ xs. owners_of receipts ++ owners_of xs) e) ∙ h,
 )
+
+-- what has the same owners has the same keys
+pub same_owner_keys : (xs ys : List Handle) → owners_of xs ≡ owners_of ys → keys_of xs ≡ keys_of ys
+same_owner_keys xs ys e = owner_keys xs ∙ ap (map (λ (o : Owner). o.key)) e ∙ sym (owner_keys ys)
 
 -- the holds of a removal are of the table
 pub are_of : (table : TableId) (m : MasterState) (hold : Handle) (holds : List Handle) → m.table ≡ table → hold.table ≡ table → AreHolds m hold holds → AreOf table holds
@@ -131,34 +132,3 @@ listed_different t root lawful top keys h = go (is_linked t top) h
     go : (b : Bool) → MatchBool b (IsPostOrder t top keys) (keys ≡ top ∷ []) → AllDifferent keys
     go true p = different t root lawful top keys p
     go false e = subst AllDifferent (sym e) (alone_different top)
-
--- what the calls on the guard tell, of the value that some lock kept
-module _ {X E : Type 0} (keys : X → List Key) (table : TableId) (old : Locked) (key : Key) (whole : IsWhole table old) where
-  pub was_doomed : (r : Result X E) → IfOk r (λ x. IsDoomList old.state.tree key (keys x)) → OnOk r (DoomedFrom table old key) → IfOk r (λ x. WasDoomed table key (keys x))
-  was_doomed (Ok x) listed d = record { old = old; new = d.new; was_whole = whole; is_whole = d.is_whole; listed = listed; done = d.done }
-  was_doomed (Err e) listed d = tt
-
-  pub was_self_doomed : (first : X → Bool) (r : Result X E) → IfOk r (λ x. first x ≡ not (is_claimed old.claims key)) → IfOk r (λ x. IsDoomList old.state.tree key (keys x)) → OnOk r (SelfDoomedFrom table old key)
-      → IfOk r (λ x. WasSelfDoomed table key (first x) (keys x))
-  was_self_doomed first (Ok x) told listed d = record {
-    doomed = record { old = old; new = d.doomed.new; was_whole = whole; is_whole = d.doomed.is_whole; listed = listed; done = d.doomed.done };
-    told = told;
-    claimed = d.claimed;
-  }
-  was_self_doomed first (Err e) told listed d = tt
-
-  pub was_refused : (why : E → Refusal) (r : Result X E) → IfErr r (λ e. RefusedFrom old key (why e)) → IfErr r (λ e. RemovalRefused table key (why e))
-  was_refused why (Ok x) h = tt
-  was_refused why (Err e) h = record { old = old; new = h.new; whole = whole; why = h.why; same = h.same }
-
-  pub was_self_refused : (why : E → Refusal) (r : Result X E) → IfErr r (λ e. SelfRefusedFrom old key (why e)) → IfErr r (λ e. SelfRemovalWasRefused table key (why e))
-  was_self_refused why (Ok x) h = tt
-  was_self_refused why (Err e) h = record { old = old; new = h.new; whole = whole; why = h.why; same = h.same }
-
-  pub was_at_root : (why : E → Refusal) (r : Result X E) → IfErr r (λ e. RemovalRefused table key (why e)) → IfErr r (λ e. why e ≡ Invalid → key.slot ≡ 0)
-  was_at_root why (Ok x) h = tt
-  was_at_root why (Err e) h = invalid_root table key (why e) h
-
-  pub was_self_at_root : (why : E → Refusal) (r : Result X E) → IfErr r (λ e. SelfRemovalWasRefused table key (why e)) → IfErr r (λ e. why e ≡ Invalid → key.slot ≡ 0)
-  was_self_at_root why (Ok x) h = tt
-  was_self_at_root why (Err e) h = invalid_self_root table key (why e) h

@@ -5,15 +5,15 @@ use Rattle.kf_core.specs.declared.key.Node.{Node}
 use Rattle.kf_core.specs.declared.key.Node.TheVariants.{Dir, File, Link}
 use Rattle.kf_core.specs.declared.command.Command.TheVariants.{Hide, Show}
 use Rattle.kf_core.specs.declared.refusal.Refusal.{Refusal}
-use Rattle.kf_core.specs.declared.refusal.Refusal.TheVariants.{Busy, IsDir, Invalid}
+use Rattle.kf_core.specs.declared.refusal.Refusal.TheVariants.{Busy, IsDir, Invalid, NoEntry, NoMemory}
 use Rattle.kf_core.specs.Refusals.{first_cause}
 use Rattle.kf_core.specs.Tree.{Tree}
 use Rattle.kf_tree.specs.Causes.{Refuses, hide_cause, hidden_in}
 use Rattle.kf_tree.specs.TreeLogs.{IsAccepted}
 use Rattle.kf_words.specs.declared.view.CallerView.{CallerView}
-use Rattle.kf_words.specs.Callers.{TableId, Handle, IsSameSeat, FoundHidden, seat_view}
+use Rattle.kf_words.specs.Callers.{Handle, IsSameSeat, FoundHidden, seat_view}
 use Rattle.kf_words.specs.Runs.{WasAHide, OnlyLookedHidden}
-use Rattle.kf_shared.specs.Locked.{Locked, IsWhole, Unchanged}
+use Rattle.kf_shared.specs.Locked.{Locked}
 
 -- files alone are hidden
 abbrev pub kind_cause : Node → Option Refusal
@@ -42,28 +42,15 @@ ShowDone old new key = MatchBool (hidden_in old.state.tree key)
 abbrev pub HidAndLooked : CallerView → CallerView → Type 0
 HidAndLooked before after = (hid : CallerView) × WasAHide before hid × OnlyLookedHidden hid after
 
--- a whole value, as the lock may keep one, in which the file of a hold was hidden, and the value after that
-pub record HidingAccepted (table : TableId) (hold : Handle) : Type 0 where
-  pub old : Locked
-  pub new : Locked
-  pub whole : IsWhole table old
-  pub accepted : IsAccepted old.state new.state (hold_cause old.state.tree hold) (Hide hold.key)
+-- what the tree may say against the hiding of a file, and the want of memory
+abbrev pub IsHideRefusal : Refusal → Type 0
+IsHideRefusal why = (why ≡ NoEntry) ⊎ (why ≡ IsDir) ⊎ (why ≡ Invalid) ⊎ (why ≡ Busy) ⊎ (why ≡ NoMemory)
 
--- a whole value, as the lock may keep one, when a hold's hiding was refused, and the value after that
-pub record HidingRefused (table : TableId) (hold back : Handle) (refusal : Refusal) : Type 0 where
-  pub old : Locked
-  pub new : Locked
-  pub whole : IsWhole table old
-  pub why : HideRefused old.state.tree hold back refusal
-  pub same : Unchanged old new
-
--- what a hiding makes of this value, as it began under the lock
-pub record HiddenFrom (old : Locked) (hold : Handle) : Type 0 where
-  pub new : Locked
-  pub accepted : IsAccepted old.state new.state (hold_cause old.state.tree hold) (Hide hold.key)
-
--- why it is refused
-pub record HideRefusedFrom (old : Locked) (hold back : Handle) (refusal : Refusal) : Type 0 where
-  pub new : Locked
-  pub why : HideRefused old.state.tree hold back refusal
-  pub same : Unchanged old new
+-- by the hold's own node, or it is a file and this was said of it: the hold is as it was; or its step found
+-- the key hidden by another caller
+abbrev pub HidingRefused : Handle → Handle → Refusal → Type 0
+HidingRefused hold back why =
+    ((kind_cause hold.node ≡ Some why) × (back ≡ hold))
+    ⊎ ((kind_cause hold.node ≡ None) × IsHideRefusal why × (back ≡ hold))
+    ⊎ ((kind_cause hold.node ≡ None) × (why ≡ Busy) × IsSameSeat hold back × FoundHidden hold back
+    × WasAHide (seat_view hold) (seat_view back))

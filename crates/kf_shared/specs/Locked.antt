@@ -8,7 +8,7 @@ use Rattle.kf_core.specs.declared.caller.Phase.TheVariants.{Still}
 use Rattle.kf_core.specs.declared.refusal.Refusal.{Refusal}
 use Rattle.kf_core.specs.declared.refusal.Refusal.TheVariants.{NoEntry, Busy}
 use Rattle.kf_core.specs.Tree.{Tree, record_at, is_linked}
-use Rattle.kf_tree.specs.Causes.{create_cause, rename_cause, unlink_cause}
+use Rattle.kf_tree.specs.Causes.{create_fault, create_cause, rename_cause, unlink_cause}
 use Rattle.kf_tree.specs.TreeLogs.{TreeLog, IsKept, IsAccepted, IsRefused}
 use Rattle.kf_words.specs.declared.view.MasterView.{MasterView}
 use Rattle.kf_words.specs.Callers.{TableId, Handle}
@@ -53,11 +53,19 @@ Created old new parent name node live key =
     IsAccepted old.state new.state (create_cause old.state.tree old.state.root parent name node (Some key))
     (Create key parent name node live)
 
--- there was a cause against it, with the next key that was found, or no memory
+-- what is wrong with the new node, whichever key is next
+abbrev pub fault_of : Locked → Key → List ℕ → Node → Option Refusal
+fault_of s parent name node = create_fault s.state.tree s.state.root parent name node
+
+-- something was wrong with it, and nothing was searched nor changed; or nothing was, and with the next key
+-- that was found there was this cause, or no memory
 abbrev pub CreateRefused : Locked → Locked → Key → List ℕ → Node → Refusal → Type 0
 CreateRefused old new parent name node refusal =
-    (next : Option Key) × HasFound old.master.view next new.master.view
-    × IsRefused old.state new.state (create_cause old.state.tree old.state.root parent name node next) refusal
+    ((fault_of old parent name node ≡ Some refusal) × (new ≡ old))
+    ⊎ ((fault_of old parent name node ≡ None)
+    × ((next : Option Key) × HasFound old.master.view next new.master.view
+    × IsRefused old.state new.state (create_cause old.state.tree old.state.root parent name node next)
+    refusal))
 
 -- why a node may not be moved
 abbrev pub move_cause : Locked → Key → Key → List ℕ → Option Refusal

@@ -1,14 +1,18 @@
--- What the receipts of a removal tell, and what it found and made while it had the lock.
-use Rattle.std.specs.Prelude.{◌≡◌, ◌≢◌, Bool, not, List, [], ◌∷◌, ◌++◌, map, All, AllPairs, MatchBool, slice_set}
+-- What the receipts of a removal tell, and why it is refused.
+use Rattle.std.specs.Prelude.{◌≡◌, ◌≢◌, ◌⊎◌, List, [], ◌∷◌, ◌++◌, map, All, AllPairs, MatchBool, None, Some, true, Result, MatchResult}
 use Rattle.kf_core.specs.declared.key.Key.{Key}
 use Rattle.kf_core.specs.declared.refusal.Refusal.{Refusal}
+use Rattle.kf_core.specs.declared.refusal.Refusal.TheVariants.{Invalid, NoEntry, NoMemory, TooManyHolds}
+use Rattle.kf_core.specs.Keys.{same_key}
 use Rattle.kf_core.specs.PostOrder.{IsPostOrder}
-use Rattle.kf_core.specs.Tree.{Tree, is_linked}
+use Rattle.kf_core.specs.Tree.{Tree, is_linked, in_subtree}
+use Rattle.kf_tree.specs.Causes.{doom_cause}
+use Rattle.kf_tree.specs.TreeLogs.{TreeLog}
 use Rattle.kf_words.specs.declared.view.CallerView.{CallerView}
 use Rattle.kf_words.specs.Callers.{TableId, Handle, SeatId, IsSameSeat, id_of}
 use Rattle.kf_words.specs.Runs.{OnlyLooked, OnlyMade, parts}
-use Rattle.kf_shared.specs.Locked.{Locked, IsWhole, Unchanged, is_claimed}
-use Rattle.kf_shared.specs.Removal.{DoomMarked, DoomRefused, SelfRemovalRefused}
+use Rattle.kf_words.specs.Nodes.{IsLastKey}
+use Rattle.kf_shared.specs.Locked.{Locked}
 
 -- all are of this table
 abbrev pub AreOf : TableId → List Handle → Type 0
@@ -45,58 +49,52 @@ OnlyWaited before after = (saw : CallerView) × OnlyLooked before saw × OnlyMad
 abbrev pub IsDoomList : Tree → Key → List Key → Type 0
 IsDoomList t key keys = MatchBool (is_linked t key) (IsPostOrder t key keys) (keys ≡ key ∷ [])
 
--- a whole value, as the lock may keep one, when a removal doomed its nodes, and the value after that. It does
--- not say that the lock kept it, nor when
-pub record WasDoomed (table : TableId) (key : Key) (keys : List Key) : Type 0 where
-  pub old : Locked
-  pub new : Locked
-  pub was_whole : IsWhole table old
-  pub is_whole : IsWhole table new
-  pub listed : IsDoomList old.state.tree key keys
-  pub done : DoomMarked old new key
+-- there is a node below the top
+abbrev pub HasBelow : Tree → Key → Type 0
+HasBelow t top = (key : Key) × (key ≢ top) × (in_subtree t top key ≡ true)
 
--- the same of a self-removal, which claims its node, and is the first where that was not claimed
-pub record WasSelfDoomed (table : TableId) (key : Key) (first : Bool) (keys : List Key) : Type 0 where
-  pub doomed : WasDoomed table key keys
-  pub told : first ≡ not (is_claimed doomed.old.claims key)
-  pub claimed : doomed.new.claims ≡ slice_set doomed.old.claims key.slot key.generation
+-- why the removal of a node of this tree is refused: it is the root; else a node below has no room for a hold
+-- more, or there was no memory; where it is no longer linked there was no memory
+abbrev pub RemovalRefused : Tree → Key → Key → Refusal → Type 0
+RemovalRefused t root key why = MatchBool (is_linked t key)
+    (MatchBool (same_key key root)
+    (why ≡ Invalid)
+    (((why ≡ TooManyHolds) × HasBelow t key) ⊎ (why ≡ NoMemory)))
+    (why ≡ NoMemory)
 
--- a whole value, as the lock may keep one, when a removal was refused, and the value after that
-pub record RemovalRefused (table : TableId) (key : Key) (refusal : Refusal) : Type 0 where
-  pub old : Locked
-  pub new : Locked
-  pub whole : IsWhole table old
-  pub why : DoomRefused old new key refusal
-  pub same : Unchanged old new
+-- a node has no room for a hold more, or there was no memory
+abbrev pub HoldsRefusal : Refusal → Type 0
+HoldsRefusal why = (why ≡ TooManyHolds) ⊎ (why ≡ NoMemory)
 
--- and when a self-removal was
-pub record SelfRemovalWasRefused (table : TableId) (key : Key) (refusal : Refusal) : Type 0 where
-  pub old : Locked
-  pub new : Locked
-  pub whole : IsWhole table old
-  pub why : SelfRemovalRefused old new key refusal
-  pub same : Unchanged old new
+-- why the removal of a call's own node is refused: it is the root; else the slot has had a later node, or the
+-- holds were refused
+abbrev pub SelfRefused : Locked → Key → Refusal → Type 0
+SelfRefused s key why = MatchBool (same_key key s.state.root)
+    (why ≡ Invalid)
+    (((why ≡ NoEntry) × (¬ IsLastKey s.master.view key)) ⊎ (IsLastKey s.master.view key × HoldsRefusal why))
 
--- what a removal makes of this value, as it began under the lock: some whole value in which its nodes are
--- doomed
-pub record DoomedFrom (table : TableId) (old : Locked) (key : Key) : Type 0 where
-  pub new : Locked
-  pub is_whole : IsWhole table new
-  pub done : DoomMarked old new key
-
--- the same of a self-removal, which claims the node
-pub record SelfDoomedFrom (table : TableId) (old : Locked) (key : Key) : Type 0 where
-  pub doomed : DoomedFrom table old key
-  pub claimed : doomed.new.claims ≡ slice_set old.claims key.slot key.generation
-
--- why a removal is refused that began with this value
-pub record RefusedFrom (old : Locked) (key : Key) (refusal : Refusal) : Type 0 where
-  pub new : Locked
-  pub why : DoomRefused old new key refusal
-  pub same : Unchanged old new
+-- whatever the tree: why a removal is refused
+abbrev pub RemovalRefusal : Refusal → Type 0
+RemovalRefusal why = (why ≡ Invalid) ⊎ HoldsRefusal why
 
 -- and a self-removal
-pub record SelfRefusedFrom (old : Locked) (key : Key) (refusal : Refusal) : Type 0 where
-  pub new : Locked
-  pub why : SelfRemovalRefused old new key refusal
-  pub same : Unchanged old new
+abbrev pub SelfRemovalRefusal : Refusal → Type 0
+SelfRemovalRefusal why = (why ≡ NoEntry) ⊎ RemovalRefusal why
+
+-- where the node is linked, nothing is against its doom
+abbrev pub MayBeDoomed : TreeLog → Key → Type 0
+MayBeDoomed s key = is_linked s.tree key ≡ true → doom_cause s.tree s.root key ≡ None
+
+-- nothing is against the doom of the node, and these are the keys of its subtree, in post-order
+pub record IsRemovalOf (s : TreeLog) (key : Key) (keys : List Key) : Type 0 where
+  pub no_cause : doom_cause s.tree s.root key ≡ None
+  pub ordered : IsPostOrder s.tree key keys
+
+-- why the node of a key is not removed: the cause against its doom, or the holds were refused
+abbrev pub KeyRefused : TreeLog → Key → Refusal → Type 0
+KeyRefused s key why = (doom_cause s.tree s.root key ≡ Some why)
+    ⊎ ((doom_cause s.tree s.root key ≡ None) × HoldsRefusal why)
+
+-- the name or path led to no node, for this reason, or to one that is not removed
+abbrev pub NamedRefused : TreeLog → Result Key Refusal → Refusal → Type 0
+NamedRefused s place why = MatchResult place (λ key. KeyRefused s key why) (λ refusal. refusal ≡ why)

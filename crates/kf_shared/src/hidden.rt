@@ -1,10 +1,10 @@
 //! Files that are hidden and shown again, by threads that do not have the lock.
-ghost use Rattle.std.specs.Prelude.{◌≡◌, true, IfErr, IfOk, OnOk};
+ghost use Rattle.std.specs.Prelude.{◌≡◌, true, None, IfErr, IfOk, OnOk};
 ghost use Rattle.kf_core.specs.declared.caller.Phase.TheVariants as phase_of;
 ghost use Rattle.kf_words.specs.Callers.{IsSameSeat, WasShown, seat_view};
 ghost use Rattle.kf_words.specs.Layout.{is_unused};
 ghost use Rattle.kf_words.specs.Runs.{WasAShow};
-ghost use Rattle.kf_shared.specs.Hiding.{HidAndLooked, HiddenFrom, HideRefusedFrom, HidingAccepted, HidingRefused};
+ghost use Rattle.kf_shared.specs.Hiding.{HidAndLooked, HideRefused, HidingRefused, hold_cause, kind_cause};
 
 use crate::editor::Editor;
 use crate::naming::Naming;
@@ -31,8 +31,8 @@ impl<N: Naming> SharedTree<N> {
         ensures hidden { IfOk result (λ hidden. hidden.phase ≡ phase_of.Hidden) }
         ensures unused { IfOk result (λ hidden. is_unused hidden.found ≡ true) }
         ensures looked { IfOk result (λ hidden. HidAndLooked (seat_view hold) (seat_view hidden)) }
-        ensures accepted { IfOk result (λ _. HidingAccepted N.table hold) }
-        ensures refused { IfErr result (λ r. HidingRefused N.table hold r.0 r.1) }
+        ensures file { OnOk result (kind_cause hold.node ≡ None) }
+        ensures refused { IfErr result (λ r. HidingRefused hold r.0 r.1) }
     {
         self.edit(rt).hide_and_wait(rt, hold)
     }
@@ -64,8 +64,8 @@ impl<N: Naming> Editor<'_, N> {
         ensures hidden { IfOk result (λ hidden. hidden.phase ≡ phase_of.Hidden) }
         ensures unused { IfOk result (λ hidden. is_unused hidden.found ≡ true) }
         ensures looked { IfOk result (λ hidden. HidAndLooked (seat_view hold) (seat_view hidden)) }
-        ensures accepted { OnOk result (HiddenFrom self.entry hold) }
-        ensures refused { IfErr result (λ r. HideRefusedFrom self.entry hold r.0 r.1) }
+        ensures no_cause { OnOk result (hold_cause self.entry.state.tree hold ≡ None) }
+        ensures refused { IfErr result (λ r. HideRefused self.entry.state.tree hold r.0 r.1) }
     {
         let mut editor = self;
         let started = editor.hide(hold);

@@ -50,7 +50,8 @@ impl<N: Naming> Locked<N> {
         &self.state
     }
 
-    /// Links a node in the slot that the search for a free one found.
+    /// Links a node in the slot that the search for a free one found. Where there is a cause against it
+    /// whichever key is next, nothing is searched.
     pub fn create(
         &mut self,
         parent: Key,
@@ -67,8 +68,14 @@ impl<N: Naming> Locked<N> {
         ensures claims { self.new.claims ≡ self.old.claims }
     {
         let _ = self.state.root();
+        if let Some(fault) = self.state.create_fault(parent, name, node) {
+            return Err(fault);
+        }
         let next = self.master.free_key();
-        let key = self.state.create(parent, name, node, live, next)?;
+        let Some(key) = next else {
+            return Err(Refusal::NoSpace);
+        };
+        self.state.create_at(key, parent, name, node, live)?;
         self.master.born(key, node);
         if live {
             self.master.activate(key);

@@ -6,7 +6,7 @@ ghost use Rattle.kf_tree.specs.Ends.{EndsWith};
 ghost use Rattle.kf_words.specs.Callers.{IsSameSeat, seat_view};
 ghost use Rattle.kf_shared.specs.Locked.{is_claimed};
 ghost use Rattle.kf_shared.specs.Removal.{keys_of};
-ghost use Rattle.kf_shared.specs.Receipts.{AllDifferent, AreOf, DoomedFrom, EndsAt, IsDoomList, OnlyWaited, RefusedFrom, RemovalRefused, SelfDoomedFrom, SelfRefusedFrom, SelfRemovalWasRefused, WasDoomed, WasSelfDoomed, owners_of};
+ghost use Rattle.kf_shared.specs.Receipts.{AllDifferent, AreOf, EndsAt, IsDoomList, MayBeDoomed, OnlyWaited, RemovalRefusal, RemovalRefused, SelfRefused, SelfRemovalRefusal, owners_of};
 
 use crate::editor::Editor;
 use crate::naming::Naming;
@@ -82,9 +82,8 @@ impl<N: Naming> SharedTree<N> {
         ensures tables { IfOk result (λ receipts. AreOf N.table receipts.items) }
         ensures last { IfOk result (λ receipts. EndsAt receipts.items hold) }
         ensures different { IfOk result (λ receipts. AllDifferent (keys_of receipts.items)) }
-        ensures doomed { IfOk result (λ receipts. WasDoomed N.table hold.key (keys_of receipts.items)) }
         ensures back { IfErr result (λ r. r.0 ≡ hold) }
-        ensures refused { IfErr result (λ r. RemovalRefused N.table hold.key r.1) }
+        ensures refused { IfErr result (λ r. RemovalRefusal r.1) }
         ensures root { IfErr result (λ r. r.1 ≡ refusal_of.Invalid → hold.key.slot ≡ 0) }
     {
         self.edit(rt).remove(rt, hold)
@@ -118,8 +117,7 @@ impl<N: Naming> SharedTree<N> {
         ensures tables { IfOk result (λ r. AreOf N.table r.1.items) }
         ensures last { IfOk result (λ r. EndsWith (keys_of r.1.items) call.old.key) }
         ensures different { IfOk result (λ r. AllDifferent (keys_of r.1.items)) }
-        ensures doomed { IfOk result (λ r. WasSelfDoomed N.table call.old.key r.0 (keys_of r.1.items)) }
-        ensures refused { IfErr result (λ refusal. SelfRemovalWasRefused N.table call.old.key refusal) }
+        ensures refused { IfErr result (λ refusal. SelfRemovalRefusal refusal) }
         ensures root { IfErr result (λ refusal. refusal ≡ refusal_of.Invalid → call.old.key.slot ≡ 0) }
     {
         self.edit(rt).remove_self(rt, call)
@@ -144,9 +142,10 @@ impl<N: Naming> Editor<'_, N> {
         ensures different { IfOk result (λ receipts. AllDifferent (keys_of receipts.items)) }
         ensures listed { IfOk result
             (λ receipts. IsDoomList self.entry.state.tree hold.key (keys_of receipts.items)) }
-        ensures doomed { OnOk result (DoomedFrom N.table self.entry hold.key) }
+        ensures no_cause { OnOk result (MayBeDoomed self.entry.state hold.key) }
         ensures back { IfErr result (λ r. r.0 ≡ hold) }
-        ensures refused { IfErr result (λ r. RefusedFrom self.entry hold.key r.1) }
+        ensures refused { IfErr result
+            (λ r. RemovalRefused self.entry.state.tree self.entry.state.root hold.key r.1) }
     {
         let mut editor = self;
         let tree = editor.tree;
@@ -179,8 +178,8 @@ impl<N: Naming> Editor<'_, N> {
         ensures different { IfOk result (λ r. AllDifferent (keys_of r.1.items)) }
         ensures listed { IfOk result
             (λ r. IsDoomList self.entry.state.tree call.old.key (keys_of r.1.items)) }
-        ensures doomed { OnOk result (SelfDoomedFrom N.table self.entry call.old.key) }
-        ensures refused { IfErr result (λ refusal. SelfRefusedFrom self.entry call.old.key refusal) }
+        ensures no_cause { OnOk result (MayBeDoomed self.entry.state call.old.key) }
+        ensures refused { IfErr result (λ refusal. SelfRefused self.entry call.old.key refusal) }
     {
         let mut editor = self;
         let tree = editor.tree;

@@ -8,6 +8,7 @@ ghost use Rattle.kf_shared.specs.Locked.{IsWhole};
 use crate::editor::Editor;
 use crate::locked::Locked;
 use crate::naming::Naming;
+use crate::reader::Reader;
 use kf_core::{Key, Limits, Refusal};
 use kf_tree::State;
 use kf_words::{Master, Words};
@@ -164,10 +165,10 @@ impl SharedTree<Brand> {
 }
 
 impl<N: Naming> SharedTree<N> {
-    /// Waits for the one lock. Whenever it is got, the tree is lawful and the replay of its commands, and the
-    /// words name the same linked, activated and doomed keys.
+    /// Waits until nobody else has the one lock. Whenever it is got, the tree is lawful and the replay of its
+    /// commands, and the words name the same linked, activated and doomed keys.
     ///
-    /// The lock is not reentrant: one who has an [`Editor`] and calls `edit`, `finish`, `remove`,
+    /// The lock is not reentrant: one who has an [`Editor`] and calls `edit`, `read`, `finish`, `remove`,
     /// `remove_self`, `hide` or `show` of the same tree waits for itself. So may one who waits under it for a
     /// drain or a hidden file: nobody can mark a node meanwhile, and a callback that is waited for may want
     /// the lock. Under it may be called what takes no runtime: the editor's commands, and each call of a
@@ -181,5 +182,17 @@ impl<N: Naming> SharedTree<N> {
         };
         let _ = editor.state();
         editor
+    }
+
+    /// Waits for the lock as one who only looks: a [`Reader`] can change nothing. What holds of the tree is
+    /// what `edit` tells, and what may not be called over an [`Editor`] may not be called over a `Reader`.
+    pub fn read<R: Wait>(&self, rt: &R) -> Reader<'_, N>
+        ensures { IsWhole N.table result }
+    {
+        let reader = Reader {
+            guard: self.lock.lock(rt),
+        };
+        let _ = reader.state();
+        reader
     }
 }

@@ -1,4 +1,4 @@
-//! A removal that has marked its nodes, and has yet to wait for them.
+//! A removal that has marked its nodes, and has yet to wait for them; and its receipts given back.
 ghost use Rattle.std.specs.Prelude.{◌≡◌, ◌+◌, ◌≤◌, [], vec_capacity, vec_len};
 ghost use Rattle.kf_shared.specs.Receipts.{AreOf, owners_of};
 
@@ -62,4 +62,12 @@ impl<N: Naming> Removing<N> {
         } = self;
         tree.finish_each(rt, holds, receipts)
     }
+}
+
+/// Gives the receipts of a removal back. Each frees its node's slot where nobody holds that any more.
+pub fn release_all(mut receipts: Vec<Parted>) {
+    while let Some(receipt) = receipts.pop() {
+        receipt.release();
+    }
+    receipts.destroy_empty();
 }

@@ -28,9 +28,10 @@ fn print_names<N: Naming, R: Wait + Print>(
     tree: &SharedTree<N>,
     path: &[u8],
 ) -> anyhow::Result<()> {
-    let editor = tree.edit(rt);
-    let dir = editor.state().lookup(path)?;
-    let names = editor.state().list(dir, None, 100)?;
+    let reader = tree.read(rt);
+    let dir = reader.state().lookup(path)?;
+    let names = reader.state().list(dir, None, 100)?;
+    drop(reader);
     println!(rt;
         "{} in {}",
         names.len(),

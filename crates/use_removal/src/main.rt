@@ -7,8 +7,8 @@ ghost use Rattle.kf_core.specs.declared.caller.Phase.TheVariants as phase_of;
 
 use anyhow::Context;
 use kf_core::{Key, Limits, Node, Refusal};
-use kf_shared::{Naming, NewTree, SharedTree};
-use kf_words::{Hold, Parted};
+use kf_shared::{Naming, NewTree, SharedTree, release_all};
+use kf_words::Hold;
 use std::marker::{Brand, PhantomData};
 use std::sync::Wait;
 use std::sync::atomic::{AtomicU64, Ordering};
@@ -68,21 +68,14 @@ fn read_until_refused<N: Naming>(place: &mut Option<Held<N>>, reads: &AtomicU64)
 fn remove_under_use<N: Naming, R: Wait>(
     rt: &R,
     tree: &SharedTree<N>,
-    place: &mut Option<Held<N>>,
+    dir: Key,
     reads: &AtomicU64,
-) -> usize {
+) -> Result<usize, Refusal> {
     while_unused(reads);
-    let Some(held) = place.take() else {
-        return 0;
-    };
-    let Held { hold, tree: _ } = held;
-    match tree.remove(rt, hold) {
-        Ok(receipts) => release_all(receipts),
-        Err((hold, _)) => {
-            hold.release();
-            0
-        }
-    }
+    let receipts = tree.edit(rt).remove_key(rt, dir)?;
+    let count = receipts.len();
+    release_all(receipts);
+    Ok(count)
 }
 
 /// Releases a hold that no thread took.
@@ -102,16 +95,6 @@ fn while_unused(reads: &AtomicU64) {
     }
 }
 
-/// Gives the receipts' slots back, and answers how many receipts there were.
-fn release_all(mut receipts: Vec<Parted>) -> usize {
-    let count = receipts.len();
-    while let Some(receipt) = receipts.pop() {
-        receipt.release();
-    }
-    receipts.destroy_empty();
-    count
-}
-
 fn run<N: Naming + Send + Sync, R: Threads + Wait + Sync + Print>(
     rt: &R,
     new: NewTree,
@@ -121,15 +104,14 @@ fn run<N: Naming + Send + Sync, R: Threads + Wait + Sync + Print>(
     let tree = new.named::<N>();
     let (fan, speed) = publish(rt, &tree)?;
     let mut reader = hold(rt, &tree, speed).ok();
-    let mut remover = hold(rt, &tree, fan).ok();
     let reads = AtomicU64::new(0);
     let ((), gone) = join(
         rt,
         || read_until_refused(&mut reader, &reads),
-        || remove_under_use(rt, &tree, &mut remover, &reads),
+        || remove_under_use(rt, &tree, fan, &reads),
     );
     give_back(reader);
-    give_back(remover);
+    let gone = gone?;
     let was_read = reads.load(Ordering::SeqCst) > 0;
     println!(rt; "{gone} nodes went, and the attribute was read before: {was_read}")?;
     Ok(())

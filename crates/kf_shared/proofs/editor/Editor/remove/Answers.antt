@@ -1,5 +1,6 @@
 use Rattle.std.proofs.Common.{[], refl}
 use Rattle.kf_shared.proofs.Receipts.{receipts_end, receipts_listed, done_marked, listed_different}
+use Rattle.kf_shared.proofs.Refusals.{may_be_doomed}
 use Rattle.kf_shared.proofs.editor.Editor.remove.Goals as goal
 
 pub returns-clause-last : goal.returns-clause-last
@@ -11,9 +12,5 @@ returns-clause-listed g c = receipts_listed c.args.hold c.in_ok-begun.field-0 []
 pub returns-clause-different : goal.returns-clause-different
 returns-clause-different g c = listed_different c.args.self.state.tree c.args.self.state.root c.in_ok-begun.ensures.was_whole.kept.lawful c.args.hold.key _ (returns-clause-listed g c)
 
-pub returns-clause-doomed : goal.returns-clause-doomed
-returns-clause-doomed g c = record {
-  new = c.begin_removal-begun.new.self;
-  is_whole = c.in_ok-begun.ensures.whole;
-  done = done_marked c.args.self c.begin_removal-begun.new.self c.args.hold.key c.in_ok-begun.ensures.done;
-}
+pub returns-clause-no_cause : goal.returns-clause-no_cause
+returns-clause-no_cause g c = may_be_doomed c.args.self c.begin_removal-begun.new.self c.args.hold.key (done_marked c.args.self c.begin_removal-begun.new.self c.args.hold.key c.in_ok-begun.ensures.done)

@@ -3,6 +3,7 @@ use Rattle.kf_tree.specs.Ends.{EndsWith}
 use Rattle.kf_shared.specs.Removal.{keys_of}
 use Rattle.kf_shared.specs.Receipts.{IsDoomList}
 use Rattle.kf_shared.proofs.Receipts.{receipts_end, receipts_listed, end_key, listed_different}
+use Rattle.kf_shared.proofs.Refusals.{may_be_doomed}
 use Rattle.kf_shared.proofs.editor.Editor.remove_self.Goals as goal
 
 pub returns-clause-last : goal.returns-clause-last
@@ -20,12 +21,5 @@ returns-clause-listed g c =
 pub returns-clause-different : goal.returns-clause-different
 returns-clause-different g c = listed_different c.args.self.state.tree c.args.self.state.root c.in_ok-first.ensures.was_whole.kept.lawful c.args.call.now.key _ (returns-clause-listed g c)
 
-pub returns-clause-doomed : goal.returns-clause-doomed
-returns-clause-doomed g c = record {
-  doomed = record {
-    new = c.begin_self_removal-begun.new.self;
-    is_whole = c.in_ok-first.ensures.whole;
-    done = c.in_ok-first.ensures.done;
-  };
-  claimed = c.in_ok-first.ensures.claimed;
-}
+pub returns-clause-no_cause : goal.returns-clause-no_cause
+returns-clause-no_cause g c = may_be_doomed c.args.self c.begin_self_removal-begun.new.self c.args.call.now.key c.in_ok-first.ensures.done

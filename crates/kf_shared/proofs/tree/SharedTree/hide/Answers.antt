@@ -1,8 +1,8 @@
-use Rattle.kf_shared.proofs.Hidings.{was_accepted, hiding_refused}
+use Rattle.kf_shared.proofs.Hidings.{file_hidden, hiding_refused}
 use Rattle.kf_shared.proofs.tree.SharedTree.hide.Goals as goal
 
-pub returns-clause-accepted : goal.returns-clause-accepted
-returns-clause-accepted g c = was_accepted g.N.Naming.table c.edit.result c.args.hold c.edit.ensures c.hide_and_wait.result c.hide_and_wait.ensures.accepted
+pub returns-clause-file : goal.returns-clause-file
+returns-clause-file g c = file_hidden c.edit.result.state.tree c.args.hold c.hide_and_wait.result c.hide_and_wait.ensures.no_cause
 
 pub returns-clause-refused : goal.returns-clause-refused
-returns-clause-refused g c = hiding_refused g.N.Naming.table c.edit.result c.args.hold c.edit.ensures c.hide_and_wait.result c.hide_and_wait.ensures.refused
+returns-clause-refused g c = hiding_refused c.edit.result.state.tree c.args.hold c.hide_and_wait.result c.hide_and_wait.ensures.refused

@@ -1,0 +1,92 @@
+//! Removal of a node by its key, its name or its path, as the guard's tree has it.
+ghost use Rattle.std.specs.Prelude.{◌≡◌, Ok, IfErr, IfOk, OnErr, OnOk};
+ghost use Rattle.kf_core.specs.declared.command.Command.TheVariants.{Doom};
+ghost use Rattle.kf_core.specs.declared.key.Key.{Key};
+ghost use Rattle.kf_core.specs.PostOrder.{IsPostOrder};
+ghost use Rattle.kf_tree.specs.Causes.{doom_cause};
+ghost use Rattle.kf_tree.specs.Paths.{found, walked};
+ghost use Rattle.kf_tree.specs.TreeLogs.{IsAccepted};
+ghost use Rattle.kf_shared.specs.Locked.{IsWhole, Unchanged};
+ghost use Rattle.kf_shared.specs.Removal.{keys_of};
+ghost use Rattle.kf_shared.specs.Receipts.{AreOf, IsRemovalOf, KeyRefused, NamedRefused};
+
+use crate::editor::Editor;
+use crate::naming::Naming;
+use crate::under_way::Removing;
+use kf_core::{Key, Refusal};
+use kf_words::Parted;
+use std::sync::Wait;
+
+impl<N: Naming> Editor<'_, N> {
+    /// As `begin_removal`, of the node of a key: it takes a hold of it first, which is the removal's last.
+    ///
+    /// Refusals, in order: NoEntry (not linked), Invalid (the root), TooManyHolds or NoMemory, whichever is
+    /// met first. After a refusal nothing is marked.
+    pub fn begin_removal_of(&mut self, key: Key) -> Result<Removing<N>, Refusal>
+        ensures ordered { IfOk result (λ removing. IsPostOrder self.old.state.tree key (keys_of removing)) }
+        ensures done { OnOk result (IsAccepted self.old.state self.new.state
+            (doom_cause self.old.state.tree self.old.state.root key) (Doom key)) }
+        ensures whole { IsWhole N.table self.new }
+        ensures refused { IfErr result (λ refusal. KeyRefused self.old.state key refusal) }
+        ensures same { OnErr result (Unchanged self.old self.new) }
+        ensures claims { self.new.claims ≡ self.old.claims }
+    {
+        self.state().may_doom(key)?;
+        let hold = self.hold(key)?;
+        match self.begin_removal(hold) {
+            Ok(removing) => Ok(removing),
+            Err((hold, refusal)) => {
+                hold.release();
+                Err(refusal)
+            }
+        }
+    }
+
+    /// Removes the node of a key with all below it, as `remove` does. The receipts are in post-order, the
+    /// node's own last.
+    ///
+    /// Refusals: those of `begin_removal_of`. After a refusal nothing is marked, and the lock is let go.
+    pub fn remove_key<R: Wait>(self, rt: &R, key: Key) -> Result<Vec<Parted>, Refusal>
+        ensures tables { IfOk result (λ receipts. AreOf N.table receipts.items) }
+        ensures listed { IfOk result (λ receipts. IsRemovalOf self.entry.state key (keys_of receipts.items)) }
+        ensures refused { IfErr result (λ refusal. KeyRefused self.entry.state key refusal) }
+    {
+        let mut editor = self;
+        let tree = editor.tree;
+        let begun = editor.begin_removal_of(key);
+        drop(editor);
+        Ok(begun?.finish(rt, tree))
+    }
+
+    /// Removes the node of this name in a directory, live or not.
+    ///
+    /// Refusals, in order: NoEntry (the directory is not linked), NotDir, NoEntry (no such child), then those
+    /// of `begin_removal_of`. After a refusal nothing is marked, and the lock is let go.
+    pub fn remove_name<R: Wait>(self, rt: &R, dir: Key, name: &[u8]) -> Result<Vec<Parted>, Refusal>
+        ensures tables { IfOk result (λ receipts. AreOf N.table receipts.items) }
+        ensures listed { IfOk result (λ receipts. (key : Key)
+            × (found self.entry.state.tree dir name.now ≡ Ok key)
+            × IsRemovalOf self.entry.state key (keys_of receipts.items)) }
+        ensures refused { IfErr result (λ refusal.
+            NamedRefused self.entry.state (found self.entry.state.tree dir name.now) refusal) }
+    {
+        let key = self.state().find(dir, name)?;
+        self.remove_key(rt, key)
+    }
+
+    /// Removes the node that a path names, live or not; links are not followed.
+    ///
+    /// Refusals, in order: those of [`kf_tree::State::walk`], then those of `begin_removal_of`. After a
+    /// refusal nothing is marked, and the lock is let go.
+    pub fn remove_path<R: Wait>(self, rt: &R, path: &[u8]) -> Result<Vec<Parted>, Refusal>
+        ensures tables { IfOk result (λ receipts. AreOf N.table receipts.items) }
+        ensures listed { IfOk result (λ receipts. (key : Key)
+            × (walked self.entry.state.tree self.entry.state.root path.now ≡ Ok key)
+            × IsRemovalOf self.entry.state key (keys_of receipts.items)) }
+        ensures refused { IfErr result (λ refusal. NamedRefused self.entry.state
+            (walked self.entry.state.tree self.entry.state.root path.now) refusal) }
+    {
+        let key = self.state().walk(path)?;
+        self.remove_key(rt, key)
+    }
+}

@@ -1,0 +1,34 @@
+//! The guard of those who only look.
+ghost use Rattle.std.specs.Prelude.{◌≡◌};
+ghost use Rattle.kf_shared.specs.Locked.{IsWhole};
+
+use crate::locked::Locked;
+use crate::naming::Naming;
+use kf_tree::State;
+use std::marker::Model;
+use std::sync::MutexGuard;
+
+/// The tree while its lock is held to look alone. To a contract it is what the lock keeps.
+#[derive(Drop)]
+pub struct Reader<'a, N: Naming> {
+    pub(crate) guard: MutexGuard<'a, Locked<N>>,
+}
+
+impl<'a, N: Naming> Model for Reader<'a, N> {
+    ghost use Rattle.std.specs.Sync.Mutex.{mutex_guard_value};
+    ghost use Rattle.kf_shared.specs.Locked.{Locked};
+
+    ghost Value = { Locked };
+
+    ghost view = { λ s. mutex_guard_value s.guard };
+}
+
+impl<N: Naming> Reader<'_, N> {
+    /// The tree with its stored commands. It is lawful and the replay of its commands.
+    pub fn state(&self) -> &State
+        ensures same { result.now ≡ self.now.state }
+        ensures whole { IsWhole N.table self.now }
+    {
+        self.guard.state()
+    }
+}
