@@ -14,6 +14,8 @@ impl Drained {
     /// Sleeps while somebody uses the node again: a caller that broke its protection and restored it, or one
     /// whose refused try is not yet taken back. With no user there it sleeps for a millisecond at most. It
     /// may return for no reason, and makes no step on the slot's active word or hold word.
+    ///
+    /// Context: sleeps; takes no lock.
     pub fn rest<R: Wait>(&mut self, rt: &R)
         ensures { self.new ≡ self.old }
     {
@@ -25,6 +27,13 @@ impl Drained {
 /// Waits until the node is doomed and nobody has a reference to it (`kernfs_drain`).
 /// It may never return. All its steps on the slot's active word and hold word are looks at the active word;
 /// how many is not told.
+///
+/// Why no callback is missed: a caller counts itself by the very step that looks for the mark, so its step and
+/// the mark come one after the other in the order of one word. A try that comes first is counted in the word
+/// that the mark leaves, and no later word is drained before it has left; one that comes after finds the bias
+/// and fails. Its count stands for a moment all the same, so a look may come too early, and never too late.
+///
+/// Context: sleeps; takes no lock, and its caller must not have the tree's.
 #[tactic(auto, using(crate::proofs::Waits::at_least_one))]
 pub fn wait_drained<R: Wait>(rt: &R, hold: Hold) -> Drained
     ensures same { IsSameSeat hold result }

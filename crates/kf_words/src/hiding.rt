@@ -99,6 +99,8 @@ impl Hidden {
 /// Waits until nobody has a reference to the node whose key it hides.
 /// It may never return. All its steps on the slot's active word and hold word are looks at the active word;
 /// how many is not told.
+///
+/// Context: sleeps; takes no lock, and its caller must not have the tree's.
 #[tactic(auto, using(crate::proofs::Waits::at_least_one))]
 pub fn wait_hidden<R: Wait>(rt: &R, hiding: Hiding) -> Hidden
     ensures same { IsSameSeat hiding result }
