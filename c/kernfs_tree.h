@@ -18,6 +18,17 @@
  * Answers: 0 or more where it is done; a Linux error number below 0 where it is not, and then nothing has changed and
  * what `out` points to is as it was. No call sleeps, takes a lock or calls back.
  *
+ * What is proved, for all inputs, stands beside each call in crates/kernfs_tree/src/calls.rt:
+ * - 0 only where the thing was done, as the tree defines it: the node linked, found, moved, held, activated, out of the
+ *   tree; the hold let in while its node was live, the call left, broken, restored. kt_leave() and kt_break() answer 1
+ *   exactly where somebody may wait for what is left of the node's word.
+ * - After an answer below 0 the tree, the handle and `out` are as they were; of kt_next() and kt_readlink() the tree.
+ * - No call reads or writes out of bounds or after a free, and each ends.
+ * On a node that is not in the tree nobody runs, nor ever will: that is a law over every run of such steps. Not proved:
+ * what kt_stat(), kt_next() and kt_readlink() tell; that kt_remove() takes out no other node than those below; which of
+ * 0 and 1 kt_clear() and kt_delete() answer; that kt_new() gives a handle; and everything that is C, the helpers below
+ * too. These are tested.
+ *
  * What a program has to keep to, which the library cannot see:
  * - A handle comes from kt_new(), is used by one call at a time, and not after kt_delete(). It may go to another thread
  *   with what orders such a step (a lock, a join, an atomic).
@@ -136,7 +147,8 @@ int32_t kt_hold(struct kt_handle *tree, struct kt_key key, struct kt_handle *hol
 /* Removes a node and all below it (kernfs_remove), as far as it can without waiting: marks them all, so that no
  * kt_enter() there succeeds any more, and takes each out of the tree that nobody is inside. 0: the node is out, now or
  * before. -EAGAIN: somebody is inside; call again when a callback has left (kt_remove_wait() does). Before anything is
- * marked: -EINVAL (the root), -EMFILE (a node has as many holds as there may be), -ENOMEM. */
+ * marked: -EINVAL (the root), -EMFILE (a node has as many holds as there may be), -ENOMEM. It takes a hold of each node
+ * for a moment: where a program has taken as many as there may be, it answers -EAGAIN until one is let go. */
 int32_t kt_remove(struct kt_handle *tree, struct kt_key key);
 
 /* Marks a node and all below it, as kt_remove() does, and claims its removal for a callback of its own: of those who

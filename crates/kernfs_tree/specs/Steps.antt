@@ -1,5 +1,6 @@
 -- What the steps of a hold and a call make of what lies behind a handle.
-use Rattle.std.specs.Prelude.{◌≡◌}
+use Rattle.std.specs.Prelude.{◌≡◌, ◌-◌, ℕ, ℤ, pos, if◌then◌else◌}
+use Rattle.kf_words.specs.Layout.{wants_wake}
 use Rattle.kf_words.specs.Callers.{IsSameSeat, Entered, WasTurned, seat_view}
 use Rattle.kf_words.specs.Callers.{WasLeft as LeftHandle, WasBroken as BrokenHandle, WasRestored as RestoredHandle}
 use Rattle.kf_words.specs.Runs.{WasALeave, WasABreak, WasARestore, WasLetInLive}
@@ -35,3 +36,13 @@ abbrev pub WasRestored : Object → Object → Type 0
 WasRestored (behind.Call broken) (behind.Call inside) = IsSameSeat broken.call inside.call
     × RestoredHandle broken.call inside.call × WasARestore (seat_view broken.call) (seat_view inside.call)
 WasRestored old new = ⊥
+
+-- the word that its last step found
+abbrev pub found_by : Object → ℕ
+found_by (behind.Hold held) = held.hold.found
+found_by (behind.Call inside) = inside.call.found
+found_by other = 0
+
+-- 1 where one who sleeps may wait for the word as its last step left it, and else 0
+abbrev pub wake_of : Object → ℤ
+wake_of object = pos (if wants_wake (found_by object - 1) then 1 else 0)

@@ -3,7 +3,7 @@ ghost use Rattle.std.specs.Prelude.{◌≡◌, ◌≢◌, ◌⊎◌, pos, negsuc
 ghost use Rattle.kf_core.specs.declared.key.Node.TheVariants as kind;
 ghost use Rattle.kernfs_tree.specs.Answers.{IsAsBefore};
 ghost use Rattle.kernfs_tree.specs.Calls.{key_in, CreatedIn, FoundIn, WalkedIn, IsLinkedIn, IsNewTree, HoldsNode, RootIn, ActivatedIn, MovedIn, CompactedIn, ClaimedIn, IsNothing};
-ghost use Rattle.kernfs_tree.specs.Steps.{WasEntered, WasRefused, WasLeft, WasBroken, WasRestored};
+ghost use Rattle.kernfs_tree.specs.Steps.{WasEntered, WasRefused, WasLeft, WasBroken, WasRestored, wake_of};
 
 use crate::handle::KtHandle;
 use crate::questions::Question;
@@ -288,6 +288,7 @@ pub extern "C" fn kt_enter(hold: &mut KtHandle) -> i32
 pub extern "C" fn kt_leave(call: &mut KtHandle) -> i32
     ensures left { (result ≡ pos 0) ⊎ (result ≡ pos 1) →
         WasLeft call.old.place.object call.new.place.object }
+    ensures owed { (result ≡ pos 0) ⊎ (result ≡ pos 1) → result ≡ wake_of call.new.place.object }
     ensures same { result ≢ pos 0 → result ≢ pos 1 → call.new.place.object ≡ call.old.place.object }
 {
     stepping::leave(call)
@@ -299,6 +300,7 @@ pub extern "C" fn kt_leave(call: &mut KtHandle) -> i32
 pub extern "C" fn kt_break(call: &mut KtHandle) -> i32
     ensures broken { (result ≡ pos 0) ⊎ (result ≡ pos 1) →
         WasBroken call.old.place.object call.new.place.object }
+    ensures owed { (result ≡ pos 0) ⊎ (result ≡ pos 1) → result ≡ wake_of call.new.place.object }
     ensures same { result ≢ pos 0 → result ≢ pos 1 → call.new.place.object ≡ call.old.place.object }
 {
     stepping::break_off(call)

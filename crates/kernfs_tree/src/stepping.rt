@@ -1,6 +1,6 @@
 //! The steps of a hold and a call, taken where they lie.
 ghost use Rattle.std.specs.Prelude.{◌≡◌, ◌≢◌, ◌⊎◌, pos};
-ghost use Rattle.kernfs_tree.specs.Steps.{WasEntered, WasRefused, WasLeft, WasBroken, WasRestored};
+ghost use Rattle.kernfs_tree.specs.Steps.{WasEntered, WasRefused, WasLeft, WasBroken, WasRestored, wake_of};
 
 use crate::handle::KtHandle;
 use crate::steps;
@@ -20,6 +20,8 @@ fn enter_handle(handle: KtHandle, nothing: ()) -> (KtHandle, i32)
 fn leave_handle(handle: KtHandle, nothing: ()) -> (KtHandle, i32)
     ensures left { (result.1 ≡ pos 0) ⊎ (result.1 ≡ pos 1) →
         WasLeft handle.place.object result.0.place.object }
+    ensures owed { (result.1 ≡ pos 0) ⊎ (result.1 ≡ pos 1) →
+        result.1 ≡ wake_of result.0.place.object }
     ensures same { result.1 ≢ pos 0 → result.1 ≢ pos 1 → result.0.place.object ≡ handle.place.object }
 {
     let mut boxed = handle.into_box();
@@ -30,6 +32,8 @@ fn leave_handle(handle: KtHandle, nothing: ()) -> (KtHandle, i32)
 fn break_handle(handle: KtHandle, nothing: ()) -> (KtHandle, i32)
     ensures broken { (result.1 ≡ pos 0) ⊎ (result.1 ≡ pos 1) →
         WasBroken handle.place.object result.0.place.object }
+    ensures owed { (result.1 ≡ pos 0) ⊎ (result.1 ≡ pos 1) →
+        result.1 ≡ wake_of result.0.place.object }
     ensures same { result.1 ≢ pos 0 → result.1 ≢ pos 1 → result.0.place.object ≡ handle.place.object }
 {
     let mut boxed = handle.into_box();
@@ -60,6 +64,7 @@ pub fn enter(hold: &mut KtHandle) -> i32
 pub fn leave(call: &mut KtHandle) -> i32
     ensures left { (result ≡ pos 0) ⊎ (result ≡ pos 1) →
         WasLeft call.old.place.object call.new.place.object }
+    ensures owed { (result ≡ pos 0) ⊎ (result ≡ pos 1) → result ≡ wake_of call.new.place.object }
     ensures same { result ≢ pos 0 → result ≢ pos 1 → call.new.place.object ≡ call.old.place.object }
 {
     replace_with(call, (), leave_handle)
@@ -69,6 +74,7 @@ pub fn leave(call: &mut KtHandle) -> i32
 pub fn break_off(call: &mut KtHandle) -> i32
     ensures broken { (result ≡ pos 0) ⊎ (result ≡ pos 1) →
         WasBroken call.old.place.object call.new.place.object }
+    ensures owed { (result ≡ pos 0) ⊎ (result ≡ pos 1) → result ≡ wake_of call.new.place.object }
     ensures same { result ≢ pos 0 → result ≢ pos 1 → call.new.place.object ≡ call.old.place.object }
 {
     replace_with(call, (), break_handle)

@@ -1,6 +1,6 @@
 //! The steps of a hold and a call behind a handle. They need no lock and wake nobody.
-ghost use Rattle.std.specs.Prelude.{◌≡◌, ◌≢◌, ◌⊎◌, pos};
-ghost use Rattle.kernfs_tree.specs.Steps.{WasEntered, WasRefused, WasLeft, WasBroken, WasRestored};
+ghost use Rattle.std.specs.Prelude.{◌≡◌, ◌≢◌, ◌⊎◌, pos, if◌then◌else◌};
+ghost use Rattle.kernfs_tree.specs.Steps.{WasEntered, WasRefused, WasLeft, WasBroken, WasRestored, wake_of};
 
 use crate::errors::{INVALID, NO_DEVICE};
 use crate::holds::{Held, Inside};
@@ -9,7 +9,8 @@ use kf_core::Phase;
 
 /// 1 where one who sleeps may wait for the step that was made.
 fn told(wanted: bool) -> i32
-    ensures { (result ≡ pos 0) ⊎ (result ≡ pos 1) }
+    ensures value { result ≡ pos (if wanted then 1 else 0) }
+    ensures range { (result ≡ pos 0) ⊎ (result ≡ pos 1) }
 {
     if wanted { 1 } else { 0 }
 }
@@ -36,6 +37,7 @@ pub fn enter(object: Object, _nothing: ()) -> (Object, i32)
 #[inline(always)]
 pub fn leave(object: Object, _nothing: ()) -> (Object, i32)
     ensures left { (result.1 ≡ pos 0) ⊎ (result.1 ≡ pos 1) → WasLeft object result.0 }
+    ensures owed { (result.1 ≡ pos 0) ⊎ (result.1 ≡ pos 1) → result.1 ≡ wake_of result.0 }
     ensures same { result.1 ≢ pos 0 → result.1 ≢ pos 1 → result.0 ≡ object }
 {
     match object {
@@ -54,6 +56,7 @@ pub fn leave(object: Object, _nothing: ()) -> (Object, i32)
 /// Gives the reference up inside the callback, where the call has the one that it entered with.
 pub fn break_off(object: Object, _nothing: ()) -> (Object, i32)
     ensures broken { (result.1 ≡ pos 0) ⊎ (result.1 ≡ pos 1) → WasBroken object result.0 }
+    ensures owed { (result.1 ≡ pos 0) ⊎ (result.1 ≡ pos 1) → result.1 ≡ wake_of result.0 }
     ensures same { result.1 ≢ pos 0 → result.1 ≢ pos 1 → result.0 ≡ object }
 {
     match object {
