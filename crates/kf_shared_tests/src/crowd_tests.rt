@@ -4,11 +4,11 @@ ghost use Rattle.std.specs.Prelude.{◌≡◌, ◌<◌};
 
 use crate::fixtures::{FILE, add, commands, hold, is_bare, made, no_slot, removed, turned_away};
 use crate::thread_tests::{
-    Held, LOOKS, Removal, SelfRemoval, held_by, hold_of, receipts, release_all, removal_of, run,
-    run_self, self_ended, self_removal_of,
+    Held, LOOKS, Removal, SelfRemoval, held_by, hold_of, receipts, removal_of, run, run_self,
+    self_ended, self_removal_of,
 };
 use kf_core::{Command, Key, Node, Refusal};
-use kf_shared::{Naming, NewTree, SharedTree};
+use kf_shared::{Naming, NewTree, SharedTree, release_all};
 use kf_words::Hold;
 use std::alloc::Global;
 use std::marker::Brand;
@@ -21,7 +21,8 @@ use std::thread::{Threads, for_each_mut};
 #[derive(Clone, Copy, PartialEq, Eq)]
 enum Crowd {
     Removers,
-    RemoversAndHider,
+    RemoversAndHiders,
+    RemoversAndChanger,
     SelfRemovers,
 }
 
@@ -32,6 +33,7 @@ enum Role<N: Naming> {
     Calls(Key, Option<Hold>),
     Creates(Key),
     Hides(Hider<N>),
+    Changes(Changer),
 }
 
 // ---- a caller
@@ -113,13 +115,14 @@ fn keep_held<N: Naming>(place: &mut Option<Held<N>>, held: Held<N>) {
     }
 }
 
-/// Hides and shows by turns until it is refused.
+/// Hides and shows by turns until it is refused, but for a file that another has hidden.
 fn hides<N: Naming, R: Wait>(rt: &R, tree: &SharedTree<N>, hider: &mut Hider<N>) {
     for _ in 0..LOOKS {
         let Some(held) = hider.held.take() else {
             return;
         };
         let Held { hold, name: _ } = held;
+        let key = hold.key();
         match tree.hide(rt, hold) {
             Ok(hidden) => {
                 hider.turns = hider.turns.saturating_add(1);
@@ -127,9 +130,43 @@ fn hides<N: Naming, R: Wait>(rt: &R, tree: &SharedTree<N>, hider: &mut Hider<N>)
             }
             Err((back, refusal)) => {
                 back.release();
-                hider.over = Some(refusal);
+                match tree.edit(rt).hold(key) {
+                    Ok(hold) if refusal == Refusal::Busy => {
+                        keep_held(&mut hider.held, held_by(tree, hold));
+                    }
+                    Ok(hold) => {
+                        hold.release();
+                        hider.over = Some(refusal);
+                    }
+                    Err(gone) => hider.over = Some(gone),
+                }
             }
         }
+    }
+}
+
+// ---- one who moves, links, activates and compacts
+
+/// A file, and the two directories between which it is moved.
+#[derive(Drop)]
+struct Changer {
+    file: Key,
+    dirs: (Key, Key),
+}
+
+/// Moves the file to and fro, links to it, and compacts, until it or a directory is no longer live.
+fn changes<N: Naming, R: Wait>(rt: &R, tree: &SharedTree<N>, changer: &Changer) {
+    let file = changer.file;
+    let (first, second) = changer.dirs;
+    for turn in 0..100_000u32 {
+        let mut editor = tree.edit(rt);
+        let dir = if turn % 2 == 0 { second } else { first };
+        if editor.rename(file, dir, b"moved") == Err(Refusal::NoEntry) {
+            return;
+        }
+        let _ = editor.create(second, b"link", Node::Link { target: file }, false);
+        let _ = editor.activate(second);
+        let _ = editor.compact();
     }
 }
 
@@ -145,6 +182,7 @@ fn act<N: Naming, R: Wait>(rt: &R, tree: &SharedTree<N>, role: &mut Role<N>, ans
         Role::Calls(key, place) => calls(rt, tree, *key, place),
         Role::Creates(dir) => creates(rt, tree, *dir),
         Role::Hides(hider) => hides(rt, tree, hider),
+        Role::Changes(changer) => changes(rt, tree, changer),
     }
 }
 
@@ -178,7 +216,7 @@ fn end<N: Naming, R: Abort>(rt: &R, role: Role<N>) {
         }
         Role::Calls(_, Some(hold)) => turned_away(rt, hold).release(),
         Role::Calls(_, None) => panic!(rt; "the hold is lost"),
-        Role::Creates(_) => {}
+        Role::Creates(_) | Role::Changes(_) => {}
         Role::Hides(hider) => end_hider(rt, hider),
     }
 }
@@ -224,8 +262,19 @@ fn gathered<N: Naming, R: Abort + Wait>(
     add_remover(rt, tree, &mut roles, crowd, c);
     add_role(rt, &mut roles, Role::Calls(x, Some(hold(rt, tree, x))));
     add_role(rt, &mut roles, Role::Creates(a));
-    if crowd == Crowd::RemoversAndHider {
+    if crowd == Crowd::RemoversAndHiders {
         add_role(rt, &mut roles, Role::Hides(hider_of(rt, tree, x)));
+        add_role(rt, &mut roles, Role::Hides(hider_of(rt, tree, x)));
+    }
+    if crowd == Crowd::RemoversAndChanger {
+        add_role(
+            rt,
+            &mut roles,
+            Role::Changes(Changer {
+                file: x,
+                dirs: (a, c),
+            }),
+        );
     }
     roles
 }
@@ -295,7 +344,7 @@ fn crowd_once<N: Naming + Send + Sync, R: Abort + Threads + Wait + Sync>(
     for_each_mut(
         rt,
         roles.as_mut_slice(),
-        7,
+        8,
         &|_, role| act(rt, tree, role, &answered),
     );
     assert_eq!(rt; answered.load(Ordering::SeqCst), 4);
@@ -305,7 +354,9 @@ fn crowd_once<N: Naming + Send + Sync, R: Abort + Threads + Wait + Sync>(
     roles.destroy_empty();
     assert!(rt; is_bare(rt, tree));
     every_slot_is_free(rt, tree);
-    assert!(rt; each_left_once(rt, tree) >= 20);
+    if crowd != Crowd::RemoversAndChanger {
+        assert!(rt; each_left_once(rt, tree) >= 20);
+    }
     assert!(rt; tree.edit(rt).compact().is_ok());
     assert_eq!(rt; commands(rt, tree), 0);
 }
@@ -325,19 +376,15 @@ fn crowds<N: Naming + Send + Sync, R: Abort + Threads + Wait + Sync>(
 }
 
 #[test]
-fn removers_callers_and_creators_at_once(rt: HostRuntime) {
-    let new = made(&rt, rt.alloc(), 16, 16, 0);
-    crowds::<Brand, _>(&rt, rt.alloc(), new, Crowd::Removers);
-}
-
-#[test]
-fn removers_and_one_who_hides_and_shows(rt: HostRuntime) {
-    let new = made(&rt, rt.alloc(), 16, 16, 0);
-    crowds::<Brand, _>(&rt, rt.alloc(), new, Crowd::RemoversAndHider);
-}
-
-#[test]
-fn callers_that_remove_their_own_nodes_at_once(rt: HostRuntime) {
-    let new = made(&rt, rt.alloc(), 16, 16, 0);
-    crowds::<Brand, _>(&rt, rt.alloc(), new, Crowd::SelfRemovers);
+fn crowds_leave_a_bare_tree(rt: HostRuntime) {
+    let all = [
+        Crowd::Removers,
+        Crowd::RemoversAndHiders,
+        Crowd::RemoversAndChanger,
+        Crowd::SelfRemovers,
+    ];
+    for crowd in all {
+        let new = made(&rt, rt.alloc(), 16, 16, 0);
+        crowds::<Brand, _>(&rt, rt.alloc(), new, crowd);
+    }
 }

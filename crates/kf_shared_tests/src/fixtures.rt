@@ -53,38 +53,38 @@ pub(crate) fn add<N: Naming, R: Abort + Wait>(
 }
 
 pub(crate) fn commands<N: Naming, R: Wait>(rt: &R, tree: &SharedTree<N>) -> usize {
-    tree.edit(rt).state().commands().len()
+    tree.read(rt).state().commands().len()
 }
 
 pub(crate) fn is_live<N: Naming, R: Wait>(rt: &R, tree: &SharedTree<N>, key: Key) -> bool {
-    match tree.edit(rt).state().stat(key) {
+    match tree.read(rt).state().stat(key) {
         Ok(stat) => stat.activated && !stat.doomed && !stat.hidden,
         Err(_) => false,
     }
 }
 
 pub(crate) fn is_doomed<N: Naming, R: Wait>(rt: &R, tree: &SharedTree<N>, key: Key) -> bool {
-    match tree.edit(rt).state().stat(key) {
+    match tree.read(rt).state().stat(key) {
         Ok(stat) => stat.doomed,
         Err(_) => false,
     }
 }
 
 pub(crate) fn is_hidden<N: Naming, R: Wait>(rt: &R, tree: &SharedTree<N>, key: Key) -> bool {
-    match tree.edit(rt).state().stat(key) {
+    match tree.read(rt).state().stat(key) {
         Ok(stat) => stat.hidden,
         Err(_) => false,
     }
 }
 
 pub(crate) fn is_linked<N: Naming, R: Wait>(rt: &R, tree: &SharedTree<N>, key: Key) -> bool {
-    tree.edit(rt).state().stat(key).is_ok()
+    tree.read(rt).state().stat(key).is_ok()
 }
 
 /// Whether the root has no child at all, live or not.
 pub(crate) fn is_bare<N: Naming, R: Wait>(rt: &R, tree: &SharedTree<N>) -> bool {
-    let editor = tree.edit(rt);
-    let state = editor.state();
+    let reader = tree.read(rt);
+    let state = reader.state();
     match state.post_order(state.root()) {
         Ok(keys) => keys.len() == 1,
         Err(_) => false,

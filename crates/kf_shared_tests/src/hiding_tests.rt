@@ -37,11 +37,6 @@ fn hidden_and_shown<N: Naming, R: Abort + Wait>(rt: &R, new: NewTree)
     enter(rt, other).leave().release();
 }
 
-#[test]
-fn a_file_is_hidden_and_shown(rt: HostRuntime) {
-    hidden_and_shown::<Brand, _>(&rt, made(&rt, rt.alloc(), 4, 4, 0));
-}
-
 fn activated_while_hidden<N: Naming, R: Abort + Wait>(rt: &R, new: NewTree)
     requires { new.master.table ≡ N.table }
 {
@@ -58,11 +53,6 @@ fn activated_while_hidden<N: Naming, R: Abort + Wait>(rt: &R, new: NewTree)
     tree.show(rt, token_b).release();
     enter(rt, hold_a).leave().release();
     turned_away(rt, hold_b).release();
-}
-
-#[test]
-fn a_shown_file_is_live_where_it_was_activated(rt: HostRuntime) {
-    activated_while_hidden::<Brand, _>(&rt, made(&rt, rt.alloc(), 4, 4, 0));
 }
 
 fn removed_while_hidden<N: Naming, R: Abort + Wait>(rt: &R, alloc: Global, new: NewTree)
@@ -94,11 +84,6 @@ fn removed_while_hidden<N: Naming, R: Abort + Wait>(rt: &R, alloc: Global, new: 
     assert_eq!(rt; add(rt, &tree, b"/b", FILE, true), key_at(1, 2));
 }
 
-#[test]
-fn a_hidden_file_is_removed_and_its_token_keeps_the_slot(rt: HostRuntime) {
-    removed_while_hidden::<Brand, _>(&rt, rt.alloc(), made(&rt, rt.alloc(), 4, 8, 0));
-}
-
 fn compacted<N: Naming, R: Abort + Wait>(rt: &R, alloc: Global, new: NewTree)
     requires { new.master.table ≡ N.table }
 {
@@ -122,11 +107,6 @@ fn compacted<N: Naming, R: Abort + Wait>(rt: &R, alloc: Global, new: NewTree)
     told(rt, finished(rt, alloc, &tree, holds), &[x, p]);
     assert_eq!(rt; commands(rt, &tree), 5);
     assert!(rt; is_bare(rt, &tree));
-}
-
-#[test]
-fn commands_are_compacted_under_a_removal(rt: HostRuntime) {
-    compacted::<Brand, _>(&rt, rt.alloc(), made(&rt, rt.alloc(), 4, 4, 0));
 }
 
 // ---- hiding waits for a call
@@ -210,7 +190,11 @@ fn hiding_waits<N: Naming + Send + Sync, R: Abort + Threads + Wait + Sync>(rt: &
 }
 
 #[test]
-fn a_hiding_waits_for_the_call(rt: HostRuntime) {
+fn hidings_and_compactions(rt: HostRuntime) {
+    hidden_and_shown::<Brand, _>(&rt, made(&rt, rt.alloc(), 4, 4, 0));
+    activated_while_hidden::<Brand, _>(&rt, made(&rt, rt.alloc(), 4, 4, 0));
+    removed_while_hidden::<Brand, _>(&rt, rt.alloc(), made(&rt, rt.alloc(), 4, 8, 0));
+    compacted::<Brand, _>(&rt, rt.alloc(), made(&rt, rt.alloc(), 4, 4, 0));
     for _ in 0..20 {
         hiding_waits::<Brand, _>(&rt, made(&rt, rt.alloc(), 2, 8, 0));
     }

@@ -48,11 +48,6 @@ fn hold_kept<N: Naming, R: Abort + Wait>(rt: &R, new: NewTree)
     takes(rt, &tree, 1, 2);
 }
 
-#[test]
-fn a_hold_that_is_kept_keeps_its_slot(rt: HostRuntime) {
-    hold_kept::<Brand, _>(&rt, made(&rt, rt.alloc(), 4, 4, 0));
-}
-
 /// Looks, 10,000 times, at a node that a call uses.
 fn looks_used<R: Abort>(rt: &R, mut hold: Hold) -> Hold {
     for _ in 0..10_000 {
@@ -83,11 +78,6 @@ fn call_kept<N: Naming, R: Abort + Wait>(rt: &R, new: NewTree)
     parted.release();
     assert!(rt; is_bare(rt, &tree));
     takes(rt, &tree, 1, 2);
-}
-
-#[test]
-fn a_call_that_is_kept_refuses_each_look(rt: HostRuntime) {
-    call_kept::<Brand, _>(&rt, made(&rt, rt.alloc(), 2, 4, 0));
 }
 
 // ---- as many holds as there may be
@@ -140,12 +130,6 @@ fn most_holds<N: Naming, R: Abort + Wait>(rt: &R, alloc: Global, new: NewTree)
     takes(rt, &tree, 2, 2);
 }
 
-#[test]
-fn a_node_has_65535_holds_and_no_more(rt: HostRuntime) {
-    let new = made(&rt, rt.alloc(), 4, 65_535, 0);
-    most_holds::<Brand, _>(&rt, rt.alloc(), new);
-}
-
 // ---- receipts and tokens
 
 fn receipts_kept<N: Naming, R: Abort + Wait>(rt: &R, new: NewTree)
@@ -168,11 +152,6 @@ fn receipts_kept<N: Naming, R: Abort + Wait>(rt: &R, new: NewTree)
     no_slot(rt, &tree);
 }
 
-#[test]
-fn receipts_that_are_kept_keep_their_slots(rt: HostRuntime) {
-    receipts_kept::<Brand, _>(&rt, made(&rt, rt.alloc(), 8, 4, 0));
-}
-
 fn drain_kept<N: Naming, R: Abort + Wait>(rt: &R, new: NewTree)
     requires { new.master.table ≡ N.table }
 {
@@ -184,11 +163,6 @@ fn drain_kept<N: Naming, R: Abort + Wait>(rt: &R, new: NewTree)
     no_slot(rt, &tree);
     drained.release();
     takes(rt, &tree, 1, 2);
-}
-
-#[test]
-fn a_drain_that_is_kept_keeps_its_slot(rt: HostRuntime) {
-    drain_kept::<Brand, _>(&rt, made(&rt, rt.alloc(), 2, 4, 0));
 }
 
 /// A file that is hidden, and then removed.
@@ -232,7 +206,13 @@ fn tokens_kept<N: Naming, R: Abort + Wait>(rt: &R, alloc: Global, new: NewTree)
 }
 
 #[test]
-fn tokens_that_are_kept_keep_their_slots(rt: HostRuntime) {
+fn what_is_kept_keeps_its_slot(rt: HostRuntime) {
+    hold_kept::<Brand, _>(&rt, made(&rt, rt.alloc(), 4, 4, 0));
+    call_kept::<Brand, _>(&rt, made(&rt, rt.alloc(), 2, 4, 0));
+    let new = made(&rt, rt.alloc(), 4, 65_535, 0);
+    most_holds::<Brand, _>(&rt, rt.alloc(), new);
+    receipts_kept::<Brand, _>(&rt, made(&rt, rt.alloc(), 8, 4, 0));
+    drain_kept::<Brand, _>(&rt, made(&rt, rt.alloc(), 2, 4, 0));
     let new = made(&rt, rt.alloc(), 8, 4, 0);
     tokens_kept::<Brand, _>(&rt, rt.alloc(), new);
 }

@@ -2,12 +2,13 @@
 ghost use Rattle.std.specs.Prelude.{◌≡◌};
 
 use crate::fixtures::{
-    FILE, add, commands, doom, doom_alone, enter, finished, hold, is_bare, is_linked, is_live,
-    key_at, last, look, made, no_hold, not_removed, not_removed_self, part, removed, removed_self,
-    told, turned_away,
+    FILE, add, commands, doom, doom_alone, enter, finished, hidden, hold, is_bare, is_linked,
+    is_live, key_at, last, look, made, no_hold, not_removed, not_removed_self, part, removed,
+    removed_self, told, turned_away,
 };
-use kf_core::{Limits, Node, Refusal};
+use kf_core::{Key, Limits, Node, Refusal};
 use kf_shared::{Naming, NewTree, SharedTree};
+use kf_words::Parted;
 use std::alloc::Global;
 use std::marker::Brand;
 use std::process::Abort;
@@ -43,11 +44,6 @@ fn commands_and_removal<N: Naming, R: Abort + Wait>(rt: &R, alloc: Global, new: 
     first.release();
 }
 
-#[test]
-fn a_subtree_is_made_doomed_and_finished(rt: HostRuntime) {
-    commands_and_removal::<Brand, _>(&rt, rt.alloc(), made(&rt, rt.alloc(), 4, 4, 0));
-}
-
 fn last_generation<N: Naming, R: Abort + Wait>(rt: &R, new: NewTree)
     requires { new.master.table ≡ N.table }
 {
@@ -62,11 +58,6 @@ fn last_generation<N: Naming, R: Abort + Wait>(rt: &R, new: NewTree)
         editor.create(root, b"a", FILE, true),
         Err(Refusal::NoSpace)
     );
-}
-
-#[test]
-fn the_last_generation_is_given_once(rt: HostRuntime) {
-    last_generation::<Brand, _>(&rt, made(&rt, rt.alloc(), 2, 4, 4294967294));
 }
 
 /// Two holds of each node at most. `by_hand` says whether the last removal is a doom, and then a finish of
@@ -104,16 +95,6 @@ fn full_below<N: Naming, R: Abort + Wait>(rt: &R, alloc: Global, new: NewTree, b
     assert!(rt; is_bare(rt, &tree));
 }
 
-#[test]
-fn a_removal_needs_room_for_a_hold_of_each_node(rt: HostRuntime) {
-    full_below::<Brand, _>(&rt, rt.alloc(), made(&rt, rt.alloc(), 8, 2, 0), false);
-}
-
-#[test]
-fn a_doom_needs_room_for_a_hold_of_each_node(rt: HostRuntime) {
-    full_below::<Brand, _>(&rt, rt.alloc(), made(&rt, rt.alloc(), 8, 2, 0), true);
-}
-
 fn root_alone<N: Naming, R: Abort + Wait>(rt: &R, new: NewTree)
     requires { new.master.table ≡ N.table }
 {
@@ -123,11 +104,6 @@ fn root_alone<N: Naming, R: Abort + Wait>(rt: &R, new: NewTree)
     assert_eq!(rt; commands(rt, &tree), 0);
     assert!(rt; is_bare(rt, &tree) && is_live(rt, &tree, root));
     assert_eq!(rt; add(rt, &tree, b"/a", FILE, true), key_at(1, 6));
-}
-
-#[test]
-fn a_new_tree_keeps_its_root_under_its_name(rt: HostRuntime) {
-    root_alone::<Brand, _>(&rt, made(&rt, rt.alloc(), 2, 4, 5));
 }
 
 fn root_stays<N: Naming, R: Abort + Wait>(rt: &R, new: NewTree)
@@ -140,13 +116,6 @@ fn root_stays<N: Naming, R: Abort + Wait>(rt: &R, new: NewTree)
     let call = not_removed_self(rt, &tree, enter(rt, top), Refusal::Invalid);
     call.leave().release();
     assert!(rt; is_live(rt, &tree, key_at(0, 1)));
-}
-
-#[test]
-fn the_root_is_not_removed(rt: HostRuntime) {
-    let limits = Limits::new(2, 2).expect(&rt, "limits");
-    let new = SharedTree::new(rt.alloc(), limits).expect(&rt, "memory");
-    root_stays::<Brand, _>(&rt, new);
 }
 
 fn removed_again<N: Naming, R: Abort + Wait>(rt: &R, alloc: Global, new: NewTree)
@@ -170,11 +139,6 @@ fn removed_again<N: Naming, R: Abort + Wait>(rt: &R, alloc: Global, new: NewTree
     assert_eq!(rt; add(rt, &tree, b"/b", FILE, true), key_at(1, 2));
 }
 
-#[test]
-fn a_node_that_has_left_gives_one_receipt(rt: HostRuntime) {
-    removed_again::<Brand, _>(&rt, rt.alloc(), made(&rt, rt.alloc(), 4, 4, 0));
-}
-
 fn self_removals<N: Naming, R: Abort + Wait>(rt: &R, new: NewTree)
     requires { new.master.table ≡ N.table }
 {
@@ -195,11 +159,6 @@ fn self_removals<N: Naming, R: Abort + Wait>(rt: &R, new: NewTree)
     assert!(rt; is_bare(rt, &tree));
 }
 
-#[test]
-fn a_call_removes_its_own_node(rt: HostRuntime) {
-    self_removals::<Brand, _>(&rt, made(&rt, rt.alloc(), 4, 4, 0));
-}
-
 fn later_node_claimed<N: Naming, R: Abort + Wait>(rt: &R, new: NewTree)
     requires { new.master.table ≡ N.table }
 {
@@ -210,11 +169,6 @@ fn later_node_claimed<N: Naming, R: Abort + Wait>(rt: &R, new: NewTree)
     assert_eq!(rt; y, key_at(1, 2), "no self-removal of the slot so far");
     removed_self(rt, &tree, enter(rt, hold(rt, &tree, y)), &[y]);
     assert!(rt; is_bare(rt, &tree));
-}
-
-#[test]
-fn a_claim_of_an_earlier_node_does_not_count(rt: HostRuntime) {
-    later_node_claimed::<Brand, _>(&rt, made(&rt, rt.alloc(), 2, 4, 0));
 }
 
 fn refused_self_removal<N: Naming, R: Abort + Wait>(rt: &R, new: NewTree)
@@ -238,11 +192,6 @@ fn refused_self_removal<N: Naming, R: Abort + Wait>(rt: &R, new: NewTree)
     second.release();
     removed_self(rt, &tree, call, &[x, d]);
     assert!(rt; is_bare(rt, &tree));
-}
-
-#[test]
-fn a_refused_self_removal_leaves_its_call_running(rt: HostRuntime) {
-    refused_self_removal::<Brand, _>(&rt, made(&rt, rt.alloc(), 4, 2, 0));
 }
 
 fn busy_unlinks<N: Naming, R: Abort + Wait>(rt: &R, new: NewTree)
@@ -279,11 +228,6 @@ fn busy_unlinks<N: Naming, R: Abort + Wait>(rt: &R, new: NewTree)
     assert!(rt; is_bare(rt, &tree));
 }
 
-#[test]
-fn an_unlink_is_refused_over_a_child_or_a_reference(rt: HostRuntime) {
-    busy_unlinks::<Brand, _>(&rt, made(&rt, rt.alloc(), 4, 4, 0));
-}
-
 /// What one turn of the lock finds is what it removes; the lock is let go before the wait.
 fn removed_in_its_turn<N: Naming, R: Abort + Wait>(rt: &R, new: NewTree)
     requires { new.master.table ≡ N.table }
@@ -316,11 +260,6 @@ fn removed_in_its_turn<N: Naming, R: Abort + Wait>(rt: &R, new: NewTree)
     assert!(rt; is_bare(rt, &tree));
 }
 
-#[test]
-fn what_a_turn_of_the_lock_finds_is_removed(rt: HostRuntime) {
-    removed_in_its_turn::<Brand, _>(&rt, made(&rt, rt.alloc(), 4, 4, 0));
-}
-
 /// The marks of a removal, another command in the same turn, and then the wait.
 fn begun_and_finished<N: Naming, R: Abort + Wait>(rt: &R, new: NewTree)
     requires { new.master.table ≡ N.table }
@@ -347,7 +286,83 @@ fn begun_and_finished<N: Naming, R: Abort + Wait>(rt: &R, new: NewTree)
     assert_eq!(rt; commands(rt, &tree), 6);
 }
 
+/// So many commands are stored.
+fn stored<N: Naming, R: Abort + Wait>(rt: &R, tree: &SharedTree<N>, count: usize) {
+    assert_eq!(rt; commands(rt, tree), count);
+}
+
+/// The removal has answered receipts of these keys.
+fn gone<R: Abort>(rt: &R, answer: Result<Vec<Parted>, Refusal>, keys: &[Key]) {
+    match answer {
+        Ok(receipts) => told(rt, receipts, keys),
+        Err(_) => panic!(rt; "not removed"),
+    }
+}
+
+/// The removal was refused.
+fn stays<R: Abort>(rt: &R, answer: Result<Vec<Parted>, Refusal>, why: Refusal) {
+    match answer {
+        Ok(receipts) => {
+            told(rt, receipts, &[]);
+            panic!(rt; "a removal that should be refused")
+        }
+        Err(refusal) => assert_eq!(rt; refusal, why),
+    }
+}
+
+/// Each call stores what it is said to store, and no more.
+fn each_call_stores_its_own<N: Naming, R: Abort + Wait>(rt: &R, new: NewTree)
+    requires { new.master.table ≡ N.table }
+{
+    let tree = new.named::<N>();
+    let d = add(rt, &tree, b"/d", Node::Dir, false);
+    let x = add(rt, &tree, b"/d/x", FILE, false);
+    assert!(rt; tree.edit(rt).activate(d).is_ok());
+    stored(rt, &tree, 3);
+    assert!(rt; tree.edit(rt).rename(x, d, b"y").is_ok());
+    assert!(rt; tree.edit(rt).rename(x, d, b"y").is_ok());
+    stored(rt, &tree, 4);
+    let token = hidden(rt, &tree, hold(rt, &tree, x));
+    stored(rt, &tree, 5);
+    tree.show(rt, token).release();
+    let root = key_at(0, 1);
+    stays(rt, tree.edit(rt).remove_key(rt, root), Refusal::Invalid);
+    stays(rt, tree.edit(rt).remove_name(rt, x, b"z"), Refusal::NotDir);
+    stays(rt, tree.edit(rt).remove_path(rt, b"/d/x"), Refusal::NoEntry);
+    stored(rt, &tree, 6);
+    gone(rt, tree.edit(rt).remove_path(rt, b"/d/y"), &[x]);
+    stored(rt, &tree, 8);
+    let z = add(rt, &tree, b"/d/z", FILE, true);
+    gone(rt, tree.edit(rt).remove_name(rt, root, b"d"), &[z, d]);
+    stored(rt, &tree, 12);
+    let s = add(rt, &tree, b"/s", FILE, true);
+    let other = enter(rt, hold(rt, &tree, s));
+    let editor = tree.edit(rt);
+    other.leave().release();
+    drop(editor);
+    removed_self(rt, &tree, enter(rt, hold(rt, &tree, s)), &[s]);
+    stored(rt, &tree, 15);
+    assert!(rt; tree.edit(rt).compact().is_ok());
+    stored(rt, &tree, 0);
+}
+
 #[test]
-fn a_removal_is_begun_and_then_finished(rt: HostRuntime) {
+fn worked_examples_in_one_thread(rt: HostRuntime) {
+    commands_and_removal::<Brand, _>(&rt, rt.alloc(), made(&rt, rt.alloc(), 4, 4, 0));
+    last_generation::<Brand, _>(&rt, made(&rt, rt.alloc(), 2, 4, 4294967294));
+    for by_hand in [false, true] {
+        full_below::<Brand, _>(&rt, rt.alloc(), made(&rt, rt.alloc(), 8, 2, 0), by_hand);
+    }
+    root_alone::<Brand, _>(&rt, made(&rt, rt.alloc(), 2, 4, 5));
+    let limits = Limits::new(2, 2).expect(&rt, "limits");
+    let new = SharedTree::new(rt.alloc(), limits).expect(&rt, "memory");
+    root_stays::<Brand, _>(&rt, new);
+    removed_again::<Brand, _>(&rt, rt.alloc(), made(&rt, rt.alloc(), 4, 4, 0));
+    self_removals::<Brand, _>(&rt, made(&rt, rt.alloc(), 4, 4, 0));
+    later_node_claimed::<Brand, _>(&rt, made(&rt, rt.alloc(), 2, 4, 0));
+    refused_self_removal::<Brand, _>(&rt, made(&rt, rt.alloc(), 4, 2, 0));
+    busy_unlinks::<Brand, _>(&rt, made(&rt, rt.alloc(), 4, 4, 0));
+    removed_in_its_turn::<Brand, _>(&rt, made(&rt, rt.alloc(), 4, 4, 0));
     begun_and_finished::<Brand, _>(&rt, made(&rt, rt.alloc(), 4, 4, 0));
+    each_call_stores_its_own::<Brand, _>(&rt, made(&rt, rt.alloc(), 4, 4, 0));
 }

@@ -7,7 +7,7 @@ use crate::fixtures::{
     turned_away,
 };
 use kf_core::{Key, Node};
-use kf_shared::{Naming, NewTree, SharedTree};
+use kf_shared::{Naming, NewTree, SharedTree, release_all};
 use kf_words::{Call, Hold, Parted};
 use std::marker::{Brand, PhantomData};
 use std::process::Abort;
@@ -129,13 +129,6 @@ pub(crate) fn removal_of<N: Naming, R: Abort + Wait>(
     }
 }
 
-pub(crate) fn release_all(mut receipts: Vec<Parted>) {
-    while let Some(receipt) = receipts.pop() {
-        receipt.release();
-    }
-    receipts.destroy_empty();
-}
-
 fn keep(place: &mut Option<Vec<Parted>>, receipts: Vec<Parted>) {
     if let Some(other) = place.replace(receipts) {
         release_all(other);
@@ -229,13 +222,6 @@ fn removal_waits<N: Naming + Send + Sync, R: Abort + Threads + Wait + Sync>(rt: 
     assert!(rt; is_bare(rt, &tree));
 }
 
-#[test]
-fn a_removal_waits_for_the_call(rt: HostRuntime) {
-    for _ in 0..20 {
-        removal_waits::<Brand, _>(&rt, made(&rt, rt.alloc(), 2, 8, 0));
-    }
-}
-
 // ---- two removals that overlap
 
 /// One thread removes a directory, and another its child.
@@ -272,11 +258,6 @@ fn overlap<N: Naming + Send + Sync, R: Abort + Threads + Wait + Sync>(rt: &R, ne
     for _ in 0..200 {
         overlap_once(rt, &tree);
     }
-}
-
-#[test]
-fn a_removal_and_one_of_its_child_both_answer(rt: HostRuntime) {
-    overlap::<Brand, _>(&rt, made(&rt, rt.alloc(), 4, 8, 0));
 }
 
 // ---- two self-removals of one node
@@ -363,18 +344,42 @@ fn meet_once<N: Naming + Send + Sync, R: Abort + Threads + Wait + Sync>(
     assert!(rt; is_bare(rt, tree));
 }
 
+/// A removal of the node, and a self-removal of it.
+fn against_once<N: Naming + Send + Sync, R: Abort + Threads + Wait + Sync>(
+    rt: &R,
+    tree: &SharedTree<N>,
+) {
+    let key = add(rt, tree, b"/delete", FILE, true);
+    let mut plain = removal_of(rt, tree, key);
+    let mut own = self_removal_of(rt, tree, key);
+    let answered = AtomicU64::new(0);
+    join(
+        rt,
+        || run(rt, tree, &mut plain, &answered),
+        || run_self(rt, tree, &mut own),
+    );
+    told(rt, receipts(rt, plain), &[key]);
+    assert!(rt; first_of(rt, own, key), "no other self-removal");
+    assert!(rt; is_bare(rt, tree));
+}
+
 fn meet<N: Naming + Send + Sync, R: Abort + Threads + Wait + Sync>(rt: &R, new: NewTree)
     requires { new.master.table ≡ N.table }
 {
     let tree = new.named::<N>();
     for _ in 0..200 {
         meet_once(rt, &tree);
+        against_once(rt, &tree);
     }
     let key = add(rt, &tree, b"/last", FILE, true);
-    assert_eq!(rt; key, key_at(1, 201), "no hold is left");
+    assert_eq!(rt; key, key_at(1, 401), "no hold is left");
 }
 
 #[test]
-fn of_two_self_removals_one_is_the_first(rt: HostRuntime) {
+fn two_threads(rt: HostRuntime) {
+    for _ in 0..20 {
+        removal_waits::<Brand, _>(&rt, made(&rt, rt.alloc(), 2, 8, 0));
+    }
+    overlap::<Brand, _>(&rt, made(&rt, rt.alloc(), 4, 8, 0));
     meet::<Brand, _>(&rt, made(&rt, rt.alloc(), 2, 8, 0));
 }

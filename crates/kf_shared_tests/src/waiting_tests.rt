@@ -142,13 +142,6 @@ fn four_wait<N: Naming + Send + Sync, R: Abort + Threads + Wait + Sync>(
     assert!(rt; is_bare(rt, &tree));
 }
 
-#[test]
-fn one_leave_wakes_four_removals(rt: HostRuntime) {
-    for _ in 0..20 {
-        four_wait::<Brand, _>(&rt, rt.alloc(), made(&rt, rt.alloc(), 2, 16, 0));
-    }
-}
-
 // ---- the first of two self-removals is the one that claimed first
 
 /// The second waits until the first has marked the node, and its own call runs on until then.
@@ -172,13 +165,6 @@ fn second_claims<N: Naming + Send + Sync, R: Abort + Threads + Wait + Sync>(rt: 
     assert!(rt; first_of(rt, one, key), "it claimed first");
     assert!(rt; !first_of(rt, other, key), "it claimed second");
     assert!(rt; is_bare(rt, &tree));
-}
-
-#[test]
-fn the_self_removal_that_claimed_first_is_the_first(rt: HostRuntime) {
-    for _ in 0..20 {
-        second_claims::<Brand, _>(&rt, made(&rt, rt.alloc(), 2, 8, 0));
-    }
 }
 
 // ---- a finish that finds the node in use again
@@ -271,7 +257,13 @@ fn restored_call<N: Naming + Send + Sync, R: Abort + Threads + Wait + Clock + Sy
 }
 
 #[test]
-fn a_finish_waits_for_a_call_that_has_its_reference_again(rt: HostRuntime) {
+fn removals_that_wait_together(rt: HostRuntime) {
+    for _ in 0..20 {
+        four_wait::<Brand, _>(&rt, rt.alloc(), made(&rt, rt.alloc(), 2, 16, 0));
+    }
+    for _ in 0..20 {
+        second_claims::<Brand, _>(&rt, made(&rt, rt.alloc(), 2, 8, 0));
+    }
     for _ in 0..5 {
         restored_call::<Brand, _>(&rt, made(&rt, rt.alloc(), 2, 8, 0));
     }

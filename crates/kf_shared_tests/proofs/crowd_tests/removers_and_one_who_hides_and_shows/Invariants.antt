@@ -1,5 +1,0 @@
-use Rattle.kf_shared_tests.proofs.crowd_tests.removers_and_one_who_hides_and_shows.Given as goal
-
--- the tree that was just made
-abbrev pub ghosts-crowds : goal.ghosts-crowds
-ghosts-crowds g a = record { table = a.new.master.table }
