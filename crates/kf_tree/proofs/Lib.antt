@@ -25,4 +25,5 @@ pub mod Tours
 pub mod PreOrder
 pub mod Replays
 pub mod Collected
+pub mod PathOf
 pub mod OneClimb

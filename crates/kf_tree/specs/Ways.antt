@@ -1,10 +1,10 @@
 -- Parts of a path, and names along a way up or down.
-use Rattle.std.specs.Prelude.{◌≡◌, ℕ, ◌<◌, ◌-◌, List, [], ◌++◌, length, slice_index_or, Option, None, Some}
-use Rattle.std.specs.List.{slice_split}
+use Rattle.std.specs.Prelude.{◌≡◌, ℕ, ◌<◌, ◌-◌, List, [], ◌∷◌, ◌++◌, length, slice_index_or, Option, None, Some, Ok}
+use Rattle.std.specs.List.{join_with_byte, slice_split}
 use Rattle.std.specs.Option.{option_map_or}
 use Rattle.kf_core.specs.declared.key.Key.{Key}
 use Rattle.kf_core.specs.Tree.{Tree, record_at, ancestor}
-use Rattle.kf_tree.specs.Paths.{is_slash}
+use Rattle.kf_tree.specs.Paths.{is_slash, walk}
 use Rattle.kf_tree.specs.Links.{IsOver, ups}
 
 -- the parts that are left, where a slash came before
@@ -30,3 +30,8 @@ pub record IsWayUp (t : Tree) (root key : Key) (way : List Key) : Type 0 where
   pub some : 0 < length way
   pub each : (i : ℕ) (d : Key) → i < length way → ancestor t i key ≡ Some (slice_index_or way i d)
   pub ends : ancestor t (length way - 1) key ≡ Some root
+
+-- the path of a key: a slash, and the names that lead to it from the root, joined by slashes
+abbrev pub IsPathOf : Tree → Key → Key → List ℕ → Type 0
+IsPathOf t root key path =
+    (names : List (List ℕ)) × (walk t root names ≡ Ok key) × (path ≡ 47 ∷ join_with_byte 47 names)

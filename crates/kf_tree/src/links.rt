@@ -1,4 +1,4 @@
-//! The text of a link.
+//! The text of a link, and the path of a node.
 
 ghost use Rattle.std.specs.Prelude.{◌≡◌, ◌∷◌, ◌++◌, ◌⊎◌, ◌<◌, ◌-◌, [], length, map, reverse, slice_index_or, Some, None, Ok, IsTrue, IfOk, IfErr, OnOk, if◌then◌else◌};
 ghost use Rattle.std.specs.List.{join_with_byte};
@@ -8,7 +8,7 @@ ghost use Rattle.kf_core.specs.Lawful.{Lawful};
 ghost use Rattle.kf_core.specs.Tree.{is_linked, parent_of};
 ghost use Rattle.kf_tree.specs.Links.{IsLinkText};
 ghost use Rattle.kf_tree.specs.Paths.{walk};
-ghost use Rattle.kf_tree.specs.Ways.{HasUps, IsWayUp, name_at};
+ghost use Rattle.kf_tree.specs.Ways.{HasUps, IsPathOf, IsWayUp, name_at};
 
 use kf_core::{Key, Refusal};
 use kf_table::Table;
@@ -175,6 +175,34 @@ pub(crate) fn link_text(
 {
     match write_text(alloc, table, root, dir, target) {
         Ok(text) => Ok(text),
+        Err(_) => Err(Refusal::NoMemory),
+    }
+}
+
+fn write_path(alloc: Global, table: &Table, root: Key, key: Key) -> Result<Vec<u8>, AllocError>
+    requires rooted { Lawful table.now root }
+    requires linked { IsTrue (is_linked table.now key) }
+    requires there { IsTrue (is_linked table.now root) }
+    ensures path { IfOk result (λ path. IsPathOf table.now root key path.items) }
+{
+    let mut path = Vec::new(alloc);
+    let mut keys = Vec::new(alloc);
+    path.push(b'/')?;
+    let _base = push_ups(table, root, root, key, &mut path, &mut keys)?;
+    push_names(table, keys, &mut path)?;
+    Ok(path)
+}
+
+/// The path of a linked key.
+pub(crate) fn path_of(alloc: Global, table: &Table, root: Key, key: Key) -> Result<Vec<u8>, Refusal>
+    requires rooted { Lawful table.now root }
+    requires linked { IsTrue (is_linked table.now key) }
+    requires there { IsTrue (is_linked table.now root) }
+    ensures path { IfOk result (λ path. IsPathOf table.now root key path.items) }
+    ensures refused { IfErr result (λ refusal. refusal ≡ Refusal.NoMemory) }
+{
+    match write_path(alloc, table, root, key) {
+        Ok(path) => Ok(path),
         Err(_) => Err(Refusal::NoMemory),
     }
 }

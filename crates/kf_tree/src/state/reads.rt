@@ -1,6 +1,6 @@
 //! What a state tells: its commands, paths, listings, and what is told of a node. No call changes anything.
 
-ghost use Rattle.std.specs.Prelude.{◌≡◌, ◌↔◌, IfOk, IfErr, IsTrue, slice_get, MatchResult, None, Some, Ok, Err, true, length, IfSome};
+ghost use Rattle.std.specs.Prelude.{◌≡◌, ◌↔◌, IfOk, IfErr, IsTrue, slice_get, MatchResult, None, Some, Ok, Err, true, false, length, IfSome};
 ghost use Rattle.std.specs.Option.{option_copied, option_map, ok_or};
 ghost use Rattle.kf_core.specs.Tree.{record_at, is_linked, in_subtree};
 ghost use Rattle.kf_core.specs.PostOrder.{IsPostOrder};
@@ -12,13 +12,14 @@ ghost use Rattle.kf_tree.specs.Paths.{found, walked, seen, walked_parent};
 ghost use Rattle.kf_tree.specs.Stat.{stat_of};
 ghost use Rattle.kf_tree.specs.Subtrees.{key_in};
 ghost use Rattle.kf_tree.specs.TreeLogs.{IsKept};
+ghost use Rattle.kf_tree.specs.Ways.{IsPathOf};
 
 use super::State;
 use crate::causes::{
     check_create, check_doom, check_linked, check_list, check_text, check_unlink, create_fault,
 };
 use crate::find::find_in;
-use crate::links::link_text;
+use crate::links::{link_text, path_of};
 use crate::listing::{Names, copy_names};
 use crate::paths::{walk, walk_parent};
 use crate::post_order::post_order;
@@ -206,6 +207,42 @@ impl State {
             Some(entry) => Ok(stat_of(&self.table, entry)),
             None => Err(Refusal::NoEntry),
         }
+    }
+
+    /// The directory of a linked node, and None for the root (`kernfs_get_parent`). `NoEntry` where it is not
+    /// linked.
+    pub fn parent_of(&self, key: Key) -> Result<Option<Key>, Refusal>
+        ensures told { result ≡
+            ok_or (option_map (λ r. r.parent) (record_at self.now.tree key)) Refusal.NoEntry }
+    {
+        match self.table.record(key) {
+            Some(entry) => Ok(entry.parent),
+            None => Err(Refusal::NoEntry),
+        }
+    }
+
+    /// The name of a linked node; the root's is empty (`kernfs_name`). `NoEntry` where it is not linked.
+    pub fn name_of(&self, key: Key) -> Result<&[u8], Refusal>
+        ensures told { MatchResult result
+            (λ name. option_map (λ r. r.name) (record_at self.now.tree key) ≡ Some name.now)
+            (λ refusal. (refusal ≡ Refusal.NoEntry) × (is_linked self.now.tree key ≡ false)) }
+    {
+        match self.table.record(key) {
+            Some(entry) => Ok(entry.name.bytes()),
+            None => Err(Refusal::NoEntry),
+        }
+    }
+
+    /// The path that [`State::walk`] follows to a linked node (`kernfs_path_from_node` from the root): a
+    /// slash, and the names from the root down, joined by slashes.
+    /// Refusals in order: `NoEntry` (not linked), `NoMemory`.
+    pub fn path_of(&self, key: Key) -> Result<Vec<u8>, Refusal>
+        ensures linked { IfOk result (λ _. linked_cause self.now.tree key ≡ None) }
+        ensures path { IfOk result (λ path. IsPathOf self.now.tree self.now.root key path.items) }
+        ensures refused { IfErr result (λ refusal. Refuses (linked_cause self.now.tree key) refusal) }
+    {
+        check_linked(&self.table, key)?;
+        path_of(self.alloc, &self.table, self.root, key)
     }
 
     /// The text of a link: `../` from its directory up to the first one that is the root or above the target,
