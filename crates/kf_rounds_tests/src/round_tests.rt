@@ -59,87 +59,15 @@ fn push_times(text: &mut Vec<u8>, part: &[u8], times: usize) -> Result<(), Alloc
 }
 
 #[test]
-fn lines_are_cut_at_newlines_and_empty_ones_get_no_reply(rt: HostRuntime) {
+fn lines_are_whose_they_say_and_replies_stand_in_their_order(rt: HostRuntime) {
     let alloc = rt.alloc();
     assert!(rt; is_answered(&rt, alloc, 1, b"", b""));
     assert!(rt; is_answered(&rt, alloc, 1, b"\n\n", b""));
-    assert!(rt; is_answered(&rt, alloc, 1, b"ls /", b"ok 0.1\n"));
     assert!(rt; is_answered(&rt, alloc, 0, b"\nls /\n\n\nls /", b"ok 0.1\nok 0.2\n"));
     assert!(rt;
-        is_answered(
+        are_answered(
             &rt,
             alloc,
-            1,
-            b"@1 ls /\nwait\n@1 ls /",
-            b"ok 1.1\nok\nok 1.2\n"
-        )
-    );
-}
-
-#[test]
-fn a_worker_is_named_in_decimal_without_leading_zeros(rt: HostRuntime) {
-    assert!(rt;
-        are_answered(
-            &rt,
-            rt.alloc(),
-            2,
-            &[
-                "@1 ls / -> ok 1.1",
-                "@2 ls / -> ok 2.1",
-                "@3 ls / -> err Line 22",
-                "@0 ls / -> err Line 22",
-                "@01 ls / -> err Line 22",
-                "@ ls / -> err Line 22",
-                "@1 -> err Line 22",
-                "@1  -> err Line 22",
-                "@1  ls / -> err Line 22",
-                "@1 wait -> err Line 22",
-                "@x ls / -> err Line 22",
-                "@-1 ls / -> err Line 22",
-                "@11 ls / -> err Line 22",
-                "wait -> ok",
-            ]
-        )
-    );
-}
-
-#[test]
-fn sixteen_workers_have_lines(rt: HostRuntime) {
-    assert!(rt;
-        are_answered(
-            &rt,
-            rt.alloc(),
-            16,
-            &[
-                "@16 ls / -> ok 16.1",
-                "@9 ls / -> ok 9.1",
-                "@10 ls / -> ok 10.1",
-                "@17 ls / -> err Line 22",
-                "@1 ls / -> ok 1.1",
-                "ls / -> ok 0.1",
-            ]
-        )
-    );
-}
-
-#[test]
-fn a_line_of_a_worker_has_at_most_8192_bytes(rt: HostRuntime) -> Result<(), Fail> {
-    let alloc = rt.alloc();
-    let mut script = Vec::new(alloc);
-    script.extend_from_slice(b"@1 write f ")?;
-    push_times(&mut script, b"l", 8181)?;
-    script.extend_from_slice(b"\n@1 write f x")?;
-    push_times(&mut script, b"l", 8181)?;
-    assert!(rt; is_answered(&rt, alloc, 1, script.as_slice(), b"ok 1.1\nerr Line 22\n"));
-    Ok(())
-}
-
-#[test]
-fn replies_stand_in_the_order_of_lines(rt: HostRuntime) {
-    assert!(rt;
-        are_answered(
-            &rt,
-            rt.alloc(),
             2,
             &[
                 "@2 ls / -> ok 2.1",
@@ -147,7 +75,7 @@ fn replies_stand_in_the_order_of_lines(rt: HostRuntime) {
                 "@1 frob -> err Line 22",
                 "ls / -> ok 0.1",
                 "@2 ls / -> ok 2.2",
-                "frob -> err Line 22",
+                "@1 wait -> err Line 22",
                 "wait -> ok",
                 "ls / -> ok 0.2",
                 "wait -> ok",
@@ -165,9 +93,9 @@ fn replies_stand_in_the_order_of_lines(rt: HostRuntime) {
 fn a_round_begins_when_the_one_above_is_over(rt: HostRuntime) -> Result<(), Fail> {
     let alloc = rt.alloc();
     let mut script = Vec::new(alloc);
-    push_times(&mut script, b"@1 ls /\n@2 ls /\n@3 ls /\n@4 ls /\n", 500)?;
-    script.extend_from_slice(b"wait\n@4 commands\ncommands\n")?;
-    let replies = answers(&rt, alloc, 4, script.as_slice())?;
-    assert!(rt; replies.as_slice().ends_with(b"ok 4.500\nok\n2000\n2000\n"));
+    push_times(&mut script, b"@1 ls /\n@2 ls /\n@3 ls /\n@16 ls /\n", 500)?;
+    script.extend_from_slice(b"wait\n@16 commands\ncommands\n")?;
+    let replies = answers(&rt, alloc, 16, script.as_slice())?;
+    assert!(rt; replies.as_slice().ends_with(b"ok 16.500\nok\n2000\n2000\n"));
     Ok(())
 }

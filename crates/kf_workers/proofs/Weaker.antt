@@ -76,7 +76,10 @@ module _ (Board : Type 0) where
   replied_so workers lines (d ∷ before) now bytes some was = record {
     turns = was.turns;
     kinds_are = was.kinds_are;
-    each = each_turn was.turns was.fixed (λ who. (get_or (d ∷ before) who d, get_or now who d,
-        subst (λ ks. Tells suits (get_or (d ∷ before) who d) (commands_of who ks) (replies_of who was.turns) (get_or now who d)) (sym was.kinds_are) (was.ran who d)));
+    each = each_turn was.turns was.fixed (λ who. (
+      get_or (d ∷ before) who d,
+      get_or now who d,
+      subst (λ ks. Tells suits (get_or (d ∷ before) who d) (commands_of who ks) (replies_of who was.turns) (get_or now who d)) (sym was.kinds_are) (was.ran who d),
+    ));
     bytes_are = was.bytes_are;
   }

@@ -1,5 +1,6 @@
-//! A crowd: four workers on six shared paths whose directories come and go, and on a file of each worker's
-//! own. Each reply is one that some order of the lines explains, as far as it is looked at here.
+//! A crowd: four workers on six shared paths whose directories come and go, and on a file, a directory and a
+//! link of each worker's own. Each reply is one that some order of the lines explains, as far as it is looked
+//! at here.
 
 ghost use Rattle.std.specs.Prelude.{◌<◌};
 
@@ -40,7 +41,7 @@ fn action_at(round: usize, worker: usize, step: usize) -> Action {
     let mix = mixed(round, worker, step);
     let number = (mix >> 32) % 1000;
     Action {
-        kind: mix % 16,
+        kind: mix % 22,
         path: ((mix >> 16) % 6) as usize,
         number,
     }
@@ -122,17 +123,25 @@ fn put_action(script: &mut Vec<u8>, worker: usize, action: Action) -> Result<(),
         12 => put(script, &[b"hide /own", own]),
         13 => put(script, &[b"show /own", own]),
         14 => put(script, &[b"write z ", digits(action.number).as_slice()]),
-        _ => put(script, &[b"read z 0 9"]),
+        15 => put(script, &[b"read z 0 9"]),
+        16 => put(script, &[b"mv /own", own, b" /dir", own, b" moved"]),
+        17 => put(script, &[b"mv /dir", own, b"/moved / own", own]),
+        18 => put(script, &[b"link /link", own, b" ", path]),
+        19 => put(script, &[b"rm /link", own]),
+        20 => put(script, &[b"activate ", path]),
+        _ => put(script, &[b"compact"]),
     }
 }
 
 /// What is known of a worker: the round in which each shared file that it has open was opened, or 0; the text
-/// of its own file, and whether that is hidden.
+/// of its own file, and whether that is hidden, and in its directory; whether its link is there.
 #[derive(Clone, Copy)]
 struct Watched {
     opened: [usize; 6],
     own: [u8; 3],
     is_hidden: bool,
+    is_moved: bool,
+    is_linked: bool,
 }
 
 fn is_one_of(reply: &[u8], some: &[&[u8]]) -> bool {
@@ -172,10 +181,20 @@ fn is_shared_reply(action: Action, reply: &[u8], opened: usize, removed: usize) 
     }
 }
 
-/// Whether a reply about a worker's own file is the one that its own lines explain.
+/// Whether a reply about what is a worker's own is one that its own lines explain.
 fn is_own_reply(action: Action, reply: &[u8], watched: &Watched) -> bool {
     let is_hidden = watched.is_hidden;
+    let is_moved = watched.is_moved;
+    let no_entry = b"err NoEntry 2".as_slice();
     match action.kind {
+        12 | 13 if is_moved => reply == no_entry,
+        16 if is_hidden || is_moved => reply == no_entry,
+        17 if !is_moved => reply == no_entry,
+        18 if watched.is_linked => is_one_of(reply, &[b"err Exists 17", no_entry]),
+        18 => reply.starts_with(b"ok ") || reply == no_entry,
+        19 if !watched.is_linked => reply == no_entry,
+        20 => is_one_of(reply, &[b"ok", no_entry]),
+        16..=21 => reply == b"ok".as_slice(),
         12 if is_hidden => reply == b"err Busy 16".as_slice(),
         12 => reply == b"ok".as_slice(),
         13 if is_hidden => reply == b"ok".as_slice(),
@@ -191,8 +210,12 @@ fn watch(watched: &mut Watched, action: Action, reply: &[u8], round: usize) {
     match action.kind {
         3 | 4 if reply == b"ok".as_slice() => watched.opened[action.path] = round,
         8 => watched.opened[action.path] = 0,
-        12 => watched.is_hidden = true,
-        13 => watched.is_hidden = false,
+        12 if !watched.is_moved => watched.is_hidden = true,
+        13 if !watched.is_moved => watched.is_hidden = false,
+        16 if !watched.is_hidden => watched.is_moved = true,
+        17 => watched.is_moved = false,
+        18 if reply.starts_with(b"ok ") => watched.is_linked = true,
+        19 => watched.is_linked = false,
         14 if !watched.is_hidden => watched.own = digits(action.number),
         _ => {}
     }
@@ -255,6 +278,8 @@ fn are_explained(replies: &[&[u8]]) -> bool {
         opened: [0; 6],
         own: *b"new",
         is_hidden: false,
+        is_moved: false,
+        is_linked: false,
     };
     let mut watched = [none; 4];
     let mut removed = [0; 6];
@@ -281,10 +306,11 @@ fn are_explained(replies: &[&[u8]]) -> bool {
     true
 }
 
-/// The files of the workers' own, each opened by its worker. Nine lines.
+/// The files and directories of the workers' own, each file opened by its worker. Fourteen lines.
 fn put_begin(script: &mut Vec<u8>) -> Result<(), AllocError> {
     for worker in 0..WORKERS {
         put(script, &[b"file /own", digit_of(worker), b" 666 new"])?;
+        put(script, &[b"mkdir /dir", digit_of(worker)])?;
     }
     put(script, &[b"wait"])?;
     for worker in 0..WORKERS {
@@ -304,6 +330,8 @@ fn put_end(script: &mut Vec<u8>, slots: usize) -> Result<(), AllocError> {
         put(script, &[b"@", own, b" close z"])?;
         put(script, &[b"@", own, b" show /own", own])?;
         put(script, &[b"@", own, b" rm /own", own])?;
+        put(script, &[b"@", own, b" rm /dir", own])?;
+        put(script, &[b"@", own, b" rm /link", own])?;
     }
     put(script, &[b"wait"])?;
     put(script, &[b"rm /a"])?;
@@ -366,9 +394,9 @@ fn a_crowd_is_answered_in_some_order(rt: HostRuntime) -> Result<(), Fail> {
         panic!(&rt; "no memory")
     };
     let replies = lines_of(rt.alloc(), text.as_slice())?;
-    let begin = 10;
+    let begin = 14;
     let rounds = ROUNDS * (STEPS * WORKERS + 1);
-    let end = begin + rounds + 9 * WORKERS + 1;
+    let end = begin + rounds + 11 * WORKERS + 1;
     let Some(of_rounds) = replies.get(begin..begin + rounds) else {
         panic!(&rt; "a reply is missing")
     };

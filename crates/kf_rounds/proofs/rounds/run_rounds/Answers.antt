@@ -1,6 +1,5 @@
 use Rattle.std.proofs.Common.{◌≡◌, ◌+◌, ◌++◌, ◌∙◌, List, ℕ, [], map, take, length, subst, sym, ap}
 use mathlib.Core.List.{map-append}
-use Rattle.kf_rounds.specs.Kinds.{Kind}
 use Rattle.kf_rounds.specs.KindViews.{kind_view}
 use Rattle.kf_rounds.specs.Seats.{boards}
 use Rattle.kf_rounds.specs.Turns.{Replied}

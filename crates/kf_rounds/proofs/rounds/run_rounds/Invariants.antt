@@ -1,4 +1,4 @@
-use Rattle.std.proofs.Common.{◌≡◌, ◌+◌, ◌-◌, map, take, length, []}
+use Rattle.std.proofs.Common.{◌-◌, map, take, length, []}
 use Rattle.kf_rounds.specs.KindViews.{kind_view}
 use Rattle.kf_rounds.specs.Seats.{boards}
 use Rattle.kf_rounds.specs.Turns.{Replied}
