@@ -67,6 +67,8 @@ impl Bus {
     ///
     /// It may never return: it waits for the tree lock and the lock of the bus, which its caller must not
     /// have, and where its link is refused for the callbacks that run on the new files.
+    ///
+    /// Context: sleeps; takes the lock of the bus and the tree's, one at a time.
     pub fn plug<N: Naming, R: Wait>(
         &self,
         rt: &R,
@@ -116,6 +118,8 @@ impl Bus {
     ///
     /// It may never return: it waits for the tree lock and the lock of the bus, which its caller must not
     /// have, and for every callback that runs on the device's files, its caller's own among them.
+    ///
+    /// Context: sleeps; takes the lock of the bus and the tree's, one at a time.
     pub fn unplug<N: Naming, R: Wait>(
         &self,
         rt: &R,

@@ -101,6 +101,8 @@ impl<N: Naming> WaitingFile<N> {
     /// Refusals, in order: `Access` where the file was not opened for reading, `NoDevice` where the node is
     /// not live; both change nothing. A fault of show is answered as `Callback`, and leaves no text. The rest
     /// of `out` stays, and all of it after an error. It may never return, as its show may not.
+    ///
+    /// Context: no lock, and no sleep but its callback's.
     pub fn read<W: WaitOps, R: Wait>(
         &mut self,
         rt: &R,
@@ -130,6 +132,8 @@ impl<N: Naming> WaitingFile<N> {
     ///
     /// Refusals, in order: `Access` where the file was not opened for writing, `NoDevice` where the node is
     /// not live. The file stays as it was. It may never return, as its store may not.
+    ///
+    /// Context: no lock, and no sleep but its callback's.
     pub fn write<W: WaitOps, R: Wait>(
         &mut self,
         rt: &R,

@@ -69,8 +69,8 @@ abbrev pub StaysRaised : Type 0
 StaysRaised = (slots start : ℕ) (t : Table) (seat slot number : ℕ) (kinds : List Kind) (t' : Table)
     → Shown slots start t → NumberRun slots t (raises seat slot number ∷ kinds) t' → number ≤ number_at t' slot
 
--- a notify that begins where another of its slot has ended makes a greater number, whatever all seats do between
--- them, and between its load and its raise
+-- a notify that begins where another of its slot has ended makes a greater number, whatever all seats do
+-- between them, and between its load and its raise
 abbrev pub LaterIsGreater : Type 0
 LaterIsGreater = (slots start : ℕ) (t : Table) (one other slot number later : ℕ) (kinds more : List Kind)
     (t' : Table) → Shown slots start t

@@ -25,6 +25,8 @@ impl<N: Naming> SharedTree<N> {
     /// linked, or doomed), Busy (hidden), NoMemory. After a refusal the tree is as before, and the hold comes
     /// back; where it was Busy because the word had the key hidden, and the tree had not, it comes after
     /// NoMemory and the hold has made one step.
+    ///
+    /// Context: sleeps; takes the tree's lock, which its caller must not have.
     pub fn hide<R: Wait>(&self, rt: &R, hold: Hold) -> Result<Hidden, (Hold, Refusal)>
         requires table { hold.table ≡ N.table }
         ensures same { IfOk result (λ hidden. IsSameSeat hold hidden) }
@@ -41,6 +43,8 @@ impl<N: Naming> SharedTree<N> {
     /// takes no memory.
     ///
     /// Condition: the token is of this tree's table.
+    ///
+    /// Context: sleeps; takes the tree's lock, which its caller must not have.
     pub fn show<R: Wait>(&self, rt: &R, hidden: Hidden) -> Hold
         requires table { hidden.table ≡ N.table }
         ensures hold { IsSameSeat hidden result × WasShown hidden result }
@@ -58,6 +62,8 @@ impl<N: Naming> Editor<'_, N> {
     /// Condition: the hold is of this table.
     ///
     /// Refusals: those of `hide`. After a refusal the tree is as before, and the lock is let go.
+    ///
+    /// Context: sleeps, once it has let the lock go.
     pub fn hide_and_wait<R: Wait>(self, rt: &R, hold: Hold) -> Result<Hidden, (Hold, Refusal)>
         requires table { hold.table ≡ N.table }
         ensures same { IfOk result (λ hidden. IsSameSeat hold hidden) }

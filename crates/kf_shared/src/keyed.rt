@@ -46,6 +46,8 @@ impl<N: Naming> Editor<'_, N> {
     /// node's own last.
     ///
     /// Refusals: those of `begin_removal_of`. After a refusal nothing is marked, and the lock is let go.
+    ///
+    /// Context: sleeps, once it has let the lock go, and takes it for each unlink.
     pub fn remove_key<R: Wait>(self, rt: &R, key: Key) -> Result<Vec<Parted>, Refusal>
         ensures tables { IfOk result (λ receipts. AreOf N.table receipts.items) }
         ensures listed { IfOk result (λ receipts. IsRemovalOf self.entry.state key (keys_of receipts.items)) }
@@ -62,6 +64,8 @@ impl<N: Naming> Editor<'_, N> {
     ///
     /// Refusals, in order: NoEntry (the directory is not linked), NotDir, NoEntry (no such child), then those
     /// of `begin_removal_of`. After a refusal nothing is marked, and the lock is let go.
+    ///
+    /// Context: as `remove_key`.
     pub fn remove_name<R: Wait>(self, rt: &R, dir: Key, name: &[u8]) -> Result<Vec<Parted>, Refusal>
         ensures tables { IfOk result (λ receipts. AreOf N.table receipts.items) }
         ensures listed { IfOk result (λ receipts. (key : Key)
@@ -78,6 +82,8 @@ impl<N: Naming> Editor<'_, N> {
     ///
     /// Refusals, in order: those of [`kf_tree::State::walk`], then those of `begin_removal_of`. After a
     /// refusal nothing is marked, and the lock is let go.
+    ///
+    /// Context: as `remove_key`.
     pub fn remove_path<R: Wait>(self, rt: &R, path: &[u8]) -> Result<Vec<Parted>, Refusal>
         ensures tables { IfOk result (λ receipts. AreOf N.table receipts.items) }
         ensures listed { IfOk result (λ receipts. (key : Key)

@@ -23,6 +23,8 @@ impl<N: Naming> SharedTree<N> {
     /// and for the lock, which its caller must not have.
     ///
     /// Condition: the hold is of this tree's table.
+    ///
+    /// Context: sleeps; takes the tree's lock, which its caller must not have.
     pub fn finish<R: Wait>(&self, rt: &R, hold: Hold) -> Parted
         requires table { hold.table ≡ N.table }
         ensures same { IsSameSeat hold result }
@@ -45,6 +47,8 @@ impl<N: Naming> SharedTree<N> {
     }
 
     /// Finishes each hold in turn. There is room for the receipts.
+    ///
+    /// Context: sleeps; takes the tree's lock, which its caller must not have.
     pub fn finish_each<R: Wait>(
         &self,
         rt: &R,
@@ -77,6 +81,8 @@ impl<N: Naming> SharedTree<N> {
     /// Refusals, in order: Invalid (the root), TooManyHolds (a node below was found to have as many holds as
     /// there may be), NoMemory (each was found to have room, or the node is no longer linked). After a
     /// refusal nothing is marked, and the hold comes back as it was.
+    ///
+    /// Context: sleeps; takes the tree's lock, which its caller must not have.
     pub fn remove<R: Wait>(&self, rt: &R, hold: Hold) -> Result<Vec<Parted>, (Hold, Refusal)>
         requires table { hold.table ≡ N.table }
         ensures tables { IfOk result (λ receipts. AreOf N.table receipts.items) }
@@ -104,6 +110,8 @@ impl<N: Naming> SharedTree<N> {
     /// of the subtree was found to have as many holds as there may be), NoMemory (each was found to have
     /// room, or the node is no longer linked). After a refusal the call is as it was, nothing is marked, and
     /// the node is not claimed.
+    ///
+    /// Context: sleeps; takes the tree's lock, which its caller must not have.
     pub fn remove_self<R: Wait>(
         &self,
         rt: &R,
@@ -135,6 +143,8 @@ impl<N: Naming> Editor<'_, N> {
     ///
     /// Refusals: those of `doom`. After a refusal nothing is marked, the lock is let go, and the hold comes
     /// back as it was.
+    ///
+    /// Context: sleeps, once it has let the lock go.
     pub fn remove<R: Wait>(self, rt: &R, hold: Hold) -> Result<Vec<Parted>, (Hold, Refusal)>
         requires table { hold.table ≡ N.table }
         ensures tables { IfOk result (λ receipts. AreOf N.table receipts.items) }
@@ -162,6 +172,8 @@ impl<N: Naming> Editor<'_, N> {
     ///
     /// Refusals: those of [`SharedTree::remove_self`]. After a refusal the call is as it was, nothing is
     /// marked, the node is not claimed, and the lock is let go.
+    ///
+    /// Context: sleeps, once it has let the lock go, and takes it again.
     pub fn remove_self<R: Wait>(
         self,
         rt: &R,

@@ -44,8 +44,8 @@ fn no_claims(alloc: Global, slots: u32) -> Result<Vec<u32>, AllocError>
 }
 
 impl NewTree {
-    /// The tree without a lock, under the name of its table, for one owner or for a lock of the caller's own. It
-    /// takes no memory.
+    /// The tree without a lock, under the name of its table, for one owner or for a lock of the caller's own.
+    /// It takes no memory.
     ///
     /// Condition: the name is that of the tree's table of words.
     pub fn owned<N: Naming>(self) -> Locked<N>
@@ -173,6 +173,8 @@ impl<N: Naming> SharedTree<N> {
     /// drain or a hidden file: nobody can mark a node meanwhile, and a callback that is waited for may want
     /// the lock. Under it may be called what takes no runtime: the editor's commands, and each call of a
     /// hold, call, receipt or token.
+    ///
+    /// Context: sleeps; takes the tree's lock, which its caller must not have.
     pub fn edit<R: Wait>(&self, rt: &R) -> Editor<'_, N>
         ensures { IsWhole N.table result }
     {
@@ -186,6 +188,8 @@ impl<N: Naming> SharedTree<N> {
 
     /// Waits for the lock as one who only looks: a [`Reader`] can change nothing. What holds of the tree is
     /// what `edit` tells, and what may not be called over an [`Editor`] may not be called over a `Reader`.
+    ///
+    /// Context: sleeps; takes the tree's lock, which its caller must not have.
     pub fn read<R: Wait>(&self, rt: &R) -> Reader<'_, N>
         ensures { IsWhole N.table result }
     {

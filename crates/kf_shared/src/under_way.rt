@@ -51,6 +51,8 @@ impl<N: Naming> Removing<N> {
     /// stand in the order of the holds, each of its hold's own seat. It takes no memory, and may never
     /// return: it waits for every callback that runs on the nodes, its caller's own among them, and for the
     /// lock, which its caller must not have.
+    ///
+    /// Context: sleeps; takes the tree's lock, which its caller must not have.
     pub fn finish<R: Wait>(self, rt: &R, tree: &SharedTree<N>) -> Vec<Parted>
         ensures tables { AreOf N.table result.items }
         ensures owners { owners_of result.items ≡ owners_of self }

@@ -17,8 +17,8 @@ pub(crate) fn copy_name(alloc: Global, name: &[u8]) -> Result<NameBytes, Refusal
     }
 }
 
-/// Takes room for one command, and for so many after it. A list that grows has room for twice its commands, so
-/// that they are copied seldom.
+/// Takes room for one command, and for so many after it. A list that grows has room for twice its commands,
+/// so that they are copied seldom.
 pub(crate) fn make_room(commands: &mut Vec<Command>, later: usize) -> Result<(), Refusal>
     requires fits { later + 1 < 2 ^ 64 }
     ensures items { commands.new.items ≡ commands.old.items }

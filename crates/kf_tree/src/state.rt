@@ -109,8 +109,8 @@ impl State {
         Ok(key)
     }
 
-    /// [`State::create`] under this key, for a caller that has asked [`State::create_fault`] already. The only
-    /// refusal is `NoMemory`; after it nothing is changed.
+    /// [`State::create`] under this key, for a caller that has asked [`State::create_fault`] already. The
+    /// only refusal is `NoMemory`; after it nothing is changed.
     ///
     /// Condition: nothing is wrong with the new record, as `create_fault` tells. The key is as `create` asks.
     pub fn create_at(

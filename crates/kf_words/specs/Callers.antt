@@ -174,8 +174,8 @@ seat_view h = record {
   undo_due = h.undo_due;
 }
 
--- what a step that took one user off an active word owes to those who sleep there: a wake, where one of them may
--- wait for what the word that it found is without that user
+-- what a step that took one user off an active word owes to those who sleep there: a wake, where one of them
+-- may wait for what the word that it found is without that user
 pub record Owed : Type 0 where
   pub slot : ℕ
   pub found : ℕ

@@ -171,8 +171,8 @@ pub record WasMadeByMaster (kind : Kind) (before after : MasterView) : Type 0 wh
   pub was : get_elem? found.views 0 ≡ some (seat.Master before)
   pub is : get_elem? left.views 0 ≡ some (seat.Master after)
 
--- what a step of the Master tells: that it is on the word that this index has of some slot, the view after it,
--- and that a table made it
+-- what a step of the Master tells: that it is on the word that this index has of some slot, the view after
+-- it, and that a table made it
 abbrev pub MasterMakes : (ℕ → ℕ) → (ℕ → Kind) → (ℕ → ℕ → MasterView → MasterView)
     → Step (Unit {0}) → Seated → ℕ → Seated → Type 0
 MasterMakes index kind after = On index (λ st me found me'. MasterBecomes after st me found me'

@@ -87,8 +87,8 @@ lacks_node (Some state) = not (is_some state.marks)
 abbrev pub is_unlinked : List SlotState → ℕ → Bool
 is_unlinked slots slot = not (slot == 0) && lacks_node (slice_get slots slot)
 
--- the slots below this one were passed with these loads, in turn: each that is not the root's has a node linked,
--- or else a load found it not free
+-- the slots below this one were passed with these loads, in turn: each that is not the root's has a node
+-- linked, or else a load found it not free
 abbrev pub Passed : List SlotState → ℕ → List Load → Type 0
 Passed slots zero loads = loads ≡ []
 Passed slots (suc slot) loads = ((is_unlinked slots slot ≡ false) × Passed slots slot loads)
@@ -205,7 +205,8 @@ abbrev pub AreFull : List Bool → List SlotState → Type 0
 AreFull full slots = (slot : ℕ) → slice_get full (slot / 64) ≡ Some true → is_unlinked slots slot ≡ false
 
 -- what the Master keeps at run time is what its view says, between any two calls
-pub record IsMirrored (m : MasterView) (slots : List SlotState) (nodes : List Node) (holds : ℕ) (full : List Bool) : Type 0 where
+pub record IsMirrored (m : MasterView) (slots : List SlotState) (nodes : List Node) (holds : ℕ)
+    (full : List Bool) : Type 0 where
   pub root : 1 ≤ length slots
   pub few : length slots ≤ 4096
   pub same_slots : m.slots ≡ slots

@@ -28,10 +28,11 @@ impl Drained {
 /// It may never return. All its steps on the slot's active word and hold word are looks at the active word;
 /// how many is not told.
 ///
-/// Why no callback is missed: a caller counts itself by the very step that looks for the mark, so its step and
-/// the mark come one after the other in the order of one word. A try that comes first is counted in the word
-/// that the mark leaves, and no later word is drained before it has left; one that comes after finds the bias
-/// and fails. Its count stands for a moment all the same, so a look may come too early, and never too late.
+/// Why no callback is missed: a caller counts itself by the very step that looks for the mark, so its step
+/// and the mark come one after the other in the order of one word. A try that comes first is counted in the
+/// word that the mark leaves, and no later word is drained before it has left; one that comes after finds the
+/// bias and fails. Its count stands for a moment all the same, so a look may come too early, and never too
+/// late.
 ///
 /// Context: sleeps; takes no lock, and its caller must not have the tree's.
 #[tactic(auto, using(crate::proofs::Waits::at_least_one))]

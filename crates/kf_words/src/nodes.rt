@@ -103,9 +103,9 @@ impl Master {
     /// where it was not: a refused try may be in flight there, or a caller that broke its protection has a
     /// reference again.
     ///
-    /// The receipt shows that the word was drained once, not that it is: so it is loaded again here. From this
-    /// load to the next step nobody can run on the node: its bias goes away by an activation alone, and a
-    /// doomed node is not activated.
+    /// The receipt shows that the word was drained once, not that it is: so it is loaded again here. From
+    /// this load to the next step nobody can run on the node: its bias goes away by an activation alone, and
+    /// a doomed node is not activated.
     ///
     /// Condition: the receipt is of this table, and its node is linked.
     pub fn unlink(&mut self, drained: &Drained) -> bool

@@ -15,9 +15,9 @@ use kf_core::Phase;
 impl Hold {
     /// As `enter`, and beside a hold that comes back what the second of its two steps owes.
     ///
-    /// It counts itself first and looks at the word that this very step found. To look first would leave a gap
-    /// in which a mark and a whole drain fit; so a try that fails has been counted for a moment, and who waits
-    /// for the drain may have seen it: hence the wake that its undoing owes.
+    /// It counts itself first and looks at the word that this very step found. To look first would leave a
+    /// gap in which a mark and a whole drain fit; so a try that fails has been counted for a moment, and who
+    /// waits for the drain may have seen it: hence the wake that its undoing owes.
     pub fn enter_quiet(self) -> Result<Call, (Hold, WakeDue)>
         ensures same { MatchResult result (λ call. IsSameSeat self call) (λ back. IsSameSeat self back.0) }
         ensures call { IfOk result (λ call. Entered self call) }

@@ -1,5 +1,5 @@
-//! A caller's seat at the table of words. Its fields are private: the files of this module alone read them, and
-//! `new`, `moved` and `end` alone take it apart.
+//! A caller's seat at the table of words. Its fields are private: the files of this module alone read them,
+//! and `new`, `moved` and `end` alone take it apart.
 ghost use Rattle.std.specs.Prelude.{◌≡◌, ◌*◌, ◌<◌, []};
 ghost use Rattle.std.specs.Arc.{arc_value};
 ghost use Rattle.kf_words.specs.Layout.{line_words};

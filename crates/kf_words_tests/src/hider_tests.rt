@@ -194,8 +194,9 @@ fn no_call_runs_while_a_token_is_out<R: Abort + Threads + Wait + Sync>(rt: &R, a
     see_drained(rt, holds);
 }
 
-/// Ends the last call where both wait, and then marks the node, where there is one to `mark`. Tells whether each
-/// came through when it had to: the hider by the call's end, and the waiter when the node is also marked.
+/// Ends the last call where both wait, and then marks the node, where there is one to `mark`. Tells whether
+/// each came through when it had to: the hider by the call's end, and the waiter when the node is also
+/// marked.
 fn end_and_mark<R: Abort + Clock>(
     rt: &R,
     master: &mut Master,
@@ -246,8 +247,9 @@ fn hide_and_drain<R: Threads + Wait + Clock + Sync>(
     hidden
 }
 
-/// A waiter for the drain and a hider sleep on one word, which one first is `hider_first`. The last call's end wakes
-/// both: the hider is through, and the waiter too where the node is marked. Else it sees that it has to wait on.
+/// A waiter for the drain and a hider sleep on one word, which one first is `hider_first`. The last call's
+/// end wakes both: the hider is through, and the waiter too where the node is marked. Else it sees that it
+/// has to wait on.
 fn both_wait<R: Abort + Threads + Wait + Clock + Sync>(
     rt: &R,
     alloc: Global,

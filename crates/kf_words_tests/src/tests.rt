@@ -9,8 +9,8 @@ use kf_words::{Master, Words};
 use std::alloc::Global;
 use std::process::Abort;
 
-/// A slot that has had `start` generations and may have two holds, until its node has left and `next` is the key
-/// that it can give. `parts` says whether the second hold sees that the node has left before it goes.
+/// A slot that has had `start` generations and may have two holds, until its node has left and `next` is the
+/// key that it can give. `parts` says whether the second hold sees that the node has left before it goes.
 fn slot_is_given_again<R: Abort>(
     rt: &R,
     alloc: Global,

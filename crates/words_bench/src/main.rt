@@ -1,7 +1,7 @@
 //! `words_bench run` tells what `enter` and `leave` of a hold cost, beside two additions on an atomic word
 //! and a reader-writer lock, by one thread and by several, and what a refused try costs where nobody sleeps.
-//! `words_bench wait` has four waiters for a node that is hidden, unused and not marked, for a second: who runs it
-//! counts how often they sleep. With neither word it does nothing.
+//! `words_bench wait` has four waiters for a node that is hidden, unused and not marked, for a second: who
+//! runs it counts how often they sleep. With neither word it does nothing.
 #![tactic(auto)]
 
 ghost use Rattle.kf_words.specs.Callers.{IsSameSeat};

@@ -96,9 +96,9 @@ impl State {
         Ok(())
     }
 
-    /// Why [`State::create`] would refuse this new record now whichever key is next, or None: the first of its
-    /// refusals but `NoSpace` and `NoMemory`. So a caller asks it before it searches for a key, and then makes
-    /// the record by [`State::create_at`]. It takes no memory.
+    /// Why [`State::create`] would refuse this new record now whichever key is next, or None: the first of
+    /// its refusals but `NoSpace` and `NoMemory`. So a caller asks it before it searches for a key, and then
+    /// makes the record by [`State::create_at`]. It takes no memory.
     pub fn create_fault(&self, parent: Key, name: &[u8], node: Node) -> Option<Refusal>
         ensures first { result ≡ create_fault self.now.tree self.now.root parent name.now node }
     {

@@ -87,8 +87,8 @@ impl CallerSeat {
         }
     }
 
-    /// The one way in which a seat ends, and only where its hold was given back: the view says Spent after the
-    /// step of `release_seat` alone.
+    /// The one way in which a seat ends, and only where its hold was given back: the view says Spent after
+    /// the step of `release_seat` alone.
     pub(crate) fn end(self)
         requires { (view_of self).phase ≡ phase_of.Spent }
     {

@@ -21,8 +21,8 @@ pub fn close_file<N: Naming>(file: WaitingFile<N>) {
     hold.release();
 }
 
-/// Reads a file from an offset on, through a page: puts the bytes, at most 4,096, into the reply, or why there
-/// are none.
+/// Reads a file from an offset on, through a page: puts the bytes, at most 4,096, into the reply, or why
+/// there are none.
 fn read_through<W: WaitOps, N: Naming, R: Wait>(
     rt: &R,
     common: &Common<'_, W, N>,
