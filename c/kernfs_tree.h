@@ -16,7 +16,8 @@
  * kt_enter() twice, kt_leave() of a broken call) answers -EINVAL.
  *
  * Answers: 0 or more where it is done; a Linux error number below 0 where it is not, and then nothing has changed and
- * what `out` points to is as it was. No call sleeps, takes a lock or calls back.
+ * what `out` points to is as it was; but -EAGAIN of kt_remove() says that it has begun. No call sleeps, takes a lock or
+ * calls back.
  *
  * What is proved, for all inputs, stands beside each call in crates/kernfs_tree/src/calls.rt:
  * - 0 only where the thing was done, as the tree defines it: the node linked, found, moved, held, activated, out of the
