@@ -23,12 +23,14 @@
  * - 0 only where the thing was done, as the tree defines it: the node linked, found, moved, held, activated, out of the
  *   tree; the hold let in while its node was live, the call left, broken, restored. kt_leave() and kt_break() answer 1
  *   exactly where somebody may wait for what is left of the node's word.
- * - After an answer below 0 the tree, the handle and `out` are as they were; of kt_next() and kt_readlink() the tree.
+ * - After an answer below 0, but for -EAGAIN of kt_remove(), the tree, the handle and `out` are as they were; of
+ *   kt_next() and kt_readlink() the tree. (The hold of a refused kt_enter() has made a try.)
  * - No call reads or writes out of bounds or after a free, and each ends.
- * On a node that is not in the tree nobody runs, nor ever will: that is a law over every run of such steps. Not proved:
- * what kt_stat(), kt_next() and kt_readlink() tell; that kt_remove() takes out no other node than those below; which of
- * 0 and 1 kt_clear() and kt_delete() answer; that kt_new() gives a handle; and everything that is C, the helpers below
- * too. These are tested.
+ * On a node that is not in the tree nobody runs, and a key that has left it never comes again: these are laws over
+ * every run of such steps. Not proved: which error number comes; what kt_stat(), kt_next() and kt_readlink() tell; that
+ * kt_remove() and kt_claim() mark, and that kt_remove() takes out no other node than those below; which of 0 and 1
+ * kt_clear() and kt_delete() answer; that kt_new() gives a handle; and everything that is C, the helpers below too.
+ * `make -C c test` tries these.
  *
  * What a program has to keep to, which the library cannot see:
  * - A handle comes from kt_new(), is used by one call at a time, and not after kt_delete(). It may go to another thread
@@ -38,7 +40,8 @@
  * - malloc(), realloc() and free() belong together. No call is made in a signal handler, or between fork() and exec()
  *   in a program with threads.
  * - After kt_enter() has answered -ENODEV, and after kt_leave(), kt_break(), kt_clear() or kt_delete() has answered 1,
- *   those who wait in a removal are woken. The helpers below do so.
+ *   those who wait in a removal are woken; also when a hold was let go of a node that had as many as there may be,
+ *   since a removal needs one for a moment. The helpers below do so.
  */
 #ifndef KERNFS_TREE_H
 #define KERNFS_TREE_H
@@ -80,7 +83,7 @@ struct kt_stat {
     uint32_t kind;        /* enum kt_kind */
     uint32_t links;       /* of a directory two and the number of child directories, else 1 */
     uint16_t mode;        /* of a file, its permission bits, which the library only keeps */
-    bool activated, doomed, hidden;
+    bool activated, doomed, hidden; /* (no call hides a node yet) */
 };
 
 /* ---- handles ---- */
@@ -89,7 +92,7 @@ struct kt_stat {
 int32_t kt_new(void **at);
 
 /* Lets go of what lies behind the handle: a hold is released, a call ended first, a tree freed. 0, or 1: wake those who
- * wait in a removal. Holds of a tree that is freed stay valid. */
+ * wait in a removal (kt_clear_wake() always does). Holds of a tree that is freed stay valid. */
 int32_t kt_clear(struct kt_handle *handle);
 
 /* The same, and frees the handle, which is not used again. */
@@ -149,7 +152,8 @@ int32_t kt_hold(struct kt_handle *tree, struct kt_key key, struct kt_handle *hol
  * kt_enter() there succeeds any more, and takes each out of the tree that nobody is inside. 0: the node is out, now or
  * before. -EAGAIN: somebody is inside; call again when a callback has left (kt_remove_wait() does). Before anything is
  * marked: -EINVAL (the root), -EMFILE (a node has as many holds as there may be), -ENOMEM. It takes a hold of each node
- * for a moment: where a program has taken as many as there may be, it answers -EAGAIN until one is let go. */
+ * for a moment: where a program has taken as many as there may be, it answers -EAGAIN until one is let go. A call that
+ * goes on with what an earlier one has marked may answer -ENOMEM too: all stays marked, and it is called again. */
 int32_t kt_remove(struct kt_handle *tree, struct kt_key key);
 
 /* Marks a node and all below it, as kt_remove() does, and claims its removal for a callback of its own: of those who
@@ -254,16 +258,16 @@ static inline int32_t kt_break_wake(struct kt_handle *call, struct kt_lock *lock
     return 0;
 }
 
-/* Lets go of what lies behind a handle, with the wake that this may owe. */
+/* Lets go of what lies behind a handle, and wakes those who wait in a removal: for the end of a call, or for a hold. */
 static inline void kt_clear_wake(struct kt_handle *handle, struct kt_lock *lock)
 {
-    if (kt_clear(handle) == 1)
-        kt_wake(lock);
+    kt_clear(handle);
+    kt_wake(lock);
 }
 
 /* Removes a node and all below it, and waits until no callback runs there (kernfs_remove). It sleeps, and takes the
  * lock, which its caller does not have. A callback that removes its own node calls kt_remove_self_wait(). 0, or as of
- * kt_remove(); never -EAGAIN. */
+ * kt_remove(); never -EAGAIN. After -ENOMEM, which may come when all is marked, it is called again. */
 static inline int32_t kt_remove_wait(struct kt_handle *tree, struct kt_key key, struct kt_lock *lock)
 {
     int32_t answer;
@@ -276,7 +280,7 @@ static inline int32_t kt_remove_wait(struct kt_handle *tree, struct kt_key key, 
 
 /* Removes the node of a call from inside its callback (kernfs_remove_self), and waits for every other callback there. 1
  * for the first that does so, 0 for each other, or where the node was gone: after its own wait, too. Below 0: as of
- * kt_break() and kt_claim(). The call has its reference again. */
+ * kt_break(), kt_claim() and kt_remove(). The call has its reference again. */
 static inline int32_t kt_remove_self_wait(struct kt_handle *tree, struct kt_handle *call, struct kt_key key,
                                           struct kt_lock *lock)
 {
