@@ -1,6 +1,6 @@
 /* kernfs_tree.h: the attribute tree of Linux sysfs (kernfs), as a proved library for programs in user space.
  *
- * Link with -lkernfs_tree, or by pkg-config. Every call is declared here with what it needs and what it may answer.
+ * Link with -lkernfs_tree, or by pkg-config. Every function is declared here with what it needs and may answer.
  *
  * The promise: once kt_remove() has answered 0, no callback runs under a call of that node or of one that was below it,
  * and none ever starts. A callback that has broken its protection (kt_break()) is not waited for, as in the kernel.
@@ -16,32 +16,32 @@
  * kt_enter() twice, kt_leave() of a broken call) answers -EINVAL.
  *
  * Answers: 0 or more where it is done; a Linux error number below 0 where it is not, and then nothing has changed and
- * what `out` points to is as it was; but -EAGAIN of kt_remove() says that it has begun. No call sleeps, takes a lock or
- * calls back.
+ * what `out` points to is as it was; but -EAGAIN of kt_remove() says that it has begun. Only the helpers at the end
+ * sleep, take a lock or call back.
  *
  * What is proved, for all inputs, stands beside each call in crates/kernfs_tree/src/calls.rt:
  * - 0 only where the thing was done, as the tree defines it: the node linked, found, moved, held, activated, out of the
  *   tree; the hold let in while its node was live, the call left, broken, restored. kt_leave() and kt_break() answer 1
- *   exactly where somebody may wait for what is left of the node's word.
- * - After an answer below 0, but for -EAGAIN of kt_remove(), the tree, the handle and `out` are as they were; of
- *   kt_next() and kt_readlink() the tree. (The hold of a refused kt_enter() has made a try.)
+ *   exactly where a removal may be waiting for that step.
+ * - After an answer below 0, but for -EAGAIN of kt_remove(), the tree, the handle and `out` are as they were (for
+ *   kt_next() and kt_readlink() the tree alone; a refused kt_enter() was counted for a moment).
  * - No call reads or writes out of bounds or after a free, and each ends.
  * On a node that is not in the tree nobody runs, and a key that has left it never comes again: these are laws over
- * every run of such steps. Not proved: which error number comes; what kt_stat(), kt_next() and kt_readlink() tell; that
- * kt_remove() and kt_claim() mark, and that kt_remove() takes out no other node than those below; which of 0 and 1
+ * every run of these functions' steps. Not proved: which error number comes; what kt_stat(), kt_next() and kt_readlink() tell; that
+ * kt_remove() and kt_claim() mark, and that kt_remove() takes out only it and those below; which of 0 and 1
  * kt_clear() and kt_delete() answer; that kt_new() gives a handle; and everything that is C, the helpers below too.
  * `make -C c test` tries these.
  *
  * What a program has to keep to, which the library cannot see:
- * - A handle comes from kt_new(), is used by one call at a time, and not after kt_delete(). It may go to another thread
- *   with what orders such a step (a lock, a join, an atomic).
+ * - A handle comes from kt_new(), is used by one function at a time, and not after kt_delete(). It may pass to another
+ *   thread by what orders memory (a lock, a join, an atomic).
  * - Calls that take a tree are made under one lock of the program's, one for each tree, or by one thread.
  * - Pointers are valid, lengths are those of what is there, a bool is 0 or 1, and no two arguments of one call overlap.
- * - malloc(), realloc() and free() belong together. No call is made in a signal handler, or between fork() and exec()
- *   in a program with threads.
+ * - malloc(), realloc() and free() are of one allocator. No function is called in a signal handler, or between fork()
+ *   and exec() in a program with threads.
  * - After kt_enter() has answered -ENODEV, and after kt_leave(), kt_break(), kt_clear() or kt_delete() has answered 1,
- *   those who wait in a removal are woken; also when a hold was let go of a node that had as many as there may be,
- *   since a removal needs one for a moment. The helpers below do so.
+ *   wake those who wait in a removal; also after letting go a hold of a node that had the most there may be, since a
+ *   removal needs one for a moment. The _wake helpers do so; kt_delete() has none.
  */
 #ifndef KERNFS_TREE_H
 #define KERNFS_TREE_H
@@ -54,7 +54,7 @@
 #define KT_VERSION_MAJOR 0
 #define KT_VERSION_MINOR 1
 
-/* The bytes of a page, of which a show fills some (PAGE_SIZE). */
+/* The kernel's PAGE_SIZE, for a show's text; no function here uses it. */
 #define KT_PAGE_SIZE 4096
 /* The most nodes of a tree, the root counted; the most holds of a node; the most bytes of a name. */
 #define KT_SLOTS_MAX 4096
@@ -70,7 +70,7 @@ struct kt_handle {
     void *at;
 };
 
-/* Names a node. A key is never given twice, so that of a node that is gone names none. 0, 0 is no node's. */
+/* Names a node. A key is never given twice, so the key of a gone node names none. 0, 0 is no node's. */
 struct kt_key {
     uint32_t slot, generation;
 };
@@ -83,7 +83,7 @@ struct kt_stat {
     uint32_t kind;        /* enum kt_kind */
     uint32_t links;       /* of a directory two and the number of child directories, else 1 */
     uint16_t mode;        /* of a file, its permission bits, which the library only keeps */
-    bool activated, doomed, hidden; /* (no call hides a node yet) */
+    bool activated, doomed, hidden; /* doomed: marked for removal; hidden: never yet */
 };
 
 /* ---- handles ---- */
@@ -132,7 +132,7 @@ int32_t kt_find(struct kt_handle *tree, struct kt_key dir, const void *name, siz
 /* The node at a path such as /devices/fan0, live or not (kernfs_walk_ns). 0, -EINVAL (its form), -ENOENT, -ENOTDIR. */
 int32_t kt_walk(struct kt_handle *tree, const void *path, size_t length, struct kt_key *out);
 
-/* The name of the first live child above the name `after`, in byte order; of the first of all where it has no byte. So
+/* The name of the first live child above the name `after`, in byte order; or the first, where `after` is empty. So
  * the last name is the cursor: what is made or removed meanwhile makes no other child come twice or be missed. Its
  * length, -ENOENT (no more, or no such directory), -ENOTDIR, -ERANGE (over `room`), -ENOMEM. */
 int64_t kt_next(struct kt_handle *tree, struct kt_key dir, const void *after, size_t length, void *name, size_t room);
@@ -152,12 +152,12 @@ int32_t kt_hold(struct kt_handle *tree, struct kt_key key, struct kt_handle *hol
  * kt_enter() there succeeds any more, and takes each out of the tree that nobody is inside. 0: the node is out, now or
  * before. -EAGAIN: somebody is inside; call again when a callback has left (kt_remove_wait() does). Before anything is
  * marked: -EINVAL (the root), -EMFILE (a node has as many holds as there may be), -ENOMEM. It takes a hold of each node
- * for a moment: where a program has taken as many as there may be, it answers -EAGAIN until one is let go. A call that
- * goes on with what an earlier one has marked may answer -ENOMEM too: all stays marked, and it is called again. */
+ * for a moment: once marked, a node with the most holds there may be gives -EAGAIN until one is let go. A call that goes
+ * on with what an earlier one has marked may answer -ENOMEM too: all stays marked; call it again. */
 int32_t kt_remove(struct kt_handle *tree, struct kt_key key);
 
-/* Marks a node and all below it, as kt_remove() does, and claims its removal for a callback of its own: of those who
- * claim it the first is answered 0, each other 1. -ENOENT, and as of kt_remove(). */
+/* Marks a node and all below it, as kt_remove() does, and claims its removal for one of its callbacks: of those who claim
+ * it the first is answered 0, each other 1. -ENOENT, -EINVAL, -EMFILE, -ENOMEM. */
 int32_t kt_claim(struct kt_handle *tree, struct kt_key key);
 
 /* The tree keeps each command that changed it, 88 bytes each. This makes the list as short as may be. 0, -ENOMEM. */
@@ -175,7 +175,7 @@ int32_t kt_leave(struct kt_handle *call);
 /* Inside it, before something that waits for it (kernfs_break_active_protection): 0, or 1 as of kt_leave(). */
 int32_t kt_break(struct kt_handle *call);
 
-/* Takes a reference again, whatever became of the node (kernfs_unbreak_active_protection). 0. */
+/* Takes the protection again, whatever became of the node (kernfs_unbreak_active_protection). 0. */
 int32_t kt_restore(struct kt_handle *call);
 
 #ifdef __cplusplus
@@ -223,7 +223,7 @@ struct kt_lock {
 
 #define KT_LOCK_INIT { PTHREAD_MUTEX_INITIALIZER, PTHREAD_COND_INITIALIZER }
 
-/* Wakes those who wait in a removal. It takes the lock, so that none goes to sleep between its look and its sleep. */
+/* Wakes those who wait in a removal. It takes the lock, so that no wake comes between a look and its sleep. */
 static inline void kt_wake(struct kt_lock *lock)
 {
     pthread_mutex_lock(&lock->mutex);
@@ -258,7 +258,7 @@ static inline int32_t kt_break_wake(struct kt_handle *call, struct kt_lock *lock
     return 0;
 }
 
-/* Lets go of what lies behind a handle, and wakes those who wait in a removal: for the end of a call, or for a hold. */
+/* Lets go of what lies behind a handle, to end a call or let go a hold, and wakes those who wait in a removal. */
 static inline void kt_clear_wake(struct kt_handle *handle, struct kt_lock *lock)
 {
     kt_clear(handle);
@@ -266,8 +266,8 @@ static inline void kt_clear_wake(struct kt_handle *handle, struct kt_lock *lock)
 }
 
 /* Removes a node and all below it, and waits until no callback runs there (kernfs_remove). It sleeps, and takes the
- * lock, which its caller does not have. A callback that removes its own node calls kt_remove_self_wait(). 0, or as of
- * kt_remove(); never -EAGAIN. After -ENOMEM, which may come when all is marked, it is called again. */
+ * lock, which its caller does not have. For its own node or one above a callback calls kt_remove_self_wait(). 0, or as
+ * of kt_remove(); never -EAGAIN. After -ENOMEM, which may come when all is marked, call it again. */
 static inline int32_t kt_remove_wait(struct kt_handle *tree, struct kt_key key, struct kt_lock *lock)
 {
     int32_t answer;
@@ -278,9 +278,9 @@ static inline int32_t kt_remove_wait(struct kt_handle *tree, struct kt_key key, 
     return answer;
 }
 
-/* Removes the node of a call from inside its callback (kernfs_remove_self), and waits for every other callback there. 1
- * for the first that does so, 0 for each other, or where the node was gone: after its own wait, too. Below 0: as of
- * kt_break(), kt_claim() and kt_remove(). The call has its reference again. */
+/* Removes a call's node, or `key` above it, from inside its callback (kernfs_remove_self), and waits for every other
+ * callback there. 1 for the first that does so; 0 for each other, or where it was gone; all once the node is out. Below
+ * 0: as of kt_break(), kt_claim() and kt_remove(). The call has its protection again. */
 static inline int32_t kt_remove_self_wait(struct kt_handle *tree, struct kt_handle *call, struct kt_key key,
                                           struct kt_lock *lock)
 {
@@ -298,8 +298,8 @@ static inline int32_t kt_remove_self_wait(struct kt_handle *tree, struct kt_hand
     return answer ? answer : claimed == 0;
 }
 
-/* Runs a callback under a call of a hold: what it answers, or -ENODEV where the node is not live, and then it did not
- * run. It may break and restore its call; where it left it broken, it is restored. */
+/* Runs a callback under a call of a hold: what it answers, or the error of kt_enter(), and then it did not run. It may
+ * break and restore its call; a call left broken is restored. */
 typedef int64_t kt_callback(struct kt_handle *call, void *data);
 
 static inline int64_t kt_run(struct kt_handle *hold, struct kt_lock *lock, kt_callback *callback, void *data)
