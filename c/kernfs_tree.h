@@ -25,12 +25,12 @@
  *   exactly where a removal may be waiting for that step.
  * - After an answer below 0, but for -EAGAIN of kt_remove(), the tree, the handle and `out` are as they were (for
  *   kt_next() and kt_readlink() the tree alone; a refused kt_enter() was counted for a moment).
- * - No call reads or writes out of bounds or after a free, and each ends.
- * On a node that is not in the tree nobody runs, and a key that has left it never comes again: these are laws over
- * every run of these functions' steps. Not proved: which error number comes; what kt_stat(), kt_next() and kt_readlink() tell; that
- * kt_remove() and kt_claim() mark, and that kt_remove() takes out only it and those below; which of 0 and 1
- * kt_clear() and kt_delete() answer; that kt_new() gives a handle; and everything that is C, the helpers below too.
- * `make -C c test` tries these.
+ * - No function reads or writes out of bounds or after a free, and each ends.
+ *
+ * On a node that is not in the tree nobody runs, and a key that has left it never comes again: these are laws over every run of these functions' steps. Not
+ * proved: which error number comes; what kt_stat(), kt_next() and kt_readlink() tell; that kt_remove() and kt_claim()
+ * mark, and that kt_remove() takes out only it and those below; which of 0 and 1 kt_clear() and kt_delete() answer;
+ * that kt_new() gives a handle; and everything that is C, the helpers below too. `make -C c test` tries these.
  *
  * What a program has to keep to, which the library cannot see:
  * - A handle comes from kt_new(), is used by one function at a time, and not after kt_delete(). It may pass to another
@@ -151,13 +151,13 @@ int32_t kt_hold(struct kt_handle *tree, struct kt_key key, struct kt_handle *hol
 /* Removes a node and all below it (kernfs_remove), as far as it can without waiting: marks them all, so that no
  * kt_enter() there succeeds any more, and takes each out of the tree that nobody is inside. 0: the node is out, now or
  * before. -EAGAIN: somebody is inside; call again when a callback has left (kt_remove_wait() does). Before anything is
- * marked: -EINVAL (the root), -EMFILE (a node has as many holds as there may be), -ENOMEM. It takes a hold of each node
- * for a moment: once marked, a node with the most holds there may be gives -EAGAIN until one is let go. A call that goes
- * on with what an earlier one has marked may answer -ENOMEM too: all stays marked; call it again. */
+ * marked: -EINVAL (the root), -EMFILE (a node has as many holds as there may be), -ENOMEM. It takes a hold of each
+ * node for a moment: once marked, a node with the most holds there may be gives -EAGAIN until one is let go. A call
+ * that goes on with what an earlier one has marked may answer -ENOMEM too: all stays marked; call it again. */
 int32_t kt_remove(struct kt_handle *tree, struct kt_key key);
 
-/* Marks a node and all below it, as kt_remove() does, and claims its removal for one of its callbacks: of those who claim
- * it the first is answered 0, each other 1. -ENOENT, -EINVAL, -EMFILE, -ENOMEM. */
+/* Marks a node and all below it, as kt_remove() does, and claims its removal for one of its callbacks: of those who
+ * claim it the first is answered 0, each other 1. -ENOENT, -EINVAL, -EMFILE, -ENOMEM. */
 int32_t kt_claim(struct kt_handle *tree, struct kt_key key);
 
 /* The tree keeps each command that changed it, 88 bytes each. This makes the list as short as may be. 0, -ENOMEM. */
