@@ -27,10 +27,11 @@
  *   kt_next() and kt_readlink() the tree alone; a refused kt_enter() was counted for a moment).
  * - No function reads or writes out of bounds or after a free, and each ends.
  *
- * On a node that is not in the tree nobody runs, and a key that has left it never comes again: these are laws over every run of these functions' steps. Not
- * proved: which error number comes; what kt_stat(), kt_next() and kt_readlink() tell; that kt_remove() and kt_claim()
- * mark, and that kt_remove() takes out only it and those below; which of 0 and 1 kt_clear() and kt_delete() answer;
- * that kt_new() gives a handle; and everything that is C, the helpers below too. `make -C c test` tries these.
+ * On a node that is not in the tree nobody runs, and a key that has left it never comes again: these are laws over
+ * every run of these functions' steps. Not proved: which error number comes; what kt_stat(), kt_next() and
+ * kt_readlink() tell; that kt_remove() and kt_claim() mark, and that kt_remove() takes out only it and those below;
+ * which of 0 and 1 kt_clear() and kt_delete() answer; that kt_new() gives a handle; and everything that is C, the
+ * helpers below too. `make -C c test` tries these.
  *
  * What a program has to keep to, which the library cannot see:
  * - A handle comes from kt_new(), is used by one function at a time, and not after kt_delete(). It may pass to another
