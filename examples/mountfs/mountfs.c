@@ -5,13 +5,13 @@
  *     fusermount3 -u MOUNTPOINT
  *
  * SCRIPT has lines of kernfs_run (docs/SCRIPTS.md); without it, or where it is `-`, they are standard input. The tree
- * that it makes is mounted, with -f in the foreground. Without a mountpoint the replies are printed, as kernfs_run does.
+ * that it makes is mounted, with -f in the foreground. Without a mountpoint the replies are printed, as by kernfs_run.
  *
- * - Commands are those that make and change a tree: mkdir, file, link, activate, stat, mv, rm, notify, compact. Opening,
- *   reading, writing, polling and listing go through the mount. Each other line is `err Line 22`. One command is
+ * - Commands are those that make and change a tree: mkdir, file, link, activate, stat, mv, rm, notify, compact. What is
+ *   opened, read, written, polled and listed goes through the mount. Each other line is `err Line 22`. One command is
  *   mountfs's own: `slow PATH MS` makes each later show and store of a file take so many milliseconds, 0 to 65535.
- * - MOUNTPOINT/.control, which no listing shows, takes further lines. A read of it gives the replies to what was written
- *   since it was opened or last written at offset 0; before, those to the lines that anybody wrote last.
+ * - MOUNTPOINT/.control, which no listing shows, takes further lines. A read of it gives the replies to what was
+ *   written since it was opened or last written at offset 0; before, those to the lines that anybody wrote last.
  * - A show ends with a newline and a store takes one off the end, as drivers do. A slot stays taken while its file is
  *   open. What the mount has no handler for (mkdir(2), rename(2) ..) is ENOSYS: the tree is its script's alone.
  *
@@ -93,9 +93,9 @@ static void free_caller(struct caller *it)
 
 /* ---- the file system: the number of a node is its key ---- */
 
-/* Numbers below 2^32 but FUSE's for the root are no node's, as generations begin with 1: they are the control file's. Each
- * look-up of it gives another one, since the kernel holds the inode's lock over a write: by one inode, nobody could give
- * a line while an rm waits for its reader. */
+/* Numbers below 2^32 but FUSE's for the root are no node's, as generations begin with 1: they are the control file's.
+ * Each look-up of it gives another one, since the kernel holds the inode's lock over a write: with one inode, nobody
+ * could give a line while an rm waits for its reader. */
 static bool is_control(fuse_ino_t number)
 {
     return number != FUSE_ROOT_ID && number >> 32 == 0;
@@ -112,6 +112,11 @@ static struct kt_key key_of(fuse_ino_t number)
     return number == FUSE_ROOT_ID ? root : (struct kt_key){(uint32_t)number, (uint32_t)(number >> 32)};
 }
 
+static fuse_ino_t number_of(struct kt_key key)
+{
+    return (fuse_ino_t)key.generation << 32 | key.slot;
+}
+
 static struct stat attributes_of(fuse_ino_t number, const struct kt_stat *of)
 {
     static const mode_t kinds[] = {[KT_DIR] = S_IFDIR | 0755, [KT_FILE] = S_IFREG, [KT_LINK] = S_IFLNK | 0777};
@@ -126,7 +131,7 @@ static const struct kt_stat control_stat = {.kind = KT_FILE, .links = 1, .mode =
 
 static void fs_lookup(fuse_req_t req, fuse_ino_t dir, const char *name)
 {
-    struct fuse_entry_param entry = {0}; /* with timeouts of 0: the kernel asks again, and what is removed is not found */
+    struct fuse_entry_param entry = {0}; /* with timeouts of 0: the kernel asks again, and finds nothing removed */
     struct kt_stat stat = control_stat;
     struct kt_key key;
     int error = 0;
@@ -137,7 +142,7 @@ static void fs_lookup(fuse_req_t req, fuse_ino_t dir, const char *name)
         error = strlen(name) > KT_NAME_MAX ? -ENAMETOOLONG : kt_find(&tree, key_of(dir), name, strlen(name), &key);
         error = error ?: stat_live(key, &stat);
         pthread_mutex_unlock(&lock.mutex);
-        entry.ino = error ? 0 : (fuse_ino_t)key.generation << 32 | key.slot;
+        entry.ino = error ? 0 : number_of(key);
     }
     entry.attr = attributes_of(entry.ino, &stat);
     if (error)
@@ -246,29 +251,28 @@ static void fs_opendir(fuse_req_t req, fuse_ino_t number, struct fuse_file_info 
 }
 
 /* Puts an entry into the buffer, where it is live and there is room. How many bytes it takes, or 0. */
-static size_t add_name(fuse_req_t req, char *at, size_t room, struct kt_key dir, const char *name, off_t next)
+static size_t add_name(fuse_req_t req, char *at, size_t room, fuse_ino_t dir, const char *name, off_t next)
 {
     struct kt_stat stat = {.kind = KT_DIR};
-    struct kt_key key = dir;
+    struct kt_key key;
     bool is_dots = next <= 2;
-    if (!is_dots && (kt_find(&tree, dir, name, strlen(name), &key) || stat_live(key, &stat)))
+    if (!is_dots && (kt_find(&tree, key_of(dir), name, strlen(name), &key) || stat_live(key, &stat)))
         return 0;
-    struct stat out = attributes_of((fuse_ino_t)key.generation << 32 | key.slot, &stat);
+    struct stat out = attributes_of(is_dots ? dir : number_of(key), &stat);
     return fuse_add_direntry(req, at, room, name, &out, next);
 }
 
 static void fs_readdir(fuse_req_t req, fuse_ino_t number, size_t size, off_t offset, struct fuse_file_info *info)
 {
     struct listing *it = (struct listing *)(uintptr_t)info->fh;
-    struct kt_key dir = key_of(number);
     char buffer[4 * KT_PAGE_SIZE];
     size_t used = 0, room = size < sizeof buffer ? size : sizeof buffer;
     pthread_mutex_lock(&lock.mutex);
-    int error = offset ? 0 : list_names(dir, it);
+    int error = offset ? 0 : list_names(key_of(number), it);
     while (!error && (offset < 2 || (size_t)offset - 2 < it->length)) {
         const char *name = offset == 0 ? "." : offset == 1 ? ".." : it->names + offset - 2;
         off_t next = offset + (offset < 2 ? 1 : (off_t)strlen(name) + 1);
-        size_t taken = add_name(req, buffer + used, room - used, dir, name, next);
+        size_t taken = add_name(req, buffer + used, room - used, number, name, next);
         if (taken > room - used)
             break;
         used += taken;

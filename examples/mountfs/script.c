@@ -99,20 +99,21 @@ static int run_mv(struct request *it)
                ?: kt_rename(&tree, key, dir, it->path[2].at, it->path[2].length);
 }
 
-/* Marks what is removed and wakes its pollers; then waits until nobody is inside, and frees the attributes. The lock is
- * left meanwhile, so that others go on. */
+/* Marks what is removed, which wakes its pollers; waits until nobody is inside; frees the attributes. The lock is left
+ * while it waits, so that others go on. */
 static int run_rm(struct request *it)
 {
     struct kt_key key;
-    int error = walk(it->path[0], &key) ?: kt_claim(&tree, key);
-    if (error < 0)
-        return error;
+    int error = walk(it->path[0], &key) ?: kt_remove(&tree, key);
     wake_pollers();
-    pthread_mutex_unlock(&lock.mutex);
-    error = kt_remove_wait(&tree, key, &lock);
-    pthread_mutex_lock(&lock.mutex);
+    if (error == -EAGAIN) {
+        pthread_mutex_unlock(&lock.mutex);
+        error = kt_remove_wait(&tree, key, &lock);
+        pthread_mutex_lock(&lock.mutex);
+    }
     sweep();
-    kt_compact(&tree); /* else what the tree keeps of its past grows for ever; without memory, the next one will do */
+    if (!error)
+        kt_compact(&tree); /* else the tree's list of commands grows for ever; without memory, the next rm does it */
     return error;
 }
 
@@ -146,9 +147,10 @@ static const struct command {
     const char *name, *words;
     int (*run)(struct request *);
 } commands[] = {
-    {"mkdir", "pf", run_mkdir}, {"file", "pmt", run_file},  {"link", "pp", run_link},    {"activate", "p", run_activate},
-    {"stat", "p", run_stat},    {"mv", "ppp", run_mv},      {"rm", "p", run_rm},         {"notify", "p", run_notify},
-    {"slow", "pn", run_slow},   {"compact", "", run_compact},
+    {"mkdir", "pf", run_mkdir},      {"file", "pmt", run_file}, {"link", "pp", run_link},
+    {"activate", "p", run_activate}, {"stat", "p", run_stat},   {"mv", "ppp", run_mv},
+    {"rm", "p", run_rm},             {"notify", "p", run_notify}, {"compact", "", run_compact},
+    {"slow", "pn", run_slow},
 };
 
 /* Takes the next word, or nothing where no more comes. */
