@@ -22,74 +22,8 @@
 #include <poll.h>
 #include <stdlib.h>
 #include <string.h>
+#include <time.h>
 #include <unistd.h>
-
-/* ---- the control file ---- */
-
-/* An open control file, or the script of the command line: who gives lines. */
-struct caller {
-    pthread_mutex_t mutex;
-    FILE *out; /* of the replies */
-    char *replies;
-    size_t said;
-    bool has_asked;
-    unsigned refused;
-    size_t length;            /* of the line that is not whole yet */
-    char line[LINE_MOST + 1]; /* one byte more than a line may have */
-};
-
-/* The replies that a control file begins with, and its mutex. */
-static pthread_mutex_t last_mutex = PTHREAD_MUTEX_INITIALIZER;
-static struct { char *replies; size_t said; } last;
-
-static void end_line(struct caller *it)
-{
-    if (it->length && !run_line(it->line, it->length, it->out))
-        it->refused++;
-    it->length = 0;
-}
-
-static void take_bytes(struct caller *it, const char *bytes, size_t length)
-{
-    for (; length; bytes++, length--)
-        if (*bytes == '\n')
-            end_line(it);
-        else if (it->length < sizeof it->line)
-            it->line[it->length++] = *bytes;
-}
-
-/* Ends what is written: a last line may want its newline. */
-static void publish(struct caller *it)
-{
-    end_line(it);
-    fflush(it->out);
-    char *copy = it->said ? malloc(it->said) : NULL;
-    pthread_mutex_lock(&last_mutex);
-    free(last.replies);
-    last.replies = copy ? memcpy(copy, it->replies, it->said) : NULL;
-    last.said = copy ? it->said : 0;
-    pthread_mutex_unlock(&last_mutex);
-}
-
-static struct caller *new_caller(void)
-{
-    struct caller *it = calloc(1, sizeof *it);
-    if (it && !(it->out = open_memstream(&it->replies, &it->said))) {
-        free(it);
-        return NULL;
-    }
-    if (it)
-        pthread_mutex_init(&it->mutex, NULL);
-    return it;
-}
-
-static void free_caller(struct caller *it)
-{
-    fclose(it->out);
-    free(it->replies);
-    pthread_mutex_destroy(&it->mutex);
-    free(it);
-}
 
 /* ---- the file system: the number of a node is its key ---- */
 
@@ -117,6 +51,8 @@ static fuse_ino_t number_of(struct kt_key key)
     return (fuse_ino_t)key.generation << 32 | key.slot;
 }
 
+static time_t started;
+
 static struct stat attributes_of(fuse_ino_t number, const struct kt_stat *of)
 {
     static const mode_t kinds[] = {[KT_DIR] = S_IFDIR | 0755, [KT_FILE] = S_IFREG, [KT_LINK] = S_IFLNK | 0777};
@@ -124,6 +60,7 @@ static struct stat attributes_of(fuse_ino_t number, const struct kt_stat *of)
         .st_ino = number, .st_nlink = of->links, .st_uid = getuid(), .st_gid = getgid(), .st_blksize = KT_PAGE_SIZE,
         .st_mode = kinds[of->kind] | (of->kind == KT_FILE ? of->mode : 0),
         .st_size = of->kind == KT_FILE && !is_control(number) ? KT_PAGE_SIZE : 0,
+        .st_atim.tv_sec = started, .st_mtim.tv_sec = started, .st_ctim.tv_sec = started,
     };
 }
 
@@ -155,12 +92,11 @@ static void fs_lookup(fuse_req_t req, fuse_ino_t dir, const char *name)
 static int stat_known(fuse_ino_t number, struct kt_stat *stat)
 {
     struct kt_key key = key_of(number);
-    int error = is_control(number) ? 0 : -ENOENT;
     *stat = control_stat;
-    if (!error)
+    if (is_control(number))
         return 0;
     pthread_mutex_lock(&lock.mutex);
-    error = stat_live(key, stat);
+    int error = stat_live(key, stat);
     for (struct file *it = files; error && it; it = it->next)
         if (it->key.slot == key.slot && it->key.generation == key.generation) {
             *stat = it->stat;
@@ -297,23 +233,11 @@ static void fs_releasedir(fuse_req_t req, fuse_ino_t number, struct fuse_file_in
 /* ---- files. Each handler replies last: after the reply another thread may be told to close the file, which frees it,
  * so that neither its mutex nor its page may be used any more. ---- */
 
-static int open_control(struct caller **out)
-{
-    struct caller *it = *out = new_caller();
-    if (!it)
-        return -ENOMEM;
-    pthread_mutex_lock(&last_mutex);
-    if (last.said)
-        fwrite(last.replies, 1, last.said, it->out);
-    pthread_mutex_unlock(&last_mutex);
-    return 0;
-}
-
 static void fs_open(fuse_req_t req, fuse_ino_t number, struct fuse_file_info *info)
 {
-    struct caller *caller = NULL;
+    struct caller *caller = is_control(number) ? new_caller() : NULL;
     struct file *file = NULL;
-    int error = is_control(number) ? open_control(&caller) : open_file(key_of(number), info->flags & O_ACCMODE, &file);
+    int error = !is_control(number) ? open_file(key_of(number), info->flags & O_ACCMODE, &file) : caller ? 0 : -ENOMEM;
     info->fh = caller ? (uintptr_t)caller : (uintptr_t)file;
     info->direct_io = 1; /* each read and write comes to us */
     if (error)
@@ -324,18 +248,13 @@ static void fs_open(fuse_req_t req, fuse_ino_t number, struct fuse_file_info *in
 
 static void read_control(fuse_req_t req, struct caller *it, size_t size, uint64_t offset)
 {
-    pthread_mutex_lock(&it->mutex);
-    fflush(it->out);
-    size_t rest = offset < it->said ? it->said - (size_t)offset : 0, length = rest < size ? rest : size;
-    char *copy = malloc(length + 1);
-    if (copy)
-        memcpy(copy, it->replies + it->said - rest, length);
-    pthread_mutex_unlock(&it->mutex);
-    if (copy)
-        fuse_reply_buf(req, copy, length);
+    char *replies;
+    int64_t length = copy_replies(it, offset, size, &replies);
+    if (length < 0)
+        fuse_reply_err(req, (int)-length);
     else
-        fuse_reply_err(req, ENOMEM);
-    free(copy);
+        fuse_reply_buf(req, replies, (size_t)length);
+    free(replies);
 }
 
 static void fs_read(fuse_req_t req, fuse_ino_t number, size_t size, off_t offset, struct fuse_file_info *info)
@@ -350,21 +269,10 @@ static void fs_read(fuse_req_t req, fuse_ino_t number, size_t size, off_t offset
         fuse_reply_buf(req, page, (size_t)answer);
 }
 
-static int64_t write_control(struct caller *it, const char *bytes, size_t size, off_t offset)
-{
-    pthread_mutex_lock(&it->mutex);
-    if (!offset || !it->has_asked)
-        rewind(it->out);
-    it->has_asked = true;
-    take_bytes(it, bytes, size);
-    pthread_mutex_unlock(&it->mutex);
-    return (int64_t)size;
-}
-
 static void fs_write(fuse_req_t req, fuse_ino_t number, const char *bytes, size_t size, off_t offset,
                      struct fuse_file_info *info)
 {
-    int64_t answer = is_control(number) ? write_control((struct caller *)(uintptr_t)info->fh, bytes, size, offset)
+    int64_t answer = is_control(number) ? give_lines((struct caller *)(uintptr_t)info->fh, bytes, size, offset == 0)
                                         : write_file((struct file *)(uintptr_t)info->fh, bytes, size);
     if (answer < 0)
         fuse_reply_err(req, (int)-answer);
@@ -372,16 +280,11 @@ static void fs_write(fuse_req_t req, fuse_ino_t number, const char *bytes, size_
         fuse_reply_write(req, (size_t)answer);
 }
 
-/* At each close(2): a control file's replies are then the last ones. */
+/* At each close(2): what was told to the control file is then the last script. */
 static void fs_flush(fuse_req_t req, fuse_ino_t number, struct fuse_file_info *info)
 {
-    if (is_control(number)) {
-        struct caller *it = (struct caller *)(uintptr_t)info->fh;
-        pthread_mutex_lock(&it->mutex);
-        if (it->has_asked)
-            publish(it);
-        pthread_mutex_unlock(&it->mutex);
-    }
+    if (is_control(number))
+        end_lines((struct caller *)(uintptr_t)info->fh);
     fuse_reply_err(req, 0);
 }
 
@@ -398,17 +301,16 @@ static void fs_poll(fuse_req_t req, fuse_ino_t number, struct fuse_file_info *in
 {
     struct file *it = is_control(number) ? NULL : (struct file *)(uintptr_t)info->fh;
     struct fuse_pollhandle *old = poller;
-    bool is_it = false;
     pthread_mutex_lock(&lock.mutex);
     if (it && poller) { /* under one lock with the look, so that no wake falls between */
         old = it->poller;
         it->poller = poller;
     }
-    is_it = it && is_changed(it);
+    unsigned events = it && is_changed(it) ? POLLERR | POLLPRI : 0;
     pthread_mutex_unlock(&lock.mutex);
     if (old)
         fuse_pollhandle_destroy(old);
-    fuse_reply_poll(req, POLLIN | POLLOUT | POLLRDNORM | POLLWRNORM | (is_it ? POLLERR | POLLPRI : 0));
+    fuse_reply_poll(req, POLLIN | POLLOUT | POLLRDNORM | POLLWRNORM | events);
 }
 
 /* ---- the program ---- */
@@ -419,27 +321,30 @@ static const struct fuse_lowlevel_ops operations = {
     .flush = fs_flush, .release = fs_release, .poll = fs_poll,
 };
 
-/* Runs the script of the command line: what was refused. */
+/* Runs the script of the command line. */
 static int describe(const char *script, bool is_mounted)
 {
     FILE *in = strcmp(script, "-") ? fopen(script, "r") : stdin;
-    struct caller *caller = new_caller();
-    char bytes[KT_PAGE_SIZE];
-    if (!in || !caller) {
+    struct caller *caller = in ? new_caller() : NULL;
+    char bytes[KT_PAGE_SIZE], *replies;
+    if (!caller) {
         perror(script);
         return 1;
     }
     for (size_t length; (length = fread(bytes, 1, sizeof bytes, in));)
-        take_bytes(caller, bytes, length);
-    publish(caller);
+        give_lines(caller, bytes, length, false);
+    unsigned refused = end_lines(caller);
+    int64_t length = is_mounted ? 0 : copy_replies(caller, 0, SIZE_MAX, &replies);
+    if (length > 0)
+        fwrite(replies, 1, (size_t)length, stdout);
     if (!is_mounted)
-        fwrite(caller->replies, 1, caller->said, stdout);
-    else if (caller->refused)
-        fprintf(stderr, "mountfs: %u lines of %s were refused: .control tells which\n", caller->refused, script);
+        free(replies);
+    else if (refused)
+        fprintf(stderr, "mountfs: %u lines of %s were refused: .control tells which\n", refused, script);
     free_caller(caller);
     if (in != stdin)
         fclose(in);
-    return 0;
+    return length < 0;
 }
 
 static int serve(struct fuse_args *args, const char *mountpoint, bool in_foreground)
@@ -466,6 +371,7 @@ int main(int count, char **words)
 {
     struct fuse_args args = FUSE_ARGS_INIT(0, NULL);
     const char *names[2] = {"-", NULL};
+    started = time(NULL);
     unsigned slots = 1024, given = 0;
     bool in_foreground = false, is_well = true;
     fuse_opt_add_arg(&args, words[0]);
@@ -494,8 +400,8 @@ int main(int count, char **words)
     int status = describe(names[0], mountpoint) || (mountpoint && serve(&args, mountpoint, in_foreground));
     kt_delete(tree);
     close_all();
+    forget_replies();
     fuse_opt_free_args(&args);
-    free(last.replies);
     free(mountpoint);
     return status;
 }

@@ -1,4 +1,4 @@
-/* What the file system (mountfs.c), its files (files.c) and the scripts (script.c) share. */
+/* What the file system (mountfs.c), its files (files.c), who gives lines (control.c) and the lines (script.c) share. */
 #ifndef MOUNTFS_H
 #define MOUNTFS_H
 
@@ -66,6 +66,23 @@ bool is_changed(const struct file *it);
 
 /* At the end: all that is still open, and all attributes. */
 void close_all(void);
+
+/* An open control file, or the script of the command line: its replies are first those to the last script. */
+struct caller;
+struct caller *new_caller(void);
+void free_caller(struct caller *it);
+
+/* Runs the lines that are whole by now; `anew` the replies begin anew, as they do with the first. How many bytes: all. */
+int64_t give_lines(struct caller *it, const char *bytes, size_t length, bool anew);
+
+/* A copy of at most so many bytes of the replies, from an offset on, to free: how many bytes, or -ENOMEM. */
+int64_t copy_replies(struct caller *it, uint64_t offset, size_t most, char **out);
+
+/* Runs a last line without a newline, and makes the replies those of the last script. How many lines were refused. */
+unsigned end_lines(struct caller *it);
+
+/* At the end. */
+void forget_replies(void);
 
 /* Runs a line, which no newline ends, and tells its reply. Whether it was accepted. */
 bool run_line(const char *line, size_t length, FILE *out);
