@@ -230,8 +230,16 @@ static void fs_releasedir(fuse_req_t req, fuse_ino_t number, struct fuse_file_in
     fuse_reply_err(req, 0);
 }
 
-/* ---- files. Each handler replies last: after the reply another thread may be told to close the file, which frees it,
- * so that neither its mutex nor its page may be used any more. ---- */
+/* ---- files. Each handler replies last: after the reply another thread may be told to close the file, which frees it, so
+ * that neither its mutex nor its page may be used any more. ---- */
+
+static void close_handle(fuse_ino_t number, uint64_t handle)
+{
+    if (is_control(number))
+        free_caller((struct caller *)(uintptr_t)handle);
+    else
+        close_file((struct file *)(uintptr_t)handle);
+}
 
 static void fs_open(fuse_req_t req, fuse_ino_t number, struct fuse_file_info *info)
 {
@@ -242,8 +250,14 @@ static void fs_open(fuse_req_t req, fuse_ino_t number, struct fuse_file_info *in
     info->direct_io = 1; /* each read and write comes to us */
     if (error)
         fuse_reply_err(req, -error);
-    else
-        fuse_reply_open(req, info);
+    else if (fuse_reply_open(req, info)) /* nobody waits for it any more, so no release comes */
+        close_handle(number, info->fh);
+}
+
+static void fs_release(fuse_req_t req, fuse_ino_t number, struct fuse_file_info *info)
+{
+    close_handle(number, info->fh);
+    fuse_reply_err(req, 0);
 }
 
 static void read_control(fuse_req_t req, struct caller *it, size_t size, uint64_t offset)
@@ -285,15 +299,6 @@ static void fs_flush(fuse_req_t req, fuse_ino_t number, struct fuse_file_info *i
 {
     if (is_control(number))
         end_lines((struct caller *)(uintptr_t)info->fh);
-    fuse_reply_err(req, 0);
-}
-
-static void fs_release(fuse_req_t req, fuse_ino_t number, struct fuse_file_info *info)
-{
-    if (is_control(number))
-        free_caller((struct caller *)(uintptr_t)info->fh);
-    else
-        close_file((struct file *)(uintptr_t)info->fh);
     fuse_reply_err(req, 0);
 }
 
