@@ -26,8 +26,8 @@ static int walk_to(struct text path, struct kt_key *dir, struct text *name)
 {
     const char *slash = memrchr(path.at, '/', path.length);
     size_t front = slash ? (size_t)(slash - path.at) : 0;
-    if (!slash || (front == 1 && *path.at == '/'))
-        return -EINVAL;
+    if (!slash || path.length == 1 || (front == 1 && *path.at == '/'))
+        return -EINVAL; /* of the forms that kt_walk() does not see: no slash, / and //NAME */
     *name = (struct text){slash + 1, path.length - front - 1};
     return walk((struct text){path.at, front ? front : 1}, dir);
 }
