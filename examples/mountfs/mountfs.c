@@ -372,37 +372,51 @@ static int serve(struct fuse_args *args, const char *mountpoint, bool in_foregro
     return status;
 }
 
+struct options {
+    const char *names[2]; /* the script, and the mountpoint or none */
+    unsigned slots;
+    bool in_foreground;
+};
+
+/* What the words ask for; false where they do not fit. Options of FUSE's are added to its own. */
+static bool take_options(int count, char **words, struct options *out, struct fuse_args *args)
+{
+    unsigned given = 0;
+    for (int at = 1; at < count; at++) {
+        if (!strcmp(words[at], "-f"))
+            out->in_foreground = true;
+        else if (!strcmp(words[at], "--slots") && at + 1 < count)
+            out->slots = (unsigned)strtoul(words[++at], NULL, 10);
+        else if (!strcmp(words[at], "-o") && at + 1 < count)
+            fuse_opt_add_arg(args, "-o"), fuse_opt_add_arg(args, words[++at]);
+        else if (given < 2 && (*words[at] != '-' || !words[at][1]))
+            out->names[given++] = words[at];
+        else
+            return false;
+    }
+    return true;
+}
+
 int main(int count, char **words)
 {
     struct fuse_args args = FUSE_ARGS_INIT(0, NULL);
-    const char *names[2] = {"-", NULL};
-    started = time(NULL);
-    unsigned slots = 1024, given = 0;
-    bool in_foreground = false, is_well = true;
+    struct options options = {.names = {"-", NULL}, .slots = 1024};
     fuse_opt_add_arg(&args, words[0]);
     fuse_opt_add_arg(&args, "-odefault_permissions,fsname=kernfs_tree,subtype=mountfs");
-    for (int at = 1; at < count; at++) {
-        if (!strcmp(words[at], "-f"))
-            in_foreground = true;
-        else if (!strcmp(words[at], "--slots") && at + 1 < count)
-            slots = (unsigned)strtoul(words[++at], NULL, 10);
-        else if (!strcmp(words[at], "-o") && at + 1 < count)
-            fuse_opt_add_arg(&args, "-o"), fuse_opt_add_arg(&args, words[++at]);
-        else if (given < 2 && (*words[at] != '-' || !words[at][1]))
-            names[given++] = words[at];
-        else
-            is_well = false;
-    }
-    char *mountpoint = names[1] ? realpath(names[1], NULL) : NULL;
-    if (!is_well || (names[1] && !mountpoint)) {
+    bool is_well = take_options(count, words, &options, &args);
+    char *mountpoint = options.names[1] ? realpath(options.names[1], NULL) : NULL;
+    if (!is_well || (options.names[1] && !mountpoint)) {
         fprintf(stderr, "mountfs [--slots N] [-f] [SCRIPT [MOUNTPOINT [-o OPTION] ..]]\n");
         return 2;
     }
-    if (kt_new(&tree.at) || kt_create_root(&tree, slots, KT_HOLDS_MAX) || kt_root(&tree, &root)) {
-        fprintf(stderr, "mountfs: no tree of %u slots\n", slots);
+    started = time(NULL);
+    if (kt_new(&tree.at) || kt_create_root(&tree, options.slots, KT_HOLDS_MAX) || kt_root(&tree, &root)) {
+        fprintf(stderr, "mountfs: no tree of %u slots\n", options.slots);
         return 2;
     }
-    int status = describe(names[0], mountpoint) || (mountpoint && serve(&args, mountpoint, in_foreground));
+    int status = describe(options.names[0], mountpoint);
+    if (!status && mountpoint)
+        status = serve(&args, mountpoint, options.in_foreground);
     kt_delete(tree);
     close_all();
     forget_replies();
