@@ -3,7 +3,7 @@ use Rattle.std.specs.Prelude.{◌≡◌, ◌-◌, ℕ, ℤ, pos, if◌then◌els
 use Rattle.kf_words.specs.Layout.{wants_wake}
 use Rattle.kf_words.specs.Callers.{IsSameSeat, Entered, WasTurned, seat_view}
 use Rattle.kf_words.specs.Callers.{WasLeft as LeftHandle, WasBroken as BrokenHandle, WasRestored as RestoredHandle}
-use Rattle.kf_words.specs.Runs.{WasALeave, WasABreak, WasARestore, WasLetInLive}
+use Rattle.kf_words.specs.Made.{WasALeave, WasABreak, WasARestore, WasLetInLive}
 use Rattle.kernfs_tree.specs.declared.object.Object.{Object}
 use Rattle.kernfs_tree.specs.declared.object.Object.TheVariants as behind
 
