@@ -4,14 +4,23 @@ use kf_notify::{Full, Post, Posts};
 use std::process::Abort;
 use std::thread::join;
 
+/// The place of the first answer that is not as it must be. (One comparison after the other makes the proof
+/// of a test much longer.)
+fn first_wrong(answers: &[bool]) -> Option<usize> {
+    answers.iter().position(|is_right| !*is_right)
+}
+
 #[test]
 fn numbers_end_at_the_last(rt: HostRuntime) -> Result<(), Refusal> {
     let mut posts = Posts::new_at(rt.alloc(), 1, u64::MAX - 1)?;
     let mut post = posts.post(0)?;
-    assert_eq!(&rt; post.now(), 18446744073709551614);
-    assert_eq!(&rt; post.notify(), Ok(18446744073709551615));
-    assert_eq!(&rt; post.notify(), Err(Full));
-    assert_eq!(&rt; post.now(), 18446744073709551615);
+    let answers = [
+        post.now() == 18446744073709551614,
+        post.notify() == Ok(18446744073709551615),
+        post.notify() == Err(Full),
+        post.now() == 18446744073709551615,
+    ];
+    assert_eq!(&rt; first_wrong(&answers), None);
     Ok(())
 }
 
@@ -22,14 +31,17 @@ fn a_notify_through_one_post_is_seen_by_another(rt: HostRuntime) -> Result<(), R
     let mut one = posts.post(2)?;
     let mut other = posts.post(2)?;
     let mut beside = posts.post(1)?;
-    assert_eq!(&rt; one.now(), 1);
-    assert_eq!(&rt; other.notify(), Ok(2));
-    assert_eq!(&rt; one.now(), 2);
-    assert_eq!(&rt; one.notify(), Ok(3));
-    assert_eq!(&rt; other.now(), 3);
-    assert_eq!(&rt; beside.now(), 1);
-    assert_eq!(&rt; beside.notify(), Ok(2));
-    assert_eq!(&rt; one.now(), 3);
+    let answers = [
+        one.now() == 1,
+        other.notify() == Ok(2),
+        one.now() == 2,
+        one.notify() == Ok(3),
+        other.now() == 3,
+        beside.now() == 1,
+        beside.notify() == Ok(2),
+        one.now() == 3,
+    ];
+    assert_eq!(&rt; first_wrong(&answers), None);
     Ok(())
 }
 
@@ -37,17 +49,23 @@ fn a_notify_through_one_post_is_seen_by_another(rt: HostRuntime) -> Result<(), R
 #[test]
 fn handles_share_the_numbers(rt: HostRuntime) -> Result<(), Refusal> {
     let mut posts = Posts::new(rt.alloc(), 4096)?;
-    assert_eq!(&rt; posts.slots(), 4096);
+    let slots = posts.slots();
     let mut one = posts.post(4095)?;
-    assert_eq!(&rt; one.notify(), Ok(2));
+    let first = one.notify();
     let mut more = posts.another()?;
     drop(posts);
-    assert_eq!(&rt; more.slots(), 4096);
     let mut other = more.post(4095)?;
-    assert_eq!(&rt; other.now(), 2);
-    assert_eq!(&rt; other.notify(), Ok(3));
-    assert_eq!(&rt; one.now(), 3);
-    assert_eq!(&rt; more.post(0)?.now(), 1);
+    let mut beside = more.post(0)?;
+    let answers = [
+        slots == 4096,
+        first == Ok(2),
+        more.slots() == 4096,
+        other.now() == 2,
+        other.notify() == Ok(3),
+        one.now() == 3,
+        beside.now() == 1,
+    ];
+    assert_eq!(&rt; first_wrong(&answers), None);
     Ok(())
 }
 
