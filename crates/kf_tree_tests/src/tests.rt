@@ -8,6 +8,7 @@ mod compaction_tests;
 mod hiding_tests;
 mod large_tests;
 
+use crate::answers::first_wrong;
 use kf_core::{Command, Key, Limits, Node, Refusal};
 use kf_tree::{Stat, State};
 use std::alloc::Global;
@@ -139,12 +140,6 @@ fn directory(subdirs: u32, links: u32, activated: bool) -> Stat {
         doomed: false,
         hidden: false,
     }
-}
-
-/// The place of the first answer that is not as it must be. (One comparison after the other makes the proof
-/// of a test much longer.)
-fn first_wrong(answers: &[bool]) -> Option<usize> {
-    answers.iter().position(|is_right| !*is_right)
 }
 
 #[test]

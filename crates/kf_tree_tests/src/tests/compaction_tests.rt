@@ -1,7 +1,8 @@
 //! The canonical list in place of the stored commands.
 
 use super::hiding_tests::{TEXT, hide, show};
-use super::{ROOT, add, first_wrong, has_stored, key, key_of, new_state, remove, shows};
+use super::{ROOT, add, has_stored, key, key_of, new_state, remove, shows};
+use crate::answers::first_wrong;
 use kf_core::{Node, Refusal};
 use kf_tree::State;
 use std::test::Fail;

@@ -1,6 +1,7 @@
 //! Hiding and showing, of what is activated or doomed meanwhile.
 
-use super::{add, dooms, first_wrong, has_stored, key, new_state, unlink};
+use super::{add, dooms, has_stored, key, new_state, unlink};
+use crate::answers::first_wrong;
 use kf_core::{Key, Node, Refusal};
 use kf_tree::State;
 use std::test::Fail;

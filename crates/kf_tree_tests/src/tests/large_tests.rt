@@ -1,7 +1,8 @@
 //! Every slot in one directory, and a path of many names: calls that no script makes in this form. (Trees as
 //! large as they can be, made by scripts, stand in .ci/sizes.py.)
 
-use super::{ROOT, add, first_wrong, key, new_state, vacant};
+use super::{ROOT, add, key, new_state, vacant};
+use crate::answers::first_wrong;
 use kf_core::{Key, Node, Refusal};
 use kf_tree::State;
 use std::alloc::Global;
