@@ -1,9 +1,9 @@
 //! The grammar of lines: one row for each command.
 
-ghost use Rattle.std.specs.Prelude.{◌≡◌, ◌≤◌, length, IfSome};
+ghost use Rattle.std.specs.Prelude.{◌≡◌, ◌≤◌, length, drop, IfSome};
 ghost use Rattle.std.specs.Option.{option_map};
 ghost use Rattle.kf_script.specs.Lines.{line_limit};
-ghost use Rattle.kf_script.specs.Requests.{request_words, IsInRange, reads_of, request_of};
+ghost use Rattle.kf_script.specs.Requests.{request_words, IsInRange, rows, row_of, reads_of, request_of};
 
 use super::request::Request;
 use super::rows::{
@@ -25,16 +25,49 @@ fn request<'a>(command: &[u8], words: Words<'a>) -> Option<Request<'a>>
         word if spells(word, b"link") => make_link(words),
         word if spells(word, b"activate") => activate(words),
         word if spells(word, b"ls") => list_names(words),
+        _ => request_of_a_node(command, words),
+    }
+}
+
+/// The same, from the row of `stat` on. (Rows stand in groups: the proof of a match grows with their square.)
+#[inline(always)]
+fn request_of_a_node<'a>(command: &[u8], words: Words<'a>) -> Option<Request<'a>>
+    ensures value { option_map request_words result ≡ row_of (drop 5 rows) command.now words.entry }
+    ensures range { IfSome result (λ request. IsInRange (request_words request)) }
+{
+    match command {
         word if spells(word, b"stat") => stat(words),
         word if spells(word, b"readlink") => read_link(words),
         word if spells(word, b"mv") => move_node(words),
         word if spells(word, b"rm") => remove(words),
+        _ => request_of_a_file(command, words),
+    }
+}
+
+/// The same, from the row of `open` on.
+#[inline(always)]
+fn request_of_a_file<'a>(command: &[u8], words: Words<'a>) -> Option<Request<'a>>
+    ensures value { option_map request_words result ≡ row_of (drop 9 rows) command.now words.entry }
+    ensures range { IfSome result (λ request. IsInRange (request_words request)) }
+{
+    match command {
         word if spells(word, b"open") => open(words),
         word if spells(word, b"read") => read(words),
         word if spells(word, b"write") => write(words),
         word if spells(word, b"poll") => poll(words),
         word if spells(word, b"notify") => notify(words),
         word if spells(word, b"close") => close(words),
+        _ => request_of_the_rest(command, words),
+    }
+}
+
+/// The same, from the row of `hide` on.
+#[inline(always)]
+fn request_of_the_rest<'a>(command: &[u8], words: Words<'a>) -> Option<Request<'a>>
+    ensures value { option_map request_words result ≡ row_of (drop 15 rows) command.now words.entry }
+    ensures range { IfSome result (λ request. IsInRange (request_words request)) }
+{
+    match command {
         word if spells(word, b"hide") => hide(words),
         word if spells(word, b"show") => show(words),
         word if spells(word, b"commands") => count_commands(words),

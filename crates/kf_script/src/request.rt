@@ -4,7 +4,7 @@
 ///
 /// A path or a name is any bytes without a space: what is wrong with it the tree says. A file is the
 /// place of its letter in the alphabet, 0 to 25.
-#[derive(Clone, Copy, Debug)]
+#[derive(Clone, Copy)]
 pub enum Request<'a> {
     /// `mkdir PATH`, and with `off` a directory that is not activated.
     MakeDirectory {
