@@ -1,0 +1,21 @@
+-- The text of parts, and what an emit makes of a page.
+use Rattle.std.specs.Prelude.{ℕ, ◌-◌, List, [], ◌∷◌, ◌++◌, length, take, decimal, flat_map, if◌then◌else◌}
+use Rattle.std.specs.Fmt.{signed_decimal}
+use Rattle.kf_text.specs.declared.part.Part.{Part}
+use Rattle.kf_text.specs.declared.part.Part.TheVariants.{Text, Number, Signed, Flag, Newline}
+
+-- the bytes of a part: 48 is `0`, 49 is `1`, 10 ends a line
+abbrev pub part_text : Part → List ℕ
+part_text (Text bytes) = bytes.now
+part_text (Number number) = decimal number
+part_text (Signed number) = signed_decimal number
+part_text (Flag flag) = if flag then 49 ∷ [] else 48 ∷ []
+part_text Newline = 10 ∷ []
+
+-- the parts' bytes, one after another
+abbrev pub text_of : List Part → List ℕ
+text_of parts = flat_map part_text parts
+
+-- a page with a text behind what it has, as far as 4,095 bytes reach
+abbrev pub emitted : List ℕ → List ℕ → List ℕ
+emitted page text = page ++ take (4095 - length page) text

@@ -1,0 +1,24 @@
+//! Why the bytes of a store are refused.
+ghost use Rattle.std.specs.Prelude.{◌≡◌};
+ghost use Rattle.kf_text.specs.Readings.{number_of};
+
+/// Why the bytes of a store are not what is read from them.
+#[derive(Clone, Copy, Debug, PartialEq, Eq)]
+pub enum NotRead {
+    /// They say no such thing (`EINVAL`).
+    Invalid,
+    /// They are a number that is out of range (`ERANGE`).
+    Range,
+}
+
+impl NotRead {
+    /// The kernel's number for it: 22, or 34.
+    pub fn number(self) -> u16
+        ensures known { result ≡ number_of self }
+    {
+        match self {
+            NotRead::Invalid => 22,
+            NotRead::Range => 34,
+        }
+    }
+}

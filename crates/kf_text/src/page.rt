@@ -1,0 +1,56 @@
+//! A page is filled.
+ghost use Rattle.std.specs.Prelude.{◌≡◌, ◌+◌, length, take, if◌then◌else◌};
+ghost use Rattle.kf_text.specs.Texts.{emitted, part_text, text_of};
+
+use crate::part::Part;
+use arrayvec::ArrayVec;
+use itoa::Buffer;
+
+/// As many bytes as a text may have on a page.
+const MOST: usize = 4095;
+
+// Puts bytes behind what the page has, as far as there is room.
+fn put(page: &mut ArrayVec<u8, 4096>, bytes: &[u8])
+    ensures put { page.new.items ≡ emitted page.old.items bytes.now }
+{
+    let room = MOST.saturating_sub(page.len());
+    let end = bytes.len().min(room);
+    let _ = page.try_extend_from_slice(&bytes[..end]);
+}
+
+// Puts a part behind what the page has, as far as there is room.
+fn put_part(page: &mut ArrayVec<u8, 4096>, part: &Part)
+    ensures put { page.new.items ≡ emitted page.old.items (part_text part.now) }
+{
+    let mut buffer = Buffer::new();
+    match *part {
+        Part::Text(bytes) => put(page, bytes),
+        Part::Number(number) => put(page, buffer.format(number).as_bytes()),
+        Part::Signed(number) => put(page, buffer.format(number).as_bytes()),
+        Part::Flag(true) => put(page, b"1"),
+        Part::Flag(false) => put(page, b"0"),
+        Part::Newline => put(page, b"\n"),
+    }
+}
+
+/// Puts the parts' text behind what the page has (`sysfs_emit`). A page shows at most 4,095 bytes: what does
+/// not fit is cut. Answers how many bytes it put there.
+pub fn emit(page: &mut ArrayVec<u8, 4096>, parts: &[Part]) -> usize
+    ensures text { page.new.items ≡ emitted page.old.items (text_of parts.now) }
+    ensures count { length page.old.items + result ≡ length page.new.items }
+{
+    let before = page.len();
+    for part in parts {
+        put_part(page, part);
+    }
+    page.len() - before
+}
+
+/// As `emit`, behind the first `at` bytes of what the page has; the rest of it goes (`sysfs_emit_at`).
+pub fn emit_at(page: &mut ArrayVec<u8, 4096>, at: usize, parts: &[Part]) -> usize
+    ensures text { page.new.items ≡ emitted (take at page.old.items) (text_of parts.now) }
+    ensures count { length (take at page.old.items) + result ≡ length page.new.items }
+{
+    page.truncate(at);
+    emit(page, parts)
+}

@@ -1,0 +1,16 @@
+//! The parts of a text.
+
+/// A part of a text, as a conversion in a format string of the kernel.
+#[derive(Clone, Copy)]
+pub enum Part<'a> {
+    /// These bytes (`%s`).
+    Text(&'a [u8]),
+    /// A number in decimal (`%llu`).
+    Number(u64),
+    /// A number in decimal, behind a minus where it is below zero (`%lld`).
+    Signed(i64),
+    /// `1` or `0` (`%d` of a `bool`).
+    Flag(bool),
+    /// The end of a line (`\n`).
+    Newline,
+}

@@ -1,0 +1,57 @@
+//! Flags and words in the bytes of a store.
+ghost use Rattle.std.specs.Prelude.{◌≡◌, MatchOption, ok_or, position};
+ghost use Rattle.std.specs.Str.{bytes_eq};
+ghost use Rattle.kf_text.specs.Readings.{flag, same_text, with_newline};
+
+use crate::not_read::NotRead;
+
+/// A flag (`kstrtobool`): true where the first byte is one of `yYtT1` or the first two are `on`, false where it
+/// is one of `nNfF0` or they are `of`, in small letters or large ones.
+///
+/// Error: Invalid (anything else).
+pub fn read_flag(bytes: &[u8]) -> Result<bool, NotRead>
+    ensures read { MatchOption (flag bytes.now) (result ≡ Err NotRead.Invalid) (λ flag. result ≡ Ok flag) }
+{
+    match bytes {
+        [b'y' | b'Y' | b't' | b'T' | b'1', ..] => Ok(true),
+        [b'n' | b'N' | b'f' | b'F' | b'0', ..] => Ok(false),
+        [b'o' | b'O', b'n' | b'N', ..] => Ok(true),
+        [b'o' | b'O', b'f' | b'F', ..] => Ok(false),
+        _ => Err(NotRead::Invalid),
+    }
+}
+
+// Whether the first is the second with a newline behind it.
+#[tactic(auto, using(crate::proofs::Lines::same_lines, crate::proofs::Lines::other_lines, crate::proofs::Lines::no_line))]
+fn ends_a_line(one: &[u8], other: &[u8]) -> bool
+    ensures ends { result ≡ bytes_eq one.now (with_newline other.now) }
+{
+    match one.split_last() {
+        Some((last, front)) => *last == b'\n' && front == other,
+        None => false,
+    }
+}
+
+/// Whether two texts are the same, but for a newline that ends one of them (`sysfs_streq`).
+pub fn is_same_text(one: &[u8], other: &[u8]) -> bool
+    ensures same { result ≡ same_text one.now other.now }
+{
+    one == other || ends_a_line(one, other) || ends_a_line(other, one)
+}
+
+// The place of the first word that is this text.
+fn place_of(words: &[&[u8]], text: &[u8]) -> Option<usize>
+    ensures first { result ≡ position (λ word. same_text word.now text.now) words.now }
+{
+    words.iter().position(|word| is_same_text(word, text))
+}
+
+/// The place in a list of the first word that is this text, but for a newline at the end
+/// (`sysfs_match_string`).
+///
+/// Error: Invalid (no word is).
+pub fn read_word(words: &[&[u8]], bytes: &[u8]) -> Result<usize, NotRead>
+    ensures read { result ≡ ok_or (position (λ word. same_text word.now bytes.now) words.now) NotRead.Invalid }
+{
+    place_of(words, bytes).ok_or(NotRead::Invalid)
+}
