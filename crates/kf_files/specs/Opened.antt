@@ -47,3 +47,15 @@ held_after (Err back) = back.0
 abbrev pub hold_after : {Hold : Type 0} → Result (Opened Hold) (Hold × PostState × Refusal) → Hold
 hold_after (Ok file) = file.hold
 hold_after (Err back) = back.0
+
+-- why an open with a page of the caller's was refused, where it was
+abbrev pub paged_refusal : {Hold Page : Type 0}
+    → Result (Opened Hold) (Hold × PostState × Page × Refusal) → Option Refusal
+paged_refusal (Ok file) = None
+paged_refusal (Err back) = Some back.3
+
+-- the hold after it: in the file, or given back
+abbrev pub paged_after : {Hold Page : Type 0}
+    → Result (Opened Hold) (Hold × PostState × Page × Refusal) → Hold
+paged_after (Ok file) = file.hold
+paged_after (Err back) = back.0

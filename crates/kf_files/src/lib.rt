@@ -19,4 +19,4 @@ pub use open_file::OpenFile;
 pub use ops::{Fault, FileError, Ops, Page};
 pub use page_holder::PageHolder;
 pub use wait_ops::WaitOps;
-pub use waiting_file::WaitingFile;
+pub use waiting_file::{BoxedFile, WaitingFile};

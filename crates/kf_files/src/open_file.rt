@@ -4,24 +4,25 @@ ghost use Rattle.std.specs.Prelude.{◌≡◌, ◌≤◌, length, IfOk, MatchRes
 ghost use Rattle.kf_core.specs.Calls.{Visits};
 ghost use Rattle.kf_notify.specs.PostStates.{Took};
 ghost use Rattle.kf_files.specs.Files.{Opens, Reads, Writes, Polls, Gives, Stored, new_file, tag_of};
-ghost use Rattle.kf_files.specs.Opened.{hold_after, refusal_of};
+ghost use Rattle.kf_files.specs.Opened.{hold_after, paged_after, paged_refusal, refusal_of};
 
 use crate::contents::Want;
 use crate::held_file::HeldFile;
 use crate::ops::{FileError, Ops, Page};
+use crate::page_holder::PageHolder;
 use kf_core::{Guard, Node, Refusal};
 use kf_notify::Post;
 use std::marker::Model;
 
 /// A file opened by a hold on its node (`struct kernfs_open_file`). It keeps the hold and a post of its slot
-/// until it is closed.
+/// until it is closed, and its page: of its own, or one that it was given.
 #[derive(Drop)]
-pub struct OpenFile<G: Guard> {
-    file: HeldFile<G, Page>,
+pub struct OpenFile<G: Guard, P: PageHolder = Page> {
+    file: HeldFile<G, P>,
     post: Post,
 }
 
-impl<G: Guard> Model for OpenFile<G> {
+impl<G: Guard, P: PageHolder> Model for OpenFile<G, P> {
     ghost use Rattle.kf_files.specs.Opened.{Opened};
 
     ghost Value = { Opened G.Hold };
@@ -59,9 +60,46 @@ impl<G: Guard> OpenFile<G> {
         ensures post { MatchResult result (λ file. file.post ≡ post) (λ back. back.1 ≡ post) }
         ensures may_enter { G.may_enter guard.new (hold_after result) }
     {
-        match HeldFile::open(guard, hold, node, want, Page::new()) {
+        match OpenFile::open_on(guard, hold, node, want, post, Page::new()) {
+            Ok(file) => Ok(file),
+            Err((hold, post, _page, why)) => Err((hold, post, why)),
+        }
+    }
+
+    /// Gives the hold and the post back (`kernfs_fop_release`).
+    pub fn close(self) -> (G::Hold, Post)
+        ensures hold { result.0 ≡ self.hold }
+        ensures post { result.1 ≡ self.post }
+    {
+        let (hold, post, _page) = self.into_parts();
+        (hold, post)
+    }
+}
+
+impl<G: Guard, P: PageHolder> OpenFile<G, P> {
+    /// As [`OpenFile::open`], on a page of the caller's, whose bytes do not matter. A refusal gives the page
+    /// back too.
+    pub fn open_on(
+        guard: &mut G,
+        hold: G::Hold,
+        node: Node,
+        want: Want,
+        post: Post,
+        page: P,
+    ) -> Result<OpenFile<G, P>, (G::Hold, Post, P, Refusal)>
+        requires may_enter { G.may_enter guard.old hold }
+        ensures opens { Opens
+            (Visits G.enters G.refuses G.leaves G.Call.view_of (Unit {0}) (λ _. Unit {0})
+            guard.old hold guard.new (paged_after result))
+            node want (paged_refusal result) }
+        ensures new { IfOk result (λ file. file.state ≡ new_file want) }
+        ensures tag { IfOk result (λ file. file.tag ≡ tag_of node) }
+        ensures post { MatchResult result (λ file. file.post ≡ post) (λ back. back.1 ≡ post) }
+        ensures may_enter { G.may_enter guard.new (paged_after result) }
+    {
+        match HeldFile::open(guard, hold, node, want, page) {
             Ok(file) => Ok(OpenFile { file, post }),
-            Err((hold, _page, why)) => Err((hold, post, why)),
+            Err((hold, page, why)) => Err((hold, post, page, why)),
         }
     }
 
@@ -142,13 +180,13 @@ impl<G: Guard> OpenFile<G> {
         self.file.poll(guard, &mut self.post)
     }
 
-    /// Gives the hold and the post back (`kernfs_fop_release`).
-    pub fn close(self) -> (G::Hold, Post)
+    /// Gives the hold, the post and the page back (`kernfs_fop_release`).
+    pub fn into_parts(self) -> (G::Hold, Post, P)
         ensures hold { result.0 ≡ self.hold }
         ensures post { result.1 ≡ self.post }
     {
         let OpenFile { file, post } = self;
-        let (hold, _page) = file.close();
-        (hold, post)
+        let (hold, page) = file.close();
+        (hold, post, page)
     }
 }

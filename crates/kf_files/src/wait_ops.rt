@@ -12,27 +12,24 @@ use kf_shared::{Naming, SharedTree};
 use kf_words::Call;
 use std::sync::Wait;
 
-/// The callbacks of files of a shared tree (`struct sysfs_ops`). Any number of threads may call them at
-/// once, with no lock held, so a callback may take the lock of its tree and may wait. A file's tag tells it
-/// from others.
+/// The callbacks of files of the shared tree of this name (`struct sysfs_ops`). Any number of threads may
+/// call them at once, with no lock held, so a callback may take the lock of its tree and may wait. A file's
+/// tag tells it from others. What serves one tree alone may keep holds, posts and keys of it.
 ///
 /// A show or a store is made only under a running call, which it is lent. It may give up that reference and
 /// take it again, as `remove_self` does, and gives the call back with a reference. A callback that removes
 /// its own node, or one above it, without `remove_self` waits for itself.
 ///
 /// Conditions of each show and store: the call is Running, and of the table of the tree.
-pub trait WaitOps {
+pub trait WaitOps<N: Naming> {
     /// A show for this tag may fill a page with these bytes, or give this fault.
     ghost may_show: { Self → ℕ → Result (List ℕ) Fault → Type 0 };
 
     /// A store of these bytes for this tag may answer this.
     ghost may_store: { Self → ℕ → List ℕ → Result ℕ Fault → Type 0 };
 
-    /// The first text of a file with this tag may be answered so.
-    ghost may_begin: { Self → ℕ → List ℕ → Result (Unit {0}) Fault → Type 0 };
-
     /// Fills the empty page with the text, or gives a fault. What it filled before a fault is not shown.
-    fn show<N: Naming, R: Wait>(
+    fn show<R: Wait>(
         &self,
         rt: &R,
         tree: &SharedTree<N>,
@@ -48,7 +45,7 @@ pub trait WaitOps {
         ensures reference { has_reference call.new.phase ≡ true };
 
     /// Takes the bytes, 1 to 4,096 of them, and answers how many it took, or gives a fault.
-    fn store<N: Naming, R: Wait>(
+    fn store<R: Wait>(
         &self,
         rt: &R,
         tree: &SharedTree<N>,
@@ -63,8 +60,4 @@ pub trait WaitOps {
         ensures stored { may_store self.now tag bytes.now result }
         ensures seat { IsSameSeat call.old call.new }
         ensures reference { has_reference call.new.phase ≡ true };
-
-    /// Takes the first text of a new file, under no call, or gives a fault.
-    fn first<R: Wait>(&self, rt: &R, tag: u64, bytes: &[u8]) -> Result<(), Fault>
-        ensures begun { may_begin self.now tag bytes.now result };
 }

@@ -3,12 +3,13 @@
 ghost use Rattle.std.specs.Prelude.{◌≡◌, ◌≤◌, length, IfOk, IfErr, MatchResult};
 ghost use Rattle.kf_notify.specs.PostStates.{Took};
 ghost use Rattle.kf_files.specs.Files.{Opens, Reads, Writes, Polls, Gives, new_file, tag_of};
-ghost use Rattle.kf_files.specs.Opened.{hold_after, refusal_of};
+ghost use Rattle.kf_files.specs.Opened.{hold_after, paged_after, paged_refusal, refusal_of};
 ghost use Rattle.kf_files.specs.Waiting.{WaitVisits, MayStore};
 
 use crate::contents::Want;
 use crate::open_file::OpenFile;
 use crate::ops::{Fault, FileError, Ops, Page};
+use crate::page_holder::PageHolder;
 use crate::tree_seats::{TreeCall, TreeHold, TreeSeats};
 use crate::wait_ops::WaitOps;
 use kf_core::{Node, Refusal};
@@ -26,7 +27,7 @@ struct Lent<'a, W, N: Naming, R: Wait> {
     rt: &'a R,
 }
 
-impl<'a, W: WaitOps, N: Naming, R: Wait> Ops<TreeCall<N>> for Lent<'a, W, N, R> {
+impl<'a, W: WaitOps<N>, N: Naming, R: Wait> Ops<TreeCall<N>> for Lent<'a, W, N, R> {
     ghost use Rattle.std.specs.Prelude.{◌≡◌};
 
     ghost shows = { λ lent tag filled lent'. W.may_show lent.ops.now tag filled × (lent' ≡ lent) };
@@ -48,14 +49,22 @@ impl<'a, W: WaitOps, N: Naming, R: Wait> Ops<TreeCall<N>> for Lent<'a, W, N, R> 
 /// keeps the hold and a post of its slot until it is closed. Tries and ends take no lock and wait for
 /// nobody: the runtime goes to callbacks alone.
 ///
+/// Its page is its own, or one that it was given: a [`BoxedFile`] has a box of the caller's, and moves none of
+/// its 4,096 bytes. A file that is let go gives its hold back by itself.
+///
 /// Its contracts are those of [`OpenFile`], where a visit to the node tells the very try that was made: one
 /// that gave a call found the key live, one that did not found a word that keeps it out. Of a callback they
 /// tell what it may answer.
-pub struct WaitingFile<N: Naming> {
-    file: OpenFile<TreeSeats<N>>,
+pub struct WaitingFile<N: Naming, P: PageHolder = Page> {
+    file: OpenFile<TreeSeats<N>, P>,
+    // Two cache lines between files that lie side by side: threads write to files of their own at once.
+    apart: [u64; 16],
 }
 
-impl<N: Naming> Model for WaitingFile<N> {
+/// A file whose page lies in a box, which it is given and gives back.
+pub type BoxedFile<N> = WaitingFile<N, Box<Page>>;
+
+impl<N: Naming, P: PageHolder> Model for WaitingFile<N, P> {
     ghost use Rattle.kf_words.specs.Callers.{Handle};
     ghost use Rattle.kf_files.specs.Opened.{Opened};
 
@@ -67,7 +76,7 @@ impl<N: Naming> Model for WaitingFile<N> {
 impl<N: Naming> WaitingFile<N> {
     /// Opens a file whose node is live (`kernfs_fop_open`). It starts with no text and the event number 0.
     ///
-    /// Condition: the hold is of this tree's table.
+    /// Condition: the hold is of this tree's table, the node is the hold's, and the post is of its slot.
     ///
     /// Refusals, in order: `IsDir` a directory, `Invalid` a link, `NoDevice` a node that is not live,
     /// `Access` reading where the mode has no bit of 0o444, or writing where it has none of 0o222. A
@@ -88,9 +97,52 @@ impl<N: Naming> WaitingFile<N> {
         ensures post { MatchResult result (λ file. file.post ≡ post) (λ back. back.1 ≡ post) }
         ensures back { IfErr result (λ back. back.0.table ≡ N.table) }
     {
-        match OpenFile::open(&mut TreeSeats::new(), TreeHold::new(hold), node, want, post) {
-            Ok(file) => Ok(WaitingFile { file }),
-            Err((hold, post, refusal)) => Err((hold.into_hold(), post, refusal)),
+        match WaitingFile::open_on(hold, node, want, post, Page::new()) {
+            Ok(file) => Ok(file),
+            Err((hold, post, _page, refusal)) => Err((hold, post, refusal)),
+        }
+    }
+
+    /// Gives the hold and the post back (`kernfs_fop_release`).
+    pub fn close(self) -> (Hold, Post)
+        ensures hold { result.0 ≡ self.hold }
+        ensures post { result.1 ≡ self.post }
+        ensures table { result.0.table ≡ N.table }
+    {
+        let (hold, post, _page) = self.into_parts();
+        (hold, post)
+    }
+}
+
+impl<N: Naming, P: PageHolder> WaitingFile<N, P> {
+    /// As [`WaitingFile::open`], on a page of the caller's, whose bytes do not matter. A refusal gives the
+    /// page back too.
+    ///
+    /// Condition: the hold is of this tree's table, the node is the hold's, and the post is of its slot.
+    pub fn open_on(
+        hold: Hold,
+        node: Node,
+        want: Want,
+        post: Post,
+        page: P,
+    ) -> Result<WaitingFile<N, P>, (Hold, Post, P, Refusal)>
+        requires table { hold.table ≡ N.table }
+        requires node { node ≡ hold.node }
+        requires slot { post.slot ≡ hold.key.slot }
+        ensures opens { Opens (WaitVisits (Unit {0}) (λ _. Unit {0}) hold (paged_after result))
+            node want (paged_refusal result) }
+        ensures new { IfOk result (λ file. file.state ≡ new_file want) }
+        ensures tag { IfOk result (λ file. file.tag ≡ tag_of node) }
+        ensures post { MatchResult result (λ file. file.post ≡ post) (λ back. back.1 ≡ post) }
+        ensures back { IfErr result (λ back. back.0.table ≡ N.table) }
+    {
+        let mut seats = TreeSeats::new();
+        match OpenFile::open_on(&mut seats, TreeHold::new(hold), node, want, post, page) {
+            Ok(file) => Ok(WaitingFile {
+                file,
+                apart: [0; 16],
+            }),
+            Err((hold, post, page, refusal)) => Err((hold.into_hold(), post, page, refusal)),
         }
     }
 
@@ -103,7 +155,7 @@ impl<N: Naming> WaitingFile<N> {
     /// of `out` stays, and all of it after an error. It may never return, as its show may not.
     ///
     /// Context: no lock, and no sleep but its callback's.
-    pub fn read<W: WaitOps, R: Wait>(
+    pub fn read<W: WaitOps<N>, R: Wait>(
         &mut self,
         rt: &R,
         tree: &SharedTree<N>,
@@ -134,7 +186,7 @@ impl<N: Naming> WaitingFile<N> {
     /// not live. The file stays as it was. It may never return, as its store may not.
     ///
     /// Context: no lock, and no sleep but its callback's.
-    pub fn write<W: WaitOps, R: Wait>(
+    pub fn write<W: WaitOps<N>, R: Wait>(
         &mut self,
         rt: &R,
         tree: &SharedTree<N>,
@@ -164,14 +216,23 @@ impl<N: Naming> WaitingFile<N> {
         self.file.poll(&mut TreeSeats::new())
     }
 
-    /// Gives the hold and the post back (`kernfs_fop_release`).
-    pub fn close(self) -> (Hold, Post)
+    /// Gives the hold, the post and the page back (`kernfs_fop_release`).
+    pub fn into_parts(self) -> (Hold, Post, P)
         ensures hold { result.0 ≡ self.hold }
         ensures post { result.1 ≡ self.post }
         ensures table { result.0.table ≡ N.table }
     {
-        let WaitingFile { file } = self;
-        let (hold, post) = file.close();
-        (hold.into_hold(), post)
+        let WaitingFile { file, apart: _ } = self;
+        let (hold, post, page) = file.into_parts();
+        (hold.into_hold(), post, page)
+    }
+}
+
+impl<N: Naming, P: PageHolder + Drop> Drop for WaitingFile<N, P> {
+    /// Gives its hold back, as a `?` between open and close does.
+    fn drop(self) {
+        let WaitingFile { file, apart: _ } = self;
+        let (hold, _post, _page) = file.into_parts();
+        hold.into_hold().release();
     }
 }

@@ -29,7 +29,7 @@ fn fault(number: u16) -> FileError {
 }
 
 /// Whether a read of 9 bytes at the offset gives these.
-fn gives<N: Naming, W: WaitOps, R: Wait>(
+fn gives<N: Naming, W: WaitOps<N>, R: Wait>(
     rt: &R,
     tree: &SharedTree<N>,
     file: &mut WaitingFile<N>,
@@ -45,7 +45,7 @@ fn gives<N: Naming, W: WaitOps, R: Wait>(
 }
 
 /// Why a read at offset 0 failed, if it did.
-fn read_error<N: Naming, W: WaitOps, R: Wait>(
+fn read_error<N: Naming, W: WaitOps<N>, R: Wait>(
     rt: &R,
     tree: &SharedTree<N>,
     file: &mut WaitingFile<N>,

@@ -96,7 +96,7 @@ pub(crate) fn failing(number: u16) -> Driver {
 }
 
 impl Driver {
-    /// How many shows there were, and how many stores or first texts.
+    /// How many shows there were, and how many stores.
     pub(crate) fn calls(&self) -> (u64, u64) {
         (
             self.shows.load(Ordering::SeqCst),
@@ -144,14 +144,12 @@ impl Before {
     }
 }
 
-impl WaitOps for Driver {
+impl<N: Naming> WaitOps<N> for Driver {
     ghost may_show = { λ _ _ _. Unit {0} };
 
     ghost may_store = { λ _ _ _ _. Unit {0} };
 
-    ghost may_begin = { λ _ _ _ _. Unit {0} };
-
-    fn show<N: Naming, R: Wait>(
+    fn show<R: Wait>(
         &self,
         rt: &R,
         tree: &SharedTree<N>,
@@ -169,7 +167,7 @@ impl WaitOps for Driver {
         }
     }
 
-    fn store<N: Naming, R: Wait>(
+    fn store<R: Wait>(
         &self,
         rt: &R,
         tree: &SharedTree<N>,
@@ -185,14 +183,6 @@ impl WaitOps for Driver {
             (None, Some(count)) => Ok(count),
             (Some(fault), _) => Err(fault),
         }
-    }
-
-    fn first<R: Wait>(&self, rt: &R, tag: u64, bytes: &[u8]) -> Result<(), Fault> {
-        let _ = rt;
-        let _ = tag;
-        let _ = bytes;
-        self.stores.fetch_add(1, Ordering::SeqCst);
-        Ok(())
     }
 }
 
