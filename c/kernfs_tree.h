@@ -41,8 +41,8 @@
  * - malloc(), realloc() and free() are of one allocator. No function is called in a signal handler, or between fork()
  *   and exec() in a program with threads.
  * - After kt_enter() has answered -ENODEV, and after kt_leave(), kt_break(), kt_clear() or kt_delete() has answered 1,
- *   wake those who wait in a removal; also after letting go a hold of a node that had the most there may be, since a
- *   removal needs one for a moment. The _wake helpers do so; kt_delete() has none.
+ *   wake those who wait in a removal. The _wake helpers do so; kt_delete() has none. A program that lets go a hold of a
+ *   node that had the most there may be calls kt_wake() itself, since a removal needs one for a moment.
  */
 #ifndef KERNFS_TREE_H
 #define KERNFS_TREE_H
@@ -93,7 +93,7 @@ struct kt_stat {
 int32_t kt_new(void **at);
 
 /* Lets go of what lies behind the handle: a hold is released, a call ended first, a tree freed. 0, or 1: wake those who
- * wait in a removal (kt_clear_wake() always does). Holds of a tree that is freed stay valid. */
+ * wait in a removal. Holds of a tree that is freed stay valid. */
 int32_t kt_clear(struct kt_handle *handle);
 
 /* The same, and frees the handle, which is not used again. */
@@ -140,6 +140,16 @@ int64_t kt_next(struct kt_handle *tree, struct kt_key dir, const void *after, si
 
 /* What is told of a node. 0, -ENOENT. */
 int32_t kt_stat(struct kt_handle *tree, struct kt_key key, struct kt_stat *out);
+
+/* The directory of a node (kernfs_get_parent). 0, -ENOENT, -EINVAL (the root has none). */
+int32_t kt_parent(struct kt_handle *tree, struct kt_key key, struct kt_key *out);
+
+/* The name of a node (kernfs_name); the root's is empty. Its length, -ENOENT, -ERANGE (over `room`), -ENOMEM. */
+int64_t kt_name(struct kt_handle *tree, struct kt_key key, void *name, size_t room);
+
+/* The path that kt_walk() follows to a node (kernfs_path_from_node from the root). Its length, -ENOENT, -ERANGE (over
+ * `room`), -ENOMEM. */
+int64_t kt_path(struct kt_handle *tree, struct kt_key key, void *path, size_t room);
 
 /* The text of a link (kernfs_get_target_path). Its length, -ENOENT (it or its target), -EINVAL (no link), -ERANGE (over
  * `room`), -ENOMEM. */
@@ -259,11 +269,11 @@ static inline int32_t kt_break_wake(struct kt_handle *call, struct kt_lock *lock
     return 0;
 }
 
-/* Lets go of what lies behind a handle, to end a call or let go a hold, and wakes those who wait in a removal. */
+/* Lets go of what lies behind a handle, with the wake that this may owe. */
 static inline void kt_clear_wake(struct kt_handle *handle, struct kt_lock *lock)
 {
-    kt_clear(handle);
-    kt_wake(lock);
+    if (kt_clear(handle) == 1)
+        kt_wake(lock);
 }
 
 /* Removes a node and all below it, and waits until no callback runs there (kernfs_remove). It sleeps, and takes the

@@ -50,6 +50,11 @@ int main(void)
     list(root);
     list(dir);
     AGAIN(kt_readlink(&tree, key, text, sizeof text));
+    AGAIN(kt_name(&tree, dir, text, sizeof text));
+    printf("  %.200s\n", text);
+    AGAIN(kt_path(&tree, file, text, sizeof text));
+    printf("  %.203s\n", text);
+    AGAIN(kt_parent(&tree, file, &key));
     AGAIN(kt_rename(&tree, file, root, long_name, 199));
     AGAIN(kt_compact(&tree));
     AGAIN(kt_hold(&tree, file, &hold));

@@ -97,6 +97,29 @@ static void looks(void)
     TRY(kt_readlink(&tree, file, text, sizeof text), -EINVAL);
 }
 
+static void places(void)
+{
+    TRY(kt_parent(&tree, file, &key), 0);
+    TRY(same(key, dir), 1);
+    TRY(kt_parent(&tree, dir, &key), 0);
+    TRY(same(key, root), 1);
+    TRY(kt_parent(&tree, root, &key), -EINVAL);
+    TRY(kt_parent(&tree, stale, &key), -ENOENT);
+    TRY(same(key, root), 1);
+    memset(text, '-', sizeof text);
+    TRY(kt_name(&tree, file, text, 1), 1);
+    TRY(memcmp(text, "f-", 2), 0);
+    TRY(kt_name(&tree, file, text, 0), -ERANGE);
+    TRY(kt_name(&tree, root, text, sizeof text), 0);
+    TRY(kt_name(&tree, stale, text, sizeof text), -ENOENT);
+    TRY(kt_path(&tree, file, text, 4), 4);
+    TRY(memcmp(text, "/d/f-", 5), 0);
+    TRY(kt_path(&tree, root, text, sizeof text), 1);
+    TRY(memcmp(text, "/d/f-", 5), 0);
+    TRY(kt_path(&tree, file, text, 3), -ERANGE);
+    TRY(kt_path(&tree, stale, text, sizeof text), -ENOENT);
+}
+
 static void changes(void)
 {
     TRY(kt_create_file(&tree, dir, "g", 1, 0444, 0, false, &key), 0);
@@ -141,6 +164,9 @@ static void holds(void)
     TRY(kt_stat(&hold, file, &stat), -EINVAL);
     TRY(kt_next(&hold, root, "", 0, text, sizeof text), -EINVAL);
     TRY(kt_claim(&hold, file), -EINVAL);
+    TRY(kt_parent(&hold, file, &key), -EINVAL);
+    TRY(kt_name(&hold, file, text, sizeof text), -EINVAL);
+    TRY(kt_path(&hold, file, text, sizeof text), -EINVAL);
     TRY(kt_hold(&hold, file, &other), -EINVAL);
     TRY(kt_create_root(&hold, 8, 8), -EINVAL);
     TRY(kt_enter(&tree), -EINVAL);
@@ -204,6 +230,7 @@ int main(void)
     trees();
     names();
     looks();
+    places();
     changes();
     holds();
     removal();

@@ -1,5 +1,6 @@
 -- What a tree answers to each question, and what that makes of it.
-use Rattle.std.specs.Prelude.{◌≡◌, ◌⊎◌, ℕ, List, [], ◌∷◌, Bool, true, false, Option, None, Some, Ok, Err, MatchBool, slice_set}
+use Rattle.std.specs.Prelude.{◌≡◌, ◌⊎◌, ℕ, Vec, ℤ, pos, negsuc, List, [], ◌∷◌, ◌++◌, length, drop, Bool, true, false, Option, None, Some, Ok, Err, MatchBool, slice_set}
+use Rattle.std.specs.Global.{Global}
 use Rattle.std.specs.Option.{option_map}
 use Rattle.kf_core.specs.declared.key.Key.{Key}
 use Rattle.kf_core.specs.declared.command.Command.TheVariants.{Activate, Rename}
@@ -13,6 +14,7 @@ use Rattle.kf_tree.specs.Links.{HasLinkText}
 use Rattle.kf_tree.specs.Listing.{IsListing}
 use Rattle.kf_tree.specs.Paths.{found, walked}
 use Rattle.kf_tree.specs.Stat.{stat_of}
+use Rattle.kf_tree.specs.Ways.{IsPathOf}
 use Rattle.kf_tree.specs.TreeLogs.{TreeLog, IsAccepted, IsCompacted}
 use Rattle.kf_words.specs.Callers.{TableId, Handle}
 use Rattle.kf_shared.specs.Locked.{Locked, Created, CreateRefused, IsHoldOfNode, HoldRefused, Unchanged, move_cause, is_claimed}
@@ -107,6 +109,15 @@ Answered table (asks.Tell key) old new reply =
 Answered table (asks.ReadLink key) old new reply =
     TextOr (λ text. HasLinkText old.state.tree old.state.root key text × (new ≡ old))
     (λ why. Refuses (text_cause old.state.tree key) why × (new ≡ old)) reply
+Answered table (asks.Parent key) old new reply =
+    NamedOr (λ parent. (option_map (λ r. r.parent) (record_at old.state.tree key) ≡ Some (Some parent))
+    × (new ≡ old)) (λ why. new ≡ old) reply
+Answered table (asks.Name key alloc) old new reply =
+    TextOr (λ text. (option_map (λ r. r.name) (record_at old.state.tree key) ≡ Some text) × (new ≡ old))
+    (λ why. new ≡ old) reply
+Answered table (asks.Path key) old new reply =
+    TextOr (λ text. IsPathOf old.state.tree old.state.root key text × (new ≡ old))
+    (λ why. Refuses (linked_cause old.state.tree key) why × (new ≡ old)) reply
 Answered table (asks.Hold key) old new reply =
     HeldOr (λ hold. IsHoldOfNode table old.state.tree key hold × Unchanged old new)
     (λ why. HoldRefused old new key why × Unchanged old new) reply
@@ -131,6 +142,7 @@ is_naming asks.Root = true
 is_naming (asks.Create parent name node live) = true
 is_naming (asks.Find dir name) = true
 is_naming (asks.Walk path) = true
+is_naming (asks.Parent key) = true
 is_naming other = false
 
 -- the questions that ask for a change, which is made at once or refused
@@ -140,12 +152,21 @@ is_change (asks.Rename key dir name) = true
 is_change asks.Compact = true
 is_change other = false
 
--- the questions that read
+-- the questions that ask for a text
 abbrev pub is_reading : Question → Bool
-is_reading (asks.Next dir after) = true
-is_reading (asks.Tell key) = true
 is_reading (asks.ReadLink key) = true
+is_reading (asks.Name key alloc) = true
+is_reading (asks.Path key) = true
 is_reading other = false
+
+-- ---- what is written for the program
+
+-- the length of a text of which this holds, which stands at the front of the buffer, and the rest of that
+-- stays; or an error number, and all of it stays
+abbrev pub Wrote : (List ℕ → Type 0) → ℤ → List ℕ → List ℕ → Type 0
+Wrote Such (pos count) out out' =
+    (text : List ℕ) × Such text × (count ≡ length text) × (out' ≡ text ++ drop count out)
+Wrote Such (negsuc why) out out' = out' ≡ out
 
 -- ---- what lies behind the handle
 
@@ -153,6 +174,11 @@ is_reading other = false
 abbrev pub OfTrees : (Locked → Locked → Type 0) → Object → Object → Type 0
 OfTrees Such (behind.Tree old) (behind.Tree new) = Such old.value new.value
 OfTrees Such old new = ⊥
+
+-- it is the text that the tree answers to the question
+abbrev pub IsTextOf : Question → Object → Object → List ℕ → Type 0
+IsTextOf question old new text = (reply : Vec ℕ Global) × (reply.items ≡ text) × OfTrees (λ before after.
+    Answered before.master.table question before after (told.Text reply)) old new
 
 -- the tree is as it was, the loads of the words aside; what is no tree is all as it was
 abbrev pub IsAsBefore : Object → Object → Type 0

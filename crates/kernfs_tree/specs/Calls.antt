@@ -1,18 +1,26 @@
 -- What the calls of a program say in the words of the tree.
-use Rattle.std.specs.Prelude.{◌≡◌, ℕ, List, Bool, Ok}
+use Rattle.std.specs.Prelude.{◌≡◌, ℕ, List, [], ◌∷◌, Bool, Option, None, Some, Ok}
+use Rattle.std.specs.Option.{option_map}
 use Rattle.kf_core.specs.declared.key.Key.{Key}
 use Rattle.kf_core.specs.declared.key.Node.{Node}
 use Rattle.kf_core.specs.declared.command.Command.TheVariants.{Activate}
-use Rattle.kf_core.specs.Tree.{is_linked}
-use Rattle.kf_tree.specs.Causes.{linked_cause}
+use Rattle.kf_core.specs.declared.key.Node.TheVariants.{Dir, File, Link}
+use Rattle.kf_core.specs.Tree.{is_linked, record_at}
+use Rattle.kf_tree.specs.declared.stat.Stat.{Stat}
+use Rattle.kf_tree.specs.Causes.{linked_cause, target_of}
+use Rattle.kf_tree.specs.Links.{HasLinkText}
+use Rattle.kf_tree.specs.Listing.{IsListing}
+use Rattle.kf_tree.specs.Stat.{stat_of}
+use Rattle.kf_tree.specs.Ways.{IsPathOf}
 use Rattle.kf_tree.specs.TreeLogs.{IsNew, IsAccepted, IsCompacted}
 use Rattle.kf_words.specs.Steps.{opened}
 use Rattle.kf_tree.specs.Paths.{found, walked}
 use Rattle.kf_shared.specs.Locked.{Created, IsHoldOfNode, is_claimed}
 use Rattle.kernfs_tree.specs.declared.object.Object.{Object}
 use Rattle.kernfs_tree.specs.declared.replies.KtKey.{KtKey}
+use Rattle.kernfs_tree.specs.declared.replies.KtStat.{KtStat}
 use Rattle.kernfs_tree.specs.declared.object.Object.TheVariants as behind
-use Rattle.kernfs_tree.specs.Answers.{ClaimedTo, Moved, OfTrees}
+use Rattle.kernfs_tree.specs.Answers.{ClaimedTo, Moved, OfTrees, bound_of}
 
 -- the key that a program has of a node
 abbrev pub key_in : KtKey → Key
@@ -34,6 +42,75 @@ abbrev pub WalkedIn : Object → Object → List ℕ → KtKey → Type 0
 WalkedIn old new path key =
     OfTrees (λ before after. (walked before.state.tree before.state.root path ≡ Ok (key_in key))
     × (after ≡ before)) old new
+
+-- it is the key of the directory that the node is in, and the tree is as it was
+abbrev pub ParentIn : Object → Object → KtKey → KtKey → Type 0
+ParentIn old new key parent = OfTrees (λ before after.
+    (option_map (λ r. r.parent) (record_at before.state.tree (key_in key)) ≡ Some (Some (key_in parent)))
+    × (after ≡ before)) old new
+
+-- it is the node's name, and the tree is as it was
+abbrev pub NameIn : Object → Object → KtKey → List ℕ → Type 0
+NameIn old new key name = OfTrees (λ before after.
+    (option_map (λ r. r.name) (record_at before.state.tree (key_in key)) ≡ Some name)
+    × (after ≡ before)) old new
+
+-- it is the path that leads to the node, and the tree is as it was
+abbrev pub PathIn : Object → Object → KtKey → List ℕ → Type 0
+PathIn old new key path = OfTrees (λ before after.
+    IsPathOf before.state.tree before.state.root (key_in key) path × (after ≡ before)) old new
+
+-- it is the text of the link, and the tree is as it was
+abbrev pub LinkTextIn : Object → Object → KtKey → List ℕ → Type 0
+LinkTextIn old new key text = OfTrees (λ before after.
+    HasLinkText before.state.tree before.state.root (key_in key) text × (after ≡ before)) old new
+
+-- it is the first name of a live child above this one, and the tree is as it was
+abbrev pub NextIn : Object → Object → KtKey → List ℕ → List ℕ → Type 0
+NextIn old new dir after_this name = OfTrees (λ before after.
+    IsListing before.state.tree (key_in dir) (bound_of after_this) 1 (name ∷ []) × (after ≡ before)) old new
+
+-- a key as a program has it; where there is none the key 0, 0
+abbrev pub key_in_c : Option Key → KtKey
+key_in_c None = record { slot = 0; generation = 0 }
+key_in_c (Some key) = record { slot = key.slot; generation = key.generation }
+
+-- the number that a program has for a kind of node
+abbrev pub kind_in_c : Node → ℕ
+kind_in_c Dir = 0
+kind_in_c (File mode tag) = 1
+kind_in_c (Link target) = 2
+
+-- the tag of a file
+abbrev pub tag_of : Node → ℕ
+tag_of Dir = 0
+tag_of (File mode tag) = tag
+tag_of (Link target) = 0
+
+-- the permission bits of a file
+abbrev pub mode_of : Node → ℕ
+mode_of Dir = 0
+mode_of (File mode tag) = mode
+mode_of (Link target) = 0
+
+-- what is told of a node, as a program has it
+abbrev pub stat_in_c : Stat → KtStat
+stat_in_c stat = record {
+  tag = tag_of stat.node;
+  target = key_in_c (target_of stat.node);
+  kind = kind_in_c stat.node;
+  links = stat.links;
+  mode = mode_of stat.node;
+  activated = stat.activated;
+  doomed = stat.doomed;
+  hidden = stat.hidden;
+}
+
+-- it is what the tree tells of the node, and the tree is as it was
+abbrev pub ToldIn : Object → Object → KtKey → KtStat → Type 0
+ToldIn old new key out = OfTrees (λ before after. (stat : Stat)
+    × (option_map (stat_of before.state.tree) (record_at before.state.tree (key_in key)) ≡ Some stat)
+    × (out ≡ stat_in_c stat) × (after ≡ before)) old new
 
 -- the key is linked in the tree afterwards, or not
 abbrev pub IsLinkedIn : Object → Object → KtKey → Bool → Type 0

@@ -1,7 +1,8 @@
 //! What a tree answers to each question.
-ghost use Rattle.std.specs.Prelude.{◌≡◌, ◌∷◌, []};
-ghost use Rattle.kernfs_tree.specs.Answers.{Answered, AnsweredBehind, ListedOr, NextRefused, bound_of};
-ghost use Rattle.std.specs.Option.{option_copied};
+ghost use Rattle.std.specs.Prelude.{◌≡◌, ◌∷◌, [], Some};
+ghost use Rattle.kernfs_tree.specs.Answers.{Answered, AnsweredBehind, ListedOr, TextOr, NextRefused, bound_of};
+ghost use Rattle.std.specs.Option.{option_copied, option_map};
+ghost use Rattle.kf_core.specs.Tree.{record_at};
 ghost use Rattle.kf_tree.specs.Listing.{IsListing};
 
 use crate::holds::Held;
@@ -12,6 +13,7 @@ use core::mem::replace_with;
 use kf_core::{Key, Refusal};
 use kf_shared::{Locked, Naming, NewTree};
 use kf_tree::State;
+use std::alloc::Global;
 use std::marker::Brand;
 
 /// The bound of a listing: none where the name is empty.
@@ -30,6 +32,20 @@ fn next(state: &State, dir: Key, after: &[u8]) -> Reply
         Ok(mut names) => match names.pop() {
             Some(name) => Reply::Listed(name),
             None => Reply::Refused(Refusal::NoEntry),
+        },
+        Err(refusal) => Reply::Refused(refusal),
+    }
+}
+
+/// A copy of a node's name.
+fn name(state: &State, key: Key, alloc: Global) -> Reply
+    ensures { TextOr (λ text. option_map (λ r. r.name) (record_at state.now.tree key) ≡ Some text)
+        (λ why. Unit {0}) result }
+{
+    match state.name_of(key) {
+        Ok(name) => match name.to_vec(alloc) {
+            Ok(copy) => Reply::Text(copy),
+            Err(_) => Reply::Refused(Refusal::NoMemory),
         },
         Err(refusal) => Reply::Refused(refusal),
     }
@@ -65,6 +81,16 @@ fn answer<N: Naming>(locked: &mut Locked<N>, question: Question<'_>) -> Reply
         },
         Question::ReadLink(key) => match locked.state().target_text(key) {
             Ok(text) => Reply::Text(text),
+            Err(refusal) => Reply::Refused(refusal),
+        },
+        Question::Parent(key) => match locked.state().parent_of(key) {
+            Ok(Some(parent)) => Reply::Named(parent),
+            Ok(None) => Reply::Refused(Refusal::Invalid),
+            Err(refusal) => Reply::Refused(refusal),
+        },
+        Question::Name { key, alloc } => name(locked.state(), key, alloc),
+        Question::Path(key) => match locked.state().path_of(key) {
+            Ok(path) => Reply::Text(path),
             Err(refusal) => Reply::Refused(refusal),
         },
         Question::Hold(key) => match locked.hold(key) {

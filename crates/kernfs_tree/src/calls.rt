@@ -1,8 +1,8 @@
 //! The calls of a program. Each answers 0 or more, or a Linux error number below 0, and then nothing changed.
 ghost use Rattle.std.specs.Prelude.{◌≡◌, ◌≢◌, ◌⊎◌, pos, negsuc, false, true};
 ghost use Rattle.kf_core.specs.declared.key.Node.TheVariants as kind;
-ghost use Rattle.kernfs_tree.specs.Answers.{IsAsBefore};
-ghost use Rattle.kernfs_tree.specs.Calls.{key_in, CreatedIn, FoundIn, WalkedIn, IsLinkedIn, IsNewTree, HoldsNode, RootIn, ActivatedIn, MovedIn, CompactedIn, ClaimedIn, IsNothing};
+ghost use Rattle.kernfs_tree.specs.Answers.{IsAsBefore, Wrote};
+ghost use Rattle.kernfs_tree.specs.Calls.{key_in, CreatedIn, FoundIn, WalkedIn, IsLinkedIn, IsNewTree, HoldsNode, RootIn, ActivatedIn, MovedIn, CompactedIn, ClaimedIn, IsNothing, ToldIn, NextIn, LinkTextIn, ParentIn, NameIn, PathIn};
 ghost use Rattle.kernfs_tree.specs.Steps.{WasEntered, WasRefused, WasLeft, WasBroken, WasRestored, wake_of};
 
 use crate::handle::KtHandle;
@@ -206,29 +206,61 @@ pub extern "C" fn kt_walk(tree: &mut KtHandle, path: &[u8], out: &mut KtKey) -> 
 #[unsafe(no_mangle)]
 pub extern "C" fn kt_next(tree: &mut KtHandle, dir: KtKey, after: &[u8], out: &mut [u8]) -> i64
     ensures tree { IsAsBefore tree.old.place.object tree.new.place.object }
+    ensures told { Wrote (NextIn tree.old.place.object tree.new.place.object dir after.now)
+        result out.old out.new }
 {
-    let dir = Key {
-        slot: dir.slot,
-        generation: dir.generation,
-    };
-    replies::text(tree, Question::Next { dir, after }, out)
+    replies::next(tree, dir, after, out)
 }
 
 /// What is told of a node.
 #[unsafe(no_mangle)]
 pub extern "C" fn kt_stat(tree: &mut KtHandle, key: KtKey, out: &mut KtStat) -> i32
+    ensures told { result ≡ pos 0 → ToldIn tree.old.place.object tree.new.place.object key out.new }
     ensures tree { IsAsBefore tree.old.place.object tree.new.place.object }
     ensures kept { result ≢ pos 0 → out.new ≡ out.old }
 {
-    replies::tell(tree, key_of(key), out)
+    replies::tell(tree, key, out)
 }
 
 /// The text of a link (`kernfs_get_target_path`).
 #[unsafe(no_mangle)]
 pub extern "C" fn kt_readlink(tree: &mut KtHandle, key: KtKey, out: &mut [u8]) -> i64
     ensures tree { IsAsBefore tree.old.place.object tree.new.place.object }
+    ensures told { Wrote (LinkTextIn tree.old.place.object tree.new.place.object key)
+        result out.old out.new }
 {
     replies::text(tree, Question::ReadLink(key_of(key)), out)
+}
+
+/// The directory of a node (`kernfs_get_parent`).
+#[unsafe(no_mangle)]
+pub extern "C" fn kt_parent(tree: &mut KtHandle, key: KtKey, out: &mut KtKey) -> i32
+    ensures told { result ≡ pos 0 → ParentIn tree.old.place.object tree.new.place.object key out.new }
+    ensures kept { result ≢ pos 0 →
+        IsAsBefore tree.old.place.object tree.new.place.object × (out.new ≡ out.old) }
+{
+    replies::name(tree, Question::Parent(key_of(key)), out)
+}
+
+/// The name of a node (`kernfs_name`).
+#[unsafe(no_mangle)]
+pub extern "C" fn kt_name(alloc: Global, tree: &mut KtHandle, key: KtKey, out: &mut [u8]) -> i64
+    ensures tree { IsAsBefore tree.old.place.object tree.new.place.object }
+    ensures told { Wrote (NameIn tree.old.place.object tree.new.place.object key)
+        result out.old out.new }
+{
+    let key = key_of(key);
+    replies::text(tree, Question::Name { key, alloc }, out)
+}
+
+/// The path of a node (`kernfs_path_from_node` from the root).
+#[unsafe(no_mangle)]
+pub extern "C" fn kt_path(tree: &mut KtHandle, key: KtKey, out: &mut [u8]) -> i64
+    ensures tree { IsAsBefore tree.old.place.object tree.new.place.object }
+    ensures told { Wrote (PathIn tree.old.place.object tree.new.place.object key)
+        result out.old out.new }
+{
+    replies::text(tree, Question::Path(key_of(key)), out)
 }
 
 /// Makes the list of the stored commands as short as may be.

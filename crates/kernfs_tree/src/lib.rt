@@ -16,8 +16,9 @@ mod steps;
 
 pub use calls::{
     kt_activate, kt_break, kt_claim, kt_clear, kt_compact, kt_create_dir, kt_create_file,
-    kt_create_link, kt_create_root, kt_delete, kt_enter, kt_find, kt_hold, kt_leave, kt_new,
-    kt_next, kt_readlink, kt_remove, kt_rename, kt_restore, kt_root, kt_stat, kt_walk,
+    kt_create_link, kt_create_root, kt_delete, kt_enter, kt_find, kt_hold, kt_leave, kt_name,
+    kt_new, kt_next, kt_parent, kt_path, kt_readlink, kt_remove, kt_rename, kt_restore, kt_root,
+    kt_stat, kt_walk,
 };
 pub use handle::KtHandle;
 pub use replies::{KtKey, KtStat};

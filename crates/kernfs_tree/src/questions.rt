@@ -3,6 +3,7 @@ use crate::holds::Held;
 use kf_core::{Key, Node, Refusal};
 use kf_index::Name;
 use kf_tree::Stat;
+use std::alloc::Global;
 
 /// What is asked of a tree.
 #[derive(Clone, Copy)]
@@ -32,6 +33,15 @@ pub enum Question<'a> {
     Tell(Key),
     /// The text of a link.
     ReadLink(Key),
+    /// The directory of a node.
+    Parent(Key),
+    /// The name of a node, copied by this allocator.
+    Name {
+        key: Key,
+        alloc: Global,
+    },
+    /// The path of a node.
+    Path(Key),
     /// A hold of a node.
     Hold(Key),
     /// The subtree made live.

@@ -1,7 +1,7 @@
 //! What the calls of a program do to what lies behind its handles, and the numbers that they answer.
 ghost use Rattle.std.specs.Prelude.{◌≡◌, ◌≢◌, true, false, pos, negsuc};
-ghost use Rattle.kernfs_tree.specs.Answers.{Answered, AnsweredBehind, OfTrees, IsAsBefore, is_change, is_naming, is_reading};
-ghost use Rattle.kernfs_tree.specs.Calls.{IsNewTree, HoldsNode, IsLinkedIn, ClaimedIn, IsNothing};
+ghost use Rattle.kernfs_tree.specs.Answers.{Answered, AnsweredBehind, OfTrees, IsAsBefore, IsTextOf, Wrote, is_change, is_naming, is_reading};
+ghost use Rattle.kernfs_tree.specs.Calls.{IsNewTree, HoldsNode, IsLinkedIn, ClaimedIn, IsNothing, ToldIn, NextIn, stat_in_c};
 ghost use Rattle.kernfs_tree.specs.declared.questions.Reply.TheVariants as told;
 
 use crate::answers::ask_object;
@@ -117,11 +117,13 @@ pub fn remove(handle: &mut KtHandle, key: KtKey) -> i32
 }
 
 /// Asks what is told of a node, and writes it.
-pub fn tell(handle: &mut KtHandle, key: Key, out: &mut KtStat) -> i32
+pub fn tell(handle: &mut KtHandle, key: KtKey, out: &mut KtStat) -> i32
+    ensures told { result ≡ pos 0 → ToldIn handle.old.place.object handle.new.place.object key out.new }
     ensures tree { IsAsBefore handle.old.place.object handle.new.place.object }
     ensures kept { result ≢ pos 0 → out.new ≡ out.old }
 {
-    match replace_with(handle, Question::Tell(key), ask_handle) {
+    let question = Question::Tell(key_of(key));
+    match replace_with(handle, question, ask_handle) {
         Reply::Told(stat) => {
             *out = told_of(stat);
             0
@@ -132,7 +134,9 @@ pub fn tell(handle: &mut KtHandle, key: Key, out: &mut KtStat) -> i32
 }
 
 /// What is told of a node, as C sees it.
-fn told_of(stat: Stat) -> KtStat {
+fn told_of(stat: Stat) -> KtStat
+    ensures { result ≡ stat_in_c stat }
+{
     let nowhere = KtKey {
         slot: 0,
         generation: 0,
@@ -163,21 +167,42 @@ fn told_of(stat: Stat) -> KtStat {
 }
 
 /// The number of bytes, copied to the front of `out`; -ERANGE where they do not fit there.
-fn copied(bytes: &[u8], out: &mut [u8]) -> i64 {
+fn copied(bytes: &[u8], out: &mut [u8]) -> i64
+    ensures { Wrote (λ text. text ≡ bytes.now) result out.old out.new }
+{
+    let Ok(count) = i64::try_from(bytes.len()) else {
+        return i64::from(RANGE);
+    };
     if bytes.len() > out.len() {
         return i64::from(RANGE);
     }
     out[..bytes.len()].copy_from_slice(bytes);
-    bytes.len() as i64
+    count
 }
 
-/// Asks for a text or a name, and copies it.
+/// Asks for a text, and copies it.
 pub fn text(handle: &mut KtHandle, question: Question<'_>, out: &mut [u8]) -> i64
     requires { is_reading question ≡ true }
     ensures tree { IsAsBefore handle.old.place.object handle.new.place.object }
+    ensures told { Wrote
+        (IsTextOf question.entry handle.old.place.object handle.new.place.object)
+        result out.old out.new }
 {
     match replace_with(handle, question, ask_handle) {
         Reply::Text(text) => copied(text.as_slice(), out),
+        Reply::Refused(refusal) => i64::from(error_of(refusal)),
+        _ => i64::from(INVALID),
+    }
+}
+
+/// Asks for the name of the next child, and copies it.
+pub fn next(handle: &mut KtHandle, dir: KtKey, after: &[u8], out: &mut [u8]) -> i64
+    ensures tree { IsAsBefore handle.old.place.object handle.new.place.object }
+    ensures told { Wrote
+        (NextIn handle.old.place.object handle.new.place.object dir after.now) result out.old out.new }
+{
+    let dir = key_of(dir);
+    match replace_with(handle, Question::Next { dir, after }, ask_handle) {
         Reply::Listed(name) => copied(name.bytes(), out),
         Reply::Refused(refusal) => i64::from(error_of(refusal)),
         _ => i64::from(INVALID),
