@@ -23,22 +23,22 @@ use kf_core::{Key, Node, Refusal};
 use kf_tree::State;
 use kf_words::{Call, Drained, Hidden, Hiding, Hold, Parted};
 use std::marker::Model;
-use std::sync::MutexGuard;
+use std::sync::RwLockWriteGuard;
 
 /// The tree while its lock is held. To a contract it is what the lock keeps.
 #[derive(Drop)]
 pub struct Editor<'a, N: Naming> {
     pub(crate) tree: &'a SharedTree<N>,
-    pub(crate) guard: MutexGuard<'a, Locked<N>>,
+    pub(crate) guard: RwLockWriteGuard<'a, Locked<N>>,
 }
 
 impl<'a, N: Naming> Model for Editor<'a, N> {
-    ghost use Rattle.std.specs.Sync.Mutex.{mutex_guard_value};
+    ghost use Rattle.std.specs.Sync.RwLock.{write_guard_value};
     ghost use Rattle.kf_shared.specs.Locked.{Locked};
 
     ghost Value = { Locked };
 
-    ghost view = { λ s. mutex_guard_value s.guard };
+    ghost view = { λ s. write_guard_value s.guard };
 }
 
 impl<N: Naming> Editor<'_, N> {
@@ -179,9 +179,9 @@ impl<N: Naming> Editor<'_, N> {
     /// Condition: the hold is of this table.
     ///
     /// Refusals, in order: IsDir, Invalid (a link), by the hold's own node; NoEntry (not linked, or doomed),
-    /// Busy (hidden), NoMemory. After a refusal the tree is as before and the hold comes back; where it was
-    /// Busy because the word had the key hidden, and the tree had not, it comes after NoMemory and the hold
-    /// has made one step.
+    /// Busy (hidden), NoMemory. After a refusal the tree is as before and the hold comes back. One case
+    /// differs: somebody hid the key by [`Hold::hide`], beside the tree. Then Busy comes after NoMemory, and
+    /// the hold has made one word step.
     pub fn hide(&mut self, hold: Hold) -> Result<Hiding, (Hold, Refusal)>
         requires table { hold.table ≡ N.table }
         ensures hiding { IfOk result (λ hiding. IsSameSeat hold hiding × WasHidden hold hiding) }

@@ -18,7 +18,8 @@ use kf_words::Parted;
 use std::sync::Wait;
 
 impl<N: Naming> Editor<'_, N> {
-    /// As `begin_removal`, of the node of a key: it takes a hold of it first, which is the removal's last.
+    /// Begins the removal of the node of this key, as `begin_removal` does that of a hold's node. It takes
+    /// the hold itself, which is the last of the removal's holds.
     ///
     /// Refusals, in order: NoEntry (not linked), Invalid (the root), TooManyHolds or NoMemory, whichever is
     /// met first. After a refusal nothing is marked.

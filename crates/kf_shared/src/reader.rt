@@ -6,21 +6,22 @@ use crate::locked::Locked;
 use crate::naming::Naming;
 use kf_tree::State;
 use std::marker::Model;
-use std::sync::MutexGuard;
+use std::sync::RwLockReadGuard;
 
-/// The tree while its lock is held to look alone. To a contract it is what the lock keeps.
+/// The tree while its lock is held to look alone: many threads may have a `Reader` at once, and none an
+/// [`Editor`](crate::Editor) meanwhile. To a contract it is what the lock keeps.
 #[derive(Drop)]
 pub struct Reader<'a, N: Naming> {
-    pub(crate) guard: MutexGuard<'a, Locked<N>>,
+    pub(crate) guard: RwLockReadGuard<'a, Locked<N>>,
 }
 
 impl<'a, N: Naming> Model for Reader<'a, N> {
-    ghost use Rattle.std.specs.Sync.Mutex.{mutex_guard_value};
+    ghost use Rattle.std.specs.Sync.RwLock.{read_guard_value};
     ghost use Rattle.kf_shared.specs.Locked.{Locked};
 
     ghost Value = { Locked };
 
-    ghost view = { λ s. mutex_guard_value s.guard };
+    ghost view = { λ s. read_guard_value s.guard };
 }
 
 impl<N: Naming> Reader<'_, N> {

@@ -46,7 +46,9 @@ impl<N: Naming> SharedTree<N> {
         unreachable!()
     }
 
-    /// Finishes each hold in turn. There is room for the receipts.
+    /// Finishes the holds one after the other, and adds the receipt of each to `receipts`.
+    ///
+    /// Conditions: all are of this tree's table, and `receipts` has room for one more of each hold.
     ///
     /// Context: sleeps; takes the tree's lock, which its caller must not have.
     pub fn finish_each<R: Wait>(
@@ -136,8 +138,8 @@ impl<N: Naming> Editor<'_, N> {
     /// Dooms the subtree of the hold's node, lets the lock go, and waits until each of its nodes is drained
     /// and out of the tree (`kernfs_remove`). What was looked up under this lock is what is removed: the
     /// receipts are of the subtree as this tree has it, in post-order, the given hold's last. Where the node
-    /// is no longer linked, the receipt is for it alone. Its caller need not let the lock go, and may not
-    /// have it any more; it may never return, as [`SharedTree::remove`].
+    /// is no longer linked, the receipt is for it alone. The call takes the `Editor` and lets the lock go
+    /// itself. Like [`SharedTree::remove`] it may never return.
     ///
     /// Condition: the hold is of this table.
     ///

@@ -14,7 +14,7 @@ use kf_tree::State;
 use kf_words::{Master, Words};
 use std::alloc::{AllocError, Global};
 use std::marker::{Brand, Model, PhantomData};
-use std::sync::{Mutex, Wait};
+use std::sync::{RwLock, Wait};
 
 /// A tree with its words, which has no name yet: [`NewTree::named`] makes of it the tree that threads share.
 #[derive(Drop)]
@@ -81,7 +81,7 @@ impl NewTree {
         } = self;
         SharedTree {
             alloc,
-            lock: Mutex::new(Locked {
+            lock: RwLock::new(Locked {
                 alloc,
                 state,
                 master,
@@ -118,7 +118,7 @@ impl<N: Naming> Locked<N> {
 #[derive(Drop)]
 pub struct SharedTree<N: Naming> {
     pub(crate) alloc: Global,
-    lock: Mutex<Locked<N>>,
+    lock: RwLock<Locked<N>>,
 }
 
 impl SharedTree<Brand> {
@@ -165,8 +165,8 @@ impl SharedTree<Brand> {
 }
 
 impl<N: Naming> SharedTree<N> {
-    /// Waits until nobody else has the one lock. Whenever it is got, the tree is lawful and the replay of its
-    /// commands, and the words name the same linked, activated and doomed keys.
+    /// Waits until nobody else has the one lock, to look or to change. Whenever it is got, the tree is
+    /// lawful and the replay of its commands, and the words name the same linked, activated and doomed keys.
     ///
     /// The lock is not reentrant: one who has an [`Editor`] and calls `edit`, `read`, `finish`, `remove`,
     /// `remove_self`, `hide` or `show` of the same tree waits for itself. So may one who waits under it for a
@@ -180,21 +180,22 @@ impl<N: Naming> SharedTree<N> {
     {
         let editor = Editor {
             tree: self,
-            guard: self.lock.lock(rt),
+            guard: self.lock.write(rt),
         };
         let _ = editor.state();
         editor
     }
 
-    /// Waits for the lock as one who only looks: a [`Reader`] can change nothing. What holds of the tree is
-    /// what `edit` tells, and what may not be called over an [`Editor`] may not be called over a `Reader`.
+    /// Waits until nobody changes the tree, as one of any number who look at once: a [`Reader`] can change
+    /// nothing. What holds of the tree is what `edit` tells. What may not be called over an [`Editor`] may
+    /// not be called over a `Reader`: nor may a second `read`, since one who waits to edit may be let in first.
     ///
     /// Context: sleeps; takes the tree's lock, which its caller must not have.
     pub fn read<R: Wait>(&self, rt: &R) -> Reader<'_, N>
         ensures { IsWhole N.table result }
     {
         let reader = Reader {
-            guard: self.lock.lock(rt),
+            guard: self.lock.read(rt),
         };
         let _ = reader.state();
         reader

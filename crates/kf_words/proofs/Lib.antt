@@ -23,3 +23,5 @@ pub mod Made
 pub mod MasterMade
 pub mod Waits
 pub mod Life
+pub mod Tokens
+pub mod Crossing

@@ -11,9 +11,10 @@ use crate::receipt::Drained;
 use std::sync::Wait;
 
 impl Drained {
-    /// Sleeps while somebody uses the node again: a caller that broke its protection and restored it, or one
-    /// whose refused try is not yet taken back. With no user there it sleeps for a millisecond at most. It
-    /// may return for no reason, and makes no step on the slot's active word or hold word.
+    /// Sleeps while the drained node is in use again. Two things can use it: a caller that had broken its
+    /// protection restores it, or a try was refused and its count is not yet taken back. It wakes when the
+    /// last user leaves, or after a millisecond where there is none, and may wake earlier. It makes no step
+    /// on the slot's active word or hold word.
     ///
     /// Context: sleeps; takes no lock.
     pub fn rest<R: Wait>(&mut self, rt: &R)

@@ -12,6 +12,7 @@ mod layout;
 mod master;
 mod master_seat;
 mod master_steps;
+mod master_token;
 mod nodes;
 mod plays;
 mod quiet;

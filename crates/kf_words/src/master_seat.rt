@@ -5,16 +5,15 @@ ghost use Rattle.kf_words.specs.Layout.{line_words};
 ghost use Rattle.kf_words.specs.Steps.{master_of};
 ghost use Rattle.kf_words.specs.declared.view.View.TheVariants as seat_of;
 
+use crate::master_token::MasterToken;
 use crate::table::WordTable;
-use crate::view::View;
-use atomic_table::Seat;
 use std::sync::Arc;
 
 /// The seat of the Master at the table of words.
 #[derive(Drop)]
 pub(crate) struct MasterSeat {
     pub(crate) table: Arc<WordTable>,
-    pub(crate) token: Seat<(), View>,
+    pub(crate) token: MasterToken,
     ghost of_table: { token.table_id ≡ (arc_value table).shared.table_id },
     ghost a_master: { token.me ≡ (seat_of.Master (master_of token.me.0), []) },
     ghost lines: { (arc_value table).shared.table_id.words

@@ -49,7 +49,8 @@ impl MasterSeat {
         ensures slot { TellsSlot (master_view self.old) slot result }
     {
         let word = self.hold_index(slot);
-        self.table.shared.load::<LoadsHold>(&mut self.token, word)
+        let token = &mut self.token;
+        self.table.shared.load::<LoadsHold>(&mut token.seat, word)
     }
 
     /// Counts one hold more, which no seat has yet.
@@ -61,9 +62,10 @@ impl MasterSeat {
         ensures view { master_view self.new ≡ with_pin slot (master_view self.old) }
     {
         let word = self.hold_index(slot);
+        let token = &mut self.token;
         self.table
             .shared
-            .fetch_add::<PinsHold>(&mut self.token, word, 1);
+            .fetch_add::<PinsHold>(&mut token.seat, word, 1);
     }
 
     /// Takes back a hold that no seat has.
@@ -74,9 +76,10 @@ impl MasterSeat {
         ensures view { master_view self.new ≡ without_pin slot (master_view self.old) }
     {
         let word = self.hold_index(slot);
+        let token = &mut self.token;
         self.table
             .shared
-            .fetch_sub::<UnpinsHold>(&mut self.token, word, 1);
+            .fetch_sub::<UnpinsHold>(&mut token.seat, word, 1);
     }
 
     /// A new seat gets the hold.
@@ -90,7 +93,8 @@ impl MasterSeat {
             ≡ (seat_of.Caller (new_hold (last_key slot (state_at (master_view self.old) slot))), []) }
     {
         let _ = slot; // the contract alone names it
-        self.table.shared.split_seat::<SplitsHold>(&mut self.token)
+        let token = &mut self.token;
+        self.table.shared.split_seat::<SplitsHold>(&mut token.seat)
     }
 
     /// Stores the active word of a new node in a free slot.
@@ -101,9 +105,10 @@ impl MasterSeat {
         ensures view { master_view self.new ≡ after_store slot (master_view self.old) }
     {
         let word = self.active_index(slot);
+        let token = &mut self.token;
         self.table
             .shared
-            .store::<StoresFresh>(&mut self.token, word, BIAS);
+            .store::<StoresFresh>(&mut token.seat, word, BIAS);
     }
 
     /// Gives the slot its next generation, and links a node there.
@@ -114,9 +119,10 @@ impl MasterSeat {
         ensures view { master_view self.new ≡ with_birth slot (master_view self.old) }
     {
         let word = self.hold_index(slot);
+        let token = &mut self.token;
         self.table
             .shared
-            .fetch_add::<Births>(&mut self.token, word, GENERATION + LINKED);
+            .fetch_add::<Births>(&mut token.seat, word, GENERATION + LINKED);
     }
 
     /// Takes the bias off the active word of a slot.
@@ -127,9 +133,10 @@ impl MasterSeat {
         ensures made { WasMadeByMaster (takes_bias slot) (master_view self.old) (master_view self.new) }
     {
         let word = self.active_index(slot);
+        let token = &mut self.token;
         self.table
             .shared
-            .fetch_sub::<TakesBias>(&mut self.token, word, BIAS);
+            .fetch_sub::<TakesBias>(&mut token.seat, word, BIAS);
     }
 
     /// Marks the node of a slot, which has these marks, as doomed. It wakes nobody: one who waits for a node
@@ -143,9 +150,10 @@ impl MasterSeat {
     {
         let bits = mark_bits(marks);
         let word = self.active_index(slot);
+        let token = &mut self.token;
         self.table
             .shared
-            .fetch_add::<MarksNode>(&mut self.token, word, bits);
+            .fetch_add::<MarksNode>(&mut token.seat, word, bits);
     }
 
     /// Loads the active word of a slot.
@@ -155,7 +163,8 @@ impl MasterSeat {
         ensures view { master_view self.new ≡ with_look slot result (master_view self.old) }
     {
         let word = self.active_index(slot);
-        self.table.shared.load::<LooksOver>(&mut self.token, word)
+        let token = &mut self.token;
+        self.table.shared.load::<LooksOver>(&mut token.seat, word)
     }
 
     /// Takes the node of a slot out, whose active word the last step found drained.
@@ -166,9 +175,10 @@ impl MasterSeat {
         ensures view { master_view self.new ≡ without_node slot (master_view self.old) }
     {
         let word = self.hold_index(slot);
+        let token = &mut self.token;
         self.table
             .shared
-            .fetch_sub::<Unlinks>(&mut self.token, word, LINKED);
+            .fetch_sub::<Unlinks>(&mut token.seat, word, LINKED);
     }
 
     /// The first slot from 1 up that is found free. It loads no hold word of a slot where a node is linked,

@@ -31,21 +31,25 @@ impl WakeDue {
         WakeDue { slot, found }
     }
 
-    /// Whether a sleeper may wait for the word as the step left it.
+    /// Whether to wake the sleepers: the step took off the last user, and the node is doomed or hidden, which
+    /// is what they wait for.
     pub fn is_wanted(&self) -> bool
         ensures { result ≡ wants_wake (self.now.found - 1) }
     {
         ends_a_wait(self.found)
     }
 
-    /// Ends where nobody waits for the word as the step left it.
+    /// Spends it with no wake.
+    ///
+    /// Condition: a wake is not wanted.
     pub fn none(self)
         requires { wants_wake (self.found - 1) ≡ false }
     {
         let WakeDue { slot: _, found: _ } = self;
     }
 
-    /// Ends by telling whether a wake is wanted, to a caller who has sleepers of its own or none.
+    /// Spends it with no wake, and tells whether one is wanted. For a caller that wakes its sleepers by its
+    /// own means, or has none.
     pub fn told(self) -> bool
         ensures { result ≡ wants_wake (self.found - 1) }
     {

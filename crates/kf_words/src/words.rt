@@ -10,6 +10,7 @@ use crate::blocks::block_of;
 use crate::layout::{BIAS, GENERATION, LINKED, active_index, hold_index};
 use crate::master::Master;
 use crate::master_seat::MasterSeat;
+use crate::master_token::MasterToken;
 use crate::table::{Opening, WordTable};
 use kf_core::{Limits, Marks, Node, Refusal, SlotState};
 use std::alloc::{AllocError, Global};
@@ -107,7 +108,7 @@ impl Words {
         let master = Master {
             steps: MasterSeat {
                 table: shared,
-                token,
+                token: MasterToken::new(token),
             },
             slots,
             nodes,

@@ -1,8 +1,10 @@
 use Rattle.std.proofs.Common.{◌≡◌, ℕ, length, rules, arith, sym, ap, ◌∙◌, subst}
 use Rattle.std.specs.Arc.{arc_value}
 use Rattle.kf_words.specs.declared.view.MasterView.{MasterView}
-use Rattle.kf_words.specs.Steps.{Seated, TellsSlot, master_of, with_load}
-use Rattle.kf_words.proofs.MasterAllowed.{hold_slot, told, load_allowed, keeps_master}
+use Rattle.kf_words.specs.Layout.{hold_index, slot_of}
+use Rattle.kf_words.specs.Steps.{Seated, TellsSlot, master_of, with_load, LoadsHold, On}
+use Rattle.kf_words.proofs.MasterAllowed.{hold_slot, load_allowed, keeps_master}
+use Rattle.kf_words.proofs.Tokens.{asked, told_of, of_master}
 use Rattle.kf_words.proofs.master_seat.MasterSeat.load_hold.Goals as goal
 
 pub load-requires : goal.load-requires
@@ -11,14 +13,14 @@ load-requires c =
     let words : c.deref.result.now.shared.table_id.words ≡ (arc_value self.table).shared.table_id.words = ap (λ t. t.shared.table_id.words) c.deref.ensures in
     let at = c.hold_index-word.ensures.here in
     let within = c.hold_index-word.ensures.within in
-    (search rules, omega arith, load_allowed c.deref.result.now.shared.key.slots _ _ _ self.token.me c.args.slot c.hold_index-word.result self.a_master (omega arith) c.requires)
+    (search rules, omega arith, asked _ _ c.token.view_is _ _ c.hold_index-word.result (λ n. n) (On hold_index LoadsHold) (load_allowed c.deref.result.now.shared.key.slots _ _ _ self.token.me c.args.slot c.hold_index-word.result self.a_master (omega arith) c.requires))
 
 pub invariant_of-self : goal.invariant_of-self
 invariant_of-self c =
     let self = c.args.self.now in
-    let now = told self.token.me c.load.new.seat.me c.args.slot c.hold_index-word.result c.load.result with_load self.a_master (hold_slot c.args.slot c.hold_index-word.result (sym c.hold_index-word.ensures.here)) c.load.ensures.2.1.0 in
+    let now = told_of _ _ c.token.view_is c.load.new.seat.me c.args.slot c.hold_index-word.result c.load.result with_load self.a_master (hold_slot c.args.slot c.hold_index-word.result (sym c.hold_index-word.ensures.here)) c.load.ensures.2.1.0 in
     record {
-      of_table = c.load.ensures.0 ∙ self.of_table;
+      of_table = c.load.ensures.0 ∙ ap (λ s. s.table_id) c.token.view_is ∙ self.of_table;
       a_master = keeps_master _ _ now;
       lines = self.lines;
       all_slots = ap (λ (x : Seated). length (master_of x.0).slots) now ∙ self.all_slots;
@@ -27,10 +29,10 @@ invariant_of-self c =
 pub returns-clause-view : goal.returns-clause-view
 returns-clause-view c =
     let self = c.args.self.now in
-    ap (λ (x : Seated). master_of x.0) (told self.token.me c.load.new.seat.me c.args.slot c.hold_index-word.result c.load.result with_load self.a_master (hold_slot c.args.slot c.hold_index-word.result (sym c.hold_index-word.ensures.here)) c.load.ensures.2.1.0)
+    ap (λ (x : Seated). master_of x.0) (told_of _ _ c.token.view_is c.load.new.seat.me c.args.slot c.hold_index-word.result c.load.result with_load self.a_master (hold_slot c.args.slot c.hold_index-word.result (sym c.hold_index-word.ensures.here)) c.load.ensures.2.1.0)
 
 pub returns-clause-slot : goal.returns-clause-slot
 returns-clause-slot c =
     let self = c.args.self.now in
     let m : MasterView = master_of self.token.me.0 in
-    subst (λ (k : ℕ). TellsSlot m k c.load.result) (hold_slot c.args.slot c.hold_index-word.result (sym c.hold_index-word.ensures.here)) c.load.ensures.2.1.1
+    subst (λ (k : ℕ). TellsSlot m k c.load.result) (hold_slot c.args.slot c.hold_index-word.result (sym c.hold_index-word.ensures.here)) (of_master _ _ c.token.view_is (λ (x : MasterView). TellsSlot x (slot_of c.hold_index-word.result) c.load.result) c.load.ensures.2.1.1)

@@ -1,11 +1,14 @@
 use Rattle.std.proofs.Common.{◌≡◌, length, length-set, rules, arith, sym, ap, ◌∙◌, ℕ, subst}
 use Rattle.std.proofs.lemmas.Option.{slice_get_within}
 use Rattle.std.specs.Arc.{arc_value}
+use Rattle.kf_words.specs.declared.view.MasterView.{MasterView}
+use Rattle.kf_words.specs.Layout.{active_index, slot_of}
 use Rattle.kf_words.specs.Steps.{Seated, master_of, unread, with_marks, doomed_marks}
-use Rattle.kf_words.specs.TableSteps.{marks_node}
-use Rattle.kf_words.specs.Made.{WasMadeByMaster}
-use Rattle.kf_words.proofs.MasterAllowed.{active_slot, told, keeps_master}
+use Rattle.kf_words.specs.TableSteps.{marks_node, plus}
+use Rattle.kf_words.specs.Made.{MasterMakes, WasMadeByMaster}
+use Rattle.kf_words.proofs.MasterAllowed.{active_slot, keeps_master}
 use Rattle.kf_words.proofs.MasterMade.{mark_made}
+use Rattle.kf_words.proofs.Tokens.{asked, told_of, of_master}
 use Rattle.kf_words.proofs.master_seat.MasterSeat.mark_node.Goals as goal
 
 pub active_index-word-requires : goal.active_index-word-requires
@@ -18,14 +21,14 @@ fetch_add-requires c =
     let at = c.active_index-word.ensures.here in
     let within = c.active_index-word.ensures.within in
     let q = c.requires.marks in
-    (search rules, omega arith, mark_made c.deref.result.now.shared.key.slots _ _ _ self.token.me c.args.slot self.a_master c.active_index-word.result q.0 c.args.marks c.mark_bits-bits.result (omega arith) q.1 q.2 c.requires.undoomed c.mark_bits-bits.ensures)
+    (search rules, omega arith, asked _ _ c.token.view_is _ _ c.active_index-word.result (plus c.mark_bits-bits.result) (MasterMakes active_index marks_node (unread (with_marks doomed_marks))) (mark_made c.deref.result.now.shared.key.slots _ _ _ self.token.me c.args.slot self.a_master c.active_index-word.result q.0 c.args.marks c.mark_bits-bits.result (omega arith) q.1 q.2 c.requires.undoomed c.mark_bits-bits.ensures))
 
 pub invariant_of-self : goal.invariant_of-self
 invariant_of-self c =
     let self = c.args.self.now in
-    let now = told self.token.me c.fetch_add.new.seat.me c.args.slot c.active_index-word.result c.fetch_add.result (unread (with_marks doomed_marks)) self.a_master (active_slot c.args.slot c.active_index-word.result (sym c.active_index-word.ensures.here)) c.fetch_add.ensures.2.1.0 in
+    let now = told_of _ _ c.token.view_is c.fetch_add.new.seat.me c.args.slot c.active_index-word.result c.fetch_add.result (unread (with_marks doomed_marks)) self.a_master (active_slot c.args.slot c.active_index-word.result (sym c.active_index-word.ensures.here)) c.fetch_add.ensures.2.1.0 in
     record {
-      of_table = c.fetch_add.ensures.0 ∙ self.of_table;
+      of_table = c.fetch_add.ensures.0 ∙ ap (λ s. s.table_id) c.token.view_is ∙ self.of_table;
       a_master = keeps_master _ _ now;
       lines = self.lines;
       all_slots = ap (λ (x : Seated). length (master_of x.0).slots) now ∙ length-set (master_of self.token.me.0).slots c.args.slot _ ∙ self.all_slots;
@@ -35,4 +38,4 @@ pub returns-clause-made : goal.returns-clause-made
 returns-clause-made c =
     let self = c.args.self.now in
     subst (λ (k : ℕ). WasMadeByMaster (marks_node k) (master_of self.token.me.0) (master_of c.fetch_add.new.seat.me.0))
-    (active_slot c.args.slot c.active_index-word.result (sym c.active_index-word.ensures.here)) c.fetch_add.ensures.2.1.1
+    (active_slot c.args.slot c.active_index-word.result (sym c.active_index-word.ensures.here)) (of_master _ _ c.token.view_is (λ (x : MasterView). WasMadeByMaster (marks_node (slot_of c.active_index-word.result)) x (master_of c.fetch_add.new.seat.me.0)) c.fetch_add.ensures.2.1.1)

@@ -1,11 +1,14 @@
 use Rattle.std.proofs.Common.{◌≡◌, length, length-set, rules, arith, sym, ap, ◌∙◌, ℕ, subst}
 use Rattle.std.proofs.lemmas.Option.{slice_get_within}
 use Rattle.std.specs.Arc.{arc_value}
+use Rattle.kf_words.specs.declared.view.MasterView.{MasterView}
+use Rattle.kf_words.specs.Layout.{bias, active_index, slot_of}
 use Rattle.kf_words.specs.Steps.{Seated, master_of, unread, with_marks, activated_marks}
-use Rattle.kf_words.specs.TableSteps.{takes_bias}
-use Rattle.kf_words.specs.Made.{WasMadeByMaster}
-use Rattle.kf_words.proofs.MasterAllowed.{active_slot, told, keeps_master}
+use Rattle.kf_words.specs.TableSteps.{minus, takes_bias}
+use Rattle.kf_words.specs.Made.{MasterMakes, WasMadeByMaster}
+use Rattle.kf_words.proofs.MasterAllowed.{active_slot, keeps_master}
 use Rattle.kf_words.proofs.MasterMade.{rise_made}
+use Rattle.kf_words.proofs.Tokens.{asked, told_of, of_master}
 use Rattle.kf_words.proofs.master_seat.MasterSeat.take_bias.Goals as goal
 
 pub active_index-word-requires : goal.active_index-word-requires
@@ -18,14 +21,14 @@ fetch_sub-requires c =
     let at = c.active_index-word.ensures.here in
     let within = c.active_index-word.ensures.within in
     let q = c.requires in
-    (search rules, omega arith, rise_made c.deref.result.now.shared.key.slots _ _ _ self.token.me c.args.slot self.a_master c.active_index-word.result q.0 (omega arith) q.1 q.2)
+    (search rules, omega arith, asked _ _ c.token.view_is _ _ c.active_index-word.result (minus bias) (MasterMakes active_index takes_bias (unread (with_marks activated_marks))) (rise_made c.deref.result.now.shared.key.slots _ _ _ self.token.me c.args.slot self.a_master c.active_index-word.result q.0 (omega arith) q.1 q.2))
 
 pub invariant_of-self : goal.invariant_of-self
 invariant_of-self c =
     let self = c.args.self.now in
-    let now = told self.token.me c.fetch_sub.new.seat.me c.args.slot c.active_index-word.result c.fetch_sub.result (unread (with_marks activated_marks)) self.a_master (active_slot c.args.slot c.active_index-word.result (sym c.active_index-word.ensures.here)) c.fetch_sub.ensures.2.1.0 in
+    let now = told_of _ _ c.token.view_is c.fetch_sub.new.seat.me c.args.slot c.active_index-word.result c.fetch_sub.result (unread (with_marks activated_marks)) self.a_master (active_slot c.args.slot c.active_index-word.result (sym c.active_index-word.ensures.here)) c.fetch_sub.ensures.2.1.0 in
     record {
-      of_table = c.fetch_sub.ensures.0 ∙ self.of_table;
+      of_table = c.fetch_sub.ensures.0 ∙ ap (λ s. s.table_id) c.token.view_is ∙ self.of_table;
       a_master = keeps_master _ _ now;
       lines = self.lines;
       all_slots = ap (λ (x : Seated). length (master_of x.0).slots) now ∙ length-set (master_of self.token.me.0).slots c.args.slot _ ∙ self.all_slots;
@@ -34,11 +37,11 @@ invariant_of-self c =
 pub returns-clause-view : goal.returns-clause-view
 returns-clause-view c =
     let self = c.args.self.now in
-    let now = told self.token.me c.fetch_sub.new.seat.me c.args.slot c.active_index-word.result c.fetch_sub.result (unread (with_marks activated_marks)) self.a_master (active_slot c.args.slot c.active_index-word.result (sym c.active_index-word.ensures.here)) c.fetch_sub.ensures.2.1.0 in
+    let now = told_of _ _ c.token.view_is c.fetch_sub.new.seat.me c.args.slot c.active_index-word.result c.fetch_sub.result (unread (with_marks activated_marks)) self.a_master (active_slot c.args.slot c.active_index-word.result (sym c.active_index-word.ensures.here)) c.fetch_sub.ensures.2.1.0 in
     ap (λ (x : Seated). master_of x.0) now
 
 pub returns-clause-made : goal.returns-clause-made
 returns-clause-made c =
     let self = c.args.self.now in
     subst (λ (k : ℕ). WasMadeByMaster (takes_bias k) (master_of self.token.me.0) (master_of c.fetch_sub.new.seat.me.0))
-    (active_slot c.args.slot c.active_index-word.result (sym c.active_index-word.ensures.here)) c.fetch_sub.ensures.2.1.1
+    (active_slot c.args.slot c.active_index-word.result (sym c.active_index-word.ensures.here)) (of_master _ _ c.token.view_is (λ (x : MasterView). WasMadeByMaster (takes_bias (slot_of c.active_index-word.result)) x (master_of c.fetch_sub.new.seat.me.0)) c.fetch_sub.ensures.2.1.1)
