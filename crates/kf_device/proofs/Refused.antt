@@ -1,6 +1,6 @@
 -- Why a node that was found by its name is not removed.
-use Rattle.std.proofs.Common.{◌≡◌, ◌≢◌, inl, inr, refl, ap, sym, ◌∙◌, subst, true, false, Bool, [], ◌∷◌}
-use Rattle.std.specs.Prelude.{None, Some, not}
+use Rattle.std.proofs.Common.{◌≡◌, ◌≢◌, inl, inr, refl, ap, sym, ◌∙◌, true, false, [], ◌∷◌}
+use Rattle.std.specs.Prelude.{None, not, Result, Ok, Err, IfOk, IfErr, OnErr, MatchResult}
 use Rattle.std.proofs.lemmas.Option.{none-some}
 use Rattle.kf_core.specs.declared.key.Key.{Key}
 use Rattle.kf_core.specs.declared.refusal.Refusal.{Refusal}
@@ -24,3 +24,8 @@ no_cause s key linked root other = elim (same_key key s.root) as (λ b. same_key
 pub holds_refused : (s : TreeLog) (key : Key) (refusal : Refusal) → is_linked s.tree key ≡ true → s.root.slot ≡ 0 → key.slot ≢ 0 → KeyRefused s key refusal → HoldsRefusal refusal
 holds_refused s key refusal linked root other (inl h) = absurd (none-some refusal (sym (no_cause s key linked root other) ∙ h))
 holds_refused s key refusal linked root other (inr h) = h.1
+
+-- what was begun, or why nothing was, told as one
+pub begun_or_refused : {A E : Type 0} (P : A → Type 0) (Q : E → Type 0) (R : Type 0) (r : Result A E) → IfOk r P → IfErr r Q → OnErr r R → MatchResult r P (λ e. Q e × R)
+begun_or_refused P Q R (Ok a) begun refused same = begun
+begun_or_refused P Q R (Err e) begun refused same = (refused, same)

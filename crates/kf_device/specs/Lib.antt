@@ -2,4 +2,5 @@ pub mod Tags
 pub mod Faults
 pub mod Answers
 pub mod Texts
+pub mod Plugs
 pub mod Removals

@@ -5,39 +5,36 @@ ghost use Rattle.kf_core.specs.declared.refusal.Refusal.TheVariants.{NoMemory};
 ghost use Rattle.kf_core.specs.Names.{name_fault};
 ghost use Rattle.kf_device.specs.Removals.{UnplugRefusal};
 
-use crate::devices::{Devices, Files};
+use crate::devices::{Devices, Nodes};
 use crate::making::{Stopped, make};
-use crate::removal::{begin_at, finish, plug_at};
+use crate::removal::{begin_both, finish, finish_both, plug_at};
 use kf_core::{Key, Refusal};
 use kf_index::name_fault;
 use kf_shared::{Naming, SharedTree};
 use std::alloc::Global;
+use std::marker::PhantomData;
 use std::sync::{Mutex, Wait};
 
-/// Where devices have their directories.
-const DEVICES: &[u8] = b"/devices";
-
-/// Where devices have their links.
-const LINKS: &[u8] = b"/bus/devices";
-
-/// A bus with its devices (`struct bus_type`), and the callbacks of their files. Any number of threads may
-/// share it.
+/// A bus on the shared tree of this name, with its devices (`struct bus_type`), and the callbacks of their
+/// files. Any number of threads may share it.
 ///
 /// Its lock is a leaf: whoever has it takes no other lock and waits for nobody until it is let go.
 #[derive(Drop)]
-pub struct Bus {
+pub struct Bus<N: Naming> {
     pub(crate) devices: Mutex<Devices>,
+    name: PhantomData<N>,
 }
 
-impl Bus {
+impl<N: Naming> Bus<N> {
     /// A bus on which no plug has begun.
     ///
     /// Refusal: NoMemory, and no other. Today it takes no memory, so it refuses nothing.
-    pub fn new(alloc: Global) -> Result<Bus, Refusal>
+    pub fn new(alloc: Global) -> Result<Bus<N>, Refusal>
         ensures refused { IfErr result (λ refusal. refusal ≡ NoMemory) }
     {
         Ok(Bus {
             devices: Mutex::new(Devices::new(alloc)),
+            name: PhantomData,
         })
     }
 
@@ -69,7 +66,7 @@ impl Bus {
     /// have, and where its link is refused for the callbacks that run on the new files.
     ///
     /// Context: sleeps; takes the lock of the bus and the tree's, one at a time.
-    pub fn plug<N: Naming, R: Wait>(
+    pub fn plug<R: Wait>(
         &self,
         rt: &R,
         tree: &SharedTree<N>,
@@ -83,8 +80,8 @@ impl Bus {
         }
         self.sweep(rt, tree);
         let serial = self.begin(rt, name, value)?;
-        let mut files = Files::new();
-        let made = make(&mut tree.edit(rt), name, serial, &mut files);
+        let mut nodes = Nodes::new();
+        let made = make(&mut tree.edit(rt), name, serial, &mut nodes);
         let settled = match made {
             Ok(key) => Ok(key),
             Err(Stopped { refusal, begun }) => {
@@ -92,7 +89,7 @@ impl Bus {
                 Err(refusal)
             }
         };
-        self.devices.lock(rt).settle(serial, files);
+        self.devices.lock(rt).settle(serial, nodes);
         if settled.is_err() {
             self.forget_gone(rt, tree, serial);
         }
@@ -120,29 +117,18 @@ impl Bus {
     /// have, and for every callback that runs on the device's files, its caller's own among them.
     ///
     /// Context: sleeps; takes the lock of the bus and the tree's, one at a time.
-    pub fn unplug<N: Naming, R: Wait>(
-        &self,
-        rt: &R,
-        tree: &SharedTree<N>,
-        name: &[u8],
-    ) -> Result<(), Refusal>
+    pub fn unplug<R: Wait>(&self, rt: &R, tree: &SharedTree<N>, name: &[u8]) -> Result<(), Refusal>
         ensures refused { IfErr result (λ refusal. UnplugRefusal refusal) }
     {
         self.sweep(rt, tree);
         let mut editor = tree.edit(rt);
-        let plug = plug_at(editor.state(), DEVICES, name);
-        let link = begin_at(&mut editor, LINKS, name)?;
-        let dir = begin_at(&mut editor, DEVICES, name);
+        let plug = plug_at(editor.state(), name);
+        let begun = begin_both(&mut editor, name, None);
         drop(editor);
-        let was_linked = finish(rt, tree, link);
-        let was_there = finish(rt, tree, dir?);
+        let found = finish_both(rt, tree, begun?)?;
         if let Some(serial) = plug {
             self.forget_gone(rt, tree, serial);
         }
-        if was_linked || was_there {
-            Ok(())
-        } else {
-            Err(Refusal::NoEntry)
-        }
+        if found { Ok(()) } else { Err(Refusal::NoEntry) }
     }
 }

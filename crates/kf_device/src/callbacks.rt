@@ -1,5 +1,5 @@
 //! The callbacks of a device's files.
-ghost use Rattle.std.specs.Prelude.{◌≡◌, ◌≢◌, ◌<◌, ◌≤◌, [], Err, Some, None, length, take, decimal, true, MatchResult, IfErr, OnOk};
+ghost use Rattle.std.specs.Prelude.{◌≡◌, ◌≢◌, ◌<◌, ◌≤◌, [], Some, None, length, take, decimal, true, MatchResult, IfErr, OnOk};
 ghost use Rattle.kf_core.specs.Phases.{has_reference};
 ghost use Rattle.kf_core.specs.declared.caller.Phase.TheVariants.{Running, Restored};
 ghost use Rattle.kf_words.specs.Callers.{IsSameSeat};
@@ -26,7 +26,7 @@ fn put(page: &mut Page, bytes: &[u8])
     let _ = page.try_extend_from_slice(&bytes[..end]);
 }
 
-impl Bus {
+impl<N: Naming> Bus<N> {
     // Shows the value of a device.
     fn show_value<R: Wait>(&self, rt: &R, serial: u64, page: &mut Page) -> Result<(), Fault>
         requires empty { page.old.items ≡ [] }
@@ -67,16 +67,14 @@ impl Bus {
     }
 }
 
-impl WaitOps for Bus {
+impl<N: Naming> WaitOps<N> for Bus<N> {
     ghost may_show = { λ _ tag answer. MayShow tag answer };
 
     ghost may_store = { λ _ tag bytes answer. MayStore tag bytes answer };
 
-    ghost may_begin = { λ _ tag bytes answer. answer ≡ Err unknown };
-
     /// Shows a device's value, or the number of its plug in decimal. Fault 22 where the bus keeps no such
     /// value any more, or no such plug has begun, and for any other tag.
-    fn show<N: Naming, R: Wait>(
+    fn show<R: Wait>(
         &self,
         rt: &R,
         tree: &SharedTree<N>,
@@ -108,7 +106,7 @@ impl WaitOps for Bus {
     /// keeps it no more, Fault 12 where there was no memory. Of `delete`: the fault has the number of the
     /// refusal that was met; it may come once `delete` itself is removed, and then `unplug` removes the rest.
     /// Any other tag is Fault 22.
-    fn store<N: Naming, R: Wait>(
+    fn store<R: Wait>(
         &self,
         rt: &R,
         tree: &SharedTree<N>,
@@ -137,13 +135,5 @@ impl WaitOps for Bus {
             }
             DeviceFile::Serial => Err(unknown()),
         }
-    }
-
-    /// A bus makes its own files: Fault 22.
-    fn first<R: Wait>(&self, rt: &R, tag: u64, bytes: &[u8]) -> Result<(), Fault> {
-        let _ = rt;
-        let _ = tag;
-        let _ = bytes;
-        Err(unknown())
     }
 }

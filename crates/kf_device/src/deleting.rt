@@ -6,15 +6,17 @@ ghost use Rattle.kf_words.specs.Callers.{IsSameSeat};
 ghost use Rattle.kf_device.specs.Answers.{DeleteFault};
 
 use crate::bus::Bus;
+use crate::claim::{Claim, remove_file};
 use crate::faults::{fault_of, unknown};
-use kf_core::Refusal;
+use crate::removal::{begin_both, finish_both};
+use kf_core::{Key, Refusal};
 use kf_files::Fault;
 use kf_index::Name;
-use kf_shared::{Naming, SharedTree, release_all};
+use kf_shared::{Naming, SharedTree};
 use kf_words::Call;
 use std::sync::Wait;
 
-impl Bus {
+impl<N: Naming> Bus<N> {
     // A copy of a device's name.
     fn name_of<R: Wait>(&self, rt: &R, serial: u64) -> Result<Name, Fault>
         ensures refused { IfErr result (λ fault. DeleteFault fault) }
@@ -27,36 +29,59 @@ impl Bus {
         }
     }
 
-    // Unplugs the device on whose `delete` the call is. That it is unplugged already is no refusal.
-    //
-    // Condition: the call is Restored, so it broke its protection and is waited for by no removal: a
-    // removal waits for every call that is Running, and would wait for this one without end.
-    fn unplug_rest<N: Naming, R: Wait>(
+    // The key of the directory of the device on whose `delete` the call is. Where its plug has not told the
+    // bus yet, that is the directory in which the file stands.
+    fn dir_of<R: Wait>(
         &self,
         rt: &R,
         tree: &SharedTree<N>,
         call: &Call,
+        serial: u64,
+    ) -> Option<Key> {
+        let nodes = self.devices.lock(rt).nodes(serial);
+        match nodes {
+            Some(nodes) => nodes.dir,
+            None => tree.read(rt).state().parent_of(call.key()).ok()?,
+        }
+    }
+
+    // Unplugs the device on whose `delete` the call is: its link and its directory, each where it still has
+    // its name, and no later device of that name. That it is unplugged already is no refusal. The claim is
+    // that of the first self-removal of that file.
+    //
+    // Condition: the call is Restored, so it broke its protection and is waited for by no removal: a
+    // removal waits for every call that is Running, and would wait for this one without end.
+    fn unplug_rest<R: Wait>(
+        &self,
+        rt: &R,
+        tree: &SharedTree<N>,
+        call: &Call,
+        claim: Claim,
         name: &Name,
+        dir: Option<Key>,
         serial: u64,
     ) -> Result<(), Refusal>
         requires restored { call.now.phase ≡ Restored }
     {
         let _ = call;
-        match self.unplug(rt, tree, name.bytes()) {
-            Ok(()) | Err(Refusal::NoEntry) => {
-                self.forget_gone(rt, tree, serial);
-                Ok(())
-            }
-            Err(refusal) => Err(refusal),
-        }
+        let _ = claim;
+        let Some(dir) = dir else {
+            return Ok(());
+        };
+        let mut editor = tree.edit(rt);
+        let begun = begin_both(&mut editor, name.bytes(), Some(dir));
+        drop(editor);
+        finish_both(rt, tree, begun?)?;
+        self.forget_gone(rt, tree, serial);
+        Ok(())
     }
 
     /// Removes the `delete` that the call is on, from within its own callback, and then, for the first that
-    /// does so, the rest of the device (`device_remove_file_self`, then `device_unregister`). The name is
-    /// copied first, so that no lock is held from then on.
+    /// does so, the rest of the device (`device_remove_file_self`, then `device_unregister`). Its name and
+    /// its directory's key are copied first, so that no lock is held from then on.
     ///
     /// Conditions: the call is Running, and of this tree's table. After Ok it is Restored.
-    pub(crate) fn delete<N: Naming, R: Wait>(
+    pub(crate) fn delete<R: Wait>(
         &self,
         rt: &R,
         tree: &SharedTree<N>,
@@ -71,16 +96,15 @@ impl Bus {
         ensures refused { IfErr result (λ fault. DeleteFault fault) }
     {
         let name = self.name_of(rt, serial)?;
-        match tree.remove_self(rt, call) {
-            Ok((first, receipts)) => {
-                release_all(receipts);
-                if !first {
-                    return Ok(());
-                }
-            }
+        let dir = self.dir_of(rt, tree, call, serial);
+        let claimed = match remove_file(tree.edit(rt), rt, call) {
+            Ok(claimed) => claimed,
             Err(refusal) => return Err(fault_of(refusal)),
-        }
-        match self.unplug_rest(rt, tree, call, &name, serial) {
+        };
+        let Some(claim) = claimed else {
+            return Ok(());
+        };
+        match self.unplug_rest(rt, tree, call, claim, &name, dir, serial) {
             Ok(()) => Ok(()),
             Err(refusal) => Err(fault_of(refusal)),
         }

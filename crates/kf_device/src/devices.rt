@@ -1,5 +1,5 @@
 //! The texts that a bus keeps of its devices, by the number of each plug.
-ghost use Rattle.std.specs.Prelude.{◌≡◌, ◌≢◌, ◌≤◌, ℕ, ◌+◌, ◌^◌, ◌&&◌, nat_le, true, IfOk, IfErr, IfSome, IfNone, OnOk, OnErr, Some, None};
+ghost use Rattle.std.specs.Prelude.{◌≡◌, ◌≢◌, ◌≤◌, ℕ, ◌+◌, ◌^◌, ◌&&◌, nat_le, is_some, true, IfOk, IfErr, IfSome, IfNone, OnOk, OnErr, Some, None};
 ghost use Rattle.kf_core.specs.declared.refusal.Refusal.TheVariants.{NoMemory, NoSpace};
 
 use kf_core::{Key, Refusal};
@@ -12,24 +12,28 @@ use std::ops::Bound;
 /// The most plugs that may begin.
 const MOST: u64 = 1 << 60;
 
-/// The files of a device that ask for its texts, as far as they were made.
+/// The nodes of a device, as far as its plug has made them: its directory, and the files that ask for its
+/// texts.
 #[derive(Clone, Copy, Debug, PartialEq, Eq)]
-pub(crate) struct Files {
+pub(crate) struct Nodes {
+    pub(crate) dir: Option<Key>,
     pub(crate) value: Option<Key>,
     pub(crate) delete: Option<Key>,
 }
 
-impl Files {
+impl Nodes {
     /// None was made yet.
-    pub(crate) fn new() -> Files {
-        Files {
+    pub(crate) fn new() -> Nodes {
+        Nodes {
+            dir: None,
             value: None,
             delete: None,
         }
     }
 
-    /// Whether one of them is in the tree, wherever it was moved. A file that has left it never comes back.
-    pub(crate) fn are_linked(&self, state: &State) -> bool {
+    /// Whether one of its files is in the tree, wherever it was moved. A file that has left it never comes
+    /// back.
+    pub(crate) fn have_files(&self, state: &State) -> bool {
         is_linked(state, self.value) || is_linked(state, self.delete)
     }
 }
@@ -47,7 +51,7 @@ struct Device {
     name: Name,
     value: Vec<u8>,
     // None while its plug is under way.
-    files: Option<Files>,
+    nodes: Option<Nodes>,
 }
 
 /// The devices whose files may ask for their texts, and how many plugs have begun.
@@ -64,7 +68,7 @@ pub(crate) struct Devices {
 impl Devices {
     ghost use Rattle.std.specs.Ordering.{nat_cmp};
     ghost use Rattle.std.specs.BTreeMap.{get};
-    ghost use Rattle.kf_device.specs.Texts.{value_in, name_in};
+    ghost use Rattle.kf_device.specs.Texts.{value_in, name_in, nodes_in};
 
     /// No plug has begun.
     pub(crate) fn new(alloc: Global) -> Devices
@@ -109,18 +113,20 @@ impl Devices {
         let device = Device {
             name: Name::new(self.alloc, name)?,
             value: value.to_vec(self.alloc)?,
-            files: None,
+            nodes: None,
         };
         self.devices.insert(serial, device)?;
         Ok(())
     }
 
-    /// The plug is over, and has made these files.
-    pub(crate) fn settle(&mut self, serial: u64, files: Files)
+    /// The plug is over, and has made these nodes.
+    pub(crate) fn settle(&mut self, serial: u64, nodes: Nodes)
+        ensures settled { is_some (get nat_cmp self.old.devices serial) ≡ true →
+            nodes_in (get nat_cmp self.new.devices serial) ≡ Some nodes }
         ensures counted { self.new.begun ≡ self.old.begun }
     {
         if let Some(device) = self.devices.get_mut(&serial) {
-            device.files = Some(files);
+            device.nodes = Some(nodes);
         }
     }
 
@@ -157,9 +163,11 @@ impl Devices {
         }
     }
 
-    /// The files of a device whose plug is over.
-    pub(crate) fn files(&self, serial: u64) -> Option<Files> {
-        self.devices.get(&serial)?.files
+    /// The nodes of a device whose plug is over.
+    pub(crate) fn nodes(&self, serial: u64) -> Option<Nodes>
+        ensures own { result ≡ nodes_in (get nat_cmp self.now.devices serial) }
+    {
+        self.devices.get(&serial)?.nodes
     }
 
     /// Puts other bytes in place of a device's value. False where there is no such device.

@@ -3,6 +3,7 @@
 
 mod bus;
 mod callbacks;
+mod claim;
 mod deleting;
 mod devices;
 mod faults;

@@ -1,7 +1,8 @@
 //! What a plug makes in the tree, under one turn of its lock.
-ghost use Rattle.std.specs.Prelude.{◌≡◌, ◌≤◌, ◌^◌, None};
+ghost use Rattle.std.specs.Prelude.{◌≡◌, ◌≤◌, ◌^◌, None, IfOk, OnOk};
+ghost use Rattle.kf_device.specs.Plugs.{Filled, HasBase, HasBases, HasFile, Plugged};
 
-use crate::devices::Files;
+use crate::devices::Nodes;
 use crate::tags::{DeviceFile, tag_of};
 use kf_core::{Key, Node, Refusal};
 use kf_shared::{Editor, Naming, Removing};
@@ -25,7 +26,9 @@ impl<N: Naming> Stopped<N> {
 }
 
 // A directory of this name, made live where nothing has the name.
-fn base<N: Naming>(editor: &mut Editor<'_, N>, parent: Key, name: &[u8]) -> Result<Key, Refusal> {
+fn base<N: Naming>(editor: &mut Editor<'_, N>, parent: Key, name: &[u8]) -> Result<Key, Refusal>
+    ensures there { IfOk result (λ key. HasBase editor.old editor.new parent name.now key) }
+{
     match editor.state().find(parent, name) {
         Err(Refusal::NoEntry) => editor.create(parent, name, Node::Dir, true),
         other => other,
@@ -33,7 +36,9 @@ fn base<N: Naming>(editor: &mut Editor<'_, N>, parent: Key, name: &[u8]) -> Resu
 }
 
 // `/devices` and `/bus/devices`, made where they are not there.
-fn bases<N: Naming>(editor: &mut Editor<'_, N>) -> Result<(Key, Key), Refusal> {
+fn bases<N: Naming>(editor: &mut Editor<'_, N>) -> Result<(Key, Key), Refusal>
+    ensures there { IfOk result (λ found. HasBases editor.old editor.new found.0 found.1) }
+{
     let root = editor.state().root();
     let devices = base(editor, root, b"devices")?;
     let bus = base(editor, root, b"bus")?;
@@ -47,8 +52,13 @@ fn file<N: Naming>(
     dir: Key,
     name: &[u8],
     mode: u16,
-    tag: u64,
-) -> Result<Key, Refusal> {
+    serial: u64,
+    file: DeviceFile,
+) -> Result<Key, Refusal>
+    requires few { serial ≤ 2 ^ 60 }
+    ensures made { IfOk result (λ key. HasFile editor.old editor.new dir name.now mode serial file key) }
+{
+    let tag = tag_of(serial, file);
     editor.create(dir, name, Node::File { mode, tag }, false)
 }
 
@@ -59,47 +69,32 @@ fn fill<N: Naming>(
     dir: Key,
     name: &[u8],
     serial: u64,
-    files: &mut Files,
+    nodes: &mut Nodes,
 ) -> Result<(), Refusal>
     requires few { serial ≤ 2 ^ 60 }
+    ensures filled { OnOk result (Filled editor.old editor.new links dir name.now serial nodes.new) }
+    ensures dir { nodes.new.dir ≡ nodes.old.dir }
 {
-    let value = file(
-        editor,
-        dir,
-        b"value",
-        0o644,
-        tag_of(serial, DeviceFile::Value),
-    )?;
-    files.value = Some(value);
-    file(
-        editor,
-        dir,
-        b"serial",
-        0o444,
-        tag_of(serial, DeviceFile::Serial),
-    )?;
-    let delete = file(
-        editor,
-        dir,
-        b"delete",
-        0o200,
-        tag_of(serial, DeviceFile::Delete),
-    )?;
-    files.delete = Some(delete);
+    let value = file(editor, dir, b"value", 0o644, serial, DeviceFile::Value)?;
+    nodes.value = Some(value);
+    file(editor, dir, b"serial", 0o444, serial, DeviceFile::Serial)?;
+    let delete = file(editor, dir, b"delete", 0o200, serial, DeviceFile::Delete)?;
+    nodes.delete = Some(delete);
     editor.activate(dir)?;
     editor.create(links, name, Node::Link { target: dir }, true)?;
     Ok(())
 }
 
 /// Makes the base directories that are not there, the device's directory with its files, and its link.
-/// `files` tells which files were made, whatever the answer is.
+/// `nodes` tells which of its nodes were made, whatever the answer is.
 pub(crate) fn make<N: Naming>(
     editor: &mut Editor<'_, N>,
     name: &[u8],
     serial: u64,
-    files: &mut Files,
+    nodes: &mut Nodes,
 ) -> Result<Key, Stopped<N>>
     requires few { serial ≤ 2 ^ 60 }
+    ensures plugged { IfOk result (λ dir. Plugged editor.old editor.new name.now serial nodes.new dir) }
 {
     let (devices, links) = match bases(editor) {
         Ok(found) => found,
@@ -109,7 +104,8 @@ pub(crate) fn make<N: Naming>(
         Ok(dir) => dir,
         Err(refusal) => return Err(Stopped::before(refusal)),
     };
-    match fill(editor, links, dir, name, serial, files) {
+    nodes.dir = Some(dir);
+    match fill(editor, links, dir, name, serial, nodes) {
         Ok(()) => Ok(dir),
         Err(refusal) => Err(Stopped {
             refusal,

@@ -1,15 +1,20 @@
-//! Taking a node out of a tree by its name in a directory.
-ghost use Rattle.std.specs.Prelude.{◌≡◌, IfOk, IfErr, IfSome, IfNone, OnErr, is_some};
+//! Taking a device out of a tree: its link and its directory, each by its name in its base directory.
+ghost use Rattle.std.specs.Prelude.{◌≡◌, ◌||◌, IfOk, IfErr, OnErr, Ok, Err, MatchResult, is_some};
 ghost use Rattle.kf_shared.specs.Locked.{Unchanged};
 ghost use Rattle.kf_shared.specs.Receipts.{HoldsRefusal};
-ghost use Rattle.kf_shared.specs.Removal.{keys_of};
-ghost use Rattle.kf_device.specs.Removals.{entry_at, IsMissing, IsThere};
+ghost use Rattle.kf_device.specs.Removals.{Begins, BeginsBoth, dir_wanted, entry_at, fits, link_wanted};
 
 use crate::tags::meaning;
 use kf_core::{Key, Node, Refusal};
 use kf_shared::{Editor, Naming, Removing, SharedTree, release_all};
 use kf_tree::State;
 use std::sync::Wait;
+
+/// Where devices have their directories.
+const DEVICES: &[u8] = b"/devices";
+
+/// Where devices have their links.
+const LINKS: &[u8] = b"/bus/devices";
 
 /// What the whole name leads to in the directory of this path.
 fn entry(state: &State, path: &[u8], name: &[u8]) -> Result<Key, Refusal>
@@ -19,27 +24,121 @@ fn entry(state: &State, path: &[u8], name: &[u8]) -> Result<Key, Refusal>
     state.find(dir, name)
 }
 
-/// Begins the removal of the node of this name in the directory of this path, with all below it. None where
-/// there is none: a name that is not lawful finds nothing, and neither does a path that leads to no
-/// directory.
+/// Which node a removal by name is meant for.
+#[derive(Clone, Copy, Debug, PartialEq, Eq)]
+pub(crate) enum Wanted {
+    /// Whatever has the name.
+    Any,
+    /// The directory of this key.
+    Directory(Key),
+    /// A link to the directory of this key.
+    LinkTo(Key),
+}
+
+/// Whether the node of a key is one that is wanted.
+fn fits(state: &State, key: Key, wanted: Wanted) -> bool
+    ensures told { result ≡ fits state.now.tree wanted key }
+{
+    match wanted {
+        Wanted::Any => true,
+        Wanted::Directory(dir) => key == dir,
+        Wanted::LinkTo(dir) => match state.stat(key) {
+            Ok(stat) => match stat.node {
+                Node::Link { target } => target == dir,
+                Node::Dir | Node::File { mode: _, tag: _ } => false,
+            },
+            Err(_) => false,
+        },
+    }
+}
+
+/// Begins the removal of the node of this name in the directory of this path, with all below it, where it is
+/// one that is wanted. None where there is none: a name that is not lawful finds nothing, and neither does a
+/// path that leads to no directory.
 ///
 /// Refusals: TooManyHolds or NoMemory, whichever is met first. After a refusal nothing is marked.
 pub(crate) fn begin_at<N: Naming>(
     editor: &mut Editor<'_, N>,
     path: &[u8],
     name: &[u8],
+    wanted: Wanted,
 ) -> Result<Option<Removing<N>>, Refusal>
-    ensures begun { IfOk result (λ found. IfSome found
-        (λ removing. IsThere editor.old.state path.now name.now (keys_of removing))) }
-    ensures missing { IfOk result (λ found. IfNone found
-        (IsMissing editor.old.state path.now name.now × (editor.new ≡ editor.old))) }
+    ensures begun { IfOk result (λ found.
+        Begins editor.old editor.new path.now name.now wanted found) }
     ensures refused { IfErr result (λ refusal. HoldsRefusal refusal) }
     ensures same { OnErr result (Unchanged editor.old editor.new) }
 {
     match entry(editor.state(), path, name) {
-        Ok(key) => Ok(Some(editor.begin_removal_of(key)?)),
+        Ok(key) => {
+            if !fits(editor.state(), key, wanted) {
+                return Ok(None);
+            }
+            Ok(Some(editor.begin_removal_of(key)?))
+        }
         Err(_) => Ok(None),
     }
+}
+
+/// The link to this directory; whatever has the name, where none is given.
+fn link_wanted(dir: Option<Key>) -> Wanted
+    ensures wanted { result ≡ link_wanted dir }
+{
+    match dir {
+        Some(dir) => Wanted::LinkTo(dir),
+        None => Wanted::Any,
+    }
+}
+
+/// This directory; whatever has the name, where none is given.
+fn dir_wanted(dir: Option<Key>) -> Wanted
+    ensures wanted { result ≡ dir_wanted dir }
+{
+    match dir {
+        Some(dir) => Wanted::Directory(dir),
+        None => Wanted::Any,
+    }
+}
+
+/// What was begun of a device's removal: that of its link, and that of its directory or why it was refused.
+pub(crate) struct Leaving<N: Naming> {
+    link: Option<Removing<N>>,
+    dir: Result<Option<Removing<N>>, Refusal>,
+}
+
+/// Begins the removal of a device's link, and then of its directory, each by its name: of the device with
+/// this directory, or, where none is given, of whichever has the name.
+///
+/// Refusals: TooManyHolds or NoMemory, of the link; nothing is marked after one.
+pub(crate) fn begin_both<N: Naming>(
+    editor: &mut Editor<'_, N>,
+    name: &[u8],
+    dir: Option<Key>,
+) -> Result<Leaving<N>, Refusal>
+    ensures begun { IfOk result (λ leaving.
+        BeginsBoth editor.old editor.new name.now dir leaving.link leaving.dir) }
+    ensures refused { IfErr result (λ refusal. HoldsRefusal refusal) }
+    ensures same { OnErr result (Unchanged editor.old editor.new) }
+{
+    let link = begin_at(editor, LINKS, name, link_wanted(dir))?;
+    let dir = begin_at(editor, DEVICES, name, dir_wanted(dir));
+    Ok(Leaving { link, dir })
+}
+
+/// Finishes both, with the lock let go. Whether there was something to remove, or why the directory was not.
+///
+/// Context: sleeps; takes the tree's lock, which its caller must not have.
+pub(crate) fn finish_both<N: Naming, R: Wait>(
+    rt: &R,
+    tree: &SharedTree<N>,
+    leaving: Leaving<N>,
+) -> Result<bool, Refusal>
+    ensures told { MatchResult leaving.dir
+        (λ dir. result ≡ Ok (is_some leaving.link || is_some dir)) (λ refusal. result ≡ Err refusal) }
+{
+    let Leaving { link, dir } = leaving;
+    let was_linked = finish(rt, tree, link);
+    let was_there = finish(rt, tree, dir?);
+    Ok(was_linked || was_there)
 }
 
 /// Finishes a removal, where one has begun, with the lock let go, and gives its receipts back.
@@ -59,9 +158,9 @@ pub(crate) fn finish<N: Naming, R: Wait>(
     }
 }
 
-/// The plug whose `value` stands in the directory of this name in that of the path, where there is one.
-pub(crate) fn plug_at(state: &State, path: &[u8], name: &[u8]) -> Option<u64> {
-    let dir = entry(state, path, name).ok()?;
+/// The plug whose `value` stands in the directory of a device of this name, where there is one.
+pub(crate) fn plug_at(state: &State, name: &[u8]) -> Option<u64> {
+    let dir = entry(state, DEVICES, name).ok()?;
     let value = state.find(dir, b"value").ok()?;
     match state.stat(value).ok()?.node {
         Node::File { mode: _, tag } => Some(meaning(tag)?.serial),

@@ -7,19 +7,14 @@ use crate::bus::Bus;
 use kf_shared::{Naming, SharedTree};
 use std::sync::Wait;
 
-impl Bus {
+impl<N: Naming> Bus<N> {
     /// Forgets a device that is gone.
-    pub(crate) fn forget_gone<N: Naming, R: Wait>(
-        &self,
-        rt: &R,
-        tree: &SharedTree<N>,
-        serial: u64,
-    ) {
-        let files = self.devices.lock(rt).files(serial);
-        let Some(files) = files else {
+    pub(crate) fn forget_gone<R: Wait>(&self, rt: &R, tree: &SharedTree<N>, serial: u64) {
+        let nodes = self.devices.lock(rt).nodes(serial);
+        let Some(nodes) = nodes else {
             return;
         };
-        let linked = files.are_linked(tree.read(rt).state());
+        let linked = nodes.have_files(tree.read(rt).state());
         if !linked {
             self.devices.lock(rt).forget(serial);
         }
@@ -27,7 +22,7 @@ impl Bus {
 
     /// Forgets all that are gone, where the list has grown to more than twice what the last sweep left. So
     /// a bus keeps no more than a few devices that are gone, and a plug pays for no more than a few others.
-    pub(crate) fn sweep<N: Naming, R: Wait>(&self, rt: &R, tree: &SharedTree<N>) {
+    pub(crate) fn sweep<R: Wait>(&self, rt: &R, tree: &SharedTree<N>) {
         let due = self.devices.lock(rt).due();
         let Some(count) = due else {
             return;

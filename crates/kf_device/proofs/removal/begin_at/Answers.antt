@@ -18,4 +18,10 @@ returns-in_err-begin_removal_of-in-Ok-clause-refused g c =
 pub returns-in_ok-begin_removal_of-in-Ok-clause-begun : goal.returns-in_ok-begin_removal_of-in-Ok-clause-begun
 returns-in_ok-begin_removal_of-in-Ok-clause-begun g c =
     let there : entry_at c.args.editor.now.state c.args.path.now c.args.name.now ≡ Ok c.in-Ok.key = rw (← c.state.ensures.same) (sym c.in-Ok.ensures.told) in
-    (c.in-Ok.key, there, c.in_ok-begin_removal_of-in-Ok.ensures.ordered)
+    record {
+      key = c.in-Ok.key;
+      there = there;
+      fit = rw (← c.state-in-Ok.ensures.same, ← c.fits.ensures.told) (search rules);
+      ordered = c.in_ok-begin_removal_of-in-Ok.ensures.ordered;
+      doomed = c.in_ok-begin_removal_of-in-Ok.ensures.done;
+    }
