@@ -1,0 +1,4 @@
+pub mod Names
+pub mod Storing
+pub mod Unlinks
+pub mod Makings

@@ -1,0 +1,15 @@
+use Rattle.std.proofs.Common.{List, [], ◌∷◌, inl, inr, refl, subst, ◌≡◌, sym, ap}
+use Rattle.kf_groups.specs.declared.attribute.Attribute.{Attribute}
+use Rattle.kf_groups.proofs.Makings.{created, filled}
+use Rattle.kf_groups.proofs.making.+fill.Goals as goal
+
+-- what stands past the end of a list
+blank : Attribute
+blank = record { name = record { ref_ptr = (0, 0); now = [] }; mode = 0; tag = 0 }
+
+pub returns-clause-stored : goal.returns-clause-stored
+unfolding blank
+returns-clause-stored g t c =
+    filled c.fill-2.result c.args.editor.now.state c.create.new.self.state c.fill-2.new.editor.state c.args.dir c.in_ok-create.field-0
+    c.args.attributes.now blank c.in-len1-up.len_at_least c.if-first-eq0.false
+    (created c.args.editor.now c.create.new.self c.args.dir c.in_ok-create.field-0 _ _ _ c.file_of.ensures.known c.in_ok-create.ensures.accepted) c.fill-2.ensures.stored

@@ -1,0 +1,42 @@
+use Rattle.std.proofs.Common.{◌≡◌, ◌∙◌, [], refl, sym, subst}
+use Rattle.std.specs.Prelude.{All, Contains}
+use Rattle.std.specs.Vec.Iter.{into_iter_items}
+use Rattle.std.proofs.lemmas.List.Elements.{All-nil}
+use Rattle.kf_shared.specs.Receipts.{AreOf}
+use Rattle.kf_shared.specs.Removal.{keys_of}
+use Rattle.kf_groups.proofs.Storing.{none_same}
+use Rattle.kf_groups.proofs.Unlinks.{all_among, first_of, one_more, rest_of}
+use Rattle.kf_groups.proofs.taking_back.unlink_each.Goals as goal
+
+pub loop-hold-init : goal.loop-hold-init
+loop-hold-init g c =
+    let same = sym c.into_iter-rest.ensures.rest in
+    let among = keys_of c.args.holds.items in
+    record {
+      tables = subst (AreOf g.N.Naming.table) same c.requires.tables;
+      among = subst (λ hs. All (λ h. Contains among h.key) hs) same (all_among c.args.holds.items);
+      unlinked = ([], All-nil (Contains among), none_same _ _ refl);
+      claims = refl;
+    }
+
+pub unlink-requires : goal.unlink-requires
+unlink-requires g c = record {
+  table =
+      first_of (λ h. h.table ≡ g.N.Naming.table) (into_iter_items c.loop-hold.rest) (into_iter_items c.next.new.self) c.in-Some.hold
+      c.in-Some.ensures.items c.loop-hold.invariant.tables;
+}
+
+pub loop-hold-preserved : goal.loop-hold-preserved
+loop-hold-preserved g c =
+    let among = keys_of c.args.holds.items in
+    let parts = c.in-Some.ensures.items in
+    let all = into_iter_items c.loop-hold.rest in
+    let rest = into_iter_items c.next.new.self in
+    let i = c.loop-hold.invariant in
+    record {
+      tables = rest_of (λ h. h.table ≡ g.N.Naming.table) all rest c.in-Some.hold parts i.tables;
+      among = rest_of (λ h. Contains among h.key) all rest c.in-Some.hold parts i.among;
+      unlinked = one_more among c.args.editor.now.state c.loop-hold.editor.state c.unlink.new.editor.state c.in-Some.hold.key
+          i.unlinked (first_of (λ h. Contains among h.key) all rest c.in-Some.hold parts i.among) c.unlink.ensures.unlinked;
+      claims = c.unlink.ensures.claims ∙ i.claims;
+    }

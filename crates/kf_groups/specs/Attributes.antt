@@ -1,0 +1,64 @@
+-- Which files a group has, and why it is refused.
+use Rattle.std.specs.Prelude.{ℕ, Bool, not, ◌==◌, List, [], ◌∷◌, filter, Option, None, Some, if◌then◌else◌}
+use Rattle.std.specs.List.{list_any}
+use Rattle.std.specs.Str.{bytes_eq}
+use denote.Ref.{Bor}
+use Rattle.kf_core.specs.declared.key.Key.{Key}
+use Rattle.kf_core.specs.declared.key.Node.{Node}
+use Rattle.kf_core.specs.declared.key.Node.TheVariants.{Dir, File}
+use Rattle.kf_core.specs.declared.refusal.Refusal.{Refusal}
+use Rattle.kf_core.specs.declared.refusal.Refusal.TheVariants.{Exists}
+use Rattle.kf_core.specs.Names.{name_fault}
+use Rattle.kf_core.specs.Refusals.{unless, first_cause}
+use Rattle.kf_core.specs.Tree.{Tree}
+use Rattle.kf_tree.specs.Causes.{create_fault}
+use Rattle.kf_groups.specs.declared.attribute.Attribute.{Attribute}
+use Rattle.kf_groups.specs.declared.attribute.Group.{Group}
+
+-- whether there is a file of the attribute
+abbrev pub is_shown : Attribute → Bool
+is_shown attribute = not (attribute.mode == 0)
+
+-- the attributes of which there are files
+abbrev pub shown : List Attribute → List Attribute
+shown attributes = filter is_shown attributes
+
+-- the node of an attribute's file
+abbrev pub file_of : Attribute → Node
+file_of attribute = File attribute.mode attribute.tag
+
+-- whether one of the attributes has this name
+abbrev pub has_name : List Attribute → List ℕ → Bool
+has_name attributes name = list_any (λ attribute. bytes_eq attribute.name.now name) attributes
+
+-- why these files are refused: of one after the other what is wrong with it, and that a later one has its name
+abbrev pub files_cause : (Attribute → Option Refusal) → List Attribute → Option Refusal
+files_cause fault [] = None
+files_cause fault (attribute ∷ attributes) = first_cause (
+    fault attribute
+    ∷ unless (not (has_name attributes attribute.name.now)) Exists
+    ∷ files_cause fault attributes
+    ∷ [])
+
+-- why the file of this attribute is refused, where there is one and these come later
+abbrev pub shown_cause : (Attribute → Option Refusal) → Attribute → List Attribute → Option Refusal
+shown_cause fault attribute later = if is_shown attribute
+    then first_cause (fault attribute ∷ unless (not (has_name (shown later) attribute.name.now)) Exists ∷ [])
+    else None
+
+-- what is wrong with a file: in this directory, or in a new one (None)
+abbrev pub file_fault : Tree → Key → Option Key → Attribute → Option Refusal
+file_fault t root None attribute = name_fault attribute.name.now
+file_fault t root (Some dir) attribute = create_fault t root dir attribute.name.now (file_of attribute)
+
+-- the group's directory, where it has one of its own, and its files
+abbrev pub cause_by_name : Tree → Key → Key → List Attribute → Option (Bor (List ℕ)) → Option Refusal
+cause_by_name t root dir attributes None = files_cause (file_fault t root (Some dir)) (shown attributes)
+cause_by_name t root dir attributes (Some name) = first_cause (
+    create_fault t root dir name.now Dir
+    ∷ files_cause (file_fault t root None) (shown attributes)
+    ∷ [])
+
+-- why a group is refused, want of slots and memory aside
+abbrev pub group_cause : Tree → Key → Key → Group → Option Refusal
+group_cause t root dir group = cause_by_name t root dir group.attributes.now group.name

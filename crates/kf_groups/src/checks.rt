@@ -1,0 +1,100 @@
+//! Why a group is refused, before anything is made.
+ghost use Rattle.std.specs.Prelude.{◌≡◌, ◌&&◌, Option, None, Some};
+ghost use Rattle.std.specs.List.{list_any};
+ghost use Rattle.std.specs.Str.{bytes_eq};
+ghost use Rattle.kf_groups.specs.Attributes.{file_fault, file_of, files_cause, group_cause, has_name, is_shown, shown, shown_cause};
+
+use crate::attribute::{Attribute, Group};
+use kf_core::{Key, Node, Refusal};
+use kf_index::name_fault;
+use kf_tree::State;
+
+/// The node of an attribute's file.
+pub(crate) fn file_of(attribute: &Attribute) -> Node
+    ensures known { result ≡ file_of attribute.now }
+{
+    Node::File {
+        mode: attribute.mode,
+        tag: attribute.tag,
+    }
+}
+
+// Whether the attribute has a file of this name.
+fn is_named(attribute: &Attribute, name: &[u8]) -> bool
+    ensures known { result ≡ (is_shown attribute.now && bytes_eq attribute.now.name.now name.now) }
+{
+    attribute.mode != 0 && attribute.name == name
+}
+
+// Whether one of the attributes has a file of this name.
+fn any_named(attributes: &[Attribute], name: &[u8]) -> bool
+    ensures known { result ≡
+        list_any (λ attribute. is_shown attribute && bytes_eq attribute.name.now name.now) attributes.now }
+{
+    attributes.iter().any(|attribute| is_named(attribute, name))
+}
+
+// Whether one of the attributes that have files has this name.
+fn has_name(attributes: &[Attribute], name: &[u8]) -> bool
+    ensures known { result ≡ has_name (shown attributes.now) name.now }
+{
+    any_named(attributes, name)
+}
+
+// What is wrong with a file in this directory, or in a new one.
+fn file_fault(state: &State, dir: Option<Key>, attribute: &Attribute) -> Option<Refusal>
+    ensures first { result ≡ file_fault state.now.tree state.now.root dir attribute.now }
+{
+    match dir {
+        Some(dir) => state.create_fault(dir, attribute.name, file_of(attribute)),
+        None => name_fault(attribute.name),
+    }
+}
+
+// Why the first of these files is refused, where there is one.
+fn first_cause(
+    state: &State,
+    dir: Option<Key>,
+    attribute: &Attribute,
+    later: &[Attribute],
+) -> Option<Refusal>
+    ensures first { result ≡ shown_cause (file_fault state.now.tree state.now.root dir) attribute.now later.now }
+{
+    if attribute.mode == 0 {
+        return None;
+    }
+    if let Some(fault) = file_fault(state, dir, attribute) {
+        return Some(fault);
+    }
+    if has_name(later, attribute.name) {
+        return Some(Refusal::Exists);
+    }
+    None
+}
+
+// Why these files are refused, in this directory or in a new one.
+fn files_cause(state: &State, dir: Option<Key>, attributes: &[Attribute]) -> Option<Refusal>
+    ensures first { result ≡
+        files_cause (file_fault state.now.tree state.now.root dir) (shown attributes.now) }
+{
+    for place in 0..attributes.len() {
+        let later = &attributes[place + 1..];
+        if let Some(refusal) = first_cause(state, dir, &attributes[place], later) {
+            return Some(refusal);
+        }
+    }
+    None
+}
+
+/// Why the group is refused, want of slots and memory aside.
+pub(crate) fn group_cause(state: &State, dir: Key, group: &Group) -> Option<Refusal>
+    ensures first { result ≡ group_cause state.now.tree state.now.root dir group.now }
+{
+    let Some(name) = group.name else {
+        return files_cause(state, Some(dir), group.attributes);
+    };
+    if let Some(fault) = state.create_fault(dir, name, Node::Dir) {
+        return Some(fault);
+    }
+    files_cause(state, None, group.attributes)
+}

@@ -1,0 +1,10 @@
+//! Groups of attributes: files that come into a directory, or into one of their own, all or none.
+#![tactic(auto)]
+
+mod attribute;
+mod checks;
+mod making;
+mod taking_back;
+
+pub use attribute::{Attribute, Group};
+pub use making::create_group;

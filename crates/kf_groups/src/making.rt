@@ -1,0 +1,122 @@
+//! A group is made, all or nothing.
+ghost use Rattle.std.specs.Prelude.{◌≡◌, List, length, IfOk, IfErr, OnErr, OnOk};
+ghost use Rattle.kf_core.specs.declared.command.Command.{Command};
+ghost use Rattle.kf_core.specs.declared.key.Key.{Key};
+ghost use Rattle.kf_groups.specs.Attributes.{shown};
+ghost use Rattle.kf_groups.specs.Making.{creations, live_creations, named_creations, DirectoryTakenBack, FilesTakenBack, GroupMade, GroupRefused};
+ghost use Rattle.kf_groups.specs.Stores.{Stores};
+
+use crate::attribute::{Attribute, Group};
+use crate::checks::{file_of, group_cause};
+use crate::taking_back::take_back;
+use kf_core::{Key, Node, Refusal};
+use kf_shared::{Editor, Naming};
+
+// Makes the files, one after another, not live. On a refusal the first ones stay.
+fn fill<N: Naming>(
+    editor: &mut Editor<'_, N>,
+    dir: Key,
+    attributes: &[Attribute],
+) -> Result<(), Refusal>
+    ensures stored { (keys : List Key) × (OnOk result (length keys ≡ length (shown attributes.now)))
+        × Stores editor.old.state editor.new.state (creations dir (shown attributes.now) keys) }
+    ensures claims { editor.new.claims ≡ editor.old.claims }
+{
+    let [first, rest @ ..] = attributes else {
+        return Ok(());
+    };
+    if first.mode == 0 {
+        return fill(editor, dir, rest);
+    }
+    editor.create(dir, first.name, file_of(first), false)?;
+    fill(editor, dir, rest)
+}
+
+// Makes the files, one after another, not live, and then activates each. On a refusal it takes them back.
+fn make_files<N: Naming>(
+    editor: &mut Editor<'_, N>,
+    dir: Key,
+    attributes: &[Attribute],
+) -> Result<(), Refusal>
+    ensures made { OnOk result ((keys : List Key) × (length keys ≡ length (shown attributes.now))
+        × Stores editor.old.state editor.new.state (live_creations dir (shown attributes.now) keys)) }
+    ensures refused { OnErr result ((commands : List Command)
+        × Stores editor.old.state editor.new.state commands
+        × FilesTakenBack editor.old.state.tree dir (shown attributes.now) commands) }
+    ensures claims { editor.new.claims ≡ editor.old.claims }
+{
+    let [first, rest @ ..] = attributes else {
+        return Ok(());
+    };
+    if first.mode == 0 {
+        return make_files(editor, dir, rest);
+    }
+    let key = editor.create(dir, first.name, file_of(first), false)?;
+    if let Err(refusal) = make_files(editor, dir, rest) {
+        take_back(editor, key);
+        return Err(refusal);
+    }
+    if let Err(refusal) = editor.activate(key) {
+        take_back(editor, key);
+        return Err(refusal);
+    }
+    Ok(())
+}
+
+// Makes a directory with the files in it, not live, and then activates all. On a refusal it takes it back.
+fn make_directory<N: Naming>(
+    editor: &mut Editor<'_, N>,
+    dir: Key,
+    name: &[u8],
+    attributes: &[Attribute],
+) -> Result<Key, Refusal>
+    ensures made { IfOk result (λ key. (keys : List Key) × (length keys ≡ length (shown attributes.now))
+        × Stores editor.old.state editor.new.state
+        (named_creations dir name.now (shown attributes.now) key keys)) }
+    ensures refused { OnErr result ((commands : List Command)
+        × Stores editor.old.state editor.new.state commands
+        × DirectoryTakenBack editor.old.state.tree dir name.now (shown attributes.now) commands) }
+    ensures claims { editor.new.claims ≡ editor.old.claims }
+{
+    let key = editor.create(dir, name, Node::Dir, false)?;
+    if let Err(refusal) = fill(editor, key, attributes) {
+        take_back(editor, key);
+        return Err(refusal);
+    }
+    if let Err(refusal) = editor.activate(key) {
+        take_back(editor, key);
+        return Err(refusal);
+    }
+    Ok(key)
+}
+
+/// Makes a group of attributes in a directory, all or nothing, in this turn of the lock
+/// (`sysfs_create_group`): nothing of it is live until all is there. Gives the key of the directory that its
+/// files stand in.
+///
+/// Refusals, in order: those of [`Editor::create`] for the group's own directory, where it has a name; then for
+/// one attribute after another what its file is refused for, and Exists where a later one has its name. After
+/// these nothing has changed. Then NoSpace and NoMemory, and TooManyHolds never: after these the files that
+/// were made, which were never live, have been taken back; where there is no memory for that either, they
+/// stay, doomed or not live.
+pub fn create_group<N: Naming>(
+    editor: &mut Editor<'_, N>,
+    dir: Key,
+    group: &Group,
+) -> Result<Key, Refusal>
+    ensures made { IfOk result (λ key. GroupMade editor.old.state editor.new.state dir group.now key) }
+    ensures refused { IfErr result
+        (λ refusal. GroupRefused editor.old.state editor.new.state dir group.now refusal) }
+    ensures claims { editor.new.claims ≡ editor.old.claims }
+{
+    if let Some(refusal) = group_cause(editor.state(), dir, group) {
+        return Err(refusal);
+    }
+    match group.name {
+        Some(name) => make_directory(editor, dir, name, group.attributes),
+        None => {
+            make_files(editor, dir, group.attributes)?;
+            Ok(dir)
+        }
+    }
+}
