@@ -9,13 +9,17 @@ ghost use Rattle.kf_rounds.specs.Kinds.{kind_by};
 ghost use Rattle.kf_rounds.specs.KindViews.{kind_view};
 
 use crate::kind::{LineKind, kind_of};
+use memchr::memchr;
 use std::alloc::{AllocError, Global};
+
+/// The bytes of a line and its newline, as scripts have them mostly: shorter ones take memory once more.
+const USUAL_LINE: usize = 16;
 
 /// Where the first newline stands.
 fn newline_at(script: &[u8]) -> Option<usize>
     ensures { result ≡ position is_newline script.now }
 {
-    script.iter().position(|byte| *byte == b'\n')
+    memchr(b'\n', script)
 }
 
 /// The first line, and what stands after the newline behind it, where there is one.
@@ -40,7 +44,7 @@ pub fn kinds_in(
     ensures { IfOk result
         (λ kinds. map kind_view kinds.items ≡ map (kind_by workers) (lines_of script.now)) }
 {
-    let mut kinds = Vec::new(alloc);
+    let mut kinds = Vec::with_capacity(alloc, script.len() / USUAL_LINE)?;
     let mut left = Some(script);
     while let Some(text) = left {
         let (line, later) = cut_line(text);

@@ -68,6 +68,11 @@ impl Replies {
         Ok(())
     }
 
+    /// How many bytes the texts are at most, with a newline each.
+    pub fn size(&self) -> usize {
+        self.bytes.len().saturating_add(self.lengths.len())
+    }
+
     /// Puts the first text and a newline out. `Err` where there is none, or no memory.
     pub fn put_next(&mut self, out: &mut Vec<u8>) -> Result<(), AllocError>
         ensures { OnOk result ((reply : List ℕ) × (self.old ≡ reply ∷ self.new)
@@ -84,6 +89,15 @@ impl Replies {
         self.taken = at + 1;
         Ok(())
     }
+}
+
+/// How many bytes the replies of all seats are at most, with a newline each.
+fn size_of_all<B: Board>(seats: &[Seat<B>]) -> usize {
+    let mut size = 0usize;
+    for seat in seats {
+        size = size.saturating_add(seat.reply_size());
+    }
+    size
 }
 
 /// Puts a text and a newline out.
@@ -129,6 +143,7 @@ pub fn put_replies<B: Board>(
         out.old.items out.new.items) }
     ensures boards { boards seats.new ≡ boards seats.old }
 {
+    out.reserve(size_of_all(seats))?;
     for kind in kinds {
         put_reply(out, seats, kind)?;
     }

@@ -90,6 +90,11 @@ impl<B> Seat<B> {
         }
     }
 
+    /// How many bytes its replies are at most, with a newline each.
+    pub(crate) fn reply_size(&self) -> usize {
+        self.replies.size()
+    }
+
     /// Puts the next of its replies and a newline out. `Err` where there is none, or no memory.
     pub(crate) fn put_next(&mut self, out: &mut Vec<u8>) -> Result<(), AllocError>
         ensures put { OnOk result ((reply : List ℕ) × (untaken self.old ≡ reply ∷ untaken self.new)

@@ -9,7 +9,10 @@ use Rattle.kf_rounds.proofs.Turning.{put_none, put_one, put_more}
 use Rattle.kf_rounds.proofs.replies.put_replies.Goals as goal
 
 pub loop-kind-init : goal.loop-kind-init
-loop-kind-init g c = record { put = put_none _ _; boards = refl }
+loop-kind-init g c = record {
+  put = subst (λ bytes. PutOut [] (untakens c.args.seats.now) (untakens c.args.seats.now) c.args.out.now.items bytes) (sym c.reserve.ensures.items) (put_none _ c.args.out.now.items);
+  boards = refl;
+}
 
 pub loop-kind-preserved : goal.loop-kind-preserved
 loop-kind-preserved g c =
