@@ -22,9 +22,3 @@ abbrev pub stored_by : (ℕ → List ℕ → Result ℕ Fault → Type 0) → (�
     → List ℕ → Result ℕ Fault → Type 0
 stored_by texts devices tag bytes answer =
     OfDevices (nat_le first_device_tag tag) (devices tag bytes answer) (texts tag bytes answer)
-
--- what the first text of a file may answer, likewise
-abbrev pub begun_by : (ℕ → List ℕ → Result (Unit {0}) Fault → Type 0)
-    → (ℕ → List ℕ → Result (Unit {0}) Fault → Type 0) → ℕ → List ℕ → Result (Unit {0}) Fault → Type 0
-begun_by texts devices tag bytes answer =
-    OfDevices (nat_le first_device_tag tag) (devices tag bytes answer) (texts tag bytes answer)

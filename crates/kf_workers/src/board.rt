@@ -3,9 +3,10 @@
 ghost use Rattle.std.specs.Prelude.{◌≡◌, vec_len, IfOk};
 
 use crate::common::Common;
+use crate::script_ops::ScriptOps;
 use crate::token::Token;
 use kf_core::{Limits, Refusal};
-use kf_files::{WaitOps, WaitingFile};
+use kf_files::WaitingFile;
 use kf_notify::Posts;
 use kf_shared::Naming;
 use std::alloc::Global;
@@ -26,7 +27,7 @@ const FILES: usize = 26;
 /// slot, and a handle of its own of the event numbers. What a file gives is read into a page of its own.
 ///
 /// It must be spent, by [`WorkerBoard::end`], which gives all its holds back.
-pub struct WorkerBoard<'x, W: WaitOps, N: Naming, R: Wait> {
+pub struct WorkerBoard<'x, W: ScriptOps, N: Naming, R: Wait> {
     rt: &'x R,
     common: &'x Common<'x, W, N>,
     posts: Posts,
@@ -59,7 +60,7 @@ fn no_tokens<N: Naming>(alloc: Global, slots: u32) -> Result<Vec<Option<Token<N>
     Ok(tokens)
 }
 
-impl<'x, W: WaitOps, N: Naming, R: Wait> WorkerBoard<'x, W, N, R> {
+impl<'x, W: ScriptOps, N: Naming, R: Wait> WorkerBoard<'x, W, N, R> {
     /// A board without open files and tokens. `NoMemory` where it could not be had.
     pub fn new(
         rt: &'x R,

@@ -1,9 +1,9 @@
 //! What all seats of a run share.
 
+use crate::script_ops::ScriptOps;
 use crate::serving::{FIRST_DEVICE_TAG, Serving};
 use kf_core::{Key, Limits, Refusal};
 use kf_device::Bus;
-use kf_files::WaitOps;
 use kf_shared::{Naming, SharedTree};
 use std::alloc::Global;
 use std::sync::atomic::{AtomicU64, Ordering};
@@ -23,13 +23,13 @@ struct LastFile {
 #[derive(Drop)]
 pub struct Common<'x, W, N: Naming> {
     pub tree: SharedTree<N>,
-    pub bus: Bus,
+    pub bus: Bus<N>,
     texts: &'x W,
     next_tag: AtomicU64,
     last_files: Mutex<Vec<LastFile>>,
 }
 
-impl<'x, W: WaitOps, N: Naming> Common<'x, W, N> {
+impl<'x, W: ScriptOps, N: Naming> Common<'x, W, N> {
     /// A run's tree with no device and no tag given. `NoMemory` where it could not be had.
     pub fn new(
         alloc: Global,
@@ -53,7 +53,7 @@ impl<'x, W: WaitOps, N: Naming> Common<'x, W, N> {
     }
 
     /// The callbacks of all files.
-    pub fn serving(&self) -> Serving<'_, W, Bus> {
+    pub fn serving(&self) -> Serving<'_, W, Bus<N>> {
         Serving {
             texts: self.texts,
             devices: &self.bus,

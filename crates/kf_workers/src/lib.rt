@@ -5,6 +5,7 @@ mod board;
 mod common;
 mod reading;
 mod run;
+mod script_ops;
 mod serving;
 mod tell;
 mod texts;
@@ -13,5 +14,6 @@ mod whole;
 
 pub use reading::read_script;
 pub use run::run_workers;
+pub use script_ops::ScriptOps;
 pub use texts::Texts;
 pub use whole::run_whole;

@@ -6,8 +6,8 @@ ghost use Rattle.kf_workers.specs.Replied.{Replied};
 
 use crate::board::WorkerBoard;
 use crate::common::Common;
+use crate::script_ops::ScriptOps;
 use kf_core::{Limits, Refusal};
-use kf_files::WaitOps;
 use kf_notify::Posts;
 use kf_rounds::{Seat, run_rounds};
 use kf_script::{Reply, RunFault};
@@ -18,7 +18,7 @@ use std::sync::Wait;
 use std::thread::Threads;
 
 /// Adds a seat with a new board.
-fn add_seat<'x, W: WaitOps, N: Naming, R: Wait>(
+fn add_seat<'x, W: ScriptOps, N: Naming, R: Wait>(
     seats: &mut Vec<Seat<WorkerBoard<'x, W, N, R>>>,
     rt: &'x R,
     alloc: Global,
@@ -40,7 +40,7 @@ fn add_seat<'x, W: WaitOps, N: Naming, R: Wait>(
 }
 
 /// Adds the owner's seat and one for each worker.
-fn add_seats<'x, W: WaitOps, N: Naming, R: Wait>(
+fn add_seats<'x, W: ScriptOps, N: Naming, R: Wait>(
     seats: &mut Vec<Seat<WorkerBoard<'x, W, N, R>>>,
     rt: &'x R,
     alloc: Global,
@@ -61,7 +61,7 @@ fn add_seats<'x, W: WaitOps, N: Naming, R: Wait>(
 }
 
 /// Ends each seat: its files are closed, and what it hid is shown.
-fn end_all<W: WaitOps, N: Naming, R: Wait>(mut seats: Vec<Seat<WorkerBoard<'_, W, N, R>>>) {
+fn end_all<W: ScriptOps, N: Naming, R: Wait>(mut seats: Vec<Seat<WorkerBoard<'_, W, N, R>>>) {
     while let Some(seat) = seats.pop() {
         seat.into_board().end();
     }
@@ -69,7 +69,7 @@ fn end_all<W: WaitOps, N: Naming, R: Wait>(mut seats: Vec<Seat<WorkerBoard<'_, W
 }
 
 /// Runs a script on new seats, which are left for the caller to end.
-fn run_seats<'x, W: WaitOps + Sync, N: Naming + Send + Sync, R: Threads + Wait + Sync>(
+fn run_seats<'x, W: ScriptOps + Sync, N: Naming + Send + Sync, R: Threads + Wait + Sync>(
     seats: &mut Vec<Seat<WorkerBoard<'x, W, N, R>>>,
     rt: &'x R,
     alloc: Global,
@@ -88,7 +88,7 @@ fn run_seats<'x, W: WaitOps + Sync, N: Naming + Send + Sync, R: Threads + Wait +
 }
 
 /// Runs a script on a tree, and gives all back that its boards had.
-fn run_on<'x, W: WaitOps + Sync, N: Naming + Send + Sync, R: Threads + Wait + Sync>(
+fn run_on<'x, W: ScriptOps + Sync, N: Naming + Send + Sync, R: Threads + Wait + Sync>(
     rt: &'x R,
     alloc: Global,
     common: &'x Common<'x, W, N>,
@@ -106,7 +106,7 @@ fn run_on<'x, W: WaitOps + Sync, N: Naming + Send + Sync, R: Threads + Wait + Sy
 }
 
 /// Runs a script on a new tree, under the name of its table.
-fn run_named<W: WaitOps + Sync, N: Naming + Send + Sync, R: Threads + Wait + Sync>(
+fn run_named<W: ScriptOps + Sync, N: Naming + Send + Sync, R: Threads + Wait + Sync>(
     rt: &R,
     alloc: Global,
     new: NewTree,
@@ -138,7 +138,7 @@ fn run_named<W: WaitOps + Sync, N: Naming + Send + Sync, R: Threads + Wait + Syn
 /// Condition: there are 1 to 16 workers.
 ///
 /// Fault: `Memory`, where memory was refused for the run itself; for a line it is the line's reply.
-pub fn run_workers<W: WaitOps + Sync, R: Threads + Wait + Sync>(
+pub fn run_workers<W: ScriptOps + Sync, R: Threads + Wait + Sync>(
     rt: &R,
     alloc: Global,
     texts: &W,

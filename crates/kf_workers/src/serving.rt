@@ -1,5 +1,6 @@
 //! Who serves a file: its tag tells.
 
+use crate::script_ops::ScriptOps;
 use kf_files::{Fault, Page, WaitOps};
 use kf_shared::{Naming, SharedTree};
 use kf_words::Call;
@@ -16,18 +17,15 @@ pub struct Serving<'a, W, B> {
     pub devices: &'a B,
 }
 
-impl<'a, W: WaitOps, B: WaitOps> WaitOps for Serving<'a, W, B> {
-    ghost use Rattle.kf_workers.specs.Serving.{begun_by, shown_by, stored_by};
+impl<'a, W: ScriptOps, B: WaitOps<N>, N: Naming> WaitOps<N> for Serving<'a, W, B> {
+    ghost use Rattle.kf_workers.specs.Serving.{shown_by, stored_by};
 
     ghost may_show = { λ serving. shown_by (W.may_show serving.texts.now) (B.may_show serving.devices.now) };
 
     ghost may_store = { λ serving. stored_by (W.may_store serving.texts.now)
         (B.may_store serving.devices.now) };
 
-    ghost may_begin = { λ serving. begun_by (W.may_begin serving.texts.now)
-        (B.may_begin serving.devices.now) };
-
-    fn show<N: Naming, R: Wait>(
+    fn show<R: Wait>(
         &self,
         rt: &R,
         tree: &SharedTree<N>,
@@ -42,7 +40,7 @@ impl<'a, W: WaitOps, B: WaitOps> WaitOps for Serving<'a, W, B> {
         }
     }
 
-    fn store<N: Naming, R: Wait>(
+    fn store<R: Wait>(
         &self,
         rt: &R,
         tree: &SharedTree<N>,
@@ -54,14 +52,6 @@ impl<'a, W: WaitOps, B: WaitOps> WaitOps for Serving<'a, W, B> {
             self.texts.store(rt, tree, call, tag, bytes)
         } else {
             self.devices.store(rt, tree, call, tag, bytes)
-        }
-    }
-
-    fn first<R: Wait>(&self, rt: &R, tag: u64, bytes: &[u8]) -> Result<(), Fault> {
-        if tag < FIRST_DEVICE_TAG {
-            self.texts.first(rt, tag, bytes)
-        } else {
-            self.devices.first(rt, tag, bytes)
         }
     }
 }

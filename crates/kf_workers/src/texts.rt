@@ -8,8 +8,9 @@ ghost use Rattle.kf_files.specs.Files.{filled_by};
 ghost use Rattle.kf_words.specs.Callers.{IsSameSeat};
 ghost use Rattle.kf_workers.specs.TextAnswers.{BeginsUnlessFull, ShowsKept, StoresWhole};
 
+use crate::script_ops::ScriptOps;
 use kf_core::Refusal;
-use kf_files::{Fault, Page, WaitOps};
+use kf_files::{Fault, Page};
 use kf_shared::{Naming, SharedTree};
 use kf_words::Call;
 use std::alloc::{AllocError, Global};
@@ -97,7 +98,7 @@ impl Texts {
     }
 }
 
-impl WaitOps for Texts {
+impl ScriptOps for Texts {
     ghost may_show = { λ _. ShowsKept };
 
     ghost may_store = { λ _. StoresWhole };

@@ -1,10 +1,10 @@
 //! Two workers whose callbacks must meet: they run at once, or not at all.
 
 use kf_core::Limits;
-use kf_files::{Fault, Page, WaitOps};
+use kf_files::{Fault, Page};
 use kf_shared::{Naming, SharedTree};
 use kf_words::Call;
-use kf_workers::run_workers;
+use kf_workers::{ScriptOps, run_workers};
 use std::sync::Wait;
 use std::sync::atomic::{AtomicU64, Ordering};
 
@@ -25,7 +25,7 @@ fn turn_until(flag: &AtomicU64) -> Result<(), Fault> {
     Err(Fault { number: 16 })
 }
 
-impl WaitOps for Meeting {
+impl ScriptOps for Meeting {
     ghost may_show = { λ _ _ _. Unit {0} };
 
     ghost may_store = { λ _ _ _ _. Unit {0} };

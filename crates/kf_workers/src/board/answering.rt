@@ -4,13 +4,14 @@ ghost use Rattle.std.specs.Prelude.{◌<◌};
 ghost use Rattle.kf_workers.specs.Replies.{AreBytes, AreNames, IsCount, IsLinkText};
 
 use super::WorkerBoard;
+use crate::script_ops::ScriptOps;
 use crate::tell::{tell_changed, tell_done, tell_key, tell_seen};
-use kf_files::{FileError, WaitOps, Want};
+use kf_files::{FileError, Want};
 use kf_script::{Board, Reply, Request};
 use kf_shared::Naming;
 use std::sync::Wait;
 
-impl<W: WaitOps, N: Naming, R: Wait> WorkerBoard<'_, W, N, R> {
+impl<W: ScriptOps, N: Naming, R: Wait> WorkerBoard<'_, W, N, R> {
     /// `ls`: the names.
     fn answer_list(&self, path: &[u8], reply: &mut Reply)
         ensures { AreNames reply.new }
@@ -50,7 +51,7 @@ impl<W: WaitOps, N: Naming, R: Wait> WorkerBoard<'_, W, N, R> {
     }
 }
 
-impl<W: WaitOps, N: Naming, R: Wait> Board for WorkerBoard<'_, W, N, R> {
+impl<W: ScriptOps, N: Naming, R: Wait> Board for WorkerBoard<'_, W, N, R> {
     ghost use Rattle.kf_workers.specs.Replies.{Suits};
 
     ghost step = { λ before request starved reply now. Suits request reply };

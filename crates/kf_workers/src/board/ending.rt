@@ -2,7 +2,8 @@
 
 use super::WorkerBoard;
 use super::files::close_file;
-use kf_files::{WaitOps, WaitingFile};
+use crate::script_ops::ScriptOps;
+use kf_files::WaitingFile;
 use kf_shared::Naming;
 use std::sync::Wait;
 
@@ -16,7 +17,7 @@ pub fn close_all<N: Naming>(mut files: Vec<Option<WaitingFile<N>>>) {
     files.destroy_empty();
 }
 
-impl<W: WaitOps, N: Naming, R: Wait> WorkerBoard<'_, W, N, R> {
+impl<W: ScriptOps, N: Naming, R: Wait> WorkerBoard<'_, W, N, R> {
     /// Closes its files and shows the files that it hid, and gives all their holds back.
     pub fn end(self) {
         let WorkerBoard {

@@ -5,9 +5,10 @@ ghost use Rattle.kf_workers.specs.Replies.{AreBytes, IsCount};
 
 use super::WorkerBoard;
 use crate::common::Common;
+use crate::script_ops::ScriptOps;
 use crate::tell::tell_read;
 use kf_core::{Key, Node, Refusal};
-use kf_files::{WaitOps, WaitingFile, Want};
+use kf_files::{WaitingFile, Want};
 use kf_notify::Post;
 use kf_replies::tell_count;
 use kf_script::Reply;
@@ -23,7 +24,7 @@ pub fn close_file<N: Naming>(file: WaitingFile<N>) {
 
 /// Reads a file from an offset on, through a page: puts the bytes, at most 4,096, into the reply, or why
 /// there are none.
-fn read_through<W: WaitOps, N: Naming, R: Wait>(
+fn read_through<W: ScriptOps, N: Naming, R: Wait>(
     rt: &R,
     common: &Common<'_, W, N>,
     opened: &mut WaitingFile<N>,
@@ -40,7 +41,7 @@ fn read_through<W: WaitOps, N: Naming, R: Wait>(
     tell_read(reply, told, out);
 }
 
-impl<W: WaitOps, N: Naming, R: Wait> WorkerBoard<'_, W, N, R> {
+impl<W: ScriptOps, N: Naming, R: Wait> WorkerBoard<'_, W, N, R> {
     /// A hold of the live node at a path. One turn of the tree lock.
     fn hold_live(&self, path: &[u8]) -> Result<Hold, Refusal>
         ensures table { IfOk result (λ hold. hold.table ≡ N.table) }

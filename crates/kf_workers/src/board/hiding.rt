@@ -3,9 +3,9 @@
 ghost use Rattle.std.specs.Prelude.{◌≡◌, IfSome};
 
 use super::WorkerBoard;
+use crate::script_ops::ScriptOps;
 use crate::token::Token;
 use kf_core::{Key, Refusal};
-use kf_files::WaitOps;
 use kf_shared::{Editor, Naming};
 use std::sync::Wait;
 
@@ -14,7 +14,7 @@ fn show_token<N: Naming>(editor: &mut Editor<'_, N>, token: Token<N>) {
     editor.show(token.into_hidden()).release();
 }
 
-impl<W: WaitOps, N: Naming, R: Wait> WorkerBoard<'_, W, N, R> {
+impl<W: ScriptOps, N: Naming, R: Wait> WorkerBoard<'_, W, N, R> {
     /// Shows the file of a token again. One turn of the tree lock.
     pub(super) fn spend(&self, token: Token<N>) {
         let mut editor = self.common.tree.edit(self.rt);

@@ -4,8 +4,8 @@ ghost use Rattle.std.specs.Prelude.{OnOk};
 ghost use Rattle.kf_workers.specs.Replies.{AreNames, IsLinkText};
 
 use super::WorkerBoard;
+use crate::script_ops::ScriptOps;
 use kf_core::Refusal;
-use kf_files::WaitOps;
 use kf_replies::tell_names;
 use kf_script::Reply;
 use kf_shared::Naming;
@@ -15,7 +15,7 @@ use std::sync::Wait;
 /// The most names of a listing: those of all slots.
 const MOST_NAMES: usize = 4096;
 
-impl<W: WaitOps, N: Naming, R: Wait> WorkerBoard<'_, W, N, R> {
+impl<W: ScriptOps, N: Naming, R: Wait> WorkerBoard<'_, W, N, R> {
     /// What is told of the node at a path, live or not.
     pub(super) fn stat(&self, path: &[u8]) -> Result<Stat, Refusal> {
         let editor = self.common.tree.edit(self.rt);

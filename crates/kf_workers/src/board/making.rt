@@ -1,12 +1,13 @@
 //! The requests that make, activate and move nodes.
 
 use super::WorkerBoard;
+use crate::script_ops::ScriptOps;
 use kf_core::{Key, Node, Refusal};
-use kf_files::{FileError, WaitOps};
+use kf_files::FileError;
 use kf_shared::Naming;
 use std::sync::Wait;
 
-impl<W: WaitOps, N: Naming, R: Wait> WorkerBoard<'_, W, N, R> {
+impl<W: ScriptOps, N: Naming, R: Wait> WorkerBoard<'_, W, N, R> {
     /// A directory at a path, activated where it is to be live. One turn of the tree lock.
     pub(super) fn make_directory(&self, path: &[u8], is_live: bool) -> Result<Key, Refusal> {
         let mut editor = self.common.tree.edit(self.rt);
@@ -40,6 +41,7 @@ impl<W: WaitOps, N: Naming, R: Wait> WorkerBoard<'_, W, N, R> {
         let tag = self.common.new_tag().map_err(FileError::Refused)?;
         self.common
             .serving()
+            .texts
             .first(self.rt, tag, text)
             .map_err(FileError::Callback)?;
         match self.add_file(dir, name, mode, tag) {

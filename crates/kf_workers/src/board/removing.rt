@@ -1,8 +1,8 @@
 //! The request that removes a subtree.
 
 use super::WorkerBoard;
+use crate::script_ops::ScriptOps;
 use kf_core::Refusal;
-use kf_files::WaitOps;
 use kf_shared::Naming;
 use kf_words::Parted;
 use std::sync::Wait;
@@ -15,7 +15,7 @@ fn release_all(mut receipts: Vec<Parted>) {
     receipts.destroy_empty();
 }
 
-impl<W: WaitOps, N: Naming, R: Wait> WorkerBoard<'_, W, N, R> {
+impl<W: ScriptOps, N: Naming, R: Wait> WorkerBoard<'_, W, N, R> {
     /// Removes the subtree at a path, and waits for all callbacks there. Files that are open on its nodes
     /// stay open. What the path named is found, held and doomed in one turn of the tree lock.
     pub(super) fn remove(&self, path: &[u8]) -> Result<(), Refusal> {
