@@ -1,0 +1,6 @@
+-- Short searches: where such a goal fails, they end at once.
+use Rattle.std.proofs.Common.{rules}
+use Rattle.kf_tree.proofs.growth.store.Goals as goal
+
+pub returns-clause-items : goal.returns-clause-items
+returns-clause-items c = search rules

@@ -1,0 +1,6 @@
+-- Short searches: where such a goal fails, they end at once.
+use Rattle.std.proofs.Common.{rules}
+use Rattle.kf_tree.proofs.stat.stat_of.Goals as goal
+
+pub returns : goal.returns
+returns c = search rules
