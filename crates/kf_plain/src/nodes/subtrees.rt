@@ -151,11 +151,12 @@ impl Nodes {
         ensures refused { IfErr result
             (λ refusal. Refuses (linked_cause self.old.log.tree key) refusal × (self.new ≡ self.old)) }
     {
-        let mut keys = self.state.post_order(key)?;
+        let order = self.state.post_order(key)?;
+        let mut risen = Vec::from_slice(*self.pages.allocator(), order.as_slice())?;
         let state = &self.state;
-        keys.retain(|key| is_fresh(state, *key));
-        self.state.activate(key)?;
-        rise_each(&mut self.world, keys.as_slice());
+        risen.retain(|key| is_fresh(state, *key));
+        self.state.activate_in_order(key, order.as_slice())?;
+        rise_each(&mut self.world, risen.as_slice());
         Ok(())
     }
 
