@@ -8,30 +8,36 @@
  * What lies behind a handle:
  *
  *     nothing --kt_create_root()--> a tree
+ *     nothing --kt_post()--> a post
  *     nothing --kt_hold()--> a hold --kt_enter()--> a call, running --kt_break()--> broken --kt_restore()--> restored
  *                             ^--------------kt_leave()-----'<--------------------------kt_leave()--------------'
  *
  * A hold keeps its node's slot from being given again; it does not keep the node in the tree. A call is what a callback
- * runs under. A use that does not fit what lies there (a hold where a tree is asked for, kt_leave() outside a call,
- * kt_enter() twice, kt_leave() of a broken call) answers -EINVAL.
+ * runs under. A post reads and raises the event number of a node's slot. An open file (kt_open()) is a hold too, with a
+ * post and the text of its last show; it is entered and left as a hold is. A use that does not fit what lies there (a
+ * hold where a tree is asked for, kt_leave() outside a call, kt_enter() twice, kt_leave() of a broken call) answers
+ * -EINVAL.
  *
  * Answers: 0 or more where it is done; a Linux error number below 0 where it is not, and then nothing has changed and
  * what `out` points to is as it was; but -EAGAIN of kt_remove() says that it has begun. Only the helpers at the end
  * sleep, take a lock or call back.
  *
- * What is proved, for all inputs, stands beside each call in crates/kernfs_tree/src/calls.rt:
+ * What is proved, for all inputs, stands beside each call in crates/kernfs_tree/src/calls.rt and file_calls.rt:
  * - 0 only where the thing was done, as the tree defines it: the node linked, found, moved, held, activated, out of the
- *   tree; the hold let in while its node was live, the call left, broken, restored. kt_leave() and kt_break() answer 1
- *   exactly where a removal may be waiting for that step.
- * - After an answer below 0, but for -EAGAIN of kt_remove(), the tree, the handle and `out` are as they were (for
- *   kt_next() and kt_readlink() the tree alone; a refused kt_enter() was counted for a moment).
+ *   tree; the hold let in while its node was live, the call left, broken, restored; the event number raised. kt_leave()
+ *   and kt_break() answer 1 exactly where a removal may be waiting for that step.
+ * - What is written to `out` is what the tree, the post or the text has; a length is that of what is written.
+ * - A file is opened where its node is live and its mode allows it. A show begins where the node was entered and the
+ *   event number taken, at offset 0 or where there is no text. Text is kept in a call alone.
+ * - What was behind a handle that is given something new was nothing.
+ * - After an answer below 0, but for -EAGAIN of kt_remove(), the tree, the handle and `out` are as they were (a refused
+ *   try to enter was counted for a moment).
  * - No function reads or writes out of bounds or after a free, and each ends.
  *
  * On a node that is not in the tree nobody runs, and a key that has left it never comes again: these are laws over
- * every run of these functions' steps. Not proved: which error number comes; what kt_stat(), kt_next() and
- * kt_readlink() tell; that kt_remove() and kt_claim() mark, and that kt_remove() takes out only it and those below;
- * which of 0 and 1 kt_clear() and kt_delete() answer; that kt_new() gives a handle; and everything that is C, the
- * helpers below too. `make -C c test` tries these.
+ * every run of these functions' steps. Not proved: which error number comes; that kt_remove() and kt_claim() mark, and
+ * that kt_remove() takes out only it and those below; which of 0 and 1 kt_clear() and kt_delete() answer; that kt_new()
+ * gives a handle; and everything that is C, the helpers below too. `make -C c test` tries these.
  *
  * What a program has to keep to, which the library cannot see:
  * - A handle comes from kt_new(), is used by one function at a time, and not after kt_delete(). It may pass to another
@@ -55,7 +61,7 @@
 #define KT_VERSION_MAJOR 0
 #define KT_VERSION_MINOR 1
 
-/* The kernel's PAGE_SIZE, for a show's text; no function here uses it. */
+/* The kernel's PAGE_SIZE: a show fills as much at most, and a store takes as much. */
 #define KT_PAGE_SIZE 4096
 /* The most nodes of a tree, the root counted; the most holds of a node; the most bytes of a name. */
 #define KT_SLOTS_MAX 4096
@@ -174,7 +180,16 @@ int32_t kt_claim(struct kt_handle *tree, struct kt_key key);
 /* The tree keeps each command that changed it, 88 bytes each. This makes the list as short as may be. 0, -ENOMEM. */
 int32_t kt_compact(struct kt_handle *tree);
 
-/* ---- steps of a hold and a call: no lock, from any thread ---- */
+/* A post of a node's slot, behind a handle with nothing behind it. A node's number is its slot's: it never goes back,
+ * also where the slot is given again. 0, -ENOENT, -EINVAL. */
+int32_t kt_post(struct kt_handle *tree, struct kt_key key, struct kt_handle *post);
+
+/* Opens a file for reading, writing or both (kernfs_fop_open), behind a handle with nothing behind it. 0, and in this
+ * order: -ENOENT, -EISDIR, -EINVAL (a link), -ENODEV (not live), -EACCES (no bit of 0444, or of 0222, of root too, as
+ * in sysfs), -EMFILE (as many holds as there may be), -ENOMEM, -EINVAL (something is behind the handle). */
+int32_t kt_open(struct kt_handle *tree, struct kt_key key, bool read, bool write, struct kt_handle *file);
+
+/* ---- steps of a hold, a call, a post and an open file: no lock, from any thread ---- */
 
 /* Before a callback (kernfs_get_active): 0, and the hold is a call; -ENODEV where the node is not live. After -ENODEV
  * wake those who wait in a removal: the refused try was counted for a moment. */
@@ -188,6 +203,33 @@ int32_t kt_break(struct kt_handle *call);
 
 /* Takes the protection again, whatever became of the node (kernfs_unbreak_active_protection). 0. */
 int32_t kt_restore(struct kt_handle *call);
+
+/* Raises the event number of a post's slot (kernfs_notify), also of a gone node. 0, -EOVERFLOW (it is 2^64 - 1). The
+ * program wakes those who poll. */
+int32_t kt_notify(struct kt_handle *post);
+
+/* The event number of a post's slot, at first 1. 0. */
+int32_t kt_event(struct kt_handle *post, uint64_t *out);
+
+/* An open file in halves, round the program's own show and store. kt_read(), kt_write() and kt_poll() below are these.
+ *
+ * A read at offset 0, or where there is no text, shows anew: kt_begin_read() enters the node, takes its event number
+ * and answers 1. The program shows, hands the text to kt_shown(), which keeps 4,095 bytes of it, and leaves by
+ * kt_leave(). Where the show fails it leaves without kt_shown(), and there is no text then. Else kt_begin_read() is
+ * 0, and needs no live node. -EACCES (not opened for reading), -ENODEV (as of kt_enter()). */
+int32_t kt_begin_read(struct kt_handle *file, uint64_t offset);
+
+/* In a call of the file: this text is the file's. 0. */
+int32_t kt_shown(struct kt_handle *file, const void *text, size_t length);
+
+/* Copies the text from an offset on. How many bytes; -EINVAL where there is no text. */
+int64_t kt_copy(struct kt_handle *file, uint64_t offset, void *out, size_t room);
+
+/* Enters the node for a store. 0, -EACCES (not opened for writing), -ENODEV (as of kt_enter()). */
+int32_t kt_begin_write(struct kt_handle *file);
+
+/* In a running call of the file: 1 where its event number is another than that of its last show, else 0. */
+int32_t kt_changed(struct kt_handle *file);
 
 #ifdef __cplusplus
 }
@@ -309,6 +351,15 @@ static inline int32_t kt_remove_self_wait(struct kt_handle *tree, struct kt_hand
     return answer ? answer : claimed == 0;
 }
 
+/* Leaves a call; one that was left broken is restored first. */
+static inline void kt_end_wake(struct kt_handle *call, struct kt_lock *lock)
+{
+    if (kt_leave_wake(call, lock) == -EINVAL) {
+        kt_restore(call);
+        kt_leave_wake(call, lock);
+    }
+}
+
 /* Runs a callback under a call of a hold: what it answers, or the error of kt_enter(), and then it did not run. It may
  * break and restore its call; a call left broken is restored. */
 typedef int64_t kt_callback(struct kt_handle *call, void *data);
@@ -319,11 +370,60 @@ static inline int64_t kt_run(struct kt_handle *hold, struct kt_lock *lock, kt_ca
     if (answer)
         return answer;
     answer = callback(hold, data);
-    if (kt_leave_wake(hold, lock) == -EINVAL) {
-        kt_restore(hold);
-        kt_leave_wake(hold, lock);
-    }
+    kt_end_wake(hold, lock);
     return answer;
+}
+
+/* Shows into the page: how many bytes, or an error number below 0. */
+typedef int64_t kt_show(struct kt_handle *file, void *data, char *page);
+
+/* Takes 1 to 4,096 bytes: how many it took, or an error number below 0. */
+typedef int64_t kt_store(struct kt_handle *file, void *data, const char *bytes, size_t length);
+
+/* Reads an open file (kernfs_fop_read_iter): how many bytes; -EACCES, -ENODEV, or what the show failed with. */
+static inline int64_t kt_read(struct kt_handle *file, struct kt_lock *lock, uint64_t offset, void *out, size_t room,
+                              kt_show *show, void *data)
+{
+    char page[KT_PAGE_SIZE];
+    int64_t length, begun = kt_begin_read(file, offset);
+    if (begun == -ENODEV)
+        kt_wake(lock);
+    if (begun == 1) {
+        length = show(file, data, page);
+        if (length >= 0)
+            kt_shown(file, page, (size_t)length);
+        else
+            begun = length;
+        kt_end_wake(file, lock);
+    }
+    return begun < 0 ? begun : kt_copy(file, offset, out, room);
+}
+
+/* Writes to an open file (kernfs_fop_write_iter): what the store answers; 0 of no bytes, and then there is no store;
+ * -EACCES, -ENODEV. */
+static inline int64_t kt_write(struct kt_handle *file, struct kt_lock *lock, const char *bytes, size_t length,
+                               kt_store *store, void *data)
+{
+    int64_t answer = kt_begin_write(file);
+    if (answer == -ENODEV)
+        kt_wake(lock);
+    if (answer)
+        return answer;
+    if (length)
+        answer = store(file, data, bytes, length < KT_PAGE_SIZE ? length : KT_PAGE_SIZE);
+    kt_end_wake(file, lock);
+    return answer;
+}
+
+/* Whether an open file has changed since its last show, or its node is not live (kernfs_fop_poll): 1 or 0. */
+static inline int32_t kt_poll(struct kt_handle *file, struct kt_lock *lock)
+{
+    int32_t changed;
+    if (kt_enter_wake(file, lock))
+        return 1;
+    changed = kt_changed(file);
+    kt_end_wake(file, lock);
+    return changed;
 }
 #endif /* KT_NO_PTHREAD */
 

@@ -3,7 +3,7 @@
 #include <stdio.h>
 #include <string.h>
 
-static struct kt_handle tree, hold;
+static struct kt_handle tree, hold, post, open;
 static struct kt_key root, dir, file, key;
 static struct kt_stat stat;
 static char text[300], long_name[201];
@@ -57,6 +57,14 @@ int main(void)
     AGAIN(kt_parent(&tree, file, &key));
     AGAIN(kt_rename(&tree, file, root, long_name, 199));
     AGAIN(kt_compact(&tree));
+    AGAIN(kt_new(&post.at));
+    AGAIN(kt_post(&tree, file, &post));
+    AGAIN(kt_notify(&post));
+    AGAIN(kt_new(&open.at));
+    AGAIN(kt_open(&tree, file, true, true, &open));
+    AGAIN(kt_begin_read(&open, 0));
+    AGAIN(kt_shown(&open, "text", 4));
+    AGAIN(kt_leave(&open));
     AGAIN(kt_hold(&tree, file, &hold));
     AGAIN(kt_enter(&hold));
     AGAIN(kt_stat(&tree, file, &stat));
@@ -67,6 +75,9 @@ int main(void)
     AGAIN(kt_remove(&tree, file));
     AGAIN(kt_clear(&hold));
     list(root);
+    AGAIN(kt_copy(&open, 0, text, sizeof text));
+    kt_delete(post);
+    kt_delete(open);
     kt_delete(hold);
     kt_delete(tree);
     return 0;

@@ -221,6 +221,98 @@ static void self_removal(void)
     TRY(kt_clear(&hold), 1); /* ends the call too */
 }
 
+static void posts(void)
+{
+    uint64_t event = 9;
+    TRY(kt_create_file(&tree, root, "p", 1, 0644, 0, false, &file), 0);
+    TRY(kt_event(&hold, &event), -EINVAL);
+    TRY(kt_notify(&hold), -EINVAL);
+    TRY((int64_t)event, 9);
+    TRY(kt_post(&tree, stale, &hold), -ENOENT);
+    TRY(kt_post(&hold, file, &other), -EINVAL);
+    TRY(kt_post(&tree, file, &tree), -EINVAL);
+    TRY(kt_post(&tree, file, &hold), 0);
+    TRY(kt_post(&tree, file, &hold), -EINVAL);
+    TRY(kt_post(&tree, file, &other), 0);
+    TRY(kt_event(&hold, &event), 0);
+    TRY((int64_t)event, 1);
+    TRY(kt_notify(&other), 0);
+    TRY(kt_notify(&other), 0);
+    TRY(kt_event(&hold, &event), 0);
+    TRY((int64_t)event, 3);
+    TRY(kt_enter(&hold), -EINVAL);
+    TRY(kt_clear(&hold), 0);
+}
+
+static void open_files(void)
+{
+    char page[5000];
+    memset(page, 'x', sizeof page);
+    TRY(kt_open(&tree, file, true, true, &hold), -ENODEV);
+    TRY(kt_activate(&tree, file), 0);
+    TRY(kt_open(&tree, root, true, false, &hold), -EISDIR);
+    TRY(kt_open(&tree, link_key, true, false, &hold), -EINVAL);
+    TRY(kt_open(&tree, stale, true, false, &hold), -ENOENT);
+    TRY(kt_open(&other, file, true, false, &hold), -EINVAL);
+    TRY(kt_open(&tree, file, true, true, &other), -EINVAL);
+    TRY(kt_begin_read(&hold, 0), -EINVAL);
+    TRY(kt_open(&tree, file, true, true, &hold), 0);
+    TRY(kt_copy(&hold, 0, text, sizeof text), -EINVAL);
+    TRY(kt_shown(&hold, page, 1), -EINVAL);
+    TRY(kt_changed(&hold), -EINVAL);
+    TRY(kt_enter(&hold), 0);
+    TRY(kt_changed(&hold), 1);
+    TRY(kt_begin_read(&hold, 0), -EINVAL);
+    TRY(kt_begin_write(&hold), -EINVAL);
+    TRY(kt_leave(&hold), 0);
+    TRY(kt_begin_read(&hold, 7), 1);
+    TRY(kt_shown(&hold, page, sizeof page), 0);
+    TRY(kt_changed(&hold), 0);
+    TRY(kt_notify(&other), 0);
+    TRY(kt_changed(&hold), 1);
+    TRY(kt_break(&hold), 0);
+    TRY(kt_changed(&hold), -EINVAL);
+    TRY(kt_restore(&hold), 0);
+    TRY(kt_leave(&hold), 0);
+    TRY(kt_begin_read(&hold, 4090), 0);
+    TRY(kt_copy(&hold, 4090, text, sizeof text), 5); /* 4,095 bytes are kept */
+    TRY(kt_copy(&hold, 4095, text, sizeof text), 0);
+    TRY(kt_copy(&hold, UINT64_MAX, text, sizeof text), 0);
+    TRY(kt_copy(&hold, 0, text, 3), 3);
+    TRY(kt_begin_read(&hold, 0), 1);
+    TRY(kt_leave(&hold), 0); /* as after a show that failed */
+    TRY(kt_copy(&hold, 0, text, sizeof text), -EINVAL);
+    TRY(kt_begin_write(&hold), 0);
+    TRY(kt_leave(&hold), 0);
+    TRY(kt_begin_read(&hold, 0), 1);
+    TRY(kt_shown(&hold, "abc", 3), 0);
+    TRY(kt_remove(&tree, file), -EAGAIN);
+    TRY(kt_leave(&hold), 1);
+    TRY(kt_remove(&tree, file), 0);
+    TRY(kt_begin_read(&hold, 0), -ENODEV);
+    TRY(kt_begin_write(&hold), -ENODEV);
+    TRY(kt_begin_read(&hold, 1), 0);
+    TRY(kt_copy(&hold, 1, text, sizeof text), 2);
+    TRY(memcmp(text, "bc", 2), 0);
+    TRY(kt_open(&tree, file, true, false, &nothing), -ENOENT);
+    TRY(kt_clear(&hold), 0);
+    TRY(kt_clear(&other), 0);
+    TRY(kt_create_file(&tree, root, "r", 1, 0440, 0, true, &file), 0);
+    TRY(kt_open(&tree, file, true, true, &hold), -EACCES);
+    TRY(kt_open(&tree, file, false, true, &hold), -EACCES);
+    TRY(kt_open(&tree, file, true, false, &hold), 0);
+    TRY(kt_begin_write(&hold), -EACCES);
+    TRY(kt_clear(&hold), 0);
+    TRY(kt_remove(&tree, file), 0);
+    TRY(kt_create_file(&tree, root, "w", 1, 0200, 0, true, &file), 0);
+    TRY(kt_open(&tree, file, true, false, &hold), -EACCES);
+    TRY(kt_open(&tree, file, false, true, &hold), 0);
+    TRY(kt_begin_read(&hold, 0), -EACCES);
+    TRY(kt_begin_write(&hold), 0);
+    TRY(kt_clear(&hold), 0); /* ends the call too */
+    TRY(kt_remove(&tree, file), 0);
+}
+
 int main(void)
 {
     TRY(kt_new(&tree.at), 0);
@@ -235,6 +327,8 @@ int main(void)
     holds();
     removal();
     self_removal();
+    posts();
+    open_files();
     TRY(kt_delete(nothing), 0);
     TRY(kt_delete(other), 0);
     TRY(kt_delete(hold), 0);

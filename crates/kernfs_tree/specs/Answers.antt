@@ -170,9 +170,10 @@ Wrote Such (negsuc why) out out' = out' ≡ out
 
 -- ---- what lies behind the handle
 
--- there was a tree and there is one, and this holds of both
+-- there was a tree and there is one, of the same event numbers, and this holds of both
 abbrev pub OfTrees : (Locked → Locked → Type 0) → Object → Object → Type 0
-OfTrees Such (behind.Tree old) (behind.Tree new) = Such old.value new.value
+OfTrees Such (behind.Tree old) (behind.Tree new) =
+    Such old.value.nodes new.value.nodes × (new.value.posts ≡ old.value.posts)
 OfTrees Such old new = ⊥
 
 -- it is the text that the tree answers to the question
@@ -182,11 +183,13 @@ IsTextOf question old new text = (reply : Vec ℕ Global) × (reply.items ≡ te
 
 -- the tree is as it was, the loads of the words aside; what is no tree is all as it was
 abbrev pub IsAsBefore : Object → Object → Type 0
-IsAsBefore (behind.Tree old) (behind.Tree new) = Unchanged old.value new.value
+IsAsBefore (behind.Tree old) (behind.Tree new) =
+    Unchanged old.value.nodes new.value.nodes × (new.value.posts ≡ old.value.posts)
 IsAsBefore old new = new ≡ old
 
 -- the question is answered by the tree behind the handle, or there is none there
 abbrev pub AnsweredBehind : Question → Object → Object → Reply → Type 0
 AnsweredBehind question (behind.Tree old) (behind.Tree new) reply =
-    Answered old.value.master.table question old.value new.value reply
+    Answered old.value.nodes.master.table question old.value.nodes new.value.nodes reply
+    × (new.value.posts ≡ old.value.posts)
 AnsweredBehind question old new reply = (new ≡ old) × (reply ≡ told.Wrong)

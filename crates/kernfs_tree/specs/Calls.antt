@@ -17,6 +17,9 @@ use Rattle.kf_words.specs.Steps.{opened}
 use Rattle.kf_tree.specs.Paths.{found, walked}
 use Rattle.kf_shared.specs.Locked.{Created, IsHoldOfNode, is_claimed}
 use Rattle.kernfs_tree.specs.declared.object.Object.{Object}
+use Rattle.kernfs_tree.specs.declared.object.Place.{Place}
+use Rattle.kernfs_tree.specs.declared.object.Seat.{Seat}
+use Rattle.kernfs_tree.specs.declared.object.Seat.TheVariants as seat
 use Rattle.kernfs_tree.specs.declared.replies.KtKey.{KtKey}
 use Rattle.kernfs_tree.specs.declared.replies.KtStat.{KtStat}
 use Rattle.kernfs_tree.specs.declared.object.Object.TheVariants as behind
@@ -117,16 +120,17 @@ abbrev pub IsLinkedIn : Object → Object → KtKey → Bool → Type 0
 IsLinkedIn old new key linked =
     OfTrees (λ before after. is_linked after.state.tree (key_in key) ≡ linked) old new
 
--- it is a new tree of the root alone, of so many slots and holds of each
+-- it is a new tree of the root alone, of so many slots and holds of each; the event number of each slot is 1
 abbrev pub IsNewTree : ℕ → ℕ → Object → Type 0
-IsNewTree slots holds (behind.Tree tree) = IsNew slots (record { slot = 0; generation = 1 }) tree.value.state
-    × (tree.value.master.view ≡ opened holds slots 0)
+IsNewTree slots holds (behind.Tree tree) = IsNew slots (record { slot = 0; generation = 1 }) tree.value.nodes.state
+    × (tree.value.nodes.master.view ≡ opened holds slots 0)
+    × (tree.value.posts.slots ≡ slots) × (tree.value.posts.start ≡ 1)
 IsNewTree slots holds other = ⊥
 
 -- it is a hold of the node that has this key in the tree
-abbrev pub HoldsNode : Object → KtKey → Object → Type 0
-HoldsNode (behind.Tree tree) key (behind.Hold held) =
-    IsHoldOfNode tree.value.master.table tree.value.state.tree (key_in key) held.hold
+abbrev pub HoldsNode : Object → KtKey → Seat → Type 0
+HoldsNode (behind.Tree tree) key (seat.Hold held) =
+    IsHoldOfNode tree.value.nodes.master.table tree.value.nodes.state.tree (key_in key) held.hold
 HoldsNode tree key other = ⊥
 
 -- it is the root's key, and the tree is as it was
@@ -153,5 +157,5 @@ ClaimedIn old new key before_this = OfTrees (λ before after.
     (is_claimed before.claims (key_in key) ≡ before_this) × ClaimedTo before after (key_in key)) old new
 
 -- nothing lies there
-abbrev pub IsNothing : Object → Type 0
-IsNothing object = object ≡ behind.Empty
+abbrev pub IsNothing : Place → Type 0
+IsNothing place = (place.seat ≡ seat.None) × (place.object ≡ behind.Empty)

@@ -137,7 +137,7 @@ pub fn ask_object(object: Object, question: Question<'_>) -> (Object, Reply)
 {
     match object {
         Object::Tree(mut tree) => {
-            let reply = replace_with(tree.as_mut(), question, ask);
+            let reply = replace_with(&mut tree.as_mut().nodes, question, ask);
             (Object::Tree(tree), reply)
         }
         other => (other, Reply::Wrong),

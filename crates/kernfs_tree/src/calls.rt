@@ -1,14 +1,16 @@
 //! The calls of a program. Each answers 0 or more, or a Linux error number below 0, and then nothing changed.
 ghost use Rattle.std.specs.Prelude.{◌≡◌, ◌≢◌, ◌⊎◌, pos, negsuc, false, true};
 ghost use Rattle.kf_core.specs.declared.key.Node.TheVariants as kind;
+ghost use Rattle.kernfs_tree.specs.declared.object.Object.TheVariants as behind;
 ghost use Rattle.kernfs_tree.specs.Answers.{IsAsBefore, Wrote};
 ghost use Rattle.kernfs_tree.specs.Calls.{key_in, CreatedIn, FoundIn, WalkedIn, IsLinkedIn, IsNewTree, HoldsNode, RootIn, ActivatedIn, MovedIn, CompactedIn, ClaimedIn, IsNothing, ToldIn, NextIn, LinkTextIn, ParentIn, NameIn, PathIn};
+ghost use Rattle.kernfs_tree.specs.Numbers.{HasPostOf, IsSameTree, WasNotified, WasFull, TookNumber};
 ghost use Rattle.kernfs_tree.specs.Steps.{WasEntered, WasRefused, WasLeft, WasBroken, WasRestored, wake_of};
 
 use crate::handle::KtHandle;
 use crate::questions::Question;
 use crate::replies::{KtKey, KtStat, key_of};
-use crate::{replies, stepping};
+use crate::{numbers, replies, stepping};
 use kf_core::{Key, Node};
 use std::alloc::Global;
 
@@ -27,7 +29,7 @@ pub extern "C" fn kt_delete(handle: KtHandle) -> i32 {
 /// Lets go of what lies behind a handle: a hold is released, and a call ended first.
 #[unsafe(no_mangle)]
 pub extern "C" fn kt_clear(handle: &mut KtHandle) -> i32
-    ensures empty { IsNothing handle.new.place.object }
+    ensures empty { IsNothing handle.new.place }
 {
     replies::clear(handle)
 }
@@ -41,7 +43,8 @@ pub extern "C" fn kt_create_root(
     holds: u32,
 ) -> i32
     ensures made { result ≡ pos 0 → IsNewTree slots holds handle.new.place.object }
-    ensures same { result ≢ pos 0 → handle.new.place.object ≡ handle.old.place.object }
+    ensures was { result ≡ pos 0 → IsNothing handle.old.place }
+    ensures same { result ≢ pos 0 → handle.new.place ≡ handle.old.place }
 {
     replies::make_tree(alloc, handle, slots, holds)
 }
@@ -275,14 +278,17 @@ pub extern "C" fn kt_compact(tree: &mut KtHandle) -> i32
 /// A hold of a node, behind a handle with nothing behind it (`kernfs_get`).
 #[unsafe(no_mangle)]
 pub extern "C" fn kt_hold(tree: &mut KtHandle, key: KtKey, out: &mut KtHandle) -> i32
-    ensures held { result ≡ pos 0 → HoldsNode tree.old.place.object key out.new.place.object }
+    ensures held { result ≡ pos 0 → HoldsNode tree.old.place.object key out.new.place.seat
+        × (out.new.place.object ≡ behind.Empty) }
     ensures tree { IsAsBefore tree.old.place.object tree.new.place.object }
-    ensures same { result ≢ pos 0 → out.new.place.object ≡ out.old.place.object }
+    ensures was { result ≡ pos 0 → IsNothing out.old.place }
+    ensures same { result ≢ pos 0 → out.new.place ≡ out.old.place }
 {
     replies::hold(tree, key, out)
 }
 
-/// Claims the removal of a node by itself: 0, or 1 where it was claimed before.
+/// Claims the self-removal of a node (`kernfs_remove_self`), after it has marked the node and all below it. 0 for
+/// the first that claims it, and 1 for each later one.
 #[unsafe(no_mangle)]
 pub extern "C" fn kt_claim(tree: &mut KtHandle, key: KtKey) -> i32
     ensures first { result ≡ pos 0 → ClaimedIn tree.old.place.object tree.new.place.object key false }
@@ -306,11 +312,43 @@ pub extern "C" fn kt_remove(tree: &mut KtHandle, key: KtKey) -> i32
     replies::remove(tree, key)
 }
 
+/// A post of the slot of a node, behind a handle with nothing behind it.
+#[unsafe(no_mangle)]
+pub extern "C" fn kt_post(tree: &mut KtHandle, key: KtKey, out: &mut KtHandle) -> i32
+    ensures posted { result ≡ pos 0 →
+        HasPostOf tree.old.place.object (key_in key) out.new.place.object }
+    ensures tree { IsSameTree tree.old.place.object tree.new.place.object }
+    ensures was { result ≡ pos 0 → IsNothing out.old.place }
+    ensures same { result ≢ pos 0 → out.new.place ≡ out.old.place }
+{
+    numbers::post(tree, key, out)
+}
+
+/// Raises the event number of a post's slot (`kernfs_notify`).
+#[unsafe(no_mangle)]
+pub extern "C" fn kt_notify(post: &mut KtHandle) -> i32
+    ensures notified { result ≡ pos 0 → WasNotified post.old.place.object post.new.place.object }
+    ensures full { result ≢ pos 0 → WasFull post.old.place.object post.new.place.object }
+{
+    numbers::notify(post)
+}
+
+/// The event number of a post's slot (`kernfs_open_node.event`).
+#[unsafe(no_mangle)]
+pub extern "C" fn kt_event(post: &mut KtHandle, out: &mut u64) -> i32
+    ensures took { result ≡ pos 0 → TookNumber post.old.place.object out.new post.new.place.object }
+    ensures same { result ≢ pos 0 →
+        (post.new.place.object ≡ post.old.place.object) × (out.new ≡ out.old) }
+{
+    numbers::number(post, out)
+}
+
 /// Tries for an active reference (`kernfs_get_active`): 0, or -ENODEV where the node is not live.
 #[unsafe(no_mangle)]
 pub extern "C" fn kt_enter(hold: &mut KtHandle) -> i32
-    ensures entered { result ≡ pos 0 → WasEntered hold.old.place.object hold.new.place.object }
-    ensures refused { result ≢ pos 0 → WasRefused hold.old.place.object hold.new.place.object }
+    ensures entered { result ≡ pos 0 → WasEntered hold.old.place.seat hold.new.place.seat }
+    ensures refused { result ≢ pos 0 → WasRefused hold.old.place.seat hold.new.place.seat }
+    ensures beside { hold.new.place.object ≡ hold.old.place.object }
 {
     stepping::enter(hold)
 }
@@ -319,9 +357,10 @@ pub extern "C" fn kt_enter(hold: &mut KtHandle) -> i32
 #[unsafe(no_mangle)]
 pub extern "C" fn kt_leave(call: &mut KtHandle) -> i32
     ensures left { (result ≡ pos 0) ⊎ (result ≡ pos 1) →
-        WasLeft call.old.place.object call.new.place.object }
-    ensures owed { (result ≡ pos 0) ⊎ (result ≡ pos 1) → result ≡ wake_of call.new.place.object }
-    ensures same { result ≢ pos 0 → result ≢ pos 1 → call.new.place.object ≡ call.old.place.object }
+        WasLeft call.old.place.seat call.new.place.seat }
+    ensures owed { (result ≡ pos 0) ⊎ (result ≡ pos 1) → result ≡ wake_of call.new.place.seat }
+    ensures same { result ≢ pos 0 → result ≢ pos 1 → call.new.place.seat ≡ call.old.place.seat }
+    ensures beside { call.new.place.object ≡ call.old.place.object }
 {
     stepping::leave(call)
 }
@@ -331,9 +370,10 @@ pub extern "C" fn kt_leave(call: &mut KtHandle) -> i32
 #[unsafe(no_mangle)]
 pub extern "C" fn kt_break(call: &mut KtHandle) -> i32
     ensures broken { (result ≡ pos 0) ⊎ (result ≡ pos 1) →
-        WasBroken call.old.place.object call.new.place.object }
-    ensures owed { (result ≡ pos 0) ⊎ (result ≡ pos 1) → result ≡ wake_of call.new.place.object }
-    ensures same { result ≢ pos 0 → result ≢ pos 1 → call.new.place.object ≡ call.old.place.object }
+        WasBroken call.old.place.seat call.new.place.seat }
+    ensures owed { (result ≡ pos 0) ⊎ (result ≡ pos 1) → result ≡ wake_of call.new.place.seat }
+    ensures same { result ≢ pos 0 → result ≢ pos 1 → call.new.place.seat ≡ call.old.place.seat }
+    ensures beside { call.new.place.object ≡ call.old.place.object }
 {
     stepping::break_off(call)
 }
@@ -341,8 +381,9 @@ pub extern "C" fn kt_break(call: &mut KtHandle) -> i32
 /// Takes a reference again (`kernfs_unbreak_active_protection`).
 #[unsafe(no_mangle)]
 pub extern "C" fn kt_restore(call: &mut KtHandle) -> i32
-    ensures restored { result ≡ pos 0 → WasRestored call.old.place.object call.new.place.object }
-    ensures same { result ≢ pos 0 → call.new.place.object ≡ call.old.place.object }
+    ensures restored { result ≡ pos 0 → WasRestored call.old.place.seat call.new.place.seat }
+    ensures same { result ≢ pos 0 → call.new.place.seat ≡ call.old.place.seat }
+    ensures beside { call.new.place.object ≡ call.old.place.object }
 {
     stepping::restore(call)
 }

@@ -10,6 +10,9 @@ pub const AGAIN: i32 = -11;
 /// No memory (`ENOMEM`).
 pub const NO_MEMORY: i32 = -12;
 
+/// The file was not opened for that (`EACCES`).
+pub const ACCESS: i32 = -13;
+
 /// The node is not live (`ENODEV`).
 pub const NO_DEVICE: i32 = -19;
 
@@ -18,6 +21,9 @@ pub const INVALID: i32 = -22;
 
 /// It does not fit (`ERANGE`).
 pub const RANGE: i32 = -34;
+
+/// The number is at its last (`EOVERFLOW`).
+pub const OVERFLOW: i32 = -75;
 
 /// The error number of a refusal.
 pub fn error_of(refusal: Refusal) -> i32

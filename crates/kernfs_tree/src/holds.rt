@@ -1,6 +1,6 @@
 //! Holds and calls that are given back where they are let go.
-ghost use Rattle.std.specs.Prelude.{◌≡◌};
-ghost use Rattle.kf_words.specs.Callers.{is_in_call};
+ghost use Rattle.std.specs.Prelude.{◌≡◌, IsTrue};
+ghost use Rattle.kf_core.specs.declared.caller.Phase.TheVariants.{Running};
 
 use kf_core::Phase;
 use kf_words::{Call, Hold};
@@ -48,6 +48,12 @@ impl Inside {
     {
         let Inside { call } = self;
         call
+    }
+
+    pub fn is_running(&self) -> bool
+        ensures { IsTrue result → self.now.call.phase ≡ Running }
+    {
+        self.call.phase() == Phase::Running
     }
 
     /// Ends the call, whatever its phase is, and gives its hold of the slot back. True where one who sleeps

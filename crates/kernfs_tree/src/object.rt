@@ -1,39 +1,92 @@
-//! What lies behind a handle.
+//! What lies behind a handle: a hold or a call, and what is beside it.
+ghost use Rattle.std.specs.Prelude.{◌≡◌, IsTrue};
+ghost use Rattle.kernfs_tree.specs.Calls.{IsNothing};
+
+use crate::file::File;
 use crate::holds::{Held, Inside};
+use kf_notify::{Post, Posts};
 use kf_shared::NewTree;
 
-/// What lies behind a handle.
+/// A hold of a node, or a call of one.
 #[derive(Drop)]
-pub enum Object {
-    Empty,
-    Tree(Box<NewTree>),
+pub enum Seat {
+    None,
     Hold(Held),
     Call(Inside),
 }
 
-/// An object in memory of its own. The words after it keep it off the cache lines of the next one.
+/// What is beside a seat.
+#[derive(Drop)]
+pub enum Object {
+    Empty,
+    Tree(Box<Tree>),
+    Post(Post),
+    File(Box<File>),
+}
+
+/// A tree, and the event numbers of its slots.
+#[derive(Drop)]
+pub struct Tree {
+    pub nodes: NewTree,
+    pub posts: Posts,
+}
+
+/// A seat and an object in memory of their own. The words after them keep them off the cache lines of the
+/// next ones.
 #[derive(Drop)]
 pub struct Place {
+    pub seat: Seat,
     pub object: Object,
     apart: [u64; 8],
 }
 
 impl Place {
-    /// The place of nothing.
-    pub fn new() -> Place {
+    /// A place with these.
+    pub fn of(seat: Seat, object: Object) -> Place
+        ensures seat { result.seat ≡ seat }
+        ensures object { result.object ≡ object }
+    {
         Place {
-            object: Object::Empty,
+            seat,
+            object,
             apart: [0; 8],
         }
     }
-}
 
-impl Object {
-    /// Lets go of it: a hold is released, and a call ended first. True where one who sleeps at the node of a
-    /// call may wait for that.
+    /// The seat, and what is beside it.
+    pub fn into_parts(self) -> (Seat, Object)
+        ensures seat { result.0 ≡ self.seat }
+        ensures object { result.1 ≡ self.object }
+    {
+        let Place {
+            seat,
+            object,
+            apart: _,
+        } = self;
+        (seat, object)
+    }
+
+    /// Whether nothing lies there.
+    pub fn is_empty(&self) -> bool
+        ensures { IsTrue result → IsNothing self.now }
+    {
+        match (&self.seat, &self.object) {
+            (Seat::None, Object::Empty) => true,
+            _ => false,
+        }
+    }
+
+    /// Lets go of what lies there: a hold is released, and a call ended first. True where one who sleeps at
+    /// the node of a call may wait for that.
     pub fn end(self) -> bool {
-        match self {
-            Object::Call(inside) => inside.end(),
+        let Place {
+            seat,
+            object,
+            apart: _,
+        } = self;
+        drop(object);
+        match seat {
+            Seat::Call(inside) => inside.end(),
             other => {
                 drop(other);
                 false

@@ -1,5 +1,5 @@
 //! Removal in steps: each marks what is not marked yet, and takes out what nobody uses.
-ghost use Rattle.std.specs.Prelude.{◌≡◌, true, false, IfErr, OnErr, MatchBool};
+ghost use Rattle.std.specs.Prelude.{◌≡◌, true, false, OnErr};
 ghost use Rattle.kf_core.specs.Tree.{is_linked};
 ghost use Rattle.kf_shared.specs.Locked.{Unchanged, is_claimed};
 ghost use Rattle.kernfs_tree.specs.Answers.{ClaimedTo, DoneOr};

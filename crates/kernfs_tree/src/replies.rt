@@ -2,15 +2,17 @@
 ghost use Rattle.std.specs.Prelude.{◌≡◌, ◌≢◌, true, false, pos, negsuc};
 ghost use Rattle.kernfs_tree.specs.Answers.{Answered, AnsweredBehind, OfTrees, IsAsBefore, IsTextOf, Wrote, is_change, is_naming, is_reading};
 ghost use Rattle.kernfs_tree.specs.Calls.{IsNewTree, HoldsNode, IsLinkedIn, ClaimedIn, IsNothing, ToldIn, NextIn, stat_in_c};
+ghost use Rattle.kernfs_tree.specs.declared.object.Object.TheVariants as behind;
 ghost use Rattle.kernfs_tree.specs.declared.questions.Reply.TheVariants as told;
 
 use crate::answers::ask_object;
 use crate::errors::{AGAIN, INVALID, NO_MEMORY, RANGE, error_of};
 use crate::handle::KtHandle;
-use crate::object::{Object, Place};
+use crate::object::{Object, Place, Seat, Tree};
 use crate::questions::{Question, Reply};
 use core::mem::replace_with;
 use kf_core::{Key, Limits, Node};
+use kf_notify::Posts;
 use kf_shared::SharedTree;
 use kf_tree::Stat;
 use std::alloc::Global;
@@ -53,7 +55,7 @@ pub fn key_of(key: KtKey) -> Key
 }
 
 /// Asks what lies behind a handle.
-fn ask_handle(handle: KtHandle, question: Question<'_>) -> (KtHandle, Reply)
+pub fn ask_handle(handle: KtHandle, question: Question<'_>) -> (KtHandle, Reply)
     ensures { AnsweredBehind question.entry handle.place.object result.0.place.object result.1 }
 {
     let mut boxed = handle.into_box();
@@ -167,7 +169,7 @@ fn told_of(stat: Stat) -> KtStat
 }
 
 /// The number of bytes, copied to the front of `out`; -ERANGE where they do not fit there.
-fn copied(bytes: &[u8], out: &mut [u8]) -> i64
+pub fn copied(bytes: &[u8], out: &mut [u8]) -> i64
     ensures { Wrote (λ text. text ≡ bytes.now) result out.old out.new }
 {
     let Ok(count) = i64::try_from(bytes.len()) else {
@@ -227,38 +229,44 @@ pub fn claim(handle: &mut KtHandle, key: KtKey) -> i32
     }
 }
 
-/// Puts the object where there is nothing.
-fn put(object: Object, new: Object) -> (Object, i32)
-    ensures put { result.1 ≡ pos 0 → result.0 ≡ new }
-    ensures same { result.1 ≢ pos 0 → result.0 ≡ object }
+/// Puts this where there is nothing.
+fn put(place: Place, new: Place) -> (Place, i32)
+    ensures put { result.1 ≡ pos 0 → IsNothing place × (result.0 ≡ new) }
+    ensures same { result.1 ≢ pos 0 → result.0 ≡ place }
 {
-    match object {
-        Object::Empty => (new, 0),
-        other => {
-            new.end();
-            (other, INVALID)
-        }
+    if place.is_empty() {
+        place.end();
+        (new, 0)
+    } else {
+        new.end();
+        (place, INVALID)
     }
 }
 
-fn put_handle(handle: KtHandle, new: Object) -> (KtHandle, i32)
-    ensures put { result.1 ≡ pos 0 → result.0.place.object ≡ new }
-    ensures same { result.1 ≢ pos 0 → result.0.place.object ≡ handle.place.object }
+/// Puts this behind a handle with nothing behind it.
+pub fn put_handle(handle: KtHandle, new: Place) -> (KtHandle, i32)
+    ensures put { result.1 ≡ pos 0 → IsNothing handle.place × (result.0.place ≡ new) }
+    ensures same { result.1 ≢ pos 0 → result.0.place ≡ handle.place }
 {
     let mut boxed = handle.into_box();
-    let answer = replace_with(&mut boxed.as_mut().object, new, put);
+    let answer = replace_with(boxed.as_mut(), new, put);
     (KtHandle::of(boxed), answer)
 }
 
 /// Takes a hold of a node, and puts it behind a handle with nothing behind it.
 pub fn hold(handle: &mut KtHandle, key: KtKey, out: &mut KtHandle) -> i32
-    ensures held { result ≡ pos 0 → HoldsNode handle.old.place.object key out.new.place.object }
+    ensures held { result ≡ pos 0 → HoldsNode handle.old.place.object key out.new.place.seat
+        × (out.new.place.object ≡ behind.Empty) }
+    ensures was { result ≡ pos 0 → IsNothing out.old.place }
     ensures tree { IsAsBefore handle.old.place.object handle.new.place.object }
-    ensures same { result ≢ pos 0 → out.new.place.object ≡ out.old.place.object }
+    ensures same { result ≢ pos 0 → out.new.place ≡ out.old.place }
 {
     let key = key_of(key);
     match replace_with(handle, Question::Hold(key), ask_handle) {
-        Reply::Held(held) => replace_with(out, Object::Hold(held), put_handle),
+        Reply::Held(held) => {
+            let place = Place::of(Seat::Hold(held), Object::Empty);
+            replace_with(out, place, put_handle)
+        }
         Reply::Refused(refusal) => error_of(refusal),
         _ => INVALID,
     }
@@ -266,7 +274,7 @@ pub fn hold(handle: &mut KtHandle, key: KtKey, out: &mut KtHandle) -> i32
 
 /// A new handle with nothing behind it.
 pub fn make(alloc: Global, out: &mut *mut u8) -> i32 {
-    match Box::new(alloc, Place::new()) {
+    match Box::new(alloc, Place::of(Seat::None, Object::Empty)) {
         Ok(boxed) => {
             *out = KtHandle::of(boxed).into_pointer();
             0
@@ -278,39 +286,50 @@ pub fn make(alloc: Global, out: &mut *mut u8) -> i32 {
 /// A new tree of the root alone, behind a handle with nothing behind it.
 pub fn make_tree(alloc: Global, handle: &mut KtHandle, slots: u32, holds: u32) -> i32
     ensures made { result ≡ pos 0 → IsNewTree slots holds handle.new.place.object }
-    ensures same { result ≢ pos 0 → handle.new.place.object ≡ handle.old.place.object }
+    ensures was { result ≡ pos 0 → IsNothing handle.old.place }
+    ensures same { result ≢ pos 0 → handle.new.place ≡ handle.old.place }
 {
     let Some(limits) = Limits::new(slots, holds) else {
         return INVALID;
     };
-    let tree = match SharedTree::<Brand>::new(alloc, limits) {
-        Ok(tree) => tree,
+    let nodes = match SharedTree::<Brand>::new(alloc, limits) {
+        Ok(nodes) => nodes,
         Err(refusal) => return error_of(refusal),
     };
-    match Box::new(alloc, tree) {
-        Ok(tree) => replace_with(handle, Object::Tree(tree), put_handle),
+    let posts = match Posts::new(alloc, slots) {
+        Ok(posts) => posts,
+        Err(refusal) => return error_of(refusal),
+    };
+    match Box::new(alloc, Tree { nodes, posts }) {
+        Ok(tree) => {
+            let place = Place::of(Seat::None, Object::Tree(tree));
+            replace_with(handle, place, put_handle)
+        }
         Err(_) => NO_MEMORY,
     }
 }
 
-fn end(object: Object, _nothing: ()) -> (Object, i32)
+fn end(place: Place, _nothing: ()) -> (Place, i32)
     ensures { IsNothing result.0 }
 {
-    let wanted = object.end();
-    (Object::Empty, if wanted { 1 } else { 0 })
+    let wanted = place.end();
+    (
+        Place::of(Seat::None, Object::Empty),
+        if wanted { 1 } else { 0 },
+    )
 }
 
 fn end_handle(handle: KtHandle, nothing: ()) -> (KtHandle, i32)
-    ensures { IsNothing result.0.place.object }
+    ensures { IsNothing result.0.place }
 {
     let mut boxed = handle.into_box();
-    let answer = replace_with(&mut boxed.as_mut().object, nothing, end);
+    let answer = replace_with(boxed.as_mut(), nothing, end);
     (KtHandle::of(boxed), answer)
 }
 
 /// Lets go of what lies behind a handle: 1 where one who sleeps may wait for that.
 pub fn clear(handle: &mut KtHandle) -> i32
-    ensures { IsNothing handle.new.place.object }
+    ensures { IsNothing handle.new.place }
 {
     replace_with(handle, (), end_handle)
 }
@@ -318,7 +337,7 @@ pub fn clear(handle: &mut KtHandle) -> i32
 /// Lets go of a handle and of what lies behind it.
 pub fn delete(handle: KtHandle) -> i32 {
     let mut boxed = handle.into_box();
-    let answer = replace_with(&mut boxed.as_mut().object, (), end);
+    let answer = replace_with(boxed.as_mut(), (), end);
     drop(boxed);
     answer
 }

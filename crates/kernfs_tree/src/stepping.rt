@@ -8,53 +8,58 @@ use core::mem::replace_with;
 
 #[inline(always)]
 fn enter_handle(handle: KtHandle, nothing: ()) -> (KtHandle, i32)
-    ensures entered { result.1 ≡ pos 0 → WasEntered handle.place.object result.0.place.object }
-    ensures refused { result.1 ≢ pos 0 → WasRefused handle.place.object result.0.place.object }
+    ensures entered { result.1 ≡ pos 0 → WasEntered handle.place.seat result.0.place.seat }
+    ensures refused { result.1 ≢ pos 0 → WasRefused handle.place.seat result.0.place.seat }
+    ensures beside { result.0.place.object ≡ handle.place.object }
 {
     let mut boxed = handle.into_box();
-    let answer = replace_with(&mut boxed.as_mut().object, nothing, steps::enter);
+    let answer = replace_with(&mut boxed.as_mut().seat, nothing, steps::enter);
     (KtHandle::of(boxed), answer)
 }
 
 #[inline(always)]
 fn leave_handle(handle: KtHandle, nothing: ()) -> (KtHandle, i32)
     ensures left { (result.1 ≡ pos 0) ⊎ (result.1 ≡ pos 1) →
-        WasLeft handle.place.object result.0.place.object }
+        WasLeft handle.place.seat result.0.place.seat }
     ensures owed { (result.1 ≡ pos 0) ⊎ (result.1 ≡ pos 1) →
-        result.1 ≡ wake_of result.0.place.object }
-    ensures same { result.1 ≢ pos 0 → result.1 ≢ pos 1 → result.0.place.object ≡ handle.place.object }
+        result.1 ≡ wake_of result.0.place.seat }
+    ensures same { result.1 ≢ pos 0 → result.1 ≢ pos 1 → result.0.place.seat ≡ handle.place.seat }
+    ensures beside { result.0.place.object ≡ handle.place.object }
 {
     let mut boxed = handle.into_box();
-    let answer = replace_with(&mut boxed.as_mut().object, nothing, steps::leave);
+    let answer = replace_with(&mut boxed.as_mut().seat, nothing, steps::leave);
     (KtHandle::of(boxed), answer)
 }
 
 fn break_handle(handle: KtHandle, nothing: ()) -> (KtHandle, i32)
     ensures broken { (result.1 ≡ pos 0) ⊎ (result.1 ≡ pos 1) →
-        WasBroken handle.place.object result.0.place.object }
+        WasBroken handle.place.seat result.0.place.seat }
     ensures owed { (result.1 ≡ pos 0) ⊎ (result.1 ≡ pos 1) →
-        result.1 ≡ wake_of result.0.place.object }
-    ensures same { result.1 ≢ pos 0 → result.1 ≢ pos 1 → result.0.place.object ≡ handle.place.object }
+        result.1 ≡ wake_of result.0.place.seat }
+    ensures same { result.1 ≢ pos 0 → result.1 ≢ pos 1 → result.0.place.seat ≡ handle.place.seat }
+    ensures beside { result.0.place.object ≡ handle.place.object }
 {
     let mut boxed = handle.into_box();
-    let answer = replace_with(&mut boxed.as_mut().object, nothing, steps::break_off);
+    let answer = replace_with(&mut boxed.as_mut().seat, nothing, steps::break_off);
     (KtHandle::of(boxed), answer)
 }
 
 fn restore_handle(handle: KtHandle, nothing: ()) -> (KtHandle, i32)
-    ensures restored { result.1 ≡ pos 0 → WasRestored handle.place.object result.0.place.object }
-    ensures same { result.1 ≢ pos 0 → result.0.place.object ≡ handle.place.object }
+    ensures restored { result.1 ≡ pos 0 → WasRestored handle.place.seat result.0.place.seat }
+    ensures same { result.1 ≢ pos 0 → result.0.place.seat ≡ handle.place.seat }
+    ensures beside { result.0.place.object ≡ handle.place.object }
 {
     let mut boxed = handle.into_box();
-    let answer = replace_with(&mut boxed.as_mut().object, nothing, steps::restore);
+    let answer = replace_with(&mut boxed.as_mut().seat, nothing, steps::restore);
     (KtHandle::of(boxed), answer)
 }
 
 /// Tries for a reference.
 #[inline(always)]
 pub fn enter(hold: &mut KtHandle) -> i32
-    ensures entered { result ≡ pos 0 → WasEntered hold.old.place.object hold.new.place.object }
-    ensures refused { result ≢ pos 0 → WasRefused hold.old.place.object hold.new.place.object }
+    ensures entered { result ≡ pos 0 → WasEntered hold.old.place.seat hold.new.place.seat }
+    ensures refused { result ≢ pos 0 → WasRefused hold.old.place.seat hold.new.place.seat }
+    ensures beside { hold.new.place.object ≡ hold.old.place.object }
 {
     replace_with(hold, (), enter_handle)
 }
@@ -63,9 +68,10 @@ pub fn enter(hold: &mut KtHandle) -> i32
 #[inline(always)]
 pub fn leave(call: &mut KtHandle) -> i32
     ensures left { (result ≡ pos 0) ⊎ (result ≡ pos 1) →
-        WasLeft call.old.place.object call.new.place.object }
-    ensures owed { (result ≡ pos 0) ⊎ (result ≡ pos 1) → result ≡ wake_of call.new.place.object }
-    ensures same { result ≢ pos 0 → result ≢ pos 1 → call.new.place.object ≡ call.old.place.object }
+        WasLeft call.old.place.seat call.new.place.seat }
+    ensures owed { (result ≡ pos 0) ⊎ (result ≡ pos 1) → result ≡ wake_of call.new.place.seat }
+    ensures same { result ≢ pos 0 → result ≢ pos 1 → call.new.place.seat ≡ call.old.place.seat }
+    ensures beside { call.new.place.object ≡ call.old.place.object }
 {
     replace_with(call, (), leave_handle)
 }
@@ -73,17 +79,19 @@ pub fn leave(call: &mut KtHandle) -> i32
 /// Gives the reference up inside the callback.
 pub fn break_off(call: &mut KtHandle) -> i32
     ensures broken { (result ≡ pos 0) ⊎ (result ≡ pos 1) →
-        WasBroken call.old.place.object call.new.place.object }
-    ensures owed { (result ≡ pos 0) ⊎ (result ≡ pos 1) → result ≡ wake_of call.new.place.object }
-    ensures same { result ≢ pos 0 → result ≢ pos 1 → call.new.place.object ≡ call.old.place.object }
+        WasBroken call.old.place.seat call.new.place.seat }
+    ensures owed { (result ≡ pos 0) ⊎ (result ≡ pos 1) → result ≡ wake_of call.new.place.seat }
+    ensures same { result ≢ pos 0 → result ≢ pos 1 → call.new.place.seat ≡ call.old.place.seat }
+    ensures beside { call.new.place.object ≡ call.old.place.object }
 {
     replace_with(call, (), break_handle)
 }
 
 /// Takes a reference again.
 pub fn restore(call: &mut KtHandle) -> i32
-    ensures restored { result ≡ pos 0 → WasRestored call.old.place.object call.new.place.object }
-    ensures same { result ≢ pos 0 → call.new.place.object ≡ call.old.place.object }
+    ensures restored { result ≡ pos 0 → WasRestored call.old.place.seat call.new.place.seat }
+    ensures same { result ≢ pos 0 → call.new.place.seat ≡ call.old.place.seat }
+    ensures beside { call.new.place.object ≡ call.old.place.object }
 {
     replace_with(call, (), restore_handle)
 }

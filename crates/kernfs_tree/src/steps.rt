@@ -4,7 +4,7 @@ ghost use Rattle.kernfs_tree.specs.Steps.{WasEntered, WasRefused, WasLeft, WasBr
 
 use crate::errors::{INVALID, NO_DEVICE};
 use crate::holds::{Held, Inside};
-use crate::object::Object;
+use crate::object::Seat;
 use kf_core::Phase;
 
 /// 1 where one who sleeps may wait for the step that was made.
@@ -17,16 +17,17 @@ fn told(wanted: bool) -> i32
 
 /// Tries for a reference.
 #[inline(always)]
-pub fn enter(object: Object, _nothing: ()) -> (Object, i32)
-    ensures entered { result.1 ≡ pos 0 → WasEntered object result.0 }
-    ensures refused { result.1 ≢ pos 0 → WasRefused object result.0 }
+pub fn enter(seat: Seat, _nothing: ()) -> (Seat, i32)
+    ensures entered { result.1 ≡ pos 0 → WasEntered seat result.0 }
+    ensures refused { result.1 ≢ pos 0 → WasRefused seat result.0 }
+    ensures range { result.1 ≢ pos 1 }
 {
-    match object {
-        Object::Hold(held) => match held.into_hold().enter_quiet() {
-            Ok(call) => (Object::Call(Inside::new(call)), 0),
+    match seat {
+        Seat::Hold(held) => match held.into_hold().enter_quiet() {
+            Ok(call) => (Seat::Call(Inside::new(call)), 0),
             Err((hold, due)) => {
                 due.told();
-                (Object::Hold(Held::new(hold)), NO_DEVICE)
+                (Seat::Hold(Held::new(hold)), NO_DEVICE)
             }
         },
         other => (other, INVALID),
@@ -35,56 +36,56 @@ pub fn enter(object: Object, _nothing: ()) -> (Object, i32)
 
 /// Gives the reference back, where the call has one.
 #[inline(always)]
-pub fn leave(object: Object, _nothing: ()) -> (Object, i32)
-    ensures left { (result.1 ≡ pos 0) ⊎ (result.1 ≡ pos 1) → WasLeft object result.0 }
+pub fn leave(seat: Seat, _nothing: ()) -> (Seat, i32)
+    ensures left { (result.1 ≡ pos 0) ⊎ (result.1 ≡ pos 1) → WasLeft seat result.0 }
     ensures owed { (result.1 ≡ pos 0) ⊎ (result.1 ≡ pos 1) → result.1 ≡ wake_of result.0 }
-    ensures same { result.1 ≢ pos 0 → result.1 ≢ pos 1 → result.0 ≡ object }
+    ensures same { result.1 ≢ pos 0 → result.1 ≢ pos 1 → result.0 ≡ seat }
 {
-    match object {
-        Object::Call(inside) => {
+    match seat {
+        Seat::Call(inside) => {
             let call = inside.into_call();
             if call.phase() == Phase::Broken {
-                return (Object::Call(Inside::new(call)), INVALID);
+                return (Seat::Call(Inside::new(call)), INVALID);
             }
             let (hold, due) = call.leave_quiet();
-            (Object::Hold(Held::new(hold)), told(due.told()))
+            (Seat::Hold(Held::new(hold)), told(due.told()))
         }
         other => (other, INVALID),
     }
 }
 
 /// Gives the reference up inside the callback, where the call has the one that it entered with.
-pub fn break_off(object: Object, _nothing: ()) -> (Object, i32)
-    ensures broken { (result.1 ≡ pos 0) ⊎ (result.1 ≡ pos 1) → WasBroken object result.0 }
+pub fn break_off(seat: Seat, _nothing: ()) -> (Seat, i32)
+    ensures broken { (result.1 ≡ pos 0) ⊎ (result.1 ≡ pos 1) → WasBroken seat result.0 }
     ensures owed { (result.1 ≡ pos 0) ⊎ (result.1 ≡ pos 1) → result.1 ≡ wake_of result.0 }
-    ensures same { result.1 ≢ pos 0 → result.1 ≢ pos 1 → result.0 ≡ object }
+    ensures same { result.1 ≢ pos 0 → result.1 ≢ pos 1 → result.0 ≡ seat }
 {
-    match object {
-        Object::Call(inside) => {
+    match seat {
+        Seat::Call(inside) => {
             let mut call = inside.into_call();
             if call.phase() != Phase::Running {
-                return (Object::Call(Inside::new(call)), INVALID);
+                return (Seat::Call(Inside::new(call)), INVALID);
             }
             let due = call.break_quiet();
-            (Object::Call(Inside::new(call)), told(due.told()))
+            (Seat::Call(Inside::new(call)), told(due.told()))
         }
         other => (other, INVALID),
     }
 }
 
 /// Takes a reference again, where the call gave its own up.
-pub fn restore(object: Object, _nothing: ()) -> (Object, i32)
-    ensures restored { result.1 ≡ pos 0 → WasRestored object result.0 }
-    ensures same { result.1 ≢ pos 0 → result.0 ≡ object }
+pub fn restore(seat: Seat, _nothing: ()) -> (Seat, i32)
+    ensures restored { result.1 ≡ pos 0 → WasRestored seat result.0 }
+    ensures same { result.1 ≢ pos 0 → result.0 ≡ seat }
 {
-    match object {
-        Object::Call(inside) => {
+    match seat {
+        Seat::Call(inside) => {
             let mut call = inside.into_call();
             if call.phase() != Phase::Broken {
-                return (Object::Call(Inside::new(call)), INVALID);
+                return (Seat::Call(Inside::new(call)), INVALID);
             }
             call.restore();
-            (Object::Call(Inside::new(call)), 0)
+            (Seat::Call(Inside::new(call)), 0)
         }
         other => (other, INVALID),
     }

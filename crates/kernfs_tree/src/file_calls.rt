@@ -1,0 +1,83 @@
+//! The calls of a program on open files. Each answers 0 or more, or a Linux error number below 0.
+ghost use Rattle.std.specs.Prelude.{◌≡◌, ◌≢◌, pos, true, false, length};
+ghost use Rattle.kernfs_tree.specs.Answers.{IsAsBefore, Wrote};
+ghost use Rattle.kernfs_tree.specs.Calls.{IsNothing};
+ghost use Rattle.kernfs_tree.specs.Files.{OpenedIn, Serves, BeganRead, HasShown, TextFrom, MayWrite, WasPolled, WasKeptOut, IsSamePlace};
+ghost use Rattle.kernfs_tree.specs.Steps.{WasEntered};
+
+use crate::file_steps;
+use crate::handle::KtHandle;
+use crate::replies::KtKey;
+use kf_files::Want;
+use std::alloc::Global;
+
+/// Opens a file of the tree (`kernfs_fop_open`), behind a handle with nothing behind it.
+#[unsafe(no_mangle)]
+pub extern "C" fn kt_open(
+    alloc: Global,
+    tree: &mut KtHandle,
+    key: KtKey,
+    read: bool,
+    write: bool,
+    out: &mut KtHandle,
+) -> i32
+    ensures opened { result ≡ pos 0 → OpenedIn tree.old.place.object key
+        (record { read = read; write = write }) out.new.place }
+    ensures was { result ≡ pos 0 → IsNothing out.old.place }
+    ensures tree { IsAsBefore tree.old.place.object tree.new.place.object }
+    ensures same { result ≢ pos 0 → out.new.place ≡ out.old.place }
+{
+    file_steps::open(alloc, tree, key, Want { read, write }, out)
+}
+
+/// Begins a read (`kernfs_fop_read_iter`): 0 where the text serves it; 1 where the node was entered, and the
+/// event number taken, for a show.
+#[unsafe(no_mangle)]
+pub extern "C" fn kt_begin_read(file: &mut KtHandle, offset: u64) -> i32
+    ensures served { result ≡ pos 0 →
+        Serves offset file.old.place.object × IsSamePlace file.old.place file.new.place }
+    ensures begun { result ≡ pos 1 → BeganRead offset file.old.place file.new.place }
+    ensures refused { result ≢ pos 0 → result ≢ pos 1 → WasKeptOut file.old.place file.new.place }
+{
+    file_steps::begin_read(file, offset)
+}
+
+/// Keeps the text that a show made, of at most 4,095 bytes.
+#[unsafe(no_mangle)]
+pub extern "C" fn kt_shown(file: &mut KtHandle, text: &[u8]) -> i32
+    ensures kept { result ≡ pos 0 → HasShown text.now file.old.place file.new.place }
+    ensures same { result ≢ pos 0 → IsSamePlace file.old.place file.new.place }
+{
+    file_steps::shown(file, text)
+}
+
+/// Copies the text from the offset on, as much as there is room for.
+#[unsafe(no_mangle)]
+pub extern "C" fn kt_copy(file: &mut KtHandle, offset: u64, out: &mut [u8]) -> i64
+    ensures told { Wrote (TextFrom file.old.place.object offset (length out.old))
+        result out.old out.new }
+    ensures same { IsSamePlace file.old.place file.new.place }
+{
+    file_steps::copy(file, offset, out)
+}
+
+/// Begins a write (`kernfs_fop_write_iter`): 0 where the node was entered for a store.
+#[unsafe(no_mangle)]
+pub extern "C" fn kt_begin_write(file: &mut KtHandle) -> i32
+    ensures entered { result ≡ pos 0 → MayWrite file.old.place.object
+        × WasEntered file.old.place.seat file.new.place.seat
+        × (file.new.place.object ≡ file.old.place.object) }
+    ensures refused { result ≢ pos 0 → WasKeptOut file.old.place file.new.place }
+{
+    file_steps::begin_write(file)
+}
+
+/// Whether a file has changed since its last show (`kernfs_fop_poll`), asked in a call of it.
+#[unsafe(no_mangle)]
+pub extern "C" fn kt_changed(file: &mut KtHandle) -> i32
+    ensures same { result ≡ pos 0 → WasPolled false file.old.place file.new.place }
+    ensures changed { result ≡ pos 1 → WasPolled true file.old.place file.new.place }
+    ensures kept { result ≢ pos 0 → result ≢ pos 1 → IsSamePlace file.old.place file.new.place }
+{
+    file_steps::changed(file)
+}
