@@ -23,3 +23,9 @@ returns-clause-looked g c = elim c.match-next.branch [
       since looks _ _ _ _ _ (ap seat_view c.hold.view_is) (ap view_of w.seat-is)
       c.loop.invariant.looked w.load-seen.ensures.made
 ]
+
+pub returns-clause-found : goal.returns-clause-found
+returns-clause-found g c = elim c.match-next.branch [
+  | in-None w ↦ search rules
+  | in-Some+then-is_drained w ↦ search rules
+]

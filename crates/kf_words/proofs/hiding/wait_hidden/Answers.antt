@@ -22,3 +22,9 @@ returns-clause-looked g c = elim c.match-next.branch [
       since looks_hidden _ _ _ _ _ (ap seat_view c.hiding.view_is) (ap view_of w.seat-is)
       c.loop.invariant.looked w.load_hidden-seen.ensures.made
 ]
+
+pub returns-clause-found : goal.returns-clause-found
+returns-clause-found g c = elim c.match-next.branch [
+  | in-None w ↦ search rules
+  | in-Some+then-is_unused w ↦ search rules
+]
