@@ -31,7 +31,8 @@ file_of attribute = File attribute.mode attribute.tag
 abbrev pub has_name : List Attribute → List ℕ → Bool
 has_name attributes name = list_any (λ attribute. bytes_eq attribute.name.now name) attributes
 
--- why these files are refused: of one after the other what is wrong with it, and that a later one has its name
+-- why these files are refused: of one after the other what is wrong with it, and that a later one has its
+-- name
 abbrev pub files_cause : (Attribute → Option Refusal) → List Attribute → Option Refusal
 files_cause fault [] = None
 files_cause fault (attribute ∷ attributes) = first_cause (

@@ -1,4 +1,5 @@
 //! Attributes and their groups, as a driver writes them down.
+ghost use Rattle.std.specs.Prelude.{◌≡◌};
 
 /// An attribute (`struct attribute`).
 #[derive(Clone, Copy)]
@@ -9,6 +10,17 @@ pub struct Attribute<'a> {
     pub mode: u16,
     /// The tag of its file, by which a callback tells it from others.
     pub tag: u64,
+}
+
+impl<'a> Attribute<'a> {
+    /// The attribute of this name, mode and tag.
+    pub const fn new(name: &'a [u8], mode: u16, tag: u64) -> Attribute<'a>
+        ensures name { result.name.now ≡ name.now }
+        ensures mode { result.mode ≡ mode }
+        ensures tag { result.tag ≡ tag }
+    {
+        Attribute { name, mode, tag }
+    }
 }
 
 /// A group of attributes (`struct attribute_group`).

@@ -58,7 +58,8 @@ fn first_cause(
     attribute: &Attribute,
     later: &[Attribute],
 ) -> Option<Refusal>
-    ensures first { result ≡ shown_cause (file_fault state.now.tree state.now.root dir) attribute.now later.now }
+    ensures first { result ≡
+        shown_cause (file_fault state.now.tree state.now.root dir) attribute.now later.now }
 {
     if attribute.mode == 0 {
         return None;

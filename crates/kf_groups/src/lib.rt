@@ -4,7 +4,9 @@
 mod attribute;
 mod checks;
 mod making;
+mod removal;
 mod taking_back;
 
 pub use attribute::{Attribute, Group};
 pub use making::create_group;
+pub use removal::remove_group;

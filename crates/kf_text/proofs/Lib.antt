@@ -1,3 +1,4 @@
 pub mod Digits
 pub mod Pages
 pub mod Lines
+pub mod Emitted

@@ -54,4 +54,5 @@ with_newline text = text ++ 10 ∷ []
 
 -- two texts are the same, but for a newline that ends one of them
 abbrev pub same_text : List ℕ → List ℕ → Bool
-same_text one other = bytes_eq one other || bytes_eq one (with_newline other) || bytes_eq other (with_newline one)
+same_text one other =
+    bytes_eq one other || bytes_eq one (with_newline other) || bytes_eq other (with_newline one)

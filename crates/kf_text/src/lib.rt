@@ -1,12 +1,14 @@
 //! Texts of attributes: a page that is filled part by part, and what the bytes of a store say.
 #![tactic(auto)]
 
+mod laws;
 mod not_read;
 mod numbers;
 mod page;
 mod part;
 mod words;
 
+pub use laws::emitted_is_read;
 pub use not_read::NotRead;
 pub use numbers::{read_signed, read_unsigned};
 pub use page::{emit, emit_at};

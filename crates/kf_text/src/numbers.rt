@@ -10,7 +10,7 @@ ghost use Rattle.kf_text.specs.Readings.{line, ReadSigned, ReadUnsigned};
 use crate::not_read::NotRead;
 
 /// The bytes without the newline that ends them, where one does.
-pub fn line(bytes: &[u8]) -> &[u8]
+pub(crate) fn line(bytes: &[u8]) -> &[u8]
     ensures line { result.now ≡ line bytes.now }
 {
     match bytes.split_last() {

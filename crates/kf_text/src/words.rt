@@ -5,8 +5,8 @@ ghost use Rattle.kf_text.specs.Readings.{flag, same_text, with_newline};
 
 use crate::not_read::NotRead;
 
-/// A flag (`kstrtobool`): true where the first byte is one of `yYtT1` or the first two are `on`, false where it
-/// is one of `nNfF0` or they are `of`, in small letters or large ones.
+/// A flag (`kstrtobool`): true where the first byte is one of `yYtT1` or the first two are `on`, false where
+/// it is one of `nNfF0` or they are `of`, in small letters or large ones.
 ///
 /// Error: Invalid (anything else).
 pub fn read_flag(bytes: &[u8]) -> Result<bool, NotRead>
@@ -51,7 +51,8 @@ fn place_of(words: &[&[u8]], text: &[u8]) -> Option<usize>
 ///
 /// Error: Invalid (no word is).
 pub fn read_word(words: &[&[u8]], bytes: &[u8]) -> Result<usize, NotRead>
-    ensures read { result ≡ ok_or (position (λ word. same_text word.now bytes.now) words.now) NotRead.Invalid }
+    ensures read { result ≡
+        ok_or (position (λ word. same_text word.now bytes.now) words.now) NotRead.Invalid }
 {
     place_of(words, bytes).ok_or(NotRead::Invalid)
 }
