@@ -4,41 +4,36 @@
  *     out/mountfs [--slots N] [-f] [SCRIPT [MOUNTPOINT [-o OPTION] ..]]
  *     fusermount3 -u MOUNTPOINT
  *
- * SCRIPT has lines of kernfs_run (docs/SCRIPTS.md); without it, or where it is `-`, they are standard input. The tree
- * that it makes is mounted, with -f in the foreground. Without a mountpoint the replies are printed, as by kernfs_run.
- *
- * - Commands are those that make and change a tree: mkdir, file, link, activate, stat, mv, rm, notify, compact. What is
- *   opened, read, written, polled and listed goes through the mount. Each other line is `err Line 22`. One command is
- *   mountfs's own: `slow PATH MS` makes each later show and store of a file take so many milliseconds, 0 to 65535.
- * - MOUNTPOINT/.control, which no listing shows, takes further lines. A read of it gives the replies to what was
- *   written since it was opened or last written at offset 0; before, those to the lines that anybody wrote last.
- * - A show ends with a newline and a store takes one off the end, as drivers do. A slot stays taken while its file is
- *   open. What the mount has no handler for (mkdir(2), rename(2) ..) is ENOSYS: the tree is its script's alone.
- *
- * What the library does: names, order, counts, states, renames, the texts of links, who is inside, and that after a
- * removal nobody is nor comes in. What is left to C: texts, event numbers, pages of open files, and whom to wake. */
+ * SCRIPT has lines of kernfs_run (docs/SCRIPTS.md) that make and change a tree: mkdir, file, link, activate, mv, rm,
+ * notify; and `slow PATH MS`, which makes each later show and store of a file take so many milliseconds, 0 to 65535.
+ * Without it, or where it is `-`, they are standard input. A line that is refused is told, and the rest goes on. The tree
+ * is mounted, with -f in the foreground. A write to MOUNTPOINT/.control, which no listing shows, is one more line, and
+ * fails as that does. A show ends with a newline and a store takes one off the end, as drivers do. What the mount has no
+ * handler for (mkdir(2), rename(2) ..) is ENOSYS. */
 #define _GNU_SOURCE
 #include "mountfs.h"
+#include <fcntl.h>
 #include <poll.h>
 #include <stdlib.h>
 #include <string.h>
 #include <time.h>
 #include <unistd.h>
 
-/* ---- the file system: the number of a node is its key ---- */
+struct kt_lock lock = KT_LOCK_INIT;
+struct kt_handle tree;
+struct kt_key root;
+static time_t started;
+
+enum { ENTRY_MOST = KT_NAME_MAX + 33 }; /* of a directory, in bytes: its head, the name, up to eight bytes more */
+
+/* ---- the number of a node is its key ---- */
 
 /* Numbers below 2^32 but FUSE's for the root are no node's, as generations begin with 1: they are the control file's.
- * Each look-up of it gives another one, since the kernel holds the inode's lock over a write: with one inode, nobody
- * could give a line while an rm waits for its reader. */
+ * A trap: the kernel holds the inode's lock over a write, so with one inode nobody could give a line while an rm waits
+ * for its reader. So each look-up of it gives another number. */
 static bool is_control(fuse_ino_t number)
 {
     return number != FUSE_ROOT_ID && number >> 32 == 0;
-}
-
-static fuse_ino_t new_control(void)
-{
-    static atomic_uint count;
-    return 2 + atomic_fetch_add(&count, 1) % 1000000000;
 }
 
 static struct kt_key key_of(fuse_ino_t number)
@@ -51,29 +46,150 @@ static fuse_ino_t number_of(struct kt_key key)
     return (fuse_ino_t)key.generation << 32 | key.slot;
 }
 
-static time_t started;
+static bool is_same(struct kt_key one, struct kt_key other)
+{
+    return number_of(one) == number_of(other);
+}
+
+static int stat_live(struct kt_key key, struct kt_stat *stat)
+{
+    return kt_stat(&tree, key, stat) || !stat->activated || stat->doomed || stat->hidden ? -ENOENT : 0;
+}
 
 static struct stat attributes_of(fuse_ino_t number, const struct kt_stat *of)
 {
     static const mode_t kinds[] = {[KT_DIR] = S_IFDIR | 0755, [KT_FILE] = S_IFREG, [KT_LINK] = S_IFLNK | 0777};
     return (struct stat){
         .st_ino = number, .st_nlink = of->links, .st_uid = getuid(), .st_gid = getgid(), .st_blksize = KT_PAGE_SIZE,
-        .st_mode = kinds[of->kind] | (of->kind == KT_FILE ? of->mode : 0),
-        .st_size = of->kind == KT_FILE && !is_control(number) ? KT_PAGE_SIZE : 0,
+        .st_mode = kinds[of->kind] | of->mode, .st_size = of->kind == KT_FILE && !is_control(number) ? KT_PAGE_SIZE : 0,
         .st_atim.tv_sec = started, .st_mtim.tv_sec = started, .st_ctim.tv_sec = started,
     };
 }
 
-static const struct kt_stat control_stat = {.kind = KT_FILE, .links = 1, .mode = 0600};
+/* ---- what is open: a file, of which the library has the hold, the text and its event number; or a directory ---- */
+
+static struct open {
+    struct open *next;
+    struct kt_key key;
+    pthread_mutex_t mutex; /* of the handle, which serves one call at a time */
+    struct kt_handle handle;
+    struct kt_stat stat; /* for an fstat() of what is gone; its tag is the attribute, which is used in a call alone */
+    struct fuse_pollhandle *poller;
+    size_t used;
+    char *entries; /* of a directory, as they were when it was opened */
+} *opens;
+
+static struct open *open_of(const struct fuse_file_info *info)
+{
+    return (struct open *)(uintptr_t)info->fh;
+}
+
+static struct open *new_open(fuse_ino_t number)
+{
+    struct open *it = calloc(1, sizeof *it);
+    if (!it || kt_new(&it->handle.at))
+        return free(it), NULL;
+    pthread_mutex_init(&it->mutex, NULL);
+    it->key = key_of(number);
+    pthread_mutex_lock(&lock.mutex);
+    it->next = opens;
+    opens = it;
+    pthread_mutex_unlock(&lock.mutex);
+    return it;
+}
+
+static void close_open(struct open *it)
+{
+    pthread_mutex_lock(&lock.mutex);
+    struct open **at = &opens;
+    while (*at != it)
+        at = &(*at)->next;
+    *at = it->next;
+    pthread_mutex_unlock(&lock.mutex);
+    kt_clear_wake(&it->handle, &lock);
+    kt_delete(it->handle);
+    if (it->poller)
+        fuse_pollhandle_destroy(it->poller);
+    pthread_mutex_destroy(&it->mutex);
+    free(it->entries);
+    free(it);
+}
+
+void wake_pollers(struct kt_key key)
+{
+    struct kt_stat stat;
+    for (struct open *it = opens; it; it = it->next)
+        if (it->poller && (is_same(it->key, key) || stat_live(it->key, &stat))) {
+            fuse_lowlevel_notify_poll(it->poller);
+            fuse_pollhandle_destroy(it->poller);
+            it->poller = NULL;
+        }
+}
+
+/* Tells the kernel what was opened, or why not. Where nobody waits for it any more, no release comes. */
+static void reply_open(fuse_req_t req, struct fuse_file_info *info, struct open *it, int error)
+{
+    info->fh = (uintptr_t)it;
+    info->direct_io = 1; /* each read and write comes to us */
+    if (error)
+        fuse_reply_err(req, -error);
+    if ((error || fuse_reply_open(req, info)) && it)
+        close_open(it);
+}
+
+/* Before each show and store, with the text's mutex taken; and after it. */
+static struct attribute *begin_callback(void *data)
+{
+    struct attribute *it = data;
+    unsigned delay = it->delay;
+    it->inside++;
+    if (delay)
+        nanosleep(&(struct timespec){delay / 1000, delay % 1000 * 1000000L}, NULL);
+    pthread_mutex_lock(&it->mutex);
+    return it;
+}
+
+static int64_t end_callback(struct attribute *it, size_t count)
+{
+    pthread_mutex_unlock(&it->mutex);
+    it->inside--;
+    return (int64_t)count;
+}
+
+static int64_t show(struct kt_handle *file, void *data, char *page)
+{
+    struct attribute *it = begin_callback(data);
+    size_t length = it->length;
+    (void)file;
+    memcpy(page, it->text, length);
+    if (length)
+        page[length++] = '\n';
+    return end_callback(it, length);
+}
+
+static int64_t store(struct kt_handle *file, void *data, const char *bytes, size_t length)
+{
+    struct attribute *it = begin_callback(data);
+    size_t text = length - (bytes[length - 1] == '\n');
+    (void)file;
+    it->length = text < sizeof it->text ? text : sizeof it->text;
+    memcpy(it->text, bytes, it->length);
+    return end_callback(it, length);
+}
+
+/* ---- the handlers on names. Timeouts are 0: the kernel asks each time, and finds nothing that was removed ---- */
+
+static const struct kt_stat control_stat = {.kind = KT_FILE, .links = 1, .mode = 0200};
 
 static void fs_lookup(fuse_req_t req, fuse_ino_t dir, const char *name)
 {
-    struct fuse_entry_param entry = {0}; /* with timeouts of 0: the kernel asks again, and finds nothing removed */
+    static atomic_uint controls;
+    struct fuse_entry_param entry = {0};
     struct kt_stat stat = control_stat;
     struct kt_key key;
     int error = 0;
     if (dir == FUSE_ROOT_ID && !strcmp(name, ".control")) {
-        entry.ino = new_control();
+        entry.ino = 2 + atomic_fetch_add(&controls, 1) % 1000000000;
     } else {
         pthread_mutex_lock(&lock.mutex);
         error = strlen(name) > KT_NAME_MAX ? -ENAMETOOLONG : kt_find(&tree, key_of(dir), name, strlen(name), &key);
@@ -81,41 +197,29 @@ static void fs_lookup(fuse_req_t req, fuse_ino_t dir, const char *name)
         pthread_mutex_unlock(&lock.mutex);
         entry.ino = error ? 0 : number_of(key);
     }
-    entry.attr = attributes_of(entry.ino, &stat);
     if (error)
-        fuse_reply_err(req, -error);
-    else
-        fuse_reply_entry(req, &entry);
-}
-
-/* What is told of a node that is live, or was when a file was opened on it. */
-static int stat_known(fuse_ino_t number, struct kt_stat *stat)
-{
-    struct kt_key key = key_of(number);
-    *stat = control_stat;
-    if (is_control(number))
-        return 0;
-    pthread_mutex_lock(&lock.mutex);
-    int error = stat_live(key, stat);
-    for (struct file *it = files; error && it; it = it->next)
-        if (it->key.slot == key.slot && it->key.generation == key.generation) {
-            *stat = it->stat;
-            error = 0;
-        }
-    pthread_mutex_unlock(&lock.mutex);
-    return error;
+        return (void)fuse_reply_err(req, -error);
+    entry.attr = attributes_of(entry.ino, &stat);
+    fuse_reply_entry(req, &entry);
 }
 
 static void fs_getattr(fuse_req_t req, fuse_ino_t number, struct fuse_file_info *info)
 {
-    struct kt_stat stat;
-    int error = stat_known(number, &stat);
-    struct stat out = error ? (struct stat){0} : attributes_of(number, &stat);
+    struct kt_stat stat = control_stat;
+    struct kt_key key = key_of(number);
     (void)info;
+    pthread_mutex_lock(&lock.mutex);
+    int error = is_control(number) ? 0 : stat_live(key, &stat);
+    for (struct open *it = opens; error && it; it = it->next)
+        if (it->stat.links && is_same(it->key, key)) {
+            stat = it->stat;
+            error = 0;
+        }
+    pthread_mutex_unlock(&lock.mutex);
     if (error)
-        fuse_reply_err(req, -error);
-    else
-        fuse_reply_attr(req, &out, 0);
+        return (void)fuse_reply_err(req, -error);
+    struct stat out = attributes_of(number, &stat);
+    fuse_reply_attr(req, &out, 0);
 }
 
 /* A truncation changes nothing, as in sysfs; `echo 1 > FILE` asks for one. */
@@ -134,149 +238,87 @@ static void fs_readlink(fuse_req_t req, fuse_ino_t number)
     pthread_mutex_lock(&lock.mutex);
     int64_t length = kt_readlink(&tree, key_of(number), text, sizeof text - 1);
     pthread_mutex_unlock(&lock.mutex);
-    if (length < 0) {
-        fuse_reply_err(req, length == -ERANGE ? ENAMETOOLONG : (int)-length);
-    } else {
-        text[length] = 0;
-        fuse_reply_readlink(req, text);
-    }
+    if (length < 0)
+        return (void)fuse_reply_err(req, length == -ERANGE ? ENAMETOOLONG : (int)-length);
+    text[length] = 0;
+    fuse_reply_readlink(req, text);
 }
 
-/* ---- directories: their names as they were at offset 0, each with a zero byte behind it ---- */
-
-struct listing {
-    size_t length, room;
-    char *names;
-};
-
-static int list_names(struct kt_key dir, struct listing *it)
+/* Writes the entries of a directory. Under the lock. 0, or an error number below 0. */
+static int list(struct open *it)
 {
+    /* A trap: the next name may not come where the last one is, which kt_next() reads, as no two arguments overlap. */
+    char names[2][KT_NAME_MAX + 1], *name;
     int64_t length = 0;
-    it->length = 0;
-    do {
-        if (it->room - it->length <= KT_NAME_MAX) {
-            char *more = realloc(it->names, it->room + KT_PAGE_SIZE);
-            if (!more)
-                return -ENOMEM;
-            it->names = more;
-            it->room += KT_PAGE_SIZE;
-        }
-        /* The next name goes behind the last one, which kt_next() reads: two arguments of a call may not overlap. */
-        char *next = it->names + it->length;
-        length = kt_next(&tree, dir, length ? next - length - 1 : next, (size_t)length, next, KT_NAME_MAX);
-        if (length > 0) {
-            next[length] = 0;
-            it->length += (size_t)length + 1;
-        }
-    } while (length > 0);
-    return length == -ENOENT ? 0 : (int)length;
+    struct kt_key key;
+    struct kt_stat stat;
+    for (int last = 0;; last = !last) {
+        name = names[!last];
+        length = kt_next(&tree, it->key, names[last], (size_t)length, name, KT_NAME_MAX);
+        if (length < 0 || kt_find(&tree, it->key, name, (size_t)length, &key) || kt_stat(&tree, key, &stat))
+            return length == -ENOENT ? 0 : (int)length;
+        struct stat out = attributes_of(number_of(key), &stat);
+        char *at = it->entries + it->used;
+        name[length] = 0;
+        it->used += fuse_add_direntry(NULL, NULL, 0, name, NULL, 0);
+        fuse_add_direntry(NULL, at, ENTRY_MOST, name, &out, (off_t)it->used);
+    }
 }
 
 static void fs_opendir(fuse_req_t req, fuse_ino_t number, struct fuse_file_info *info)
 {
-    struct listing *it = calloc(1, sizeof *it);
-    struct kt_stat stat;
-    int error = it ? stat_known(number, &stat) : -ENOMEM;
-    info->fh = (uintptr_t)it;
-    if (error) {
-        free(it);
-        fuse_reply_err(req, -error);
-    } else {
-        fuse_reply_open(req, info);
-    }
-}
-
-/* Puts an entry into the buffer, where it is live and there is room. How many bytes it takes, or 0. */
-static size_t add_name(fuse_req_t req, char *at, size_t room, fuse_ino_t dir, const char *name, off_t next)
-{
-    struct kt_stat stat = {.kind = KT_DIR};
-    struct kt_key key;
-    bool is_dots = next <= 2;
-    if (!is_dots && (kt_find(&tree, key_of(dir), name, strlen(name), &key) || stat_live(key, &stat)))
-        return 0;
-    struct stat out = attributes_of(is_dots ? dir : number_of(key), &stat);
-    return fuse_add_direntry(req, at, room, name, &out, next);
+    struct open *it = new_open(number);
+    int error = it && (it->entries = malloc(KT_SLOTS_MAX * ENTRY_MOST)) ? 0 : -ENOMEM;
+    pthread_mutex_lock(&lock.mutex);
+    error = error ?: list(it);
+    pthread_mutex_unlock(&lock.mutex);
+    reply_open(req, info, it, error);
 }
 
 static void fs_readdir(fuse_req_t req, fuse_ino_t number, size_t size, off_t offset, struct fuse_file_info *info)
 {
-    struct listing *it = (struct listing *)(uintptr_t)info->fh;
+    struct open *it = open_of(info);
     char buffer[4 * KT_PAGE_SIZE];
-    size_t used = 0, room = size < sizeof buffer ? size : sizeof buffer;
-    pthread_mutex_lock(&lock.mutex);
-    int error = offset ? 0 : list_names(key_of(number), it);
-    while (!error && (offset < 2 || (size_t)offset - 2 < it->length)) {
-        const char *name = offset == 0 ? "." : offset == 1 ? ".." : it->names + offset - 2;
-        off_t next = offset + (offset < 2 ? 1 : (off_t)strlen(name) + 1);
-        size_t taken = add_name(req, buffer + used, room - used, number, name, next);
-        if (taken > room - used)
-            break;
-        used += taken;
-        offset = next;
-    }
-    pthread_mutex_unlock(&lock.mutex);
-    if (error)
-        fuse_reply_err(req, -error);
-    else
-        fuse_reply_buf(req, buffer, used);
-}
-
-static void fs_releasedir(fuse_req_t req, fuse_ino_t number, struct fuse_file_info *info)
-{
-    struct listing *it = (struct listing *)(uintptr_t)info->fh;
+    size_t rest = (size_t)offset < it->used ? it->used - (size_t)offset : 0, length = rest < size ? rest : size;
     (void)number;
-    free(it->names);
-    free(it);
-    fuse_reply_err(req, 0);
+    length = length < sizeof buffer ? length : sizeof buffer;
+    memcpy(buffer, it->entries + offset, length);
+    fuse_reply_buf(req, buffer, length); /* the kernel takes the entries that are whole */
 }
 
-/* ---- files. Each handler replies last: after the reply another thread may be told to close the file, which frees it, so
- * that neither its mutex nor its page may be used any more. ---- */
-
-static void close_handle(fuse_ino_t number, uint64_t handle)
-{
-    if (is_control(number))
-        free_caller((struct caller *)(uintptr_t)handle);
-    else
-        close_file((struct file *)(uintptr_t)handle);
-}
+/* ---- the handlers on files. A trap: each replies last. After the reply another thread may be told to close the file,
+ * which frees it, so that neither its mutex nor its page may be used any more. ---- */
 
 static void fs_open(fuse_req_t req, fuse_ino_t number, struct fuse_file_info *info)
 {
-    struct caller *caller = is_control(number) ? new_caller() : NULL;
-    struct file *file = NULL;
-    int error = !is_control(number) ? open_file(key_of(number), info->flags & O_ACCMODE, &file) : caller ? 0 : -ENOMEM;
-    info->fh = caller ? (uintptr_t)caller : (uintptr_t)file;
-    info->direct_io = 1; /* each read and write comes to us */
-    if (error)
-        fuse_reply_err(req, -error);
-    else if (fuse_reply_open(req, info)) /* nobody waits for it any more, so no release comes */
-        close_handle(number, info->fh);
+    int how = info->flags & O_ACCMODE;
+    struct open *it = is_control(number) ? NULL : new_open(number);
+    int error = it || is_control(number) ? 0 : -ENOMEM;
+    pthread_mutex_lock(&lock.mutex);
+    if (it)
+        error = kt_open(&tree, it->key, how != O_WRONLY, how != O_RDONLY, &it->handle)
+                    ?: kt_stat(&tree, it->key, &it->stat);
+    pthread_mutex_unlock(&lock.mutex);
+    reply_open(req, info, it, error);
 }
 
 static void fs_release(fuse_req_t req, fuse_ino_t number, struct fuse_file_info *info)
 {
-    close_handle(number, info->fh);
+    if (!is_control(number))
+        close_open(open_of(info));
     fuse_reply_err(req, 0);
-}
-
-static void read_control(fuse_req_t req, struct caller *it, size_t size, uint64_t offset)
-{
-    char *replies;
-    int64_t length = copy_replies(it, offset, size, &replies);
-    if (length < 0)
-        fuse_reply_err(req, (int)-length);
-    else
-        fuse_reply_buf(req, replies, (size_t)length);
-    free(replies);
 }
 
 static void fs_read(fuse_req_t req, fuse_ino_t number, size_t size, off_t offset, struct fuse_file_info *info)
 {
+    struct open *it = open_of(info);
     char page[KT_PAGE_SIZE];
     if (is_control(number))
-        return read_control(req, (struct caller *)(uintptr_t)info->fh, size, (uint64_t)offset);
-    int64_t answer = read_file((struct file *)(uintptr_t)info->fh, (uint64_t)offset, size, page);
+        return (void)fuse_reply_err(req, EACCES);
+    pthread_mutex_lock(&it->mutex);
+    size_t most = size < sizeof page ? size : sizeof page;
+    int64_t answer = kt_read(&it->handle, &lock, (uint64_t)offset, page, most, show, (void *)(uintptr_t)it->stat.tag);
+    pthread_mutex_unlock(&it->mutex);
     if (answer < 0)
         fuse_reply_err(req, (int)-answer);
     else
@@ -286,70 +328,70 @@ static void fs_read(fuse_req_t req, fuse_ino_t number, size_t size, off_t offset
 static void fs_write(fuse_req_t req, fuse_ino_t number, const char *bytes, size_t size, off_t offset,
                      struct fuse_file_info *info)
 {
-    int64_t answer = is_control(number) ? give_lines((struct caller *)(uintptr_t)info->fh, bytes, size, offset == 0)
-                                        : write_file((struct file *)(uintptr_t)info->fh, bytes, size);
+    struct open *it = open_of(info);
+    int64_t answer;
+    (void)offset;
+    if (is_control(number)) {
+        answer = run_line(bytes, size - (size && bytes[size - 1] == '\n')) ?: (int64_t)size;
+    } else {
+        pthread_mutex_lock(&it->mutex);
+        answer = kt_write(&it->handle, &lock, bytes, size, store, (void *)(uintptr_t)it->stat.tag);
+        pthread_mutex_unlock(&it->mutex);
+    }
     if (answer < 0)
         fuse_reply_err(req, (int)-answer);
     else
         fuse_reply_write(req, (size_t)answer);
 }
 
-/* At each close(2): what was told to the control file is then the last script. */
-static void fs_flush(fuse_req_t req, fuse_ino_t number, struct fuse_file_info *info)
-{
-    if (is_control(number))
-        end_lines((struct caller *)(uintptr_t)info->fh);
-    fuse_reply_err(req, 0);
-}
-
+/* Who is to be woken is noted before the look, so that no wake falls between. */
 static void fs_poll(fuse_req_t req, fuse_ino_t number, struct fuse_file_info *info, struct fuse_pollhandle *poller)
 {
-    struct file *it = is_control(number) ? NULL : (struct file *)(uintptr_t)info->fh;
+    struct open *it = open_of(info);
     struct fuse_pollhandle *old = poller;
-    pthread_mutex_lock(&lock.mutex);
-    if (it && poller) { /* under one lock with the look, so that no wake falls between */
-        old = it->poller;
-        it->poller = poller;
+    unsigned events = POLLIN | POLLOUT | POLLRDNORM | POLLWRNORM;
+    if (!is_control(number)) {
+        pthread_mutex_lock(&lock.mutex);
+        if (poller) {
+            old = it->poller;
+            it->poller = poller;
+        }
+        pthread_mutex_unlock(&lock.mutex);
+        pthread_mutex_lock(&it->mutex);
+        events |= kt_poll(&it->handle, &lock) ? POLLERR | POLLPRI : 0;
+        pthread_mutex_unlock(&it->mutex);
     }
-    unsigned events = it && is_changed(it) ? POLLERR | POLLPRI : 0;
-    pthread_mutex_unlock(&lock.mutex);
     if (old)
         fuse_pollhandle_destroy(old);
-    fuse_reply_poll(req, POLLIN | POLLOUT | POLLRDNORM | POLLWRNORM | events);
+    fuse_reply_poll(req, events);
 }
 
 /* ---- the program ---- */
 
 static const struct fuse_lowlevel_ops operations = {
     .lookup = fs_lookup, .getattr = fs_getattr, .setattr = fs_setattr, .readlink = fs_readlink, .opendir = fs_opendir,
-    .readdir = fs_readdir, .releasedir = fs_releasedir, .open = fs_open, .read = fs_read, .write = fs_write,
-    .flush = fs_flush, .release = fs_release, .poll = fs_poll,
+    .readdir = fs_readdir, .releasedir = fs_release, .open = fs_open, .read = fs_read, .write = fs_write,
+    .release = fs_release, .poll = fs_poll,
 };
 
-/* Runs the script of the command line. */
-static int describe(const char *script, bool is_mounted)
+/* Runs the lines of a script, and tells which are refused. Whether there is a script. */
+static bool run_script(const char *script)
 {
     FILE *in = strcmp(script, "-") ? fopen(script, "r") : stdin;
-    struct caller *caller = in ? new_caller() : NULL;
-    char bytes[KT_PAGE_SIZE], *replies;
-    if (!caller) {
-        perror(script);
-        return 1;
+    char *line = NULL;
+    size_t room = 0;
+    unsigned count = 0;
+    for (ssize_t length; in && (length = getline(&line, &room, in)) > 0;) {
+        size_t rest = (size_t)length - (line[length - 1] == '\n');
+        int error = rest ? run_line(line, rest) : 0;
+        count++;
+        if (error)
+            fprintf(stderr, "mountfs: %s, line %u: %s\n", script, count, strerror(-error));
     }
-    for (size_t length; (length = fread(bytes, 1, sizeof bytes, in));)
-        give_lines(caller, bytes, length, false);
-    unsigned refused = end_lines(caller);
-    int64_t length = is_mounted ? 0 : copy_replies(caller, 0, SIZE_MAX, &replies);
-    if (length > 0)
-        fwrite(replies, 1, (size_t)length, stdout);
-    if (!is_mounted)
-        free(replies);
-    else if (refused)
-        fprintf(stderr, "mountfs: %u lines of %s were refused: .control tells which\n", refused, script);
-    free_caller(caller);
-    if (in != stdin)
-        fclose(in);
-    return length < 0;
+    free(line);
+    if (!in)
+        perror(script);
+    return in && (in == stdin || !fclose(in));
 }
 
 static int serve(struct fuse_args *args, const char *mountpoint, bool in_foreground)
@@ -372,54 +414,42 @@ static int serve(struct fuse_args *args, const char *mountpoint, bool in_foregro
     return status;
 }
 
-struct options {
-    const char *names[2]; /* the script, and the mountpoint or none */
-    unsigned slots;
-    bool in_foreground;
-};
-
-/* What the words ask for; false where they do not fit. Options of FUSE's are added to its own. */
-static bool take_options(int count, char **words, struct options *out, struct fuse_args *args)
-{
-    unsigned given = 0;
-    for (int at = 1; at < count; at++) {
-        if (!strcmp(words[at], "-f"))
-            out->in_foreground = true;
-        else if (!strcmp(words[at], "--slots") && at + 1 < count)
-            out->slots = (unsigned)strtoul(words[++at], NULL, 10);
-        else if (!strcmp(words[at], "-o") && at + 1 < count)
-            fuse_opt_add_arg(args, "-o"), fuse_opt_add_arg(args, words[++at]);
-        else if (given < 2 && (*words[at] != '-' || !words[at][1]))
-            out->names[given++] = words[at];
-        else
-            return false;
-    }
-    return true;
-}
-
 int main(int count, char **words)
 {
     struct fuse_args args = FUSE_ARGS_INIT(0, NULL);
-    struct options options = {.names = {"-", NULL}, .slots = 1024};
+    const char *names[] = {"-", NULL}; /* the script, and the mountpoint or none */
+    unsigned slots = 1024, given = 0;
+    bool in_foreground = false, is_well = true;
     fuse_opt_add_arg(&args, words[0]);
     fuse_opt_add_arg(&args, "-odefault_permissions,fsname=kernfs_tree,subtype=mountfs");
-    bool is_well = take_options(count, words, &options, &args);
-    char *mountpoint = options.names[1] ? realpath(options.names[1], NULL) : NULL;
-    if (!is_well || (options.names[1] && !mountpoint)) {
+    for (int at = 1; at < count; at++)
+        if (!strcmp(words[at], "-f"))
+            in_foreground = true;
+        else if (!strcmp(words[at], "--slots") && at + 1 < count)
+            slots = (unsigned)strtoul(words[++at], NULL, 10);
+        else if (!strcmp(words[at], "-o") && at + 1 < count)
+            fuse_opt_add_arg(&args, "-o"), fuse_opt_add_arg(&args, words[++at]);
+        else if (given < 2 && (*words[at] != '-' || !words[at][1]))
+            names[given++] = words[at];
+        else
+            is_well = false;
+    char *mountpoint = names[1] ? realpath(names[1], NULL) : NULL;
+    if (!is_well || (names[1] && !mountpoint)) {
         fprintf(stderr, "mountfs [--slots N] [-f] [SCRIPT [MOUNTPOINT [-o OPTION] ..]]\n");
         return 2;
     }
     started = time(NULL);
-    if (kt_new(&tree.at) || kt_create_root(&tree, options.slots, KT_HOLDS_MAX) || kt_root(&tree, &root)) {
-        fprintf(stderr, "mountfs: no tree of %u slots\n", options.slots);
+    if (kt_new(&tree.at) || kt_create_root(&tree, slots, KT_HOLDS_MAX) || kt_root(&tree, &root)) {
+        fprintf(stderr, "mountfs: no tree of %u slots\n", slots);
         return 2;
     }
-    int status = describe(options.names[0], mountpoint);
+    int status = !run_script(names[0]);
     if (!status && mountpoint)
-        status = serve(&args, mountpoint, options.in_foreground);
+        status = serve(&args, mountpoint, in_foreground);
     kt_delete(tree);
-    close_all();
-    forget_replies();
+    while (opens)
+        close_open(opens);
+    free_attributes();
     fuse_opt_free_args(&args);
     free(mountpoint);
     return status;
