@@ -332,7 +332,11 @@ static void fs_write(fuse_req_t req, fuse_ino_t number, const char *bytes, size_
     int64_t answer;
     (void)offset;
     if (is_control(number)) {
-        answer = run_line(bytes, size - (size && bytes[size - 1] == '\n')) ?: (int64_t)size;
+        char *line = strndup(bytes, size), *newline = line ? strchr(line, '\n') : NULL;
+        if (newline)
+            *newline = 0;
+        answer = !line ? -ENOMEM : run_line(line) ?: (int64_t)size;
+        free(line);
     } else {
         pthread_mutex_lock(&it->mutex);
         answer = kt_write(&it->handle, &lock, bytes, size, store, (void *)(uintptr_t)it->stat.tag);
@@ -382,8 +386,8 @@ static bool run_script(const char *script)
     size_t room = 0;
     unsigned count = 0;
     for (ssize_t length; in && (length = getline(&line, &room, in)) > 0;) {
-        size_t rest = (size_t)length - (line[length - 1] == '\n');
-        int error = rest ? run_line(line, rest) : 0;
+        line[length - (line[length - 1] == '\n')] = 0;
+        int error = *line ? run_line(line) : 0;
         count++;
         if (error)
             fprintf(stderr, "mountfs: %s, line %u: %s\n", script, count, strerror(-error));

@@ -26,8 +26,8 @@ struct attribute {
 /* Wakes whoever polls an open file of this node, or of one that is not live any more. Under the lock. */
 void wake_pollers(struct kt_key key);
 
-/* Runs a line, without its newline. 0, or an error number below 0. */
-int run_line(const char *bytes, size_t length);
+/* Runs a line, without its newline, in place. 0, or an error number below 0. */
+int run_line(char *line);
 
 /* At the end: frees the attributes that are left. */
 void free_attributes(void);

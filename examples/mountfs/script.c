@@ -4,14 +4,10 @@
 #include <stdlib.h>
 #include <string.h>
 
-struct text { /* bytes, which no zero byte ends; NULL where there is none */
-    const char *at;
-    size_t length;
-};
-
 struct request {
-    struct text words[3], name;
+    char *words[3];        /* NULL where there is none */
     struct kt_key keys[3]; /* of each word that is a path; of a new node's path that of its directory, and its name */
+    const char *name;
     unsigned number;
 };
 
@@ -65,21 +61,20 @@ static int find_attribute(struct kt_key key, struct attribute **out)
 static int run_mkdir(struct request *it)
 {
     struct kt_key made;
-    bool is_off = it->words[1].at;
-    return kt_create_dir(&tree, it->keys[0], it->name.at, it->name.length, !is_off, &made);
+    return kt_create_dir(&tree, it->keys[0], it->name, strlen(it->name), !it->words[1], &made);
 }
 
 static int run_file(struct request *it)
 {
     struct attribute *new = calloc(1, sizeof *new);
-    struct text text = it->words[2];
+    const char *text = it->words[2] ? it->words[2] : "";
     if (!new || kt_new(&new->post.at))
         return free(new), -ENOMEM;
     pthread_mutex_init(&new->mutex, NULL);
-    new->length = text.length < sizeof new->text ? text.length : sizeof new->text;
-    memcpy(new->text, text.at ? text.at : "", new->length);
-    int error = kt_create_file(&tree, it->keys[0], it->name.at, it->name.length, (uint16_t)it->number, (uintptr_t)new,
-                               true, &new->key);
+    new->length = strnlen(text, sizeof new->text);
+    memcpy(new->text, text, new->length);
+    int error = kt_create_file(&tree, it->keys[0], it->name, strlen(it->name), (uint16_t)it->number, (uintptr_t)new, true,
+                               &new->key);
     if (!error && (error = kt_post(&tree, new->key, &new->post)))
         kt_remove(&tree, new->key);
     if (error)
@@ -92,7 +87,7 @@ static int run_file(struct request *it)
 static int run_link(struct request *it)
 {
     struct kt_key made;
-    return kt_create_link(&tree, it->keys[0], it->name.at, it->name.length, it->keys[1], true, &made);
+    return kt_create_link(&tree, it->keys[0], it->name, strlen(it->name), it->keys[1], true, &made);
 }
 
 static int run_activate(struct request *it)
@@ -102,7 +97,7 @@ static int run_activate(struct request *it)
 
 static int run_mv(struct request *it)
 {
-    return kt_rename(&tree, it->keys[0], it->keys[1], it->words[2].at, it->words[2].length);
+    return kt_rename(&tree, it->keys[0], it->keys[1], it->words[2], strlen(it->words[2]));
 }
 
 /* Marks what is removed, which wakes its pollers; waits until nobody is inside; frees the attributes. The lock is left
@@ -152,67 +147,49 @@ static const struct command {
 
 /* ---- lines ---- */
 
-/* Takes the next word, or nothing where no more comes. */
-static struct text take(struct text *rest)
+static bool read_number(const char *word, bool is_mode, unsigned *out)
 {
-    struct text word = *rest;
-    const char *space = word.at ? memchr(word.at, ' ', word.length) : NULL;
-    if (space)
-        word.length = (size_t)(space - word.at);
-    *rest = space ? (struct text){space + 1, rest->length - word.length - 1} : (struct text){0};
-    return word;
+    size_t digits = strspn(word, is_mode ? "01234567" : "0123456789");
+    *out = (unsigned)strtoul(word, NULL, is_mode ? 8 : 10);
+    return !word[digits] && digits <= 5 && (!is_mode || digits == 3) && *out < 65536;
 }
 
-static bool is_word(struct text text, const char *word)
+static bool take_words(char *rest, const char *kinds, struct request *it)
 {
-    return text.at && text.length == strlen(word) && !memcmp(text.at, word, text.length);
-}
-
-static bool read_number(struct text word, bool is_mode, unsigned *out)
-{
-    int base = is_mode ? 8 : 10;
-    bool fits = word.length <= 5 && (!is_mode || word.length == 3);
-    for (*out = 0; fits && word.length; word.at++, word.length--) {
-        fits = *word.at >= '0' && *word.at < '0' + base;
-        *out = *out * (unsigned)base + (unsigned)(*word.at - '0');
-    }
-    return fits && *out < 65536;
-}
-
-static bool take_words(struct text rest, const char *words, struct request *it)
-{
-    for (int at = 0; words[at]; at++) {
-        struct text *word = &it->words[at];
-        *word = words[at] == 't' ? rest : take(&rest);
-        rest = words[at] == 't' ? (struct text){0} : rest;
-        bool fits = words[at] == 't' || (words[at] == 'f' ? !word->at || is_word(*word, "off") : word->at && word->length);
-        if (!fits || ((words[at] == 'm' || words[at] == 'd') && !read_number(*word, words[at] == 'm', &it->number)))
+    for (int at = 0; kinds[at]; at++) {
+        char kind = kinds[at], *word = kind == 't' ? rest : strsep(&rest, " ");
+        it->words[at] = word;
+        if (kind == 't')
+            rest = NULL;
+        else if (kind == 'f' ? word && strcmp(word, "off") : !word || !*word)
+            return false;
+        else if ((kind == 'm' || kind == 'd') && !read_number(word, kind == 'm', &it->number))
             return false;
     }
-    return !rest.at;
+    return !rest;
 }
 
 /* Finds the node of a path; of a new node's path the directory, and the last name. */
-static int find(struct text path, struct kt_key *key, struct text *name)
+static int find(const char *path, struct kt_key *key, const char **name)
 {
-    const char *slash = name ? memrchr(path.at, '/', path.length) : NULL;
-    size_t front = slash ? (size_t)(slash - path.at) : path.length;
-    if (name && (!slash || path.length == 1 || (front == 1 && *path.at == '/')))
+    const char *slash = name ? strrchr(path, '/') : NULL;
+    size_t front = slash ? (size_t)(slash - path) : strlen(path);
+    if (name && (!slash || !path[1] || (front == 1 && *path == '/')))
         return -EINVAL; /* of the forms that kt_walk() does not see: no slash, / and //NAME */
     if (name)
-        *name = (struct text){slash + 1, path.length - front - 1};
-    return kt_walk(&tree, path.at, front ? front : 1, key);
+        *name = slash + 1;
+    return kt_walk(&tree, path, front ? front : 1, key);
 }
 
-int run_line(const char *bytes, size_t length)
+int run_line(char *line)
 {
     struct request request = {0};
-    struct text rest = {bytes, length}, word = take(&rest);
+    char *word = strsep(&line, " ");
     const struct command *it = commands, *end = commands + sizeof commands / sizeof *commands;
     int error = 0;
-    while (it < end && !is_word(word, it->name))
+    while (it < end && strcmp(word, it->name))
         it++;
-    if (it == end || !take_words(rest, it->words, &request))
+    if (it == end || !take_words(line, it->words, &request))
         return -EBADMSG;
     pthread_mutex_lock(&lock.mutex);
     for (int at = 0; !error && it->words[at]; at++)
