@@ -189,6 +189,57 @@ fn hiding_waits<N: Naming + Send + Sync, R: Abort + Threads + Wait + Sync>(rt: &
     }
 }
 
+// ---- two who hide one file
+
+/// Shows what a hiding kept, and answers whether it kept anything.
+fn shown<N: Naming, R: Wait>(rt: &R, tree: &SharedTree<N>, kept: Option<Token<N>>) -> bool {
+    match kept {
+        Some(Token { hidden, name: _ }) => {
+            tree.show(rt, hidden).release();
+            true
+        }
+        None => false,
+    }
+}
+
+/// Releases a hold that no hiding took.
+fn untaken<N: Naming>(place: Option<Held<N>>) -> bool {
+    match place {
+        Some(Held { hold, name: _ }) => {
+            hold.release();
+            true
+        }
+        None => false,
+    }
+}
+
+fn two_hide<N: Naming + Send + Sync, R: Abort + Threads + Wait + Sync>(rt: &R, new: NewTree)
+    requires { new.master.table ≡ N.table }
+{
+    let tree = new.named::<N>();
+    let key = add(rt, &tree, b"/t", FILE, true);
+    let mut one = Some(hold_of(rt, &tree, key));
+    let mut other = Some(hold_of(rt, &tree, key));
+    let mut first = None;
+    let mut second = None;
+    let answered = AtomicU64::new(0);
+    join(
+        rt,
+        || run_hide(rt, &tree, &mut one, &mut first, &answered),
+        || run_hide(rt, &tree, &mut other, &mut second, &answered),
+    );
+    let left = [untaken(one), untaken(other)];
+    let kept = [shown(rt, &tree, first), shown(rt, &tree, second)];
+    assert_eq!(rt; left, [false, false]);
+    assert!(rt; kept[0] != kept[1], "one of the two hides it");
+    assert_eq!(rt;
+        commands(rt, &tree),
+        3,
+        "one hiding and one show are stored"
+    );
+    assert!(rt; is_live(rt, &tree, key));
+}
+
 #[test]
 fn hidings_and_compactions(rt: HostRuntime) {
     hidden_and_shown::<Brand, _>(&rt, made(&rt, rt.alloc(), 4, 4, 0));
@@ -197,5 +248,6 @@ fn hidings_and_compactions(rt: HostRuntime) {
     compacted::<Brand, _>(&rt, rt.alloc(), made(&rt, rt.alloc(), 4, 4, 0));
     for _ in 0..20 {
         hiding_waits::<Brand, _>(&rt, made(&rt, rt.alloc(), 2, 8, 0));
+        two_hide::<Brand, _>(&rt, made(&rt, rt.alloc(), 2, 8, 0));
     }
 }

@@ -12,6 +12,8 @@ mod kept_tests;
 #[cfg(test)]
 mod large_tests;
 #[cfg(test)]
+mod reading_tests;
+#[cfg(test)]
 mod tests;
 #[cfg(test)]
 mod thread_tests;

@@ -15,3 +15,6 @@ ghosts-compacted g a = record { table = a.new.master.table }
 
 abbrev pub ghosts-hiding_waits : goal.ghosts-hiding_waits
 ghosts-hiding_waits g a = record { table = a.new.master.table }
+
+abbrev pub ghosts-two_hide : goal.ghosts-two_hide
+ghosts-two_hide g a = record { table = a.new.master.table }
