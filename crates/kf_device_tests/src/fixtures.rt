@@ -47,7 +47,7 @@ pub(crate) fn made<R: Abort>(rt: &R, alloc: Global, slots: u32) -> NewTree {
     }
 }
 
-pub(crate) fn new_bus<R: Abort>(rt: &R, alloc: Global) -> Bus {
+pub(crate) fn new_bus<N: Naming, R: Abort>(rt: &R, alloc: Global) -> Bus<N> {
     match Bus::new(alloc) {
         Ok(bus) => bus,
         Err(_) => panic!(rt; "no memory"),
@@ -153,7 +153,7 @@ pub(crate) fn close<N: Naming>(file: WaitingFile<N>) {
 }
 
 /// Whether a read of a file from its start is answered by this text.
-pub(crate) fn shows<N: Naming, W: WaitOps, R: Wait>(
+pub(crate) fn shows<N: Naming, W: WaitOps<N>, R: Wait>(
     rt: &R,
     tree: &SharedTree<N>,
     ops: &W,

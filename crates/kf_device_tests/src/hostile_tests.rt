@@ -29,19 +29,14 @@ struct ValuePost {
 /// The callbacks of a bus, where each show first writes `new` to its own node through a second file, and
 /// reads that.
 #[derive(Drop)]
-struct Nested<'a> {
-    bus: &'a Bus,
+struct Nested<'a, N: Naming> {
+    bus: &'a Bus<N>,
     post: Mutex<Option<ValuePost>>,
     answered: AtomicU64,
 }
 
-impl<'a> Nested<'a> {
-    fn writes_and_reads<N: Naming, R: Wait>(
-        &self,
-        rt: &R,
-        tree: &SharedTree<N>,
-        file: &mut WaitingFile<N>,
-    ) {
+impl<'a, N: Naming> Nested<'a, N> {
+    fn writes_and_reads<R: Wait>(&self, rt: &R, tree: &SharedTree<N>, file: &mut WaitingFile<N>) {
         let mut out = [0u8; 9];
         if file.write(rt, tree, self.bus, b"new") == Ok(3) {
             self.answered.fetch_add(1, Ordering::SeqCst);
@@ -51,7 +46,7 @@ impl<'a> Nested<'a> {
         }
     }
 
-    fn opens<N: Naming, R: Wait>(&self, rt: &R, tree: &SharedTree<N>, key: Key) {
+    fn opens<R: Wait>(&self, rt: &R, tree: &SharedTree<N>, key: Key) {
         let Some(ValuePost { post }) = self.post.lock(rt).take() else {
             return;
         };
@@ -73,14 +68,12 @@ impl<'a> Nested<'a> {
     }
 }
 
-impl<'a> WaitOps for Nested<'a> {
+impl<'a, N: Naming> WaitOps<N> for Nested<'a, N> {
     ghost may_show = { λ _ _ _. Unit {0} };
 
     ghost may_store = { λ _ _ _ _. Unit {0} };
 
-    ghost may_begin = { λ _ _ _ _. Unit {0} };
-
-    fn show<N: Naming, R: Wait>(
+    fn show<R: Wait>(
         &self,
         rt: &R,
         tree: &SharedTree<N>,
@@ -92,7 +85,7 @@ impl<'a> WaitOps for Nested<'a> {
         self.bus.show(rt, tree, call, tag, page)
     }
 
-    fn store<N: Naming, R: Wait>(
+    fn store<R: Wait>(
         &self,
         rt: &R,
         tree: &SharedTree<N>,
@@ -101,10 +94,6 @@ impl<'a> WaitOps for Nested<'a> {
         bytes: &[u8],
     ) -> Result<usize, Fault> {
         self.bus.store(rt, tree, call, tag, bytes)
-    }
-
-    fn first<R: Wait>(&self, rt: &R, tag: u64, bytes: &[u8]) -> Result<(), Fault> {
-        self.bus.first(rt, tag, bytes)
     }
 }
 

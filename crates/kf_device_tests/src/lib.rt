@@ -6,6 +6,8 @@ mod fixtures;
 #[cfg(test)]
 mod hostile_tests;
 #[cfg(test)]
+mod replug_tests;
+#[cfg(test)]
 mod text_tests;
 #[cfg(test)]
 mod thread_tests;

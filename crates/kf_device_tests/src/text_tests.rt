@@ -2,11 +2,11 @@
 ghost use Rattle.std.specs.Prelude.{◌≡◌};
 
 use crate::fixtures::{
-    BOTH, READ, close, first_wrong, key_at, made, new_bus, open, removed, shows, walked,
+    BOTH, READ, WRITE, close, first_wrong, key_at, made, new_bus, open, removed, shows, walked,
 };
 use kf_core::{Node, Refusal};
 use kf_device::Bus;
-use kf_files::{Fault, FileError, WaitOps};
+use kf_files::{Fault, FileError};
 use kf_shared::{Naming, NewTree, SharedTree};
 use std::alloc::Global;
 use std::marker::Brand;
@@ -21,7 +21,7 @@ fn knows_nothing_of<N: Naming, R: Abort + Wait>(
     rt: &R,
     alloc: Global,
     tree: &SharedTree<N>,
-    bus: &Bus,
+    bus: &Bus<N>,
     tag: u64,
 ) {
     let file = Node::File { mode: 0o666, tag };
@@ -33,7 +33,6 @@ fn knows_nothing_of<N: Naming, R: Abort + Wait>(
         made.is_ok(),
         file.read(rt, tree, bus, 0, &mut out) == Err(FileError::Callback(unknown)),
         file.write(rt, tree, bus, b"x") == Err(FileError::Callback(unknown)),
-        bus.first(rt, tag, b"x") == Err(unknown),
     ];
     close(file);
     removed(rt, tree, b"/odd");
@@ -70,10 +69,43 @@ fn a_tag_of_no_device_is_a_fault(rt: HostRuntime) {
     meets_odd_tags::<Brand, _>(&rt, rt.alloc(), new);
 }
 
+// A value may have any bytes, and a device is there as long as its `delete` is.
+fn outlives_its_value<N: Naming, R: Abort + Wait>(rt: &R, alloc: Global, new: NewTree)
+    requires { new.master.table ≡ N.table }
+{
+    let tree = new.named::<N>();
+    let bus = new_bus(rt, alloc);
+    let plugged = bus.plug(rt, &tree, b"d0", b"a\0b\xff ");
+    let mut value = open(rt, alloc, &tree, b"/devices/d0/value", BOTH);
+    let mut delete = open(rt, alloc, &tree, b"/devices/d0/delete", WRITE);
+    let answers = [
+        plugged.is_ok(),
+        shows(rt, &tree, &bus, &mut value, b"a\0b\xff "),
+        value.write(rt, &tree, &bus, b"\0\xff\n") == Ok(3),
+        shows(rt, &tree, &bus, &mut value, b"\0\xff\n"),
+    ];
+    removed(rt, &tree, b"/devices/d0/value");
+    let rest = [
+        bus.plug(rt, &tree, b"d1", b"on").is_ok(),
+        bus.plug(rt, &tree, b"d2", b"on").is_ok(),
+        delete.write(rt, &tree, &bus, b"1") == Ok(1),
+        walked(rt, &tree, b"/devices/d0") == Err(Refusal::NoEntry),
+    ];
+    assert_eq!(rt; (first_wrong(&answers), first_wrong(&rest)), (None, None));
+    close(value);
+    close(delete);
+}
+
+#[test]
+fn a_device_without_its_value_is_deleted(rt: HostRuntime) {
+    let new = made(&rt, rt.alloc(), 32);
+    outlives_its_value::<Brand, _>(&rt, rt.alloc(), new);
+}
+
 // ---- devices that are gone
 
 // The text of a value that was moved is kept until the value goes.
-fn moves_a_value<N: Naming, R: Abort + Wait>(rt: &R, tree: &SharedTree<N>, bus: &Bus) {
+fn moves_a_value<N: Naming, R: Abort + Wait>(rt: &R, tree: &SharedTree<N>, bus: &Bus<N>) {
     let plugged = bus.plug(rt, tree, b"moved", b"on").is_ok();
     let Ok(value) = walked(rt, tree, b"/devices/moved/value") else {
         panic!(rt; "no value")
@@ -96,7 +128,7 @@ fn compacts<N: Naming, R: Wait>(rt: &R, tree: &SharedTree<N>) -> bool {
 }
 
 // Another device comes, and goes by its name.
-fn comes_and_goes<N: Naming, R: Abort + Wait>(rt: &R, tree: &SharedTree<N>, bus: &Bus) {
+fn comes_and_goes<N: Naming, R: Abort + Wait>(rt: &R, tree: &SharedTree<N>, bus: &Bus<N>) {
     let answers = [
         bus.plug(rt, tree, b"goes", b"away").is_ok(),
         bus.unplug(rt, tree, b"goes") == Ok(()),
@@ -108,7 +140,7 @@ fn comes_and_goes<N: Naming, R: Abort + Wait>(rt: &R, tree: &SharedTree<N>, bus:
 }
 
 // Another device comes, and its nodes are removed past the bus.
-fn comes_and_is_removed<N: Naming, R: Abort + Wait>(rt: &R, tree: &SharedTree<N>, bus: &Bus) {
+fn comes_and_is_removed<N: Naming, R: Abort + Wait>(rt: &R, tree: &SharedTree<N>, bus: &Bus<N>) {
     let comes = bus.plug(rt, tree, b"goes", b"away").is_ok();
     removed(rt, tree, b"/devices/goes");
     removed(rt, tree, b"/bus/devices/goes");
@@ -143,4 +175,27 @@ fn stays_small<N: Naming, R: Abort + Wait>(rt: &R, alloc: Global, new: NewTree)
 fn texts_of_devices_that_are_gone_are_dropped(rt: HostRuntime) {
     let new = made(&rt, rt.alloc(), 32);
     stays_small::<Brand, _>(&rt, rt.alloc(), new);
+}
+
+// More devices stay than a sweep might look at, and all that are gone have higher numbers than they.
+fn sweeps_past_many<N: Naming, R: Abort + Wait>(rt: &R, alloc: Global, new: NewTree)
+    requires { new.master.table ≡ N.table }
+{
+    let tree = new.named::<N>();
+    let bus = new_bus(rt, alloc);
+    for name in [b"a", b"b", b"c", b"d", b"e", b"f", b"g", b"h", b"i"] {
+        assert!(rt; bus.plug(rt, &tree, name, b"stays").is_ok());
+    }
+    for _ in 0..40 {
+        assert!(rt; bus.plug(rt, &tree, b"goes", b"away").is_ok());
+        removed(rt, &tree, b"/devices/goes");
+        removed(rt, &tree, b"/bus/devices/goes");
+    }
+    assert!(rt; bus.kept(rt) <= 20);
+}
+
+#[test]
+fn a_sweep_looks_at_every_device(rt: HostRuntime) {
+    let new = made(&rt, rt.alloc(), 64);
+    sweeps_past_many::<Brand, _>(&rt, rt.alloc(), new);
 }

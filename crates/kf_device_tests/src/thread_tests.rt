@@ -16,12 +16,12 @@ use std::thread::{Threads, join};
 
 /// Stores that meet in their callbacks before either asks the bus.
 #[derive(Drop)]
-struct Meeting<'a> {
-    bus: &'a Bus,
+struct Meeting<'a, N: Naming> {
+    bus: &'a Bus<N>,
     arrived: AtomicU64,
 }
 
-impl<'a> Meeting<'a> {
+impl<'a, N: Naming> Meeting<'a, N> {
     // Turns until both are there.
     fn meets(&self) -> bool {
         self.arrived.fetch_add(1, Ordering::SeqCst);
@@ -34,14 +34,12 @@ impl<'a> Meeting<'a> {
     }
 }
 
-impl<'a> WaitOps for Meeting<'a> {
+impl<'a, N: Naming> WaitOps<N> for Meeting<'a, N> {
     ghost may_show = { λ _ _ _. Unit {0} };
 
     ghost may_store = { λ _ _ _ _. Unit {0} };
 
-    ghost may_begin = { λ _ _ _ _. Unit {0} };
-
-    fn show<N: Naming, R: Wait>(
+    fn show<R: Wait>(
         &self,
         rt: &R,
         tree: &SharedTree<N>,
@@ -57,7 +55,7 @@ impl<'a> WaitOps for Meeting<'a> {
         Ok(())
     }
 
-    fn store<N: Naming, R: Wait>(
+    fn store<R: Wait>(
         &self,
         rt: &R,
         tree: &SharedTree<N>,
@@ -70,19 +68,12 @@ impl<'a> WaitOps for Meeting<'a> {
         }
         self.bus.store(rt, tree, call, tag, bytes)
     }
-
-    fn first<R: Wait>(&self, rt: &R, tag: u64, bytes: &[u8]) -> Result<(), Fault> {
-        let _ = rt;
-        let _ = tag;
-        let _ = bytes;
-        Ok(())
-    }
 }
 
 fn writes_one<N: Naming, R: Wait>(
     rt: &R,
     tree: &SharedTree<N>,
-    ops: &Meeting<'_>,
+    ops: &Meeting<'_, N>,
     file: &mut WaitingFile<N>,
 ) -> bool {
     file.write(rt, tree, ops, b"1") == Ok(1)
@@ -93,7 +84,7 @@ fn both_store<N: Naming + Send + Sync, R: Abort + Threads + Wait + Sync>(
     rt: &R,
     alloc: Global,
     tree: &SharedTree<N>,
-    meeting: &Meeting<'_>,
+    meeting: &Meeting<'_, N>,
 ) {
     let mut one = open(rt, alloc, tree, b"/devices/d0/delete", WRITE);
     let mut other = open(rt, alloc, tree, b"/devices/d0/delete", WRITE);
@@ -142,7 +133,7 @@ fn plugs_and_deletes<N: Naming, R: Abort + Wait>(
     rt: &R,
     alloc: Global,
     tree: &SharedTree<N>,
-    bus: &Bus,
+    bus: &Bus<N>,
     rounds: u32,
 ) {
     for _ in 0..rounds {
@@ -154,7 +145,7 @@ fn plugs_and_deletes<N: Naming, R: Abort + Wait>(
     }
 }
 
-fn unplugs<N: Naming, R: Abort + Wait>(rt: &R, tree: &SharedTree<N>, bus: &Bus, rounds: u32) {
+fn unplugs<N: Naming, R: Abort + Wait>(rt: &R, tree: &SharedTree<N>, bus: &Bus<N>, rounds: u32) {
     for _ in 0..rounds {
         let answer = bus.unplug(rt, tree, b"d1");
         assert!(rt; answer == Ok(()) || answer == Err(Refusal::NoEntry));
