@@ -1,8 +1,10 @@
-//! The tests of `kf_files`, over its public calls: proved over the crate, and not with it.
+//! The tests of `kf_files` and `kf_notify`, over their public calls: proved over the crates, and not with them.
 #![tactic(auto)]
 
 #[cfg(test)]
 mod callback_tests;
+#[cfg(test)]
+mod number_tests;
 #[cfg(test)]
 mod tests;
 #[cfg(test)]
