@@ -67,7 +67,8 @@ NoneSkipped = (slots start : ℕ) (t : Table) (kinds : List Kind) (t' : Table)
 -- once a slot's number was raised to this one, it is never below it again
 abbrev pub StaysRaised : Type 0
 StaysRaised = (slots start : ℕ) (t : Table) (seat slot number : ℕ) (kinds : List Kind) (t' : Table)
-    → Shown slots start t → NumberRun slots t (raises seat slot number ∷ kinds) t' → number ≤ number_at t' slot
+    → Shown slots start t → NumberRun slots t (raises seat slot number ∷ kinds) t'
+    → number ≤ number_at t' slot
 
 -- a notify that begins where another of its slot has ended makes a greater number, whatever all seats do
 -- between them, and between its load and its raise

@@ -1,7 +1,11 @@
-//! The tests of `kf_rounds`, over its public calls: proved over the crate, and not with it.
+//! The tests of `kf_script` and `kf_rounds`, over their public calls: proved over the crates, and not with them.
 #![tactic(auto)]
 
 #[cfg(test)]
 mod round_tests;
+#[cfg(test)]
+mod stream_fakes;
+#[cfg(test)]
+mod stream_tests;
 #[cfg(test)]
 mod test_board;

@@ -134,7 +134,8 @@ pub(crate) fn insert_record(directories: &mut Vec<Directory>, entry: &Record) ->
 /// Takes a record's name out of the index of its directory, where it has one.
 pub(crate) fn remove_record(directories: &mut Vec<Directory>, entry: Option<&Record>)
     requires counted { MayRemove directories.old.items (option_copied entry) }
-    ensures removed { directories.new.items ≡ without_record (option_copied entry.entry) directories.old.items }
+    ensures removed { directories.new.items
+        ≡ without_record (option_copied entry.entry) directories.old.items }
 {
     if let Some(entry) = entry {
         if let Some(parent) = entry.parent {

@@ -1,6 +1,6 @@
 //! Scripts over readers and writers that fail, cut and count. Which lines make requests stands in scripts/.
 
-use crate::fakes::{ChunkReader, FailingWriter, OkBoard};
+use crate::stream_fakes::{ChunkReader, FailingWriter, OkBoard};
 use kf_script::{RunFault, run_script};
 use std::alloc::{AllocError, Global};
 use std::io::Read;
