@@ -31,3 +31,13 @@ pub struct Group<'a> {
     /// Its attributes.
     pub attributes: &'a [Attribute<'a>],
 }
+
+impl<'a> Group<'a> {
+    /// The group of this name, where it has one, with these attributes.
+    pub const fn new(name: Option<&'a [u8]>, attributes: &'a [Attribute<'a>]) -> Group<'a>
+        ensures name { result.name ≡ name.entry }
+        ensures attributes { result.attributes.now ≡ attributes.now }
+    {
+        Group { name, attributes }
+    }
+}

@@ -1,0 +1,120 @@
+//! Attributes with their callbacks, one row for each.
+ghost use Rattle.std.specs.Prelude.{◌≡◌, ◌==◌, ◌<◌, ◌≤◌, ℕ, List, [], length, Result, Err, MatchBool};
+ghost use Rattle.kf_files.specs.declared.ops.Fault.{Fault};
+ghost use Rattle.kf_files.specs.Files.{filled_by};
+ghost use Rattle.kf_text.specs.declared.not_read.NotRead.{NotRead};
+ghost use Rattle.kf_driver.specs.Tables.{Fills, TakesAll, unknown};
+
+use kf_files::{Fault, Page};
+use kf_groups::Attribute;
+use kf_text::NotRead;
+
+/// What an attribute shows and stores (`show` and `store` of `struct device_attribute`). Any number of threads
+/// may call both at once.
+pub trait Callbacks {
+    /// A show may fill a page with these bytes. Where a driver does not say which, any.
+    ghost shows: { Self → List ℕ → Type 0 } = { λ _ _. Unit {0} };
+
+    /// A store of these bytes may answer this. Where a driver does not say what, anything.
+    ghost takes: { Self → List ℕ → Result (Unit {0}) NotRead → Type 0 } = { λ _ _ _. Unit {0} };
+
+    /// Fills the empty page.
+    fn show(&self, page: &mut Page)
+        requires empty { page.old.items ≡ [] }
+        ensures shown { shows self.now page.new.items };
+
+    /// Takes all of the bytes, 1 to 4,096 of them, or tells why not.
+    fn store(&self, bytes: &[u8]) -> Result<(), NotRead>
+        requires some { 0 < length bytes.now }
+        requires fits { length bytes.now ≤ 4096 }
+        ensures taken { takes self.now bytes.now result };
+}
+
+/// Attributes by their tags.
+pub trait Table {
+    /// A show for this tag may fill a page with these bytes, or give this fault.
+    ghost may_show: { Self → ℕ → Result (List ℕ) Fault → Type 0 };
+
+    /// A store of these bytes for this tag may answer this.
+    ghost may_store: { Self → ℕ → List ℕ → Result ℕ Fault → Type 0 };
+
+    /// Shows the attribute of this tag on the empty page.
+    fn show(&self, tag: u64, page: &mut Page) -> Result<(), Fault>
+        requires empty { page.old.items ≡ [] }
+        ensures shown { may_show self.now tag (filled_by result page.new.items) };
+
+    /// Stores the bytes, 1 to 4,096 of them, into the attribute of this tag.
+    fn store(&self, tag: u64, bytes: &[u8]) -> Result<usize, Fault>
+        requires some { 0 < length bytes.now }
+        requires fits { length bytes.now ≤ 4096 }
+        ensures stored { may_store self.now tag bytes.now result };
+}
+
+/// An attribute with its callbacks, and the rows after it. Of two rows of one tag the first counts.
+#[derive(Drop)]
+pub struct Row<A, B> {
+    tag: u64,
+    callbacks: A,
+    others: B,
+}
+
+/// The end of a table: every tag is Fault 22.
+#[derive(Clone, Copy)]
+pub struct End;
+
+impl<A, B> Row<A, B> {
+    /// The row of this attribute, before the others.
+    pub fn new(attribute: Attribute, callbacks: A, others: B) -> Row<A, B>
+        ensures tag { result.tag ≡ attribute.entry.tag }
+        ensures callbacks { result.callbacks ≡ callbacks }
+        ensures others { result.others ≡ others }
+    {
+        Row {
+            tag: attribute.tag,
+            callbacks,
+            others,
+        }
+    }
+}
+
+impl<A: Callbacks, B: Table> Table for Row<A, B> {
+    ghost may_show = { λ row tag filled. MatchBool (tag == row.tag)
+        (Fills (A.shows row.callbacks) filled) (B.may_show row.others tag filled) };
+
+    ghost may_store = { λ row tag bytes answer. MatchBool (tag == row.tag)
+        (TakesAll (A.takes row.callbacks bytes) bytes answer) (B.may_store row.others tag bytes answer) };
+
+    fn show(&self, tag: u64, page: &mut Page) -> Result<(), Fault> {
+        if tag == self.tag {
+            self.callbacks.show(page);
+            return Ok(());
+        }
+        self.others.show(tag, page)
+    }
+
+    fn store(&self, tag: u64, bytes: &[u8]) -> Result<usize, Fault> {
+        if tag == self.tag {
+            return match self.callbacks.store(bytes) {
+                Ok(()) => Ok(bytes.len()),
+                Err(error) => Err(Fault {
+                    number: error.number(),
+                }),
+            };
+        }
+        self.others.store(tag, bytes)
+    }
+}
+
+impl Table for End {
+    ghost may_show = { λ _ _ filled. filled ≡ Err unknown };
+
+    ghost may_store = { λ _ _ _ answer. answer ≡ Err unknown };
+
+    fn show(&self, _tag: u64, _page: &mut Page) -> Result<(), Fault> {
+        Err(Fault { number: 22 })
+    }
+
+    fn store(&self, _tag: u64, _bytes: &[u8]) -> Result<usize, Fault> {
+        Err(Fault { number: 22 })
+    }
+}
