@@ -8,6 +8,7 @@ struct request {
     char *words[3];        /* NULL where there is none */
     struct kt_key keys[3]; /* of each word that is a path; of a new node's path that of its directory, and its name */
     const char *name;
+    struct attribute *attribute; /* of a word that is a file's path */
     unsigned number;
 };
 
@@ -119,30 +120,25 @@ static int run_rm(struct request *it)
 
 static int run_notify(struct request *it)
 {
-    struct attribute *attribute;
-    int error = find_attribute(it->keys[0], &attribute) ?: kt_notify(&attribute->post);
-    if (!error)
-        wake_pollers(it->keys[0]);
+    int error = kt_notify(&it->attribute->post);
+    wake_pollers(it->keys[0]);
     return error;
 }
 
 static int run_slow(struct request *it)
 {
-    struct attribute *attribute;
-    int error = find_attribute(it->keys[0], &attribute);
-    if (!error)
-        attribute->delay = it->number;
-    return error;
+    it->attribute->delay = it->number;
+    return 0;
 }
 
-/* The words of a command: n a new node's path, p a path, w a word, m a mode, d a number, f `off` or nothing, t all that
- * follows. */
+/* The words of a command: n a new node's path, p a path, a a file's path, w a word, m a mode, d a number, f `off` or
+ * nothing, t all that follows. */
 static const struct command {
     const char *name, *words;
     int (*run)(struct request *);
 } commands[] = {
     {"mkdir", "nf", run_mkdir}, {"file", "nmt", run_file}, {"link", "np", run_link},     {"activate", "p", run_activate},
-    {"mv", "ppw", run_mv},      {"rm", "p", run_rm},       {"notify", "p", run_notify}, {"slow", "pd", run_slow},
+    {"mv", "ppw", run_mv},      {"rm", "p", run_rm},       {"notify", "a", run_notify}, {"slow", "ad", run_slow},
 };
 
 /* ---- lines ---- */
@@ -192,9 +188,13 @@ int run_line(char *line)
     if (it == end || !take_words(line, it->words, &request))
         return -EBADMSG;
     pthread_mutex_lock(&lock.mutex);
-    for (int at = 0; !error && it->words[at]; at++)
-        if (it->words[at] == 'n' || it->words[at] == 'p')
-            error = find(request.words[at], &request.keys[at], it->words[at] == 'n' ? &request.name : NULL);
+    for (int at = 0; !error && it->words[at]; at++) {
+        char kind = it->words[at];
+        if (kind == 'n' || kind == 'p' || kind == 'a')
+            error = find(request.words[at], &request.keys[at], kind == 'n' ? &request.name : NULL);
+        if (kind == 'a')
+            error = error ?: find_attribute(request.keys[at], &request.attribute);
+    }
     error = error ?: it->run(&request);
     pthread_mutex_unlock(&lock.mutex);
     return error;
