@@ -6,10 +6,10 @@
  *
  * SCRIPT has lines of kernfs_run (docs/SCRIPTS.md) that make and change a tree: mkdir, file, link, activate, mv, rm,
  * notify; and `slow PATH MS`, which makes each later show and store of a file take so many milliseconds, 0 to 65535.
- * Without it, or where it is `-`, they are standard input. A line that is refused is told, and the rest goes on. The tree
- * is mounted, with -f in the foreground. A write to MOUNTPOINT/.control, which no listing shows, is one more line, and
- * fails as that does. A show ends with a newline and a store takes one off the end, as drivers do. What the mount has no
- * handler for (mkdir(2), rename(2) ..) is ENOSYS. */
+ * Without it, or where it is `-`, they are standard input. A line that is refused is told, and the rest goes on. Then
+ * the tree is mounted, with -f in the foreground. A write to MOUNTPOINT/.control, which no listing shows, is one more
+ * line, and fails as that does. A show ends with a newline and a store takes one off the end, as drivers do. What the
+ * mount has no handler for (mkdir(2), rename(2) ..) is ENOSYS. */
 #define _GNU_SOURCE
 #include "mountfs.h"
 #include <fcntl.h>

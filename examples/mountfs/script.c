@@ -74,8 +74,8 @@ static int run_file(struct request *it)
     pthread_mutex_init(&new->mutex, NULL);
     new->length = strnlen(text, sizeof new->text);
     memcpy(new->text, text, new->length);
-    int error = kt_create_file(&tree, it->keys[0], it->name, strlen(it->name), (uint16_t)it->number, (uintptr_t)new, true,
-                               &new->key);
+    int error = kt_create_file(&tree, it->keys[0], it->name, strlen(it->name), (uint16_t)it->number, (uintptr_t)new,
+                               true, &new->key);
     if (!error && (error = kt_post(&tree, new->key, &new->post)))
         kt_remove(&tree, new->key);
     if (error)
@@ -137,7 +137,7 @@ static const struct command {
     const char *name, *words;
     int (*run)(struct request *);
 } commands[] = {
-    {"mkdir", "nf", run_mkdir}, {"file", "nmt", run_file}, {"link", "np", run_link},     {"activate", "p", run_activate},
+    {"mkdir", "nf", run_mkdir}, {"file", "nmt", run_file}, {"link", "np", run_link}, {"activate", "p", run_activate},
     {"mv", "ppw", run_mv},      {"rm", "p", run_rm},       {"notify", "a", run_notify}, {"slow", "ad", run_slow},
 };
 
