@@ -6,7 +6,7 @@ use crate::common::Common;
 use crate::script_ops::ScriptOps;
 use crate::token::Token;
 use kf_core::{Limits, Refusal};
-use kf_files::WaitingFile;
+use kf_files::{BoxedFile, Page};
 use kf_notify::Posts;
 use kf_shared::Naming;
 use std::alloc::Global;
@@ -25,13 +25,16 @@ const FILES: usize = 26;
 
 /// The board of one who runs lines on a shared tree: its open files by letter, its tokens of hidden files by
 /// slot, and a handle of its own of the event numbers. What a file gives is read into a page of its own.
+/// There is room for a token of each slot, and no memory is written before one is kept; the pages of files
+/// that were closed are kept for the next ones.
 ///
 /// It must be spent, by [`WorkerBoard::end`], which gives all its holds back.
 pub struct WorkerBoard<'x, W: ScriptOps, N: Naming, R: Wait> {
     rt: &'x R,
     common: &'x Common<'x, W, N>,
     posts: Posts,
-    files: Vec<Option<WaitingFile<N>>>,
+    files: Vec<Option<BoxedFile<N>>>,
+    pages: Vec<Box<Page>>,
     tokens: Vec<Option<Token<N>>>,
     page: Vec<u8>,
     ghost letters: { vec_len files ≡ 26 },
@@ -39,7 +42,7 @@ pub struct WorkerBoard<'x, W: ScriptOps, N: Naming, R: Wait> {
 }
 
 /// No file under any of the 26 letters.
-fn no_files<N: Naming>(alloc: Global) -> Result<Vec<Option<WaitingFile<N>>>, Refusal>
+fn no_files<N: Naming>(alloc: Global) -> Result<Vec<Option<BoxedFile<N>>>, Refusal>
     ensures { IfOk result (λ files. vec_len files ≡ 26) }
 {
     let mut files = Vec::with_capacity(alloc, FILES)?;
@@ -48,16 +51,6 @@ fn no_files<N: Naming>(alloc: Global) -> Result<Vec<Option<WaitingFile<N>>>, Ref
         files.push_reserved(None);
     }
     Ok(files)
-}
-
-/// No token in any of so many slots.
-fn no_tokens<N: Naming>(alloc: Global, slots: u32) -> Result<Vec<Option<Token<N>>>, Refusal> {
-    let mut tokens = Vec::with_capacity(alloc, slots as usize)?;
-    for made in 0..slots {
-        prove!(made < slots);
-        tokens.push_reserved(None);
-    }
-    Ok(tokens)
 }
 
 impl<'x, W: ScriptOps, N: Naming, R: Wait> WorkerBoard<'x, W, N, R> {
@@ -71,18 +64,19 @@ impl<'x, W: ScriptOps, N: Naming, R: Wait> WorkerBoard<'x, W, N, R> {
     ) -> Result<WorkerBoard<'x, W, N, R>, Refusal> {
         let page = vec![in alloc; 0; 4096]?;
         let files = no_files(alloc)?;
-        match no_tokens(alloc, limits.slots()) {
+        match Vec::with_capacity(alloc, limits.slots() as usize) {
             Ok(tokens) => Ok(WorkerBoard {
                 rt,
                 common,
                 posts,
                 files,
+                pages: Vec::new(alloc),
                 tokens,
                 page,
             }),
-            Err(refusal) => {
+            Err(_) => {
                 ending::close_all(files);
-                Err(refusal)
+                Err(Refusal::NoMemory)
             }
         }
     }

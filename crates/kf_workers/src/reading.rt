@@ -14,7 +14,7 @@ const SCRIPT_LIMIT: usize = 1_048_576;
 const READ_LIMIT: u32 = 16_777_216;
 
 /// Bytes that one call of read may give.
-const CHUNK: usize = 4096;
+const CHUNK: usize = 16_384;
 
 /// Reads once, and puts the bytes behind the script. Answers how many they were: 0 at the end of the input
 /// alone.

@@ -3,15 +3,15 @@
 use super::WorkerBoard;
 use super::files::close_file;
 use crate::script_ops::ScriptOps;
-use kf_files::WaitingFile;
+use kf_files::BoxedFile;
 use kf_shared::Naming;
 use std::sync::Wait;
 
 /// Closes each file that is open.
-pub fn close_all<N: Naming>(mut files: Vec<Option<WaitingFile<N>>>) {
+pub fn close_all<N: Naming>(mut files: Vec<Option<BoxedFile<N>>>) {
     while let Some(place) = files.pop() {
         if let Some(file) = place {
-            close_file(file);
+            let _page = close_file(file);
         }
     }
     files.destroy_empty();
@@ -25,6 +25,7 @@ impl<W: ScriptOps, N: Naming, R: Wait> WorkerBoard<'_, W, N, R> {
             common,
             posts: _,
             files,
+            pages: _,
             mut tokens,
             page: _,
         } = self;

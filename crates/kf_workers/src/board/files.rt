@@ -8,7 +8,7 @@ use crate::common::Common;
 use crate::script_ops::ScriptOps;
 use crate::tell::tell_read;
 use kf_core::{Key, Node, Refusal};
-use kf_files::{WaitingFile, Want};
+use kf_files::{BoxedFile, Page, WaitingFile, Want};
 use kf_notify::Post;
 use kf_replies::tell_count;
 use kf_script::Reply;
@@ -16,10 +16,19 @@ use kf_shared::Naming;
 use kf_words::Hold;
 use std::sync::Wait;
 
-/// Closes a file, and gives its hold back.
-pub fn close_file<N: Naming>(file: WaitingFile<N>) {
-    let (hold, _post) = file.close();
+/// Closes a file, and gives its hold back. Its page is left.
+pub fn close_file<N: Naming>(file: BoxedFile<N>) -> Box<Page> {
+    let (hold, _post, page) = file.into_parts();
     hold.release();
+    page
+}
+
+/// A page of a file that was closed, or else a new one. `NoMemory` where that could not be had.
+fn take_page(pages: &mut Vec<Box<Page>>) -> Result<Box<Page>, Refusal> {
+    if let Some(page) = pages.pop() {
+        return Ok(page);
+    }
+    Box::new(*pages.allocator(), Page::new()).map_err(|_| Refusal::NoMemory)
 }
 
 /// Reads a file from an offset on, through a page: puts the bytes, at most 4,096, into the reply, or why
@@ -27,7 +36,7 @@ pub fn close_file<N: Naming>(file: WaitingFile<N>) {
 fn read_through<W: ScriptOps, N: Naming, R: Wait>(
     rt: &R,
     common: &Common<'_, W, N>,
-    opened: &mut WaitingFile<N>,
+    opened: &mut BoxedFile<N>,
     offset: u64,
     most: usize,
     page: &mut [u8],
@@ -62,7 +71,7 @@ impl<W: ScriptOps, N: Naming, R: Wait> WorkerBoard<'_, W, N, R> {
     }
 
     /// Opens the file of a hold. After a refusal the hold is given back.
-    fn open_held(&mut self, hold: Hold, want: Want) -> Result<WaitingFile<N>, Refusal>
+    fn open_held(&mut self, hold: Hold, want: Want) -> Result<BoxedFile<N>, Refusal>
         requires table { hold.table ≡ N.table }
     {
         let node = hold.node();
@@ -73,13 +82,26 @@ impl<W: ScriptOps, N: Naming, R: Wait> WorkerBoard<'_, W, N, R> {
                 return Err(refusal);
             }
         };
-        match WaitingFile::open(hold, node, want, post) {
-            Ok(file) => Ok(file),
-            Err((hold, _post, refusal)) => {
+        let page = match take_page(&mut self.pages) {
+            Ok(page) => page,
+            Err(refusal) => {
                 hold.release();
+                return Err(refusal);
+            }
+        };
+        match WaitingFile::open_on(hold, node, want, post, page) {
+            Ok(file) => Ok(file),
+            Err((hold, _post, page, refusal)) => {
+                hold.release();
+                self.keep_page(page);
                 Err(refusal)
             }
         }
+    }
+
+    /// Keeps a page for the next file. Where it cannot be kept it is let go.
+    fn keep_page(&mut self, page: Box<Page>) {
+        let _ = self.pages.push(page);
     }
 
     /// Opens the file at a path under a letter.
@@ -92,7 +114,8 @@ impl<W: ScriptOps, N: Naming, R: Wait> WorkerBoard<'_, W, N, R> {
         let hold = self.hold_live(path)?;
         let opened = self.open_held(hold, want)?;
         if let Some(other) = self.files[file].replace(opened) {
-            close_file(other);
+            let page = close_file(other);
+            self.keep_page(page);
         }
         Ok(())
     }
@@ -103,7 +126,8 @@ impl<W: ScriptOps, N: Naming, R: Wait> WorkerBoard<'_, W, N, R> {
     {
         match self.files[file].take() {
             Some(opened) => {
-                close_file(opened);
+                let page = close_file(opened);
+                self.keep_page(page);
                 Ok(())
             }
             None => Err(Refusal::Invalid),

@@ -25,6 +25,9 @@ impl<W: ScriptOps, N: Naming, R: Wait> WorkerBoard<'_, W, N, R> {
     /// where another lay there, or there is no such slot, the file is shown again.
     fn keep(&mut self, token: Token<N>) {
         let slot = token.key().slot as usize;
+        while self.tokens.len() <= slot && self.tokens.len() < self.tokens.capacity() {
+            self.tokens.push_reserved(None);
+        }
         let other = match self.tokens.get_mut(slot) {
             Some(place) => place.replace(token),
             None => Some(token),

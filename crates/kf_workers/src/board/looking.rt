@@ -23,7 +23,8 @@ impl<W: ScriptOps, N: Naming, R: Wait> WorkerBoard<'_, W, N, R> {
         editor.state().stat(key)
     }
 
-    /// Tells the names in a live directory.
+    /// Tells the names in a live directory. They are copied once, into the reply's memory, which is the
+    /// board's own: while the lock is held nothing is put out, and nobody is waited for.
     pub(super) fn list(&self, path: &[u8], reply: &mut Reply) -> Result<(), Refusal>
         ensures { OnOk result (AreNames reply.new) }
     {
