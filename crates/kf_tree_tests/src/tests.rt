@@ -7,6 +7,7 @@ ghost use Rattle.std.specs.Prelude.{◌≡◌, slice_get, IfSome, Some, None};
 mod compaction_tests;
 mod hiding_tests;
 mod large_tests;
+mod naming_tests;
 
 use crate::answers::first_wrong;
 use kf_core::{Command, Key, Limits, Node, Refusal};
