@@ -48,7 +48,7 @@ fn delete<N: Naming, R: Wait>(
     rt: &R,
     posts: &mut Posts,
     tree: &SharedTree<N>,
-    bus: &Bus,
+    bus: &Bus<N>,
     path: &[u8],
 ) -> Result<usize, Refusal>
     requires { posts.old.slots ≡ 32 }
