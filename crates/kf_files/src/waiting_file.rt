@@ -49,8 +49,8 @@ impl<'a, W: WaitOps<N>, N: Naming, R: Wait> Ops<TreeCall<N>> for Lent<'a, W, N, 
 /// keeps the hold and a post of its slot until it is closed. Tries and ends take no lock and wait for
 /// nobody: the runtime goes to callbacks alone.
 ///
-/// Its page is its own, or one that it was given: a [`BoxedFile`] has a box of the caller's, and moves none of
-/// its 4,096 bytes. A file that is let go gives its hold back by itself.
+/// Its page is its own, or one that it was given: a [`BoxedFile`] has a box of the caller's, so none of its
+/// 4,096 bytes is moved. A file that is let go gives its hold back by itself.
 ///
 /// Its contracts are those of [`OpenFile`], where a visit to the node tells the very try that was made: one
 /// that gave a call found the key live, one that did not found a word that keeps it out. Of a callback they
