@@ -1,0 +1,6 @@
+-- Short searches: where such a goal fails, they end at once.
+use Rattle.std.proofs.Common.{rules}
+use Rattle.kf_script.proofs.reply.Reply.write_line.Goals as goal
+
+pub returns-clause-written : goal.returns-clause-written
+returns-clause-written g c = search rules

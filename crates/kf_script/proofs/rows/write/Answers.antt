@@ -1,0 +1,6 @@
+-- Short searches: where such a goal fails, they end at once.
+use Rattle.std.proofs.Common.{rules}
+use Rattle.kf_script.proofs.rows.write.Goals as goal
+
+pub returns-clause-value : goal.returns-clause-value
+returns-clause-value c = search rules
