@@ -9,8 +9,8 @@ use kf_files::{Fault, Page};
 use kf_groups::Attribute;
 use kf_text::NotRead;
 
-/// What an attribute shows and stores (`show` and `store` of `struct device_attribute`). Any number of threads
-/// may call both at once.
+/// What an attribute shows and stores (`show` and `store` of `struct device_attribute`). Any number of
+/// threads may call both at once.
 pub trait Callbacks {
     /// A show may fill a page with these bytes. Where a driver does not say which, any.
     ghost shows: { Self → List ℕ → Type 0 } = { λ _ _. Unit {0} };

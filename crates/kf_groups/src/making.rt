@@ -94,10 +94,10 @@ fn make_directory<N: Naming>(
 /// (`sysfs_create_group`): nothing of it is live until all is there. Gives the key of the directory that its
 /// files stand in.
 ///
-/// Refusals, in order: those of [`Editor::create`] for the group's own directory, where it has a name; then of
-/// one attribute after another what is wrong with its file, and Exists where a later one has its name. After
-/// these nothing has changed. Then NoSpace and NoMemory. After these what was made, which was not live, has
-/// been taken back under the same lock; where there is no memory for that either, it stays.
+/// Refusals, in order: those of [`Editor::create`] for the group's own directory, where it has a name; then
+/// of one attribute after another what is wrong with its file, and Exists where a later one has its name.
+/// After these nothing has changed. Then NoSpace and NoMemory. After these what was made, which was not
+/// live, has been taken back under the same lock; where there is no memory for that either, it stays.
 pub fn create_group<N: Naming>(
     editor: &mut Editor<'_, N>,
     dir: Key,

@@ -60,8 +60,8 @@ pub fn open_path<N: Naming>(
 
 /// Tells who polls the file of this name in a directory that it has changed (`sysfs_notify`).
 ///
-/// Refusals, in order: those of [`State::find`]; NoSpace (the posts have no number for the slot, or its number
-/// is the last that there is); NoMemory.
+/// Refusals, in order: those of [`State::find`]; NoSpace (the posts have no number for the slot), NoMemory;
+/// NoSpace (its number is the last that there is).
 pub fn notify(state: &State, posts: &mut Posts, dir: Key, name: &[u8]) -> Result<u64, Refusal>
     ensures refused { IfErr result (λ refusal. FirstRefused (found state.now.tree dir name.now) refusal) }
     ensures found { IfOk result (λ _. (key : Key) × (found state.now.tree dir name.now ≡ Ok key)) }

@@ -15,21 +15,21 @@ never : (a : Bool) → ¬ (a ≡ true) → a ≡ false
 never true denied = absurd (denied refl)
 never false denied = refl
 
-pub same_lines : (line front text : List ℕ) → line ≡ front ++ 10 ∷ []
+pub same : (line front text : List ℕ) → line ≡ front ++ 10 ∷ []
     → bytes_eq line (with_newline text) ≡ bytes_eq front text
-same_lines line front text parts = same_tests _ _
-    (λ same. (bytes_eq-Decides front text).1
-    ((same_from_push front text 10 10 (sym parts ∙ (bytes_eq-Decides line (with_newline text)).0 same)).0))
-    (λ same. (bytes_eq-Decides line (with_newline text)).1
-    (parts ∙ ap with_newline ((bytes_eq-Decides front text).0 same)))
+same line front text parts = same_tests _ _
+    (λ as_one. (bytes_eq-Decides front text).1
+    ((same_from_push front text 10 10 (sym parts ∙ (bytes_eq-Decides line (with_newline text)).0 as_one)).0))
+    (λ as_one. (bytes_eq-Decides line (with_newline text)).1
+    (parts ∙ ap with_newline ((bytes_eq-Decides front text).0 as_one)))
 
-pub other_lines : (line front text : List ℕ) (last : ℕ) → line ≡ front ++ last ∷ [] → last ≢ 10
+pub other : (line front text : List ℕ) (last : ℕ) → line ≡ front ++ last ∷ [] → last ≢ 10
     → bytes_eq line (with_newline text) ≡ false
-other_lines line front text last parts other = never _
-    (λ same. other ((same_from_push front text last 10
-    (sym parts ∙ (bytes_eq-Decides line (with_newline text)).0 same)).1))
+other line front text last parts differs = never _
+    (λ as_one. differs ((same_from_push front text last 10
+    (sym parts ∙ (bytes_eq-Decides line (with_newline text)).0 as_one)).1))
 
-pub no_line : (line text : List ℕ) → length line ≡ 0 → bytes_eq line (with_newline text) ≡ false
-no_line [] [] none = refl
-no_line [] (byte ∷ text) none = refl
-no_line (byte ∷ line) text none = absurd (omega arith)
+pub none : (line text : List ℕ) → length line ≡ 0 → bytes_eq line (with_newline text) ≡ false
+none [] [] no_byte = refl
+none [] (byte ∷ text) no_byte = refl
+none (byte ∷ line) text no_byte = absurd (omega arith)

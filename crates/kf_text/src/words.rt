@@ -22,7 +22,7 @@ pub fn read_flag(bytes: &[u8]) -> Result<bool, NotRead>
 }
 
 // Whether the first is the second with a newline behind it.
-#[tactic(auto, using(crate::proofs::Lines::same_lines, crate::proofs::Lines::other_lines, crate::proofs::Lines::no_line))]
+#[tactic(auto, using(crate::proofs::Lines::same, crate::proofs::Lines::other, crate::proofs::Lines::none))]
 fn ends_a_line(one: &[u8], other: &[u8]) -> bool
     ensures ends { result ≡ bytes_eq one.now (with_newline other.now) }
 {
