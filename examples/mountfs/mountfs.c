@@ -450,10 +450,11 @@ int main(int count, char **words)
     int status = !run_script(names[0]);
     if (!status && mountpoint)
         status = serve(&args, mountpoint, in_foreground);
-    kt_delete(tree);
+    kt_clear(&tree);
     while (opens)
         close_open(opens);
-    free_attributes();
+    sweep();
+    kt_delete(tree);
     fuse_opt_free_args(&args);
     free(mountpoint);
     return status;

@@ -29,5 +29,6 @@ void wake_pollers(struct kt_key key);
 /* Runs a line, without its newline, in place. 0, or an error number below 0. */
 int run_line(char *line);
 
-/* At the end: frees the attributes that are left. */
-void free_attributes(void);
+/* Frees the attributes whose nodes are out of the tree, or all where there is no tree any more: nobody is inside there,
+ * and nobody will be. Under the lock. */
+void sweep(void);

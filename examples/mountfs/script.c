@@ -27,25 +27,16 @@ static void free_attribute(struct attribute *it)
     free(memset(it, 0xff, sizeof *it));
 }
 
-/* Frees the attributes whose nodes are out of the tree: nobody is inside there, and nobody will be. */
-static void sweep(void)
+void sweep(void)
 {
     struct kt_stat stat;
     for (struct attribute **at = &attributes, *it; (it = *at);)
-        if (kt_stat(&tree, it->key, &stat) == -ENOENT) {
+        if (kt_stat(&tree, it->key, &stat)) {
             *at = it->next;
             free_attribute(it);
         } else {
             at = &it->next;
         }
-}
-
-void free_attributes(void)
-{
-    for (struct attribute *next; attributes; attributes = next) {
-        next = attributes->next;
-        free_attribute(attributes);
-    }
 }
 
 static int find_attribute(struct kt_key key, struct attribute **out)
