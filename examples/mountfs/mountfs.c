@@ -1,7 +1,7 @@
 /* mountfs: an attribute tree mounted as a file system, with libfuse3 (3.12 or later) and this repository's C library.
  *
  *     make          needs cc, pkg-config, libfuse3-dev and ../../c/out/libkernfs_tree.a; builds out/mountfs
- *     out/mountfs [--slots N] [-f] [SCRIPT [MOUNTPOINT [-o OPTION] ..]]
+ *     out/mountfs [--slots N] [SCRIPT [MOUNTPOINT [-f] [-o OPTION] ..]]
  *     fusermount3 -u MOUNTPOINT
  *
  * SCRIPT has lines of kernfs_run (docs/SCRIPTS.md) that make and change a tree: mkdir, file, link, activate, mv, rm,
@@ -398,64 +398,49 @@ static bool run_script(const char *script)
     return in && (in == stdin || !fclose(in));
 }
 
-static int serve(struct fuse_args *args, const char *mountpoint, bool in_foreground)
+/* Mounts the tree as FUSE's words ask for, of which the first is not read, until it is unmounted. The status. */
+static int serve(int count, char **words)
 {
+    struct fuse_args args = FUSE_ARGS_INIT(0, NULL);
+    struct fuse_cmdline_opts options;
     struct fuse_loop_config *config = fuse_loop_cfg_create();
-    struct fuse_session *session = fuse_session_new(args, &operations, sizeof operations, NULL);
-    int status = 1;
     fuse_loop_cfg_set_max_threads(config, 64); /* each show that sleeps and each rm that waits keeps one */
-    if (session && !fuse_set_signal_handlers(session)) {
-        if (!fuse_session_mount(session, mountpoint)) {
-            fuse_daemonize(in_foreground);
-            status = fuse_session_loop_mt(session, config) < 0; /* the number of a signal is no fault */
-            fuse_session_unmount(session);
-        }
-        fuse_remove_signal_handlers(session);
+    for (int at = 0; at < count; at++)
+        fuse_opt_add_arg(&args, words[at]);
+    fuse_opt_add_arg(&args, "-odefault_permissions,fsname=kernfs_tree,subtype=mountfs");
+    int status = fuse_parse_cmdline(&args, &options) || !options.mountpoint ? 2 : 1;
+    struct fuse_session *session = status == 1 ? fuse_session_new(&args, &operations, sizeof operations, NULL) : NULL;
+    if (session && !fuse_set_signal_handlers(session) && !fuse_session_mount(session, options.mountpoint)) {
+        fuse_daemonize(options.foreground);
+        status = fuse_session_loop_mt(session, config) < 0; /* the number of a signal is no fault */
+        fuse_session_unmount(session);
     }
-    if (session)
+    if (session) {
+        fuse_remove_signal_handlers(session);
         fuse_session_destroy(session);
+    }
+    free(options.mountpoint);
+    fuse_opt_free_args(&args);
     fuse_loop_cfg_destroy(config);
     return status;
 }
 
 int main(int count, char **words)
 {
-    struct fuse_args args = FUSE_ARGS_INIT(0, NULL);
-    const char *names[] = {"-", NULL}; /* the script, and the mountpoint or none */
-    unsigned slots = 1024, given = 0;
-    bool in_foreground = false, is_well = true;
-    fuse_opt_add_arg(&args, words[0]);
-    fuse_opt_add_arg(&args, "-odefault_permissions,fsname=kernfs_tree,subtype=mountfs");
-    for (int at = 1; at < count; at++)
-        if (!strcmp(words[at], "-f"))
-            in_foreground = true;
-        else if (!strcmp(words[at], "--slots") && at + 1 < count)
-            slots = (unsigned)strtoul(words[++at], NULL, 10);
-        else if (!strcmp(words[at], "-o") && at + 1 < count)
-            fuse_opt_add_arg(&args, "-o"), fuse_opt_add_arg(&args, words[++at]);
-        else if (given < 2 && (*words[at] != '-' || !words[at][1]))
-            names[given++] = words[at];
-        else
-            is_well = false;
-    char *mountpoint = names[1] ? realpath(names[1], NULL) : NULL;
-    if (!is_well || (names[1] && !mountpoint)) {
-        fprintf(stderr, "mountfs [--slots N] [-f] [SCRIPT [MOUNTPOINT [-o OPTION] ..]]\n");
-        return 2;
-    }
+    int at = count > 2 && !strcmp(words[1], "--slots") ? 3 : 1;
+    unsigned slots = at == 3 ? (unsigned)strtoul(words[2], NULL, 10) : 1024;
     started = time(NULL);
     if (kt_new(&tree.at) || kt_create_root(&tree, slots, KT_HOLDS_MAX) || kt_root(&tree, &root)) {
         fprintf(stderr, "mountfs: no tree of %u slots\n", slots);
         return 2;
     }
-    int status = !run_script(names[0]);
-    if (!status && mountpoint)
-        status = serve(&args, mountpoint, in_foreground);
+    int status = !run_script(at < count ? words[at] : "-");
+    if (!status && at + 1 < count)
+        status = serve(count - at, words + at);
     kt_clear(&tree);
     while (opens)
         close_open(opens);
     sweep();
     kt_delete(tree);
-    fuse_opt_free_args(&args);
-    free(mountpoint);
     return status;
 }
