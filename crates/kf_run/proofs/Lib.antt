@@ -1,1 +1,3 @@
 pub mod ProgramRuns
+pub mod Given
+pub mod Options

@@ -1,9 +1,13 @@
 //! What the words of the command line ask for.
 
-ghost use Rattle.std.specs.Prelude.{◌≡◌, ◌≤◌, ◌↔◌, IfSome, IsSome};
+ghost use Rattle.std.specs.Prelude.{◌≡◌, ◌≤◌, IfErr, IfOk, codes, false, map, option_map, pos};
+ghost use Rattle.clap.specs.Words.{FailsBy, app_of, found_of, kind_of, one_text, rule_of};
+ghost use Rattle.clap.specs.declared.builder.value_parser.ValueParser.TheVariants.{Signed};
+ghost use Rattle.clap.specs.declared.error.kind.ErrorKind.{ErrorKind};
+ghost use Rattle.kf_run.specs.Asking.{AskFor, HasText, IsNumber, faults_in, program, script_rule, slots_rule};
+ghost use Rattle.kf_run.specs.Asking.{workers_rule};
 
-use clap::error::ErrorKind;
-use clap::{Arg, Command, Error, value_parser};
+use clap::{Arg, ArgAction, ArgMatches, Command, Error, value_parser};
 use kf_core::Limits;
 use std::alloc::Global;
 use std::convert::AsStr;
@@ -38,9 +42,6 @@ const DEFAULT_WORKERS: &str = "0";
 /// The most holds that one node may have.
 const HOLDS: u32 = 65_535;
 
-/// The most workers.
-const WORKERS: u32 = 16;
-
 /// What is to be run: on a tree of which limits, by how many workers beside the owner, and which file's
 /// script. Without a file, or with `-`, the script is standard input.
 #[derive(Drop)]
@@ -52,61 +53,104 @@ pub struct Asked<'a> {
     ghost few: { workers ≤ 16 },
 }
 
-/// The program's words, as clap reads them and as `--help` tells them.
-fn command<'a>(alloc: Global) -> Result<Command<'a>, Error> {
-    let slots = Arg::new(alloc, "slots")
+/// `--slots N`.
+fn slots_option<'a>(alloc: Global) -> Arg<'a>
+    ensures rule { rule_of result ≡ slots_rule }
+    ensures local { result.global ≡ false }
+{
+    Arg::new(alloc, "slots")
         .long("slots")
+        .action(ArgAction::Set)
         .value_name("N")
         .help("Nodes that the tree has room for, 1 to 4096, the root counted")
         .value_parser(value_parser!(u32).range(1..=4096))
-        .default_value(DEFAULT_SLOTS);
-    let workers = Arg::new(alloc, "workers")
+        .default_value(DEFAULT_SLOTS)
+}
+
+/// `--workers N`.
+fn workers_option<'a>(alloc: Global) -> Arg<'a>
+    ensures rule { rule_of result ≡ workers_rule }
+    ensures local { result.global ≡ false }
+{
+    Arg::new(alloc, "workers")
         .long("workers")
+        .action(ArgAction::Set)
         .value_name("N")
         .help("Threads beside the owner's that run lines `@W COMMAND`, 0 to 16")
         .value_parser(value_parser!(u32).range(0..=16))
-        .default_value(DEFAULT_WORKERS);
-    let script = Arg::new(alloc, "SCRIPT").value_name("SCRIPT").help(
+        .default_value(DEFAULT_WORKERS)
+}
+
+/// `SCRIPT`.
+fn script_word<'a>(alloc: Global) -> Arg<'a>
+    ensures rule { rule_of result ≡ script_rule }
+    ensures local { result.global ≡ false }
+{
+    Arg::new(alloc, "SCRIPT").value_name("SCRIPT").help(
         "File with the script; without it, or with -, standard input",
-    );
-    let command = Command::new(alloc, "kernfs_run")
+    )
+}
+
+/// The program's words, as clap reads them and as `--help` tells them.
+fn command<'a>(alloc: Global) -> Result<Command<'a>, Error>
+    ensures made { IfOk result (λ command. app_of command ≡ program) }
+    ensures refused { IfErr result (λ error. kind_of error ≡ ErrorKind.OutOfMemory) }
+{
+    let slots = slots_option(alloc);
+    let workers = workers_option(alloc);
+    let script = script_word(alloc);
+    let bare = Command::new(alloc, "kernfs_run")
         .version(VERSION)
         .about(ABOUT)
-        .after_help(COMMANDS_AND_STATUSES)
-        .arg(slots)?
-        .arg(workers)?
-        .arg(script)?;
+        .after_help(COMMANDS_AND_STATUSES);
+    let command = bare.arg(slots)?.arg(workers)?.arg(script)?;
     Ok(command)
 }
 
-/// The limits of a tree with so many slots, where they are 1 to 4,096.
-fn limits_of(slots: u32) -> Option<Limits>
-    ensures made { IsSome result ↔ ((1 ≤ slots) × (slots ≤ 4096)) }
-    ensures slots { IfSome result (λ limits. limits.slots ≡ slots) }
-    ensures holds { IfSome result (λ limits. limits.holds ≡ 65535) }
+/// The number of slots that the words name, or else the default.
+fn slots_in(matches: &ArgMatches<'_>) -> u32
+    requires given { HasText (found_of matches.now) (codes "slots") false (Signed (pos 1) (pos 4096)) }
+    ensures value { IsNumber (one_text (found_of matches.now) (codes "slots")) result }
+    ensures some { 1 ≤ result }
+    ensures few { result ≤ 4096 }
 {
-    Limits::new(slots, HOLDS)
+    matches.get_one::<u32>("slots").unwrap()
+}
+
+/// The number of workers that the words name, or else the default.
+fn workers_in(matches: &ArgMatches<'_>) -> u32
+    requires given { HasText (found_of matches.now) (codes "workers") false (Signed (pos 0) (pos 16)) }
+    ensures value { IsNumber (one_text (found_of matches.now) (codes "workers")) result }
+    ensures few { result ≤ 16 }
+{
+    matches.get_one::<u32>("workers").unwrap()
+}
+
+/// The limits of a tree with so many slots.
+fn limits_of(slots: u32) -> Limits
+    requires some { 1 ≤ slots }
+    requires few { slots ≤ 4096 }
+    ensures slots { result.slots ≡ slots }
+    ensures holds { result.holds ≡ 65535 }
+{
+    Limits::new(slots, HOLDS).unwrap()
 }
 
 /// What the words ask for, the first of which is the program's name.
-pub fn read_words<'a, S: AsStr>(alloc: Global, words: &'a [S]) -> Result<Asked<'a>, Error> {
-    let mut command = command(alloc)?;
-    let matches = command.try_get_matches_from_mut(words)?;
-    let script = matches.get_str("SCRIPT");
-    let workers = matches.get_one::<u32>("workers");
-    if let (Some(slots), Some(workers)) = (matches.get_one::<u32>("slots"), workers) {
-        if let Some(limits) = limits_of(slots) {
-            if workers <= WORKERS {
-                return Ok(Asked {
-                    limits,
-                    workers,
-                    script,
-                });
-            }
-        }
+///
+/// `Err` where clap refuses the words, or they ask for help or the version, and where memory was refused.
+pub fn read_words<'a, S: AsStr>(alloc: Global, words: &'a [S]) -> Result<Asked<'a>, Error>
+    ensures asked { IfOk result (λ asked. AskFor (map S.text words.entry.now) asked.limits.slots asked.workers
+        (option_map (λ script. script.now) asked.script)) }
+    ensures lawful { FailsBy (faults_in (map S.text words.entry.now)) result }
+{
+    let command = command(alloc)?;
+    match command.try_get_matches_from(words) {
+        Ok(matches) => Ok(Asked {
+            limits: limits_of(slots_in(&matches)),
+            workers: workers_in(&matches),
+            script: matches.get_str("SCRIPT"),
+        }),
+        Err(error) => Err(error),
     }
-    Err(command.error(
-        ErrorKind::InvalidValue,
-        "slots are 1 to 4096, workers 0 to 16",
-    )?)
 }

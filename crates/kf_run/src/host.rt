@@ -71,8 +71,8 @@ fn run_script_asked<H: Threads + Wait + Sync>(rt: &HostRuntime, threads: &H, ask
 }
 
 /// Runs the program: the replies go to standard output, with no workers each as soon as its line was read,
-/// and what is said of a fault goes to standard error. Answers the status of `run_program`; a word that is no
-/// text (UTF-8) and a script that cannot be opened are refused with status 2.
+/// and what is said of a fault goes to standard error. Answers the status of [`run_asked`]; a word that is no
+/// text (UTF-8), words that clap refuses and a script that cannot be opened are refused with status 2.
 ///
 /// `threads` is what makes the threads of workers and waits for them: in `main`, the runtime itself.
 pub fn run_host<H: Threads + Wait + Sync>(rt: &HostRuntime, threads: &H) -> u8

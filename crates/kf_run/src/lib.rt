@@ -10,4 +10,4 @@ pub use host::run_host;
 pub use kf_plain::PlainBoard;
 pub use kf_script::{RunFault, run_script};
 pub use kf_workers::{Texts, read_script, run_workers};
-pub use program::{run_asked, run_program};
+pub use program::run_asked;

@@ -1,10 +1,13 @@
 //! The program's body: its words, its status, and what it says of a fault.
 
-ghost use Rattle.std.specs.Prelude.{◌≡◌, ◌≤◌, ◌⊎◌, ℕ, IfErr, OnOk};
+ghost use Rattle.std.specs.Prelude.{◌≡◌, ◌≢◌, ◌≤◌, ◌⊎◌, IfErr, OnOk};
 ghost use Rattle.std.specs.Io.KnownBytes.{Keeps};
+ghost use Rattle.clap.specs.Words.{kind_of};
+ghost use Rattle.clap.specs.declared.error.kind.ErrorKind.{ErrorKind};
+ghost use Rattle.kf_run.specs.Asking.{IsMistake};
 ghost use Rattle.kf_run.specs.Programs.{Named, Ran, StoppedFor, RanBy, StoppedBy, fault_line as line_of};
 
-use crate::arguments::{Asked, read_words};
+use crate::arguments::Asked;
 use clap::Error;
 use clap::error::ErrorKind;
 use kf_core::Limits;
@@ -12,7 +15,6 @@ use kf_plain::PlainBoard;
 use kf_script::{RunFault, run_script, write_whole};
 use kf_workers::run_whole;
 use std::alloc::Global;
-use std::convert::AsStr;
 use std::io::{Read, Write};
 use std::sync::Wait;
 use std::thread::Threads;
@@ -25,12 +27,14 @@ pub(crate) fn answer_error<W: Write, F: Write>(
     fault: &mut F,
 ) -> u8
     ensures status { result ≤ 2 }
+    ensures shown { result ≡ 0 → (¬ IsMistake (kind_of error.now))
+        × Keeps (F.contents fault.old) (F.contents fault.new) }
     ensures fault { result ≡ 1 → (reason : RunFault)
         × Named reason (F.contents fault.old) (F.contents fault.new)
         × (((reason ≡ RunFault.Memory) × Keeps (W.contents out.old) (W.contents out.new))
-        ⊎ (reason ≡ RunFault.Write)) }
-    ensures refused { result ≡ 2 → Keeps (W.contents out.old) (W.contents out.new) }
-    ensures quiet { result ≡ 0 → Keeps (F.contents fault.old) (F.contents fault.new) }
+        ⊎ ((reason ≡ RunFault.Write) × (¬ IsMistake (kind_of error.now)))) }
+    ensures refused { result ≡ 2 → IsMistake (kind_of error.now) × (kind_of error.now ≢ ErrorKind.OutOfMemory)
+        × Keeps (W.contents out.old) (W.contents out.new) }
 {
     if error.kind() == ErrorKind::OutOfMemory {
         return tell(RunFault::Memory, fault);
@@ -134,43 +138,5 @@ pub fn run_asked<H: Threads + Wait + Sync, R: Read, W: Write, F: Write>(
     match run_by(rt, alloc, asked.limits, asked.workers, reader, out) {
         Ok(()) => 0,
         Err(reason) => tell(reason, fault),
-    }
-}
-
-/// Runs the script of the reader as the words of the command line ask, the first of which is the program's
-/// name, and answers the program's status. The reader is the script's file, where the words name one.
-///
-/// 0: the script was run to its end, whatever its replies, or help was asked for and nothing was read. 1: a
-/// fault, named on `fault`. 2: the words are refused, as `fault` tells, and nothing was read or put out.
-///
-/// With workers it may never return, as `run_workers` may not.
-pub fn run_program<H: Threads + Wait + Sync, S: AsStr, R: Read, W: Write, F: Write>(
-    rt: &H,
-    alloc: Global,
-    words: &[S],
-    reader: &mut R,
-    out: &mut W,
-    fault: &mut F,
-) -> u8
-    ensures status { result ≤ 2 }
-    ensures ran { result ≡ 0 →
-        ((workers slots : ℕ) × RanBy workers slots (R.remaining reader.old) (R.remaining reader.new)
-        (W.contents out.old) (W.contents out.new))
-        ⊎ Keeps (R.remaining reader.old) (R.remaining reader.new) }
-    ensures fault { result ≡ 1 → (reason : RunFault)
-        × Named reason (F.contents fault.old) (F.contents fault.new)
-        × (((workers slots : ℕ)
-        × StoppedBy reason workers slots (R.remaining reader.old) (R.remaining reader.new)
-        (W.contents out.old) (W.contents out.new))
-        ⊎ ((reason ≡ RunFault.Memory) × Keeps (R.remaining reader.old) (R.remaining reader.new)
-        × Keeps (W.contents out.old) (W.contents out.new))
-        ⊎ ((reason ≡ RunFault.Write) × Keeps (R.remaining reader.old) (R.remaining reader.new))) }
-    ensures refused { result ≡ 2 → Keeps (R.remaining reader.old) (R.remaining reader.new)
-        × Keeps (W.contents out.old) (W.contents out.new) }
-    ensures quiet { result ≡ 0 → Keeps (F.contents fault.old) (F.contents fault.new) }
-{
-    match read_words(alloc, words) {
-        Ok(asked) => run_asked(rt, alloc, &asked, reader, out, fault),
-        Err(error) => answer_error(alloc, &error, out, fault),
     }
 }
