@@ -186,9 +186,9 @@ impl<W: ScriptOps, N: Naming, R: Wait> WorkerBoard<'_, W, N, R> {
 
     /// The key of the file at a path, live or not. One turn of the tree lock.
     fn file_at(&self, path: &[u8]) -> Result<Key, Refusal> {
-        let editor = self.common.tree.edit(self.rt);
-        let key = editor.state().walk(path)?;
-        match editor.state().stat(key)?.node {
+        let reader = self.common.tree.read(self.rt);
+        let key = reader.state().walk(path)?;
+        match reader.state().stat(key)?.node {
             Node::Dir => Err(Refusal::IsDir),
             Node::Link { .. } => Err(Refusal::Invalid),
             Node::File { .. } => Ok(key),

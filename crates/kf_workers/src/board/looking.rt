@@ -18,9 +18,9 @@ const MOST_NAMES: usize = 4096;
 impl<W: ScriptOps, N: Naming, R: Wait> WorkerBoard<'_, W, N, R> {
     /// What is told of the node at a path, live or not.
     pub(super) fn stat(&self, path: &[u8]) -> Result<Stat, Refusal> {
-        let editor = self.common.tree.edit(self.rt);
-        let key = editor.state().walk(path)?;
-        editor.state().stat(key)
+        let reader = self.common.tree.read(self.rt);
+        let key = reader.state().walk(path)?;
+        reader.state().stat(key)
     }
 
     /// Tells the names in a live directory. They are copied once, into the reply's memory, which is the
@@ -28,9 +28,9 @@ impl<W: ScriptOps, N: Naming, R: Wait> WorkerBoard<'_, W, N, R> {
     pub(super) fn list(&self, path: &[u8], reply: &mut Reply) -> Result<(), Refusal>
         ensures { OnOk result (AreNames reply.new) }
     {
-        let editor = self.common.tree.edit(self.rt);
-        let dir = editor.state().lookup(path)?;
-        let names = editor.state().names(dir, None, MOST_NAMES)?;
+        let reader = self.common.tree.read(self.rt);
+        let dir = reader.state().lookup(path)?;
+        let names = reader.state().names(dir, None, MOST_NAMES)?;
         tell_names(reply, names)
     }
 
@@ -38,14 +38,14 @@ impl<W: ScriptOps, N: Naming, R: Wait> WorkerBoard<'_, W, N, R> {
     pub(super) fn read_link(&self, path: &[u8], reply: &mut Reply) -> Result<(), Refusal>
         ensures { OnOk result (IsLinkText reply.new) }
     {
-        let editor = self.common.tree.edit(self.rt);
-        let link = editor.state().lookup(path)?;
-        let text = editor.state().target_text(link)?;
+        let reader = self.common.tree.read(self.rt);
+        let link = reader.state().lookup(path)?;
+        let text = reader.state().target_text(link)?;
         reply.set_text(text.as_slice())
     }
 
     /// How many commands are stored.
     pub(super) fn count_commands(&self) -> usize {
-        self.common.tree.edit(self.rt).state().commands().len()
+        self.common.tree.read(self.rt).state().commands().len()
     }
 }

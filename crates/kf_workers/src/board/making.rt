@@ -25,7 +25,7 @@ impl<W: ScriptOps, N: Naming, R: Wait> WorkerBoard<'_, W, N, R> {
 
     /// The directory of a path's last component, and that.
     fn parent_of<'a>(&self, path: &'a [u8]) -> Result<(Key, &'a [u8]), Refusal> {
-        self.common.tree.edit(self.rt).state().walk_parent(path)
+        self.common.tree.read(self.rt).state().walk_parent(path)
     }
 
     /// A live file of this mode and tag.
