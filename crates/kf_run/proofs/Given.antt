@@ -1,14 +1,14 @@
 -- An option with a default has a number after each parse that succeeds.
-use Rattle.std.proofs.Common.{◌≡◌, ◌⊎◌, ◌∙◌, ◌<◌, ◌≤◌, ap, ◌&&◌, ◌||◌, ◌==◌, ℕ, Bool, true, false, not, List, [], ◌∷◌, length, map, is_some, Option, Some, None, refl, sym, subst, inl, inr, arith, zero, suc}
+use Rattle.std.proofs.Common.{◌≡◌, ◌∙◌, ◌<◌, ◌≤◌, ap, ℕ, Bool, true, false, List, [], ◌∷◌, length, is_some, Option, Some, None, refl, sym, subst, inl, inr, arith, zero, suc}
 use Rattle.std.specs.List.{All, slice_index_or}
 use Rattle.std.specs.Str.{bytes_eq}
 use Rattle.std.specs.Prelude.{find, option_map, slice_get}
 use Rattle.std.specs.Borrow.{Bor}
 use Rattle.std.proofs.lemmas.List.Elements.{All-get_or}
 use Rattle.std.proofs.lemmas.Slice.Eq.{bytes_eq-Decides}
-use Rattle.clap.specs.Facts.{args_of, groups_of, IsParsed, Entry, EntryPasses, HasId, HasIn, PassesArg, WantsDefault, least_values, parser_of, parser_of_value}
+use Rattle.clap.specs.Facts.{args_of, groups_of, IsParsed, Entry, EntryPasses, HasIn, PassesArg, WantsDefault, least_values, parser_of, parser_of_value}
 use Rattle.clap.specs.Built.{IsPlain, IsParsedFrom, IsAuto, SameRules}
-use Rattle.clap.specs.Matches.{matched_of, one_text, found_of, has_subcommand}
+use Rattle.clap.specs.Matches.{matched_of, found_of, has_subcommand}
 use Rattle.clap.specs.Values.{Accepts, read_as, reading_of}
 use Rattle.clap.specs.declared.builder.action.ArgAction.TheVariants.{Count, Set}
 use Rattle.clap.specs.declared.builder.arg.Arg.{Arg}
@@ -17,7 +17,6 @@ use Rattle.clap.specs.declared.builder.command.Command.TheViews.{out-Command}
 use Rattle.clap.specs.declared.builder.value_parser.ValueParser.{ValueParser}
 use Rattle.clap.specs.declared.builder.value_parser.Reading.{Reading}
 use Rattle.clap.specs.declared.parser.matches.ArgMatches.{ArgMatches}
-use Rattle.clap.specs.declared.parser.matches.Found.{Found}
 use Rattle.clap.specs.declared.parser.matches.MatchedArg.{MatchedArg}
 use Rattle.kf_run.specs.Asking.{HasText}
 use Rattle.clap.proofs.CallerLemmas.{default_present, entry_by_id, same_rules_by_id}
@@ -81,27 +80,29 @@ default_text old m p plain globals k d lt q takes unique named own =
           | inr lots ↦
               let bad : 0 < 0 = rw no_groups at lots in
               absurd (omega arith)
-        ] in
-        (alone, elim pass.1 [
-          | inl h ↦ absurd (alone h.0)
-          | inr (inl v) ↦ v
-          | inr (inr (inl h)) ↦
-              let any = h.1 in
-              let s = same any.0 any.1 any.2 any.3 (rw id at any.4.0) in
-              let is_set : any.1.action ≡ Some Set = s.action Set takes.set in
-              let bad : Set ≡ Count = rw is_set at any.4.1 in
-              cc
-          | inr (inr (inr h)) ↦
-              let s = same h.0 h.1 h.2 h.3 (rw id at h.4.0) in
-              elim h.4.1 [
-                | inl none ↦
-                    let one = s.least takes.set takes.least in
-                    absurd (omega arith)
-                | inr has ↦
-                    let bad : false ≡ true = rw (s.val_delim, takes.whole) at has in
-                    cc
-              ]
-        ])
+        ] in (
+          alone,
+          elim pass.1 [
+            | inl h ↦ absurd (alone h.0)
+            | inr (inl v) ↦ v
+            | inr (inr (inl h)) ↦
+                let any = h.1 in
+                let s = same any.0 any.1 any.2 any.3 (rw id at any.4.0) in
+                let is_set : any.1.action ≡ Some Set = s.action Set takes.set in
+                let bad : Set ≡ Count = rw is_set at any.4.1 in
+                cc
+            | inr (inr (inr h)) ↦
+                let s = same h.0 h.1 h.2 h.3 (rw id at h.4.0) in
+                elim h.4.1 [
+                  | inl none ↦
+                      let one = s.least takes.set takes.least in
+                      absurd (omega arith)
+                  | inr has ↦
+                      let bad : false ≡ true = rw (s.val_delim, takes.whole) at has in
+                      cc
+                ]
+          ],
+        )
 
     read : (e : Entry) (x : MatchedArg) → e.1 ≡ x → e.0.now ≡ (slice_index_or (args_of old) k d).id.now → EntryPasses p.built e
         → matched_of (found_of m) (slice_index_or (args_of old) k d).id.now ≡ Some x
@@ -119,8 +120,7 @@ default_text old m p plain globals k d lt q takes unique named own =
               sym any.4.1 ∙ ap reading_of (ap parser_of_value (s.parser q takes.parser))
         ] in
         let head = first_of_some (λ v. PassesArg p.built (slice_index_or (args_of old) k d).id.now v.now) e.1.reading e.1.vals.items all some.1 in
-        let any = head.2 in
-        (
+        let any = head.2 in (
           head.0.now,
           rw (found, ← same_x, ← how) head.1,
           accepted _ any.1 q head.0.now (same any.0 any.1 any.2 any.3 any.4.0) takes.parser any.4.1,

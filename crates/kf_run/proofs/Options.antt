@@ -1,13 +1,12 @@
 -- The options of the program's own command line, after a parse that succeeded.
-use Rattle.std.proofs.Common.{◌≡◌, ◌⊎◌, ◌∙◌, ◌<◌, ◌≤◌, ap, ◌&&◌, ◌==◌, ℕ, Bool, true, false, not, List, [], ◌∷◌, length, map, is_some, Option, Some, None, refl, sym, subst, inl, inr, arith, zero, suc, codes, pos, eqb-true, slice_index}
+use Rattle.std.proofs.Common.{◌≡◌, ◌⊎◌, ◌∙◌, ◌<◌, ap, ◌&&◌, ℕ, Bool, true, false, not, List, [], ◌∷◌, length, map, is_some, Option, Some, None, refl, sym, subst, inl, inr, arith, zero, suc, codes, pos, eqb-true, slice_index}
 use Rattle.std.specs.List.{All, slice_index_or}
 use Rattle.std.specs.Str.{bytes_eq}
-use Rattle.std.specs.Prelude.{option_map, slice_get}
 use Rattle.std.proofs.lemmas.Bool.{false≢true}
 use Rattle.std.specs.Borrow.{Bor}
-use Rattle.clap.specs.Facts.{args_of, groups_of, WantsDefault, least_values}
-use Rattle.clap.specs.Built.{IsPlain, IsPlainArg, IsParsedFrom, IsAuto}
-use Rattle.clap.specs.Matches.{one_text, found_of}
+use Rattle.clap.specs.Facts.{args_of, groups_of}
+use Rattle.clap.specs.Built.{IsPlain, IsPlainArg, IsParsedFrom}
+use Rattle.clap.specs.Matches.{found_of}
 use Rattle.clap.specs.Simple.{App, app_of, is_simple, matches_of}
 use Rattle.clap.specs.Faults.{fault_of, is_simple_and_free}
 use Rattle.clap.proofs.OnLiterals.{clap_on_literals}
@@ -150,24 +149,26 @@ options_given c m e p =
     let t = three (args_of c) slots_rule workers_rule script_rule (ap (λ (x : App). x.top.rules) e) in
     let (a, b, s, args, ra, rb, rs) = t in
     let simple = plain_command c (ap (λ (x : App). x.top.is_plain) e) in
-    let plain : IsPlain c = (subst (All IsPlainArg) (sym args) (all_three IsPlainArg a b s
-    (is_lone a slots_rule ra refl refl).plain (is_lone b workers_rule rb refl refl).plain (is_lone s script_rule rs refl refl).plain), simple.0) in
+    let plain : IsPlain c = (
+      subst (All IsPlainArg) (sym args) (all_three IsPlainArg a b s
+          (is_lone a slots_rule ra refl refl).plain (is_lone b workers_rule rb refl refl).plain (is_lone s script_rule rs refl refl).plain),
+      simple.0,
+    ) in
     let count : length (args_of c) ≡ 3 = ap length args in
     let first : slice_index_or (args_of c) 0 a ≡ a = ap (λ l. slice_index_or l 0 a) args in
     let second : slice_index_or (args_of c) 1 b ≡ b = ap (λ l. slice_index_or l 1 b) args in
     let of_slots : slice_index (slice_index_or (args_of c) 0 a).id.now 0 ≡ 115 = ap (λ (x : Arg). slice_index x.id.now 0) first ∙ ap (λ i. slice_index i 0) (id_of a slots_rule ra) in
-    let of_workers : slice_index (slice_index_or (args_of c) 1 b).id.now 0 ≡ 119 = ap (λ (x : Arg). slice_index x.id.now 0) second ∙ ap (λ i. slice_index i 0) (id_of b workers_rule rb) in
-    (
+    let of_workers : slice_index (slice_index_or (args_of c) 1 b).id.now 0 ≡ 119 = ap (λ (x : Arg). slice_index x.id.now 0) second ∙ ap (λ i. slice_index i 0) (id_of b workers_rule rb) in (
       text_at (found_of m) _ a (Signed (pos 1) (pos 4096)) slots_rule first ra refl
-      (default_text c m p plain simple.1 0 a (omega arith) (Signed (pos 1) (pos 4096))
-      (subst (λ (x : Arg). TakesOne x (Signed (pos 1) (pos 4096))) (sym first) (takes_one a slots_rule _ _ ra refl refl refl refl refl refl))
-      (subst (λ (l : List Arg). (j : ℕ) (d : Arg) → j < length l → bytes_eq (slice_index_or l j d).id.now (slice_index_or l 0 a).id.now ≡ true → j ≡ 0) (sym args) (only_slots a b s ra rb rs))
-      (not_empty (slice_index_or (args_of c) 0 a).id.now 115 of_slots (omega arith)) (not_auto (slice_index_or (args_of c) 0 a).id.now 115 of_slots (λ bad. absurd (omega arith)) (λ bad. absurd (omega arith)))),
+          (default_text c m p plain simple.1 0 a (omega arith) (Signed (pos 1) (pos 4096))
+          (subst (λ (x : Arg). TakesOne x (Signed (pos 1) (pos 4096))) (sym first) (takes_one a slots_rule _ _ ra refl refl refl refl refl refl))
+          (subst (λ (l : List Arg). (j : ℕ) (d : Arg) → j < length l → bytes_eq (slice_index_or l j d).id.now (slice_index_or l 0 a).id.now ≡ true → j ≡ 0) (sym args) (only_slots a b s ra rb rs))
+          (not_empty (slice_index_or (args_of c) 0 a).id.now 115 of_slots (omega arith)) (not_auto (slice_index_or (args_of c) 0 a).id.now 115 of_slots (λ bad. absurd (omega arith)) (λ bad. absurd (omega arith)))),
       text_at (found_of m) _ b (Signed (pos 0) (pos 16)) workers_rule second rb refl
-      (default_text c m p plain simple.1 1 b (omega arith) (Signed (pos 0) (pos 16))
-      (subst (λ (x : Arg). TakesOne x (Signed (pos 0) (pos 16))) (sym second) (takes_one b workers_rule _ _ rb refl refl refl refl refl refl))
-      (subst (λ (l : List Arg). (j : ℕ) (d : Arg) → j < length l → bytes_eq (slice_index_or l j d).id.now (slice_index_or l 1 b).id.now ≡ true → j ≡ 1) (sym args) (only_workers a b s ra rb rs))
-      (not_empty (slice_index_or (args_of c) 1 b).id.now 119 of_workers (omega arith)) (not_auto (slice_index_or (args_of c) 1 b).id.now 119 of_workers (λ bad. absurd (omega arith)) (λ bad. absurd (omega arith)))),
+          (default_text c m p plain simple.1 1 b (omega arith) (Signed (pos 0) (pos 16))
+          (subst (λ (x : Arg). TakesOne x (Signed (pos 0) (pos 16))) (sym second) (takes_one b workers_rule _ _ rb refl refl refl refl refl refl))
+          (subst (λ (l : List Arg). (j : ℕ) (d : Arg) → j < length l → bytes_eq (slice_index_or l j d).id.now (slice_index_or l 1 b).id.now ≡ true → j ≡ 1) (sym args) (only_workers a b s ra rb rs))
+          (not_empty (slice_index_or (args_of c) 1 b).id.now 119 of_workers (omega arith)) (not_auto (slice_index_or (args_of c) 1 b).id.now 119 of_workers (λ bad. absurd (omega arith)) (λ bad. absurd (omega arith)))),
     )
 
 -- the program's command is one of which clap's words give the matches and the faults

@@ -1,8 +1,8 @@
-use Rattle.std.proofs.Common.{◌≡◌, ◌∙◌, ap, List, map, option_map, sym, subst, codes}
-use Rattle.clap.specs.Words.{App, Row, Text, HasKind, Kinds, fault_of, first_of, is_simple, one_of, matches_of, found_of, rows_of}
+use Rattle.std.proofs.Common.{◌≡◌, ◌∙◌, ap, List, map, sym, subst, codes}
+use Rattle.clap.specs.Words.{App, Text, HasKind, Kinds, fault_of, first_of, is_simple, one_of, matches_of, found_of, rows_of}
 use Rattle.clap.specs.Faults.{is_simple_and_free}
 use Rattle.clap.proofs.WalkLemmas.{first_value-rows, one_text-rows}
-use Rattle.kf_run.specs.Asking.{IsNumber, found_in, program}
+use Rattle.kf_run.specs.Asking.{IsNumber, found_in}
 use Rattle.kf_run.proofs.Options.{faults_are, found_is, options_given, program_is_free, program_is_simple}
 use Rattle.kf_run.proofs.arguments.read_words.Goals as goal
 

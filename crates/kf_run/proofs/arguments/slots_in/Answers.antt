@@ -1,11 +1,8 @@
-use Rattle.std.proofs.Common.{◌≡◌, ◌≤◌, ◌∙◌, ◌^◌, ℕ, List, Option, arith, subst, sym, refl, codes, pos}
+use Rattle.std.proofs.Common.{◌≡◌, ◌≤◌, ◌∙◌, arith, subst, sym, refl}
 use Rattle.std.specs.Prelude.{Some, IsSome}
 use Rattle.std.specs.Str.Parse.{ParsesUnsigned, ExplainsUnsignedError, HasUnsignedDigitsIfOk}
-use Rattle.clap.specs.Words.{ReadsOne, found_of, one_text, without_minus}
-use Rattle.clap.specs.declared.builder.value_parser.ValueParser.TheVariants.{Signed}
-use Rattle.clap.specs.declared.parser.matches.ArgMatches.{ArgMatches}
+use Rattle.clap.specs.Words.{without_minus}
 use Rattle.clap.proofs.CallerReads.{signed_reads}
-use Rattle.kf_run.specs.Asking.{HasText}
 use Rattle.kf_run.proofs.arguments.slots_in.Goals as goal
 
 pub unwrap-requires : goal.unwrap-requires
