@@ -1,0 +1,5 @@
+//! The tests of `kf_groups`, over its public calls: proved over the crate, and not with it.
+#![tactic(auto)]
+
+#[cfg(test)]
+mod tests;

@@ -1,0 +1,106 @@
+//! Groups that are made, and groups that are refused: what stands afterwards.
+ghost use Rattle.std.specs.Prelude.{◌≡◌};
+
+use kf_core::{Key, Limits, Refusal};
+use kf_groups::{Attribute, Group, create_group};
+use kf_shared::{Naming, NewTree, SharedTree};
+use std::alloc::Global;
+use std::marker::Brand;
+use std::process::Abort;
+use std::sync::Wait;
+
+/// The place of the first answer that is not as it must be.
+fn first_wrong(answers: &[bool]) -> Option<usize> {
+    answers.iter().position(|is_right| !*is_right)
+}
+
+fn made<R: Abort>(rt: &R, alloc: Global, slots: u32) -> NewTree {
+    let Some(limits) = Limits::new(slots, 9) else {
+        panic!(rt; "no such limits")
+    };
+    match SharedTree::new(alloc, limits) {
+        Ok(tree) => tree,
+        Err(_) => panic!(rt; "no memory"),
+    }
+}
+
+const fn attribute(name: &[u8], mode: u16, tag: u64) -> Attribute<'_> {
+    Attribute { name, mode, tag }
+}
+
+/// Makes a group in the root's directory.
+fn make<N: Naming, R: Wait>(
+    rt: &R,
+    tree: &SharedTree<N>,
+    name: Option<&[u8]>,
+    attributes: &[Attribute],
+) -> Result<Key, Refusal> {
+    let mut editor = tree.edit(rt);
+    let root = editor.state().root();
+    create_group(&mut editor, root, &Group { name, attributes })
+}
+
+/// The number of stored commands.
+fn commands<N: Naming, R: Wait>(rt: &R, tree: &SharedTree<N>) -> usize {
+    tree.read(rt).state().commands().len()
+}
+
+/// The slot of the live node that the path names.
+fn slot<N: Naming, R: Wait>(rt: &R, tree: &SharedTree<N>, path: &[u8]) -> Option<u32> {
+    Some(tree.read(rt).state().lookup(path).ok()?.slot)
+}
+
+/// A tree of six slots: a group of two files and an attribute that is away, a group without a name, and why
+/// others are refused.
+fn six_slots<N: Naming, R: Abort + Wait>(rt: &R, new: NewTree)
+    requires { new.master.table ≡ N.table }
+{
+    let tree = new.named::<N>();
+    let a = attribute(b"a", 0o444, 1);
+    let b = attribute(b"b", 0o644, 2);
+    let away = attribute(b"away", 0, 3);
+    let slash = attribute(b"a/b", 0o444, 4);
+    let directory = make(rt, &tree, Some(b"g".as_slice()), &[a, away, b]);
+    let files = make(rt, &tree, None, &[b, away]);
+    let stored = commands(rt, &tree);
+    let answers = [
+        directory.is_ok(),
+        files.is_ok(),
+        stored == 6,
+        slot(rt, &tree, b"/g/a") == Some(2),
+        slot(rt, &tree, b"/g/b") == Some(3),
+        slot(rt, &tree, b"/b") == Some(4),
+        slot(rt, &tree, b"/g/away").is_none(),
+        make(rt, &tree, Some(b"g".as_slice()), &[]) == Err(Refusal::Exists),
+        make(rt, &tree, Some(b"h".as_slice()), &[a, b, a]) == Err(Refusal::Exists),
+        make(rt, &tree, Some(b"h".as_slice()), &[a, slash]) == Err(Refusal::Invalid),
+        make(rt, &tree, None, &[a, b]) == Err(Refusal::Exists),
+        commands(rt, &tree) == stored,
+    ];
+    assert_eq!(rt; first_wrong(&answers), None);
+}
+
+/// A tree of three slots: a group has no room, and then its slots are free again.
+fn three_slots<N: Naming, R: Abort + Wait>(rt: &R, new: NewTree)
+    requires { new.master.table ≡ N.table }
+{
+    let tree = new.named::<N>();
+    let a = attribute(b"a", 0o444, 1);
+    let b = attribute(b"b", 0o644, 2);
+    let c = attribute(b"c", 0o644, 3);
+    let answers = [
+        make(rt, &tree, Some(b"g".as_slice()), &[a, b]) == Err(Refusal::NoSpace),
+        make(rt, &tree, None, &[a, b, c]) == Err(Refusal::NoSpace),
+        slot(rt, &tree, b"/g").is_none(),
+        slot(rt, &tree, b"/a").is_none(),
+        make(rt, &tree, Some(b"g".as_slice()), &[b]).is_ok(),
+        slot(rt, &tree, b"/g/b") == Some(2),
+    ];
+    assert_eq!(rt; first_wrong(&answers), None);
+}
+
+#[test]
+fn groups_are_made_whole_or_not_at_all(rt: HostRuntime) {
+    six_slots::<Brand, _>(&rt, made(&rt, rt.alloc(), 6));
+    three_slots::<Brand, _>(&rt, made(&rt, rt.alloc(), 3));
+}
