@@ -122,7 +122,8 @@ IsLinkedIn old new key linked =
 
 -- it is a new tree of the root alone, of so many slots and holds of each; the event number of each slot is 1
 abbrev pub IsNewTree : ℕ → ℕ → Object → Type 0
-IsNewTree slots holds (behind.Tree tree) = IsNew slots (record { slot = 0; generation = 1 }) tree.value.nodes.state
+IsNewTree slots holds (behind.Tree tree) =
+    IsNew slots (record { slot = 0; generation = 1 }) tree.value.nodes.state
     × (tree.value.nodes.master.view ≡ opened holds slots 0)
     × (tree.value.posts.slots ≡ slots) × (tree.value.posts.start ≡ 1)
 IsNewTree slots holds other = ⊥

@@ -12,7 +12,8 @@ use Rattle.kernfs_tree.specs.declared.object.Object.TheVariants as behind
 -- it is a new post of the slot of a node that the tree has
 abbrev pub IsPostOf : Object → Key → PostState → Type 0
 IsPostOf (behind.Tree tree) key post = (stat : Stat)
-    × (option_map (stat_of tree.value.nodes.state.tree) (record_at tree.value.nodes.state.tree key) ≡ Some stat)
+    × (option_map (stat_of tree.value.nodes.state.tree)
+    (record_at tree.value.nodes.state.tree key) ≡ Some stat)
     × IsNewPost tree.value.posts key.slot post
 IsPostOf other key post = ⊥
 

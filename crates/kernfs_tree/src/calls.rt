@@ -287,8 +287,8 @@ pub extern "C" fn kt_hold(tree: &mut KtHandle, key: KtKey, out: &mut KtHandle) -
     replies::hold(tree, key, out)
 }
 
-/// Claims the self-removal of a node (`kernfs_remove_self`), after it has marked the node and all below it. 0 for
-/// the first that claims it, and 1 for each later one.
+/// Claims the self-removal of a node (`kernfs_remove_self`), after it has marked the node and all below it.
+/// 0 for the first that claims it, and 1 for each later one.
 #[unsafe(no_mangle)]
 pub extern "C" fn kt_claim(tree: &mut KtHandle, key: KtKey) -> i32
     ensures first { result ≡ pos 0 → ClaimedIn tree.old.place.object tree.new.place.object key false }
