@@ -1,5 +1,5 @@
 -- Files are made one after another, and taken back the last first.
-use Rattle.std.proofs.Common.{◌≡◌, ◌≢◌, ◌⊎◌, ◌<◌, ◌≤◌, ◌-◌, ◌∙◌, ℕ, suc, Bool, true, false, cond, eqb, List, [], ◌∷◌, ◌++◌, length, take, drop, get_or, ap, refl, sym, subst, inl, inr, arith}
+use Rattle.std.proofs.Common.{◌≡◌, ◌≢◌, ◌⊎◌, ◌≤◌, ◌-◌, ◌∙◌, ℕ, suc, true, false, cond, List, [], ◌∷◌, ◌++◌, length, take, drop, get_or, ap, refl, sym, subst, inr, arith}
 use Rattle.std.specs.Prelude.{Option, Result, Ok, Err, OnOk}
 use Rattle.std.proofs.lemmas.Bool.Decides.{nat_tests}
 use Rattle.kf_core.specs.declared.command.Command.{Command}
@@ -8,11 +8,10 @@ use Rattle.kf_core.specs.declared.key.Key.{Key}
 use Rattle.kf_core.specs.declared.key.Node.{Node}
 use Rattle.kf_core.specs.declared.key.Node.TheVariants.{Dir}
 use Rattle.kf_core.specs.declared.refusal.Refusal.{Refusal}
-use Rattle.kf_core.specs.Tree.{Tree}
 use Rattle.kf_tree.specs.TreeLogs.{TreeLog, IsAccepted}
 use Rattle.kf_shared.specs.Locked.{Locked, Created}
 use Rattle.kf_groups.specs.declared.attribute.Attribute.{Attribute}
-use Rattle.kf_groups.specs.Attributes.{is_shown, shown, file_of}
+use Rattle.kf_groups.specs.Attributes.{is_shown, shown}
 use Rattle.kf_groups.specs.Making.{creation, creations, live_creations, named_creations, TookBack, FilesTakenBack, DirectoryTakenBack}
 use Rattle.kf_groups.specs.Stores.{Stores}
 use Rattle.kf_groups.proofs.Names.{rest_of}

@@ -1,5 +1,5 @@
 -- The attributes of a group, looked over one after another.
-use Rattle.std.proofs.Common.{◌≡◌, ℕ, Bool, true, false, cond, List, [], ◌∷◌, ◌++◌, ◌+◌, ◌-◌, ◌<◌, suc, add-one, length, take, drop, get_or, ap, refl, ◌∙◌, sym}
+use Rattle.std.proofs.Common.{◌≡◌, ℕ, Bool, true, false, cond, List, [], ◌∷◌, ◌+◌, ◌-◌, ◌<◌, add-one, length, take, drop, get_or, ap, refl, ◌∙◌, sym}
 use Rattle.std.specs.Prelude.{Option, None, Some, not, ◌&&◌, ◌||◌, filter}
 use Rattle.std.proofs.lemmas.List.{length-drop}
 use Rattle.std.proofs.Math.Seq.{drop-cons, take-length}

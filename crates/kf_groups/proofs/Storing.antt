@@ -1,8 +1,8 @@
 -- Commands that are stored one after another.
-use Rattle.std.proofs.Common.{◌≡◌, ℕ, Bool, true, false, List, [], ◌∷◌, ◌++◌, ap, inl, inr, refl, ◌∙◌, sym, subst, append_assoc}
-use Rattle.std.specs.Prelude.{map, All, Contains, Option, Result, Ok, Err, IfOk, IfErr}
-use Rattle.std.proofs.lemmas.List.{append-nil, map-append}
-use Rattle.std.proofs.lemmas.List.Elements.{All-nil, All-cons, All-append}
+use Rattle.std.proofs.Common.{◌≡◌, Bool, true, false, List, [], ◌∷◌, ◌++◌, ap, inl, inr, refl, ◌∙◌, sym, append_assoc}
+use Rattle.std.specs.Prelude.{map, All, Option, Result, Ok, Err, IfOk, IfErr}
+use Rattle.std.proofs.lemmas.List.{append-nil}
+use Rattle.std.proofs.lemmas.List.Elements.{All-nil, All-cons}
 use Rattle.kf_core.specs.declared.command.Command.{Command}
 use Rattle.kf_core.specs.declared.command.Command.TheVariants.{Unlink}
 use Rattle.kf_core.specs.declared.key.Key.{Key}

@@ -1,4 +1,4 @@
-use Rattle.std.proofs.Common.{◌≡◌, List, [], sym, ◌∙◌}
+use Rattle.std.proofs.Common.{[], sym, ◌∙◌}
 use Rattle.kf_groups.specs.declared.attribute.Attribute.{Attribute}
 use Rattle.kf_groups.specs.Attributes.{file_fault}
 use Rattle.kf_groups.proofs.Names.{one_at, stops_at}

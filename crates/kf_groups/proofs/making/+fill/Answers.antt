@@ -1,4 +1,4 @@
-use Rattle.std.proofs.Common.{List, [], ◌∷◌, inl, inr, refl, subst, ◌≡◌, sym, ap}
+use Rattle.std.proofs.Common.{[]}
 use Rattle.kf_groups.specs.declared.attribute.Attribute.{Attribute}
 use Rattle.kf_groups.proofs.Makings.{created, filled}
 use Rattle.kf_groups.proofs.making.+fill.Goals as goal

@@ -1,7 +1,7 @@
-use Rattle.std.proofs.Common.{List, [], ◌∷◌, inl, inr, refl, subst, ◌≡◌, sym, ap}
+use Rattle.std.proofs.Common.{[], inl, inr, refl, subst, sym}
 use Rattle.kf_groups.specs.declared.attribute.Attribute.{Attribute}
 use Rattle.kf_groups.specs.Attributes.{shown}
-use Rattle.kf_groups.specs.Making.{live_creations, TookBack}
+use Rattle.kf_groups.specs.Making.{live_creations}
 use Rattle.kf_groups.specs.Stores.{Stores}
 use Rattle.kf_groups.proofs.Makings.{created, later, made, stopped}
 use Rattle.kf_groups.proofs.making.+make_files.Goals as goal

@@ -1,4 +1,4 @@
-use Rattle.std.proofs.Common.{List, [], ◌∷◌, refl, sym, subst}
+use Rattle.std.proofs.Common.{refl, sym, subst}
 use Rattle.kf_groups.specs.Attributes.{shown}
 use Rattle.kf_groups.specs.Making.{creations}
 use Rattle.kf_groups.specs.Stores.{Stores}

@@ -1,4 +1,4 @@
-use Rattle.std.proofs.Common.{arith, rules}
+use Rattle.std.proofs.Common.{rules}
 use Rattle.kf_text.proofs.Pages.{one_more}
 use Rattle.kf_text.proofs.page.emit.Goals as goal
 

@@ -1,4 +1,4 @@
-use Rattle.std.proofs.Common.{◌≡◌, ◌≤◌, length, take}
+use Rattle.std.proofs.Common.{◌≡◌, take}
 use Rattle.kf_text.specs.Texts.{emitted, text_of}
 use Rattle.kf_text.proofs.page.emit.Given as goal
 
