@@ -5,7 +5,7 @@ use Rattle.kf_core.specs.declared.key.Key.{Key}
 use Rattle.kf_core.specs.declared.key.Node.{Node}
 use Rattle.kf_core.specs.declared.refusal.Refusal.{Refusal}
 use Rattle.kf_core.specs.Tree.{record_at}
-use Rattle.kf_tree.specs.Paths.{found, seen}
+use Rattle.kf_tree.specs.Paths.{seen}
 use Rattle.kf_tree.specs.TreeLogs.{TreeLog}
 use Rattle.kf_words.specs.Callers.{Handle}
 use Rattle.kf_files.specs.declared.contents.Want.{Want}
