@@ -17,6 +17,6 @@ pub use event_numbers::EventNumbers;
 pub use held_file::HeldFile;
 pub use open_file::OpenFile;
 pub use ops::{Fault, FileError, Ops, Page};
-pub use page_holder::PageHolder;
+pub use page_holder::{PageApart, PageHolder};
 pub use wait_ops::WaitOps;
 pub use waiting_file::{BoxedFile, WaitingFile};

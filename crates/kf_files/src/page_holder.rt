@@ -84,3 +84,38 @@ impl PageHolder for Box<Page> {
         show_on(&mut **self, ops, call, tag)
     }
 }
+
+/// A page for a box of its own, with two cache lines behind it: pages that lie side by side are written by
+/// threads that share no line.
+#[derive(Drop)]
+pub struct PageApart {
+    page: Page,
+    apart: [u64; 16],
+}
+
+impl PageApart {
+    /// An empty page.
+    pub fn new() -> PageApart {
+        PageApart {
+            page: Page::new(),
+            apart: [0; 16],
+        }
+    }
+}
+
+impl PageHolder for Box<PageApart> {
+    ghost bytes = { λ page. page.value.page.items };
+
+    fn bytes(&self) -> &[u8] {
+        (**self).page.as_slice()
+    }
+
+    fn show<C: ActiveCall, O: Ops<C>>(
+        &mut self,
+        ops: &mut O,
+        call: &mut C,
+        tag: u64,
+    ) -> Result<(), Fault> {
+        show_on(&mut (**self).page, ops, call, tag)
+    }
+}
