@@ -9,7 +9,7 @@ ghost use Rattle.kf_files.specs.Waiting.{WaitVisits, MayStore};
 use crate::contents::Want;
 use crate::open_file::OpenFile;
 use crate::ops::{Fault, FileError, Ops, Page};
-use crate::page_holder::PageHolder;
+use crate::page_holder::{PageApart, PageHolder};
 use crate::tree_seats::{TreeCall, TreeHold, TreeSeats};
 use crate::wait_ops::WaitOps;
 use kf_core::{Node, Refusal};
@@ -62,7 +62,7 @@ pub struct WaitingFile<N: Naming, P: PageHolder = Page> {
 }
 
 /// A file whose page lies in a box, which it is given and gives back.
-pub type BoxedFile<N> = WaitingFile<N, Box<Page>>;
+pub type BoxedFile<N> = WaitingFile<N, Box<PageApart>>;
 
 impl<N: Naming, P: PageHolder> Model for WaitingFile<N, P> {
     ghost use Rattle.kf_words.specs.Callers.{Handle};

@@ -6,7 +6,7 @@ use crate::common::Common;
 use crate::script_ops::ScriptOps;
 use crate::token::Token;
 use kf_core::{Limits, Refusal};
-use kf_files::{BoxedFile, Page};
+use kf_files::{BoxedFile, PageApart};
 use kf_notify::Posts;
 use kf_shared::Naming;
 use std::alloc::Global;
@@ -34,7 +34,7 @@ pub struct WorkerBoard<'x, W: ScriptOps, N: Naming, R: Wait> {
     common: &'x Common<'x, W, N>,
     posts: Posts,
     files: Vec<Option<BoxedFile<N>>>,
-    pages: Vec<Box<Page>>,
+    pages: Vec<Box<PageApart>>,
     tokens: Vec<Option<Token<N>>>,
     page: Vec<u8>,
     ghost letters: { vec_len files ≡ 26 },

@@ -19,15 +19,10 @@ use std::sync::Wait;
 use std::sync::atomic::{AtomicBool, AtomicI64, Ordering};
 use std::thread::{Threads, join};
 
-const READ: Want = Want {
-    read: true,
-    write: false,
-};
-
-const WRITE: Want = Want {
-    read: false,
-    write: true,
-};
+/// What a file is opened for.
+fn wanted(read: bool, write: bool) -> Want {
+    Want { read, write }
+}
 
 /// A temperature, in thousandths of a degree.
 #[derive(Drop)]
@@ -128,9 +123,10 @@ fn run<N: Naming + Send + Sync, R: Threads + Wait + Print + Sync>(
     let mut posts = Posts::new(alloc, 8)?;
     let mut editor = tree.edit(rt);
     publish(&mut editor, &[input, max], &[enable])?;
-    let mut first = open_path(&mut editor, &mut posts, b"/hwmon0/temp1_input", READ)?;
-    let mut second = open_path(&mut editor, &mut posts, b"/hwmon0/temp1_max", READ)?;
-    let mut limit = open_path(&mut editor, &mut posts, b"/hwmon0/temp1_max", WRITE)?;
+    let (to_read, to_write) = (wanted(true, false), wanted(false, true));
+    let mut first = open_path(&mut editor, &mut posts, b"/hwmon0/temp1_input", to_read)?;
+    let mut second = open_path(&mut editor, &mut posts, b"/hwmon0/temp1_max", to_read)?;
+    let mut limit = open_path(&mut editor, &mut posts, b"/hwmon0/temp1_max", to_write)?;
     drop(editor);
     let ((one, other), removed) = join(
         rt,

@@ -8,7 +8,7 @@ use crate::common::Common;
 use crate::script_ops::ScriptOps;
 use crate::tell::tell_read;
 use kf_core::{Key, Node, Refusal};
-use kf_files::{BoxedFile, Page, WaitingFile, Want};
+use kf_files::{BoxedFile, PageApart, WaitingFile, Want};
 use kf_notify::Post;
 use kf_replies::tell_count;
 use kf_script::Reply;
@@ -17,18 +17,18 @@ use kf_words::Hold;
 use std::sync::Wait;
 
 /// Closes a file, and gives its hold back. Its page is left.
-pub fn close_file<N: Naming>(file: BoxedFile<N>) -> Box<Page> {
+pub fn close_file<N: Naming>(file: BoxedFile<N>) -> Box<PageApart> {
     let (hold, _post, page) = file.into_parts();
     hold.release();
     page
 }
 
 /// A page of a file that was closed, or else a new one. `NoMemory` where that could not be had.
-fn take_page(pages: &mut Vec<Box<Page>>) -> Result<Box<Page>, Refusal> {
+fn take_page(pages: &mut Vec<Box<PageApart>>) -> Result<Box<PageApart>, Refusal> {
     if let Some(page) = pages.pop() {
         return Ok(page);
     }
-    Box::new(*pages.allocator(), Page::new()).map_err(|_| Refusal::NoMemory)
+    Box::new(*pages.allocator(), PageApart::new()).map_err(|_| Refusal::NoMemory)
 }
 
 /// Reads a file from an offset on, through a page: puts the bytes, at most 4,096, into the reply, or why
@@ -100,7 +100,7 @@ impl<W: ScriptOps, N: Naming, R: Wait> WorkerBoard<'_, W, N, R> {
     }
 
     /// Keeps a page for the next file. Where it cannot be kept it is let go.
-    fn keep_page(&mut self, page: Box<Page>) {
+    fn keep_page(&mut self, page: Box<PageApart>) {
         let _ = self.pages.push(page);
     }
 
