@@ -150,7 +150,8 @@ int32_t kt_stat(struct kt_handle *tree, struct kt_key key, struct kt_stat *out);
 /* The directory of a node (kernfs_get_parent). 0, -ENOENT, -EINVAL (the root has none). */
 int32_t kt_parent(struct kt_handle *tree, struct kt_key key, struct kt_key *out);
 
-/* The name of a node (kernfs_name); the root's is empty. Its length, -ENOENT, -ERANGE (over `room`), -ENOMEM. */
+/* The name of a node (kernfs_name, which has "/" for the root; here it is empty). Its length, -ENOENT, -ERANGE (over
+ * `room`), -ENOMEM. */
 int64_t kt_name(struct kt_handle *tree, struct kt_key key, void *name, size_t room);
 
 /* The path that kt_walk() follows to a node (kernfs_path_from_node from the root). Its length, -ENOENT, -ERANGE (over
@@ -177,16 +178,17 @@ int32_t kt_remove(struct kt_handle *tree, struct kt_key key);
  * claim it the first is answered 0, each other 1. -ENOENT, -EINVAL, -EMFILE, -ENOMEM. */
 int32_t kt_claim(struct kt_handle *tree, struct kt_key key);
 
-/* The tree keeps each command that changed it, 88 bytes each. This makes the list as short as may be. 0, -ENOMEM. */
+/* The tree keeps each command that changed it, 88 bytes each. This puts the canonical list of the tree
+ * in its place. 0, -ENOMEM. */
 int32_t kt_compact(struct kt_handle *tree);
 
 /* A post of a node's slot, behind a handle with nothing behind it. A node's number is its slot's: it never goes back,
- * also where the slot is given again. 0, -ENOENT, -EINVAL. */
+ * also where the slot is given again. 0, -ENOENT, -ENOMEM, -EINVAL (something is behind the handle). */
 int32_t kt_post(struct kt_handle *tree, struct kt_key key, struct kt_handle *post);
 
 /* Opens a file for reading, writing or both (kernfs_fop_open), behind a handle with nothing behind it. 0, and in this
  * order: -ENOENT, -EISDIR, -EINVAL (a link), -ENODEV (not live), -EACCES (no bit of 0444, or of 0222, of root too, as
- * in sysfs), -EMFILE (as many holds as there may be), -ENOMEM, -EINVAL (something is behind the handle). */
+ * in sysfs), -ENOMEM, -EMFILE (as many holds as there may be), -ENOMEM, -EINVAL (something is behind the handle). */
 int32_t kt_open(struct kt_handle *tree, struct kt_key key, bool read, bool write, struct kt_handle *file);
 
 /* ---- steps of a hold, a call, a post and an open file: no lock, from any thread ---- */
@@ -219,7 +221,7 @@ int32_t kt_event(struct kt_handle *post, uint64_t *out);
  * 0, and needs no live node. -EACCES (not opened for reading), -ENODEV (as of kt_enter()). */
 int32_t kt_begin_read(struct kt_handle *file, uint64_t offset);
 
-/* In a call of the file: this text is the file's. 0. */
+/* In a call of the file, once kt_begin_read() answered 1 in it: this text is the file's. 0. */
 int32_t kt_shown(struct kt_handle *file, const void *text, size_t length);
 
 /* Copies the text from an offset on. How many bytes; -EINVAL where there is no text. */
@@ -333,7 +335,8 @@ static inline int32_t kt_remove_wait(struct kt_handle *tree, struct kt_key key, 
 
 /* Removes a call's node, or `key` above it, from inside its callback (kernfs_remove_self), and waits for every other
  * callback there. 1 for the first that does so; 0 for each other, or where it was gone; all once the node is out. Below
- * 0: as of kt_break(), kt_claim() and kt_remove(). The call has its protection again. */
+ * 0: as of kt_break(), kt_claim() and kt_remove(), and after that of kt_remove() the claim is spent. The call has its
+ * protection again. */
 static inline int32_t kt_remove_self_wait(struct kt_handle *tree, struct kt_handle *call, struct kt_key key,
                                           struct kt_lock *lock)
 {
@@ -418,9 +421,9 @@ static inline int64_t kt_write(struct kt_handle *file, struct kt_lock *lock, con
 /* Whether an open file has changed since its last show, or its node is not live (kernfs_fop_poll): 1 or 0. */
 static inline int32_t kt_poll(struct kt_handle *file, struct kt_lock *lock)
 {
-    int32_t changed;
-    if (kt_enter_wake(file, lock))
-        return 1;
+    int32_t changed, entered = kt_enter_wake(file, lock);
+    if (entered)
+        return entered == -ENODEV ? 1 : entered;
     changed = kt_changed(file);
     kt_end_wake(file, lock);
     return changed;
