@@ -12,7 +12,7 @@ use Rattle.kf_tree.specs.TreeLogs.{TreeLog, IsAccepted}
 use Rattle.kf_shared.specs.Locked.{Locked, Created}
 use Rattle.kf_groups.specs.declared.attribute.Attribute.{Attribute}
 use Rattle.kf_groups.specs.Attributes.{is_shown, shown}
-use Rattle.kf_groups.specs.Making.{creation, creations, live_creations, named_creations, TookBack, FilesTakenBack, DirectoryTakenBack}
+use Rattle.kf_groups.specs.Making.{creation, creations, live_creations, named_creations, TookBack, NameTookBack, EachTookBack, LiveTakenBack, FilesTakenBack, DirectoryTakenBack}
 use Rattle.kf_groups.specs.Stores.{Stores}
 use Rattle.kf_groups.proofs.Names.{rest_of}
 use Rattle.kf_groups.proofs.Storing.{one, join}
@@ -79,12 +79,45 @@ made s0 s1 s2 s3 dir key attributes d cause some there created rest activated =
           (join s1 s2 s3 live (Activate key ∷ []) rest.2 (one s2 s3 cause (Activate key) activated)),
     )
 
--- the later files were taken back, or all were made; and then this one was taken back
+-- files were made and activated, and then taken back
+pub live_stopped : (s0 s1 s2 : TreeLog) (dir : Key) (attributes : List Attribute)
+    → (keys : List Key) × (length keys ≡ length attributes) × Stores s0 s1 (live_creations dir attributes keys)
+    → (undone : List Command) × EachTookBack s1.tree dir attributes undone × Stores s1 s2 undone
+    → (rest : List Command) × Stores s0 s2 rest × LiveTakenBack s0.tree dir attributes rest
+live_stopped s0 s1 s2 dir attributes live undone =
+    let made : Stores s0 s1 (live_creations dir attributes live.0) = live.2 in (
+      live_creations dir attributes live.0 ++ undone.0,
+      join s0 s1 s2 (live_creations dir attributes live.0) undone.0 made undone.2,
+      (live.0, undone.0, live.1, refl, subst (λ t. EachTookBack t dir attributes undone.0) made.changed undone.1),
+    )
+
+-- the later files were taken back, and then this one was
+pub each_more : (s0 s1 s2 : TreeLog) (dir : Key) (attributes : List Attribute) (d : Attribute)
+    → 1 ≤ length attributes → (get_or attributes 0 d).mode ≢ 0
+    → (rest : List Command) × EachTookBack s0.tree dir (shown (later attributes)) rest × Stores s0 s1 rest
+    → (back : List Command) × NameTookBack s1.tree dir (get_or attributes 0 d).name.now back × Stores s1 s2 back
+    → (commands : List Command) × EachTookBack s0.tree dir (shown attributes) commands × Stores s0 s2 commands
+each_more s0 s1 s2 dir attributes d some there rest back =
+    let before : Stores s0 s1 rest.0 = rest.2 in
+    subst (λ xs. (commands : List Command) × EachTookBack s0.tree dir xs commands × Stores s0 s2 commands)
+    (sym (first_shown attributes d some there)) (
+      rest.0 ++ back.0,
+      (
+        rest.0,
+        back.0,
+        refl,
+        rest.1,
+        subst (λ t. NameTookBack t dir (get_or attributes 0 d).name.now back.0) before.changed back.1,
+      ),
+      join s0 s1 s2 rest.0 back.0 before back.2,
+    )
+
+-- the later files were taken back, live ones or not; and then this one was taken back
 pub stopped : (s0 s1 s2 s3 : TreeLog) (dir key : Key) (attributes : List Attribute) (d : Attribute)
     → 1 ≤ length attributes → (get_or attributes 0 d).mode ≢ 0
     → Stores s0 s1 (creation dir (get_or attributes 0 d) key ∷ [])
     → (rest : List Command) × Stores s1 s2 rest × (FilesTakenBack s1.tree dir (shown (later attributes)) rest
-    ⊎ ((keys : List Key) × (rest ≡ live_creations dir (shown (later attributes)) keys)))
+    ⊎ LiveTakenBack s1.tree dir (shown (later attributes)) rest)
     → (back : List Command) × TookBack s2.tree key back × Stores s2 s3 back
     → (commands : List Command) × Stores s0 s3 commands × FilesTakenBack s0.tree dir (shown attributes) commands
 stopped s0 s1 s2 s3 dir key attributes d some there created rest back =
@@ -101,7 +134,7 @@ stopped s0 s1 s2 s3 dir key attributes d some there created rest back =
         back.0,
         refl,
         subst (λ t. FilesTakenBack t dir (shown (later attributes)) rest.0
-            ⊎ ((keys : List Key) × (rest.0 ≡ live_creations dir (shown (later attributes)) keys))) first.changed rest.2,
+            ⊎ LiveTakenBack t dir (shown (later attributes)) rest.0) first.changed rest.2,
         subst (λ t. TookBack t key back.0) both.changed back.1,
       ),
     )

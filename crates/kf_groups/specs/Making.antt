@@ -1,5 +1,5 @@
 -- The commands that make a group, and those that take back what was made of it.
-use Rattle.std.specs.Prelude.{◌≡◌, ◌⊎◌, ℕ, false, List, [], ◌∷◌, ◌++◌, length, map, All, Contains, Option, None, Some}
+use Rattle.std.specs.Prelude.{◌≡◌, ◌⊎◌, ℕ, false, List, [], ◌∷◌, ◌++◌, length, map, All, Contains, Option, None, Some, IfOk, OnErr}
 use denote.Ref.{Bor}
 use Rattle.kf_core.specs.declared.command.Command.{Command}
 use Rattle.kf_core.specs.declared.command.Command.TheVariants.{Create, Activate, Doom, Unlink}
@@ -9,6 +9,7 @@ use Rattle.kf_core.specs.declared.refusal.Refusal.{Refusal}
 use Rattle.kf_core.specs.Commands.{replay}
 use Rattle.kf_core.specs.PostOrder.{IsPostOrder}
 use Rattle.kf_core.specs.Tree.{Tree}
+use Rattle.kf_tree.specs.Paths.{found}
 use Rattle.kf_tree.specs.TreeLogs.{TreeLog}
 use Rattle.kf_groups.specs.declared.attribute.Attribute.{Attribute}
 use Rattle.kf_groups.specs.declared.attribute.Group.{Group}
@@ -48,22 +49,41 @@ pub record GroupMade (old new : TreeLog) (dir : Key) (group : Group) (key : Key)
   pub no_cause : group_cause old.tree old.root dir group ≡ None
   pub made : MadeByName old new dir (shown group.attributes.now) group.name key
 
--- a node that was made was taken back: it was doomed with all below it, and nodes of these were unlinked; or
--- that was refused, and nothing was stored
+-- a node was taken back: it was doomed with all below it, and some of these were unlinked; or that was
+-- refused, and nothing was stored
 abbrev pub TookBack : Tree → Key → List Command → Type 0
 TookBack t key commands = (commands ≡ [])
     ⊎ ((order : List Key) × (unlinked : List Key) × IsPostOrder t key order × All (Contains order) unlinked
     × (commands ≡ Doom key ∷ map Unlink unlinked))
 
--- files were not made, or only some first ones were, or not all were activated; those that were made were
--- taken back, the last first
+-- the node that stands in the directory under this name, live or not, was taken back; where none does,
+-- nothing was stored
+abbrev pub NameTookBack : Tree → Key → List ℕ → List Command → Type 0
+NameTookBack t dir name commands =
+    IfOk (found t dir name) (λ key. TookBack t key commands) × OnErr (found t dir name) (commands ≡ [])
+
+-- the files of these attributes were taken back, each as it then stood in the directory, the last first
+abbrev pub EachTookBack : Tree → Key → List Attribute → List Command → Type 0
+EachTookBack t dir [] commands = commands ≡ []
+EachTookBack t dir (attribute ∷ attributes) commands = (rest back : List Command)
+    × (commands ≡ rest ++ back) × EachTookBack t dir attributes rest
+    × NameTookBack (replay t rest) dir attribute.name.now back
+
+-- files were all made and activated, and then taken back
+abbrev pub LiveTakenBack : Tree → Key → List Attribute → List Command → Type 0
+LiveTakenBack t dir attributes commands = (keys : List Key) × (undone : List Command)
+    × (length keys ≡ length attributes) × (commands ≡ live_creations dir attributes keys ++ undone)
+    × EachTookBack (replay t (live_creations dir attributes keys)) dir attributes undone
+
+-- files were not made, or only some first ones were, or not all were activated; each that was made was taken
+-- back, the last first
 abbrev pub FilesTakenBack : Tree → Key → List Attribute → List Command → Type 0
 FilesTakenBack t dir [] commands = commands ≡ []
 FilesTakenBack t dir (attribute ∷ attributes) commands = (commands ≡ [])
     ⊎ ((key : Key) × (rest back : List Command)
     × (commands ≡ creation dir attribute key ∷ (rest ++ back))
     × (FilesTakenBack (replay t (creation dir attribute key ∷ [])) dir attributes rest
-    ⊎ ((keys : List Key) × (rest ≡ live_creations dir attributes keys)))
+    ⊎ LiveTakenBack (replay t (creation dir attribute key ∷ [])) dir attributes rest)
     × TookBack (replay t (creation dir attribute key ∷ rest)) key back)
 
 -- the directory was not made, or not all of its files were, or it was not activated; what was made was taken

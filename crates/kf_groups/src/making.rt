@@ -8,7 +8,7 @@ ghost use Rattle.kf_groups.specs.Stores.{Stores};
 
 use crate::attribute::{Attribute, Group};
 use crate::checks::{file_of, group_cause};
-use crate::taking_back::take_back;
+use crate::taking_back::{take_back, take_back_files};
 use kf_core::{Key, Node, Refusal};
 use kf_shared::{Editor, Naming};
 
@@ -57,6 +57,7 @@ fn make_files<N: Naming>(
         return Err(refusal);
     }
     if let Err(refusal) = editor.activate(key) {
+        take_back_files(editor, dir, rest);
         take_back(editor, key);
         return Err(refusal);
     }
@@ -96,8 +97,8 @@ fn make_directory<N: Naming>(
 ///
 /// Refusals, in order: those of [`Editor::create`] for the group's own directory, where it has a name; then
 /// of one attribute after another what is wrong with its file, and Exists where a later one has its name.
-/// After these nothing has changed. Then NoSpace and NoMemory. After these what was made, which was not
-/// live, has been taken back under the same lock; where there is no memory for that either, it stays.
+/// After these nothing has changed. Then NoSpace or NoMemory, whichever is met first. After these what was
+/// made is taken back under the same lock; what lacks memory for that stays.
 pub fn create_group<N: Naming>(
     editor: &mut Editor<'_, N>,
     dir: Key,

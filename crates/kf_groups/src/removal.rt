@@ -5,9 +5,9 @@ use kf_core::{Key, Refusal};
 use kf_shared::{Naming, SharedTree, release_all};
 use std::sync::Wait;
 
-/// Removes the nodes that a group made in a directory (`sysfs_remove_group`): its own directory with all in
-/// it, or each of its files that is there, one after another. Waits until no callback runs on them. Which
-/// tree it finds under the lock no clause tells: for that remove the nodes by `Editor::remove_name`.
+/// Removes what has a group's names in a directory (`sysfs_remove_group`): its own directory with all in it,
+/// or each of its files that is there, one after another. Waits until no callback runs on them. Which tree
+/// it finds under the lock no clause tells: for that remove the nodes by `Editor::remove_name`.
 ///
 /// Refusals: those of `Editor::remove_name`, NoEntry only for the group's own directory. After a refusal the
 /// nodes that were not removed yet stay.
@@ -21,9 +21,7 @@ pub fn remove_group<N: Naming, R: Wait>(
 ) -> Result<(), Refusal> {
     let Some(name) = group.name else {
         for attribute in group.attributes {
-            if attribute.mode != 0 {
-                remove_file(rt, tree, dir, attribute.name)?;
-            }
+            remove_file(rt, tree, dir, attribute.name)?;
         }
         return Ok(());
     };

@@ -9,9 +9,11 @@ ghost use Rattle.kf_tree.specs.TreeLogs.{IsAccepted};
 ghost use Rattle.kf_shared.specs.Locked.{Unchanged};
 ghost use Rattle.kf_shared.specs.Receipts.{AreOf};
 ghost use Rattle.kf_shared.specs.Removal.{keys_of};
-ghost use Rattle.kf_groups.specs.Making.{TookBack};
+ghost use Rattle.kf_groups.specs.Attributes.{shown};
+ghost use Rattle.kf_groups.specs.Making.{EachTookBack, NameTookBack, TookBack};
 ghost use Rattle.kf_groups.specs.Stores.{Stores};
 
+use crate::attribute::Attribute;
 use kf_core::{Key, Refusal};
 use kf_shared::{Editor, Naming};
 use kf_words::Hold;
@@ -75,5 +77,37 @@ pub(crate) fn take_back<N: Naming>(editor: &mut Editor<'_, N>, key: Key)
 {
     if let Ok(holds) = doom(editor, key) {
         unlink_each(editor, holds);
+    }
+}
+
+// Takes the node back that stands in the directory under this name, where one does.
+fn take_back_name<N: Naming>(editor: &mut Editor<'_, N>, dir: Key, name: &[u8])
+    ensures took { (commands : List Command) × NameTookBack editor.old.state.tree dir name.now commands
+        × Stores editor.old.state editor.new.state commands }
+    ensures claims { editor.new.claims ≡ editor.old.claims }
+{
+    if let Ok(key) = editor.state().find(dir, name) {
+        take_back(editor, key);
+    }
+}
+
+/// Takes the files of these attributes back, which all were made in this turn of the lock, the last first.
+/// What lacks memory for that stays.
+pub(crate) fn take_back_files<N: Naming>(
+    editor: &mut Editor<'_, N>,
+    dir: Key,
+    attributes: &[Attribute],
+)
+    ensures took { (commands : List Command)
+        × EachTookBack editor.old.state.tree dir (shown attributes.now) commands
+        × Stores editor.old.state editor.new.state commands }
+    ensures claims { editor.new.claims ≡ editor.old.claims }
+{
+    let [first, rest @ ..] = attributes else {
+        return;
+    };
+    take_back_files(editor, dir, rest);
+    if first.mode != 0 {
+        take_back_name(editor, dir, first.name);
     }
 }

@@ -1,9 +1,9 @@
-use Rattle.std.proofs.Common.{[], inl, inr, refl, subst, sym}
+use Rattle.std.proofs.Common.{[], inl, inr, subst, sym}
 use Rattle.kf_groups.specs.declared.attribute.Attribute.{Attribute}
 use Rattle.kf_groups.specs.Attributes.{shown}
 use Rattle.kf_groups.specs.Making.{live_creations}
 use Rattle.kf_groups.specs.Stores.{Stores}
-use Rattle.kf_groups.proofs.Makings.{created, later, made, stopped}
+use Rattle.kf_groups.proofs.Makings.{created, later, live_stopped, made, stopped}
 use Rattle.kf_groups.proofs.making.+make_files.Goals as goal
 
 -- what stands past the end of a list
@@ -22,15 +22,18 @@ returns-in-Err-clause-refused g t c =
 pub returns-in-Err-activate-clause-refused : goal.returns-in-Err-activate-clause-refused
 unfolding blank
 returns-in-Err-activate-clause-refused g t c =
-    let rest = c.in_default-make_files.ensures.made in
-    stopped c.args.editor.now.state c.create.new.self.state c.activate.new.self.state c.take_back-in-Err-activate.new.editor.state
+    let live = c.in_default-make_files.ensures.made in
+    let rest = live_stopped c.create.new.self.state c.activate.new.self.state c.take_back_files.new.editor.state
+    c.args.dir (shown (later c.args.attributes.now)) (
+      live.0,
+      live.1,
+      subst (λ s. Stores c.create.new.self.state s (live_creations c.args.dir (shown (later c.args.attributes.now)) live.0))
+          (sym c.in-Err-activate.ensures.refused.unchanged) live.2,
+    ) c.take_back_files.ensures.took in
+    stopped c.args.editor.now.state c.create.new.self.state c.take_back_files.new.editor.state c.take_back-in-Err-activate.new.editor.state
     c.args.dir c.in_ok-key.key c.args.attributes.now blank c.in-len1-up.len_at_least c.if-first-eq0.false
-    (created c.args.editor.now c.create.new.self c.args.dir c.in_ok-key.key _ _ _ c.file_of.ensures.known c.in_ok-key.ensures.accepted) (
-      live_creations c.args.dir (shown (later c.args.attributes.now)) rest.0,
-      subst (λ s. Stores c.create.new.self.state s (live_creations c.args.dir (shown (later c.args.attributes.now)) rest.0))
-          (sym c.in-Err-activate.ensures.refused.unchanged) rest.2,
-      inr (rest.0, refl),
-    ) c.take_back-in-Err-activate.ensures.took
+    (created c.args.editor.now c.create.new.self c.args.dir c.in_ok-key.key _ _ _ c.file_of.ensures.known c.in_ok-key.ensures.accepted)
+    (rest.0, rest.1, inr rest.2) c.take_back-in-Err-activate.ensures.took
 
 pub returns-clause-made : goal.returns-clause-made
 unfolding blank
