@@ -1,8 +1,8 @@
-//! Groups that are made, and groups that are refused: what stands afterwards.
+//! Groups that are made, groups that are refused, and groups that are removed: what stands afterwards.
 ghost use Rattle.std.specs.Prelude.{◌≡◌};
 
 use kf_core::{Key, Limits, Refusal};
-use kf_groups::{Attribute, Group, create_group};
+use kf_groups::{Attribute, Group, create_group, remove_group};
 use kf_shared::{Naming, NewTree, SharedTree};
 use std::alloc::Global;
 use std::marker::Brand;
@@ -38,6 +38,17 @@ fn make<N: Naming, R: Wait>(
     let mut editor = tree.edit(rt);
     let root = editor.state().root();
     create_group(&mut editor, root, &Group { name, attributes })
+}
+
+/// Removes a group from the root's directory.
+fn remove<N: Naming, R: Wait>(
+    rt: &R,
+    tree: &SharedTree<N>,
+    name: Option<&[u8]>,
+    attributes: &[Attribute],
+) -> Result<(), Refusal> {
+    let root = tree.read(rt).state().root();
+    remove_group(rt, tree, root, &Group { name, attributes })
 }
 
 /// The number of stored commands.
@@ -99,8 +110,37 @@ fn three_slots<N: Naming, R: Abort + Wait>(rt: &R, new: NewTree)
     assert_eq!(rt; first_wrong(&answers), None);
 }
 
+/// A group of its own directory goes with all in it, and one without a name file by file: one file is gone
+/// already, and the other's mode is 0 by now.
+fn removals<N: Naming, R: Abort + Wait>(rt: &R, new: NewTree)
+    requires { new.master.table ≡ N.table }
+{
+    let tree = new.named::<N>();
+    let a = attribute(b"a", 0o444, 1);
+    let b = attribute(b"b", 0o644, 2);
+    let away = attribute(b"b", 0, 2);
+    let g = Some(b"g".as_slice());
+    let answers = [
+        make(rt, &tree, g, &[a, b]).is_ok(),
+        make(rt, &tree, None, &[a, b]).is_ok(),
+        remove(rt, &tree, g, &[a]) == Ok(()),
+        slot(rt, &tree, b"/g").is_none(),
+        remove(rt, &tree, g, &[a]) == Err(Refusal::NoEntry),
+        remove(rt, &tree, None, &[a]) == Ok(()),
+        slot(rt, &tree, b"/b").is_some(),
+        remove(rt, &tree, None, &[a, away]) == Ok(()),
+        slot(rt, &tree, b"/b").is_none(),
+    ];
+    assert_eq!(rt; first_wrong(&answers), None);
+}
+
 #[test]
 fn groups_are_made_whole_or_not_at_all(rt: HostRuntime) {
     six_slots::<Brand, _>(&rt, made(&rt, rt.alloc(), 6));
     three_slots::<Brand, _>(&rt, made(&rt, rt.alloc(), 3));
+}
+
+#[test]
+fn groups_are_removed(rt: HostRuntime) {
+    removals::<Brand, _>(&rt, made(&rt, rt.alloc(), 6));
 }
