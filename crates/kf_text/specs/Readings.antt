@@ -44,8 +44,8 @@ on_or_off (byte ∷ rest) = if is_one_of (codes "nN") byte then Some true
 -- a flag, by the first byte, or the first two
 abbrev pub flag : List ℕ → Option Bool
 flag [] = None
-flag (byte ∷ rest) = if is_one_of (codes "yYtT1") byte then Some true
-    else (if is_one_of (codes "nNfF0") byte then Some false
+flag (byte ∷ rest) = if is_one_of (codes "eEyYtT1") byte then Some true
+    else (if is_one_of (codes "dDnNfF0") byte then Some false
     else (if is_one_of (codes "oO") byte then on_or_off rest else None))
 
 -- a text with a newline behind it

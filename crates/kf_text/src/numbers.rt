@@ -99,7 +99,8 @@ pub fn read_unsigned(bytes: &[u8], most: u64) -> Result<u64, NotRead>
 /// A number in decimal, from `least` to `most` (`kstrtoint` and others, with the type's numbers). A plus or a
 /// minus may stand in front, and a newline at the end.
 ///
-/// Errors, in order: Invalid (no number), Range (below `least` or above `most`).
+/// Errors, in order: Invalid (no number), Range (below `least` or above `most`). Unlike the kernel's, digits
+/// beyond 64 bits with another byte behind them are Invalid.
 pub fn read_signed(bytes: &[u8], least: i64, most: i64) -> Result<i64, NotRead>
     ensures read { ReadSigned least most (line bytes.now) result }
 {

@@ -33,8 +33,8 @@ fn put_part(page: &mut ArrayVec<u8, 4096>, part: &Part)
     }
 }
 
-/// Puts the parts' text behind what the page has (`sysfs_emit`). A page shows at most 4,095 bytes: what does
-/// not fit is cut. Answers how many bytes it put there.
+/// Puts the parts' text behind what the page has (`sysfs_emit` on an empty page; `emit_at(page, 0, ..)` on
+/// any). A page shows at most 4,095 bytes: what does not fit is cut. Answers how many bytes it put there.
 pub fn emit(page: &mut ArrayVec<u8, 4096>, parts: &[Part]) -> usize
     ensures text { page.new.items ≡ emitted page.old.items (text_of parts.now) }
     ensures count { length page.old.items + result ≡ length page.new.items }
@@ -46,7 +46,8 @@ pub fn emit(page: &mut ArrayVec<u8, 4096>, parts: &[Part]) -> usize
     page.len() - before
 }
 
-/// As `emit`, behind the first `at` bytes of what the page has; the rest of it goes (`sysfs_emit_at`).
+/// As `emit`, behind the first `at` bytes of what the page has; the rest of it goes (`sysfs_emit_at`). Where
+/// the page has fewer bytes, behind all of them, unlike the kernel's.
 pub fn emit_at(page: &mut ArrayVec<u8, 4096>, at: usize, parts: &[Part]) -> usize
     ensures text { page.new.items ≡ emitted (take at page.old.items) (text_of parts.now) }
     ensures count { length (take at page.old.items) + result ≡ length page.new.items }

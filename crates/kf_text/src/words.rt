@@ -5,16 +5,16 @@ ghost use Rattle.kf_text.specs.Readings.{flag, same_text, with_newline};
 
 use crate::not_read::NotRead;
 
-/// A flag (`kstrtobool`): true where the first byte is one of `yYtT1` or the first two are `on`, false where
-/// it is one of `nNfF0` or they are `of`, in small letters or large ones.
+/// A flag (`kstrtobool`): true where the first byte is one of `eEyYtT1` or the first two are `on`, false
+/// where it is one of `dDnNfF0` or they are `of`, in small letters or large ones.
 ///
 /// Error: Invalid (anything else).
 pub fn read_flag(bytes: &[u8]) -> Result<bool, NotRead>
     ensures read { MatchOption (flag bytes.now) (result ≡ Err NotRead.Invalid) (λ flag. result ≡ Ok flag) }
 {
     match bytes {
-        [b'y' | b'Y' | b't' | b'T' | b'1', ..] => Ok(true),
-        [b'n' | b'N' | b'f' | b'F' | b'0', ..] => Ok(false),
+        [b'e' | b'E' | b'y' | b'Y' | b't' | b'T' | b'1', ..] => Ok(true),
+        [b'd' | b'D' | b'n' | b'N' | b'f' | b'F' | b'0', ..] => Ok(false),
         [b'o' | b'O', b'n' | b'N', ..] => Ok(true),
         [b'o' | b'O', b'f' | b'F', ..] => Ok(false),
         _ => Err(NotRead::Invalid),
