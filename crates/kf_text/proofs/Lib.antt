@@ -2,3 +2,4 @@ pub mod Digits
 pub mod Pages
 pub mod Lines
 pub mod Emitted
+pub mod Zeros

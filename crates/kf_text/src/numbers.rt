@@ -1,18 +1,37 @@
 //! Numbers in the bytes of a store.
-ghost use Rattle.std.specs.Prelude.{◌≡◌, ◌↔◌, ◌<◌, ◌^◌, IsTrue, FitsSigned};
+ghost use Rattle.std.specs.Prelude.{◌≡◌, ◌==◌, ◌↔◌, ◌<◌, ◌^◌, IsTrue, FitsSigned, position};
 ghost use Rattle.std.specs.Char.{is_ascii_digit};
 ghost use Rattle.std.specs.Int.{w64};
 ghost use Rattle.std.specs.List.{list_all};
 ghost use Rattle.std.specs.Option.{SomeIff};
 ghost use Rattle.std.specs.Str.Parse.{IsNumeral, digits_value, signed_digits_value, without_leading_plus, without_leading_sign};
-ghost use Rattle.kf_text.specs.Readings.{line, ReadSigned, ReadUnsigned};
+ghost use Rattle.kf_text.specs.Readings.{line, until_zero, ReadSigned, ReadUnsigned};
 
 use crate::not_read::NotRead;
 
-/// The bytes without the newline that ends them, where one does.
-pub(crate) fn line(bytes: &[u8]) -> &[u8]
+// The place of the first zero byte.
+fn zero_in(bytes: &[u8]) -> Option<usize>
+    ensures first { result ≡ position (λ byte. byte == 0) bytes.now }
+{
+    bytes.iter().position(|byte| *byte == 0)
+}
+
+/// The bytes before the first zero byte, or all of them.
+#[tactic(auto, using(crate::proofs::Zeros::front, crate::proofs::Zeros::whole))]
+pub(crate) fn until_zero(bytes: &[u8]) -> &[u8]
+    ensures front { result.now ≡ until_zero bytes.now }
+{
+    match zero_in(bytes) {
+        Some(end) => &bytes[..end],
+        None => bytes,
+    }
+}
+
+// The bytes before the first zero byte, without the newline that ends them, where one does.
+fn line(bytes: &[u8]) -> &[u8]
     ensures line { result.now ≡ line bytes.now }
 {
+    let bytes = until_zero(bytes);
     match bytes.split_last() {
         Some((b'\n', rest)) => rest,
         _ => bytes,
@@ -79,7 +98,7 @@ fn after_sign(text: &[u8]) -> &[u8]
 }
 
 /// A number in decimal, at most `most` (`kstrtou64`; with the type's largest number `kstrtou8` and others). A
-/// plus may stand in front, and a newline at the end.
+/// plus may stand in front, and a newline at the end. A zero byte and what follows it are not read.
 ///
 /// Errors, in order: Invalid (no number, or one with a minus), Range (above `most`). Unlike the kernel's,
 /// digits beyond 64 bits with another byte behind them are Invalid.
@@ -97,7 +116,7 @@ pub fn read_unsigned(bytes: &[u8], most: u64) -> Result<u64, NotRead>
 }
 
 /// A number in decimal, from `least` to `most` (`kstrtoint` and others, with the type's numbers). A plus or a
-/// minus may stand in front, and a newline at the end.
+/// minus may stand in front, and a newline at the end. A zero byte and what follows it are not read.
 ///
 /// Errors, in order: Invalid (no number), Range (below `least` or above `most`). Unlike the kernel's, digits
 /// beyond 64 bits with another byte behind them are Invalid.
