@@ -1,28 +1,80 @@
--- A file that was opened by its path, and a notify by name.
-use Rattle.std.specs.Prelude.{◌≡◌, ℕ, List, Some, Ok, Result, MatchResult, ⊤}
+-- A file that is opened by its path, and a notify by name.
+use Rattle.std.specs.Prelude.{◌≡◌, ◌⊎◌, ◌≤◌, ℕ, List, true, false, Option, None, Some, Ok, Err, Result, MatchResult}
 use Rattle.std.specs.Option.{option_map}
 use Rattle.kf_core.specs.declared.key.Key.{Key}
 use Rattle.kf_core.specs.declared.key.Node.{Node}
+use Rattle.kf_core.specs.declared.key.Node.TheVariants.{Dir, File, Link}
 use Rattle.kf_core.specs.declared.refusal.Refusal.{Refusal}
-use Rattle.kf_core.specs.Tree.{record_at}
-use Rattle.kf_tree.specs.Paths.{seen}
-use Rattle.kf_tree.specs.TreeLogs.{TreeLog}
+use Rattle.kf_core.specs.declared.refusal.Refusal.TheVariants.{NoEntry, NoMemory, Access, NoDevice, IsDir, Invalid, TooManyHolds, NoSpace}
+use Rattle.kf_core.specs.Tree.{Tree, record_at}
+use Rattle.kf_tree.specs.Paths.{and_then, seen}
 use Rattle.kf_words.specs.Callers.{Handle}
+use Rattle.kf_words.specs.Nodes.{WasFull}
+use Rattle.kf_words.specs.declared.view.MasterView.{MasterView}
+use Rattle.kf_shared.specs.Locked.{Locked}
+use Rattle.kf_notify.specs.PostStates.{PostState, Numbers, IsNewPost, Made, FoundThere}
 use Rattle.kf_files.specs.declared.contents.Want.{Want}
-use Rattle.kf_files.specs.Files.{new_file, tag_of}
+use Rattle.kf_files.specs.Files.{new_file, allows}
 use Rattle.kf_files.specs.Opened.{Opened}
 
--- the file is new, of the live node that the path names in this tree: it has the tag of that, and a post of
--- its slot
-pub record OpenedAt (s : TreeLog) (path : List ℕ) (want : Want) (file : Opened Handle) : Type 0 where
+-- what the key's node is
+abbrev pub node_at : Tree → Key → Option Node
+node_at t key = option_map (λ r. r.node) (record_at t key)
+
+-- the key, where its node is a file
+abbrev pub only_file : Key → Option Node → Result Key Refusal
+only_file key None = Err NoEntry
+only_file key (Some Dir) = Err IsDir
+only_file key (Some (Link target)) = Err Invalid
+only_file key (Some (File mode tag)) = Ok key
+
+-- the file of a place in a tree, or why there is none
+abbrev pub file_at : Tree → Result Key Refusal → Result Key Refusal
+file_at t place = and_then place (λ key. only_file key (node_at t key))
+
+-- the file is new, of the live file that the path names in this tree: it holds it, has the tag of it and a post
+-- of its slot, and its mode allows what is wanted
+pub record OpenedAt (t : Tree) (root : Key) (path : List ℕ) (want : Want) (file : Opened Handle) : Type 0 where
   pub key : Key
-  pub node : Node
-  pub named : seen s.tree s.root path ≡ Ok key
-  pub there : option_map (λ r. r.node) (record_at s.tree key) ≡ Some node
-  pub tag : file.tag ≡ tag_of node
+  pub mode : ℕ
+  pub named : seen t root path ≡ Ok key
+  pub there : node_at t key ≡ Some (File mode file.tag)
+  pub held : file.hold.key ≡ key
+  pub allowed : allows mode want ≡ true
   pub slot : file.post.slot ≡ key.slot
   pub new : file.state ≡ new_file want
 
--- where no node was found, that is why
-abbrev pub FirstRefused : Result Key Refusal → Refusal → Type 0
-FirstRefused place refusal = MatchResult place (λ _. ⊤) (λ why. refusal ≡ why)
+-- why there is no post of the slot: no memory, or none of this many numbers is the slot's
+abbrev pub PostRefused : ℕ → ℕ → Refusal → Type 0
+PostRefused slots slot refusal = (refusal ≡ NoMemory) ⊎ ((refusal ≡ NoSpace) × (slots ≤ slot))
+
+-- why a file is not opened: it is not live, or its mode denies what is wanted
+abbrev pub ModeRefused : ℕ → Want → Refusal → Type 0
+ModeRefused mode want refusal = (refusal ≡ NoDevice) ⊎ ((refusal ≡ Access) × (allows mode want ≡ false))
+
+-- why there is no hold of this slot: no memory, or one load found as many holds as there may be
+abbrev pub HeldRefused : MasterView → MasterView → ℕ → Refusal → Type 0
+HeldRefused m m' slot refusal = (refusal ≡ NoMemory) ⊎ ((refusal ≡ TooManyHolds) × WasFull m slot m')
+
+-- where no file was found, that is why; else there is no hold of it, no post of its slot, or it is not opened
+abbrev pub FileRefused : Locked → MasterView → ℕ → Want → Result Key Refusal → Refusal → Type 0
+FileRefused s m' slots want place refusal = MatchResult place
+    (λ key. (mode tag : ℕ) → node_at s.state.tree key ≡ Some (File mode tag)
+    → HeldRefused s.master.view m' key.slot refusal ⊎ PostRefused slots key.slot refusal
+    ⊎ ModeRefused mode want refusal)
+    (λ why. refusal ≡ why)
+
+-- why an open by a path is refused
+abbrev pub OpenRefused : Locked → MasterView → ℕ → List ℕ → Want → Refusal → Type 0
+OpenRefused s m' slots path want refusal = FileRefused s m' slots want
+    (file_at s.state.tree (seen s.state.tree s.state.root path)) refusal
+
+-- the file of the place was told of: a new post of its slot made this number, the next of what its slot had
+pub record Told (t : Tree) (place : Result Key Refusal) (numbers : Numbers) (number : ℕ) : Type 0 where
+  pub key : Key
+  pub post : PostState
+  pub after : PostState
+  pub named : file_at t place ≡ Ok key
+  pub fresh : IsNewPost numbers key.slot post
+  pub made : Made post number after
+  pub there : FoundThere post after.found

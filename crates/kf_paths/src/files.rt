@@ -1,48 +1,60 @@
 //! Files and events of nodes by their names.
-ghost use Rattle.std.specs.Prelude.{◌≡◌, IfOk, IfErr, Ok};
-ghost use Rattle.kf_core.specs.declared.key.Key.{Key};
+ghost use Rattle.std.specs.Prelude.{◌≡◌, ◌⊎◌, ℕ, IfOk, IfErr, MatchResult, Ok, true};
+ghost use Rattle.kf_core.specs.declared.key.Node.TheVariants.{File};
+ghost use Rattle.kf_core.specs.declared.refusal.Refusal.TheVariants.{NoMemory, NoSpace};
+ghost use Rattle.kf_files.specs.Files.{new_file, allows};
+ghost use Rattle.kf_notify.specs.PostStates.{IsNewPost};
 ghost use Rattle.kf_tree.specs.Paths.{found, seen};
-ghost use Rattle.kf_paths.specs.Opening.{FirstRefused, OpenedAt};
+ghost use Rattle.kf_paths.specs.Opening.{file_at, OpenedAt, OpenRefused, PostRefused, ModeRefused, Told};
 
-use kf_core::{Key, Refusal};
+use kf_core::{Key, Node, Refusal};
 use kf_files::{WaitingFile, Want};
 use kf_notify::{Post, Posts};
 use kf_shared::{Editor, Naming};
 use kf_tree::State;
+use kf_words::Hold;
 
-// A post of the slot of a key.
-fn post_of(posts: &mut Posts, key: Key) -> Result<Post, Refusal>
-    ensures slot { IfOk result (λ post. post.slot ≡ key.slot) }
-    ensures same { posts.new ≡ posts.old }
+// The key, where its node is a file.
+fn only_file(state: &State, key: Key) -> Result<Key, Refusal>
+    ensures file { result ≡ file_at state.now.tree (Ok key) }
 {
-    if key.slot >= posts.slots() {
-        return Err(Refusal::NoSpace);
+    match state.stat(key)?.node {
+        Node::Dir => Err(Refusal::IsDir),
+        Node::Link { .. } => Err(Refusal::Invalid),
+        Node::File { .. } => Ok(key),
     }
-    posts.post(key.slot)
 }
 
-/// Opens the file that a path names, in one turn of the lock.
-///
-/// Refusals, in order: those of [`State::lookup`]; TooManyHolds (the slot has as many holds as there may be);
-/// NoSpace (the posts have no number for the slot); NoMemory; those of [`WaitingFile::open`]. After a refusal
-/// the slot has the holds that it had.
-pub fn open_path<N: Naming>(
-    editor: &mut Editor<'_, N>,
+// A post of a slot.
+fn post_of(posts: &mut Posts, slot: u32) -> Result<Post, Refusal>
+    ensures made { IfOk result (λ post. IsNewPost posts.old slot post) }
+    ensures refused { IfErr result (λ refusal. PostRefused posts.old.slots slot refusal) }
+    ensures same { posts.new ≡ posts.old }
+{
+    if slot >= posts.slots() {
+        return Err(Refusal::NoSpace);
+    }
+    posts.post(slot)
+}
+
+// Opens the file of a hold.
+#[tactic(auto, using(crate::proofs::Openings::opened, crate::proofs::Openings::refused))]
+fn open_held<N: Naming>(
+    hold: Hold,
     posts: &mut Posts,
-    path: &[u8],
     want: Want,
 ) -> Result<WaitingFile<N>, Refusal>
-    ensures opened { IfOk result (λ file. OpenedAt editor.old.state path.now want file) }
-    ensures refused { IfErr result
-        (λ refusal. FirstRefused (seen editor.old.state.tree editor.old.state.root path.now) refusal) }
-    ensures state { editor.new.state ≡ editor.old.state }
-    ensures claims { editor.new.claims ≡ editor.old.claims }
+    requires table { hold.table ≡ N.table }
+    ensures held { IfOk result (λ file. (mode tag : ℕ) → hold.node ≡ File mode tag
+        → (file.hold.key ≡ hold.key) × (file.tag ≡ tag) × (allows mode want ≡ true)) }
+    ensures slot { IfOk result (λ file. file.post.slot ≡ hold.key.slot) }
+    ensures new { IfOk result (λ file. file.state ≡ new_file want) }
+    ensures refused { IfErr result (λ refusal. (mode tag : ℕ) → hold.node ≡ File mode tag
+        → PostRefused posts.old.slots hold.key.slot refusal ⊎ ModeRefused mode want refusal) }
     ensures posts { posts.new ≡ posts.old }
 {
-    let key = editor.state().lookup(path)?;
-    let hold = editor.hold(key)?;
     let node = hold.node();
-    let post = match post_of(posts, key) {
+    let post = match post_of(posts, hold.key().slot) {
         Ok(post) => post,
         Err(refusal) => {
             hold.release();
@@ -58,16 +70,46 @@ pub fn open_path<N: Naming>(
     }
 }
 
-/// Tells who polls the file of this name in a directory that it has changed (`sysfs_notify`).
+/// Opens the file that a path names, in one turn of the lock.
 ///
-/// Refusals, in order: those of [`State::find`]; NoSpace (the posts have no number for the slot), NoMemory;
-/// NoSpace (its number is the last that there is).
-pub fn notify(state: &State, posts: &mut Posts, dir: Key, name: &[u8]) -> Result<u64, Refusal>
-    ensures refused { IfErr result (λ refusal. FirstRefused (found state.now.tree dir name.now) refusal) }
-    ensures found { IfOk result (λ _. (key : Key) × (found state.now.tree dir name.now ≡ Ok key)) }
+/// Refusals, in order: those of [`State::lookup`]; IsDir (a directory), Invalid (a link); TooManyHolds (as many
+/// holds as there may be), NoMemory; NoSpace (the posts have no number for the slot), NoMemory; NoDevice and
+/// Access, as those of [`WaitingFile::open`]. After a refusal the slot has the holds that it had.
+pub fn open_path<N: Naming>(
+    editor: &mut Editor<'_, N>,
+    posts: &mut Posts,
+    path: &[u8],
+    want: Want,
+) -> Result<WaitingFile<N>, Refusal>
+    ensures opened { IfOk result
+        (λ file. OpenedAt editor.old.state.tree editor.old.state.root path.now want file) }
+    ensures refused { IfErr result
+        (λ refusal. OpenRefused editor.old editor.new.master.view posts.old.slots path.now want refusal) }
+    ensures state { editor.new.state ≡ editor.old.state }
+    ensures claims { editor.new.claims ≡ editor.old.claims }
     ensures posts { posts.new ≡ posts.old }
 {
-    let key = state.find(dir, name)?;
-    let mut post = post_of(posts, key)?;
+    let place = editor.state().lookup(path)?;
+    let key = only_file(editor.state(), place)?;
+    let hold = editor.hold(key)?;
+    open_held(hold, posts, want)
+}
+
+/// Tells who polls the file of this name in a directory that it has changed (`sysfs_notify`), and answers its
+/// slot's new event number.
+///
+/// Refusals, in order: those of [`State::find`]; IsDir (a directory), Invalid (a link); NoSpace (the posts have
+/// no number for the slot), NoMemory; NoSpace (its number is the last that there is).
+pub fn notify(state: &State, posts: &mut Posts, dir: Key, name: &[u8]) -> Result<u64, Refusal>
+    ensures told { IfOk result
+        (λ number. Told state.now.tree (found state.now.tree dir name.now) posts.old number) }
+    ensures refused { IfErr result (λ refusal.
+        MatchResult (file_at state.now.tree (found state.now.tree dir name.now))
+        (λ _. (refusal ≡ NoSpace) ⊎ (refusal ≡ NoMemory)) (λ why. refusal ≡ why)) }
+    ensures posts { posts.new ≡ posts.old }
+{
+    let place = state.find(dir, name)?;
+    let key = only_file(state, place)?;
+    let mut post = post_of(posts, key.slot)?;
     post.notify().ok().ok_or(Refusal::NoSpace)
 }

@@ -1,0 +1,7 @@
+use Rattle.std.proofs.Common.{rules, inr}
+use Rattle.kf_paths.proofs.Openings.{refused}
+use Rattle.kf_paths.proofs.files.open_held.Goals as goal
+
+pub returns-clause-refused : goal.returns-clause-refused
+returns-clause-refused g c =
+    λ mode tag is_file. inr (refused _ _ _ _ mode tag _ c.in-Err-open.ensures.opens (search rules))
