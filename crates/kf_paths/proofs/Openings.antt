@@ -2,24 +2,22 @@
 use Rattle.std.proofs.Common.{◌≡◌, ◌∙◌, [], ◌∷◌, ℕ, Bool, true, false, Option, None, Some, is_some, refl, sym, ap, subst, inl, inr}
 use Rattle.std.specs.Prelude.{◌⊎◌, IfOk, IfErr, List, Result, Ok, Err}
 use Rattle.kf_core.specs.Calls.{tried}
+use Rattle.kf_core.specs.declared.key.Key.{Key}
 use Rattle.kf_core.specs.declared.key.Node.{Node}
-use Rattle.kf_core.specs.declared.key.Node.TheVariants.{File}
+use Rattle.kf_core.specs.declared.key.Node.TheVariants.{Dir, File, Link}
 use Rattle.kf_core.specs.declared.refusal.Refusal.{Refusal}
-use Rattle.kf_core.specs.Refusals.{unless, first_cause}
 use Rattle.kf_core.specs.declared.refusal.Refusal.TheVariants.{Access, NoDevice}
+use Rattle.kf_core.specs.Refusals.{unless, first_cause}
+use Rattle.kf_core.specs.Tree.{Tree}
 use Rattle.kf_words.specs.Callers.{Handle}
 use Rattle.kf_words.specs.declared.view.MasterView.{MasterView}
 use Rattle.kf_files.specs.declared.contents.Want.{Want}
-use Rattle.kf_files.specs.Files.{Opens, allows, open_cause}
+use Rattle.kf_files.specs.Files.{Opens, allows, new_file, open_cause}
 use Rattle.kf_files.specs.Waiting.{WaitVisits}
-use Rattle.kf_files.specs.Files.{new_file}
 use Rattle.kf_files.specs.Opened.{Opened}
-use Rattle.kf_core.specs.declared.key.Key.{Key}
-use Rattle.kf_core.specs.declared.key.Node.TheVariants.{Dir, Link}
-use Rattle.kf_core.specs.Tree.{Tree}
 use Rattle.kf_tree.specs.Paths.{seen}
 use Rattle.kf_shared.specs.Locked.{Locked}
-use Rattle.kf_paths.specs.Opening.{node_at, only_file, file_at, FileRefused, ModeRefused, OpenRefused, OpenedAt, PostRefused}
+use Rattle.kf_paths.specs.Opening.{node_at, only_file, file_at, FileRefused, NotOpened, OpenRefused, OpenedAt, PostRefused}
 
 abbrev pub Visited : Handle → Handle → Node → Want → Option Refusal → Type 0
 Visited hold hold' node want why = Opens (WaitVisits (Unit {0}) (λ _. Unit {0}) hold hold') node want why
@@ -37,8 +35,8 @@ let_in hold hold' mode want None visit none = absurd (cc)
 let_in hold hold' mode want (Some done) visit none =
     (visit.left.0.key ∙ visit.given_back.key ∙ visit.entered.0.key, allowed (allows mode want) none)
 
-pub opened : (hold hold' : Handle) (node : Node) (want : Want) (mode tag : ℕ) → Visited hold hold' node want None
-    → node ≡ File mode tag → (hold'.key ≡ hold.key) × (allows mode want ≡ true)
+pub opened : (hold hold' : Handle) (node : Node) (want : Want) (mode tag : ℕ)
+    → Visited hold hold' node want None → node ≡ File mode tag → (hold'.key ≡ hold.key) × (allows mode want ≡ true)
 opened hold hold' node want mode tag opens is_file =
     let (came, visit, none) = opens.file mode tag is_file in let_in hold hold' mode want came visit none
 
@@ -50,9 +48,10 @@ denied refusal true false why = inr (cc, refl)
 denied refusal true true why = absurd (cc)
 
 pub refused : (hold hold' : Handle) (node : Node) (want : Want) (mode tag : ℕ) (refusal : Refusal)
-    → Visited hold hold' node want (Some refusal) → node ≡ File mode tag → ModeRefused mode want refusal
+    → Visited hold hold' node want (Some refusal) → node ≡ File mode tag → NotOpened mode want refusal
 refused hold hold' node want mode tag refusal opens is_file =
-    let (came, visit, why) = opens.file mode tag is_file in denied refusal (is_some came) (allows mode want) why
+    let (came, visit, why) = opens.file mode tag is_file in
+    denied refusal (is_some came) (allows mode want) why
 
 -- ---- by a path
 
@@ -95,15 +94,15 @@ path_opened t root place key path want hold (Ok file) named only key_is node hel
       new = new;
     }
 
-pub path_refused : (s : Locked) (m' : MasterView) (slots : ℕ) (place key : Key) (path : List ℕ) (want : Want) (hold : Handle)
-    (result : Result (Opened Handle) Refusal)
+pub path_refused : (s : Locked) (m' : MasterView) (slots : ℕ) (place key : Key) (path : List ℕ)
+    (want : Want) (hold : Handle) (result : Result (Opened Handle) Refusal)
     → seen s.state.tree s.state.root path ≡ Ok place → file_at s.state.tree (Ok place) ≡ Ok key
     → hold.key ≡ key → node_at s.state.tree key ≡ Some hold.node
     → IfErr result (λ refusal. (mode tag : ℕ) → hold.node ≡ File mode tag
-    → PostRefused slots hold.key.slot refusal ⊎ ModeRefused mode want refusal)
+    → PostRefused slots hold.key.slot refusal ⊎ NotOpened mode want refusal)
     → IfErr result (λ refusal. OpenRefused s m' slots path want refusal)
 path_refused s m' slots place key path want hold (Ok file) named only key_is node why = tt
 path_refused s m' slots place key path want hold (Err refusal) named only key_is node why =
     subst (λ p. FileRefused s m' slots want p refusal) (sym (ap (file_at s.state.tree) named ∙ only))
-    (λ mode tag there. inr (subst (λ k. PostRefused slots k.slot refusal ⊎ ModeRefused mode want refusal) key_is
+    (λ mode tag there. inr (subst (λ k. PostRefused slots k.slot refusal ⊎ NotOpened mode want refusal) key_is
     (why mode tag (unsome hold.node (File mode tag) (sym node ∙ there)))))

@@ -32,9 +32,10 @@ only_file key (Some (File mode tag)) = Ok key
 abbrev pub file_at : Tree → Result Key Refusal → Result Key Refusal
 file_at t place = and_then place (λ key. only_file key (node_at t key))
 
--- the file is new, of the live file that the path names in this tree: it holds it, has the tag of it and a post
--- of its slot, and its mode allows what is wanted
-pub record OpenedAt (t : Tree) (root : Key) (path : List ℕ) (want : Want) (file : Opened Handle) : Type 0 where
+-- the opened file is new, of the live file that the path names in this tree: it holds that, has its tag and a
+-- post of its slot, and its mode allows what is wanted
+pub record OpenedAt (t : Tree) (root : Key) (path : List ℕ) (want : Want)
+    (file : Opened Handle) : Type 0 where
   pub key : Key
   pub mode : ℕ
   pub named : seen t root path ≡ Ok key
@@ -49,19 +50,19 @@ abbrev pub PostRefused : ℕ → ℕ → Refusal → Type 0
 PostRefused slots slot refusal = (refusal ≡ NoMemory) ⊎ ((refusal ≡ NoSpace) × (slots ≤ slot))
 
 -- why a file is not opened: it is not live, or its mode denies what is wanted
-abbrev pub ModeRefused : ℕ → Want → Refusal → Type 0
-ModeRefused mode want refusal = (refusal ≡ NoDevice) ⊎ ((refusal ≡ Access) × (allows mode want ≡ false))
+abbrev pub NotOpened : ℕ → Want → Refusal → Type 0
+NotOpened mode want refusal = (refusal ≡ NoDevice) ⊎ ((refusal ≡ Access) × (allows mode want ≡ false))
 
 -- why there is no hold of this slot: no memory, or one load found as many holds as there may be
 abbrev pub HeldRefused : MasterView → MasterView → ℕ → Refusal → Type 0
 HeldRefused m m' slot refusal = (refusal ≡ NoMemory) ⊎ ((refusal ≡ TooManyHolds) × WasFull m slot m')
 
--- where no file was found, that is why; else there is no hold of it, no post of its slot, or it is not opened
+-- where no file was found, that is why; else there is no hold, there is no post, or it is not opened
 abbrev pub FileRefused : Locked → MasterView → ℕ → Want → Result Key Refusal → Refusal → Type 0
 FileRefused s m' slots want place refusal = MatchResult place
     (λ key. (mode tag : ℕ) → node_at s.state.tree key ≡ Some (File mode tag)
     → HeldRefused s.master.view m' key.slot refusal ⊎ PostRefused slots key.slot refusal
-    ⊎ ModeRefused mode want refusal)
+    ⊎ NotOpened mode want refusal)
     (λ why. refusal ≡ why)
 
 -- why an open by a path is refused
@@ -69,7 +70,7 @@ abbrev pub OpenRefused : Locked → MasterView → ℕ → List ℕ → Want →
 OpenRefused s m' slots path want refusal = FileRefused s m' slots want
     (file_at s.state.tree (seen s.state.tree s.state.root path)) refusal
 
--- the file of the place was told of: a new post of its slot made this number, the next of what its slot had
+-- a new post of the slot of the file at the place made this number, the next of one that its slot had
 pub record Told (t : Tree) (place : Result Key Refusal) (numbers : Numbers) (number : ℕ) : Type 0 where
   pub key : Key
   pub post : PostState

@@ -5,7 +5,7 @@ ghost use Rattle.kf_core.specs.declared.refusal.Refusal.TheVariants.{NoMemory, N
 ghost use Rattle.kf_files.specs.Files.{new_file, allows};
 ghost use Rattle.kf_notify.specs.PostStates.{IsNewPost};
 ghost use Rattle.kf_tree.specs.Paths.{found, seen};
-ghost use Rattle.kf_paths.specs.Opening.{file_at, OpenedAt, OpenRefused, PostRefused, ModeRefused, Told};
+ghost use Rattle.kf_paths.specs.Opening.{file_at, OpenedAt, OpenRefused, PostRefused, NotOpened, Told};
 
 use kf_core::{Key, Node, Refusal};
 use kf_files::{WaitingFile, Want};
@@ -37,7 +37,7 @@ fn post_of(posts: &mut Posts, slot: u32) -> Result<Post, Refusal>
     posts.post(slot)
 }
 
-// Opens the file of a hold.
+// Opens the file of a hold, whose node is a file. After a refusal the slot has one hold fewer.
 #[tactic(auto, using(crate::proofs::Openings::opened, crate::proofs::Openings::refused))]
 fn open_held<N: Naming>(
     hold: Hold,
@@ -50,7 +50,7 @@ fn open_held<N: Naming>(
     ensures slot { IfOk result (λ file. file.post.slot ≡ hold.key.slot) }
     ensures new { IfOk result (λ file. file.state ≡ new_file want) }
     ensures refused { IfErr result (λ refusal. (mode tag : ℕ) → hold.node ≡ File mode tag
-        → PostRefused posts.old.slots hold.key.slot refusal ⊎ ModeRefused mode want refusal) }
+        → PostRefused posts.old.slots hold.key.slot refusal ⊎ NotOpened mode want refusal) }
     ensures posts { posts.new ≡ posts.old }
 {
     let node = hold.node();
@@ -72,9 +72,9 @@ fn open_held<N: Naming>(
 
 /// Opens the file that a path names, in one turn of the lock.
 ///
-/// Refusals, in order: those of [`State::lookup`]; IsDir (a directory), Invalid (a link); TooManyHolds (as many
-/// holds as there may be), NoMemory; NoSpace (the posts have no number for the slot), NoMemory; NoDevice and
-/// Access, as those of [`WaitingFile::open`]. After a refusal the slot has the holds that it had.
+/// Refusals, in order: those of [`State::lookup`]; IsDir (a directory), Invalid (a link); TooManyHolds (as
+/// many holds as there may be), NoMemory; NoSpace (the posts have no number for the slot), NoMemory; NoDevice
+/// and Access, as those of [`WaitingFile::open`]. After a refusal the slot has the holds that it had.
 pub fn open_path<N: Naming>(
     editor: &mut Editor<'_, N>,
     posts: &mut Posts,
@@ -98,8 +98,8 @@ pub fn open_path<N: Naming>(
 /// Tells who polls the file of this name in a directory that it has changed (`sysfs_notify`), and answers its
 /// slot's new event number.
 ///
-/// Refusals, in order: those of [`State::find`]; IsDir (a directory), Invalid (a link); NoSpace (the posts have
-/// no number for the slot), NoMemory; NoSpace (its number is the last that there is).
+/// Refusals, in order: those of [`State::find`]; IsDir (a directory), Invalid (a link); NoSpace (the posts
+/// have no number for the slot), NoMemory; NoSpace (its number is the last that there is).
 pub fn notify(state: &State, posts: &mut Posts, dir: Key, name: &[u8]) -> Result<u64, Refusal>
     ensures told { IfOk result
         (λ number. Told state.now.tree (found state.now.tree dir name.now) posts.old number) }
