@@ -21,5 +21,5 @@ none_of false n e = refl
 pub whole : (bytes : List ℕ) → position (λ byte. byte == 0) bytes ≡ None → bytes ≡ until_zero bytes
 whole bytes nowhere =
     let past : length bytes ≤ position_or_len (λ byte. byte == 0) bytes =
-        ltb-false _ _ (none_of _ (position_or_len (λ byte. byte == 0) bytes) nowhere) in
+    ltb-false _ _ (none_of _ (position_or_len (λ byte. byte == 0) bytes) nowhere) in
     sym (take_all (position_or_len (λ byte. byte == 0) bytes) bytes past)

@@ -1,5 +1,5 @@
-use Rattle.kf_text.proofs.Emitted.{read_again}
+use Rattle.kf_text.proofs.Emitted.{read_again, signed_again}
 use Rattle.kf_text.proofs.laws.emitted_is_read.Goals as goal
 
 pub returns : goal.returns
-returns c = record { unsigned = read_again }
+returns c = record { unsigned = read_again; signed = signed_again }
