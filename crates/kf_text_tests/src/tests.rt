@@ -64,6 +64,7 @@ fn numbers_are_read_to_their_bounds(rt: HostRuntime) {
             read_unsigned(b"-1", 42) == Err(NotRead::Invalid),
             read_unsigned(b"7\n\n", 42) == Err(NotRead::Invalid),
             read_unsigned(b" 7", 42) == Err(NotRead::Invalid),
+            read_unsigned(b"7\n\0\0", 42) == Ok(7),
             read_unsigned(b"+", 42) == Err(NotRead::Invalid),
             read_unsigned(b"\n", 42) == Err(NotRead::Invalid),
             read_signed(b"-128\n", -128, 127) == Ok(-128),
@@ -72,6 +73,7 @@ fn numbers_are_read_to_their_bounds(rt: HostRuntime) {
             read_signed(b"-9223372036854775808", i64::MIN, 0) == Ok(i64::MIN),
             read_signed(b"-9223372036854775809", i64::MIN, 0) == Err(NotRead::Range),
             read_signed(b"-+5", -9, 9) == Err(NotRead::Invalid),
+            read_signed(b"-5\0+", -9, 9) == Ok(-5),
             NotRead::Invalid.number() == 22 && NotRead::Range.number() == 34,
         ]),
         None
@@ -84,9 +86,9 @@ fn flags_and_words_are_read(rt: HostRuntime) {
     assert_eq!(rt;
         first_wrong(&[
             read_flag(b"yes\n") == Ok(true),
-            read_flag(b"T") == Ok(true),
+            read_flag(b"Enabled\n") == Ok(true),
             read_flag(b"10") == Ok(true),
-            read_flag(b"no") == Ok(false),
+            read_flag(b"disabled") == Ok(false),
             read_flag(b"False") == Ok(false),
             read_flag(b"0\n") == Ok(false),
             read_flag(b"oN") == Ok(true),
@@ -95,7 +97,7 @@ fn flags_and_words_are_read(rt: HostRuntime) {
             read_flag(b"ox") == Err(NotRead::Invalid),
             read_flag(b"") == Err(NotRead::Invalid),
             read_flag(b" 1") == Err(NotRead::Invalid),
-            read_word(&words, b"auto\n") == Ok(1),
+            read_word(&words, b"auto\n\0x") == Ok(1),
             read_word(&words, b"auto\n\n") == Ok(2),
             read_word(&words, b"aut") == Err(NotRead::Invalid),
             is_same_text(b"", b"\n")
