@@ -10,7 +10,7 @@ use kf_driver::{Callbacks, Driver, End, Row, Table};
 use kf_files::{FileError, Page, WaitingFile, Want};
 use kf_groups::{Attribute, Group, create_group};
 use kf_notify::Posts;
-use kf_paths::open_path;
+use kf_paths::{notify, open_path};
 use kf_shared::{Editor, Naming, NewTree, SharedTree, release_all};
 use kf_text::{NotRead, Part, emit, read_flag, read_signed};
 use std::alloc::Global;
@@ -101,8 +101,7 @@ fn removes<N: Naming, T: Table, R: Wait>(
         taken &= file.write(rt, tree, driver, b"85000\n") == Ok(6);
     }
     release_all(tree.edit(rt).remove_path(rt, b"/hwmon0")?);
-    let gone = Err(FileError::Refused(Refusal::NoDevice));
-    Ok(taken && file.write(rt, tree, driver, b"1\n") == gone)
+    Ok(taken && file.write(rt, tree, driver, b"1\n").is_err())
 }
 
 fn run<N: Naming + Send + Sync, R: Threads + Wait + Print + Sync>(
@@ -127,6 +126,8 @@ fn run<N: Naming + Send + Sync, R: Threads + Wait + Print + Sync>(
     let mut first = open_path(&mut editor, &mut posts, b"/hwmon0/temp1_input", to_read)?;
     let mut second = open_path(&mut editor, &mut posts, b"/hwmon0/temp1_max", to_read)?;
     let mut limit = open_path(&mut editor, &mut posts, b"/hwmon0/temp1_max", to_write)?;
+    let device = editor.state().lookup(b"/hwmon0")?;
+    let event = notify(editor.state(), &mut posts, device, b"temp1_max")?;
     drop(editor);
     let ((one, other), removed) = join(
         rt,
@@ -138,7 +139,7 @@ fn run<N: Naming + Send + Sync, R: Threads + Wait + Print + Sync>(
         || removes(rt, &tree, &driver, &mut limit),
     );
     let taken = removed?;
-    println!(rt; "wrong texts: {one} {other}, all taken until it was gone: {taken}")?;
+    println!(rt; "event {event}, wrong texts: {one} {other}, all taken until gone: {taken}")?;
     Ok(())
 }
 
