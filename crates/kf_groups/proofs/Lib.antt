@@ -1,4 +1,9 @@
 pub mod Names
 pub mod Storing
 pub mod Unlinks
+pub mod Free
+pub mod Linked
+pub mod NewDirectory
+pub mod Lacks
 pub mod Makings
+pub mod Turns

@@ -6,6 +6,7 @@ use Rattle.kf_core.specs.declared.command.Command.TheVariants.{Create, Activate,
 use Rattle.kf_core.specs.declared.key.Key.{Key}
 use Rattle.kf_core.specs.declared.key.Node.TheVariants.{Dir}
 use Rattle.kf_core.specs.declared.refusal.Refusal.{Refusal}
+use Rattle.kf_core.specs.declared.refusal.Refusal.TheVariants.{NoMemory, NoSpace}
 use Rattle.kf_core.specs.Commands.{replay}
 use Rattle.kf_core.specs.PostOrder.{IsPostOrder}
 use Rattle.kf_core.specs.Tree.{Tree}
@@ -48,6 +49,10 @@ MadeByName old new dir attributes (Some name) key = (keys : List Key)
 pub record GroupMade (old new : TreeLog) (dir : Key) (group : Group) (key : Key) : Type 0 where
   pub no_cause : group_cause old.tree old.root dir group ≡ None
   pub made : MadeByName old new dir (shown group.attributes.now) group.name key
+
+-- there was no slot, or no memory
+abbrev pub LacksRoom : Refusal → Type 0
+LacksRoom refusal = (refusal ≡ NoSpace) ⊎ (refusal ≡ NoMemory)
 
 -- a node was taken back: it was doomed with all below it, and some of these were unlinked; or that was
 -- refused, and nothing was stored
@@ -100,9 +105,10 @@ TakenBackByName t dir attributes None commands = FilesTakenBack t dir attributes
 TakenBackByName t dir attributes (Some name) commands = DirectoryTakenBack t dir name.now attributes commands
 
 -- there was this against the group, and nothing changed; or there was not, and all that was made of it was
--- taken back
+-- taken back, as there was no slot, or no memory
 abbrev pub GroupRefused : TreeLog → TreeLog → Key → Group → Refusal → Type 0
 GroupRefused old new dir group refusal =
     ((group_cause old.tree old.root dir group ≡ Some refusal) × (new ≡ old))
-    ⊎ ((group_cause old.tree old.root dir group ≡ None) × ((commands : List Command) × Stores old new commands
+    ⊎ ((group_cause old.tree old.root dir group ≡ None) × LacksRoom refusal
+    × ((commands : List Command) × Stores old new commands
     × TakenBackByName old.tree dir (shown group.attributes.now) group.name commands))

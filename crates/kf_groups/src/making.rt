@@ -1,10 +1,12 @@
 //! A group is made, all or nothing.
-ghost use Rattle.std.specs.Prelude.{◌≡◌, List, length, IfOk, IfErr, OnErr, OnOk};
+ghost use Rattle.std.specs.Prelude.{◌≡◌, List, length, IfOk, IfErr, OnErr, OnOk, None, Some};
 ghost use Rattle.kf_core.specs.declared.command.Command.{Command};
 ghost use Rattle.kf_core.specs.declared.key.Key.{Key};
-ghost use Rattle.kf_groups.specs.Attributes.{shown};
-ghost use Rattle.kf_groups.specs.Making.{creations, live_creations, named_creations, DirectoryTakenBack, FilesTakenBack, GroupMade, GroupRefused};
-ghost use Rattle.kf_groups.specs.Stores.{Stores};
+ghost use Rattle.kf_core.specs.declared.key.Node.TheVariants.{Dir};
+ghost use Rattle.kf_tree.specs.Causes.{create_fault};
+ghost use Rattle.kf_groups.specs.Attributes.{file_fault, files_cause, shown};
+ghost use Rattle.kf_groups.specs.Making.{creations, live_creations, named_creations, DirectoryTakenBack, FilesTakenBack, GroupMade, GroupRefused, LacksRoom};
+ghost use Rattle.kf_groups.specs.Stores.{StayLinked, Stores};
 
 use crate::attribute::{Attribute, Group};
 use crate::checks::{file_of, group_cause};
@@ -20,6 +22,9 @@ fn fill<N: Naming>(
 ) -> Result<(), Refusal>
     ensures stored { (keys : List Key) × (OnOk result (length keys ≡ length (shown attributes.now)))
         × Stores editor.old.state editor.new.state (creations dir (shown attributes.now) keys) }
+    ensures lacks { files_cause (file_fault editor.old.state.tree editor.old.state.root (Some dir))
+        (shown attributes.now) ≡ None → IfErr result (λ refusal. LacksRoom refusal) }
+    ensures linked { StayLinked editor.old.state.tree editor.new.state.tree }
     ensures claims { editor.new.claims ≡ editor.old.claims }
 {
     let [first, rest @ ..] = attributes else {
@@ -28,6 +33,7 @@ fn fill<N: Naming>(
     if first.mode == 0 {
         return fill(editor, dir, rest);
     }
+    let _ = editor.state();
     editor.create(dir, first.name, file_of(first), false)?;
     fill(editor, dir, rest)
 }
@@ -43,6 +49,9 @@ fn make_files<N: Naming>(
     ensures refused { OnErr result ((commands : List Command)
         × Stores editor.old.state editor.new.state commands
         × FilesTakenBack editor.old.state.tree dir (shown attributes.now) commands) }
+    ensures lacks { files_cause (file_fault editor.old.state.tree editor.old.state.root (Some dir))
+        (shown attributes.now) ≡ None → IfErr result (λ refusal. LacksRoom refusal) }
+    ensures linked { OnOk result (StayLinked editor.old.state.tree editor.new.state.tree) }
     ensures claims { editor.new.claims ≡ editor.old.claims }
 {
     let [first, rest @ ..] = attributes else {
@@ -51,6 +60,7 @@ fn make_files<N: Naming>(
     if first.mode == 0 {
         return make_files(editor, dir, rest);
     }
+    let _ = editor.state();
     let key = editor.create(dir, first.name, file_of(first), false)?;
     if let Err(refusal) = make_files(editor, dir, rest) {
         take_back(editor, key);
@@ -71,14 +81,19 @@ fn make_directory<N: Naming>(
     name: &[u8],
     attributes: &[Attribute],
 ) -> Result<Key, Refusal>
+    requires directory_free { create_fault editor.old.state.tree editor.old.state.root dir name.now Dir ≡ None }
+    requires files_free { files_cause (file_fault editor.old.state.tree editor.old.state.root None)
+        (shown attributes.now) ≡ None }
     ensures made { IfOk result (λ key. (keys : List Key) × (length keys ≡ length (shown attributes.now))
         × Stores editor.old.state editor.new.state
         (named_creations dir name.now (shown attributes.now) key keys)) }
     ensures refused { OnErr result ((commands : List Command)
         × Stores editor.old.state editor.new.state commands
         × DirectoryTakenBack editor.old.state.tree dir name.now (shown attributes.now) commands) }
+    ensures lacks { IfErr result (λ refusal. LacksRoom refusal) }
     ensures claims { editor.new.claims ≡ editor.old.claims }
 {
+    let _ = editor.state();
     let key = editor.create(dir, name, Node::Dir, false)?;
     if let Err(refusal) = fill(editor, key, attributes) {
         take_back(editor, key);

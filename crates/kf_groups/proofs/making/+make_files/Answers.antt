@@ -4,6 +4,8 @@ use Rattle.kf_groups.specs.Attributes.{shown}
 use Rattle.kf_groups.specs.Making.{live_creations}
 use Rattle.kf_groups.specs.Stores.{Stores}
 use Rattle.kf_groups.proofs.Makings.{created, later, live_stopped, made, stopped}
+use Rattle.kf_groups.proofs.Lacks.{activate_lacks}
+use Rattle.kf_groups.proofs.Turns.{itself_linked, later_free, stay_activated, stay_created}
 use Rattle.kf_groups.proofs.making.+make_files.Goals as goal
 
 -- what stands past the end of a list
@@ -41,3 +43,20 @@ returns-clause-made g t c =
     made c.args.editor.now.state c.create.new.self.state c.make_files-2.new.editor.state c.activate.new.self.state
     c.args.dir c.in_ok-key.key c.args.attributes.now blank _ c.in-len1-up.len_at_least c.if-first-eq0.false
     (created c.args.editor.now c.create.new.self c.args.dir c.in_ok-key.key _ _ _ c.file_of.ensures.known c.in_ok-key.ensures.accepted) c.in_default-make_files.ensures.made c.in_default-activate.ensures.accepted
+
+pub returns-in-Err-clause-lacks : goal.returns-in-Err-clause-lacks
+unfolding blank
+returns-in-Err-clause-lacks g t c free = c.in-Err.ensures.lacks
+    (later_free c.args.editor.now c.create.new.self c.args.dir c.args.attributes.now blank c.in-len1-up.len_at_least c.if-first-eq0.false
+    c.file_of.result c.in_ok-key.key c.in_ok-key.ensures.accepted free)
+
+pub returns-in-Err-activate-clause-lacks : goal.returns-in-Err-activate-clause-lacks
+returns-in-Err-activate-clause-lacks g t c free = activate_lacks c.make_files-2.new.editor.state c.activate.new.self.state c.in_ok-key.key _
+    (c.in_default-make_files.ensures.linked c.in_ok-key.key (itself_linked g.N.Naming.table c.args.editor.now c.create.new.self c.args.dir c.in_ok-key.key _ _
+    c.state.ensures.whole c.in_ok-key.ensures.next c.in_ok-key.ensures.accepted)) c.in-Err-activate.ensures.refused
+
+pub returns-clause-linked : goal.returns-clause-linked
+returns-clause-linked g t c k h =
+    stay_activated c.make_files-2.new.editor.state c.activate.new.self.state _ c.in_ok-key.key c.in_default-activate.ensures.accepted k
+    (c.in_default-make_files.ensures.linked k (stay_created g.N.Naming.table c.args.editor.now c.create.new.self c.args.dir c.in_ok-key.key _ _
+    c.state.ensures.whole c.in_ok-key.ensures.next c.in_ok-key.ensures.accepted k h))
