@@ -13,7 +13,7 @@ use Rattle.kf_core.specs.Lawful.{Lawful}
 use Rattle.kf_core.specs.Names.{name_fault}
 use Rattle.kf_core.specs.Refusals.{unless}
 use Rattle.kf_core.specs.Tree.{Tree, is_linked}
-use Rattle.kf_shared.specs.Locked.{Locked, IsWhole, Created, CreateRefused}
+use Rattle.kf_shared.specs.Locked.{Locked, IsWhole, Created}
 use Rattle.kf_words.specs.Callers.{TableId}
 use Rattle.kf_words.specs.Nodes.{IsVacant}
 use Rattle.kf_tree.specs.Causes.{create_fault, is_directory, doomed_in, has_entry}
@@ -21,10 +21,8 @@ use Rattle.kf_tree.specs.TreeLogs.{TreeLog, IsAccepted}
 use Rattle.kf_tree.proofs.Allowed.{not_passed, passed}
 use Rattle.kf_groups.specs.declared.attribute.Attribute.{Attribute}
 use Rattle.kf_groups.specs.Attributes.{file_of, file_fault, files_cause, has_name, shown}
-use Rattle.kf_groups.specs.Making.{LacksRoom}
 use Rattle.kf_groups.specs.Stores.{StayLinked}
 use Rattle.kf_groups.proofs.Free.{all_still_free, first_of_six, parted}
-use Rattle.kf_groups.proofs.Lacks.{create_lacks}
 use Rattle.kf_groups.proofs.Linked.{itself_at, linked_activated, linked_created, vacant_slot}
 use Rattle.kf_groups.proofs.Makings.{first_shown, later}
 use Rattle.kf_groups.proofs.NewDirectory.{all_free}
@@ -49,12 +47,6 @@ module _ (s0 s1 : Locked) (dir : Key) (attributes : List Attribute) (d : Attribu
       (unless (not (has_name (shown (later attributes)) a.name.now)) Exists)
       (files_cause (file_fault s0.state.tree s0.state.root (Some dir)) (shown (later attributes)))
       (subst (λ xs. AreFree s0.state dir xs) (first_shown attributes d some there) free)
-
-  pub first_lacks : (refusal : Refusal) → node ≡ file_of a → CreateRefused s0 s1 dir a.name.now node refusal
-      → AreFree s0.state dir (shown attributes) → LacksRoom refusal
-  first_lacks refusal same refused free =
-      create_lacks s0 s1 dir a.name.now node refusal
-      (subst (λ n. create_fault s0.state.tree s0.state.root dir a.name.now n ≡ None) (sym same) (apart free).0) refused
 
   pub later_free : (key : Key) → Created s0 s1 dir a.name.now node false key → AreFree s0.state dir (shown attributes)
       → AreFree s1.state dir (shown (later attributes))
