@@ -5,10 +5,10 @@ use Rattle.kf_core.specs.declared.records.Record.{Record}
 use Rattle.kf_core.specs.Bare.{BareWorld, marks, is_hidden}
 use Rattle.kf_core.specs.Tree.{Tree, IsIn, marks_of}
 
--- of every key, whether it is linked, activated, doomed
+-- the tree and the slots tell the same of every key: whether it is linked, activated, doomed
 abbrev pub Agrees : Tree → BareWorld → Type 0
 Agrees t w = (key : Key) → marks_of t key ≡ marks w key
 
--- of every record, whether it is hidden: it is where a caller hides its key
+-- a record of the tree is hidden exactly where a caller hides its key
 abbrev pub AgreesHidden : Tree → BareWorld → Type 0
 AgreesHidden t w = (r : Record) → IsIn t r → r.hidden ≡ is_hidden w r.key

@@ -32,20 +32,20 @@ is_linked w key = is_some (marks w key)
 abbrev pub hides : Key → Caller → Bool
 hides key c = same_key c.key key && is_hiding c.phase
 
--- one of these callers does
+-- one of these callers hides this key
 abbrev pub any_hides : Key → List Caller → Bool
 any_hides key [] = false
 any_hides key (c ∷ cs) = if hides key c then true else any_hides key cs
 
--- a caller hides it, linked or not
+-- a caller hides the key, linked or not
 abbrev pub is_hidden : BareWorld → Key → Bool
 is_hidden w key = any_hides key w.callers
 
--- linked, activated, not doomed and not hidden
+-- the key is linked, activated, not doomed and not hidden
 abbrev pub is_live : BareWorld → Key → Bool
 is_live w key = are_live (marks w key) && not (is_hidden w key)
 
--- doomed, or no longer linked
+-- the key is doomed, or no longer linked
 abbrev pub is_doomed : BareWorld → Key → Bool
 is_doomed w key = are_doomed (marks w key)
 

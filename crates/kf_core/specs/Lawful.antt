@@ -12,7 +12,8 @@ abbrev pub root_record : Key → Record
 root_record key =
     record { key = key; parent = None; name = []; node = Dir; marks = live_marks; hidden = false }
 
--- the record's parent is a directory of the tree, and asks this of the record
+-- the record's parent is a directory of the tree: where that is doomed the record is too, and its name is
+-- lawful
 pub record HasDirectory (t : Tree) (r : Record) (parent : Key) : Type 0 where
   pub dir : Record
   pub known : record_at t parent ≡ Some dir

@@ -16,7 +16,7 @@ use Rattle.kf_core.specs.Lawful.{root_record}
 abbrev pub root : Key
 root = record { slot = 0; generation = 1 }
 
--- the first node of slot 1, and the second
+-- the key of the first node of slot 1
 abbrev pub first : Key
 first = record { slot = 1; generation = 1 }
 
@@ -24,7 +24,7 @@ first = record { slot = 1; generation = 1 }
 abbrev pub second : Key
 second = record { slot = 1; generation = 2 }
 
--- the names `a` and `b`
+-- the name `a`, with which each node is born
 abbrev pub a : List ℕ
 a = 97 ∷ []
 

@@ -6,7 +6,7 @@ use Rattle.kf_core.specs.declared.slot.Marks.{Marks}
 abbrev pub fresh_marks : Marks
 fresh_marks = record { activated = false; doomed = false }
 
--- those of a live node
+-- the marks of a live node
 abbrev pub live_marks : Marks
 live_marks = record { activated = true; doomed = false }
 

@@ -32,7 +32,7 @@ pub record Safe (w : BareWorld) : Type 0 where
   -- who holds a slot holds its last generation
   pub held_last : (c : ℕ) (key : Key) (phase : Phase) → IsCaller w c key phase → phase ≢ Spent
       → IsLast w key.slot key.generation
-  -- who is running is so on a linked key
+  -- the key of a running caller is linked
   pub running_linked : (c : ℕ) (key : Key) → IsCaller w c key Running → IsTrue (is_linked w key)
   -- at most one caller hides a key
   pub one_hides : (c : ℕ) (key : Key) (phase : Phase) → IsCaller w c key phase → IsTrue (is_hiding phase)

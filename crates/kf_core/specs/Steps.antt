@@ -15,7 +15,7 @@ abbrev pub with_phase : BareWorld → ℕ → Key → Phase → BareWorld
 with_phase w c key phase =
     record { slots = w.slots; callers = slice_set w.callers c (record { key = key; phase = phase }) }
 
--- the slot of the key has its generation, and these marks
+-- the slot of the key has the key's generation, and these marks
 abbrev pub with_marks : BareWorld → Key → Option Marks → BareWorld
 with_marks w key m = record {
   slots = slice_set w.slots key.slot

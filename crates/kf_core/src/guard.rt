@@ -39,7 +39,7 @@ pub trait Guard {
     /// A try with this hold gave this call.
     ghost enters: { Self → Self.Hold → Self.Call → Self → Type 0 };
 
-    /// A try with this hold found the node not live, and gave it back as the second one.
+    /// A try with the first hold found the node not live, and gave the second hold back.
     ghost refuses: { Self → Self.Hold → Self.Hold → Self → Type 0 };
 
     /// The call may end here.

@@ -17,9 +17,9 @@ ghost use Rattle.kf_core.specs.Worlds.{World, bare, opening, tree, Step, Run};
 ghost use Rattle.kf_core.specs.Life.{whole_life, at, file_at, second, a, by};
 ghost use Rattle.kf_core.specs.Marks.{fresh_marks};
 
-/// From the mark of a node on each try there is refused. Once a caller saw its drain, nobody is ever running
-/// on it again; while a caller is Hidden on a node, nobody is running there. Who gave up its reference inside
-/// its callback may take one again there, but starts no callback under it.
+/// From the mark of a node on, each try there is refused. Once a caller saw the node's drain, nobody is ever
+/// running on it again; while a caller is Hidden on a node, nobody is running there. A caller that gave its
+/// reference up inside its callback may take one again there, but starts no callback under it.
 pub fn no_call_after_removal()
     // Nobody is running on a key on which a caller is drained, parted or hidden.
     ensures none_running { (count start : ℕ) (events : List Event) (w : World) →
@@ -34,7 +34,7 @@ pub fn no_call_after_removal()
     // That of a parted one is not linked.
     ensures gone { (count start : ℕ) (events : List Event) (w : World) → Run (opening count start) events w →
         (c : ℕ) (key : Key) → IsCaller (bare w) c key Parted → IsFalse (is_linked (bare w) key) }
-    // Who is running is so on a linked key.
+    // The key of a running caller is linked.
     ensures linked { (count start : ℕ) (events : List Event) (w : World) →
         Run (opening count start) events w →
         (c : ℕ) (key : Key) → IsCaller (bare w) c key Running → IsTrue (is_linked (bare w) key) }
@@ -43,7 +43,7 @@ pub fn no_call_after_removal()
         Run (opening count start) events w →
         (c : ℕ) (key : Key) (phase : Phase) → IsCaller (bare w) c key phase → IsTrue (is_hiding phase) →
         IsFalse (is_live (bare w) key) × OnlyHider (bare w) c key }
-    // From the mark of a key on it is never live again, so each try there is refused.
+    // From the mark of a key on, it is never live again, so each try there is refused.
     ensures marked { (count start : ℕ) (before later : List Event) (u v w : World) (key : Key) →
         Run (opening count start) before u → Step u (Mark key) v → Run v later w →
         IsFalse (is_live (bare w) key) }
@@ -84,7 +84,7 @@ pub fn slots_kept()
         Run (opening count start) events w → AgreesHidden (tree w) (bare w) }
 {}
 
-/// The same of worlds without parents, names and nodes, from any safe one on.
+/// The laws of removal for worlds without parents, names and nodes, from any safe one on.
 pub fn no_call_after_drain()
     // Each world of the run is safe.
     ensures safe { (events : List Event) (w w' : BareWorld) → Safe w → BareRun w events w' → Safe w' }

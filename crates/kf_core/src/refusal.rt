@@ -13,8 +13,8 @@ pub enum Refusal {
     /// There is no such node, or it is not live (`ENOENT`).
     #[error("NoEntry")]
     NoEntry,
-    /// A growth was refused (`ENOMEM`). Where a call takes memory before it has looked at all, it may come in
-    /// place of another cause.
+    /// A growth, which asks for memory, was refused (`ENOMEM`). Where a call takes memory before it has
+    /// looked at all, it may come in place of another cause.
     #[error("NoMemory")]
     NoMemory,
     /// The mode, or how the file was opened, does not allow it (`EACCES`).

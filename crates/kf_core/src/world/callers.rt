@@ -40,7 +40,7 @@ impl World {
         self.hint.note(caller.key.slot, free);
     }
 
-    /// Whether the slot of the key has fewer holds than the limit, as one that the list lacks has.
+    /// Whether the slot of the key has fewer holds than the limit. A slot past the last has no holds.
     pub fn room(&self, key: Key) -> bool
         ensures told { IsTrue result ↔ (holds self.now.world key.slot < self.now.limit) }
         ensures safe { Safe self.now.world }
@@ -82,9 +82,11 @@ impl World {
         Ok(())
     }
 
-    /// A new caller, which holds the key. Answers its number, which is its place in the list. NoEntry where
-    /// the node is not linked and nobody holds it, then TooManyHolds where its slot has as many holds as the
-    /// limit allows, then NoMemory where a growth was refused; the world is then as before.
+    /// A new caller, which holds the key. Answers its number, which is its place in the list.
+    ///
+    /// Refusals, in order: NoEntry where the node is not linked and nobody holds it, TooManyHolds where its
+    /// slot has as many holds as the limit allows, NoMemory where a growth was refused. After a refusal the
+    /// world is as before.
     pub fn pin(&mut self, key: Key) -> Result<usize, Refusal>
         ensures step { IfOk result (λ id. Happens self.old (Pin id key) self.new) }
         ensures room { OnOk result (holds self.old.world key.slot < self.old.limit) }

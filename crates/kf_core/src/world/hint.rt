@@ -11,7 +11,7 @@ use std::alloc::Global;
 /// So many slots make a block.
 pub(super) const BLOCK: u32 = 64;
 
-/// From slot 1 up no slot that is skipped is free.
+/// No slot from 1 up that the search skips is free.
 #[derive(Drop)]
 pub(crate) struct Hint {
     // The search begins here.

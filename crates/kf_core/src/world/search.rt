@@ -65,7 +65,7 @@ impl World {
         None
     }
 
-    /// The search begins at the lowest free slot, and past every slot where none is free.
+    /// From now on the search begins at the lowest free slot, and past every slot where none is free.
     pub(super) fn raise_lowest(&mut self)
         ensures { self.new ≡ self.old }
     {

@@ -13,7 +13,7 @@ use crate::key::Key;
 use crate::slot::{Marks, SlotState};
 
 impl World {
-    /// The slot of the key gets its generation, and these marks.
+    /// The slot of the key gets the key's generation, and these marks.
     fn put_marks(&mut self, key: Key, marks: Option<Marks>)
         requires within { key.slot < length self.old.world.slots }
         requires step { (event : Event)
