@@ -107,7 +107,7 @@ abbrev pub SawDrained : Handle → Handle → Type 0
 SawDrained before after =
     (after.phase ≡ Drained) × (after.steps ≡ before.steps + 1) × (is_drained after.found ≡ true)
 
--- its one step found another word
+-- its one step found a word that is not drained
 abbrev pub SawUse : Handle → Handle → Type 0
 SawUse before after =
     (after.phase ≡ before.phase) × (after.steps ≡ before.steps + 1) × (is_drained after.found ≡ false)
@@ -149,7 +149,7 @@ abbrev pub SawUnused : Handle → Handle → Type 0
 SawUnused before after =
     (after.phase ≡ Hidden) × (after.steps ≡ before.steps + 1) × (is_unused after.found ≡ true)
 
--- its one step found somebody
+-- its one step found somebody who uses the node
 abbrev pub SawUser : Handle → Handle → Type 0
 SawUser before after =
     (after.phase ≡ before.phase) × (after.steps ≡ before.steps + 1) × (is_unused after.found ≡ false)
@@ -175,7 +175,7 @@ seat_view h = record {
 }
 
 -- what a step that took one user off an active word owes to those who sleep there: a wake, where one of them
--- may wait for what the word that it found is without that user
+-- may wait for the word that is left without that user
 pub record Owed : Type 0 where
   pub slot : ℕ
   pub found : ℕ
@@ -188,6 +188,6 @@ owed h = record { slot = h.key.slot; found = h.found }
 abbrev pub FoundThere : Handle → ℕ → Type 0
 FoundThere h found = WasFound (seat_view h) (active_index h.key.slot) found
 
--- and its hold word
+-- once, while the rule held and this seat was as told, the hold word of its slot was as found
 abbrev pub FoundInHold : Handle → ℕ → Type 0
 FoundInHold h found = WasFound (seat_view h) (hold_index h.key.slot) found

@@ -36,7 +36,7 @@ OfTheMaster Law =
 abbrev pub Moves : MasterView → List CallerView → ℕ → CallerView → Event → Type 0
 Moves m cs j c' event = BareStep (bare m cs) event (bare m (slice_set cs j c'))
 
--- a new view of the Master does
+-- a new view of the Master makes this event of the world
 abbrev pub Changes : MasterView → List CallerView → MasterView → Event → Type 0
 Changes m cs m' event = BareStep (bare m cs) event (bare m' cs)
 
@@ -63,7 +63,7 @@ PartIsPart = OfEachCaller
     (λ words m cs j c. IsIn Drained c → has_linked (hold_word words c.key.slot) ≡ false
     → Moves m cs j (after_part (hold_word words c.key.slot) c) (Part j))
 
--- the end of a call is a Leave, and so on: each at any word that it finds
+-- the end of a call is a Leave, at any word that the step finds
 abbrev pub LeaveIsLeave : Type 0
 LeaveIsLeave =
     OfEachCaller (λ words m cs j c. HasReference c → (found : ℕ)
@@ -112,7 +112,7 @@ MissIsNothing = OfEachCaller
     × (has_hide found ≡ true → bare m (slice_set cs j (after_hide found c)) ≡ bare m cs)
     × (is_unused found ≡ false → bare m (slice_set cs j (after_look_hidden found c)) ≡ bare m cs))
 
--- the bias taken off the active word of a fresh node is a Rise, and the mark of one not doomed a Mark
+-- the bias taken off the active word of a fresh node is a Rise
 abbrev pub RiseIsRise : Type 0
 RiseIsRise = OfTheMaster
     (λ m cs. (key : Key) → marks_of m key ≡ Some fresh_marks
@@ -146,7 +146,7 @@ SplitIsPin = OfTheMaster
     → BareStep (bare m cs) (Pin (length cs) (last_key slot state))
     (bare (after_split m) (cs ++ hold_for m m.pinning ∷ [])))
 
--- so it is of the key of whoever holds the slot
+-- a hold that gets its seat is a Pin also of the key of any caller that holds the slot
 abbrev pub HeldSplitIsPin : Type 0
 HeldSplitIsPin = OfEachCaller (λ words m cs j c. c.phase ≢ Spent → m.pinning ≡ Some c.key.slot
     → BareStep (bare m cs) (Pin (length cs) c.key) (bare (after_split m) (cs ++ hold_for m m.pinning ∷ [])))

@@ -25,8 +25,8 @@ LetsInTheLive = (slots limit : ℕ) (t : State (Unit {0}) View) (shown : Shown s
     → keeps_out (active_word t.words slot)
     ≡ not (is_live (bare shown.master shown.callers) (last_key slot state))
 
--- it has bias exactly where that key is not linked, activated and undoomed, and hide exactly where a caller
--- hides it
+-- a slot's active word has bias exactly where its last key is not linked, activated and undoomed, and hide
+-- exactly where a caller hides that key
 abbrev pub TellsTheHidden : Type 0
 TellsTheHidden = (slots limit : ℕ) (t : State (Unit {0}) View) (shown : Shown slots limit t) (slot : ℕ)
     (state : SlotState) → slice_get shown.master.slots slot ≡ Some state
@@ -41,9 +41,8 @@ HiddenIsRefused = (slots limit : ℕ) (t : State (Unit {0}) View) (shown : Shown
     → (keeps_out (active_word t.words c.key.slot) ≡ true)
     × (c.phase ≡ Hidden → NoneRunning (bare shown.master shown.callers) c.key)
 
--- the step by which a hidden caller shows its key again takes the bit off and leaves the rest, and the word
--- then lets a try in exactly where the key is linked, activated and undoomed, also where it was activated or
--- doomed meanwhile
+-- the step by which a hidden caller shows its key again takes the bit off and leaves the rest. The word then
+-- lets a try in exactly where the key is linked, activated and undoomed, whatever became of it meanwhile
 abbrev pub ShownLetsIn : Type 0
 ShownLetsIn = (slots limit : ℕ) (t : State (Unit {0}) View) (shown : Shown slots limit t) (j : ℕ)
     (c : CallerView) → slice_get shown.callers j ≡ Some c → c.phase ≡ Hidden
@@ -51,7 +50,7 @@ ShownLetsIn = (slots limit : ℕ) (t : State (Unit {0}) View) (shown : Shown slo
     × (keeps_out (active_word t.words c.key.slot - hide)
     ≡ not (are_live (marks (bare shown.master shown.callers) c.key)))
 
--- where it is drained, the key is doomed and nobody has a reference to it
+-- where a slot's active word is drained, its last key is doomed and nobody has a reference to the node
 abbrev pub DrainedIsUnused : Type 0
 DrainedIsUnused = (slots limit : ℕ) (t : State (Unit {0}) View) (shown : Shown slots limit t) (slot : ℕ)
     (state : SlotState) → slice_get shown.master.slots slot ≡ Some state

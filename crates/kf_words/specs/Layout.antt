@@ -8,7 +8,7 @@ use Rattle.std.specs.List.{repeat}
 abbrev pub line_words : ℕ
 line_words = 8
 
--- where a slot's words stand
+-- where the active word of a slot stands: first in its line
 abbrev pub active_index : ℕ → ℕ
 active_index slot = slot * line_words
 
@@ -32,8 +32,8 @@ active_word words slot = slice_index words (active_index slot)
 abbrev pub hold_word : List ℕ → ℕ → ℕ
 hold_word words slot = slice_index words (hold_index slot)
 
--- in an active word, above the number of its users: the bit of a node that is not at once linked, activated
--- and undoomed, the bit of a doomed node, and the bit of a hidden key
+-- in an active word, above the number of its users, the bit of a node that is not at once linked, activated
+-- and undoomed
 abbrev pub bias : ℕ
 bias = 4294967296
 
@@ -53,7 +53,7 @@ linked = 2147483648
 abbrev pub one_generation : ℕ
 one_generation = 4294967296
 
--- b where it is set
+-- b where it is set, else 0
 abbrev pub bit : Bool → ℕ → ℕ
 bit true b = b
 bit false b = 0

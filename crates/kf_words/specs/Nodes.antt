@@ -54,7 +54,7 @@ FoundFree m slot = Found IsFree m slot
 abbrev pub FoundRoom : MasterView → ℕ → Type 0
 FoundRoom m slot = Found (HasRoom m.limit) m slot
 
--- what a load found with room still counts as found
+-- where a load found room for one hold more, that still counts as found
 abbrev pub KeepsRooms : MasterView → MasterView → Type 0
 KeepsRooms m m' = (slot : ℕ) → FoundRoom m slot → FoundRoom m' slot
 
@@ -162,7 +162,8 @@ abbrev pub IsLastKey : MasterView → Key → Type 0
 IsLastKey m key =
     option_map (λ (state : SlotState). state.generation) (slice_get m.slots key.slot) ≡ Some key.generation
 
--- before any step where the key is not the last of its slot, and else as a pin is
+-- a pin of a held key is refused before any step where the key is not the last of its slot, and else as a pin
+-- is
 abbrev pub HeldPinRefused : MasterView → Key → Refusal → MasterView → Type 0
 HeldPinRefused m key NoEntry m' = (¬ IsLastKey m key) × (m' ≡ m)
 HeldPinRefused m key TooManyHolds m' = IsLastKey m key × WasFull m key.slot m'

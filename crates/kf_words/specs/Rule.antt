@@ -55,7 +55,7 @@ pins_in None slot = 0
 pins_in (Some s) slot = bit (s == slot) 1
 
 -- the active word has so many users, bias unless the node has the marks of a live one, doom where a linked
--- node is doomed, and hide where a caller hides the key, who is the only one
+-- node is doomed, and hide where a caller hides the key. At most one caller hides it
 abbrev pub ShowsMarks : ℕ → Option Marks → ℕ → ℕ → Type 0
 ShowsMarks word marks n h = (d : Bool) × (word ≡ n + bit (not (are_live marks)) bias + bit d doom + h * hide)
     × (IsTrue (is_some marks) → d ≡ are_doomed marks) × (h ≤ 1)

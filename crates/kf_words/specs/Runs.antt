@@ -38,19 +38,20 @@ abbrev pub OverRuns : (ℕ → ℕ → Table → Table → Type 0) → Type 0
 OverRuns Law = (slots limit : ℕ) (t u : Table) (kinds : List Kind) → Shown slots limit t → WordRun t kinds u
     → Law slots limit t u
 
--- the table at its end meets the rule
+-- the table at the end of a run meets the rule
 abbrev pub RuleKept : Type 0
 RuleKept = OverRuns (λ slots limit t u. Shown slots limit u)
 
--- the worlds make a run of events
+-- each run of steps is a run of events between the worlds that its tables name
 abbrev pub RunIsRun : Type 0
 RunIsRun = OverRuns (λ slots limit t u. (events : List Event) × BareRun (world t) events (world u))
 
--- the world at its end is safe
+-- the world at the end of a run is safe
 abbrev pub RunIsSafe : Type 0
 RunIsSafe = OverRuns (λ slots limit t u. Safe (world u))
 
--- who is drained or parted on a key at its start has nobody running on it, at its end
+-- where a caller is drained or parted on a key at the start of a run, nobody is running on that key at its
+-- end
 abbrev pub DrainedForGood : Type 0
 DrainedForGood = OverRuns (λ slots limit t u. (c : ℕ) (key : Key) (phase : Phase)
     → IsCaller (world t) c key phase → IsTrue (saw_drain phase) → NoneRunning (world u) key)
@@ -60,30 +61,29 @@ abbrev pub TryIsRefused : Table → Key → Type 0
 TryIsRefused u key = (j : ℕ) (phase : Phase) (v : Table)
     → IsCaller (world u) j key phase → WordStep u (tries j) v → IsCaller (world v) j key Turned
 
--- a key that is linked and doomed at its start is not live at its end, and a try there is refused
+-- a key that is linked and doomed at the start of a run is not live at its end, and a try there is refused
 abbrev pub MarkedKeepsOut : Type 0
 MarkedKeepsOut = OverRuns (λ slots limit t u. (key : Key) → IsTrue (is_linked (world t) key)
     → IsTrue (is_doomed (world t) key) → IsFalse (is_live (world u) key) × TryIsRefused u key)
 
--- while a caller hides a key, at its end, a try there is refused, and once it is hidden nobody is running
--- there
+-- while a caller hides a key, a try there is refused, and once it is hidden nobody is running there
 abbrev pub HiddenKeepsOut : Type 0
 HiddenKeepsOut = OverRuns (λ slots limit t u. (c : ℕ) (key : Key) (phase : Phase)
     → IsCaller (world u) c key phase → IsTrue (is_hiding phase) → TryIsRefused u key
     × (phase ≡ Hidden → NoneRunning (world u) key))
 
--- a key whose slot has a later generation at its start has nobody on it but spent callers, at its end
+-- a key whose slot has a later generation at the start of a run has nobody on it but spent callers at its end
 abbrev pub PassedForGood : Type 0
 PassedForGood = OverRuns (λ slots limit t u. (key : Key) (generation : ℕ)
     → IsLast (world t) key.slot generation → key.generation < generation → NoneHolding (world u) key)
 
--- a birth after it finds only spent callers on its slot
+-- a birth after a run finds only spent callers on its slot
 abbrev pub BornUnheld : Type 0
 BornUnheld =
     OverRuns (λ slots limit t u. (slot : ℕ) (v : Table) → WordStep u (births slot) v
     → OnlySpent (world u) slot)
 
--- a try after it lets a caller run only where its key is live
+-- a try after a run lets a caller run only where its key is live
 abbrev pub LetInLive : Type 0
 LetInLive = OverRuns (λ slots limit t u. (j : ℕ) (key : Key) (v : Table)
     → WordStep u (tries j) v → IsCaller (world v) j key Running → is_live (world u) key ≡ true)
@@ -101,7 +101,7 @@ pub record WasLetIn (t : Table) (kinds : List Kind) (u : Table) (c : ℕ) (key :
   pub run_later : WordRun left later u
   pub all : kinds ≡ before ++ tries c ∷ later
 
--- who runs at its end ran at its start, or was let in while its key was live
+-- a caller that runs at the end of a run ran at its start, or was let in while its key was live
 abbrev pub TakenLive : Type 0
 TakenLive = (slots limit : ℕ) (t u : Table) (kinds : List Kind) → Shown slots limit t → WordRun t kinds u
     → (c : ℕ) (key : Key) → IsCaller (world u) c key Running → IsCaller (world t) c key Running

@@ -83,7 +83,7 @@ after_undo c = after_step c.phase false c.found c
 abbrev pub after_leave : ℕ → CallerView → CallerView
 after_leave found c = after_step Still false found c
 
--- a reference given up inside its call, and one taken again
+-- the caller's view after it gave its reference up inside its call
 abbrev pub after_break : ℕ → CallerView → CallerView
 after_break found c = after_step Broken false found c
 
@@ -97,17 +97,19 @@ abbrev pub after_look : ℕ → CallerView → CallerView
 after_look found c =
     if is_drained found then after_step Drained false found c else after_step c.phase c.undo_due found c
 
--- a caller hides its key, where nobody does yet
+-- the caller's view after it set the bit of a hidden key: Hiding where that was clear, and else in its phase
+-- of before
 abbrev pub after_hide : ℕ → CallerView → CallerView
 after_hide found c =
     if has_hide found then after_step c.phase c.undo_due found c else after_step Hiding false found c
 
--- it sees that nobody uses the node
+-- the hider's view after a load of the active word: Hidden where nobody uses the node, and else in its phase
+-- of before
 abbrev pub after_look_hidden : ℕ → CallerView → CallerView
 after_look_hidden found c =
     if is_unused found then after_step Hidden false found c else after_step c.phase c.undo_due found c
 
--- it shows its key again
+-- the hider's view after it showed its key again
 abbrev pub after_show : ℕ → CallerView → CallerView
 after_show found c = after_step Still false found c
 
@@ -133,7 +135,8 @@ no_state = record { generation = 0; marks = None }
 abbrev pub state_at : MasterView → ℕ → SlotState
 state_at m slot = slice_index_or m.slots slot no_state
 
--- a step of the Master on an active word, and one on a hold word that is no load
+-- the Master's view after a step that leaves its loads standing: the word that its last step stored, or
+-- looked at, counts no more
 abbrev pub on_active : MasterView → MasterView
 on_active m = record m { fresh = None; looked = None }
 
@@ -162,7 +165,7 @@ doomed_marks m = record { activated = m.activated; doomed = true }
 abbrev pub with_load : ℕ → ℕ → MasterView → MasterView
 with_load slot found m = record (on_active m) { loads = m.loads ++ record { slot = slot; word = found } ∷ [] }
 
--- one hold more, which no seat has yet; and the same taken back
+-- the Master's view after it counted one hold more, which no seat has yet
 abbrev pub with_pin : ℕ → MasterView → MasterView
 with_pin slot m = record (on_hold m) { pinning = Some slot }
 
@@ -183,7 +186,7 @@ abbrev pub hold_for : MasterView → Option ℕ → CallerView
 hold_for m None = no_caller
 hold_for m (Some slot) = new_hold (last_key slot (state_at m slot))
 
--- the active word of a slot that is to be given is as new
+-- the Master's view after it stored a new active word in this slot, where a node is to be born
 abbrev pub after_store : ℕ → MasterView → MasterView
 after_store slot m = record (on_active m) { fresh = Some slot }
 
@@ -219,7 +222,7 @@ CallerBecomes after st me found me' = me' ≡ (seat.Caller (after found (caller_
 abbrev pub ShowsKey : Step (Unit {0}) → Seated → ℕ → Seated → Type 0
 ShowsKey st me found me' = CallerBecomes after_show st me found me' × (has_hide found ≡ true)
 
--- and its Master, whose view changes by the slot of the word
+-- what a step tells the Master: the view is that of before, changed in this way at the slot of the word
 abbrev pub MasterBecomes : (ℕ → ℕ → MasterView → MasterView) → Step (Unit {0}) → Seated → ℕ → Seated → Type 0
 MasterBecomes after st me found me' =
     me' ≡ (seat.Master (after (slot_of st.word) found (master_of me.0)), me.1)

@@ -63,7 +63,7 @@ pub data Kind : Type 0 where
   looks_over : ℕ → Kind
   unlinks : ℕ → ℕ → Kind
 
--- what a step makes of a word: arithmetic wraps round in 64 bits
+-- the word with k added, which wraps round in 64 bits
 abbrev pub plus : ℕ → ℕ → ℕ
 plus k n = (n + k) % 2 ^ 64
 
@@ -135,7 +135,7 @@ abbrev pub IsDrainedOn : Table → ℕ → ℕ → Type 0
 IsDrainedOn t slot j = (c : CallerView) × IsSeated t j c × (c.key.slot ≡ slot) × (c.phase ≡ Drained)
     × (is_some (marks_of (master_in t.views) c.key) ≡ true)
 
--- what the Master's view must say of the slot for each of its steps
+-- a load that still counts found room in this slot, and no hold waits for its seat
 abbrev pub SeesRoom : ℕ → MasterView → Type 0
 SeesRoom slot m = (slot < length m.slots) × (m.pinning ≡ None) × FoundRoom m slot
 

@@ -9,8 +9,8 @@ ghost use Rattle.kf_words.specs.Runs.{OpensWell, RuleKept, RunIsRun, RunIsSafe, 
 ///
 /// The world of the seats is safe: nobody is running on a key on which another saw the drain, and who holds a
 /// slot holds its last generation. A try is let in exactly where the last key of the slot is live, and
-/// refused while a caller hides the key; once that caller saw nobody there, nobody is running there, and
-/// after the step by which it shows the key again the word lets a try in exactly where the key is linked,
+/// refused while a caller hides the key. Once that caller saw nobody there, nobody is running there. After
+/// the step by which it shows the key again, the word lets a try in exactly where the key is linked,
 /// activated and undoomed. Where the active word is drained, the key is doomed and nobody has a reference to
 /// it. Where the hold word is free, no node is linked in the slot and nobody holds it, and a hold word has
 /// the bit of a linked node exactly where one is linked.
@@ -34,9 +34,9 @@ pub fn words_tell()
 /// Part. The bit of a hidden key set where it was clear is a Hide, a load by a hider that finds nobody a
 /// LookHidden, and the bit taken off a Show. Any other such step leaves the world as it is. The ends of
 /// calls, protection broken and restored, and holds given back are Leave, Break, Restore and Release. Of the
-/// Master, a birth is a Born of the slot's next key, activation and mark are a Rise and a Mark, a node taken
-/// out is an Unlink of any drained caller of it, and a hold that gets its seat is a Pin of a new caller, on a
-/// linked key or one that somebody holds. Its other steps leave the world as it is.
+/// Master, a birth is a Born of the slot's next key, activation and mark are a Rise and a Mark. A node taken
+/// out is an Unlink of any drained caller of it. A hold that gets its seat is a Pin of a new caller, on a
+/// linked key or one that somebody holds. The Master's other steps leave the world as it is.
 pub fn words_step()
     ensures try_is_enter { TryIsEnter }
     ensures undo_is_undo { UndoIsUndo }

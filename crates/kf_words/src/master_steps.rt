@@ -167,7 +167,7 @@ impl MasterSeat {
         self.table.shared.load::<LooksOver>(&mut token.seat, word)
     }
 
-    /// Takes the node of a slot out, whose active word the last step found drained.
+    /// Takes out the node of a slot whose active word the last step found drained.
     pub(crate) fn unlink(&mut self, slot: u32)
         requires marks { (x : Marks) × HasMarks (master_view self.old) slot x }
         requires drained { HasLooked (master_view self.old) slot }

@@ -13,11 +13,11 @@ use crate::wake_due::WakeDue;
 use kf_core::Phase;
 
 impl Hold {
-    /// As `enter`, and beside a hold that comes back what the second of its two steps owes.
+    /// As `enter`. Beside a hold that comes back stands the wake that the second of its two steps owes.
     ///
     /// It counts itself first and looks at the word that this very step found. To look first would leave a
-    /// gap in which a mark and a whole drain fit; so a try that fails has been counted for a moment, and who
-    /// waits for the drain may have seen it: hence the wake that its undoing owes.
+    /// gap in which a mark and a whole drain fit. So a try that fails has been counted for a moment, and a
+    /// caller that waits for the drain may have seen it: hence the wake that its undoing owes.
     pub fn enter_quiet(self) -> Result<Call, (Hold, WakeDue)>
         ensures same { MatchResult result (λ call. IsSameSeat self call) (λ back. IsSameSeat self back.0) }
         ensures call { IfOk result (λ call. Entered self call) }
@@ -42,7 +42,7 @@ impl Hold {
 }
 
 impl Call {
-    /// As `leave`, and what its step owes.
+    /// As `leave`, and answers also the wake that its step owes.
     ///
     /// Condition: Running or Restored.
     pub fn leave_quiet(self) -> (Hold, WakeDue)
@@ -57,7 +57,7 @@ impl Call {
         (Hold { seat: seat.moved() }, due)
     }
 
-    /// As `break_protection`, and what its step owes.
+    /// As `break_protection`, and answers the wake that its step owes.
     ///
     /// Condition: Running.
     pub fn break_quiet(&mut self) -> WakeDue

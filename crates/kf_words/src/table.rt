@@ -3,8 +3,8 @@ use crate::view::View;
 use atomic_table::{Table, TableRule};
 use std::alloc::Global;
 
-/// How the table begins: so many slots, each with the last generation `start` and no node,
-/// but for the root's, which has a live node of the next generation.
+/// How the table begins: so many slots, each with at most so many holds, the last generation `start` and no
+/// node. The root's slot alone has a node, which is live and of the next generation.
 #[derive(Clone, Copy)]
 pub struct Opening {
     pub holds: u32,

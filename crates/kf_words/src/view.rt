@@ -3,15 +3,17 @@
 use kf_core::{Key, Phase, SlotState};
 use std::collections::LinkedList;
 
-/// A caller's seat: its key and phase, how many word steps it has made and how many of them were tries, the
-/// word that the last of them found (the second step of a refused try left out), and whether that second step
-/// is still due.
+/// A caller's seat.
 pub struct CallerView {
     pub key: Key,
     pub phase: Phase,
+    /// How many word steps it has made.
     pub steps: u64,
+    /// How many of them were tries.
     pub tries: u64,
+    /// The word that its last step found, the second step of a refused try left out.
     pub found: u64,
+    /// Whether that second step is still due.
     pub undo_due: bool,
 }
 
@@ -35,7 +37,7 @@ pub struct MasterView {
     pub fresh: Option<u32>,
     /// Its loads of hold words since its last other step on one.
     pub loads: LinkedList<Load>,
-    /// Those that stood at the last birth.
+    /// Its loads of hold words that counted at its last birth.
     pub at_birth: LinkedList<Load>,
     /// The load of an active word, where that was its last step.
     pub looked: Option<Load>,

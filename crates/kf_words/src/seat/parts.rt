@@ -103,7 +103,7 @@ impl CallerSeat {
     }
 }
 
-/// The kind, tag and target of a node. What a node has not is told by the key.
+/// The kind, tag and target of a node. A node without a tag gets 0, and one without a target gets the key.
 fn parts_of(node: Node, key: Key) -> (Kind, u64, Key)
     ensures { node_of result.0 result.1 result.2 ≡ node }
 {

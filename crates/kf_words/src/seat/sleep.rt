@@ -1,10 +1,10 @@
 //! Sleeping on the active word of a seat's slot, and the wake of those who do.
 //!
-//! A step that takes the last user off a word makes no system call where nobody sleeps, and no wake is
-//! lost. Who goes to sleep (1) adds itself to the slot's count of sleepers, and (2) has the kernel compare
-//! the users of the active word with those that it saw, one or more, and queue it, in one step. Who takes a
-//! user off (3) changes the active word, (4) loads the count, and (5) wakes all where that is not zero.
-//! Each is sequentially consistent; the kernel's compare stands behind a full barrier.
+//! A step that takes the last user off a word makes no system call where nobody sleeps, and no wake is lost.
+//! A seat that goes to sleep (1) adds itself to the slot's count of sleepers. Then it (2) has the kernel, in
+//! one step, compare the users of the active word with those that it saw, one or more, and queue it. A seat
+//! that takes a user off (3) changes the active word, (4) loads the count, and (5) wakes all where that is
+//! not zero. Each is sequentially consistent; the kernel's compare stands behind a full barrier.
 //!
 //! A sleeper waits for the step that leaves the word with no user. That step's (3) comes after the
 //! sleeper's (2), which found users; so its (4) comes after (1) and finds the sleeper counted, and its (5)
@@ -65,7 +65,7 @@ impl CallerSeat {
         self.awake();
     }
 
-    /// The same for a millisecond at most, and counted by nobody: it ends by itself.
+    /// As `park`, for a millisecond at most. It is not counted among the sleepers, since it ends by itself.
     fn nap<R: Wait>(&self, rt: &R, seen: u64) {
         let word = self.active_index();
         let users = (seen & USERS) as u32;
@@ -74,9 +74,9 @@ impl CallerSeat {
             .park_timeout(rt, word, users, Duration::from_millis(1));
     }
 
-    /// Sleeps while the word has as many users as `seen`. Where the node is doomed the last of them wakes all
-    /// sleepers. The mark wakes nobody and changes none of the bits that a sleep compares when it begins, so
-    /// before it, and with no user there, a sleep ends by itself.
+    /// Sleeps while the word has as many users as `seen`. Where the node is doomed, the last user to go wakes
+    /// all sleepers. The mark wakes nobody, and changes none of the bits that a sleep compares when it
+    /// begins. So before the mark, or where there is no user, the sleep ends by itself within a millisecond.
     pub(crate) fn rest<R: Wait>(&mut self, rt: &R, seen: u64)
         ensures { handle_of self.new ≡ handle_of self.old }
     {
