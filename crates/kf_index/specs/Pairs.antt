@@ -1,4 +1,4 @@
--- The vector of an index: pairs of a name and its key.
+-- The entries of an index as a list: pairs of a name and its key.
 use Rattle.std.specs.Prelude.{◌≡◌, ℕ, ◌<◌, ◌≤◌, List, length, slice_index_or, Option, AllPairs}
 use Rattle.kf_core.specs.declared.key.Key.{Key}
 use Rattle.kf_core.specs.Names.{IsBefore}

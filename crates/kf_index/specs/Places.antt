@@ -36,6 +36,6 @@ pub record AreInOrder (entries : Places) (order : List ℕ) (len : ℕ) : Type 0
   pub few : len ≤ length order
   pub taken : AreTaken entries (take len order)
 
--- memory for this many entries is no more than so many of them may keep
+-- so many entries keep no more memory than this: room for four times as many, and three more
 abbrev pub IsFitting : ℕ → ℕ → Type 0
 IsFitting len capacity = capacity ≤ 4 * len + 3

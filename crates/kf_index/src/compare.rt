@@ -46,8 +46,8 @@ fn by_bytes(a: &[u8], b: &[u8]) -> Ordering
     a.len().cmp(&b.len())
 }
 
-/// The same for texts that both have so many bytes, of four to eight: the first four, and the last four of
-/// those.
+/// The same for texts of which the shorter has `both` bytes, four to eight: by the first four of them, then
+/// by the last four.
 #[inline(always)]
 fn by_halves(a: &[u8], b: &[u8], both: usize) -> Ordering
     requires both { both ≡ min (length a.now) (length b.now) }
@@ -66,8 +66,8 @@ fn by_halves(a: &[u8], b: &[u8], both: usize) -> Ordering
     a.len().cmp(&b.len())
 }
 
-/// The same for texts that both have so many bytes, eight or more: eight at a time, and the last eight of
-/// those.
+/// The same for texts of which the shorter has `both` bytes, eight or more: by eight of them at a time, then
+/// by the last eight.
 #[inline(always)]
 fn by_words(a: &[u8], b: &[u8], both: usize) -> Ordering
     requires both { both ≡ min (length a.now) (length b.now) }

@@ -92,10 +92,11 @@ impl Index {
         self.entries.room()
     }
 
-    /// Adds an entry (`kernfs_link_sibling`). Refuses `Exists` where the name is there, then
-    /// `NoMemory` where the growth by one entry wants memory. After a refusal all is as before, and
-    /// the name is dropped. So a caller that makes it the last growth of a command has nothing to undo.
-    /// It asks for fewer entries than four bytes can number, for that is what a place takes.
+    /// Adds an entry (`kernfs_link_sibling`). Refuses `Exists` where the name is there, then `NoMemory` where
+    /// the growth by one entry wants memory. After a refusal all is as before, and the name is dropped. So a
+    /// caller that makes it the last growth of a command has nothing to undo.
+    ///
+    /// Condition: there are fewer than 2^32 entries, since the number of a place takes four bytes.
     pub fn insert(&mut self, name: Name, key: Key) -> Result<(), Refusal>
         requires few { map.len self.old < 2 ^ 32 }
         ensures added { OnOk result (self.new ≡ map.insert self.old name key) }
