@@ -84,7 +84,7 @@ abbrev pub is_slot_of : ℕ → Option Key → Bool
 is_slot_of slot None = false
 is_slot_of slot (Some parent) = parent.slot == slot
 
--- whether there is a directory whose parent is in this slot
+-- whether there is a record of a directory, whose parent is in this slot
 abbrev pub is_subdir_in : ℕ → Option Record → Bool
 is_subdir_in slot None = false
 is_subdir_in slot (Some r) = is_slot_of slot r.parent && is_dir r.node

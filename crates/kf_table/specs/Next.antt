@@ -15,7 +15,7 @@ abbrev pub above : Option (List ℕ) → List ℕ → Bool
 above None name = true
 above (Some bound) name = before bound name
 
--- a child above the bound, and none that is above it stands before
+-- a child of the directory above the bound, and no child above the bound stands before it
 pub record IsNext (t : Tree) (dir : Key) (bound : Option (List ℕ)) (c : Record) : Type 0 where
   pub is_in : IsIn t c
   pub parent : c.parent ≡ Some dir

@@ -11,7 +11,7 @@ use kf_core::{Key, Record, Refusal};
 use kf_index::{Index, Listed, Name};
 use std::alloc::Global;
 
-/// So many children a large directory has.
+/// A directory with so many children is large.
 const LARGE: usize = 64;
 
 /// The index of a directory's children, and how many of them are directories.

@@ -75,7 +75,7 @@ impl Hints {
         }
     }
 
-    /// From now on that is the slot of this child, where its directory is a large one.
+    /// From now on this is the slot that `get` answers for this name, where its directory is a large one.
     pub(crate) fn put(&mut self, directories: &[Directory], dir: u32, name: &[u8], slot: u32) {
         let Some(kept) = directories.get(dir as usize) else {
             return;
