@@ -78,7 +78,7 @@ create_cause t root parent name node next = first_cause (
     ∷ unless (is_some next) NoSpace
     ∷ [])
 
--- of an activation, and of a post-order
+-- why an activation, a post-order or a path is refused: the key is not linked
 abbrev pub linked_cause : Tree → Key → Option Refusal
 linked_cause t key = unless (is_linked t key) NoEntry
 
@@ -89,14 +89,15 @@ doom_cause t root key = first_cause (
     ∷ unless (not (same_key key root)) Invalid
     ∷ [])
 
--- of a key that is linked; the unlink of another is no refusal
+-- why the unlink of a linked key is refused: it is not doomed, or has a child. The unlink of another key is
+-- no refusal
 abbrev pub unlink_cause : Tree → Key → Option Refusal
 unlink_cause t key = first_cause (
     unless (doomed_in t key) Invalid
     ∷ unless (not (has_child t key)) Busy
     ∷ [])
 
--- of a file that is not hidden
+-- why a hiding is refused: the key is not linked, is a directory or a link, is doomed, or is hidden already
 abbrev pub hide_cause : Tree → Key → Option Refusal
 hide_cause t key = first_cause (
     unless (is_linked t key) NoEntry
@@ -106,7 +107,7 @@ hide_cause t key = first_cause (
     ∷ unless (not (hidden_in t key)) Busy
     ∷ [])
 
--- the causes that come before the question whether the record is there already
+-- why a rename is refused, before the question whether the record is there already under that name
 abbrev pub early_rename_cause : Tree → Key → Key → Key → List ℕ → Option Refusal
 early_rename_cause t root key dir name = first_cause (
     unless (not (same_key key root)) Invalid
@@ -118,14 +119,15 @@ early_rename_cause t root key dir name = first_cause (
     ∷ unless (live_in t dir) NoEntry
     ∷ [])
 
--- those that come after it
+-- why a rename is refused, after that question: the directory is in the record's own subtree, or the name is
+-- taken
 abbrev pub late_rename_cause : Tree → Key → Key → List ℕ → Option Refusal
 late_rename_cause t key dir name = first_cause (
     unless (not (in_subtree t key dir)) Invalid
     ∷ unless (not (has_entry t dir name)) Exists
     ∷ [])
 
--- a record that is there already stays, and that is no refusal
+-- why a rename is refused. A record that is there already stays, and that is no refusal
 abbrev pub rename_cause : Tree → Key → Key → Key → List ℕ → Option Refusal
 rename_cause t root key dir name = first_cause (
     early_rename_cause t root key dir name

@@ -12,7 +12,7 @@ abbrev pub AreLater : Tree → Key → List (List ℕ × Key) → Type 0
 AreLater t key later = (r : Record) (dir : Key) → record_at t key ≡ Some r → r.parent ≡ Some dir
     → AreNext t dir (Some r.name) later
 
--- a leaf of the subtree, and what stands apart before it is what stands apart before the whole subtree
+-- the first leaf of the subtree: what stands apart before it is what stands apart before the whole subtree
 pub record IsFirstBelow (t : Tree) (top first : Key) : Type 0 where
   pub linked : IsTrue (is_linked t first)
   pub below : IsTrue (in_subtree t top first)

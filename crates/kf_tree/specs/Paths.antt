@@ -43,7 +43,7 @@ abbrev pub is_empty : List ℕ → Bool
 is_empty [] = true
 is_empty (byte ∷ bytes) = false
 
--- what stands between the slashes; nothing has no parts
+-- the parts of a text, which stand between its slashes; an empty text has no parts
 abbrev pub parts : List ℕ → List (List ℕ)
 parts [] = []
 parts (byte ∷ bytes) = slice_split is_slash (byte ∷ bytes)
@@ -95,7 +95,7 @@ but_last (name ∷ names) =
     if list_any is_empty (front (name ∷ names)) then None else Some
     (front (name ∷ names), final (name ∷ names))
 
--- those of a path; `/` has no last name
+-- the names of a path before the last, and the last; `/` has no last name
 abbrev pub parent_names : List ℕ → Option (List (List ℕ) × List ℕ)
 parent_names path = option_and_then (λ bytes. but_last (parts bytes)) (after_slash path)
 

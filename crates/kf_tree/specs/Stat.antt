@@ -5,7 +5,7 @@ use Rattle.kf_core.specs.Tree.{Tree, is_dir}
 use Rattle.kf_table.specs.Children.{subdirs}
 use Rattle.kf_tree.specs.declared.stat.Stat.{Stat}
 
--- a file or link has no child directories, and one link
+-- what is told of a record: a file or link has no child directories, and one link
 abbrev pub stat_of : Tree → Record → Stat
 stat_of t r = record {
   node = r.node;

@@ -21,7 +21,7 @@ fn target_of(node: &Node) -> Option<Key>
     }
 }
 
-/// The link's target is not linked, or is the root.
+/// What is wrong with a link's target: it is not linked, or is the root.
 fn target_fault(table: &Table, root: Key, target: Option<Key>) -> Option<Refusal>
     ensures first { result ≡ target_fault table.now root target }
 {
@@ -111,7 +111,7 @@ pub(crate) fn check_unlink(table: &Table, key: Key) -> Result<bool, Refusal>
     Ok(true)
 }
 
-/// Why a key is not there.
+/// Refuses a key that is not linked.
 pub(crate) fn check_linked(table: &Table, key: Key) -> Result<(), Refusal>
     ensures checked { MatchResult result (λ _. linked_cause table.now key ≡ None)
         (λ cause. linked_cause table.now key ≡ Some cause) }

@@ -64,7 +64,7 @@ fn ways_up(
     Ok((from, to))
 }
 
-/// The key above the one that has so many others above it on a way up.
+/// On a way up, the key just above the one that stands `depth` steps below its end.
 fn key_above(way: &[Key], depth: usize) -> Key
     requires some { 0 < depth }
     requires within { depth < length way.now }
