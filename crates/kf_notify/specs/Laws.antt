@@ -46,7 +46,7 @@ abbrev pub OpensWell : Type 0
 OpensWell = (slots start : ℕ)
     → Shown slots start (opening (replicate (max slots 1) start) [] (opened start))
 
--- and each run of steps keeps it
+-- each run of steps keeps the rule
 abbrev pub RuleKept : Type 0
 RuleKept = (slots start : ℕ) (t : Table) (kinds : List Kind) (t' : Table)
     → Shown slots start t → NumberRun slots t kinds t' → Shown slots start t'

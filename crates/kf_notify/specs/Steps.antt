@@ -31,11 +31,11 @@ pub record WasFound (v : View) (slot found : ℕ) : Type 0 where
   pub within : slot < slots
   pub as_found : number_at table slot ≡ found
 
--- a load finds no less than what the seat knows of that slot
+-- what a load tells: it found no less than what the seat knows of that slot
 abbrev pub MakesLoad : Step (Unit {0}) → Seated → ℕ → Seated → Type 0
 MakesLoad st me found me' = (me' ≡ (loaded st.word found me.0, me.1)) × (me.0.start ≤ found)
     × (me.0.slot ≡ st.word → me.0.known ≤ found) × WasFound me.0 st.word found
 
--- a raise is made on the seat's own slot, and what the seat knows after it
+-- what a raise tells: that it is on the seat's own slot, and what the seat knows after it
 abbrev pub MakesRaise : Step (Unit {0}) → Seated → ℕ → Seated → Type 0
 MakesRaise st me found me' = (st.word ≡ me.0.slot) × (me' ≡ (raised st.first me.0, me.1))

@@ -16,9 +16,9 @@ pub fn numbers_tell()
 /// What holds over every run of steps of any number of posts and handles, in any order. It does nothing.
 ///
 /// The table opens with the rule, and each step keeps it. No slot's number ever goes back, and none is
-/// skipped: each number that a slot's word has reached was made by a raise of that number on that slot. What
-/// it was raised to it keeps at least. So a notify that begins where another of its slot has ended makes a
-/// greater number; only notifies that overlap may make the same.
+/// skipped: each number that a slot's word has reached was made by a raise of that number on that slot. It
+/// never falls below what it was raised to. So a notify that begins where another of its slot has ended makes
+/// a greater number; only notifies that overlap may make the same.
 pub fn numbers_run()
     ensures opens_well { OpensWell }
     ensures rule_kept { RuleKept }
