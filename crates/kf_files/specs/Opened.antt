@@ -5,13 +5,13 @@ use Rattle.kf_core.specs.declared.refusal.Refusal.{Refusal}
 use Rattle.kf_notify.specs.PostStates.{PostState}
 use Rattle.kf_files.specs.Files.{FileState}
 
--- of a file without its event numbers: the hold that it was opened with, its node's tag, and what it keeps
+-- an open file without its event numbers: the hold that it was opened with, its node's tag, and what it keeps
 pub record Held (Hold : Type 0) : Type 0 where
   pub hold : Hold
   pub tag : ℕ
   pub state : FileState
 
--- the same, with its post
+-- an open file: the hold that it was opened with, its post, its node's tag, and what it keeps
 pub record Opened (Hold : Type 0) : Type 0 where
   pub hold : Hold
   pub post : PostState
@@ -54,7 +54,7 @@ abbrev pub paged_refusal : {Hold Page : Type 0}
 paged_refusal (Ok file) = None
 paged_refusal (Err back) = Some back.3
 
--- the hold after it: in the file, or given back
+-- the hold after an open with a page of the caller's: in the file, or given back
 abbrev pub paged_after : {Hold Page : Type 0}
     → Result (Opened Hold) (Hold × PostState × Page × Refusal) → Hold
 paged_after (Ok file) = file.hold

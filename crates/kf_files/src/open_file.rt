@@ -105,7 +105,7 @@ impl<G: Guard, P: PageHolder> OpenFile<G, P> {
 
     /// Reads the text from the offset on, in bytes, into the front of `out`, and answers how many bytes that
     /// are (`kernfs_fop_read_iter`). At offset 0, and where no text is buffered, the text is shown anew under
-    /// a call, after its event number was taken; else it is the buffered text, which needs no live node and
+    /// a call, after its event number was taken. Else it is the buffered text, which needs no live node and
     /// takes no number.
     ///
     /// Condition: the file's hold may try, as it may after `open` and after each call here.

@@ -52,9 +52,9 @@ impl<'a, W: WaitOps<N>, N: Naming, R: Wait> Ops<TreeCall<N>> for Lent<'a, W, N, 
 /// Its page is its own, or one that it was given: a [`BoxedFile`] has a box of the caller's, so none of its
 /// 4,096 bytes is moved. A file that is let go gives its hold back by itself.
 ///
-/// Its contracts are those of [`OpenFile`], where a visit to the node tells the very try that was made: one
-/// that gave a call found the key live, one that did not found a word that keeps it out. Of a callback they
-/// tell what it may answer.
+/// Its contracts are those of [`OpenFile`], and of each visit to the node they tell what the try found: the
+/// key live where it gave a call, and else a word that keeps it out. Of a callback they tell what it may
+/// answer.
 pub struct WaitingFile<N: Naming, P: PageHolder = Page> {
     file: OpenFile<TreeSeats<N>, P>,
     // Two cache lines between files that lie side by side: threads write to files of their own at once.
@@ -148,7 +148,7 @@ impl<N: Naming, P: PageHolder> WaitingFile<N, P> {
 
     /// Reads the text from the offset on, in bytes, into the front of `out`, and answers how many bytes that
     /// are (`kernfs_fop_read_iter`). At offset 0, and where no text is buffered, the text is shown anew under
-    /// a call, after its event number was taken; else it is the buffered text, which needs no live node.
+    /// a call, after its event number was taken. Else it is the buffered text, which needs no live node.
     ///
     /// Refusals, in order: `Access` where the file was not opened for reading, `NoDevice` where the node is
     /// not live; both change nothing. A fault of show is answered as `Callback`, and leaves no text. The rest
@@ -229,7 +229,7 @@ impl<N: Naming, P: PageHolder> WaitingFile<N, P> {
 }
 
 impl<N: Naming, P: PageHolder + Drop> Drop for WaitingFile<N, P> {
-    /// Gives its hold back, as a `?` between open and close does.
+    /// Gives its hold back, also where a `?` leaves between open and close.
     fn drop(self) {
         let WaitingFile { file, apart: _ } = self;
         let (hold, _post, _page) = file.into_parts();
