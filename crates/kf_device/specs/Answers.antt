@@ -29,11 +29,11 @@ MayShow tag answer = ShowsMeant (meaning tag) answer
 abbrev pub TakesAll : (Fault → Type 0) → List ℕ → Result ℕ Fault → Type 0
 TakesAll MayFail bytes answer = MatchResult answer (λ count. count ≡ length bytes) MayFail
 
--- of a value: the bus keeps none, or there was no memory
+-- why a store of a value fails: the bus keeps none, or there was no memory
 abbrev pub ValueFault : Fault → Type 0
 ValueFault fault = (fault ≡ unknown) ⊎ (fault ≡ fault_of NoMemory)
 
--- of `delete`: the fault has the number of the refusal that was met
+-- why a store of `delete` fails: the fault has the number of the refusal that was met
 abbrev pub DeleteFault : Fault → Type 0
 DeleteFault fault = (refusal : Refusal) × (fault ≡ fault_of refusal)
 

@@ -19,7 +19,7 @@ HasBase s s' parent name key =
     ((found s.state.tree parent name ≡ Ok key) × (s' ≡ s))
     ⊎ ((found s.state.tree parent name ≡ Err NoEntry) × Created s s' parent name Dir true key)
 
--- `/devices`, `/bus` and `/bus/devices`
+-- the base directories `/devices`, `/bus` and `/bus/devices`: each was there, or was made live
 pub record HasBases (s s' : Locked) (devices links : Key) : Type 0 where
   pub after_devices : Locked
   pub after_bus : Locked

@@ -52,19 +52,20 @@ abbrev pub BeginsOr : Locked → Locked → List ℕ → List ℕ → Wanted
 BeginsOr s s' path name wanted begun = MatchResult begun (Begins s s' path name wanted)
     (λ refusal. HoldsRefusal refusal × Unchanged s s')
 
--- where devices have their directories, and where their links
+-- where devices have their directories
 abbrev pub devices_path : List ℕ
 devices_path = codes "/devices"
 
+-- where devices have their links
 abbrev pub links_path : List ℕ
 links_path = codes "/bus/devices"
 
--- the link of the device with this directory; of whichever device, where none is given
+-- the link to this directory; whatever has the name, where none is given
 abbrev pub link_wanted : Option Key → Wanted
 link_wanted None = Any
 link_wanted (Some dir) = LinkTo dir
 
--- and its directory
+-- this directory; whatever has the name, where none is given
 abbrev pub dir_wanted : Option Key → Wanted
 dir_wanted None = Any
 dir_wanted (Some dir) = Directory dir

@@ -51,9 +51,10 @@ impl<N: Naming> Bus<N> {
     }
 
     /// Plugs a device (`device_add`). It makes those of `/devices`, `/bus` and `/bus/devices` that are not
-    /// there, in this order, live; then `/devices/NAME` with its files `value` (0o644), `serial` (0o444)
-    /// and `delete` (0o200), which are all activated together; then the live link `/bus/devices/NAME`. All
-    /// that is done in one turn of the tree lock. It answers the key of `/devices/NAME`.
+    /// there, in this order, live. Then it makes `/devices/NAME` with its files `value` (0o644), `serial`
+    /// (0o444) and `delete` (0o200), which are all activated together; then the live link
+    /// `/bus/devices/NAME`. All that is done in one turn of the tree lock. It answers the key of
+    /// `/devices/NAME`.
     ///
     /// Of the value the first 4,096 bytes are kept, and a read shows at most 4,095.
     ///
@@ -96,8 +97,8 @@ impl<N: Naming> Bus<N> {
         settled
     }
 
-    /// How many devices the bus keeps texts of: those that are plugged, and those that went past it since it
-    /// last looked.
+    /// How many devices the bus keeps texts of: those that are plugged, and those that were removed without
+    /// it since it last looked.
     ///
     /// It may never return: it waits for the lock of the bus.
     pub fn kept<R: Wait>(&self, rt: &R) -> usize {

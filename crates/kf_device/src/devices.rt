@@ -133,7 +133,8 @@ impl Devices {
     /// Forgets a device.
     pub(crate) fn forget(&mut self, serial: u64)
         ensures gone { get nat_cmp self.new.devices serial ≡ None }
-        ensures others { (n : ℕ) → n ≢ serial → get nat_cmp self.new.devices n ≡ get nat_cmp self.old.devices n }
+        ensures others { (n : ℕ) → n ≢ serial →
+            get nat_cmp self.new.devices n ≡ get nat_cmp self.old.devices n }
         ensures counted { self.new.begun ≡ self.old.begun }
     {
         if self.devices.remove(&serial).is_some() {

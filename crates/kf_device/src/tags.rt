@@ -13,7 +13,7 @@ pub(crate) enum DeviceFile {
     Delete,
 }
 
-/// A file of the device with this number of its plug.
+/// A file of the device whose plug has this number.
 #[derive(Clone, Copy, Debug, PartialEq, Eq)]
 pub(crate) struct DeviceTag {
     pub(crate) serial: u64,
