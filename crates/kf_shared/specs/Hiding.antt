@@ -15,7 +15,7 @@ use Rattle.kf_words.specs.Callers.{Handle, IsSameSeat, FoundHidden, seat_view}
 use Rattle.kf_words.specs.Runs.{WasAHide, OnlyLookedHidden}
 use Rattle.kf_shared.specs.Locked.{Locked}
 
--- files alone are hidden
+-- why a node of this kind is not hidden: files alone are
 abbrev pub kind_cause : Node → Option Refusal
 kind_cause Dir = Some IsDir
 kind_cause (File mode tag) = None
@@ -25,8 +25,8 @@ kind_cause (Link target) = Some Invalid
 abbrev pub hold_cause : Tree → Handle → Option Refusal
 hold_cause t hold = first_cause (kind_cause hold.node ∷ hide_cause t hold.key ∷ [])
 
--- there was a cause, or no memory, and the hold is as it was; or there was none, and its step found the key
--- hidden by another caller
+-- why a hiding was refused: there was a cause, or no memory, and the hold is as it was; or there was none,
+-- and its step found the key hidden by another caller
 abbrev pub HideRefused : Tree → Handle → Handle → Refusal → Type 0
 HideRefused t hold back refusal =
     (Refuses (hold_cause t hold) refusal × (back ≡ hold))
@@ -46,8 +46,8 @@ HidAndLooked before after = (hid : CallerView) × WasAHide before hid × OnlyLoo
 abbrev pub IsHideRefusal : Refusal → Type 0
 IsHideRefusal why = (why ≡ NoEntry) ⊎ (why ≡ IsDir) ⊎ (why ≡ Invalid) ⊎ (why ≡ Busy) ⊎ (why ≡ NoMemory)
 
--- by the hold's own node, or it is a file and this was said of it: the hold is as it was; or its step found
--- the key hidden by another caller
+-- why a hiding was refused, whatever the tree. The hold is as it was where its node is no file, or where the
+-- tree or want of memory was against it; or its step found the key hidden by another caller
 abbrev pub HidingRefused : Handle → Handle → Refusal → Type 0
 HidingRefused hold back why =
     ((kind_cause hold.node ≡ Some why) × (back ≡ hold))

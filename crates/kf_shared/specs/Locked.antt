@@ -42,8 +42,8 @@ pub record HasFound (m : MasterView) (next : Option Key) (m' : MasterView) : Typ
   pub searched : Searched m (option_map (λ (key : Key). key.slot) next) m'
   pub vacant : IfSome next (λ key. IsVacant m' key)
 
--- the slots from 1 up were loaded until one was found free, and these loads are kept from the birth that came
--- then, which was there
+-- the slots from 1 up were searched, this one was the first found free, and the loads of that search are
+-- those that counted at the last birth
 abbrev pub BornLowest : MasterView → MasterView → ℕ → Type 0
 BornLowest old new slot = (found : MasterView) × FoundFirst old slot found × (new.at_birth ≡ found.loads)
 
@@ -57,8 +57,8 @@ Created old new parent name node live key =
 abbrev pub fault_of : Locked → Key → List ℕ → Node → Option Refusal
 fault_of s parent name node = create_fault s.state.tree s.state.root parent name node
 
--- something was wrong with it, and nothing was searched nor changed; or nothing was, and with the next key
--- that was found there was this cause, or no memory
+-- why a create was refused: something was wrong with the new node, and nothing was searched or changed; or
+-- nothing was, and with the next key that was found there was this cause, or no memory
 abbrev pub CreateRefused : Locked → Locked → Key → List ℕ → Node → Refusal → Type 0
 CreateRefused old new parent name node refusal =
     ((fault_of old parent name node ≡ Some refusal) × (new ≡ old))
@@ -84,8 +84,8 @@ pub record IsHoldOfNode (table : TableId) (t : Tree) (key : Key) (hold : Handle)
   pub still : hold.phase ≡ Still
   pub steps : hold.steps ≡ 0
 
--- the node is not linked, and nothing changed; or one load found as many holds as there may be; or there was
--- no memory
+-- why a hold is refused: the node is not linked, and nothing changed; or one load found as many holds as
+-- there may be; or there was no memory
 abbrev pub HoldRefused : Locked → Locked → Key → Refusal → Type 0
 HoldRefused old new key refusal = MatchBool (is_linked old.state.tree key)
     (PinRefused old.master.view key.slot refusal new.master.view) ((refusal ≡ NoEntry) × (new ≡ old))
@@ -99,7 +99,7 @@ pub record Unchanged (old new : Locked) : Type 0 where
   pub claims : new.claims ≡ old.claims
   pub master : KeepsNodes old.master new.master
 
--- the tree refuses it, and nothing changed; or one load found the word in use
+-- why an unlink is refused: the tree refuses it, and nothing changed; or one load found the word in use
 abbrev pub UnlinkRefused : Locked → Locked → Key → Refusal → Type 0
 UnlinkRefused old new key refusal =
     ((unlink_cause old.state.tree key ≡ Some refusal) × (new ≡ old))

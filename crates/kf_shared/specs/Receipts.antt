@@ -62,7 +62,7 @@ RemovalRefused t root key why = MatchBool (is_linked t key)
     (((why ≡ TooManyHolds) × HasBelow t key) ⊎ (why ≡ NoMemory)))
     (why ≡ NoMemory)
 
--- a node has no room for a hold more, or there was no memory
+-- why holds are refused: a node has no room for a hold more, or there was no memory
 abbrev pub HoldsRefusal : Refusal → Type 0
 HoldsRefusal why = (why ≡ TooManyHolds) ⊎ (why ≡ NoMemory)
 
@@ -77,7 +77,7 @@ SelfRefused s key why = MatchBool (same_key key s.state.root)
 abbrev pub RemovalRefusal : Refusal → Type 0
 RemovalRefusal why = (why ≡ Invalid) ⊎ HoldsRefusal why
 
--- and a self-removal
+-- whatever the tree: why a self-removal is refused
 abbrev pub SelfRemovalRefusal : Refusal → Type 0
 SelfRemovalRefusal why = (why ≡ NoEntry) ⊎ RemovalRefusal why
 

@@ -39,7 +39,8 @@ DoomMarked old new key = MatchBool (is_linked old.state.tree key)
     (IsAccepted old.state new.state (doom_cause old.state.tree old.state.root key) (Doom key))
     (new.state ≡ old.state)
 
--- and in that case no word step is made either
+-- the node and all below it are doomed, and that is stored; where it is no longer linked nothing is changed,
+-- and no word step is made
 abbrev pub DoomDone : Locked → Locked → Key → Type 0
 DoomDone old new key = MatchBool (is_linked old.state.tree key)
     (IsAccepted old.state new.state (doom_cause old.state.tree old.state.root key) (Doom key)) (new ≡ old)
@@ -48,7 +49,7 @@ DoomDone old new key = MatchBool (is_linked old.state.tree key)
 abbrev pub FoundFullIn : Tree → Key → MasterView → Type 0
 FoundFullIn t top m = (key : Key) × (in_subtree t top key ≡ true) × FoundFull m key.slot
 
--- and the node is not the top, of which a hold is at hand
+-- a load found as many holds of a node below the top as there may be; of the top a hold is at hand
 abbrev pub FoundFullBelow : Tree → Key → MasterView → Type 0
 FoundFullBelow t top m = (key : Key) × (key ≢ top) × (in_subtree t top key ≡ true) × FoundFull m key.slot
 
@@ -62,15 +63,16 @@ pub record IsBelow (t : Tree) (top key : Key) : Type 0 where
 abbrev pub FoundRoomBelow : Tree → Key → MasterView → Type 0
 FoundRoomBelow t top m = (key : Key) → IsBelow t top key → FoundRoom m key.slot
 
--- of the node of this slot, where it is below the top
+-- where the node of this slot is below the top, a load found room there for a hold more
 abbrev pub HasRoomIfBelow : Tree → Key → ℕ → MasterView → Type 0
 HasRoomIfBelow t top slot m = (key : Key) → key.slot ≡ slot → IsBelow t top key → FoundRoom m slot
 
--- and of the top too
+-- of the top, and of each linked node below it, a load found room for a hold more
 abbrev pub FoundRoomIn : Tree → Key → MasterView → Type 0
 FoundRoomIn t top m = FoundRoom m top.slot × FoundRoomBelow t top m
 
--- one of the nodes has no room for a hold; or each of them has, and there was no memory
+-- why holds are refused: one of the nodes has no room for a hold; or each of them has, and there was no
+-- memory
 abbrev pub PinsRefused : Type 0 → Type 0 → Refusal → Type 0
 PinsRefused Full Room refusal = ((refusal ≡ TooManyHolds) × Full) ⊎ ((refusal ≡ NoMemory) × Room)
 
@@ -82,7 +84,8 @@ HoldsBelowRefused t top m refusal = PinsRefused (FoundFullBelow t top m) (FoundR
 abbrev pub HoldsInRefused : Tree → Key → MasterView → Refusal → Type 0
 HoldsInRefused t top m refusal = PinsRefused (FoundFullIn t top m) (FoundRoomIn t top m) refusal
 
--- it is the root, and else the holds were refused; where the node is no longer linked there was no memory
+-- why a doom is refused: it is of the root; else the holds were refused; where the node is no longer linked
+-- there was no memory
 abbrev pub DoomRefused : Locked → Locked → Key → Refusal → Type 0
 DoomRefused old new key refusal = MatchBool (is_linked old.state.tree key)
     (MatchBool (same_key key old.state.root)
@@ -90,7 +93,8 @@ DoomRefused old new key refusal = MatchBool (is_linked old.state.tree key)
     (HoldsBelowRefused old.state.tree key new.master.view refusal))
     (refusal ≡ NoMemory)
 
--- it is the root; and else the slot has had a later node, or the holds were refused
+-- why a self-removal is refused: it is of the root; else the slot has had a later node, or the holds were
+-- refused
 abbrev pub SelfRemovalRefused : Locked → Locked → Key → Refusal → Type 0
 SelfRemovalRefused old new key refusal = MatchBool (same_key key old.state.root)
     (refusal ≡ Invalid)

@@ -84,7 +84,8 @@ RemovedForGood = WhileFree
     → IsTrue (saw_drain phase)
     → NoneRunning (world u) key × (are_live (marks_of s.state.tree key) ≡ false))
 
--- and where that receipt was parted, the tree does not have the node
+-- where at the start of the run somebody had a node's receipt that was parted, the tree does not have that
+-- node at its end
 abbrev pub PartedForGood : Type 0
 PartedForGood = WhileFree
     (λ slots limit t u s. (c : ℕ) (key : Key) → IsCaller (world t) c key Parted
@@ -101,7 +102,7 @@ HeldNotGiven =
     OverRuns (λ slots limit t u. (slot : ℕ) (v : Table) → WordStep u (births slot) v
     → OnlySpent (world u) slot)
 
--- so in the slot of a key that somebody holds the tree has no other key
+-- in the slot of a key that somebody holds the tree has no other key
 abbrev pub HeldIsLast : Type 0
 HeldIsLast = WhileFree
     (λ slots limit t u s. (c : ℕ) (key other : Key) (phase : Phase) → IsCaller (world u) c key phase

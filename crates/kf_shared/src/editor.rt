@@ -95,8 +95,8 @@ impl<N: Naming> Editor<'_, N> {
     /// nothing is stored.
     ///
     /// Refusals, in order: Invalid (the root), NoEntry (either is not linked), NameTooLong (over 255 bytes)
-    /// or Invalid (name), NotDir, NoEntry (either is not live); where it is not there already, Invalid (the
-    /// directory is in the node's own subtree), Exists, NoMemory. After a refusal the tree is as before.
+    /// or Invalid (name), NotDir, NoEntry (either is not live). Then, where it is not there already: Invalid
+    /// (the directory is in the node's own subtree), Exists, NoMemory. After a refusal the tree is as before.
     pub fn rename(&mut self, key: Key, dir: Key, name: &[u8]) -> Result<(), Refusal>
         ensures no_cause { IfOk result (λ _. move_cause self.old key dir name.now ≡ None) }
         ensures stays { IfOk result

@@ -23,8 +23,8 @@ impl<N: Naming> SharedTree<N> {
     ///
     /// Refusals, in order, all before the wait: IsDir, Invalid (a link), by the hold's own node; NoEntry (not
     /// linked, or doomed), Busy (hidden), NoMemory. After a refusal the tree is as before, and the hold comes
-    /// back; where it was Busy because the word had the key hidden, and the tree had not, it comes after
-    /// NoMemory and the hold has made one step.
+    /// back. One case differs: somebody hid the key by [`Hold::hide`], beside the tree. Then Busy comes after
+    /// NoMemory, and the hold has made one word step.
     ///
     /// Context: sleeps; takes the tree's lock, which its caller must not have.
     pub fn hide<R: Wait>(&self, rt: &R, hold: Hold) -> Result<Hidden, (Hold, Refusal)>

@@ -79,7 +79,7 @@ pub fn full_or_no_memory(state: &State, master: &mut Master, top: Key) -> Refusa
     Refusal::NoMemory
 }
 
-/// The hold alone.
+/// A list of this hold alone.
 pub fn alone(alloc: Global, hold: Hold) -> Result<Vec<Hold>, (Hold, Refusal)>
     ensures holds { IfOk result (λ holds. holds.items ≡ hold ∷ []) }
     ensures refused { IfErr result (λ r. (r.0 ≡ hold) × (r.1 ≡ refusal_of.NoMemory)) }

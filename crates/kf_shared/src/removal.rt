@@ -21,8 +21,8 @@ use kf_core::{Key, Refusal};
 use kf_words::{Call, Hold, Parted};
 
 impl<N: Naming> Locked<N> {
-    /// Why the doom of a linked node is refused, where memory was: TooManyHolds where a node below is found
-    /// full, and NoMemory where each is found to have room.
+    /// Why the doom of a linked node is refused where memory was refused: TooManyHolds where a node below is
+    /// found full, and NoMemory where each is found to have room.
     fn full_or_no_memory(&mut self, key: Key) -> Refusal
         requires linked { is_linked self.old.state.tree key ≡ true }
         requires not_root { same_key key self.old.state.root ≡ false }
@@ -33,8 +33,8 @@ impl<N: Naming> Locked<N> {
         full_or_no_memory(&self.state, &mut self.master, key)
     }
 
-    /// The refusal of a self-removal, where want of memory comes after a node that is found full, its own
-    /// among them.
+    /// The refusal that a self-removal answers: want of memory only where no node of the subtree, its own
+    /// among them, is found full.
     fn memory_last(&mut self, key: Key, refusal: Refusal) -> Refusal
         requires last { refusal ≡ refusal_of.NoMemory → IsLastKey self.old.master.view key }
         ensures memory { refusal ≡ refusal_of.NoMemory →

@@ -75,8 +75,8 @@ impl<N: Naming> SharedTree<N> {
     /// (`kernfs_remove`). The receipts stand in the order of the doom: each node after all that is below it,
     /// siblings in byte order of names, the given hold's last. Where the node is no longer linked, the
     /// receipt is for it alone. It may never return: it waits, with the lock let go, for every callback that
-    /// runs in the subtree, its caller's own among them (a callback that removes its own node calls
-    /// `remove_self`), and for the lock, which its caller must not have.
+    /// runs in the subtree, its caller's own among them, and for the lock, which its caller must not have. A
+    /// callback that removes its own node calls `remove_self`.
     ///
     /// Condition: the hold is of this tree's table.
     ///
@@ -99,7 +99,7 @@ impl<N: Naming> SharedTree<N> {
 
     /// Removes the node of a call from within its own callback (`kernfs_remove_self`). Under the lock it
     /// takes holds of its own of the subtree's nodes, dooms them, claims the node, and breaks the call's
-    /// protection; it waits as `remove` does; then, under the lock, it restores the call. True for the first
+    /// protection. It waits as `remove` does; then, under the lock, it restores the call. True for the first
     /// self-removal of the node, also where a plain removal is under way; every other answers false, after
     /// its own waiting. The last receipt is for the call's node, and where the node has left the tree already
     /// it is the only one. It may never return: it waits for every other callback that runs in the subtree,
@@ -109,9 +109,8 @@ impl<N: Naming> SharedTree<N> {
     /// Conditions: the call is Running, and of this tree's table. After an answer it is Restored.
     ///
     /// Refusals, in order: Invalid (the root), NoEntry (the slot has had a later node), TooManyHolds (a node
-    /// of the subtree was found to have as many holds as there may be), NoMemory (each was found to have
-    /// room, or the node is no longer linked). After a refusal the call is as it was, nothing is marked, and
-    /// the node is not claimed.
+    /// of the subtree was found without room for a hold), NoMemory (each had room, or the node is no longer
+    /// linked). After a refusal the call is as it was, nothing is marked, and the node is not claimed.
     ///
     /// Context: sleeps; takes the tree's lock, which its caller must not have.
     pub fn remove_self<R: Wait>(

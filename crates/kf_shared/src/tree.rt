@@ -188,7 +188,8 @@ impl<N: Naming> SharedTree<N> {
 
     /// Waits until nobody changes the tree, as one of any number who look at once: a [`Reader`] can change
     /// nothing. What holds of the tree is what `edit` tells. What may not be called over an [`Editor`] may
-    /// not be called over a `Reader`: nor may a second `read`, since one who waits to edit may be let in first.
+    /// not be called over a `Reader`. Nor may a second `read`, since one who waits to edit may be let in
+    /// first.
     ///
     /// Context: sleeps; takes the tree's lock, which its caller must not have.
     pub fn read<R: Wait>(&self, rt: &R) -> Reader<'_, N>
