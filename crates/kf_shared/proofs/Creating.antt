@@ -3,7 +3,6 @@ use Rattle.std.proofs.Common.{◌≡◌, ap, subst, List, ℕ, [], ◌∷◌}
 use Rattle.std.specs.Prelude.{Option, None, Some, IfSome, is_some, slice_get}
 use Rattle.kf_core.specs.declared.key.Key.{Key}
 use Rattle.kf_core.specs.declared.key.Node.{Node}
-use Rattle.kf_core.specs.declared.refusal.Refusal.{Refusal}
 use Rattle.kf_core.specs.declared.refusal.Refusal.TheVariants.{NoSpace}
 use Rattle.kf_core.specs.Refusals.{first_cause, unless}
 use Rattle.kf_core.specs.Tree.{Tree}

@@ -21,7 +21,7 @@ use Rattle.kf_shared.proofs.Ends.{not_last}
 use Rattle.kf_shared.proofs.Rooms.{top_full}
 use Rattle.kf_shared.proofs.Ties.{locked}
 use Rattle.kf_core.proofs.Different.{different}
-use Rattle.kf_shared.specs.Removal.{keys_of, FoundFullIn, FoundFullBelow, PinsRefused, HoldsBelowRefused, HoldsInRefused, DoomRefused, SelfRemovalRefused, DoomHolds}
+use Rattle.kf_shared.specs.Removal.{keys_of, FoundFullIn, FoundFullBelow, HoldsBelowRefused, HoldsInRefused, DoomRefused, SelfRemovalRefused, DoomHolds}
 
 -- what is asked at either answer of a test
 pub if_true : {b : Bool} (P Q : Type 0) → b ≡ true → P → MatchBool b P Q

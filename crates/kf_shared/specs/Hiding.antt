@@ -3,7 +3,7 @@ use Rattle.std.specs.Prelude.{◌≡◌, ◌⊎◌, [], ◌∷◌, Option, None,
 use Rattle.kf_core.specs.declared.key.Key.{Key}
 use Rattle.kf_core.specs.declared.key.Node.{Node}
 use Rattle.kf_core.specs.declared.key.Node.TheVariants.{Dir, File, Link}
-use Rattle.kf_core.specs.declared.command.Command.TheVariants.{Hide, Show}
+use Rattle.kf_core.specs.declared.command.Command.TheVariants.{Show}
 use Rattle.kf_core.specs.declared.refusal.Refusal.{Refusal}
 use Rattle.kf_core.specs.declared.refusal.Refusal.TheVariants.{Busy, IsDir, Invalid, NoEntry, NoMemory}
 use Rattle.kf_core.specs.Refusals.{first_cause}
