@@ -9,13 +9,15 @@
    READ_MOST=N     a read gives N bytes at most
    WRITE_MOST=N    a write takes N bytes at most
    NEWLINES=N      the input is N newlines, one a read, and then its end
-   FAIL_REPORT=F   at the end the file F has what was counted: requests, reads, writes, threads, and how often one failed
+   FAIL_REPORT=F   at the end the file F has what was counted: requests, reads, writes, threads, and how often one failed;
+                   and behind these how many bytes of memory were in use at the last read
 
    Requests are counted from the moment when this file has been loaded, shortly before main begins. */
 #define _GNU_SOURCE
 #include <dlfcn.h>
 #include <errno.h>
 #include <fcntl.h>
+#include <malloc.h>
 #include <pthread.h>
 #include <stdatomic.h>
 #include <stdio.h>
@@ -24,7 +26,7 @@
 #include <sys/syscall.h>
 #include <unistd.h>
 
-static atomic_ulong requests, reads, writes, threads, failed;
+static atomic_ulong requests, reads, writes, threads, failed, in_use, in_use_at_read;
 static unsigned long fail_memory, fail_read, fail_write, empty_write, fail_thread, no_threads, read_most, write_most, newlines;
 static int (*make_thread)(pthread_t *, const pthread_attr_t *, void *(*)(void *), void *);
 static const char *report;
@@ -34,6 +36,7 @@ extern void *__libc_malloc(size_t size);
 extern void *__libc_calloc(size_t count, size_t size);
 extern void *__libc_realloc(void *at, size_t size);
 extern void *__libc_memalign(size_t line, size_t size);
+extern void __libc_free(void *at);
 
 static unsigned long number(const char *name) {
     const char *text = getenv(name);
@@ -56,12 +59,12 @@ __attribute__((constructor)) static void begin(void) {
 }
 
 __attribute__((destructor)) static void tell(void) {
-    char text[128];
+    char text[160];
     if (!report)
         return;
     int file = open(report, O_WRONLY | O_CREAT | O_TRUNC, 0600);
-    int size = snprintf(text, sizeof text, "%lu %lu %lu %lu %lu\n", atomic_load(&requests), atomic_load(&reads),
-                        atomic_load(&writes), atomic_load(&threads), atomic_load(&failed));
+    int size = snprintf(text, sizeof text, "%lu %lu %lu %lu %lu %lu\n", atomic_load(&requests), atomic_load(&reads),
+                        atomic_load(&writes), atomic_load(&threads), atomic_load(&failed), atomic_load(&in_use_at_read));
     if (file >= 0 && syscall(SYS_write, file, text, (size_t)size) == size)
         close(file);
 }
@@ -82,14 +85,35 @@ static int is_refused(void) {
     return 1;
 }
 
-void *malloc(size_t size) { return is_refused() ? NULL : __libc_malloc(size); }
-void *calloc(size_t count, size_t size) { return is_refused() ? NULL : __libc_calloc(count, size); }
-void *realloc(void *at, size_t size) { return is_refused() ? NULL : __libc_realloc(at, size); }
-void *memalign(size_t line, size_t size) { return is_refused() ? NULL : __libc_memalign(line, size); }
-void *aligned_alloc(size_t line, size_t size) { return is_refused() ? NULL : __libc_memalign(line, size); }
+static void *taken(void *at) {
+    atomic_fetch_add(&in_use, malloc_usable_size(at));
+    return at;
+}
+
+void *malloc(size_t size) { return is_refused() ? NULL : taken(__libc_malloc(size)); }
+void *calloc(size_t count, size_t size) { return is_refused() ? NULL : taken(__libc_calloc(count, size)); }
+void *memalign(size_t line, size_t size) { return is_refused() ? NULL : taken(__libc_memalign(line, size)); }
+void *aligned_alloc(size_t line, size_t size) { return is_refused() ? NULL : taken(__libc_memalign(line, size)); }
+
+void *realloc(void *at, size_t size) {
+    size_t before = malloc_usable_size(at);
+    if (is_refused())
+        return NULL;
+    void *now = __libc_realloc(at, size);
+    if (now || !size) {
+        atomic_fetch_sub(&in_use, before);
+        taken(now);
+    }
+    return now;
+}
+
+void free(void *at) {
+    atomic_fetch_sub(&in_use, malloc_usable_size(at));
+    __libc_free(at);
+}
 
 int posix_memalign(void **to, size_t line, size_t size) {
-    void *at = is_refused() ? NULL : __libc_memalign(line, size);
+    void *at = is_refused() ? NULL : taken(__libc_memalign(line, size));
     if (at)
         *to = at;
     return at ? 0 : ENOMEM;
@@ -97,6 +121,7 @@ int posix_memalign(void **to, size_t line, size_t size) {
 
 ssize_t read(int file, void *to, size_t size) {
     unsigned long turn = atomic_fetch_add(&reads, 1) + 1;
+    atomic_store(&in_use_at_read, atomic_load(&in_use));
     if (turn == fail_read) {
         atomic_fetch_add(&failed, 1);
         errno = EIO;

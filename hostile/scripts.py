@@ -1,6 +1,7 @@
 """The scripts that are run where something fails."""
 
 ONE_CALLER, ONE_WORKER = (), ("--workers", "1")
+SLOTS = 4096
 
 # By name, what is run by one caller and by the owner of a tree with one worker, and its replies, worked out by hand.
 BY_BOTH = {
@@ -146,6 +147,25 @@ def of_devices():
 def of_threads():
     for name, (text, _) in THREADS.items():
         yield name, script_of(text), ("--workers", "3")
+
+
+def come_and_go(width):
+    """As many directories as there are slots come and go, with names of so many bytes."""
+    names = [str(at).rjust(width, "n") for at in range(SLOTS - 1)]
+    return "".join(f"mkdir /{it}\n" for it in names) + "".join(f"rm /{it}\n" for it in names)
+
+
+def of_memory():
+    """Pairs of scripts, and how many bytes the first one may have more in use at its end than the second one."""
+    moved = "mkdir /a\n" + "mv /a / b\nmv /b / a\n" * 20_000
+    made = "".join(f"mkdir /{at}\n" for at in range(2100))
+    for name, script, other, more in (
+        ("40,001 commands, compacted to one", moved + "compact\n", "mkdir /a\ncompact\n", 4096),
+        ("names of 255 bytes, removed and compacted", come_and_go(255) + "compact\n", come_and_go(4) + "compact\n", 4096),
+        # a list that grows has room for 4,096 commands then, and each has 50 bytes at least
+        ("2,100 commands, compacted", made + "compact\n", made, (2100 - 4096) * 50),
+    ):
+        yield name, (script.encode(), other.encode(), more), ("--slots", str(SLOTS))
 
 
 def replies_of(name):
