@@ -155,11 +155,22 @@ def come_and_go(width):
     return "".join(f"mkdir /{it}\n" for it in names) + "".join(f"rm /{it}\n" for it in names)
 
 
+# All that one caller can do, with long names and texts, and a bare tree at its end.
+ROUND = script_of(
+    "mkdir /{n} off ; file /{n}/f 644 {t} ; link /l /{n}/f ; mkdir /{n}/{m} off ; activate /{n} ; ls /{n} ; stat /l ; "
+    "readlink /l ; open a /{n}/f rw ; read a 0 99 ; write a {t} ; read a 0 99 ; poll a ; notify /{n}/f ; mv /{n}/f / {m} ; "
+    "hide /{m} ; read a 0 99 ; show /{m} ; hide /{m} ; close a ; ls / ; rm /l ; rm /{n} ; show /{m} ; rm /{m} ; rm /{m} ; "
+    "plug d x ; wait ; frob ; commands ; compact".format(n="n" * 255, m="m" * 200, t="t" * 3000)
+)
+
+
 def of_memory():
     """Pairs of scripts, and how many bytes the first one may have more in use at its end than the second one."""
     moved = "mkdir /a\n" + "mv /a / b\nmv /b / a\n" * 20_000
     made = "".join(f"mkdir /{at}\n" for at in range(2100))
     for name, script, other, more in (
+        # (whoever held a node keeps 12 bytes, of a list with room for 4,096 then)
+        ("all that one caller can do, 500 times", ROUND.decode() * 500, ROUND.decode(), 4096 * 12 + 4096),
         ("40,001 commands, compacted to one", moved + "compact\n", "mkdir /a\ncompact\n", 4096),
         ("names of 255 bytes, removed and compacted", come_and_go(255) + "compact\n", come_and_go(4) + "compact\n", 4096),
         # a list that grows has room for 4,096 commands then, and each has 50 bytes at least
