@@ -1,34 +1,33 @@
 /* What the file system (mountfs.c) and the lines that make its tree (script.c) share. */
 #pragma once
-#include <kernfs_tree.h>
+#define _GNU_SOURCE
 #define FUSE_USE_VERSION 312
 #include <fuse_lowlevel.h>
+#include <kernfs_tree.h>
 #include <stdatomic.h>
-#include <stdio.h>
+#include <stdlib.h>
+#include <string.h>
+#include <sys/param.h>
+#include <unistd.h>
+#pragma GCC diagnostic ignored "-Wunused-parameter" /* of callbacks, which FUSE's are too */
 
-/* Of the tree, and of the lists of attributes and of open files. Not held in a show or a store. */
+/* Of the tree, of a post of its nodes, and of the list of what is open. Not held in a callback. */
 extern struct kt_lock lock;
-extern struct kt_handle tree;
-extern struct kt_key root;
+extern struct kt_handle tree, post;
 
-/* What a file's callbacks use: in a call of its node, or under the lock while its node is in the tree. */
-struct attribute {
-    struct attribute *next;
-    struct kt_key key;
-    struct kt_handle post; /* of its event number */
-    pthread_mutex_t mutex; /* of the text */
-    atomic_int inside;
-    atomic_uint delay;
-    size_t length;
-    char text[KT_PAGE_SIZE - 1];
-};
+/* What an expression comes to, with a mutex held meanwhile. */
+#define holding(mutex, expression) ({   \
+    pthread_mutex_lock(mutex);          \
+    __auto_type result_ = (expression); \
+    pthread_mutex_unlock(mutex);        \
+    result_; })
 
-/* Wakes whoever polls an open file of this node, or of one that is not live any more. Under the lock. */
-void wake_pollers(struct kt_key key);
+/* The callbacks of each file. Their data is its slot. */
+kt_show show;
+kt_store store;
 
-/* Runs a line, without its newline, in place. 0, or an error number below 0. */
-int run_line(char *line);
+/* Runs a line, up to its newline. 0, or an error number below 0. */
+int run_line(const char *bytes, size_t length);
 
-/* Frees the attributes whose nodes are out of the tree, or all where there is no tree any more: nobody is inside there,
- * and nobody will be. Under the lock. */
-void sweep(void);
+/* Wakes whoever polls, to look again. Under the lock. 0. */
+int wake_pollers(void);

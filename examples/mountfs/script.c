@@ -1,192 +1,176 @@
-/* The lines of a script: those commands of kernfs_run that make and change a tree, and `slow`. */
-#define _GNU_SOURCE
+/* What the files hold; and the lines that make and change the tree: kernfs_run's, and `slow`. */
 #include "mountfs.h"
-#include <stdlib.h>
-#include <string.h>
+#include <assert.h>
 
-struct request {
-    char *words[3];        /* NULL where there is none */
-    struct kt_key keys[3]; /* of each word that is a path; of a new node's path that of its directory, and its name */
-    const char *name;
-    struct attribute *attribute; /* of a word that is a file's path */
-    unsigned number;
-};
+/* What a file holds, by its slot. A removal frees nothing: the slot is given again once nobody is
+ * inside, and nobody will be. */
+static struct attribute {
+    atomic_int inside;
+    atomic_uint delay; /* of each show and store, in milliseconds */
+    size_t length;
+    char text[KT_PAGE_SIZE];
+} attributes[KT_SLOTS_MAX];
 
-/* ---- attributes ---- */
+static pthread_mutex_t texts = PTHREAD_MUTEX_INITIALIZER; /* for a copy of one, alone */
 
-static struct attribute *attributes;
-
-static void free_attribute(struct attribute *it)
+static struct attribute *begin_callback(void *slot)
 {
-    if (it->inside) { /* what the library promises never to be */
-        fprintf(stderr, "mountfs: a callback is inside after its removal\n");
-        abort();
-    }
-    kt_delete(it->post);
-    pthread_mutex_destroy(&it->mutex);
-    free(memset(it, 0xff, sizeof *it));
+    struct attribute *it = &attributes[(uintptr_t)slot];
+    it->inside++;
+    if (it->delay)
+        usleep(it->delay * 1000);
+    pthread_mutex_lock(&texts);
+    return it;
 }
 
-void sweep(void)
+static int64_t end_callback(struct attribute *it, size_t count)
 {
-    struct kt_stat stat;
-    for (struct attribute **at = &attributes, *it; (it = *at);)
-        if (kt_stat(&tree, it->key, &stat)) {
-            *at = it->next;
-            free_attribute(it);
-        } else {
-            at = &it->next;
-        }
+    pthread_mutex_unlock(&texts);
+    it->inside--;
+    return (int64_t)count;
 }
 
-static int find_attribute(struct kt_key key, struct attribute **out)
+int64_t show(struct kt_handle *file, void *slot, char *page)
 {
-    struct kt_stat stat;
-    int error = kt_stat(&tree, key, &stat);
-    if (!error)
-        *out = (struct attribute *)(uintptr_t)stat.tag;
-    return error ?: stat.kind == KT_DIR ? -EISDIR : stat.kind == KT_LINK ? -EINVAL : 0;
+    struct attribute *it = begin_callback(slot);
+    memcpy(page, it->text, it->length);
+    return end_callback(it, it->length);
 }
 
-/* ---- the commands: each is run under the lock, when its paths are found ---- */
-
-static int run_mkdir(struct request *it)
+int64_t store(struct kt_handle *file, void *slot, const char *bytes, size_t length)
 {
-    struct kt_key made;
-    return kt_create_dir(&tree, it->keys[0], it->name, strlen(it->name), !it->words[1], &made);
+    struct attribute *it = begin_callback(slot);
+    size_t text = length - (length && bytes[length - 1] == '\n');
+    it->length = MIN(text, sizeof it->text - 1);
+    memcpy(it->text, bytes, it->length);
+    if (text)
+        it->text[it->length++] = '\n';
+    return end_callback(it, length);
 }
 
-static int run_file(struct request *it)
+/* ---- the commands that take more than one call ---- */
+
+static int make_file(struct kt_key dir, const char *name, const char *mode, const char *text)
 {
-    struct attribute *new = calloc(1, sizeof *new);
-    const char *text = it->words[2] ? it->words[2] : "";
-    if (!new || kt_new(&new->post.at))
-        return free(new), -ENOMEM;
-    pthread_mutex_init(&new->mutex, NULL);
-    new->length = strnlen(text, sizeof new->text);
-    memcpy(new->text, text, new->length);
-    int error = kt_create_file(&tree, it->keys[0], it->name, strlen(it->name), (uint16_t)it->number, (uintptr_t)new,
-                               true, &new->key);
-    if (!error && (error = kt_post(&tree, new->key, &new->post)))
-        kt_remove(&tree, new->key);
+    uint16_t bits = (uint16_t)strtoul(mode, NULL, 8);
+    struct kt_key key;
+    int error = kt_create_file(&tree, dir, name, strlen(name), bits, 0, true, &key);
     if (error)
-        return free_attribute(new), error;
-    new->next = attributes;
-    attributes = new;
+        return error;
+    assert(!attributes[key.slot].inside);
+    attributes[key.slot].delay = 0;
+    store(NULL, (void *)(uintptr_t)key.slot, text, strlen(text));
     return 0;
 }
 
-static int run_link(struct request *it)
+/* Marks what is removed, wakes its pollers, and waits until nobody is inside: without the lock, so
+ * that others go on. */
+static int remove_node(struct kt_key key)
 {
-    struct kt_key made;
-    return kt_create_link(&tree, it->keys[0], it->name, strlen(it->name), it->keys[1], true, &made);
-}
-
-static int run_activate(struct request *it)
-{
-    return kt_activate(&tree, it->keys[0]);
-}
-
-static int run_mv(struct request *it)
-{
-    return kt_rename(&tree, it->keys[0], it->keys[1], it->words[2], strlen(it->words[2]));
-}
-
-/* Marks what is removed, which wakes its pollers; waits until nobody is inside; frees the attributes. The lock is left
- * while it waits, so that others go on. */
-static int run_rm(struct request *it)
-{
-    int error = kt_remove(&tree, it->keys[0]);
-    wake_pollers(it->keys[0]);
+    int error = kt_remove(&tree, key);
+    wake_pollers();
     if (error == -EAGAIN) {
         pthread_mutex_unlock(&lock.mutex);
-        error = kt_remove_wait(&tree, it->keys[0], &lock);
+        error = kt_remove_wait(&tree, key, &lock);
         pthread_mutex_lock(&lock.mutex);
     }
-    sweep();
     if (!error)
-        kt_compact(&tree); /* else the tree's list of commands grows for ever; without memory, the next rm does it */
+        kt_compact(&tree); /* else its commands grow; without memory the next rm does it */
     return error;
 }
-
-static int run_notify(struct request *it)
-{
-    int error = kt_notify(&it->attribute->post);
-    wake_pollers(it->keys[0]);
-    return error;
-}
-
-static int run_slow(struct request *it)
-{
-    it->attribute->delay = it->number;
-    return 0;
-}
-
-/* The words of a command: n a new node's path, p a path, a a file's path, w a word, m a mode, d a number, f `off` or
- * nothing, t all that follows. */
-static const struct command {
-    const char *name, *words;
-    int (*run)(struct request *);
-} commands[] = {
-    {"mkdir", "nf", run_mkdir}, {"file", "nmt", run_file}, {"link", "np", run_link}, {"activate", "p", run_activate},
-    {"mv", "ppw", run_mv},      {"rm", "p", run_rm},       {"notify", "a", run_notify}, {"slow", "ad", run_slow},
-};
 
 /* ---- lines ---- */
 
-static bool read_number(const char *word, bool is_mode, unsigned *out)
+struct line {
+    char *rest;            /* what is not taken yet */
+    char *words[3];        /* NULL where there is none */
+    struct kt_key keys[2]; /* of each word that is a path; of a new node's path, its directory's */
+    const char *name;      /* of the new node */
+};
+
+static bool is_word(char kind, const char *word)
 {
-    size_t digits = strspn(word, is_mode ? "01234567" : "0123456789");
-    *out = (unsigned)strtoul(word, NULL, is_mode ? 8 : 10);
-    return !word[digits] && digits <= 5 && (!is_mode || digits == 3) && *out < 65536;
+    size_t length = word ? strlen(word) : 0;
+    if (kind == 'o')
+        return !word || !strcmp(word, "off");
+    if (kind == 'm')
+        return length == 3 && strspn(word, "01234567") == length;
+    if (kind == 'd')
+        return length && length <= 5 && strspn(word, "0123456789") == length;
+    return length || kind == 't';
 }
 
-static bool take_words(char *rest, const char *kinds, struct request *it)
+/* Finds the node of a path; of a new node's path the directory, and the name. */
+static int find(char kind, const char *path, struct kt_key *key, const char **name)
 {
-    for (int at = 0; kinds[at]; at++) {
-        char kind = kinds[at], *word = kind == 't' ? rest : strsep(&rest, " ");
-        it->words[at] = word;
-        if (kind == 't')
-            rest = NULL;
-        else if (kind == 'f' ? word && strcmp(word, "off") : !word || !*word)
-            return false;
-        else if ((kind == 'm' || kind == 'd') && !read_number(word, kind == 'm', &it->number))
-            return false;
-    }
-    return !rest;
-}
-
-/* Finds the node of a path; of a new node's path the directory, and the last name. */
-static int find(const char *path, struct kt_key *key, const char **name)
-{
-    const char *slash = name ? strrchr(path, '/') : NULL;
-    size_t front = slash ? (size_t)(slash - path) : strlen(path);
-    if (name && (!slash || !path[1] || (front == 1 && *path == '/')))
-        return -EINVAL; /* of the forms that kt_walk() does not see: no slash, / and //NAME */
-    if (name)
+    const char *slash = strrchr(path, '/'), *end = path + strlen(path);
+    struct kt_stat stat;
+    if (kind == 'n') {
+        if (*path != '/' || !path[1] || path[1] == '/')
+            return -EINVAL; /* kt_walk() would not see it of / and //NAME */
         *name = slash + 1;
-    return kt_walk(&tree, path, front ? front : 1, key);
+        end = slash > path ? slash : path + 1;
+    }
+    int error = kt_walk(&tree, path, (size_t)(end - path), key);
+    if (error || kind != 'a')
+        return error;
+    kt_stat(&tree, *key, &stat);
+    return stat.kind == KT_FILE ? 0 : stat.kind == KT_DIR ? -EISDIR : -EINVAL;
 }
 
-int run_line(char *line)
+/* Takes the words of a command: n a new node's path, p a path, a the path of a file, w a word, m a
+ * mode, d a number, o `off` or nothing, t all that follows. Of errors, other words come first. */
+static int take(const char *kinds, struct line *it)
 {
-    struct request request = {0};
-    char *word = strsep(&line, " ");
-    const struct command *it = commands, *end = commands + sizeof commands / sizeof *commands;
     int error = 0;
-    while (it < end && strcmp(word, it->name))
-        it++;
-    if (it == end || !take_words(line, it->words, &request))
-        return -EBADMSG;
-    pthread_mutex_lock(&lock.mutex);
-    for (int at = 0; !error && it->words[at]; at++) {
-        char kind = it->words[at];
-        if (kind == 'n' || kind == 'p' || kind == 'a')
-            error = find(request.words[at], &request.keys[at], kind == 'n' ? &request.name : NULL);
-        if (kind == 'a')
-            error = error ?: find_attribute(request.keys[at], &request.attribute);
+    for (int at = 0; kinds[at]; at++) {
+        char *word = it->words[at] = strsep(&it->rest, kinds[at] == 't' ? "" : " ");
+        if (!is_word(kinds[at], word))
+            return -EBADMSG;
+        if (!error && strchr("npa", kinds[at]))
+            error = find(kinds[at], word, &it->keys[at], &it->name);
     }
-    error = error ?: it->run(&request);
-    pthread_mutex_unlock(&lock.mutex);
+    return it->rest ? -EBADMSG : error;
+}
+
+/* Runs a command. Under the lock. */
+static int run(const char *command, struct line *it)
+{
+    const struct kt_key *key = it->keys;
+    char **word = it->words;
+    struct kt_key made;
+    int error = -EBADMSG;
+    if (!strcmp(command, "mkdir"))
+        return take("no", it) ?: kt_create_dir(&tree, key[0], it->name, strlen(it->name),
+                                               !word[1], &made);
+    if (!strcmp(command, "file"))
+        return take("nmt", it) ?: make_file(key[0], it->name, word[1], word[2] ?: "");
+    if (!strcmp(command, "link"))
+        return take("np", it) ?: kt_create_link(&tree, key[0], it->name, strlen(it->name),
+                                                key[1], true, &made);
+    if (!strcmp(command, "activate"))
+        return take("p", it) ?: kt_activate(&tree, key[0]);
+    if (!strcmp(command, "mv"))
+        return take("ppw", it) ?: kt_rename(&tree, key[0], key[1], word[2], strlen(word[2]));
+    if (!strcmp(command, "rm"))
+        return take("p", it) ?: remove_node(key[0]);
+    if (!strcmp(command, "notify"))
+        return take("a", it) ?: kt_clear(&post) ?: kt_post(&tree, key[0], &post) ?: kt_notify(&post)
+                             ?: wake_pollers();
+    if (!strcmp(command, "slow") && !(error = take("ad", it)))
+        attributes[key[0].slot].delay = (unsigned)atoi(word[1]);
+    return error;
+}
+
+int run_line(const char *bytes, size_t length)
+{
+    char *line = strndup(bytes, length);
+    if (!line)
+        return -ENOMEM;
+    *strchrnul(line, '\n') = 0;
+    struct line it = {.rest = line};
+    const char *command = strsep(&it.rest, " ");
+    int error = holding(&lock.mutex, run(command, &it));
+    free(line);
     return error;
 }
