@@ -1,5 +1,5 @@
 //! A page is filled.
-ghost use Rattle.std.specs.Prelude.{◌≡◌, ◌+◌, length, take, if◌then◌else◌};
+ghost use Rattle.std.specs.Prelude.{◌≡◌, ◌+◌, length, take};
 ghost use Rattle.kf_text.specs.Texts.{emitted, part_text, text_of};
 
 use crate::part::Part;
