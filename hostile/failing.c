@@ -9,8 +9,8 @@
    READ_MOST=N     a read gives N bytes at most
    WRITE_MOST=N    a write takes N bytes at most
    NEWLINES=N      the input is N newlines, one a read, and then its end
-   FAIL_REPORT=F   at the end the file F has what was counted: requests, reads, writes, threads, and how often one failed;
-                   and behind these how many bytes of memory were in use at the last read
+   FAIL_REPORT=F   at the end the file F has what was counted: requests, reads, writes, threads, how often one failed, and
+                   how many bytes of memory were in use at the last read
 
    Requests are counted from the moment when this file has been loaded, shortly before main begins. */
 #define _GNU_SOURCE
@@ -64,7 +64,8 @@ __attribute__((destructor)) static void tell(void) {
         return;
     int file = open(report, O_WRONLY | O_CREAT | O_TRUNC, 0600);
     int size = snprintf(text, sizeof text, "%lu %lu %lu %lu %lu %lu\n", atomic_load(&requests), atomic_load(&reads),
-                        atomic_load(&writes), atomic_load(&threads), atomic_load(&failed), atomic_load(&in_use_at_read));
+                        atomic_load(&writes), atomic_load(&threads), atomic_load(&failed),
+                        atomic_load(&in_use_at_read));
     if (file >= 0 && syscall(SYS_write, file, text, (size_t)size) == size)
         close(file);
 }
