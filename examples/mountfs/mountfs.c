@@ -22,12 +22,8 @@ struct kt_lock lock = KT_LOCK_INIT;
 struct kt_handle tree, post;
 static time_t started;
 
-/* A node's number is its key: the root's, slot 0 and generation 1, is FUSE's number of it. */
-#define number_of(key) ((fuse_ino_t)(key).slot << 32 | (key).generation)
-#define key_of(number) ((struct kt_key){(uint32_t)((number) >> 32), (uint32_t)(number)})
-
-/* All others of slot 0 are the control file's. A trap: the kernel locks a file while it is written,
- * so with one number nobody could give a line while an rm waits. Each look-up gives another. */
+/* Slot 0's other numbers are the control file's. A trap: the kernel locks a file over a write, so that
+ * with one number no line could be given while an rm waits. Each look-up gives another. */
 #define is_control(number) ((number) >> 32 == 0 && (number) != FUSE_ROOT_ID)
 
 /* A file, or a directory, that is open. */
@@ -58,7 +54,7 @@ int wake_pollers(void)
 
 /* ---- names. Timeouts are 0: the kernel asks each time, and finds nothing that was removed ---- */
 
-/* What is told of a number; of a node that is gone, but open, what was told of its slot last. */
+/* What is told of a number; of a file that is gone, but open, what was told of its slot last. */
 static int describe(fuse_ino_t number, struct stat *out)
 {
     static const mode_t kinds[] = {S_IFDIR | 0755, S_IFREG, S_IFLNK | 0777};
@@ -66,7 +62,7 @@ static int describe(fuse_ino_t number, struct stat *out)
     struct kt_stat of = {.kind = KT_FILE, .links = 1, .mode = 0200}; /* the control file */
     *out = told[number >> 32];
     if (!is_control(number) && kt_stat(&tree, key_of(number), &of))
-        return out->st_ino == number ? 0 : -ENOENT;
+        return S_ISREG(out->st_mode) && out->st_ino == number ? 0 : -ENOENT;
     *out = told[number >> 32] = (struct stat){
         .st_ino = number, .st_mode = kinds[of.kind] | of.mode, .st_nlink = of.links,
         .st_uid = getuid(), .st_gid = getgid(), .st_blksize = KT_PAGE_SIZE,
@@ -200,7 +196,7 @@ static void fs_read(fuse_req_t req, fuse_ino_t number, size_t size, off_t offset
         memcpy(page, it->entries + from, (size_t)answer);
     } else if (!is_control(number)) {
         answer = holding(&it->mutex, kt_read(&it->handle, &lock, (uint64_t)offset, page, most, show,
-                                             (void *)(number >> 32)));
+                                             (void *)number));
     }
     finish(req, answer, fuse_reply_buf(req, page, (size_t)answer));
 }
@@ -209,12 +205,8 @@ static void fs_write(fuse_req_t req, fuse_ino_t number, const char *bytes, size_
                      off_t offset, struct fuse_file_info *info)
 {
     struct open *it = open_of(info);
-    int64_t answer;
-    if (is_control(number))
-        answer = run_line(bytes, size) ?: (int64_t)size;
-    else
-        answer = holding(&it->mutex, kt_write(&it->handle, &lock, bytes, size, store,
-                                              (void *)(number >> 32)));
+    int64_t answer = is_control(number) ? run_line(bytes, size)
+        : holding(&it->mutex, kt_write(&it->handle, &lock, bytes, size, store, (void *)number));
     finish(req, answer, fuse_reply_write(req, (size_t)answer));
 }
 
@@ -247,9 +239,9 @@ static void run_script(const char *script)
     if (strcmp(script, "-") && !freopen(script, "r", stdin))
         err(1, "%s", script);
     for (unsigned count = 1; getline(&line, &room, stdin) > 0; count++) {
-        int error = *line == '\n' ? 0 : run_line(line, strlen(line));
-        if (error)
-            fprintf(stderr, "mountfs: %s, line %u: %s\n", script, count, strerror(-error));
+        int64_t answer = *line == '\n' ? 0 : run_line(line, strlen(line));
+        if (answer < 0)
+            fprintf(stderr, "mountfs: %s, line %u: %s\n", script, count, strerror((int)-answer));
     }
     free(line);
 }

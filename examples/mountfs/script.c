@@ -2,50 +2,52 @@
 #include "mountfs.h"
 #include <assert.h>
 
-/* What a file holds, by its slot. A removal frees nothing: the slot is given again once nobody is
- * inside, and nobody will be. */
+/* What a file holds, by its slot. A removal frees nothing: a slot is given again when nobody has a
+ * hold of what was there. */
 static struct attribute {
-    atomic_int inside;
     atomic_uint delay; /* of each show and store, in milliseconds */
     size_t length;
     char text[KT_PAGE_SIZE];
 } attributes[KT_SLOTS_MAX];
 
-static pthread_mutex_t texts = PTHREAD_MUTEX_INITIALIZER; /* for a copy of one, alone */
-
-static struct attribute *begin_callback(void *slot)
+static void set_text(struct attribute *it, const char *bytes, size_t length)
 {
-    struct attribute *it = &attributes[(uintptr_t)slot];
-    it->inside++;
+    it->length = MIN(length, sizeof it->text - 1);
+    memcpy(it->text, bytes, it->length);
+    if (length)
+        it->text[it->length++] = '\n';
+}
+
+static struct attribute *begin_callback(void *number)
+{
+    struct attribute *it = &attributes[key_of((uintptr_t)number).slot];
     if (it->delay)
         usleep(it->delay * 1000);
-    pthread_mutex_lock(&texts);
+    pthread_mutex_lock(&lock.mutex);
     return it;
 }
 
-static int64_t end_callback(struct attribute *it, size_t count)
+/* The promise: no removal is over while a callback is inside, so that its node is in the tree. */
+static int64_t end_callback(void *number, size_t count)
 {
-    pthread_mutex_unlock(&texts);
-    it->inside--;
+    struct kt_stat stat;
+    assert(!kt_stat(&tree, key_of((uintptr_t)number), &stat));
+    pthread_mutex_unlock(&lock.mutex);
     return (int64_t)count;
 }
 
-int64_t show(struct kt_handle *file, void *slot, char *page)
+int64_t show(struct kt_handle *file, void *number, char *page)
 {
-    struct attribute *it = begin_callback(slot);
+    struct attribute *it = begin_callback(number);
     memcpy(page, it->text, it->length);
-    return end_callback(it, it->length);
+    return end_callback(number, it->length);
 }
 
-int64_t store(struct kt_handle *file, void *slot, const char *bytes, size_t length)
+int64_t store(struct kt_handle *file, void *number, const char *bytes, size_t length)
 {
-    struct attribute *it = begin_callback(slot);
-    size_t text = length - (length && bytes[length - 1] == '\n');
-    it->length = MIN(text, sizeof it->text - 1);
-    memcpy(it->text, bytes, it->length);
-    if (text)
-        it->text[it->length++] = '\n';
-    return end_callback(it, length);
+    struct attribute *it = begin_callback(number);
+    set_text(it, bytes, length - (bytes[length - 1] == '\n'));
+    return end_callback(number, length);
 }
 
 /* ---- the commands that take more than one call ---- */
@@ -57,9 +59,8 @@ static int make_file(struct kt_key dir, const char *name, const char *mode, cons
     int error = kt_create_file(&tree, dir, name, strlen(name), bits, 0, true, &key);
     if (error)
         return error;
-    assert(!attributes[key.slot].inside);
     attributes[key.slot].delay = 0;
-    store(NULL, (void *)(uintptr_t)key.slot, text, strlen(text));
+    set_text(&attributes[key.slot], text, strlen(text));
     return 0;
 }
 
@@ -162,7 +163,7 @@ static int run(const char *command, struct line *it)
     return error;
 }
 
-int run_line(const char *bytes, size_t length)
+int64_t run_line(const char *bytes, size_t length)
 {
     char *line = strndup(bytes, length);
     if (!line)
@@ -172,5 +173,5 @@ int run_line(const char *bytes, size_t length)
     const char *command = strsep(&it.rest, " ");
     int error = holding(&lock.mutex, run(command, &it));
     free(line);
-    return error;
+    return error ?: (int64_t)length;
 }
