@@ -22,7 +22,7 @@ struct kt_lock lock = KT_LOCK_INIT;
 struct kt_handle tree, post;
 static time_t started;
 
-/* Slot 0's other numbers are the control file's. A trap: the kernel locks a file over a write, so that
+/* Slot 0's other numbers are the control file's. A trap: the kernel locks a file over a write, so
  * with one number no line could be given while an rm waits. Each look-up gives another. */
 #define is_control(number) ((number) >> 32 == 0 && (number) != FUSE_ROOT_ID)
 
@@ -31,7 +31,7 @@ struct open {
     LIST_ENTRY(open) link;
     struct kt_handle handle; /* the library's open file; of others there is nothing behind it */
     pthread_mutex_t mutex;   /* of the handle, which serves one call at a time */
-    struct fuse_pollhandle *_Atomic poller;
+    struct fuse_pollhandle *_Atomic poller; /* by which the kernel is told to look again */
     char *entries; /* of a directory, as they were when it was opened */
     size_t length;
 };
@@ -118,7 +118,7 @@ static void fs_readlink(fuse_req_t req, fuse_ino_t number)
     finish(req, length, fuse_reply_buf(req, text, (size_t)length));
 }
 
-/* ---- files and directories ---- */
+/* ---- files and directories: a directory's entries are read as a file's text is ---- */
 
 static int list(fuse_ino_t dir, struct open *it)
 {

@@ -9,7 +9,7 @@
 #include <string.h>
 #include <sys/param.h>
 #include <unistd.h>
-#pragma GCC diagnostic ignored "-Wunused-parameter" /* of callbacks, which FUSE's are too */
+#pragma GCC diagnostic ignored "-Wunused-parameter" /* a callback need not use each */
 
 /* Of the tree, of a post of its nodes, of the texts and of the list of what is open. A callback may
  * take it, as a removal waits without it. */

@@ -60,7 +60,7 @@ static int make_file(struct kt_key dir, const char *name, const char *mode, cons
     if (error)
         return error;
     attributes[key.slot].delay = 0;
-    set_text(&attributes[key.slot], text, strlen(text));
+    set_text(&attributes[key.slot], text, strlen(text)); /* under the lock: nobody sees it yet */
     return 0;
 }
 
