@@ -111,7 +111,7 @@ int32_t kt_delete(struct kt_handle handle);
  * to KT_HOLDS_MAX holds of each. 0, -EINVAL, -ENOMEM. */
 int32_t kt_create_root(struct kt_handle *tree, uint32_t slots, uint32_t holds);
 
-/* The root's key. 0, -EINVAL. */
+/* The root's key: slot 0, generation 1. 0, -EINVAL. */
 int32_t kt_root(struct kt_handle *tree, struct kt_key *out);
 
 /* A new node in a directory: kernfs_create_dir_ns, __kernfs_create_file, kernfs_create_link. One that is not `live` is
