@@ -1,4 +1,4 @@
-//! The tests of `kf_files` and `kf_notify`, over their public calls: proved over the crates, and not with them.
+//! The tests of `kf_files` and `kf_notify`, over their public calls: proved over both, and not with them.
 #![tactic(auto)]
 
 #[cfg(test)]

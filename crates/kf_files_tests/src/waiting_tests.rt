@@ -1,10 +1,11 @@
-//! Files of a shared tree: what their callbacks may do, and a removal that waits for one of them.
+//! Files of a shared tree: what their callbacks may do, calls that take no lock, and a removal that waits
+//! for a show.
 ghost use Rattle.std.specs.Prelude.{◌≡◌};
 
 use crate::tree_hold::TreeHold;
 use crate::waiting_fixtures::{
-    Before, Latch, close, file_of, first_wrong, held, made, new_driver, new_latch, opened, post_of,
-    posts_of, release_all, remove, wait_for,
+    Before, Latch, close, file_of, first_wrong, held, made, new_driver, new_latch, opened,
+    opened_alone, post_of, posts_of, release_all, remove, wait_for,
 };
 use kf_core::{Key, Refusal};
 use kf_files::FileError;
@@ -78,6 +79,33 @@ fn outlives_its_node<N: Naming, R: Abort + Wait>(rt: &R, alloc: Global, new: New
 fn a_file_outlives_its_node(rt: HostRuntime) {
     let new = made(&rt, rt.alloc());
     outlives_its_node::<Brand, _>(&rt, rt.alloc(), new);
+}
+
+// ---- calls that take no lock
+
+fn serves_under_an_editor<N: Naming, R: Abort + Wait>(rt: &R, alloc: Global, new: NewTree)
+    requires { new.master.table ≡ N.table }
+{
+    let tree = new.named::<N>();
+    let mut file = opened_alone(rt, alloc, &tree);
+    let quiet = new_driver(Before::Nothing, b"v");
+    let mut out = [0u8; 4];
+    let editor = tree.edit(rt);
+    let answers = [
+        file.read(rt, &tree, &quiet, 0, &mut out) == Ok(1),
+        file.write(rt, &tree, &quiet, b"x") == Ok(1),
+        !file.poll(),
+    ];
+    drop(editor);
+    assert_eq!(rt; first_wrong(&answers), None);
+    close(file);
+}
+
+/// A call on a file that took the lock of the tree would wait here for ever.
+#[test]
+fn a_file_is_read_while_the_tree_is_edited(rt: HostRuntime) {
+    let new = made(&rt, rt.alloc());
+    serves_under_an_editor::<Brand, _>(&rt, rt.alloc(), new);
 }
 
 // ---- a removal while a show runs

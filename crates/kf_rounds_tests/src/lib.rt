@@ -1,4 +1,4 @@
-//! The tests of `kf_script` and `kf_rounds`, over their public calls: proved over the crates, and not with them.
+//! The tests of `kf_script` and `kf_rounds`, over their public calls: proved over both, and not with them.
 #![tactic(auto)]
 
 #[cfg(test)]
