@@ -66,7 +66,7 @@ none_there t dir name h = go (first (test dir name) t) refl
 pub all_pass : (a b c d e : Option Refusal) → a ≡ None → b ≡ None → c ≡ None → d ≡ None → e ≡ None → first_cause (a ∷ b ∷ c ∷ d ∷ None ∷ e ∷ []) ≡ None
 all_pass a b c d e ha hb hc hd he = rw ha (rw hb (rw hc (rw hd (rw he refl))))
 
-of_six : (a b c d e : Option Refusal) → first_cause (a ∷ b ∷ c ∷ d ∷ None ∷ e ∷ []) ≡ None → (b ≡ None) × (e ≡ None)
+pub of_six : (a b c d e : Option Refusal) → first_cause (a ∷ b ∷ c ∷ d ∷ None ∷ e ∷ []) ≡ None → (b ≡ None) × (e ≡ None)
 of_six a b c d e h =
     let last : List (Option Refusal) = [] in
     let nothing : Option Refusal = None in
@@ -95,7 +95,7 @@ not_same a b h = elim (bytes_eq b a) as (λ c. bytes_eq b a ≡ c → c ≡ fals
   | false ↦ λ e. refl
 ] refl
 
-neither : (a b : Bool) → (a || b) ≡ false → (a ≡ false) × (b ≡ false)
+pub neither : (a b : Bool) → (a || b) ≡ false → (a ≡ false) × (b ≡ false)
 neither true b h = absurd (let x : true ≡ false = h in cc)
 neither false b h = (refl, h)
 

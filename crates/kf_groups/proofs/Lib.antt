@@ -3,7 +3,13 @@ pub mod Storing
 pub mod Unlinks
 pub mod Free
 pub mod Linked
+pub mod Older
+pub mod Counts
+pub mod Named
 pub mod NewDirectory
 pub mod Lacks
 pub mod Makings
 pub mod Turns
+pub mod Refusals
+pub mod Fresh
+pub mod Several

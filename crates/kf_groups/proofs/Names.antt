@@ -11,7 +11,7 @@ use Rattle.kf_core.specs.Refusals.{unless, first_cause}
 use Rattle.kf_groups.specs.declared.attribute.Attribute.{Attribute}
 use Rattle.kf_groups.specs.Attributes.{is_shown, shown, has_name, files_cause, shown_cause}
 
-any_filter : {X : Type 0} (p q : X → Bool) (xs : List X) → list_any (λ x. q x && p x) xs ≡ list_any p (filter q xs)
+pub any_filter : {X : Type 0} (p q : X → Bool) (xs : List X) → list_any (λ x. q x && p x) xs ≡ list_any p (filter q xs)
 any_filter p q [] = refl
 any_filter p q (x ∷ xs) = elim (q x) as (λ b. (b && p x || list_any (λ y. q y && p y) xs) ≡ list_any p (cond b (x ∷ filter q xs) (filter q xs))) [
   | true ↦ ap (λ b. p x || b) (any_filter p q xs)
@@ -59,7 +59,7 @@ stops fault left later a refusal parts some = ap (λ xs. files_cause fault (show
     stopped None None given = cc
 
 -- what is left from a place on
-pub rest_of : (all : List Attribute) (i : ℕ) → take (length all - i) (drop i all) ≡ drop i all
+pub rest_of : {X : Type 0} (all : List X) (i : ℕ) → take (length all - i) (drop i all) ≡ drop i all
 rest_of all i = ap (λ n. take n (drop i all)) (sym (length-drop i all)) ∙ take-length (drop i all)
 
 split_at : (all : List Attribute) (i : ℕ) (d : Attribute) → i < length all → drop i all ≡ get_or all i d ∷ drop (i + 1) all

@@ -1,10 +1,9 @@
 -- Nothing is wrong with a file of a lawful name in a directory that is new.
-use Rattle.std.proofs.Common.{◌≡◌, ℕ, suc, refl, ap, sym, ◌∙◌, Bool, true, false, cond, List, [], ◌∷◌}
+use Rattle.std.proofs.Common.{◌≡◌, ℕ, refl, ap, sym, ◌∙◌, true, false, List, [], ◌∷◌}
 use Rattle.std.specs.Prelude.{Option, None, Some, slice_get, is_some, not, ◌&&◌}
 use Rattle.std.specs.List.{find as first}
 use Rattle.std.specs.Option.{option_and_then, option_map_or, option_map}
 use Rattle.std.specs.Str.{bytes_eq}
-use Rattle.std.proofs.lemmas.Option.{none-some}
 use Rattle.kf_core.specs.declared.command.Command.TheVariants.{Create}
 use Rattle.kf_core.specs.declared.key.Key.{Key}
 use Rattle.kf_core.specs.declared.key.Node.TheVariants.{Dir}
@@ -24,13 +23,7 @@ use Rattle.kf_groups.specs.declared.attribute.Attribute.{Attribute}
 use Rattle.kf_groups.specs.Attributes.{file_of, file_fault, files_cause, has_name}
 use Rattle.kf_groups.proofs.Free.{all_pass, first_set, joined, parted, passes, test}
 use Rattle.kf_groups.proofs.Linked.{itself_at, not_linked}
-
-place_of : {X : Type 0} (p : X → Bool) (xs : List X) (y : X) → first p xs ≡ Some y → (i : ℕ) × (slice_get xs i ≡ Some y)
-place_of p [] y h = absurd (none-some y h)
-place_of p (x ∷ xs) y h = elim (p x) as (λ b. cond b (Some x) (first p xs) ≡ Some y → (i : ℕ) × (slice_get (x ∷ xs) i ≡ Some y)) [
-  | true ↦ λ e. (0, e)
-  | false ↦ λ e. (let f = place_of p xs y e in (suc f.0, f.1))
-] h
+use Rattle.kf_groups.proofs.Named.{place_of}
 
 module _ (t : Tree) (root key dir : Key) (name : List ℕ) (l : Lawful t root) (vacant : slice_get t key.slot ≡ Some None) (linked : is_linked t dir ≡ true) where
   abbrev new : Record

@@ -13,7 +13,7 @@ use Rattle.kf_tree.specs.TreeLogs.{TreeLog, IsAccepted}
 use Rattle.kf_shared.specs.Locked.{Locked, Unchanged, UnlinkDone, UnlinkRefused}
 use Rattle.kf_groups.specs.Stores.{Stores}
 
-replay_append : (t : Tree) (cs ds : List Command) → replay t (cs ++ ds) ≡ replay (replay t cs) ds
+pub replay_append : (t : Tree) (cs ds : List Command) → replay t (cs ++ ds) ≡ replay (replay t cs) ds
 replay_append t [] ds = refl
 replay_append t (c ∷ cs) ds = replay_append (after t c) cs ds
 

@@ -1,6 +1,6 @@
 -- What holds of the later files, once the first is made; and of the files of a directory, once it is made.
-use Rattle.std.proofs.Common.{◌≡◌, ◌≢◌, ◌≤◌, ℕ, ap, sym, subst, true, false, List, length, get_or}
-use Rattle.std.specs.Prelude.{Option, None, Some, not, is_some}
+use Rattle.std.proofs.Common.{◌≡◌, ◌≢◌, ◌≤◌, ◌+◌, ◌∙◌, ℕ, ap, sym, subst, true, false, List, [], ◌∷◌, length, get_or}
+use Rattle.std.specs.Prelude.{Option, None, Some, not, is_some, slice_get}
 use Rattle.kf_core.specs.declared.command.Command.TheVariants.{Create, Activate}
 use Rattle.kf_core.specs.declared.key.Key.{Key}
 use Rattle.kf_core.specs.declared.key.Node.{Node}
@@ -20,10 +20,12 @@ use Rattle.kf_tree.specs.Causes.{create_fault, is_directory, doomed_in, has_entr
 use Rattle.kf_tree.specs.TreeLogs.{TreeLog, IsAccepted}
 use Rattle.kf_tree.proofs.Allowed.{not_passed, passed}
 use Rattle.kf_groups.specs.declared.attribute.Attribute.{Attribute}
-use Rattle.kf_groups.specs.Attributes.{file_of, file_fault, files_cause, has_name, shown}
-use Rattle.kf_groups.specs.Stores.{StayLinked}
-use Rattle.kf_groups.proofs.Free.{all_still_free, first_of_six, parted}
-use Rattle.kf_groups.proofs.Linked.{itself_at, linked_activated, linked_created, vacant_slot}
+use Rattle.kf_groups.specs.Attributes.{HasNone, file_of, file_fault, files_cause, has_name, shown}
+use Rattle.kf_groups.specs.Stores.{Keeps, KeepsOlder, node_count}
+use Rattle.kf_groups.proofs.Free.{all_still_free, first_of_six, of_six, parted}
+use Rattle.kf_groups.proofs.Counts.{activated_same, created_more}
+use Rattle.kf_groups.proofs.Linked.{itself_at, not_linked, vacant_slot}
+use Rattle.kf_groups.proofs.Older.{activated, keeps_created, keeps_on}
 use Rattle.kf_groups.proofs.Makings.{first_shown, later}
 use Rattle.kf_groups.proofs.NewDirectory.{all_free}
 
@@ -60,16 +62,53 @@ module _ (s0 s1 : Locked) (dir : Key) (attributes : List Attribute) (d : Attribu
       (subst (λ r. files_cause (file_fault grown r (Some dir)) (shown (later attributes)) ≡ None) (sym made.same_root) still)
 
 module _ (table : TableId) (s0 s1 : Locked) (dir key : Key) (name : List ℕ) (node : Node) (whole : IsWhole table s0) (vacant : IsVacant s0.master.view key) (made : Created s0 s1 dir name node false key) where
-  pub stay_created : StayLinked s0.state.tree s1.state.tree
-  stay_created k h = subst (λ (t : Tree). is_linked t k ≡ true) (sym made.changed)
-      (linked_created s0.state.tree key dir name node false (vacant_slot table s0 key whole vacant) k h)
+  slot : slice_get s0.state.tree key.slot ≡ Some None
+  slot = vacant_slot table s0 key whole vacant
 
   pub itself_linked : is_linked s1.state.tree key ≡ true
   itself_linked = subst (λ (t : Tree). is_linked t key ≡ true) (sym made.changed)
-      (ap (λ (o : Option Record). is_some o) (itself_at s0.state.tree key dir name node false (vacant_slot table s0 key whole vacant)))
+      (ap (λ (o : Option Record). is_some o) (itself_at s0.state.tree key dir name node false slot))
 
-pub stay_activated : (old new : TreeLog) (cause : Option Refusal) (key : Key) → IsAccepted old new cause (Activate key) → StayLinked old.tree new.tree
-stay_activated old new cause key accepted k h = subst (λ (t : Tree). is_linked t k ≡ true) (sym accepted.changed) (linked_activated old.tree key k h)
+  pub made_keeps : Keeps s0.state.tree s1.state.tree
+  made_keeps = subst (Keeps s0.state.tree) (sym made.changed) (keeps_created s0.state.tree key dir name node false slot)
+
+  pub made_more : node_count s1.state.tree ≡ node_count s0.state.tree + 1
+  made_more = ap (λ (t : Tree). node_count t) made.changed ∙ created_more s0.state.tree key dir name node false slot
+
+  pub fresh : is_linked s0.state.tree key ≡ false
+  fresh = not_linked s0.state.tree key dir name node false slot
+
+  -- what was there before stays, where the node is taken back
+  pub stays : (t2 t3 : Tree) → Keeps s1.state.tree t2 → KeepsOlder key t2 t3 → Keeps s0.state.tree t3
+  stays t2 t3 since older = older s0.state.tree s0.state.root whole.kept.lawful fresh
+      (keeps_on s0.state.tree s1.state.tree t2 made_keeps since)
+
+  -- or activated
+  pub stays_activated : (s2 s3 : TreeLog) (cause : Option Refusal) → Keeps s1.state.tree s2.tree → IsAccepted s2 s3 cause (Activate key)
+      → Keeps s0.state.tree s3.tree
+  stays_activated s2 s3 cause since accepted = subst (Keeps s0.state.tree) (sym accepted.changed)
+      (activated s0.state.tree s0.state.root key whole.kept.lawful fresh s2.tree
+      (keeps_on s0.state.tree s1.state.tree s2.tree made_keeps since))
+
+pub activated_count : (s2 s3 : TreeLog) (cause : Option Refusal) (key : Key) → IsAccepted s2 s3 cause (Activate key) → node_count s3.tree ≡ node_count s2.tree
+activated_count s2 s3 cause key accepted = ap (λ (t : Tree). node_count t) accepted.changed ∙ activated_same s2.tree key
+
+-- no file of these names is there, where nothing is wrong with them
+pub none_yet : (s : TreeLog) (dir : Key) (attributes : List Attribute) → AreFree s dir attributes → HasNone s.tree dir attributes
+none_yet s dir [] free = tt
+none_yet s dir (a ∷ attributes) free =
+    let c = parted (file_fault s.tree s.root (Some dir) a) (unless (not (has_name attributes a.name.now)) Exists)
+    (files_cause (file_fault s.tree s.root (Some dir)) attributes) free in (
+      not_passed (has_entry s.tree dir a.name.now) Exists (of_six (unless (is_linked s.tree dir) NoEntry) (name_fault a.name.now)
+          (unless (is_directory s.tree dir) NotDir) (unless (not (doomed_in s.tree dir)) NoEntry) (unless (not (has_entry s.tree dir a.name.now)) Exists) c.0).1,
+      none_yet s dir attributes c.2,
+    )
+
+-- nor of the names of the later ones
+pub later_none : (s : TreeLog) (dir : Key) (attributes : List Attribute) (d : Attribute) → 1 ≤ length attributes → (get_or attributes 0 d).mode ≢ 0
+    → AreFree s dir (shown attributes) → HasNone s.tree dir (shown (later attributes))
+later_none s dir attributes d some there free =
+    (subst (HasNone s.tree dir) (first_shown attributes d some there) (none_yet s dir (shown attributes) free)).1
 
 pub directory_free : (table : TableId) (s0 s1 : Locked) (dir key : Key) (name : List ℕ) (attributes : List Attribute) → IsWhole table s0 → IsVacant s0.master.view key
     → Created s0 s1 dir name Dir false key → create_fault s0.state.tree s0.state.root dir name Dir ≡ None

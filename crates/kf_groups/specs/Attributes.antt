@@ -1,5 +1,5 @@
 -- Which files a group has, and why it is refused.
-use Rattle.std.specs.Prelude.{ℕ, Bool, not, ◌==◌, List, [], ◌∷◌, filter, Option, None, Some, if◌then◌else◌}
+use Rattle.std.specs.Prelude.{◌≡◌, ℕ, suc, Bool, false, not, ◌==◌, List, [], ◌∷◌, length, filter, Option, None, Some, if◌then◌else◌}
 use Rattle.std.specs.List.{list_any}
 use Rattle.std.specs.Str.{bytes_eq}
 use denote.Ref.{Bor}
@@ -11,7 +11,7 @@ use Rattle.kf_core.specs.declared.refusal.Refusal.TheVariants.{Exists}
 use Rattle.kf_core.specs.Names.{name_fault}
 use Rattle.kf_core.specs.Refusals.{unless, first_cause}
 use Rattle.kf_core.specs.Tree.{Tree}
-use Rattle.kf_tree.specs.Causes.{create_fault}
+use Rattle.kf_tree.specs.Causes.{create_fault, has_entry}
 use Rattle.kf_groups.specs.declared.attribute.Attribute.{Attribute}
 use Rattle.kf_groups.specs.declared.attribute.Group.{Group}
 
@@ -30,6 +30,12 @@ file_of attribute = File attribute.mode attribute.tag
 -- whether one of the attributes has this name
 abbrev pub has_name : List Attribute → List ℕ → Bool
 has_name attributes name = list_any (λ attribute. bytes_eq attribute.name.now name) attributes
+
+-- the directory has no entry of the name of any of these
+abbrev pub HasNone : Tree → Key → List Attribute → Type 0
+HasNone t dir [] = Unit {0}
+HasNone t dir (attribute ∷ attributes) =
+    (has_entry t dir attribute.name.now ≡ false) × HasNone t dir attributes
 
 -- why these files are refused: of one after the other what is wrong with it, and that a later one has its
 -- name
@@ -63,3 +69,11 @@ cause_by_name t root dir attributes (Some name) = first_cause (
 -- why a group is refused, want of slots and memory aside
 abbrev pub group_cause : Tree → Key → Key → Group → Option Refusal
 group_cause t root dir group = cause_by_name t root dir group.attributes.now group.name
+
+-- how many nodes the group is: its files, and its directory, where it has one of its own
+abbrev pub size_by_name : ℕ → Option (Bor (List ℕ)) → ℕ
+size_by_name files None = files
+size_by_name files (Some name) = suc files
+
+abbrev pub group_size : Group → ℕ
+group_size group = size_by_name (length (shown group.attributes.now)) group.name

@@ -1,3 +1,4 @@
 pub mod Stores
 pub mod Attributes
 pub mod Making
+pub mod Groups

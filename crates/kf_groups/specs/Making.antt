@@ -1,5 +1,5 @@
 -- The commands that make a group, and those that take back what was made of it.
-use Rattle.std.specs.Prelude.{◌≡◌, ◌⊎◌, ℕ, false, List, [], ◌∷◌, ◌++◌, length, map, All, Contains, Option, None, Some, IfOk, OnErr}
+use Rattle.std.specs.Prelude.{◌≡◌, ◌⊎◌, ◌+◌, ℕ, false, List, [], ◌∷◌, ◌++◌, length, map, All, Contains, Option, None, Some, IfOk, OnErr}
 use denote.Ref.{Bor}
 use Rattle.kf_core.specs.declared.command.Command.{Command}
 use Rattle.kf_core.specs.declared.command.Command.TheVariants.{Create, Activate, Doom, Unlink}
@@ -9,13 +9,13 @@ use Rattle.kf_core.specs.declared.refusal.Refusal.{Refusal}
 use Rattle.kf_core.specs.declared.refusal.Refusal.TheVariants.{NoMemory, NoSpace}
 use Rattle.kf_core.specs.Commands.{replay}
 use Rattle.kf_core.specs.PostOrder.{IsPostOrder}
-use Rattle.kf_core.specs.Tree.{Tree}
+use Rattle.kf_core.specs.Tree.{Tree, is_linked}
 use Rattle.kf_tree.specs.Paths.{found}
 use Rattle.kf_tree.specs.TreeLogs.{TreeLog}
 use Rattle.kf_groups.specs.declared.attribute.Attribute.{Attribute}
 use Rattle.kf_groups.specs.declared.attribute.Group.{Group}
 use Rattle.kf_groups.specs.Attributes.{shown, file_of, group_cause}
-use Rattle.kf_groups.specs.Stores.{Stores}
+use Rattle.kf_groups.specs.Stores.{Stores, node_count}
 
 -- a file is made in the directory, under this key, not live
 abbrev pub creation : Key → Attribute → Key → Command
@@ -38,21 +38,31 @@ abbrev pub named_creations : Key → List ℕ → List Attribute → Key → Lis
 named_creations dir name attributes key keys =
     Create key dir name Dir false ∷ (creations key attributes keys ++ Activate key ∷ [])
 
--- the group was made: its files right in the directory, or in one of its own
+-- the group was made: its files right in the directory, or in one of its own, which is new
 abbrev pub MadeByName : TreeLog → TreeLog → Key → List Attribute → Option (Bor (List ℕ)) → Key → Type 0
 MadeByName old new dir attributes None key = (key ≡ dir) × ((keys : List Key)
     × (length keys ≡ length attributes) × Stores old new (live_creations dir attributes keys))
-MadeByName old new dir attributes (Some name) key = (keys : List Key)
-    × (length keys ≡ length attributes) × Stores old new (named_creations dir name.now attributes key keys)
+MadeByName old new dir attributes (Some name) key = (is_linked old.tree key ≡ false) × ((keys : List Key)
+    × (length keys ≡ length attributes) × Stores old new (named_creations dir name.now attributes key keys))
 
 -- there was nothing against the group, and it was made; the key is that of the directory with its files
 pub record GroupMade (old new : TreeLog) (dir : Key) (group : Group) (key : Key) : Type 0 where
   pub no_cause : group_cause old.tree old.root dir group ≡ None
   pub made : MadeByName old new dir (shown group.attributes.now) group.name key
 
--- there was no slot, or no memory
-abbrev pub LacksRoom : Refusal → Type 0
-LacksRoom refusal = (refusal ≡ NoSpace) ⊎ (refusal ≡ NoMemory)
+-- there was no slot, and as many nodes are linked as before; or there was no memory
+abbrev pub LacksRoom : Tree → Tree → Refusal → Type 0
+LacksRoom old new refusal =
+    ((refusal ≡ NoSpace) × (node_count new ≡ node_count old)) ⊎ (refusal ≡ NoMemory)
+
+-- there was no slot, and the tree is as it was; or there was no memory, be it to take back what was made
+abbrev pub RoomRefused : Tree → Tree → Refusal → Type 0
+RoomRefused old new refusal = ((refusal ≡ NoSpace) × (new ≡ old)) ⊎ (refusal ≡ NoMemory)
+
+-- this was the reason, and so many nodes fewer are linked; or there was no memory
+abbrev pub GaveUp : ℕ → Tree → Tree → Refusal → Refusal → Type 0
+GaveUp nodes old new refusal result =
+    ((result ≡ refusal) × (node_count new + nodes ≡ node_count old)) ⊎ (result ≡ NoMemory)
 
 -- a node was taken back: it was doomed with all below it, and some of these were unlinked; or that was
 -- refused, and nothing was stored
@@ -91,13 +101,15 @@ FilesTakenBack t dir (attribute ∷ attributes) commands = (commands ≡ [])
     ⊎ LiveTakenBack (replay t (creation dir attribute key ∷ [])) dir attributes rest)
     × TookBack (replay t (creation dir attribute key ∷ rest)) key back)
 
--- the directory was not made, or not all of its files were, or it was not activated; what was made was taken
--- back
+-- the directory was not made, or not all of its files were, and those were taken back; or it was not
+-- activated; then it was taken back
 abbrev pub DirectoryTakenBack : Tree → Key → List ℕ → List Attribute → List Command → Type 0
 DirectoryTakenBack t dir name attributes commands = (commands ≡ [])
-    ⊎ ((key : Key) × (keys : List Key) × (back : List Command)
-    × (commands ≡ Create key dir name Dir false ∷ (creations key attributes keys ++ back))
-    × TookBack (replay t (Create key dir name Dir false ∷ creations key attributes keys)) key back)
+    ⊎ ((key : Key) × (files back : List Command)
+    × (commands ≡ Create key dir name Dir false ∷ (files ++ back))
+    × (FilesTakenBack (replay t (Create key dir name Dir false ∷ [])) key attributes files
+    ⊎ ((keys : List Key) × (length keys ≡ length attributes) × (files ≡ creations key attributes keys)))
+    × TookBack (replay t (Create key dir name Dir false ∷ files)) key back)
 
 -- what the want of slots or memory left of a group
 abbrev pub TakenBackByName : Tree → Key → List Attribute → Option (Bor (List ℕ)) → List Command → Type 0
@@ -109,6 +121,6 @@ TakenBackByName t dir attributes (Some name) commands = DirectoryTakenBack t dir
 abbrev pub GroupRefused : TreeLog → TreeLog → Key → Group → Refusal → Type 0
 GroupRefused old new dir group refusal =
     ((group_cause old.tree old.root dir group ≡ Some refusal) × (new ≡ old))
-    ⊎ ((group_cause old.tree old.root dir group ≡ None) × LacksRoom refusal
+    ⊎ ((group_cause old.tree old.root dir group ≡ None) × RoomRefused old.tree new.tree refusal
     × ((commands : List Command) × Stores old new commands
     × TakenBackByName old.tree dir (shown group.attributes.now) group.name commands))

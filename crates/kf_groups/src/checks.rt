@@ -3,6 +3,7 @@ ghost use Rattle.std.specs.Prelude.{◌≡◌, ◌&&◌, Option, None, Some};
 ghost use Rattle.std.specs.List.{list_any};
 ghost use Rattle.std.specs.Str.{bytes_eq};
 ghost use Rattle.kf_groups.specs.Attributes.{file_fault, file_of, files_cause, group_cause, has_name, is_shown, shown, shown_cause};
+ghost use Rattle.kf_groups.specs.Groups.{clashes, groups_cause, makes, shares};
 
 use crate::attribute::{Attribute, Group};
 use kf_core::{Key, Node, Refusal};
@@ -98,4 +99,64 @@ pub(crate) fn group_cause(state: &State, dir: Key, group: &Group) -> Option<Refu
         return Some(fault);
     }
     files_cause(state, None, group.attributes)
+}
+
+// Whether the group makes an entry of this name: its own directory, or one of its files.
+fn makes(group: &Group, name: &[u8]) -> bool
+    ensures known { result ≡ makes name.now group.now }
+{
+    match group.name {
+        Some(own) => own == name,
+        None => has_name(group.attributes, name),
+    }
+}
+
+// Whether it makes an entry of the name of this attribute's file.
+fn makes_file(group: &Group, attribute: &Attribute) -> bool
+    ensures known { result ≡ (is_shown attribute.now && makes attribute.now.name.now group.now) }
+{
+    attribute.mode != 0 && makes(group, attribute.name)
+}
+
+// Whether it makes an entry of the name of one of these attributes' files.
+fn makes_any(group: &Group, attributes: &[Attribute]) -> bool
+    ensures known { result ≡
+        list_any (λ attribute. is_shown attribute && makes attribute.name.now group.now) attributes.now }
+{
+    attributes
+        .iter()
+        .any(|attribute| makes_file(group, attribute))
+}
+
+// Whether both make an entry of one name.
+fn shares(group: &Group, other: &Group) -> bool
+    ensures known { result ≡ shares group.now other.now }
+{
+    match other.name {
+        Some(own) => makes(group, own),
+        None => makes_any(group, other.attributes),
+    }
+}
+
+// Whether it and one of the others make an entry of one name.
+fn clashes(others: &[Group], group: &Group) -> bool
+    ensures known { result ≡ clashes others.now group.now }
+{
+    others.iter().any(|other| shares(group, other))
+}
+
+/// Why these groups are refused, want of slots and memory aside.
+pub(crate) fn groups_cause(state: &State, dir: Key, groups: &[Group]) -> Option<Refusal>
+    ensures first { result ≡ groups_cause state.now.tree state.now.root dir groups.now }
+{
+    let [first, rest @ ..] = groups else {
+        return None;
+    };
+    if let Some(refusal) = group_cause(state, dir, first) {
+        return Some(refusal);
+    }
+    if clashes(rest, first) {
+        return Some(Refusal::Exists);
+    }
+    groups_cause(state, dir, rest)
 }

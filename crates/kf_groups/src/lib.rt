@@ -3,10 +3,12 @@
 
 mod attribute;
 mod checks;
+mod groups;
 mod making;
 mod removal;
 mod taking_back;
 
 pub use attribute::{Attribute, Group};
+pub use groups::create_groups;
 pub use making::create_group;
 pub use removal::remove_group;

@@ -1,30 +1,38 @@
 //! A group is made, all or nothing.
-ghost use Rattle.std.specs.Prelude.{◌≡◌, List, length, IfOk, IfErr, OnErr, OnOk, None, Some};
+ghost use Rattle.std.specs.Prelude.{◌≡◌, ◌+◌, suc, false, List, length, IfOk, IfErr, OnErr, OnOk, None, Some};
 ghost use Rattle.kf_core.specs.declared.command.Command.{Command};
 ghost use Rattle.kf_core.specs.declared.key.Key.{Key};
 ghost use Rattle.kf_core.specs.declared.key.Node.TheVariants.{Dir};
+ghost use Rattle.kf_core.specs.Tree.{is_linked};
 ghost use Rattle.kf_tree.specs.Causes.{create_fault};
-ghost use Rattle.kf_groups.specs.Attributes.{file_fault, files_cause, shown};
+ghost use Rattle.kf_groups.specs.Attributes.{file_fault, files_cause, group_size, shown};
 ghost use Rattle.kf_groups.specs.Making.{creations, live_creations, named_creations, DirectoryTakenBack, FilesTakenBack, GroupMade, GroupRefused, LacksRoom};
-ghost use Rattle.kf_groups.specs.Stores.{StayLinked, Stores};
+ghost use Rattle.kf_groups.specs.Stores.{Keeps, Stores, node_count};
 
 use crate::attribute::{Attribute, Group};
 use crate::checks::{file_of, group_cause};
-use crate::taking_back::{take_back, take_back_files};
+use crate::taking_back::{give_up, take_back, take_back_files};
 use kf_core::{Key, Node, Refusal};
 use kf_shared::{Editor, Naming};
 
-// Makes the files, one after another, not live. On a refusal the first ones stay.
+// Makes the files, one after another, not live. On a refusal it takes them back.
 fn fill<N: Naming>(
     editor: &mut Editor<'_, N>,
     dir: Key,
     attributes: &[Attribute],
 ) -> Result<(), Refusal>
-    ensures stored { (keys : List Key) × (OnOk result (length keys ≡ length (shown attributes.now)))
-        × Stores editor.old.state editor.new.state (creations dir (shown attributes.now) keys) }
-    ensures lacks { files_cause (file_fault editor.old.state.tree editor.old.state.root (Some dir))
-        (shown attributes.now) ≡ None → IfErr result (λ refusal. LacksRoom refusal) }
-    ensures linked { StayLinked editor.old.state.tree editor.new.state.tree }
+    requires free { files_cause (file_fault editor.old.state.tree editor.old.state.root (Some dir))
+        (shown attributes.now) ≡ None }
+    ensures made { OnOk result ((keys : List Key) × (length keys ≡ length (shown attributes.now))
+        × Stores editor.old.state editor.new.state (creations dir (shown attributes.now) keys)) }
+    ensures refused { OnErr result ((commands : List Command)
+        × Stores editor.old.state editor.new.state commands
+        × FilesTakenBack editor.old.state.tree dir (shown attributes.now) commands) }
+    ensures lacks { IfErr result
+        (λ refusal. LacksRoom editor.old.state.tree editor.new.state.tree refusal) }
+    ensures others { Keeps editor.old.state.tree editor.new.state.tree }
+    ensures counted { OnOk result (node_count editor.new.state.tree
+        ≡ node_count editor.old.state.tree + length (shown attributes.now)) }
     ensures claims { editor.new.claims ≡ editor.old.claims }
 {
     let [first, rest @ ..] = attributes else {
@@ -34,8 +42,12 @@ fn fill<N: Naming>(
         return fill(editor, dir, rest);
     }
     let _ = editor.state();
-    editor.create(dir, first.name, file_of(first), false)?;
-    fill(editor, dir, rest)
+    let node = file_of(first);
+    let key = editor.create(dir, first.name, node, false)?;
+    if let Err(refusal) = fill(editor, dir, rest) {
+        return Err(give_up(editor, key, refusal));
+    }
+    Ok(())
 }
 
 // Makes the files, one after another, not live, and then activates each. On a refusal it takes them back.
@@ -44,14 +56,18 @@ fn make_files<N: Naming>(
     dir: Key,
     attributes: &[Attribute],
 ) -> Result<(), Refusal>
+    requires free { files_cause (file_fault editor.old.state.tree editor.old.state.root (Some dir))
+        (shown attributes.now) ≡ None }
     ensures made { OnOk result ((keys : List Key) × (length keys ≡ length (shown attributes.now))
         × Stores editor.old.state editor.new.state (live_creations dir (shown attributes.now) keys)) }
     ensures refused { OnErr result ((commands : List Command)
         × Stores editor.old.state editor.new.state commands
         × FilesTakenBack editor.old.state.tree dir (shown attributes.now) commands) }
-    ensures lacks { files_cause (file_fault editor.old.state.tree editor.old.state.root (Some dir))
-        (shown attributes.now) ≡ None → IfErr result (λ refusal. LacksRoom refusal) }
-    ensures linked { OnOk result (StayLinked editor.old.state.tree editor.new.state.tree) }
+    ensures lacks { IfErr result
+        (λ refusal. LacksRoom editor.old.state.tree editor.new.state.tree refusal) }
+    ensures others { Keeps editor.old.state.tree editor.new.state.tree }
+    ensures counted { OnOk result (node_count editor.new.state.tree
+        ≡ node_count editor.old.state.tree + length (shown attributes.now)) }
     ensures claims { editor.new.claims ≡ editor.old.claims }
 {
     let [first, rest @ ..] = attributes else {
@@ -63,8 +79,7 @@ fn make_files<N: Naming>(
     let _ = editor.state();
     let key = editor.create(dir, first.name, file_of(first), false)?;
     if let Err(refusal) = make_files(editor, dir, rest) {
-        take_back(editor, key);
-        return Err(refusal);
+        return Err(give_up(editor, key, refusal));
     }
     if let Err(refusal) = editor.activate(key) {
         take_back_files(editor, dir, rest);
@@ -81,7 +96,8 @@ fn make_directory<N: Naming>(
     name: &[u8],
     attributes: &[Attribute],
 ) -> Result<Key, Refusal>
-    requires directory_free { create_fault editor.old.state.tree editor.old.state.root dir name.now Dir ≡ None }
+    requires directory_free { create_fault editor.old.state.tree editor.old.state.root dir name.now Dir
+        ≡ None }
     requires files_free { files_cause (file_fault editor.old.state.tree editor.old.state.root None)
         (shown attributes.now) ≡ None }
     ensures made { IfOk result (λ key. (keys : List Key) × (length keys ≡ length (shown attributes.now))
@@ -90,14 +106,18 @@ fn make_directory<N: Naming>(
     ensures refused { OnErr result ((commands : List Command)
         × Stores editor.old.state editor.new.state commands
         × DirectoryTakenBack editor.old.state.tree dir name.now (shown attributes.now) commands) }
-    ensures lacks { IfErr result (λ refusal. LacksRoom refusal) }
+    ensures fresh { IfOk result (λ key. is_linked editor.old.state.tree key ≡ false) }
+    ensures lacks { IfErr result
+        (λ refusal. LacksRoom editor.old.state.tree editor.new.state.tree refusal) }
+    ensures others { Keeps editor.old.state.tree editor.new.state.tree }
+    ensures counted { OnOk result (node_count editor.new.state.tree
+        ≡ node_count editor.old.state.tree + suc (length (shown attributes.now))) }
     ensures claims { editor.new.claims ≡ editor.old.claims }
 {
     let _ = editor.state();
     let key = editor.create(dir, name, Node::Dir, false)?;
     if let Err(refusal) = fill(editor, key, attributes) {
-        take_back(editor, key);
-        return Err(refusal);
+        return Err(give_up(editor, key, refusal));
     }
     if let Err(refusal) = editor.activate(key) {
         take_back(editor, key);
@@ -112,8 +132,10 @@ fn make_directory<N: Naming>(
 ///
 /// Refusals, in order: those of [`Editor::create`] for the group's own directory, where it has a name; then
 /// of one attribute after another what is wrong with its file, and Exists where a later one has its name.
-/// After these nothing has changed. Then NoSpace or NoMemory, whichever is met first. After these what was
-/// made is taken back under the same lock; what lacks memory for that stays.
+/// After these nothing has changed. Then NoSpace, after which the tree is as it was: what was made is taken
+/// back under the same lock. Last NoMemory, be it for that: what lacks memory to be taken back stays.
+///
+/// Whatever the answer, each node that was there is as it was.
 pub fn create_group<N: Naming>(
     editor: &mut Editor<'_, N>,
     dir: Key,
@@ -122,6 +144,9 @@ pub fn create_group<N: Naming>(
     ensures made { IfOk result (λ key. GroupMade editor.old.state editor.new.state dir group.now key) }
     ensures refused { IfErr result
         (λ refusal. GroupRefused editor.old.state editor.new.state dir group.now refusal) }
+    ensures others { Keeps editor.old.state.tree editor.new.state.tree }
+    ensures counted { OnOk result (node_count editor.new.state.tree
+        ≡ node_count editor.old.state.tree + group_size group.now) }
     ensures claims { editor.new.claims ≡ editor.old.claims }
 {
     if let Some(refusal) = group_cause(editor.state(), dir, group) {
@@ -129,9 +154,9 @@ pub fn create_group<N: Naming>(
     }
     match group.name {
         Some(name) => make_directory(editor, dir, name, group.attributes),
-        None => {
-            make_files(editor, dir, group.attributes)?;
-            Ok(dir)
-        }
+        None => match make_files(editor, dir, group.attributes) {
+            Ok(()) => Ok(dir),
+            Err(refusal) => Err(refusal),
+        },
     }
 }

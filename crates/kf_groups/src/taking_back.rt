@@ -1,17 +1,19 @@
 //! What was made under the lock, and never left it, is taken back under it.
-ghost use Rattle.std.specs.Prelude.{◌≡◌, List, map, All, Contains, IfOk, OnErr};
+ghost use Rattle.std.specs.Prelude.{◌≡◌, ◌+◌, List, length, map, true, false, All, Contains, IfOk, Ok, OnErr};
 ghost use Rattle.kf_core.specs.declared.command.Command.{Command};
 ghost use Rattle.kf_core.specs.declared.command.Command.TheVariants.{Doom, Unlink};
 ghost use Rattle.kf_core.specs.declared.key.Key.{Key};
+ghost use Rattle.kf_core.specs.Lawful.{Lawful};
 ghost use Rattle.kf_core.specs.PostOrder.{IsPostOrder};
-ghost use Rattle.kf_tree.specs.Causes.{doom_cause};
+ghost use Rattle.kf_core.specs.Tree.{Tree};
+ghost use Rattle.kf_tree.specs.Causes.{doom_cause, has_entry};
 ghost use Rattle.kf_tree.specs.TreeLogs.{IsAccepted};
 ghost use Rattle.kf_shared.specs.Locked.{Unchanged};
 ghost use Rattle.kf_shared.specs.Receipts.{AreOf};
 ghost use Rattle.kf_shared.specs.Removal.{keys_of};
-ghost use Rattle.kf_groups.specs.Attributes.{shown};
-ghost use Rattle.kf_groups.specs.Making.{EachTookBack, NameTookBack, TookBack};
-ghost use Rattle.kf_groups.specs.Stores.{Stores};
+ghost use Rattle.kf_groups.specs.Attributes.{HasNone, shown};
+ghost use Rattle.kf_groups.specs.Making.{EachTookBack, GaveUp, NameTookBack, TookBack};
+ghost use Rattle.kf_groups.specs.Stores.{Keeps, KeepsOlder, Stores, node_count};
 
 use crate::attribute::Attribute;
 use kf_core::{Key, Refusal};
@@ -38,76 +40,131 @@ fn doom<N: Naming>(editor: &mut Editor<'_, N>, key: Key) -> Result<Vec<Hold>, Re
     }
 }
 
-// Takes the node of a hold out of the tree, where it is drained.
-fn unlink<N: Naming>(editor: &mut Editor<'_, N>, hold: Hold)
+// Whether a node was taken out of the tree.
+fn did_unlink(unlinked: Result<bool, Refusal>) -> bool
+    ensures told { result ≡ true → unlinked ≡ Ok true }
+{
+    match unlinked {
+        Ok(did) => did,
+        Err(_) => false,
+    }
+}
+
+// Takes the node of a hold out of the tree, where it is drained. Whether it did.
+fn unlink<N: Naming>(editor: &mut Editor<'_, N>, hold: Hold) -> bool
     requires table { hold.table ≡ N.table }
     ensures unlinked { (keys : List Key) × All (λ key. key ≡ hold.key) keys
         × Stores editor.old.state editor.new.state (map Unlink keys) }
+    ensures counted { result ≡ true →
+        node_count editor.new.state.tree + 1 ≡ node_count editor.old.state.tree }
     ensures claims { editor.new.claims ≡ editor.old.claims }
 {
     match hold.look() {
         Ok(drained) => {
-            let _ = editor.unlink(&drained);
+            let unlinked = editor.unlink(&drained);
             drained.release();
+            did_unlink(unlinked)
         }
-        Err(hold) => hold.release(),
+        Err(hold) => {
+            hold.release();
+            false
+        }
     }
 }
 
-// Takes the nodes of these holds out of the tree, each where it is drained.
-fn unlink_each<N: Naming>(editor: &mut Editor<'_, N>, holds: Vec<Hold>)
+// Takes the nodes of these holds out of the tree, each where it is drained. Whether it did so with all.
+fn unlink_each<N: Naming>(editor: &mut Editor<'_, N>, holds: Vec<Hold>) -> bool
     requires tables { AreOf N.table holds.items }
     ensures unlinked { (keys : List Key) × All (Contains (keys_of holds.items)) keys
         × Stores editor.old.state editor.new.state (map Unlink keys) }
+    ensures counted { result ≡ true →
+        node_count editor.new.state.tree + length holds.items ≡ node_count editor.old.state.tree }
     ensures claims { editor.new.claims ≡ editor.old.claims }
 {
     let mut rest = holds.into_iter();
+    let mut all = true;
     while let Some(hold) = rest.next() {
-        unlink(editor, hold);
+        let unlinked = unlink(editor, hold);
+        all &= unlinked;
     }
     rest.destroy_empty();
+    all
 }
 
 /// Takes a node back that was made in this turn of the lock, with all below it. Nobody was ever let in there,
-/// so it does not wait. Where there is no memory for that, it stays.
-pub(crate) fn take_back<N: Naming>(editor: &mut Editor<'_, N>, key: Key)
+/// so it does not wait. Where there is no memory for that, it stays. Whether one node was taken out of the
+/// tree, and that was all of it.
+pub(crate) fn take_back<N: Naming>(editor: &mut Editor<'_, N>, key: Key) -> bool
     ensures took { (commands : List Command) × TookBack editor.old.state.tree key commands
         × Stores editor.old.state editor.new.state commands }
+    ensures older { KeepsOlder key editor.old.state.tree editor.new.state.tree }
+    ensures counted { result ≡ true →
+        node_count editor.new.state.tree + 1 ≡ node_count editor.old.state.tree }
     ensures claims { editor.new.claims ≡ editor.old.claims }
 {
-    if let Ok(holds) = doom(editor, key) {
-        unlink_each(editor, holds);
+    let Ok(holds) = doom(editor, key) else {
+        return false;
+    };
+    let alone = holds.len() == 1;
+    let all = unlink_each(editor, holds);
+    alone & all
+}
+
+/// Takes the one node back, and gives the reason for that: NoMemory where it stays.
+pub(crate) fn give_up<N: Naming>(editor: &mut Editor<'_, N>, key: Key, refusal: Refusal) -> Refusal
+    ensures took { (commands : List Command) × TookBack editor.old.state.tree key commands
+        × Stores editor.old.state editor.new.state commands }
+    ensures older { KeepsOlder key editor.old.state.tree editor.new.state.tree }
+    ensures counted { GaveUp 1 editor.old.state.tree editor.new.state.tree refusal result }
+    ensures claims { editor.new.claims ≡ editor.old.claims }
+{
+    if take_back(editor, key) {
+        refusal
+    } else {
+        Refusal::NoMemory
     }
 }
 
-// Takes the node back that stands in the directory under this name, where one does.
-fn take_back_name<N: Naming>(editor: &mut Editor<'_, N>, dir: Key, name: &[u8])
+// Takes the node back that stands in the directory under this name, where one does. Whether one was taken
+// out of the tree, and that was all of it.
+fn take_back_name<N: Naming>(editor: &mut Editor<'_, N>, dir: Key, name: &[u8]) -> bool
     ensures took { (commands : List Command) × NameTookBack editor.old.state.tree dir name.now commands
         × Stores editor.old.state editor.new.state commands }
+    ensures older { (base : Tree) (root : Key) → Lawful base root → has_entry base dir name.now ≡ false
+        → Keeps base editor.old.state.tree → Keeps base editor.new.state.tree }
+    ensures counted { result ≡ true →
+        node_count editor.new.state.tree + 1 ≡ node_count editor.old.state.tree }
     ensures claims { editor.new.claims ≡ editor.old.claims }
 {
-    if let Ok(key) = editor.state().find(dir, name) {
-        take_back(editor, key);
+    match editor.state().find(dir, name) {
+        Ok(key) => take_back(editor, key),
+        Err(_) => false,
     }
 }
 
 /// Takes the files of these attributes back, which all were made in this turn of the lock, the last first.
-/// What lacks memory for that stays.
+/// What lacks memory for that stays. Whether as many nodes were taken out of the tree as there are files.
 pub(crate) fn take_back_files<N: Naming>(
     editor: &mut Editor<'_, N>,
     dir: Key,
     attributes: &[Attribute],
-)
+) -> bool
     ensures took { (commands : List Command)
         × EachTookBack editor.old.state.tree dir (shown attributes.now) commands
         × Stores editor.old.state editor.new.state commands }
+    ensures older { (base : Tree) (root : Key) → Lawful base root → HasNone base dir (shown attributes.now)
+        → Keeps base editor.old.state.tree → Keeps base editor.new.state.tree }
+    ensures counted { result ≡ true → node_count editor.new.state.tree + length (shown attributes.now)
+        ≡ node_count editor.old.state.tree }
     ensures claims { editor.new.claims ≡ editor.old.claims }
 {
     let [first, rest @ ..] = attributes else {
-        return;
+        return true;
     };
-    take_back_files(editor, dir, rest);
-    if first.mode != 0 {
-        take_back_name(editor, dir, first.name);
+    let later = take_back_files(editor, dir, rest);
+    if first.mode == 0 {
+        return later;
     }
+    let one = take_back_name(editor, dir, first.name);
+    later & one
 }

@@ -1,32 +1,71 @@
-use Rattle.std.proofs.Common.{refl, sym, subst}
+use Rattle.std.proofs.Common.{◌≡◌, ◌+◌, arith, inl, inr, refl, sym, subst}
 use Rattle.kf_groups.specs.Attributes.{shown}
-use Rattle.kf_groups.specs.Making.{creations}
-use Rattle.kf_groups.specs.Stores.{Stores}
-use Rattle.kf_groups.proofs.Makings.{created, directory_made, directory_stopped}
+use Rattle.kf_groups.specs.Stores.{Keeps, node_count}
+use Rattle.kf_tree.specs.TreeLogs.{TreeLog}
+use Rattle.kf_groups.proofs.Counts.{gave_up}
+use Rattle.kf_groups.proofs.Makings.{all_made, created, directory_made, directory_stopped}
 use Rattle.kf_groups.proofs.Lacks.{activate_lacks}
-use Rattle.kf_groups.proofs.Turns.{directory_free, itself_linked}
+use Rattle.kf_groups.proofs.Older.{keeps_linked, keeps_on}
+use Rattle.kf_groups.proofs.Turns.{activated_count, directory_free, fresh, itself_linked, made_keeps, made_more, stays, stays_activated}
 use Rattle.kf_groups.proofs.making.make_directory.Goals as goal
+
+pub fill-requires : goal.fill-requires
+fill-requires g c = record {
+  free =
+      directory_free g.N.Naming.table c.args.editor.now c.create.new.self c.args.dir c.in_ok-key.key c.args.name.now (shown c.args.attributes.now)
+      c.state.ensures.whole c.in_ok-key.ensures.next c.in_ok-key.ensures.accepted c.requires.directory_free c.requires.files_free;
+}
 
 pub returns-in-Err-clause-refused : goal.returns-in-Err-clause-refused
 returns-in-Err-clause-refused g c =
-    let files = c.in-Err.ensures.stored in
-    directory_stopped c.args.editor.now.state c.create.new.self.state c.fill.new.editor.state c.take_back.new.editor.state
-    c.args.dir c.in_ok-key.key c.args.name.now (shown c.args.attributes.now) files.0
+    let rest = c.in-Err.ensures.refused in
+    directory_stopped c.args.editor.now.state c.create.new.self.state c.fill.new.editor.state c.give_up.new.editor.state
+    c.args.dir c.in_ok-key.key c.args.name.now (shown c.args.attributes.now)
     (created c.args.editor.now c.create.new.self c.args.dir c.in_ok-key.key _ _ _ refl c.in_ok-key.ensures.accepted)
-    files.2 c.take_back.ensures.took
+    (rest.0, rest.1, inl rest.2) c.give_up.ensures.took
+
+pub returns-in-Err-clause-lacks : goal.returns-in-Err-clause-lacks
+returns-in-Err-clause-lacks g c =
+    gave_up c.args.editor.now.state.tree c.create.new.self.state.tree c.fill.new.editor.state.tree c.give_up.new.editor.state.tree
+    c.in-Err.refusal c.give_up.result 1 (made_more g.N.Naming.table c.args.editor.now c.create.new.self c.args.dir c.in_ok-key.key _ _
+    c.state.ensures.whole c.in_ok-key.ensures.next c.in_ok-key.ensures.accepted)
+    c.in-Err.ensures.lacks c.give_up.ensures.counted
+
+pub returns-in-Err-clause-others : goal.returns-in-Err-clause-others
+returns-in-Err-clause-others g c =
+    stays g.N.Naming.table c.args.editor.now c.create.new.self c.args.dir c.in_ok-key.key _ _
+    c.state.ensures.whole c.in_ok-key.ensures.next c.in_ok-key.ensures.accepted
+    c.fill.new.editor.state.tree c.give_up.new.editor.state.tree c.fill.ensures.others c.give_up.ensures.older
 
 pub returns-in-Err-activate-clause-refused : goal.returns-in-Err-activate-clause-refused
 returns-in-Err-activate-clause-refused g c =
-    let files = c.in_default.ensures.stored in
-    directory_stopped c.args.editor.now.state c.create.new.self.state c.activate.new.self.state c.take_back-in-Err-activate.new.editor.state
-    c.args.dir c.in_ok-key.key c.args.name.now (shown c.args.attributes.now) files.0
+    directory_stopped c.args.editor.now.state c.create.new.self.state c.activate.new.self.state c.take_back.new.editor.state
+    c.args.dir c.in_ok-key.key c.args.name.now (shown c.args.attributes.now)
     (created c.args.editor.now c.create.new.self c.args.dir c.in_ok-key.key _ _ _ refl c.in_ok-key.ensures.accepted)
-    (subst (λ s. Stores c.create.new.self.state s (creations c.in_ok-key.key (shown c.args.attributes.now) files.0))
-    (sym c.in-Err-activate.ensures.refused.unchanged) files.2) c.take_back-in-Err-activate.ensures.took
+    (all_made c.create.new.self.state c.fill.new.editor.state c.activate.new.self.state c.in_ok-key.key (shown c.args.attributes.now)
+    c.in-Err-activate.ensures.refused.unchanged c.in_default.ensures.made) c.take_back.ensures.took
+
+pub returns-in-Err-activate-clause-lacks : goal.returns-in-Err-activate-clause-lacks
+returns-in-Err-activate-clause-lacks g c = inr (activate_lacks c.fill.new.editor.state c.activate.new.self.state c.in_ok-key.key _
+    (keeps_linked c.create.new.self.state.tree c.fill.new.editor.state.tree c.in_ok-key.key c.fill.ensures.others
+    (itself_linked g.N.Naming.table c.args.editor.now c.create.new.self c.args.dir c.in_ok-key.key _ _
+    c.state.ensures.whole c.in_ok-key.ensures.next c.in_ok-key.ensures.accepted))
+    c.in-Err-activate.ensures.refused)
+
+pub returns-in-Err-activate-clause-others : goal.returns-in-Err-activate-clause-others
+returns-in-Err-activate-clause-others g c =
+    let base = c.args.editor.now.state in
+    let since = subst (λ (s : TreeLog). Keeps c.create.new.self.state.tree s.tree) (sym c.in-Err-activate.ensures.refused.unchanged) c.fill.ensures.others in
+    let still = keeps_on base.tree c.create.new.self.state.tree c.activate.new.self.state.tree
+    (made_keeps g.N.Naming.table c.args.editor.now c.create.new.self c.args.dir c.in_ok-key.key _ _
+    c.state.ensures.whole c.in_ok-key.ensures.next c.in_ok-key.ensures.accepted) since in
+    c.take_back.ensures.older base.tree base.root c.state.ensures.whole.kept.lawful
+    (fresh g.N.Naming.table c.args.editor.now c.create.new.self c.args.dir c.in_ok-key.key _ _
+    c.state.ensures.whole c.in_ok-key.ensures.next c.in_ok-key.ensures.accepted) still
 
 pub returns-clause-made : goal.returns-clause-made
 returns-clause-made g c =
-    let files = c.in_default.ensures.stored in (
+    let files = c.in_default.ensures.made in (
       files.0,
       files.1,
       directory_made c.args.editor.now.state c.create.new.self.state c.fill.new.editor.state c.activate.new.self.state
@@ -35,12 +74,22 @@ returns-clause-made g c =
           files.2 c.in_default-activate.ensures.accepted,
     )
 
-pub returns-in-Err-clause-lacks : goal.returns-in-Err-clause-lacks
-returns-in-Err-clause-lacks g c = c.in-Err.ensures.lacks
-    (directory_free g.N.Naming.table c.args.editor.now c.create.new.self c.args.dir c.in_ok-key.key c.args.name.now (shown c.args.attributes.now)
-    c.state.ensures.whole c.in_ok-key.ensures.next c.in_ok-key.ensures.accepted c.requires.directory_free c.requires.files_free)
+pub returns-clause-others : goal.returns-clause-others
+returns-clause-others g c =
+    stays_activated g.N.Naming.table c.args.editor.now c.create.new.self c.args.dir c.in_ok-key.key _ _
+    c.state.ensures.whole c.in_ok-key.ensures.next c.in_ok-key.ensures.accepted
+    c.fill.new.editor.state c.activate.new.self.state _ c.fill.ensures.others c.in_default-activate.ensures.accepted
 
-pub returns-in-Err-activate-clause-lacks : goal.returns-in-Err-activate-clause-lacks
-returns-in-Err-activate-clause-lacks g c = activate_lacks c.fill.new.editor.state c.activate.new.self.state c.in_ok-key.key _
-    (c.in_default.ensures.linked c.in_ok-key.key (itself_linked g.N.Naming.table c.args.editor.now c.create.new.self c.args.dir c.in_ok-key.key _ _
-    c.state.ensures.whole c.in_ok-key.ensures.next c.in_ok-key.ensures.accepted)) c.in-Err-activate.ensures.refused
+pub returns-clause-counted : goal.returns-clause-counted
+returns-clause-counted g c =
+    let live = activated_count c.fill.new.editor.state c.activate.new.self.state _ c.in_ok-key.key c.in_default-activate.ensures.accepted in
+    let one : node_count c.create.new.self.state.tree ≡ node_count c.args.editor.now.state.tree + 1 =
+    made_more g.N.Naming.table c.args.editor.now c.create.new.self c.args.dir c.in_ok-key.key _ _
+    c.state.ensures.whole c.in_ok-key.ensures.next c.in_ok-key.ensures.accepted in
+    let files = c.in_default.ensures.counted in
+    omega (arith, live, one, files)
+
+pub returns-clause-fresh : goal.returns-clause-fresh
+returns-clause-fresh g c =
+    fresh g.N.Naming.table c.args.editor.now c.create.new.self c.args.dir c.in_ok-key.key _ _
+    c.state.ensures.whole c.in_ok-key.ensures.next c.in_ok-key.ensures.accepted

@@ -1,11 +1,11 @@
-use Rattle.std.proofs.Common.{◌≡◌, List}
+use Rattle.std.proofs.Common.{◌≡◌, ◌+◌, List, length, true}
 use Rattle.std.specs.Prelude.{map, All, Contains}
 use Rattle.std.specs.Vec.Iter.{into_iter_items, into_iter_len}
 use Rattle.kf_core.specs.declared.command.Command.TheVariants.{Unlink}
 use Rattle.kf_core.specs.declared.key.Key.{Key}
 use Rattle.kf_shared.specs.Receipts.{AreOf}
 use Rattle.kf_shared.specs.Removal.{keys_of}
-use Rattle.kf_groups.specs.Stores.{Stores}
+use Rattle.kf_groups.specs.Stores.{Stores, node_count}
 use Rattle.kf_groups.proofs.taking_back.unlink_each.Given as goal
 
 abbrev pub invariant-loop-hold : goal.invariant-loop-hold
@@ -14,6 +14,8 @@ invariant-loop-hold g l = record {
   among : All (λ h. Contains (keys_of l.fn.holds.items) h.key) (into_iter_items l.rest);
   unlinked : (keys : List Key) × All (Contains (keys_of l.fn.holds.items)) keys
       × Stores l.initial.editor.state l.editor.state (map Unlink keys);
+  counted : l.all ≡ true → node_count l.editor.state.tree + length l.fn.holds.items
+      ≡ node_count l.initial.editor.state.tree + length (into_iter_items l.rest);
   claims : l.editor.claims ≡ l.initial.editor.claims;
 }
 

@@ -1,0 +1,145 @@
+-- How many nodes are linked: what is made is one more, what is taken out one fewer, and a mark is none.
+use Rattle.std.proofs.Common.{◌≡◌, inl, inr, ℕ, suc, ◌+◌, ◌≤◌, refl, ap, sym, subst, arith, ◌∙◌, ◌==◌, Bool, true, false, cond, List, [], ◌∷◌, length, slice_set}
+use Rattle.std.specs.Prelude.{Option, None, Some, Result, Ok, slice_get, is_some, IfOk, ◌&&◌}
+use Rattle.std.proofs.lemmas.Bool.Decides.{eqb_tells}
+use Rattle.std.proofs.lemmas.Option.{same_Some}
+use Rattle.kf_core.specs.declared.command.Command.{Command}
+use Rattle.kf_core.specs.declared.command.Command.TheVariants.{Create, Activate, Doom, Unlink}
+use Rattle.kf_core.specs.declared.key.Key.{Key}
+use Rattle.kf_core.specs.declared.key.Node.{Node}
+use Rattle.kf_core.specs.declared.records.Record.{Record}
+use Rattle.kf_core.specs.declared.refusal.Refusal.{Refusal}
+use Rattle.kf_core.specs.Commands.{after, replay, new_record}
+use Rattle.kf_core.specs.Tree.{Tree, is_linked}
+use Rattle.kf_core.proofs.FoundRecords.{linked_here}
+use Rattle.kf_core.proofs.Lists.{count_cleared, count_filled, count_mapped}
+use Rattle.kf_core.proofs.Tallies.{count_cons}
+use Rattle.kf_core.specs.Counts.{tally}
+use Rattle.kf_shared.specs.Locked.{Locked, UnlinkDone}
+use Rattle.kf_table.proofs.ChildTests.{both}
+use Rattle.kf_tree.proofs.Opening.{length_after}
+use Rattle.kf_tree.specs.TreeLogs.{TreeLog, IsAccepted}
+use Rattle.kf_words.specs.Callers.{Handle}
+use Rattle.kf_groups.specs.Making.{GaveUp, LacksRoom, RoomRefused}
+use Rattle.kf_groups.specs.Stores.{Keeps, Stores, node_count}
+
+pub created_more : (t : Tree) (key parent : Key) (name : List ℕ) (node : Node) (live : Bool) → slice_get t key.slot ≡ Some None
+    → node_count (after t (Create key parent name node live)) ≡ node_count t + 1
+created_more t key parent name node live vacant = count_filled t key.slot (new_record key parent name node live) vacant
+
+pub activated_same : (t : Tree) (key : Key) → node_count (after t (Activate key)) ≡ node_count t
+activated_same t key = count_mapped _ t
+
+pub doomed_count : (old new : TreeLog) (cause : Option Refusal) (key : Key) → IsAccepted old new cause (Doom key) → node_count new.tree ≡ node_count old.tree
+doomed_count old new cause key accepted = ap (λ (t : Tree). node_count t) accepted.changed ∙ count_mapped _ old.tree
+
+pub unlinked_fewer : (t : Tree) (key : Key) → is_linked t key ≡ true → node_count (after t (Unlink key)) + 1 ≡ node_count t
+unlinked_fewer t key linked =
+    let r = linked_here t key linked in
+    let at : slice_get t key.slot ≡ Some (Some r.0) = ap (λ (k : Key). slice_get t k.slot) (sym r.2) ∙ r.1 in
+    subst (λ b. node_count (cond b (slice_set t key.slot None) t) + 1 ≡ node_count t) (sym linked) (count_cleared t key.slot r.0 at)
+
+module _ (x y : Option Record) (xs ys : Tree) (keeps : Keeps (x ∷ xs) (y ∷ ys)) where
+  behind : Keeps xs ys
+  behind slot r h = keeps (suc slot) r h
+
+  ahead : tally (is_some x) ≤ tally (is_some y)
+  ahead = elim x as (λ o. x ≡ o → tally (is_some o) ≤ tally (is_some y)) [
+    | None ↦ λ e. omega arith
+    | Some r ↦ λ e. (let same : y ≡ Some r = same_Some y (Some r) (keeps 0 r (ap Some e)) in
+        let one : tally (is_some y) ≡ 1 = ap (λ o. tally (is_some o)) same in omega arith)
+  ] refl
+
+kept_most : (old new : Tree) → length new ≡ length old → Keeps old new → node_count old ≤ node_count new
+kept_most [] new l keeps = omega arith
+kept_most (x ∷ xs) [] l keeps = absurd (omega (arith, l))
+kept_most (x ∷ xs) (y ∷ ys) l keeps =
+    let first = ahead x y xs ys keeps in
+    let rest = kept_most xs ys (omega (arith, l)) (behind x y xs ys keeps) in
+    let c = count_cons is_some x xs in
+    let d = count_cons is_some y ys in
+    omega (arith, first, rest, c, d)
+
+same_first : (x y : Option Record) → ((r : Record) → x ≡ Some r → y ≡ Some r) → tally (is_some y) ≤ tally (is_some x) → y ≡ x
+same_first None None keeps few = refl
+same_first None (Some s) keeps few = absurd (omega (arith, few))
+same_first (Some r) y keeps few = keeps r refl
+
+-- a tree of as many slots and no more nodes, that keeps the records of another, is that
+kept_all : (old new : Tree) → length new ≡ length old → Keeps old new → node_count new ≤ node_count old → new ≡ old
+kept_all [] [] l keeps few = refl
+kept_all [] (y ∷ ys) l keeps few = absurd (omega (arith, l))
+kept_all (x ∷ xs) [] l keeps few = absurd (omega (arith, l))
+kept_all (x ∷ xs) (y ∷ ys) l keeps few =
+    let still = behind x y xs ys keeps in
+    let first = ahead x y xs ys keeps in
+    let rest = kept_most xs ys (omega (arith, l)) still in
+    let c = count_cons is_some x xs in
+    let d = count_cons is_some y ys in
+    let tail = kept_all xs ys (omega (arith, l)) still (omega (arith, few, first, c, d)) in
+    let head = same_first x y (λ r e. same_Some y (Some r) (keeps 0 r (ap Some e))) (omega (arith, few, rest, c, d)) in
+    ap (λ z. z ∷ ys) head ∙ ap (λ zs. x ∷ zs) tail
+
+replay_length : (t : Tree) (cs : List Command) → length (replay t cs) ≡ length t
+replay_length t [] = refl
+replay_length t (c ∷ cs) = replay_length (after t c) cs ∙ length_after t c
+
+-- a node was unlinked
+pub unlinked_one : (old new : Locked) (key drained : Key) (r : Result Bool Refusal) → r ≡ Ok true
+    → IfOk r (λ linked. is_linked old.state.tree drained ≡ linked) → IfOk r (λ linked. UnlinkDone old new drained linked)
+    → node_count new.state.tree + 1 ≡ node_count old.state.tree
+unlinked_one old new key drained r did linked done =
+    let there : is_linked old.state.tree drained ≡ true = subst (λ x. IfOk x (λ linked. is_linked old.state.tree drained ≡ linked)) did linked in
+    let accepted : UnlinkDone old new drained true = subst (λ x. IfOk x (λ linked. UnlinkDone old new drained linked)) did done in
+    ap (λ (t : Tree). node_count t + 1) accepted.changed ∙ unlinked_fewer old.state.tree drained there
+
+-- one more of these was unlinked, where each was so far
+pub unlinked_more : (n0 n1 n2 held : ℕ) (all one : Bool) (xs ys : List Handle) (h : Handle) → xs ≡ h ∷ ys
+    → (all ≡ true → n1 + held ≡ n0 + length xs) → (one ≡ true → n2 + 1 ≡ n1) → (all && one) ≡ true → n2 + held ≡ n0 + length ys
+unlinked_more n0 n1 n2 held all one xs ys h parts before now h' =
+    let b = both all one h' in
+    let x = before b.0 in
+    let y = now b.1 in
+    let l : length xs ≡ suc (length ys) = ap length parts in
+    omega (arith, x, y, l)
+
+pub single : (n : ℕ) → (n == 1) ≡ true → n ≡ 1
+single n h = elim (eqb_tells n 1) [
+  | inl e ↦ e.1
+  | inr e ↦ absurd (let no : (n == 1) ≡ false = e.0 in cc (h, no))
+]
+
+-- the node was the one that was doomed, and was unlinked
+pub one_gone : (n0 n1 n2 held : ℕ) (alone all : Bool) → (alone ≡ true → held ≡ 1) → (all ≡ true → n2 + held ≡ n1) → n1 ≡ n0
+    → (alone && all) ≡ true → n2 + 1 ≡ n0
+one_gone n0 n1 n2 held alone all single each same h' =
+    let b = both alone all h' in
+    let x = single b.0 in
+    let y = each b.1 in
+    omega (arith, x, y, same)
+
+-- the files were taken back, and then their directory
+pub directory_gone : (n0 n1 n2 files : ℕ) (all one : Bool) → (all ≡ true → n1 + files ≡ n0) → (one ≡ true → n2 + 1 ≡ n1)
+    → (all && one) ≡ true → n2 + suc files ≡ n0
+directory_gone n0 n1 n2 files all one before now h' =
+    let b = both all one h' in
+    let x = before b.0 in
+    let y = now b.1 in
+    omega (arith, x, y)
+
+-- where the records stay and as many nodes are linked, the tree is as it was
+pub as_it_was : (old new : TreeLog) (commands : List Command) → Stores old new commands → Keeps old.tree new.tree → node_count new.tree ≡ node_count old.tree → new.tree ≡ old.tree
+as_it_was old new commands stores keeps count =
+    kept_all old.tree new.tree (ap length stores.changed ∙ replay_length old.tree commands) keeps (omega arith)
+
+pub room_refused : (old new : TreeLog) (commands : List Command) (refusal : Refusal) → Stores old new commands → Keeps old.tree new.tree
+    → LacksRoom old.tree new.tree refusal → RoomRefused old.tree new.tree refusal
+room_refused old new commands refusal stores keeps (inl slots) = inl (slots.0, as_it_was old new commands stores keeps slots.1)
+room_refused old new commands refusal stores keeps (inr memory) = inr memory
+
+-- what was made since is taken back, or there was no memory for that
+pub gave_up : (t0 t1 t2 t3 : Tree) (why result : Refusal) (nodes : ℕ) → node_count t1 ≡ node_count t0 + nodes
+    → LacksRoom t1 t2 why → GaveUp nodes t2 t3 why result → LacksRoom t0 t3 result
+gave_up t0 t1 t2 t3 why result nodes more lacks (inr memory) = inr memory
+gave_up t0 t1 t2 t3 why result nodes more (inl slots) (inl gave) = inl (gave.0 ∙ slots.0, (let a = slots.1 in let b = gave.1 in omega (arith, a, b, more)))
+gave_up t0 t1 t2 t3 why result nodes more (inr memory) (inl gave) = inr (gave.0 ∙ memory)

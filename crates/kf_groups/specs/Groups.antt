@@ -1,0 +1,89 @@
+-- Several groups of one directory, and what is made and taken back of them.
+use Rattle.std.specs.Prelude.{◌≡◌, ◌⊎◌, ◌+◌, ℕ, Bool, false, not, List, [], ◌∷◌, ◌++◌, Option, None, Some}
+use Rattle.std.specs.List.{list_any}
+use Rattle.std.specs.Str.{bytes_eq}
+use denote.Ref.{Bor}
+use Rattle.kf_core.specs.declared.command.Command.{Command}
+use Rattle.kf_core.specs.declared.key.Key.{Key}
+use Rattle.kf_core.specs.declared.refusal.Refusal.{Refusal}
+use Rattle.kf_core.specs.declared.refusal.Refusal.TheVariants.{Exists}
+use Rattle.kf_core.specs.Commands.{replay}
+use Rattle.kf_core.specs.Refusals.{unless, first_cause}
+use Rattle.kf_core.specs.Tree.{Tree, is_linked}
+use Rattle.kf_tree.specs.TreeLogs.{TreeLog}
+use Rattle.kf_groups.specs.declared.attribute.Attribute.{Attribute}
+use Rattle.kf_groups.specs.declared.attribute.Group.{Group}
+use Rattle.kf_groups.specs.Attributes.{HasNone, group_cause, group_size, has_name, shown}
+use Rattle.kf_groups.specs.Making.{EachTookBack, GroupMade, RoomRefused, TakenBackByName, TookBack}
+use Rattle.kf_groups.specs.Stores.{Stores}
+
+-- whether the group makes an entry of this name: its own directory, or one of its files
+abbrev pub makes_by_name : List Attribute → Option (Bor (List ℕ)) → List ℕ → Bool
+makes_by_name attributes None name = has_name attributes name
+makes_by_name attributes (Some own) name = bytes_eq own.now name
+
+abbrev pub makes : List ℕ → Group → Bool
+makes name group = makes_by_name (shown group.attributes.now) group.name name
+
+-- whether it makes an entry that this group makes too
+abbrev pub shares_by_name : Group → List Attribute → Option (Bor (List ℕ)) → Bool
+shares_by_name group attributes None = list_any (λ attribute. makes attribute.name.now group) attributes
+shares_by_name group attributes (Some own) = makes own.now group
+
+abbrev pub shares : Group → Group → Bool
+shares group other = shares_by_name group (shown other.attributes.now) other.name
+
+-- whether one of the others does
+abbrev pub clashes : List Group → Group → Bool
+clashes others group = list_any (shares group) others
+
+-- why the groups are refused: of one after the other what is wrong with it, and that a later one makes an
+-- entry of the same name
+abbrev pub groups_cause : Tree → Key → Key → List Group → Option Refusal
+groups_cause t root dir [] = None
+groups_cause t root dir (group ∷ groups) = first_cause (
+    group_cause t root dir group
+    ∷ unless (not (clashes groups group)) Exists
+    ∷ groups_cause t root dir groups
+    ∷ [])
+
+-- how many nodes the groups are
+abbrev pub groups_size : List Group → ℕ
+groups_size [] = 0
+groups_size (group ∷ groups) = group_size group + groups_size groups
+
+-- the groups were made, one after another
+abbrev pub GroupsMade : TreeLog → TreeLog → Key → List Group → Type 0
+GroupsMade old new dir [] = new ≡ old
+GroupsMade old new dir (group ∷ groups) = (made : TreeLog) × (key : Key)
+    × GroupMade old made dir group key × GroupsMade made new dir groups
+
+-- a tree in which nothing of the group is
+abbrev pub IsWithout : Tree → Key → Key → List Attribute → Option (Bor (List ℕ)) → Type 0
+IsWithout t dir key attributes None = HasNone t dir attributes
+IsWithout t dir key attributes (Some own) = is_linked t key ≡ false
+
+-- a group that was made was taken back: its files, the last first, and then its own directory
+abbrev pub GroupTakenBack : Tree → Key → Key → List Attribute → Option (Bor (List ℕ)) → List Command → Type 0
+GroupTakenBack t dir key attributes None commands = EachTookBack t dir attributes commands
+GroupTakenBack t dir key attributes (Some own) commands = (files back : List Command)
+    × (commands ≡ files ++ back) × EachTookBack t key attributes files × TookBack (replay t files) key back
+
+-- one of the groups was not made, and what was made of it was taken back, and then each group before it, the
+-- last first
+abbrev pub GroupsTakenBack : TreeLog → TreeLog → Key → List Group → Type 0
+GroupsTakenBack old new dir [] = ⊥
+GroupsTakenBack old new dir (group ∷ groups) =
+    ((commands : List Command) × Stores old new commands
+    × TakenBackByName old.tree dir (shown group.attributes.now) group.name commands)
+    ⊎ ((made stopped : TreeLog) × (key : Key) × (back : List Command) × GroupMade old made dir group key
+    × GroupsTakenBack made stopped dir groups × Stores stopped new back
+    × GroupTakenBack stopped.tree dir key (shown group.attributes.now) group.name back)
+
+-- there was this against the groups, and nothing changed; or there was not, and all that was made of them was
+-- taken back, as there was no slot, or no memory
+abbrev pub GroupsRefused : TreeLog → TreeLog → Key → List Group → Refusal → Type 0
+GroupsRefused old new dir groups refusal =
+    ((groups_cause old.tree old.root dir groups ≡ Some refusal) × (new ≡ old))
+    ⊎ ((groups_cause old.tree old.root dir groups ≡ None) × RoomRefused old.tree new.tree refusal
+    × GroupsTakenBack old new dir groups)

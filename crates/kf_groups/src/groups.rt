@@ -1,0 +1,135 @@
+//! Several groups are made, all or nothing.
+ghost use Rattle.std.specs.Prelude.{◌≡◌, ◌+◌, ◌++◌, true, List, length, suc, IfErr, None, OnErr, OnOk};
+ghost use Rattle.kf_core.specs.declared.command.Command.{Command};
+ghost use Rattle.kf_core.specs.Commands.{replay};
+ghost use Rattle.kf_core.specs.Lawful.{Lawful};
+ghost use Rattle.kf_core.specs.Tree.{Tree};
+ghost use Rattle.kf_groups.specs.Attributes.{group_size, shown};
+ghost use Rattle.kf_groups.specs.Groups.{groups_cause, groups_size, GroupTakenBack, GroupsMade, GroupsRefused, GroupsTakenBack, IsWithout};
+ghost use Rattle.kf_groups.specs.Making.{EachTookBack, GaveUp, LacksRoom, TookBack};
+ghost use Rattle.kf_groups.specs.Stores.{Keeps, KeepsOlder, Stores, node_count};
+
+use crate::attribute::{Attribute, Group};
+use crate::checks::groups_cause;
+use crate::making::create_group;
+use crate::taking_back::{take_back, take_back_files};
+use kf_core::{Key, Refusal};
+use kf_shared::{Editor, Naming};
+
+// Takes the directory of a group back, its files first. Whether all nodes were taken out of the tree.
+fn take_back_directory<N: Naming>(
+    editor: &mut Editor<'_, N>,
+    key: Key,
+    attributes: &[Attribute],
+) -> bool
+    ensures took { (files back : List Command)
+        × EachTookBack editor.old.state.tree key (shown attributes.now) files
+        × TookBack (replay editor.old.state.tree files) key back
+        × Stores editor.old.state editor.new.state (files ++ back) }
+    ensures older { KeepsOlder key editor.old.state.tree editor.new.state.tree }
+    ensures counted { result ≡ true → node_count editor.new.state.tree + suc (length (shown attributes.now))
+        ≡ node_count editor.old.state.tree }
+    ensures claims { editor.new.claims ≡ editor.old.claims }
+{
+    let files = take_back_files(editor, key, attributes);
+    let one = take_back(editor, key);
+    files & one
+}
+
+// Takes a group back that was made in this turn of the lock. Whether all nodes were taken out of the tree.
+fn take_back_group<N: Naming>(editor: &mut Editor<'_, N>, dir: Key, group: &Group, key: Key) -> bool
+    ensures took { (back : List Command) × Stores editor.old.state editor.new.state back
+        × GroupTakenBack editor.old.state.tree dir key (shown group.now.attributes.now) group.now.name back }
+    ensures older { (base : Tree) (root : Key) → Lawful base root
+        → IsWithout base dir key (shown group.now.attributes.now) group.now.name
+        → Keeps base editor.old.state.tree → Keeps base editor.new.state.tree }
+    ensures counted { result ≡ true →
+        node_count editor.new.state.tree + group_size group.now ≡ node_count editor.old.state.tree }
+    ensures claims { editor.new.claims ≡ editor.old.claims }
+{
+    match group.name {
+        Some(_) => take_back_directory(editor, key, group.attributes),
+        None => take_back_files(editor, dir, group.attributes),
+    }
+}
+
+// Takes a group back, and gives the reason for that: NoMemory where anything of it stays.
+fn give_up_group<N: Naming>(
+    editor: &mut Editor<'_, N>,
+    dir: Key,
+    group: &Group,
+    key: Key,
+    refusal: Refusal,
+) -> Refusal
+    ensures took { (back : List Command) × Stores editor.old.state editor.new.state back
+        × GroupTakenBack editor.old.state.tree dir key (shown group.now.attributes.now) group.now.name back }
+    ensures older { (base : Tree) (root : Key) → Lawful base root
+        → IsWithout base dir key (shown group.now.attributes.now) group.now.name
+        → Keeps base editor.old.state.tree → Keeps base editor.new.state.tree }
+    ensures counted { GaveUp (group_size group.now) editor.old.state.tree editor.new.state.tree refusal
+        result }
+    ensures claims { editor.new.claims ≡ editor.old.claims }
+{
+    if take_back_group(editor, dir, group, key) {
+        refusal
+    } else {
+        Refusal::NoMemory
+    }
+}
+
+// Makes the groups, one after another. On a refusal it takes them back.
+fn make_groups<N: Naming>(
+    editor: &mut Editor<'_, N>,
+    dir: Key,
+    groups: &[Group],
+) -> Result<(), Refusal>
+    requires free { groups_cause editor.old.state.tree editor.old.state.root dir groups.now ≡ None }
+    ensures made { OnOk result (GroupsMade editor.old.state editor.new.state dir groups.now) }
+    ensures refused { OnErr result (GroupsTakenBack editor.old.state editor.new.state dir groups.now) }
+    ensures lacks { IfErr result
+        (λ refusal. LacksRoom editor.old.state.tree editor.new.state.tree refusal) }
+    ensures others { Keeps editor.old.state.tree editor.new.state.tree }
+    ensures counted { OnOk result (node_count editor.new.state.tree
+        ≡ node_count editor.old.state.tree + groups_size groups.now) }
+    ensures claims { editor.new.claims ≡ editor.old.claims }
+{
+    let [first, rest @ ..] = groups else {
+        return Ok(());
+    };
+    let _ = editor.state();
+    let key = match create_group(editor, dir, first) {
+        Ok(key) => key,
+        Err(refusal) => return Err(refusal),
+    };
+    if let Err(refusal) = make_groups(editor, dir, rest) {
+        return Err(give_up_group(editor, dir, first, key, refusal));
+    }
+    Ok(())
+}
+
+/// Makes several groups in a directory, all or nothing, in this turn of the lock (`sysfs_create_groups`).
+/// Each may have a name or not.
+///
+/// Refusals, in order: of one group after another those of [`create_group`], and Exists where a later one
+/// makes an entry of the same name. After these nothing has changed. Then NoSpace, after which the tree is as
+/// it was. Last NoMemory, be it to take back what was made: what lacks memory for that stays.
+///
+/// Whatever the answer, each node that was there is as it was.
+pub fn create_groups<N: Naming>(
+    editor: &mut Editor<'_, N>,
+    dir: Key,
+    groups: &[Group],
+) -> Result<(), Refusal>
+    ensures made { OnOk result (GroupsMade editor.old.state editor.new.state dir groups.now) }
+    ensures refused { IfErr result
+        (λ refusal. GroupsRefused editor.old.state editor.new.state dir groups.now refusal) }
+    ensures others { Keeps editor.old.state.tree editor.new.state.tree }
+    ensures counted { OnOk result (node_count editor.new.state.tree
+        ≡ node_count editor.old.state.tree + groups_size groups.now) }
+    ensures claims { editor.new.claims ≡ editor.old.claims }
+{
+    if let Some(refusal) = groups_cause(editor.state(), dir, groups) {
+        return Err(refusal);
+    }
+    make_groups(editor, dir, groups)
+}
