@@ -2,6 +2,7 @@
 #![tactic(auto)]
 
 mod laws;
+mod line;
 mod not_read;
 mod numbers;
 mod page;
@@ -9,6 +10,7 @@ mod part;
 mod words;
 
 pub use laws::emitted_is_read;
+pub use line::line_of;
 pub use not_read::NotRead;
 pub use numbers::{read_signed, read_unsigned};
 pub use page::{emit, emit_at};

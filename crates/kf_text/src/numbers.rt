@@ -1,42 +1,14 @@
 //! Numbers in the bytes of a store.
-ghost use Rattle.std.specs.Prelude.{◌≡◌, ◌==◌, ◌↔◌, ◌<◌, ◌^◌, IsTrue, FitsSigned, position};
+ghost use Rattle.std.specs.Prelude.{◌≡◌, ◌↔◌, ◌<◌, ◌^◌, IsTrue, FitsSigned};
 ghost use Rattle.std.specs.Char.{is_ascii_digit};
 ghost use Rattle.std.specs.Int.{w64};
 ghost use Rattle.std.specs.List.{list_all};
 ghost use Rattle.std.specs.Option.{SomeIff};
 ghost use Rattle.std.specs.Str.Parse.{IsNumeral, digits_value, signed_digits_value, without_leading_plus, without_leading_sign};
-ghost use Rattle.kf_text.specs.Readings.{line, until_zero, ReadSigned, ReadUnsigned};
+ghost use Rattle.kf_text.specs.Readings.{line, ReadSigned, ReadUnsigned};
 
+use crate::line::line_of;
 use crate::not_read::NotRead;
-
-// The place of the first zero byte.
-fn zero_in(bytes: &[u8]) -> Option<usize>
-    ensures first { result ≡ position (λ byte. byte == 0) bytes.now }
-{
-    bytes.iter().position(|byte| *byte == 0)
-}
-
-/// The bytes before the first zero byte, or all of them.
-#[tactic(auto, using(crate::proofs::Zeros::front, crate::proofs::Zeros::whole))]
-pub(crate) fn until_zero(bytes: &[u8]) -> &[u8]
-    ensures front { result.now ≡ until_zero bytes.now }
-{
-    match zero_in(bytes) {
-        Some(end) => &bytes[..end],
-        None => bytes,
-    }
-}
-
-// The bytes before the first zero byte, without the newline that ends them, where one does.
-fn line(bytes: &[u8]) -> &[u8]
-    ensures line { result.now ≡ line bytes.now }
-{
-    let bytes = until_zero(bytes);
-    match bytes.split_last() {
-        Some((b'\n', rest)) => rest,
-        _ => bytes,
-    }
-}
 
 // Whether each byte is a decimal digit.
 fn are_digits(bytes: &[u8]) -> bool
@@ -105,7 +77,7 @@ fn after_sign(text: &[u8]) -> &[u8]
 pub fn read_unsigned(bytes: &[u8], most: u64) -> Result<u64, NotRead>
     ensures read { ReadUnsigned most (line bytes.now) result }
 {
-    let text = line(bytes);
+    let text = line_of(bytes);
     if !is_numeral(after_plus(text)) {
         return Err(NotRead::Invalid);
     }
@@ -123,7 +95,7 @@ pub fn read_unsigned(bytes: &[u8], most: u64) -> Result<u64, NotRead>
 pub fn read_signed(bytes: &[u8], least: i64, most: i64) -> Result<i64, NotRead>
     ensures read { ReadSigned least most (line bytes.now) result }
 {
-    let text = line(bytes);
+    let text = line_of(bytes);
     if !is_numeral(after_sign(text)) {
         return Err(NotRead::Invalid);
     }

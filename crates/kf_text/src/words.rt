@@ -3,8 +3,8 @@ ghost use Rattle.std.specs.Prelude.{◌≡◌, MatchOption, ok_or, position};
 ghost use Rattle.std.specs.Str.{bytes_eq};
 ghost use Rattle.kf_text.specs.Readings.{flag, same_line, same_text, with_newline};
 
+use crate::line::until_zero;
 use crate::not_read::NotRead;
-use crate::numbers::until_zero;
 
 /// A flag (`kstrtobool`): true where the first byte is one of `eEyYtT1` or the first two are `on`, false
 /// where it is one of `dDnNfF0` or they are `of`, in small letters or large ones.

@@ -3,7 +3,8 @@
 
 use arrayvec::ArrayVec;
 use kf_text::{
-    NotRead, Part, emit, emit_at, is_same_text, read_flag, read_signed, read_unsigned, read_word,
+    NotRead, Part, emit, emit_at, is_same_text, line_of, read_flag, read_signed, read_unsigned,
+    read_word,
 };
 
 /// The place of the first answer that is not as it must be.
@@ -100,6 +101,8 @@ fn flags_and_words_are_read(rt: HostRuntime) {
             read_word(&words, b"auto\n\0x") == Ok(1),
             read_word(&words, b"auto\n\n") == Ok(2),
             read_word(&words, b"aut") == Err(NotRead::Invalid),
+            line_of(b" on \n\0x") == b" on ".as_slice(),
+            line_of(b"on\n\n") == b"on\n".as_slice() && line_of(b"\n").is_empty(),
             is_same_text(b"", b"\n")
                 && is_same_text(b"a\n\n", b"a\n")
                 && !is_same_text(b"a", b"a\n\n"),
