@@ -3,7 +3,8 @@
  * Link with -lkernfs_tree, or by pkg-config. Every function is declared here with what it needs and may answer.
  *
  * The promise: once kt_remove() has answered 0, no callback runs under a call of that node or of one that was below it,
- * and none ever starts. A callback that has broken its protection (kt_break()) is not waited for, as in the kernel.
+ * and none ever starts; once kt_hide() has answered 0, none does so of that file until kt_unhide(). A callback that has
+ * broken its protection (kt_break()) is not waited for, as in the kernel.
  *
  * What lies behind a handle:
  *
@@ -19,25 +20,31 @@
  * -EINVAL.
  *
  * Answers: 0 or more where it is done; a Linux error number below 0 where it is not, and then nothing has changed and
- * what `out` points to is as it was; but -EAGAIN of kt_remove() says that it has begun. Only the helpers at the end
- * sleep, take a lock or call back.
+ * what `out` points to is as it was; but -EAGAIN of kt_remove() and kt_hide() says that it has begun. Only the helpers
+ * at the end sleep, take a lock or call back.
  *
- * What is proved, for all inputs, stands beside each call in crates/kernfs_tree/src/calls.rt and file_calls.rt:
+ * What is proved, for all inputs, stands beside each call in crates/kernfs_tree/src, in calls.rt, again_calls.rt and
+ * file_calls.rt:
  * - 0 only where the thing was done, as the tree defines it: the node linked, found, moved, held, activated, out of the
  *   tree; the hold let in while its node was live, the call left, broken, restored; the event number raised. kt_leave()
  *   and kt_break() answer 1 exactly where a removal may be waiting for that step.
  * - What is written to `out` is what the tree, the post or the text has; a length is that of what is written.
+ * - A file is hidden, by one step of a hold of its own, and kt_hide() answers 0 where a look after that step saw nobody
+ *   inside, and -EAGAIN where this look saw somebody. It stays hidden until kt_unhide() or its removal.
  * - A file is opened where its node is live and its mode allows it. A show begins where the node was entered and the
- *   event number taken, at offset 0 or where there is no text. Text is kept in a call alone.
+ *   event number taken, at offset 0 or where there is no text. Text is kept in a call alone that began a show.
+ * - Which number kt_enter(), kt_begin_read() and kt_begin_write() refuse with; that kt_clear() and kt_delete() refuse
+ *   only a tree with a file in which a hiding has yet to see nobody.
  * - What was behind a handle that is given something new was nothing.
- * - After an answer below 0, but for -EAGAIN of kt_remove(), the tree, the handle and `out` are as they were (a refused
- *   try to enter was counted for a moment).
+ * - After an answer below 0, but for -EAGAIN of kt_remove() and kt_hide(), the tree, the handle and `out` are as they
+ *   were (a refused try to enter was counted for a moment).
  * - No function reads or writes out of bounds or after a free, and each ends.
  *
  * On a node that is not in the tree nobody runs, and a key that has left it never comes again: these are laws over
- * every run of these functions' steps. Not proved: which error number comes; that kt_remove() and kt_claim() mark, and
- * that kt_remove() takes out only it and those below; which of 0 and 1 kt_clear() and kt_delete() answer; that kt_new()
- * gives a handle; and everything that is C, the helpers below too. `make -C c test` tries these.
+ * every run of these functions' steps. Not proved: which error number comes of other calls; that kt_remove() and
+ * kt_claim() mark, and that kt_remove() takes out, and shows, only it and those below; which of 0 and 1 kt_clear() and
+ * kt_delete() answer; that kt_new() gives a handle; and everything that is C, the helpers below too. `make -C c test`
+ * tries these.
  *
  * What a program has to keep to, which the library cannot see:
  * - A handle comes from kt_new(), is used by one function at a time, and not after kt_delete(). It may pass to another
@@ -47,8 +54,8 @@
  * - malloc(), realloc() and free() are of one allocator. No function is called in a signal handler, or between fork()
  *   and exec() in a program with threads.
  * - After kt_enter() has answered -ENODEV, and after kt_leave(), kt_break(), kt_clear() or kt_delete() has answered 1,
- *   wake those who wait in a removal. The _wake helpers do so; kt_delete() has none. A program that lets go a hold of a
- *   node that had the most there may be calls kt_wake() itself, since a removal needs one for a moment.
+ *   wake those who wait in a removal or a hiding. The _wake helpers do so; kt_delete() has none. A program that lets go
+ *   a hold of a node that had the most there may be calls kt_wake() itself, since a removal needs one for a moment.
  */
 #ifndef KERNFS_TREE_H
 #define KERNFS_TREE_H
@@ -90,7 +97,7 @@ struct kt_stat {
     uint32_t kind;        /* enum kt_kind */
     uint32_t links;       /* of a directory two and the number of child directories, else 1 */
     uint16_t mode;        /* of a file, its permission bits, which the library only keeps */
-    bool activated, doomed, hidden; /* doomed: marked for removal; hidden: never yet */
+    bool activated, doomed, hidden; /* doomed: marked for removal; hidden: by kt_hide() */
 };
 
 /* ---- handles ---- */
@@ -99,10 +106,11 @@ struct kt_stat {
 int32_t kt_new(void **at);
 
 /* Lets go of what lies behind the handle: a hold is released, a call ended first, a tree freed. 0, or 1: wake those who
- * wait in a removal. Holds of a tree that is freed stay valid. */
+ * wait in a removal or a hiding. Holds of a tree that is freed stay valid. -EBUSY, and nothing is let go: it is a tree
+ * of which kt_hide() has answered -EAGAIN, and not 0 since; call that, kt_unhide() or kt_remove() until it is 0. */
 int32_t kt_clear(struct kt_handle *handle);
 
-/* The same, and frees the handle, which is not used again. */
+/* The same, and frees the handle, which is not used again; but after -EBUSY it is all as before. */
 int32_t kt_delete(struct kt_handle handle);
 
 /* ---- calls on a tree: under its lock ---- */
@@ -174,6 +182,17 @@ int32_t kt_hold(struct kt_handle *tree, struct kt_key key, struct kt_handle *hol
  * that goes on with what an earlier one has marked may answer -ENOMEM too: all stays marked; call it again. */
 int32_t kt_remove(struct kt_handle *tree, struct kt_key key);
 
+/* Hides a file (kernfs_show() with false), as far as it can without waiting: at once no kt_enter() there succeeds, and
+ * kt_next() leaves it out. 0: nobody is inside, and nobody comes in before kt_unhide(); now or before. -EAGAIN: it is
+ * hidden, and somebody is inside; call again when a callback has left (kt_hide_wait() does). Before it is hidden, in
+ * this order: -ENOENT, -EISDIR, -EINVAL (a link), -ENOENT (it is being removed), -EMFILE (as many holds as there may
+ * be: a hidden file keeps one), -ENOMEM. A hidden file is removed as any other. */
+int32_t kt_hide(struct kt_handle *tree, struct kt_key key);
+
+/* Shows a hidden file again (kernfs_show() with true). 0. -EAGAIN: somebody is inside since before it was hidden, and
+ * it stays so; call again. -ENOENT, -EINVAL (it is not hidden). */
+int32_t kt_unhide(struct kt_handle *tree, struct kt_key key);
+
 /* Marks a node and all below it, as kt_remove() does, and claims its removal for one of its callbacks: of those who
  * claim it the first is answered 0, each other 1. -ENOENT, -EINVAL, -EMFILE, -ENOMEM. */
 int32_t kt_claim(struct kt_handle *tree, struct kt_key key);
@@ -188,16 +207,17 @@ int32_t kt_post(struct kt_handle *tree, struct kt_key key, struct kt_handle *pos
 
 /* Opens a file for reading, writing or both (kernfs_fop_open), behind a handle with nothing behind it. 0, and in this
  * order: -ENOENT, -EISDIR, -EINVAL (a link), -ENODEV (not live), -EACCES (no bit of 0444, or of 0222, of root too, as
- * in sysfs), -ENOMEM, -EMFILE (as many holds as there may be), -ENOMEM, -EINVAL (something is behind the handle). */
+ * in sysfs), -EMFILE (as many holds as there may be), -ENOMEM, -EINVAL (something is behind the handle). */
 int32_t kt_open(struct kt_handle *tree, struct kt_key key, bool read, bool write, struct kt_handle *file);
 
 /* ---- steps of a hold, a call, a post and an open file: no lock, from any thread ---- */
 
-/* Before a callback (kernfs_get_active): 0, and the hold is a call; -ENODEV where the node is not live. After -ENODEV
- * wake those who wait in a removal: the refused try was counted for a moment. */
+/* Before a callback (kernfs_get_active): 0, and the hold is a call; -ENODEV where the node is not live, or hidden;
+ * -EINVAL where there is no hold. After -ENODEV wake those who wait in a removal or a hiding: the refused try was
+ * counted for a moment. */
 int32_t kt_enter(struct kt_handle *hold);
 
-/* After it (kernfs_put_active): the call is a hold again. 0, or 1: wake those who wait in a removal. */
+/* After it (kernfs_put_active): the call is a hold again. 0, or 1: wake those who wait in a removal or a hiding. */
 int32_t kt_leave(struct kt_handle *call);
 
 /* Inside it, before something that waits for it (kernfs_break_active_protection): 0, or 1 as of kt_leave(). */
@@ -218,16 +238,16 @@ int32_t kt_event(struct kt_handle *post, uint64_t *out);
  * A read at offset 0, or where there is no text, shows anew: kt_begin_read() enters the node, takes its event number
  * and answers 1. The program shows, hands the text to kt_shown(), which keeps 4,095 bytes of it, and leaves by
  * kt_leave(). Where the show fails it leaves without kt_shown(), and there is no text then. Else kt_begin_read() is
- * 0, and needs no live node. -EACCES (not opened for reading), -ENODEV (as of kt_enter()). */
+ * 0, and needs no live node. -EACCES (not opened for reading), -ENODEV or -EINVAL as of kt_enter(). */
 int32_t kt_begin_read(struct kt_handle *file, uint64_t offset);
 
-/* In a call of the file, once kt_begin_read() answered 1 in it: this text is the file's. 0. */
+/* In the call that kt_begin_read() began by 1: this text is the file's. 0; -EINVAL in another call and outside one. */
 int32_t kt_shown(struct kt_handle *file, const void *text, size_t length);
 
 /* Copies the text from an offset on. How many bytes; -EINVAL where there is no text. */
 int64_t kt_copy(struct kt_handle *file, uint64_t offset, void *out, size_t room);
 
-/* Enters the node for a store. 0, -EACCES (not opened for writing), -ENODEV (as of kt_enter()). */
+/* Enters the node for a store. 0, -EACCES (not opened for writing), -ENODEV or -EINVAL as of kt_enter(). */
 int32_t kt_begin_write(struct kt_handle *file);
 
 /* In a running call of the file: 1 where its event number is another than that of its last show, else 0. */
@@ -259,10 +279,50 @@ static inline int32_t kt_remove_told(struct kt_handle *tree, struct kt_key key)
         __tsan_acquire(KT_EDGE);
     return answer;
 }
+static inline int32_t kt_hide_told(struct kt_handle *tree, struct kt_key key)
+{
+    int32_t answer = kt_hide(tree, key);
+    if (!answer)
+        __tsan_acquire(KT_EDGE);
+    return answer;
+}
+/* And that what was done before a file is shown again comes before what follows a kt_enter() there. */
+#define KT_SHOWN ((void *)(uintptr_t)&kt_unhide)
+static inline int32_t kt_unhide_told(struct kt_handle *tree, struct kt_key key)
+{
+    __tsan_release(KT_SHOWN);
+    return kt_unhide(tree, key);
+}
+static inline int32_t kt_enter_told(struct kt_handle *hold)
+{
+    int32_t answer = kt_enter(hold);
+    if (!answer)
+        __tsan_acquire(KT_SHOWN);
+    return answer;
+}
+static inline int32_t kt_begin_read_told(struct kt_handle *file, uint64_t offset)
+{
+    int32_t answer = kt_begin_read(file, offset);
+    if (answer == 1)
+        __tsan_acquire(KT_SHOWN);
+    return answer;
+}
+static inline int32_t kt_begin_write_told(struct kt_handle *file)
+{
+    int32_t answer = kt_begin_write(file);
+    if (!answer)
+        __tsan_acquire(KT_SHOWN);
+    return answer;
+}
 #define kt_leave kt_leave_told
 #define kt_break kt_break_told
 #define kt_clear kt_clear_told
 #define kt_remove kt_remove_told
+#define kt_hide kt_hide_told
+#define kt_unhide kt_unhide_told
+#define kt_enter kt_enter_told
+#define kt_begin_read kt_begin_read_told
+#define kt_begin_write kt_begin_write_told
 #endif /* __SANITIZE_THREAD__ */
 
 #ifndef KT_NO_PTHREAD
@@ -270,7 +330,7 @@ static inline int32_t kt_remove_told(struct kt_handle *tree, struct kt_key key)
 
 #include <pthread.h>
 
-/* The lock of a tree, and where its removals wait. */
+/* The lock of a tree, and where its removals and hidings wait. */
 struct kt_lock {
     pthread_mutex_t mutex;
     pthread_cond_t left;
@@ -278,7 +338,8 @@ struct kt_lock {
 
 #define KT_LOCK_INIT { PTHREAD_MUTEX_INITIALIZER, PTHREAD_COND_INITIALIZER }
 
-/* Wakes those who wait in a removal. It takes the lock, so that no wake comes between a look and its sleep. */
+/* Wakes those who wait in a removal or a hiding. It takes the lock, so that no wake comes between a look and its
+ * sleep. */
 static inline void kt_wake(struct kt_lock *lock)
 {
     pthread_mutex_lock(&lock->mutex);
@@ -328,6 +389,19 @@ static inline int32_t kt_remove_wait(struct kt_handle *tree, struct kt_key key, 
     int32_t answer;
     pthread_mutex_lock(&lock->mutex);
     while ((answer = kt_remove(tree, key)) == -EAGAIN)
+        pthread_cond_wait(&lock->left, &lock->mutex);
+    pthread_mutex_unlock(&lock->mutex);
+    return answer;
+}
+
+/* Hides a file, and waits until no callback runs there (kernfs_show() with false). It sleeps, and takes the lock, which
+ * its caller does not have. A callback of the file breaks its protection first. 0, or as of kt_hide(); never -EAGAIN.
+ * kt_unhide() shows the file again, under the lock. */
+static inline int32_t kt_hide_wait(struct kt_handle *tree, struct kt_key key, struct kt_lock *lock)
+{
+    int32_t answer;
+    pthread_mutex_lock(&lock->mutex);
+    while ((answer = kt_hide(tree, key)) == -EAGAIN)
         pthread_cond_wait(&lock->left, &lock->mutex);
     pthread_mutex_unlock(&lock->mutex);
     return answer;

@@ -1,5 +1,6 @@
 /* 10,000 removals under load: threads use attributes of directories that come and go, and what a callback would use is
- * freed as soon as the removal has answered. With an argument: so many removals. */
+ * freed as soon as the removal has answered; one attribute is hidden and shown again. With an argument: so many
+ * removals. */
 #include <kernfs_tree.h>
 #include <pthread.h>
 #include <stdatomic.h>
@@ -18,7 +19,8 @@ struct device {
 static struct kt_lock lock = KT_LOCK_INIT;
 static struct kt_handle tree;
 static struct kt_key root;
-static atomic_long late, used, refused, self_removed;
+static atomic_long late, used, refused, self_removed, steady_inside, steady_uses;
+static long one, other; /* the same, but while they are changed: then the steady file is hidden */
 static atomic_int is_over;
 static long turns = 10000;
 
@@ -89,6 +91,55 @@ static void *user(void *data)
     return NULL;
 }
 
+/* Uses the file that is hidden and shown again. */
+static int64_t use_steady(struct kt_handle *call, void *data)
+{
+    (void)call;
+    (void)data;
+    atomic_fetch_add(&steady_inside, 1);
+    if (one != other)
+        atomic_fetch_add(&late, 1);
+    atomic_fetch_add(&steady_uses, 1);
+    atomic_fetch_sub(&steady_inside, 1);
+    return 0;
+}
+
+static void *steady_user(void *data)
+{
+    struct kt_handle hold;
+    must(kt_new(&hold.at), "new");
+    pthread_mutex_lock(&lock.mutex);
+    must(kt_hold(&tree, *(struct kt_key *)data, &hold), "hold");
+    pthread_mutex_unlock(&lock.mutex);
+    while (!atomic_load(&is_over))
+        if (kt_run(&hold, &lock, use_steady, NULL) < 0)
+            sched_yield();
+    kt_clear_wake(&hold, &lock);
+    kt_delete(hold);
+    return NULL;
+}
+
+/* Hides a file, changes what its callbacks use, and shows it again, so often. */
+static void *hider(void *data)
+{
+    struct kt_key steady = *(struct kt_key *)data;
+    for (long i = 0; i < turns / 10; i++) {
+        long before = atomic_load(&steady_uses);
+        for (int k = 0; k < 1000 && atomic_load(&steady_uses) == before; k++)
+            sched_yield();
+        must(kt_hide_wait(&tree, steady, &lock), "hide");
+        if (atomic_load(&steady_inside))
+            atomic_fetch_add(&late, 1);
+        one++;
+        sched_yield();
+        other++;
+        pthread_mutex_lock(&lock.mutex);
+        must(kt_unhide(&tree, steady), "unhide");
+        pthread_mutex_unlock(&lock.mutex);
+    }
+    return NULL;
+}
+
 struct owner {
     int place;
     long removals;
@@ -129,20 +180,27 @@ int main(int count, char **words)
     must(kt_new(&tree.at), "new");
     must(kt_create_root(&tree, 64, 64), "create_root");
     must(kt_root(&tree, &root), "root");
-    pthread_t users[USERS], owners[2];
+    struct kt_key steady;
+    must(kt_create_file(&tree, root, "steady", 6, 0644, 0, true, &steady), "create_file");
+    pthread_t users[USERS], owners[2], steady_one, hiding_one;
     struct owner own[2] = {{0, 0}, {1, 0}};
     for (int i = 0; i < USERS; i++)
         pthread_create(&users[i], NULL, user, (void *)(uintptr_t)(i + 1));
     for (int i = 0; i < 2; i++)
         pthread_create(&owners[i], NULL, owner, &own[i]);
+    pthread_create(&steady_one, NULL, steady_user, &steady);
+    pthread_create(&hiding_one, NULL, hider, &steady);
     for (int i = 0; i < 2; i++)
         pthread_join(owners[i], NULL);
+    pthread_join(hiding_one, NULL);
     atomic_store(&is_over, 1);
+    pthread_join(steady_one, NULL);
     for (int i = 0; i < USERS; i++)
         pthread_join(users[i], NULL);
     kt_delete(tree);
-    printf("%ld removals, %ld calls, %ld refused, %ld self-removals; %ld callbacks after a removal\n",
-           own[0].removals + own[1].removals, atomic_load(&used), atomic_load(&refused), atomic_load(&self_removed),
+    printf("%ld removals, %ld calls, %ld refused, %ld self-removals, %ld hidings; %ld callbacks where none may be\n",
+           own[0].removals + own[1].removals, atomic_load(&used), atomic_load(&refused), atomic_load(&self_removed), one,
            atomic_load(&late));
-    return atomic_load(&late) != 0 || own[0].removals + own[1].removals != turns / 2 * 2 || !atomic_load(&used);
+    return atomic_load(&late) != 0 || own[0].removals + own[1].removals != turns / 2 * 2 || !atomic_load(&used) ||
+           one != turns / 10 || !atomic_load(&steady_uses);
 }

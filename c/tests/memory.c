@@ -65,6 +65,9 @@ int main(void)
     AGAIN(kt_begin_read(&open, 0));
     AGAIN(kt_shown(&open, "text", 4));
     AGAIN(kt_leave(&open));
+    AGAIN(kt_hide(&tree, file));
+    AGAIN(kt_enter(&open));
+    AGAIN(kt_unhide(&tree, file));
     AGAIN(kt_hold(&tree, file, &hold));
     AGAIN(kt_enter(&hold));
     AGAIN(kt_stat(&tree, file, &stat));

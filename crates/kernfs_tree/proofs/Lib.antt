@@ -1,3 +1,5 @@
 pub mod Boxes
+pub mod BySlot
 pub mod Listed
+pub mod Looks
 pub mod Written

@@ -6,7 +6,7 @@ use Rattle.kf_core.specs.declared.key.Key.{Key}
 use Rattle.kf_core.specs.declared.command.Command.TheVariants.{Activate, Rename}
 use Rattle.kf_core.specs.declared.refusal.Refusal.{Refusal}
 use Rattle.kf_core.specs.declared.refusal.Refusal.TheVariants.{NoEntry, NoMemory}
-use Rattle.kf_core.specs.Tree.{is_linked, record_at}
+use Rattle.kf_core.specs.Tree.{record_at}
 use Rattle.kf_table.specs.Children.{is_there_already}
 use Rattle.kf_tree.specs.declared.stat.Stat.{Stat}
 use Rattle.kf_tree.specs.Causes.{Refuses, linked_cause, list_cause, text_cause}
@@ -132,9 +132,6 @@ Answered table (asks.Claim key) old new reply =
     DoneOr ((is_claimed old.claims key ≡ false) × ClaimedTo old new key)
     ((is_claimed old.claims key ≡ true) × ClaimedTo old new key)
     (λ why. Unchanged old new) reply
-Answered table (asks.Remove key) old new reply =
-    DoneOr (is_linked new.state.tree key ≡ false) (is_linked new.state.tree key ≡ true)
-    (λ why. Unchanged old new) reply
 
 -- the questions that ask for a key
 abbrev pub is_naming : Question → Bool
@@ -170,10 +167,11 @@ Wrote Such (negsuc why) out out' = out' ≡ out
 
 -- ---- what lies behind the handle
 
--- there was a tree and there is one, of the same event numbers, and this holds of both
+-- there was a tree and there is one, of the same event numbers and tokens, and this holds of both
 abbrev pub OfTrees : (Locked → Locked → Type 0) → Object → Object → Type 0
 OfTrees Such (behind.Tree old) (behind.Tree new) =
     Such old.value.nodes new.value.nodes × (new.value.posts ≡ old.value.posts)
+    × (new.value.hidden ≡ old.value.hidden)
 OfTrees Such old new = ⊥
 
 -- it is the text that the tree answers to the question
@@ -185,11 +183,12 @@ IsTextOf question old new text = (reply : Vec ℕ Global) × (reply.items ≡ te
 abbrev pub IsAsBefore : Object → Object → Type 0
 IsAsBefore (behind.Tree old) (behind.Tree new) =
     Unchanged old.value.nodes new.value.nodes × (new.value.posts ≡ old.value.posts)
+    × (new.value.hidden ≡ old.value.hidden)
 IsAsBefore old new = new ≡ old
 
 -- the question is answered by the tree behind the handle, or there is none there
 abbrev pub AnsweredBehind : Question → Object → Object → Reply → Type 0
 AnsweredBehind question (behind.Tree old) (behind.Tree new) reply =
     Answered old.value.nodes.master.table question old.value.nodes new.value.nodes reply
-    × (new.value.posts ≡ old.value.posts)
+    × (new.value.posts ≡ old.value.posts) × (new.value.hidden ≡ old.value.hidden)
 AnsweredBehind question old new reply = (new ≡ old) × (reply ≡ told.Wrong)

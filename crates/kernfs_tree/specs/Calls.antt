@@ -1,11 +1,11 @@
 -- What the calls of a program say in the words of the tree.
-use Rattle.std.specs.Prelude.{◌≡◌, ℕ, List, [], ◌∷◌, Bool, Option, None, Some, Ok}
+use Rattle.std.specs.Prelude.{◌≡◌, ℕ, List, [], ◌∷◌, Bool, Option, None, Some, Ok, replicate}
 use Rattle.std.specs.Option.{option_map}
 use Rattle.kf_core.specs.declared.key.Key.{Key}
 use Rattle.kf_core.specs.declared.key.Node.{Node}
 use Rattle.kf_core.specs.declared.command.Command.TheVariants.{Activate}
 use Rattle.kf_core.specs.declared.key.Node.TheVariants.{Dir, File, Link}
-use Rattle.kf_core.specs.Tree.{is_linked, record_at}
+use Rattle.kf_core.specs.Tree.{record_at}
 use Rattle.kf_tree.specs.declared.stat.Stat.{Stat}
 use Rattle.kf_tree.specs.Causes.{linked_cause, target_of}
 use Rattle.kf_tree.specs.Links.{HasLinkText}
@@ -115,17 +115,14 @@ ToldIn old new key out = OfTrees (λ before after. (stat : Stat)
     × (option_map (stat_of before.state.tree) (record_at before.state.tree (key_in key)) ≡ Some stat)
     × (out ≡ stat_in_c stat) × (after ≡ before)) old new
 
--- the key is linked in the tree afterwards, or not
-abbrev pub IsLinkedIn : Object → Object → KtKey → Bool → Type 0
-IsLinkedIn old new key linked =
-    OfTrees (λ before after. is_linked after.state.tree (key_in key) ≡ linked) old new
-
--- it is a new tree of the root alone, of so many slots and holds of each; the event number of each slot is 1
+-- it is a new tree of the root alone, of so many slots and holds of each; the event number of each slot
+-- is 1, and nothing is hidden
 abbrev pub IsNewTree : ℕ → ℕ → Object → Type 0
 IsNewTree slots holds (behind.Tree tree) =
     IsNew slots (record { slot = 0; generation = 1 }) tree.value.nodes.state
     × (tree.value.nodes.master.view ≡ opened holds slots 0)
     × (tree.value.posts.slots ≡ slots) × (tree.value.posts.start ≡ 1)
+    × (tree.value.hidden ≡ replicate slots None)
 IsNewTree slots holds other = ⊥
 
 -- it is a hold of the node that has this key in the tree

@@ -1,5 +1,5 @@
 -- What the calls on open files say.
-use Rattle.std.specs.Prelude.{◌≡◌, ◌<◌, ◌⊎◌, ℕ, Bool, false, not, ◌&&◌, List, Option, None, Some, IsTrue, IsSome}
+use Rattle.std.specs.Prelude.{◌≡◌, ◌<◌, ◌⊎◌, ℕ, ℤ, negsuc, Bool, true, false, not, ◌&&◌, List, Option, None, Some, IsTrue, IsSome}
 use Rattle.std.specs.Option.{option_map}
 use Rattle.kf_core.specs.declared.caller.Phase.TheVariants.{Running}
 use Rattle.kf_core.specs.declared.key.Node.{Node}
@@ -19,7 +19,7 @@ use Rattle.kernfs_tree.specs.declared.object.Seat.{Seat}
 use Rattle.kernfs_tree.specs.declared.object.Seat.TheVariants as seat
 use Rattle.kernfs_tree.specs.declared.replies.KtKey.{KtKey}
 use Rattle.kernfs_tree.specs.Calls.{HoldsNode, key_in}
-use Rattle.kernfs_tree.specs.Steps.{WasEntered, WasRefused}
+use Rattle.kernfs_tree.specs.Steps.{WasEnteredToShow, WasRefused, enter_error}
 
 -- what is told of a node says that it is live
 abbrev pub tells_live : Stat → Bool
@@ -69,16 +69,32 @@ Begins offset old new = ⊥
 
 -- the node was entered, and then the show begun
 abbrev pub BeganRead : ℕ → Place → Place → Type 0
-BeganRead offset old new = WasEntered old.seat new.seat × Begins offset old.object new.object
+BeganRead offset old new = WasEnteredToShow old.seat new.seat × Begins offset old.object new.object
 
--- it is a call
-abbrev pub IsCall : Seat → Type 0
-IsCall (seat.Call inside) = Unit {0}
-IsCall other = ⊥
+-- the number of what is refused of a file: -EACCES where it was not opened for that, else as of the try
+abbrev pub access_error : Bool → Seat → ℤ
+access_error true at = enter_error at
+access_error false at = negsuc 12
+
+-- the number of a read that is refused: -EINVAL of what is no file
+abbrev pub read_error : Object → Seat → ℤ
+read_error (behind.File file) at = access_error file.value.state.want.read at
+read_error other at = negsuc 21
+
+-- and of a write
+abbrev pub write_error : Object → Seat → ℤ
+write_error (behind.File file) at = access_error file.value.state.want.write at
+write_error other at = negsuc 21
+
+-- it is a call in which a show was begun
+abbrev pub IsShowing : Seat → Type 0
+IsShowing (seat.Show inside) = Unit {0}
+IsShowing other = ⊥
 
 -- it is a call that runs
 abbrev pub IsRunning : Seat → Type 0
 IsRunning (seat.Call inside) = inside.call.phase ≡ Running
+IsRunning (seat.Show inside) = inside.call.phase ≡ Running
 IsRunning other = ⊥
 
 -- the text of these bytes is the file's now
@@ -87,9 +103,9 @@ Keeps shown (behind.File old) (behind.File new) = (new.value.post ≡ old.value.
     × (new.value.state ≡ record old.value.state { text = Some (text_of shown) })
 Keeps shown old new = ⊥
 
--- in a call this text became the file's
+-- in a call that began a show this text became the file's
 abbrev pub HasShown : List ℕ → Place → Place → Type 0
-HasShown shown old new = IsCall old.seat × (new.seat ≡ old.seat) × Keeps shown old.object new.object
+HasShown shown old new = IsShowing old.seat × (new.seat ≡ old.seat) × Keeps shown old.object new.object
 
 -- these are the bytes of the file's text from the offset on, at most so many
 abbrev pub TextFrom : Object → ℕ → ℕ → List ℕ → Type 0

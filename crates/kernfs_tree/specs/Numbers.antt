@@ -21,6 +21,7 @@ IsPostOf other key post = ⊥
 abbrev pub IsSameTree : Object → Object → Type 0
 IsSameTree (behind.Tree old) (behind.Tree new) =
     (new.value.nodes ≡ old.value.nodes) × (new.value.posts ≡ old.value.posts)
+    × (new.value.hidden ≡ old.value.hidden)
 IsSameTree old new = new ≡ old
 
 -- such a post lies there

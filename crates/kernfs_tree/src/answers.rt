@@ -8,13 +8,13 @@ ghost use Rattle.kf_tree.specs.Listing.{IsListing};
 use crate::holds::Held;
 use crate::object::Object;
 use crate::questions::{Question, Reply};
-use crate::removal::{claim, remove};
+use crate::removal::claim;
+use crate::tree::ask;
 use core::mem::replace_with;
 use kf_core::{Key, Refusal};
-use kf_shared::{Locked, Naming, NewTree};
+use kf_shared::{Locked, Naming};
 use kf_tree::State;
 use std::alloc::Global;
-use std::marker::Brand;
 
 /// The bound of a listing: none where the name is empty.
 fn bound(after: &[u8]) -> Option<&[u8]>
@@ -52,7 +52,7 @@ fn name(state: &State, key: Key, alloc: Global) -> Reply
 }
 
 /// What the tree answers.
-fn answer<N: Naming>(locked: &mut Locked<N>, question: Question<'_>) -> Reply
+pub fn answer<N: Naming>(locked: &mut Locked<N>, question: Question<'_>) -> Reply
     ensures { Answered N.table question.entry locked.old locked.new result }
 {
     match question {
@@ -110,25 +110,7 @@ fn answer<N: Naming>(locked: &mut Locked<N>, question: Question<'_>) -> Reply
             Err(refusal) => Reply::Refused(refusal),
         },
         Question::Claim(key) => claim(locked, key),
-        Question::Remove(key) => remove(locked, key),
     }
-}
-
-/// The tree after it was asked under this name, and what it answers.
-fn ask_named<N: Naming>(tree: NewTree, question: Question<'_>) -> (NewTree, Reply)
-    requires { tree.master.table ≡ N.table }
-    ensures { Answered tree.master.table question.entry tree result.0 result.1 }
-{
-    let mut locked = tree.owned::<N>();
-    let reply = answer(&mut locked, question);
-    (locked.unnamed(), reply)
-}
-
-/// The tree after it was asked, and what it answers.
-fn ask(tree: NewTree, question: Question<'_>) -> (NewTree, Reply)
-    ensures { Answered tree.master.table question.entry tree result.0 result.1 }
-{
-    ask_named::<Brand>(tree, question)
 }
 
 /// What lies there after it was asked, and what it answers.
@@ -137,7 +119,7 @@ pub fn ask_object(object: Object, question: Question<'_>) -> (Object, Reply)
 {
     match object {
         Object::Tree(mut tree) => {
-            let reply = replace_with(&mut tree.as_mut().nodes, question, ask);
+            let reply = replace_with(tree.as_mut(), question, ask);
             (Object::Tree(tree), reply)
         }
         other => (other, Reply::Wrong),

@@ -1,11 +1,12 @@
 //! The calls of a program. Each answers 0 or more, or a Linux error number below 0, and then nothing changed.
-ghost use Rattle.std.specs.Prelude.{◌≡◌, ◌≢◌, ◌⊎◌, pos, negsuc, false, true};
+ghost use Rattle.std.specs.Prelude.{◌≡◌, ◌≢◌, ◌⊎◌, pos};
 ghost use Rattle.kf_core.specs.declared.key.Node.TheVariants as kind;
 ghost use Rattle.kernfs_tree.specs.declared.object.Object.TheVariants as behind;
+ghost use Rattle.kernfs_tree.specs.Again.{HasHidingIn};
 ghost use Rattle.kernfs_tree.specs.Answers.{IsAsBefore, Wrote};
-ghost use Rattle.kernfs_tree.specs.Calls.{key_in, CreatedIn, FoundIn, WalkedIn, IsLinkedIn, IsNewTree, HoldsNode, RootIn, ActivatedIn, MovedIn, CompactedIn, ClaimedIn, IsNothing, ToldIn, NextIn, LinkTextIn, ParentIn, NameIn, PathIn};
+ghost use Rattle.kernfs_tree.specs.Calls.{key_in, CreatedIn, FoundIn, WalkedIn, IsNewTree, HoldsNode, RootIn, ActivatedIn, MovedIn, CompactedIn, IsNothing, ToldIn, NextIn, LinkTextIn, ParentIn, NameIn, PathIn};
 ghost use Rattle.kernfs_tree.specs.Numbers.{HasPostOf, IsSameTree, WasNotified, WasFull, TookNumber};
-ghost use Rattle.kernfs_tree.specs.Steps.{WasEntered, WasRefused, WasLeft, WasBroken, WasRestored, wake_of};
+ghost use Rattle.kernfs_tree.specs.Steps.{WasEntered, WasRefused, WasLeft, WasBroken, WasRestored, enter_error, wake_of};
 
 use crate::handle::KtHandle;
 use crate::questions::Question;
@@ -20,16 +21,21 @@ pub extern "C" fn kt_new(alloc: Global, out: &mut *mut u8) -> i32 {
     replies::make(alloc, out)
 }
 
-/// Lets go of a handle and of what lies behind it.
+/// Lets go of a handle and of what lies behind it; not of a tree with a hidden file in which somebody may be.
 #[unsafe(no_mangle)]
-pub extern "C" fn kt_delete(handle: KtHandle) -> i32 {
+pub extern "C" fn kt_delete(handle: KtHandle) -> i32
+    ensures busy { result ≢ pos 0 → result ≢ pos 1 → HasHidingIn handle.place.object }
+{
     replies::delete(handle)
 }
 
-/// Lets go of what lies behind a handle: a hold is released, and a call ended first.
+/// Lets go of what lies behind a handle: a hold is released, and a call ended first. A tree with a hidden file
+/// in which somebody may be stays.
 #[unsafe(no_mangle)]
 pub extern "C" fn kt_clear(handle: &mut KtHandle) -> i32
-    ensures empty { IsNothing handle.new.place }
+    ensures empty { (result ≡ pos 0) ⊎ (result ≡ pos 1) → IsNothing handle.new.place }
+    ensures busy { result ≢ pos 0 → result ≢ pos 1 →
+        HasHidingIn handle.old.place.object × (handle.new.place ≡ handle.old.place) }
 {
     replies::clear(handle)
 }
@@ -287,31 +293,6 @@ pub extern "C" fn kt_hold(tree: &mut KtHandle, key: KtKey, out: &mut KtHandle) -
     replies::hold(tree, key, out)
 }
 
-/// Claims the self-removal of a node (`kernfs_remove_self`), after it has marked the node and all below it.
-/// 0 for the first that claims it, and 1 for each later one.
-#[unsafe(no_mangle)]
-pub extern "C" fn kt_claim(tree: &mut KtHandle, key: KtKey) -> i32
-    ensures first { result ≡ pos 0 → ClaimedIn tree.old.place.object tree.new.place.object key false }
-    ensures again { result ≡ pos 1 → ClaimedIn tree.old.place.object tree.new.place.object key true }
-    ensures kept { result ≢ pos 0 → result ≢ pos 1 → IsAsBefore tree.old.place.object tree.new.place.object }
-{
-    replies::claim(tree, key)
-}
-
-/// Marks a node and all below it, and takes each of them out of the tree that nobody uses (`kernfs_remove`).
-/// 0 where the node is out, -EAGAIN where it is not, since somebody is inside.
-#[unsafe(no_mangle)]
-pub extern "C" fn kt_remove(tree: &mut KtHandle, key: KtKey) -> i32
-    ensures gone { result ≡ pos 0 →
-        IsLinkedIn tree.old.place.object tree.new.place.object key false }
-    ensures not_yet { result ≡ negsuc 10 →
-        IsLinkedIn tree.old.place.object tree.new.place.object key true }
-    ensures kept { result ≢ pos 0 → result ≢ negsuc 10 →
-        IsAsBefore tree.old.place.object tree.new.place.object }
-{
-    replies::remove(tree, key)
-}
-
 /// A post of the slot of a node, behind a handle with nothing behind it.
 #[unsafe(no_mangle)]
 pub extern "C" fn kt_post(tree: &mut KtHandle, key: KtKey, out: &mut KtHandle) -> i32
@@ -348,6 +329,7 @@ pub extern "C" fn kt_event(post: &mut KtHandle, out: &mut u64) -> i32
 pub extern "C" fn kt_enter(hold: &mut KtHandle) -> i32
     ensures entered { result ≡ pos 0 → WasEntered hold.old.place.seat hold.new.place.seat }
     ensures refused { result ≢ pos 0 → WasRefused hold.old.place.seat hold.new.place.seat }
+    ensures why { result ≢ pos 0 → result ≡ enter_error hold.old.place.seat }
     ensures beside { hold.new.place.object ≡ hold.old.place.object }
 {
     stepping::enter(hold)

@@ -13,6 +13,9 @@ pub const NO_MEMORY: i32 = -12;
 /// The file was not opened for that (`EACCES`).
 pub const ACCESS: i32 = -13;
 
+/// Somebody may be inside a hidden file (`EBUSY`).
+pub const BUSY: i32 = -16;
+
 /// The node is not live (`ENODEV`).
 pub const NO_DEVICE: i32 = -19;
 

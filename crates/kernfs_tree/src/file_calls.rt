@@ -2,7 +2,7 @@
 ghost use Rattle.std.specs.Prelude.{◌≡◌, ◌≢◌, pos, true, false, length};
 ghost use Rattle.kernfs_tree.specs.Answers.{IsAsBefore, Wrote};
 ghost use Rattle.kernfs_tree.specs.Calls.{IsNothing};
-ghost use Rattle.kernfs_tree.specs.Files.{OpenedIn, Serves, BeganRead, HasShown, TextFrom, MayWrite, WasPolled, WasKeptOut, IsSamePlace};
+ghost use Rattle.kernfs_tree.specs.Files.{OpenedIn, Serves, BeganRead, HasShown, TextFrom, MayWrite, WasPolled, WasKeptOut, IsSamePlace, read_error, write_error};
 ghost use Rattle.kernfs_tree.specs.Steps.{WasEntered};
 
 use crate::file_steps;
@@ -38,11 +38,13 @@ pub extern "C" fn kt_begin_read(file: &mut KtHandle, offset: u64) -> i32
         Serves offset file.old.place.object × IsSamePlace file.old.place file.new.place }
     ensures begun { result ≡ pos 1 → BeganRead offset file.old.place file.new.place }
     ensures refused { result ≢ pos 0 → result ≢ pos 1 → WasKeptOut file.old.place file.new.place }
+    ensures why { result ≢ pos 0 → result ≢ pos 1 →
+        result ≡ read_error file.old.place.object file.old.place.seat }
 {
     file_steps::begin_read(file, offset)
 }
 
-/// Keeps the text that a show made, of at most 4,095 bytes.
+/// Keeps the text that a show made, of at most 4,095 bytes, in the call that began it.
 #[unsafe(no_mangle)]
 pub extern "C" fn kt_shown(file: &mut KtHandle, text: &[u8]) -> i32
     ensures kept { result ≡ pos 0 → HasShown text.now file.old.place file.new.place }
@@ -68,6 +70,7 @@ pub extern "C" fn kt_begin_write(file: &mut KtHandle) -> i32
         × WasEntered file.old.place.seat file.new.place.seat
         × (file.new.place.object ≡ file.old.place.object) }
     ensures refused { result ≢ pos 0 → WasKeptOut file.old.place file.new.place }
+    ensures why { result ≢ pos 0 → result ≡ write_error file.old.place.object file.old.place.seat }
 {
     file_steps::begin_write(file)
 }

@@ -2,7 +2,7 @@
 ghost use Rattle.std.specs.Prelude.{◌≡◌, ◌≢◌, pos, true, false, length};
 ghost use Rattle.kernfs_tree.specs.Answers.{IsAsBefore, Wrote};
 ghost use Rattle.kernfs_tree.specs.Calls.{IsNothing};
-ghost use Rattle.kernfs_tree.specs.Files.{OpenedIn, Serves, BeganRead, HasShown, TextFrom, MayWrite, WasPolled, WasKeptOut, IsSamePlace, open_fault};
+ghost use Rattle.kernfs_tree.specs.Files.{OpenedIn, Serves, BeganRead, HasShown, TextFrom, MayWrite, WasPolled, WasKeptOut, IsSamePlace, open_fault, read_error, write_error};
 ghost use Rattle.kernfs_tree.specs.Steps.{WasEntered};
 ghost use Rattle.kf_files.specs.Files.{allows};
 
@@ -62,14 +62,14 @@ pub fn open(alloc: Global, handle: &mut KtHandle, key: KtKey, want: Want, out: &
     if let Some(refusal) = open_fault(stat, want) {
         return error_of(refusal);
     }
-    let post = match replace_with(handle, key, post_of_handle) {
-        Ok(post) => post,
-        Err(refusal) => return error_of(refusal),
-    };
     let held = match replace_with(handle, Question::Hold(key), ask_handle) {
         Reply::Held(held) => held,
         Reply::Refused(refusal) => return error_of(refusal),
         _ => return INVALID,
+    };
+    let post = match replace_with(handle, key, post_of_handle) {
+        Ok(post) => post,
+        Err(refusal) => return error_of(refusal),
     };
     match Box::new(alloc, File::new(want, post)) {
         Ok(file) => {
@@ -85,6 +85,7 @@ fn begin_read_at(place: Place, offset: u64) -> (Place, i32)
     ensures served { result.1 ≡ pos 0 → Serves offset place.object × IsSamePlace place result.0 }
     ensures begun { result.1 ≡ pos 1 → BeganRead offset place result.0 }
     ensures refused { result.1 ≢ pos 0 → result.1 ≢ pos 1 → WasKeptOut place result.0 }
+    ensures why { result.1 ≢ pos 0 → result.1 ≢ pos 1 → result.1 ≡ read_error place.object place.seat }
 {
     let (seat, object) = place.into_parts();
     match object {
@@ -95,7 +96,7 @@ fn begin_read_at(place: Place, offset: u64) -> (Place, i32)
             if file.serves(offset) {
                 return (Place::of(seat, Object::File(file)), 0);
             }
-            let (seat, answer) = steps::enter(seat, ());
+            let (seat, answer) = steps::enter_to_show(seat);
             if answer != 0 {
                 return (Place::of(seat, Object::File(file)), answer);
             }
@@ -111,6 +112,8 @@ fn begin_read_handle(handle: KtHandle, offset: u64) -> (KtHandle, i32)
         Serves offset handle.place.object × IsSamePlace handle.place result.0.place }
     ensures begun { result.1 ≡ pos 1 → BeganRead offset handle.place result.0.place }
     ensures refused { result.1 ≢ pos 0 → result.1 ≢ pos 1 → WasKeptOut handle.place result.0.place }
+    ensures why { result.1 ≢ pos 0 → result.1 ≢ pos 1 →
+        result.1 ≡ read_error handle.place.object handle.place.seat }
 {
     let mut boxed = handle.into_box();
     let answer = replace_with(boxed.as_mut(), offset, begin_read_at);
@@ -123,11 +126,13 @@ pub fn begin_read(file: &mut KtHandle, offset: u64) -> i32
         Serves offset file.old.place.object × IsSamePlace file.old.place file.new.place }
     ensures begun { result ≡ pos 1 → BeganRead offset file.old.place file.new.place }
     ensures refused { result ≢ pos 0 → result ≢ pos 1 → WasKeptOut file.old.place file.new.place }
+    ensures why { result ≢ pos 0 → result ≢ pos 1 →
+        result ≡ read_error file.old.place.object file.old.place.seat }
 {
     replace_with(file, offset, begin_read_handle)
 }
 
-/// Keeps the text that a show made, in a call.
+/// Keeps the text that a show made, in the call that began it.
 fn shown_at(place: Place, shown: &[u8]) -> (Place, i32)
     ensures kept { result.1 ≡ pos 0 → HasShown shown.now place result.0 }
     ensures same { result.1 ≢ pos 0 → IsSamePlace place result.0 }
@@ -135,9 +140,9 @@ fn shown_at(place: Place, shown: &[u8]) -> (Place, i32)
     let (seat, object) = place.into_parts();
     match object {
         Object::File(mut file) => match seat {
-            Seat::Call(inside) => {
+            Seat::Show(inside) => {
                 file.as_mut().end_show(shown);
-                (Place::of(Seat::Call(inside), Object::File(file)), 0)
+                (Place::of(Seat::Show(inside), Object::File(file)), 0)
             }
             other => (Place::of(other, Object::File(file)), INVALID),
         },
@@ -214,6 +219,7 @@ fn begin_write_at(place: Place, _nothing: ()) -> (Place, i32)
     ensures entered { result.1 ≡ pos 0 → MayWrite place.object
         × WasEntered place.seat result.0.seat × (result.0.object ≡ place.object) }
     ensures refused { result.1 ≢ pos 0 → WasKeptOut place result.0 }
+    ensures why { result.1 ≢ pos 0 → result.1 ≡ write_error place.object place.seat }
 {
     let (seat, object) = place.into_parts();
     match object {
@@ -233,6 +239,7 @@ fn begin_write_handle(handle: KtHandle, nothing: ()) -> (KtHandle, i32)
         × WasEntered handle.place.seat result.0.place.seat
         × (result.0.place.object ≡ handle.place.object) }
     ensures refused { result.1 ≢ pos 0 → WasKeptOut handle.place result.0.place }
+    ensures why { result.1 ≢ pos 0 → result.1 ≡ write_error handle.place.object handle.place.seat }
 {
     let mut boxed = handle.into_box();
     let answer = replace_with(boxed.as_mut(), nothing, begin_write_at);
@@ -245,6 +252,7 @@ pub fn begin_write(file: &mut KtHandle) -> i32
         × WasEntered file.old.place.seat file.new.place.seat
         × (file.new.place.object ≡ file.old.place.object) }
     ensures refused { result ≢ pos 0 → WasKeptOut file.old.place file.new.place }
+    ensures why { result ≢ pos 0 → result ≡ write_error file.old.place.object file.old.place.seat }
 {
     replace_with(file, (), begin_write_handle)
 }
@@ -264,6 +272,14 @@ fn changed_at(place: Place, _nothing: ()) -> (Place, i32)
                 }
                 let changed = file.as_mut().is_changed();
                 let place = Place::of(Seat::Call(inside), Object::File(file));
+                (place, if changed { 1 } else { 0 })
+            }
+            Seat::Show(inside) => {
+                if !inside.is_running() {
+                    return (Place::of(Seat::Show(inside), Object::File(file)), INVALID);
+                }
+                let changed = file.as_mut().is_changed();
+                let place = Place::of(Seat::Show(inside), Object::File(file));
                 (place, if changed { 1 } else { 0 })
             }
             other => (Place::of(other, Object::File(file)), INVALID),

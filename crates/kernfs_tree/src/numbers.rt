@@ -1,31 +1,17 @@
 //! Event numbers: the posts of a tree's slots, and their steps.
 ghost use Rattle.std.specs.Prelude.{◌≡◌, ◌≢◌, pos, IfOk, IfSome, None};
-ghost use Rattle.kf_notify.specs.PostStates.{IsNewPost};
 ghost use Rattle.kernfs_tree.specs.Calls.{IsNothing};
 ghost use Rattle.kernfs_tree.specs.Numbers.{IsPostOf, IsSameTree, HasPostOf, WasNotified, WasFull, TookNumber};
 
 use crate::answers::ask_object;
 use crate::errors::{INVALID, OVERFLOW, error_of};
 use crate::handle::KtHandle;
-use crate::object::{Object, Place, Seat, Tree};
+use crate::object::{Object, Place, Seat};
 use crate::questions::{Question, Reply};
 use crate::replies::{KtKey, key_of, put_handle};
 use core::mem::replace_with;
 use kf_core::{Key, Refusal};
 use kf_notify::Post;
-
-impl Tree {
-    /// A post of a slot.
-    fn post(&mut self, slot: u32) -> Result<Post, Refusal>
-        ensures same { self.new ≡ self.old }
-        ensures made { IfOk result (λ post. IsNewPost self.old.posts slot post) }
-    {
-        if slot >= self.posts.slots() {
-            return Err(Refusal::NoEntry);
-        }
-        self.posts.post(slot)
-    }
-}
 
 /// A post of the slot of a node that the tree has.
 pub fn post_of(object: Object, key: Key) -> (Object, Result<Post, Refusal>)

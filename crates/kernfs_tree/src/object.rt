@@ -1,18 +1,21 @@
 //! What lies behind a handle: a hold or a call, and what is beside it.
-ghost use Rattle.std.specs.Prelude.{◌≡◌, IsTrue};
+ghost use Rattle.std.specs.Prelude.{◌≡◌, IsTrue, true};
 ghost use Rattle.kernfs_tree.specs.Calls.{IsNothing};
+ghost use Rattle.kernfs_tree.specs.Again.{HasHidingIn};
 
 use crate::file::File;
 use crate::holds::{Held, Inside};
-use kf_notify::{Post, Posts};
-use kf_shared::NewTree;
+use crate::tree::Tree;
+use kf_notify::Post;
 
-/// A hold of a node, or a call of one.
+/// A hold of a node, or a call of one. A call that a read began, for a show, is a variant of its own: a field
+/// more would make each step slower.
 #[derive(Drop)]
 pub enum Seat {
     None,
     Hold(Held),
     Call(Inside),
+    Show(Inside),
 }
 
 /// What is beside a seat.
@@ -22,13 +25,6 @@ pub enum Object {
     Tree(Box<Tree>),
     Post(Post),
     File(Box<File>),
-}
-
-/// A tree, and the event numbers of its slots.
-#[derive(Drop)]
-pub struct Tree {
-    pub nodes: NewTree,
-    pub posts: Posts,
 }
 
 /// A seat and an object in memory of their own. The words after them keep them off the cache lines of the
@@ -76,6 +72,16 @@ impl Place {
         }
     }
 
+    /// Whether it is a tree with a hidden file in which somebody may be.
+    pub fn is_hiding(&self) -> bool
+        ensures { result ≡ true → HasHidingIn self.now.object }
+    {
+        match &self.object {
+            Object::Tree(tree) => tree.is_hiding(),
+            _ => false,
+        }
+    }
+
     /// Lets go of what lies there: a hold is released, and a call ended first. True where one who sleeps at
     /// the node of a call may wait for that.
     pub fn end(self) -> bool {
@@ -87,6 +93,7 @@ impl Place {
         drop(object);
         match seat {
             Seat::Call(inside) => inside.end(),
+            Seat::Show(inside) => inside.end(),
             other => {
                 drop(other);
                 false

@@ -56,8 +56,17 @@ pub enum Question<'a> {
     Compact,
     /// The removal of a node by itself claimed.
     Claim(Key),
+}
+
+/// What may have to be asked of a tree again, since somebody is inside.
+#[derive(Clone, Copy)]
+pub enum Task {
     /// A node and all below it marked, and each of them taken out that nobody uses.
     Remove(Key),
+    /// A file hidden, with nobody inside.
+    Hide(Key),
+    /// A hidden file shown again.
+    Show(Key),
 }
 
 /// What a tree answers.
@@ -72,7 +81,7 @@ pub enum Reply {
     Held(Held),
     /// It is done.
     Done,
-    /// It was done before, or, of a removal, somebody is inside.
+    /// It was done before, or somebody is inside.
     Not,
     Refused(Refusal),
     /// It is no tree.

@@ -3,8 +3,11 @@ ghost use Rattle.std.specs.Prelude.{◌≡◌, true, false, OnErr};
 ghost use Rattle.kf_core.specs.Tree.{is_linked};
 ghost use Rattle.kf_shared.specs.Locked.{Unchanged, is_claimed};
 ghost use Rattle.kernfs_tree.specs.Answers.{ClaimedTo, DoneOr};
+ghost use Rattle.kernfs_tree.specs.Kept.{AreTokensOf};
 
+use crate::hiding::show;
 use crate::questions::Reply;
+use crate::token::Token;
 use kf_core::{Key, Refusal};
 use kf_shared::{Locked, Naming};
 use kf_words::Hold;
@@ -38,8 +41,15 @@ fn mark<N: Naming>(locked: &mut Locked<N>, key: Key, doomed: bool) -> Result<(),
     }
 }
 
-/// Takes a marked node out of the tree, where a look finds that nobody uses it.
-fn take_out<N: Naming>(locked: &mut Locked<N>, key: Key) {
+/// Takes a marked node out of the tree, where a look finds that nobody uses it. What is hidden is shown first,
+/// so that no token is left of a node that is out.
+fn take_out<N: Naming>(locked: &mut Locked<N>, tokens: &mut Vec<Option<Token>>, key: Key)
+    requires { AreTokensOf N.table tokens.old.items }
+    ensures { AreTokensOf N.table tokens.new.items }
+{
+    if let Reply::Not = show(locked, tokens, key) {
+        return;
+    }
     let Ok(hold) = locked.hold(key) else {
         return;
     };
@@ -82,10 +92,12 @@ fn is_linked<N: Naming>(locked: &Locked<N>, key: Key) -> bool
 /// Marks a node and all below it, where it is not marked yet, and takes out each of them that nobody uses.
 /// Done where it is out of the tree, and Not where it is still there. A refusal comes before anything is
 /// marked or taken out.
-pub fn remove<N: Naming>(locked: &mut Locked<N>, key: Key) -> Reply
-    ensures { DoneOr (is_linked locked.new.state.tree key ≡ false)
+pub fn remove<N: Naming>(locked: &mut Locked<N>, tokens: &mut Vec<Option<Token>>, key: Key) -> Reply
+    requires { AreTokensOf N.table tokens.old.items }
+    ensures tokens { AreTokensOf N.table tokens.new.items }
+    ensures told { DoneOr (is_linked locked.new.state.tree key ≡ false)
         (is_linked locked.new.state.tree key ≡ true)
-        (λ why. Unchanged locked.old locked.new) result }
+        (λ why. Unchanged locked.old locked.new × (tokens.new.items ≡ tokens.old.items)) result }
 {
     let Ok(stat) = locked.state().stat(key) else {
         return Reply::Done;
@@ -98,7 +110,7 @@ pub fn remove<N: Naming>(locked: &mut Locked<N>, key: Key) -> Reply
         return Reply::Refused(refusal);
     }
     for each in order.as_slice() {
-        take_out(locked, *each);
+        take_out(locked, tokens, *each);
     }
     if is_linked(locked, key) {
         Reply::Not

@@ -1,22 +1,21 @@
 //! What the calls of a program do to what lies behind its handles, and the numbers that they answer.
-ghost use Rattle.std.specs.Prelude.{◌≡◌, ◌≢◌, true, false, pos, negsuc};
+ghost use Rattle.std.specs.Prelude.{◌≡◌, ◌≢◌, ◌⊎◌, true, false, pos};
+ghost use Rattle.kernfs_tree.specs.Again.{HasHidingIn};
 ghost use Rattle.kernfs_tree.specs.Answers.{Answered, AnsweredBehind, OfTrees, IsAsBefore, IsTextOf, Wrote, is_change, is_naming, is_reading};
-ghost use Rattle.kernfs_tree.specs.Calls.{IsNewTree, HoldsNode, IsLinkedIn, ClaimedIn, IsNothing, ToldIn, NextIn, stat_in_c};
+ghost use Rattle.kernfs_tree.specs.Calls.{IsNewTree, HoldsNode, ClaimedIn, IsNothing, ToldIn, NextIn, stat_in_c};
 ghost use Rattle.kernfs_tree.specs.declared.object.Object.TheVariants as behind;
 ghost use Rattle.kernfs_tree.specs.declared.questions.Reply.TheVariants as told;
 
 use crate::answers::ask_object;
-use crate::errors::{AGAIN, INVALID, NO_MEMORY, RANGE, error_of};
+use crate::errors::{BUSY, INVALID, NO_MEMORY, RANGE, error_of};
 use crate::handle::KtHandle;
-use crate::object::{Object, Place, Seat, Tree};
+use crate::object::{Object, Place, Seat};
 use crate::questions::{Question, Reply};
+use crate::tree::Tree;
 use core::mem::replace_with;
 use kf_core::{Key, Limits, Node};
-use kf_notify::Posts;
-use kf_shared::SharedTree;
 use kf_tree::Stat;
 use std::alloc::Global;
-use std::marker::Brand;
 
 /// A key of a node.
 #[repr(C)]
@@ -95,24 +94,6 @@ pub fn change(handle: &mut KtHandle, question: Question<'_>) -> i32
 {
     match replace_with(handle, question, ask_handle) {
         Reply::Done => 0,
-        Reply::Refused(refusal) => error_of(refusal),
-        _ => INVALID,
-    }
-}
-
-/// Removes a subtree as far as it can be without waiting.
-pub fn remove(handle: &mut KtHandle, key: KtKey) -> i32
-    ensures gone { result ≡ pos 0 →
-        IsLinkedIn handle.old.place.object handle.new.place.object key false }
-    ensures not_yet { result ≡ negsuc 10 →
-        IsLinkedIn handle.old.place.object handle.new.place.object key true }
-    ensures kept { result ≢ pos 0 → result ≢ negsuc 10 →
-        IsAsBefore handle.old.place.object handle.new.place.object }
-{
-    let question = Question::Remove(key_of(key));
-    match replace_with(handle, question, ask_handle) {
-        Reply::Done => 0,
-        Reply::Not => AGAIN,
         Reply::Refused(refusal) => error_of(refusal),
         _ => INVALID,
     }
@@ -292,15 +273,11 @@ pub fn make_tree(alloc: Global, handle: &mut KtHandle, slots: u32, holds: u32) -
     let Some(limits) = Limits::new(slots, holds) else {
         return INVALID;
     };
-    let nodes = match SharedTree::<Brand>::new(alloc, limits) {
-        Ok(nodes) => nodes,
+    let tree = match Tree::new(alloc, limits) {
+        Ok(tree) => tree,
         Err(refusal) => return error_of(refusal),
     };
-    let posts = match Posts::new(alloc, slots) {
-        Ok(posts) => posts,
-        Err(refusal) => return error_of(refusal),
-    };
-    match Box::new(alloc, Tree { nodes, posts }) {
+    match Box::new(alloc, tree) {
         Ok(tree) => {
             let place = Place::of(Seat::None, Object::Tree(tree));
             replace_with(handle, place, put_handle)
@@ -310,8 +287,12 @@ pub fn make_tree(alloc: Global, handle: &mut KtHandle, slots: u32, holds: u32) -
 }
 
 fn end(place: Place, _nothing: ()) -> (Place, i32)
-    ensures { IsNothing result.0 }
+    ensures empty { (result.1 ≡ pos 0) ⊎ (result.1 ≡ pos 1) → IsNothing result.0 }
+    ensures busy { result.1 ≢ pos 0 → result.1 ≢ pos 1 → HasHidingIn place.object × (result.0 ≡ place) }
 {
+    if place.is_hiding() {
+        return (place, BUSY);
+    }
     let wanted = place.end();
     (
         Place::of(Seat::None, Object::Empty),
@@ -320,24 +301,36 @@ fn end(place: Place, _nothing: ()) -> (Place, i32)
 }
 
 fn end_handle(handle: KtHandle, nothing: ()) -> (KtHandle, i32)
-    ensures { IsNothing result.0.place }
+    ensures empty { (result.1 ≡ pos 0) ⊎ (result.1 ≡ pos 1) → IsNothing result.0.place }
+    ensures busy { result.1 ≢ pos 0 → result.1 ≢ pos 1 →
+        HasHidingIn handle.place.object × (result.0.place ≡ handle.place) }
 {
     let mut boxed = handle.into_box();
     let answer = replace_with(boxed.as_mut(), nothing, end);
     (KtHandle::of(boxed), answer)
 }
 
-/// Lets go of what lies behind a handle: 1 where one who sleeps may wait for that.
+/// Lets go of what lies behind a handle: 1 where one who sleeps may wait for that, and -EBUSY of a tree with a
+/// hidden file in which somebody may be.
 pub fn clear(handle: &mut KtHandle) -> i32
-    ensures { IsNothing handle.new.place }
+    ensures empty { (result ≡ pos 0) ⊎ (result ≡ pos 1) → IsNothing handle.new.place }
+    ensures busy { result ≢ pos 0 → result ≢ pos 1 →
+        HasHidingIn handle.old.place.object × (handle.new.place ≡ handle.old.place) }
 {
     replace_with(handle, (), end_handle)
 }
 
-/// Lets go of a handle and of what lies behind it.
-pub fn delete(handle: KtHandle) -> i32 {
+/// Lets go of a handle and of what lies behind it, as `clear` does. Where that is refused the handle stays the
+/// program's.
+pub fn delete(handle: KtHandle) -> i32
+    ensures { result ≢ pos 0 → result ≢ pos 1 → HasHidingIn handle.place.object }
+{
     let mut boxed = handle.into_box();
     let answer = replace_with(boxed.as_mut(), (), end);
+    if answer < 0 {
+        let _ = KtHandle::of(boxed).into_pointer();
+        return answer;
+    }
     drop(boxed);
     answer
 }

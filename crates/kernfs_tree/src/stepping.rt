@@ -1,6 +1,6 @@
 //! The steps of a hold and a call, taken where they lie.
 ghost use Rattle.std.specs.Prelude.{◌≡◌, ◌≢◌, ◌⊎◌, pos};
-ghost use Rattle.kernfs_tree.specs.Steps.{WasEntered, WasRefused, WasLeft, WasBroken, WasRestored, wake_of};
+ghost use Rattle.kernfs_tree.specs.Steps.{WasEntered, WasRefused, WasLeft, WasBroken, WasRestored, enter_error, wake_of};
 
 use crate::handle::KtHandle;
 use crate::steps;
@@ -10,6 +10,7 @@ use core::mem::replace_with;
 fn enter_handle(handle: KtHandle, nothing: ()) -> (KtHandle, i32)
     ensures entered { result.1 ≡ pos 0 → WasEntered handle.place.seat result.0.place.seat }
     ensures refused { result.1 ≢ pos 0 → WasRefused handle.place.seat result.0.place.seat }
+    ensures why { result.1 ≢ pos 0 → result.1 ≡ enter_error handle.place.seat }
     ensures beside { result.0.place.object ≡ handle.place.object }
 {
     let mut boxed = handle.into_box();
@@ -59,6 +60,7 @@ fn restore_handle(handle: KtHandle, nothing: ()) -> (KtHandle, i32)
 pub fn enter(hold: &mut KtHandle) -> i32
     ensures entered { result ≡ pos 0 → WasEntered hold.old.place.seat hold.new.place.seat }
     ensures refused { result ≢ pos 0 → WasRefused hold.old.place.seat hold.new.place.seat }
+    ensures why { result ≢ pos 0 → result ≡ enter_error hold.old.place.seat }
     ensures beside { hold.new.place.object ≡ hold.old.place.object }
 {
     replace_with(hold, (), enter_handle)

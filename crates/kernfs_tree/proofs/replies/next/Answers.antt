@@ -1,4 +1,4 @@
-use Rattle.std.proofs.Common.{◌≡◌, List, ℕ, rules, subst, w64, SFits}
+use Rattle.std.proofs.Common.{◌≡◌, List, ℕ, rules, w64, SFits}
 use Rattle.std.proofs.lemmas.Int.{to_z-of_z}
 use Rattle.kernfs_tree.specs.Calls.{NextIn}
 use Rattle.kernfs_tree.proofs.Written.{wrote_so}
