@@ -7,12 +7,20 @@ use thiserror::Error;
 #[derive(Clone, Copy, Debug, Drop, PartialEq, Eq, Error)]
 pub enum RunFault {
     /// A call of read failed, or there were too many.
-    #[error("read")]
     Read,
     /// A call of write failed, or took no byte.
-    #[error("write")]
     Write,
     /// There was no memory for the run.
-    #[error("memory")]
     Memory,
+}
+
+impl fmt::Display for RunFault {
+    fn fmt<W: fmt::Write>(&self, f: &mut fmt::Formatter<W>) -> fmt::Result {
+        let text = match self {
+            RunFault::Read => "read",
+            RunFault::Write => "write",
+            RunFault::Memory => "memory",
+        };
+        f.write_str(text)
+    }
 }
