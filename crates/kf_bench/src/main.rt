@@ -1,0 +1,81 @@
+//! What the parts of the library cost on this machine, in nanoseconds at best: `kf_bench words` tells it of
+//! holds, `kf_bench tree` of look-ups of a path, and `kf_bench files` of opens, closes and reads of files.
+//! `kf_bench wait` has four waiters for a node that is hidden, unused and not marked, for a second: who runs
+//! it counts how often they sleep. With none of these words it does nothing.
+#![tactic(auto)]
+
+ghost use Rattle.std.specs.Prelude.{◌≡◌};
+
+mod clock;
+mod files;
+mod grown;
+mod looks;
+mod waiters;
+mod words;
+
+use kf_core::Limits;
+use kf_shared::{Naming, NewTree, SharedTree};
+use std::alloc::Global;
+use std::env::{self, Env};
+use std::io;
+use std::marker::Brand;
+use std::sync::Wait;
+use std::thread::Threads;
+use std::time::Clock;
+
+/// What is measured.
+#[derive(Clone, Copy)]
+enum Part {
+    Words,
+    Tree,
+    Files,
+    Wait,
+}
+
+/// What the program's first argument asks for.
+fn asked<R: Env + Alloc>(rt: &R) -> io::Result<Option<Part>> {
+    let Some(word) = env::args(rt)?.nth(1) else {
+        return Ok(None);
+    };
+    Ok(match word.as_str() {
+        "words" => Some(Part::Words),
+        "tree" => Some(Part::Tree),
+        "files" => Some(Part::Files),
+        "wait" => Some(Part::Wait),
+        _ => None,
+    })
+}
+
+/// Measures a part in a tree that was made for it.
+fn run<N: Naming + Send + Sync, R: Threads + Wait + Clock + Print + Sync>(
+    rt: &R,
+    alloc: Global,
+    new: NewTree,
+    part: Part,
+) -> io::Result<()>
+    requires { new.master.table ≡ N.table }
+{
+    let tree = new.named::<N>();
+    if grown::grow(rt, &tree).is_err() {
+        return println!(rt; "the tree has no room");
+    }
+    match part {
+        Part::Words => words::tell(rt, alloc, &tree),
+        Part::Tree => looks::tell(rt, &tree),
+        Part::Files => files::tell(rt, alloc, &tree),
+        Part::Wait => waiters::wait(rt, &tree),
+    }
+}
+
+fn main(rt: HostRuntime) -> io::Result<()> {
+    let Some(part) = asked(&rt)? else {
+        return Ok(());
+    };
+    let Some(limits) = Limits::new(grown::SLOTS, 16) else {
+        return Ok(());
+    };
+    match SharedTree::<Brand>::new(rt.alloc(), limits) {
+        Ok(new) => run::<Brand, _>(&rt, rt.alloc(), new, part),
+        Err(_) => println!(rt; "no memory"),
+    }
+}

@@ -1,5 +1,0 @@
-use Rattle.kf_words.specs.Callers.{IsSameSeat}
-use Rattle.words_bench.proofs.enter_and_leave.Given as goal
-
-abbrev pub invariant-loop : goal.invariant-loop
-invariant-loop l = IsSameSeat l.fn.first l.hold
