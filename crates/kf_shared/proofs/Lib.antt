@@ -8,8 +8,10 @@ pub mod Unlinked
 pub mod Ends
 pub mod Rooms
 pub mod Pins
+pub mod Pinned
 pub mod Receipts
 pub mod Refusals
+pub mod KeyRefusals
 pub mod Hidings
 pub mod Opening
 pub mod Gone

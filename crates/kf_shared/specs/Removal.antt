@@ -8,7 +8,7 @@ use Rattle.kf_core.specs.Keys.{same_key}
 use Rattle.kf_core.specs.Tree.{Tree, is_linked, in_subtree}
 use Rattle.kf_core.specs.PostOrder.{IsPostOrder}
 use Rattle.kf_tree.specs.Causes.{doom_cause}
-use Rattle.kf_tree.specs.TreeLogs.{IsAccepted}
+use Rattle.kf_tree.specs.TreeLogs.{TreeLog, IsAccepted}
 use Rattle.kf_words.specs.declared.view.MasterView.{MasterView}
 use Rattle.kf_words.specs.Callers.{Handle}
 use Rattle.kf_words.specs.Nodes.{MasterState, FoundFull, FoundRoom, IsLastKey, IsNewHold}
@@ -83,6 +83,13 @@ HoldsBelowRefused t top m refusal = PinsRefused (FoundFullBelow t top m) (FoundR
 -- holds of the whole subtree were refused
 abbrev pub HoldsInRefused : Tree → Key → MasterView → Refusal → Type 0
 HoldsInRefused t top m refusal = PinsRefused (FoundFullIn t top m) (FoundRoomIn t top m) refusal
+
+-- the doom of a linked node was given up: it is of the root; else a node below was found full, or memory was
+-- refused
+abbrev pub DoomGivenUp : TreeLog → Key → MasterView → Refusal → Type 0
+DoomGivenUp s key m refusal = MatchBool (same_key key s.root)
+    (refusal ≡ Invalid)
+    (((refusal ≡ TooManyHolds) × FoundFullBelow s.tree key m) ⊎ (refusal ≡ NoMemory))
 
 -- why a doom is refused: it is of the root; else the holds were refused; where the node is no longer linked
 -- there was no memory

@@ -1,5 +1,5 @@
 //! Holds of several nodes.
-ghost use Rattle.std.specs.Prelude.{◌≡◌, ◌⊎◌, ◌<◌, ◌+◌, All, is_some, true, false, [], ◌∷◌, length, IfOk, IfErr, Contains, vec_capacity, vec_len};
+ghost use Rattle.std.specs.Prelude.{◌≡◌, ◌⊎◌, ◌<◌, ◌≤◌, ◌+◌, All, is_some, true, false, [], ◌∷◌, length, IfOk, IfErr, Contains, vec_capacity, vec_len};
 ghost use Rattle.kf_core.specs.declared.key.Key.{Key};
 ghost use Rattle.kf_core.specs.declared.refusal.Refusal.TheVariants as refusal_of;
 ghost use Rattle.kf_words.specs.Nodes.{KeepsNodes, KeepsRooms, FoundFull};
@@ -8,7 +8,7 @@ ghost use Rattle.kf_shared.specs.Removal.{keys_of, IsNew, FoundFullBelow, HasRoo
 
 use kf_core::{Key, Refusal};
 use kf_tree::State;
-use kf_words::{Hold, Master};
+use kf_words::{Hold, Master, Parted};
 use std::alloc::Global;
 
 /// Gives these holds back.
@@ -91,4 +91,22 @@ pub fn alone(alloc: Global, hold: Hold) -> Result<Vec<Hold>, (Hold, Refusal)>
         }
         Err(_) => Err((hold, Refusal::NoMemory)),
     }
+}
+
+/// As `alone`, where room for one receipt more is made first.
+pub fn alone_with_room(
+    alloc: Global,
+    hold: Hold,
+    receipts: &mut Vec<Parted>,
+) -> Result<Vec<Hold>, (Hold, Refusal)>
+    ensures holds { IfOk result (λ holds. holds.items ≡ hold ∷ []) }
+    ensures room { IfOk result
+        (λ holds. vec_len receipts.new + vec_len holds ≤ vec_capacity receipts.new) }
+    ensures receipts { receipts.new.items ≡ receipts.old.items }
+    ensures refused { IfErr result (λ r. (r.0 ≡ hold) × (r.1 ≡ refusal_of.NoMemory)) }
+{
+    if receipts.reserve(1).is_err() {
+        return Err((hold, Refusal::NoMemory));
+    }
+    alone(alloc, hold)
 }

@@ -9,14 +9,14 @@ ghost use Rattle.kf_core.specs.Tree.{is_linked};
 ghost use Rattle.kf_tree.specs.Causes.{doom_cause};
 ghost use Rattle.kf_tree.specs.TreeLogs.{IsAccepted};
 ghost use Rattle.kf_words.specs.Callers.{Handle, IsSameSeat};
-ghost use Rattle.kf_words.specs.Nodes.{IsLastKey};
+ghost use Rattle.kf_words.specs.Nodes.{IsLastKey, KeepsNodes};
 ghost use Rattle.kf_shared.specs.Locked.{Unchanged, is_claimed};
-ghost use Rattle.kf_shared.specs.Removal.{keys_of, IsNew, AreHolds, DoomHolds, DoomDone, DoomMarked, DoomRefused, HoldsInRefused, SelfRemovalRefused};
+ghost use Rattle.kf_shared.specs.Removal.{keys_of, IsNew, AreHolds, DoomHolds, DoomDone, DoomMarked, DoomGivenUp, DoomRefused, HoldsInRefused, SelfRemovalRefused};
 
 use crate::locked::Locked;
 use crate::marking::doom_each;
 use crate::naming::Naming;
-use crate::pinning::{alone, full_or_no_memory, pin_each, release_each};
+use crate::pinning::{alone, alone_with_room, full_or_no_memory, pin_each, release_each};
 use kf_core::{Key, Refusal};
 use kf_words::{Call, Hold, Parted};
 
@@ -51,6 +51,20 @@ impl<N: Naming> Locked<N> {
         full_or_no_memory(&self.state, &mut self.master, key)
     }
 
+    /// The refusal that the doom of a linked node answers: want of memory only where no node below is found
+    /// full.
+    fn memory_last_below(&mut self, key: Key, refusal: Refusal) -> Refusal
+        requires linked { is_linked self.old.state.tree key ≡ true }
+        requires given_up { DoomGivenUp self.old.state key self.old.master.view refusal }
+        ensures refused { DoomRefused self.old self.new key result }
+        ensures same { Unchanged self.old self.new }
+    {
+        if refusal != Refusal::NoMemory {
+            return refusal;
+        }
+        self.full_or_no_memory(key)
+    }
+
     /// The post-order of a node's subtree, and a new hold of each node below it. Nothing is marked yet.
     fn pin_below(&mut self, key: Key) -> Result<(Vec<Key>, Vec<Hold>), Refusal>
         requires linked { is_linked self.old.state.tree key ≡ true }
@@ -59,20 +73,17 @@ impl<N: Naming> Locked<N> {
         ensures below { IfOk result (λ r. r.0.items ≡ keys_of r.1.items ++ key ∷ []) }
         ensures new { IfOk result (λ r. All (IsNew self.old.master) r.1.items) }
         ensures room { IfOk result (λ r. vec_len r.1 < vec_capacity r.1) }
-        ensures refused { IfErr result (λ refusal. DoomRefused self.old self.new key refusal) }
+        ensures given_up { IfErr result
+            (λ refusal. DoomGivenUp self.old.state key self.new.master.view refusal) }
         ensures state { self.new.state ≡ self.old.state }
-        ensures same { Unchanged self.old self.new }
+        ensures words { KeepsNodes self.old.master self.new.master }
+        ensures claims { self.new.claims ≡ self.old.claims }
     {
         self.state.may_doom(key)?;
-        let Ok(order) = self.state.post_order(key) else {
-            return Err(self.full_or_no_memory(key));
-        };
+        let order = self.state.post_order(key)?;
         let below = &order.as_slice()[..order.len() - 1];
-        match pin_each(&mut self.master, self.alloc, below) {
-            Ok(pins) => Ok((order, pins)),
-            Err(Refusal::TooManyHolds) => Err(Refusal::TooManyHolds),
-            Err(_) => Err(self.full_or_no_memory(key)),
-        }
+        let pins = pin_each(&mut self.master, self.alloc, below)?;
+        Ok((order, pins))
     }
 
     /// Dooms the subtree, and gives the pins with the hold of its top.
@@ -108,6 +119,30 @@ impl<N: Naming> Locked<N> {
         }
     }
 
+    /// The doom of a linked node, given up where memory was refused.
+    fn doom_linked(&mut self, hold: Hold) -> Result<Vec<Hold>, (Hold, Refusal)>
+        requires linked { is_linked self.old.state.tree hold.key ≡ true }
+        ensures order { IfOk result
+            (λ holds. IsPostOrder self.old.state.tree hold.key (keys_of holds.items)) }
+        ensures holds { IfOk result (λ holds. AreHolds self.old.master hold holds.items) }
+        ensures done { OnOk result (IsAccepted self.old.state self.new.state
+            (doom_cause self.old.state.tree self.old.state.root hold.key) (Doom hold.key)) }
+        ensures back { IfErr result (λ r. r.0 ≡ hold) }
+        ensures given_up { IfErr result
+            (λ r. DoomGivenUp self.old.state hold.key self.new.master.view r.1) }
+        ensures state { OnErr result (self.new.state ≡ self.old.state) }
+        ensures words { OnErr result (KeepsNodes self.old.master self.new.master) }
+        ensures claims { self.new.claims ≡ self.old.claims }
+    {
+        match self.pin_below(hold.key()) {
+            Ok((order, pins)) => match self.mark(order.as_slice(), pins, hold) {
+                Ok(holds) => Ok(holds),
+                Err(refused) => Err(refused),
+            },
+            Err(refusal) => Err((hold, refusal)),
+        }
+    }
+
     /// Dooms the subtree of the hold's node, and gives a hold for each of its nodes, in post-order, the given
     /// one last.
     pub fn doom(&mut self, hold: Hold) -> Result<Vec<Hold>, (Hold, Refusal)>
@@ -124,11 +159,45 @@ impl<N: Naming> Locked<N> {
         if !self.is_linked(key) {
             return alone(self.alloc, hold);
         }
-        match self.pin_below(key) {
-            Ok((order, pins)) => match self.mark(order.as_slice(), pins, hold) {
-                Ok(holds) => Ok(holds),
-                Err((back, _)) => Err((back, self.full_or_no_memory(key))),
-            },
+        match self.doom_linked(hold) {
+            Ok(holds) => Ok(holds),
+            Err((back, refusal)) => Err((back, self.memory_last_below(key, refusal))),
+        }
+    }
+
+    /// As `doom_linked`, where room for as many receipts is made before anything is marked.
+    fn start_linked(
+        &mut self,
+        hold: Hold,
+        receipts: &mut Vec<Parted>,
+    ) -> Result<Vec<Hold>, (Hold, Refusal)>
+        requires linked { is_linked self.old.state.tree hold.key ≡ true }
+        ensures order { IfOk result
+            (λ holds. IsPostOrder self.old.state.tree hold.key (keys_of holds.items)) }
+        ensures holds { IfOk result (λ holds. AreHolds self.old.master hold holds.items) }
+        ensures done { OnOk result (IsAccepted self.old.state self.new.state
+            (doom_cause self.old.state.tree self.old.state.root hold.key) (Doom hold.key)) }
+        ensures room { IfOk result
+            (λ holds. vec_len receipts.new + vec_len holds ≤ vec_capacity receipts.new) }
+        ensures receipts { receipts.new.items ≡ receipts.old.items }
+        ensures back { IfErr result (λ r. r.0 ≡ hold) }
+        ensures given_up { IfErr result
+            (λ r. DoomGivenUp self.old.state hold.key self.new.master.view r.1) }
+        ensures state { OnErr result (self.new.state ≡ self.old.state) }
+        ensures words { OnErr result (KeepsNodes self.old.master self.new.master) }
+        ensures claims { self.new.claims ≡ self.old.claims }
+    {
+        match self.pin_below(hold.key()) {
+            Ok((order, pins)) => {
+                if receipts.reserve(pins.len() + 1).is_err() {
+                    release_each(pins);
+                    return Err((hold, Refusal::NoMemory));
+                }
+                match self.mark(order.as_slice(), pins, hold) {
+                    Ok(holds) => Ok(holds),
+                    Err(refused) => Err(refused),
+                }
+            }
             Err(refusal) => Err((hold, refusal)),
         }
     }
@@ -153,23 +222,40 @@ impl<N: Naming> Locked<N> {
     {
         let key = hold.key();
         if !self.is_linked(key) {
-            if receipts.reserve(1).is_err() {
-                return Err((hold, Refusal::NoMemory));
-            }
-            return alone(self.alloc, hold);
+            return alone_with_room(self.alloc, hold, receipts);
         }
-        match self.pin_below(key) {
-            Ok((order, pins)) => {
-                if receipts.reserve(pins.len() + 1).is_err() {
-                    release_each(pins);
-                    return Err((hold, self.full_or_no_memory(key)));
-                }
-                match self.mark(order.as_slice(), pins, hold) {
-                    Ok(holds) => Ok(holds),
-                    Err((back, _)) => Err((back, self.full_or_no_memory(key))),
-                }
+        match self.start_linked(hold, receipts) {
+            Ok(holds) => Ok(holds),
+            Err((back, refusal)) => Err((back, self.memory_last_below(key, refusal))),
+        }
+    }
+
+    /// A hold of its own of a call's node, and the removal that it starts. Want of memory is told as it is
+    /// met.
+    fn start_held(&mut self, call: &Call, receipts: &mut Vec<Parted>) -> Result<Vec<Hold>, Refusal>
+        requires table { call.now.table ≡ N.table }
+        requires not_root { same_key call.now.key self.old.state.root ≡ false }
+        ensures holds { IfOk result
+            (λ holds. (hold : Handle) × (hold.key ≡ call.now.key) × IsNew self.old.master hold
+            × AreHolds self.old.master hold holds.items × DoomHolds self.old.state.tree hold holds.items) }
+        ensures done { OnOk result (DoomMarked self.old self.new call.now.key) }
+        ensures room { IfOk result
+            (λ holds. vec_len receipts.new + vec_len holds ≤ vec_capacity receipts.new) }
+        ensures receipts { receipts.new.items ≡ receipts.old.items }
+        ensures last { IfErr result
+            (λ refusal. refusal ≡ refusal_of.NoMemory → IsLastKey self.old.master.view call.now.key) }
+        ensures refused { IfErr result (λ refusal. refusal ≢ refusal_of.NoMemory →
+            SelfRemovalRefused self.old self.new call.now.key refusal) }
+        ensures same { OnErr result (Unchanged self.old self.new) }
+        ensures claims { self.new.claims ≡ self.old.claims }
+    {
+        let hold = self.master.pin_held(call)?;
+        match self.start_removal(hold, receipts) {
+            Ok(holds) => Ok(holds),
+            Err((hold, refusal)) => {
+                hold.release();
+                Err(refusal)
             }
-            Err(refusal) => Err((hold, refusal)),
         }
     }
 
@@ -201,20 +287,13 @@ impl<N: Naming> Locked<N> {
         if key == self.state.root() {
             return Err(Refusal::Invalid);
         }
-        let hold = match self.master.pin_held(call) {
-            Ok(hold) => hold,
-            Err(refusal) => return Err(self.memory_last(key, refusal)),
-        };
-        match self.start_removal(hold, receipts) {
+        match self.start_held(call, receipts) {
             Ok(holds) => {
                 let first = self.claim(key);
                 call.break_protection();
                 Ok((first, holds))
             }
-            Err((hold, refusal)) => {
-                hold.release();
-                Err(self.memory_last(key, refusal))
-            }
+            Err(refusal) => Err(self.memory_last(key, refusal)),
         }
     }
 }

@@ -1,0 +1,73 @@
+-- Why the removal of a key's node is refused, and what the lock keeps then.
+use Rattle.std.proofs.Common.{◌≡◌, ◌⊎◌, inl, inr, ℕ, refl, ap, sym, ◌∙◌, subst, Bool, true, false, List, [], ◌∷◌}
+use Rattle.std.specs.Prelude.{None, MatchBool, not}
+use Rattle.std.proofs.lemmas.Bool.{MatchBool-at_true, MatchBool-at_false}
+use Rattle.std.proofs.lemmas.Option.{none-some}
+use Rattle.kf_core.specs.declared.key.Key.{Key}
+use Rattle.kf_core.specs.declared.refusal.Refusal.{Refusal}
+use Rattle.kf_core.specs.declared.refusal.Refusal.TheVariants.{NoEntry, NoMemory, Access, Busy, Exists, NoDevice, NotDir, IsDir, Invalid, TooManyHolds, NoSpace, NameTooLong}
+use Rattle.kf_core.specs.Refusals.{unless, first_cause}
+use Rattle.kf_core.specs.Keys.{same_key}
+use Rattle.kf_core.specs.Tree.{Tree, is_linked}
+use Rattle.kf_tree.specs.Causes.{doom_cause}
+use Rattle.kf_tree.specs.TreeLogs.{TreeLog, IsKept}
+use Rattle.kf_words.specs.declared.view.MasterView.{MasterView}
+use Rattle.kf_words.specs.Callers.{TableId}
+use Rattle.kf_words.specs.Nodes.{KeepsNodes, PinRefused}
+use Rattle.kf_shared.specs.Locked.{Locked, IsTied, IsWhole, HoldRefused}
+use Rattle.kf_shared.specs.Removal.{DoomRefused}
+use Rattle.kf_shared.specs.Receipts.{HasBelow, HoldsRefusal, KeyRefused}
+use Rattle.kf_shared.proofs.Ties.{locked, tied_master}
+use Rattle.kf_shared.proofs.Pins.{doom_cause_of_root}
+use Rattle.kf_shared.proofs.Refusals.{removal_refused}
+
+-- nothing is against the doom of a key: so it is linked, and not the root
+pub linked_to_doom : (t : Tree) (root key : Key) → doom_cause t root key ≡ None → is_linked t key ≡ true
+linked_to_doom t root key none = elim (is_linked t key) as (λ b. is_linked t key ≡ b → b ≡ true) [
+  | true ↦ λ e. refl
+  | false ↦ λ e. absurd (none-some NoEntry (sym none ∙ ap (λ b. first_cause (unless b NoEntry ∷ unless (not (same_key key root)) Invalid ∷ [])) e))
+] refl
+
+-- a pin is refused for a slot that is full, or for want of memory
+pin_refusal : (m : MasterView) (slot : ℕ) (why : Refusal) (m' : MasterView) → PinRefused m slot why m' → HoldsRefusal why
+pin_refusal m slot TooManyHolds m' h = inl refl
+pin_refusal m slot NoMemory m' h = inr refl
+pin_refusal m slot NoEntry m' h = absurd h
+pin_refusal m slot Access m' h = absurd h
+pin_refusal m slot Busy m' h = absurd h
+pin_refusal m slot Exists m' h = absurd h
+pin_refusal m slot NoDevice m' h = absurd h
+pin_refusal m slot NotDir m' h = absurd h
+pin_refusal m slot IsDir m' h = absurd h
+pin_refusal m slot Invalid m' h = absurd h
+pin_refusal m slot NoSpace m' h = absurd h
+pin_refusal m slot NameTooLong m' h = absurd h
+
+-- a hold of a linked node was refused, and so was its removal
+pub hold_key_refused : (s : TreeLog) (old new : Locked) (key : Key) (why told : Refusal) → s ≡ old.state → told ≡ why → doom_cause s.tree s.root key ≡ None → HoldRefused old new key why → KeyRefused old.state key told
+hold_key_refused s old new key why told same e none h =
+    let cause : doom_cause old.state.tree old.state.root key ≡ None = subst (λ (l : TreeLog). doom_cause l.tree l.root key ≡ None) same none in
+    subst (KeyRefused old.state key) (sym e)
+    (inr (cause, pin_refusal old.master.view key.slot why new.master.view (MatchBool-at_true _ _ (linked_to_doom old.state.tree old.state.root key cause) h)))
+
+-- the doom of the hold's node was refused
+pub doom_key_refused : (s : TreeLog) (old mid new : Locked) (held key : Key) (why : Refusal) → s ≡ old.state → doom_cause s.tree s.root key ≡ None → mid.state ≡ old.state → held ≡ key → DoomRefused mid new held why → KeyRefused old.state key why
+doom_key_refused s old mid new held key why same none between is h =
+    let cause : doom_cause old.state.tree old.state.root key ≡ None = subst (λ (l : TreeLog). doom_cause l.tree l.root key ≡ None) same none in
+    let there : DoomRefused (locked old.state mid.master mid.claims) new key why =
+    subst (λ k. DoomRefused (locked old.state mid.master mid.claims) new k why) is (subst (λ (l : TreeLog). DoomRefused (locked l mid.master mid.claims) new held why) between h) in
+    inr (cause, told (is_linked old.state.tree key) (same_key key old.state.root) refl refl cause (removal_refused (locked old.state mid.master mid.claims) new key why there))
+  where
+    told : (a b : Bool) → is_linked old.state.tree key ≡ a → same_key key old.state.root ≡ b → doom_cause old.state.tree old.state.root key ≡ None
+        → MatchBool (is_linked old.state.tree key) (MatchBool (same_key key old.state.root) (why ≡ Invalid) (((why ≡ TooManyHolds) × HasBelow old.state.tree key) ⊎ (why ≡ NoMemory))) (why ≡ NoMemory) → HoldsRefusal why
+    told false b e f none m = inr (MatchBool-at_false _ _ e m)
+    told true true e f none m = absurd (none-some Invalid (sym none ∙ doom_cause_of_root old.state.tree old.state.root key e f))
+    told true false e f none m = elim (MatchBool-at_false _ _ f (MatchBool-at_true _ _ e m)) [ inl full ↦ inl full.0 | inr memory ↦ inr memory ]
+
+-- the lock keeps what it kept, where the tree and what the Master knows of nodes stayed
+pub whole_kept : (table : TableId) (old new : Locked) → IsWhole table old → new.state ≡ old.state → KeepsNodes old.master new.master → new.claims ≡ old.claims → IsWhole table new
+whole_kept table old new whole state words claims = record {
+  kept = subst IsKept (sym state) whole.kept;
+  tied = subst (λ (s : TreeLog). IsTied table (locked s new.master new.claims)) (sym state)
+      (subst (λ (l : List ℕ). IsTied table (locked old.state new.master l)) (sym claims) (tied_master table old.state old.master new.master old.claims whole.tied words));
+}

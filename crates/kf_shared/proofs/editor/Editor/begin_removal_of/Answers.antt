@@ -1,0 +1,15 @@
+use Rattle.std.proofs.lemmas.Result.{err_from_is_err_and}
+use Rattle.kf_shared.proofs.KeyRefusals.{hold_key_refused, doom_key_refused, whole_kept}
+use Rattle.kf_shared.proofs.editor.Editor.begin_removal_of.Goals as goal
+
+pub returns-in_err-hold-clause-whole : goal.returns-in_err-hold-clause-whole
+returns-in_err-hold-clause-whole g c = whole_kept g.N.Naming.table c.args.self.now c.hold.new.self c.state.ensures.whole c.in_err-hold.ensures.state c.in_err-hold.ensures.words c.in_err-hold.ensures.claims
+
+pub returns-in_err-hold-clause-refused : goal.returns-in_err-hold-clause-refused
+returns-in_err-hold-clause-refused g c =
+    let p = err_from_is_err_and c.from_residual-in_err-hold.result c.from_residual-in_err-hold.ensures.1 in
+    rw p.1 (hold_key_refused c.state.result.now c.args.self.now c.hold.new.self c.args.key _ _ c.state.ensures.same p.2 c.in_ok-may_doom.ensures.checked c.in_err-hold.ensures.refused)
+
+pub returns-in-Err-clause-refused : goal.returns-in-Err-clause-refused
+returns-in-Err-clause-refused g c = doom_key_refused c.state.result.now c.args.self.now c.hold.new.self c.begin_removal.new.self c.in_ok-hold.hold.key c.args.key c.in-Err.refusal c.state.ensures.same c.in_ok-may_doom.ensures.checked
+    c.in_ok-hold.ensures.state c.in_ok-hold.ensures.hold.key_is c.in-Err.ensures.refused

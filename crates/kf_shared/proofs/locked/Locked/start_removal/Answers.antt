@@ -1,0 +1,10 @@
+use Rattle.std.proofs.Common.{◌≡◌, rules, subst}
+use Rattle.kf_shared.specs.Removal.{DoomRefused}
+use Rattle.kf_shared.proofs.Pins.{same_refused}
+use Rattle.kf_shared.proofs.locked.Locked.start_removal.Goals as goal
+
+pub returns-in-Err-clause-refused : goal.returns-in-Err-clause-refused
+returns-in-Err-clause-refused g c =
+    let stayed : c.start_linked.new.self.state ≡ c.args.self.now.state = search rules in
+    same_refused c.args.self.now c.start_linked.new.self c.memory_last_below.new.self c.args.hold.key c.memory_last_below.result stayed
+    (subst (λ k. DoomRefused c.start_linked.new.self c.memory_last_below.new.self k c.memory_last_below.result) c.key-key.ensures.value c.memory_last_below.ensures.refused)
