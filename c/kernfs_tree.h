@@ -3,8 +3,8 @@
  * Link with -lkernfs_tree, or by pkg-config. Every function is declared here with what it needs and may answer.
  *
  * The promise: once kt_remove() has answered 0, no callback runs under a call of that node or of one that was below it,
- * and none ever starts; once kt_hide() has answered 0, none does so of that file until kt_unhide(). A callback that has
- * broken its protection (kt_break()) is not waited for, as in the kernel.
+ * and none ever starts; once kt_hide() has answered 0, none does so of that file until kt_unhide(), or until the tree
+ * is let go. A callback that has broken its protection (kt_break()) is not waited for, as in the kernel.
  *
  * What lies behind a handle:
  *
@@ -19,6 +19,11 @@
  * hold where a tree is asked for, kt_leave() outside a call, kt_enter() twice, kt_leave() of a broken call) answers
  * -EINVAL.
  *
+ * A file is hidden by kt_hide(), which names it by its key, and shown again by kt_unhide(), both under the tree's lock;
+ * kt_hide_wait() is kt_hide() that sleeps until nobody is inside. What hides a file lies in the tree, so a program has
+ * nothing to keep but the key. Hidings are not counted: kt_hide() of a hidden file only looks again whether somebody is
+ * inside, and one kt_unhide() shows it.
+ *
  * Answers: 0 or more where it is done; a Linux error number below 0 where it is not, and then nothing has changed and
  * what `out` points to is as it was; but -EAGAIN of kt_remove() and kt_hide() says that it has begun. Only the helpers
  * at the end sleep, take a lock or call back.
@@ -30,7 +35,7 @@
  *   and kt_break() answer 1 exactly where a removal may be waiting for that step.
  * - What is written to `out` is what the tree, the post or the text has; a length is that of what is written.
  * - A file is hidden, by one step of a hold of its own, and kt_hide() answers 0 where a look after that step saw nobody
- *   inside, and -EAGAIN where this look saw somebody. It stays hidden until kt_unhide() or its removal.
+ *   inside, and -EAGAIN where this look saw somebody. Of the calls on a tree kt_unhide() and kt_remove() alone show it.
  * - A file is opened where its node is live and its mode allows it. A show begins where the node was entered and the
  *   event number taken, at offset 0 or where there is no text. Text is kept in a call alone that began a show.
  * - Which number kt_enter(), kt_begin_read() and kt_begin_write() refuse with; that kt_clear() and kt_delete() refuse
@@ -56,6 +61,9 @@
  * - After kt_enter() has answered -ENODEV, and after kt_leave(), kt_break(), kt_clear() or kt_delete() has answered 1,
  *   wake those who wait in a removal or a hiding. The _wake helpers do so; kt_delete() has none. A program that lets go
  *   a hold of a node that had the most there may be calls kt_wake() itself, since a removal needs one for a moment.
+ * - After -EAGAIN of kt_hide() that is called again on that file until 0, or kt_unhide() or kt_remove() is: till then
+ *   the tree is not let go. A callback that waits until its own file is hidden breaks its protection first. Of two who
+ *   hide one file the first kt_unhide() shows it for both, so they agree on who calls that.
  */
 #ifndef KERNFS_TREE_H
 #define KERNFS_TREE_H
@@ -106,8 +114,10 @@ struct kt_stat {
 int32_t kt_new(void **at);
 
 /* Lets go of what lies behind the handle: a hold is released, a call ended first, a tree freed. 0, or 1: wake those who
- * wait in a removal or a hiding. Holds of a tree that is freed stay valid. -EBUSY, and nothing is let go: it is a tree
- * of which kt_hide() has answered -EAGAIN, and not 0 since; call that, kt_unhide() or kt_remove() until it is 0. */
+ * wait in a removal or a hiding. The holds of a freed tree stay valid: they enter where the node was live, and where it
+ * was hidden, which the tree shows again as it goes; where it was marked for removal or not activated they never do.
+ * -EBUSY, and nothing is let go: it is a tree with a file of which kt_hide() has answered -EAGAIN, and not 0 since;
+ * call it, kt_unhide() or kt_remove() on that file until 0. */
 int32_t kt_clear(struct kt_handle *handle);
 
 /* The same, and frees the handle, which is not used again; but after -EBUSY it is all as before. */
@@ -176,21 +186,22 @@ int32_t kt_hold(struct kt_handle *tree, struct kt_key key, struct kt_handle *hol
 
 /* Removes a node and all below it (kernfs_remove), as far as it can without waiting: marks them all, so that no
  * kt_enter() there succeeds any more, and takes each out of the tree that nobody is inside. 0: the node is out, now or
- * before. -EAGAIN: somebody is inside; call again when a callback has left (kt_remove_wait() does). Before anything is
- * marked: -EINVAL (the root), -EMFILE (a node has as many holds as there may be), -ENOMEM. It takes a hold of each
- * node for a moment: once marked, a node with the most holds there may be gives -EAGAIN until one is let go. A call
- * that goes on with what an earlier one has marked may answer -ENOMEM too: all stays marked; call it again. */
+ * before; its holds stay valid, and never enter again. -EAGAIN: somebody is inside; call again when a callback has left
+ * (kt_remove_wait() does). Before anything is marked: -EINVAL (the root), -EMFILE (a node has as many holds as there
+ * may be), -ENOMEM. It takes a hold of each node for a moment: once marked, a node with the most holds there may be
+ * gives -EAGAIN until one is let go. A call that goes on with what an earlier one has marked may answer -ENOMEM too:
+ * all stays marked; call it again. */
 int32_t kt_remove(struct kt_handle *tree, struct kt_key key);
 
 /* Hides a file (kernfs_show() with false), as far as it can without waiting: at once no kt_enter() there succeeds, and
- * kt_next() leaves it out. 0: nobody is inside, and nobody comes in before kt_unhide(); now or before. -EAGAIN: it is
- * hidden, and somebody is inside; call again when a callback has left (kt_hide_wait() does). Before it is hidden, in
- * this order: -ENOENT, -EISDIR, -EINVAL (a link), -ENOENT (it is being removed), -EMFILE (as many holds as there may
- * be: a hidden file keeps one), -ENOMEM. A hidden file is removed as any other. */
+ * kt_next() leaves it out. 0: hidden, now or before; nobody is inside, or enters until kt_unhide(). -EAGAIN: hidden,
+ * and somebody is inside; call again when a callback has left (kt_hide_wait() does). Before it is hidden, in this
+ * order: -ENOENT, -EISDIR, -EINVAL (a link), -ENOENT (it is being removed), -EMFILE (as many holds as there may be: a
+ * hidden file keeps one), -ENOMEM. A hidden file is removed as any other. */
 int32_t kt_hide(struct kt_handle *tree, struct kt_key key);
 
-/* Shows a hidden file again (kernfs_show() with true). 0. -EAGAIN: somebody is inside since before it was hidden, and
- * it stays so; call again. -ENOENT, -EINVAL (it is not hidden). */
+/* Shows a hidden file again (kernfs_show() with true). 0: shown; its holds enter again, where it is live. -EAGAIN: it
+ * stays hidden, since somebody is inside from before that; call again. -ENOENT, -EINVAL (it is not hidden). */
 int32_t kt_unhide(struct kt_handle *tree, struct kt_key key);
 
 /* Marks a node and all below it, as kt_remove() does, and claims its removal for one of its callbacks: of those who
