@@ -1,6 +1,6 @@
 //! The plain tree with its stored commands, and the calls that change it.
 
-ghost use Rattle.std.specs.Prelude.{◌≡◌, ◌<◌, IfOk, IfErr, IfSome, slice_get, MatchBool, Option, None, Some, true, false};
+ghost use Rattle.std.specs.Prelude.{◌≡◌, ◌<◌, IfOk, IfErr, OnOk, IfSome, slice_get, MatchBool, Option, None, Some, true, false};
 ghost use Rattle.kf_core.specs.declared.command.Command.TheVariants.{Create, Activate, Doom, Unlink, Rename, Hide, Show};
 ghost use Rattle.kf_core.specs.Tree.{is_linked};
 ghost use Rattle.kf_core.specs.PostOrder.{IsPostOrder};
@@ -208,20 +208,33 @@ impl State {
     {
         let moves = check_rename(&self.table, self.root, key, dir, name)?;
         if moves {
-            let own_name = copy_name(self.alloc, name)?;
-            let stored_name = copy_name(self.alloc, name)?;
-            make_room(&mut self.commands, self.owed)?;
-            self.table.move_to(key, dir, own_name)?;
-            self.ready = None;
-            store(
-                &mut self.commands,
-                Command::Rename {
-                    key,
-                    dir,
-                    name: stored_name,
-                },
-            );
+            self.move_away(key, dir, name)?;
         }
+        Ok(())
+    }
+
+    /// The move of a record that is not there already, where nothing is against it. The only refusal is
+    /// `NoMemory`; after it nothing is changed.
+    fn move_away(&mut self, key: Key, dir: Key, name: &[u8]) -> Result<(), Refusal>
+        requires no_cause { rename_cause self.old.tree self.old.root key dir name.now ≡ None }
+        requires elsewhere { is_there_already self.old.tree key dir name.now ≡ false }
+        ensures accepted { OnOk result (IsAccepted self.old self.new
+            (rename_cause self.old.tree self.old.root key dir name.now) (Rename key dir name.now)) }
+        ensures refused { IfErr result (λ refusal. (refusal ≡ Refusal.NoMemory) × (self.new ≡ self.old)) }
+    {
+        let own_name = copy_name(self.alloc, name)?;
+        let stored_name = copy_name(self.alloc, name)?;
+        make_room(&mut self.commands, self.owed)?;
+        self.table.move_to(key, dir, own_name)?;
+        self.ready = None;
+        store(
+            &mut self.commands,
+            Command::Rename {
+                key,
+                dir,
+                name: stored_name,
+            },
+        );
         Ok(())
     }
 
