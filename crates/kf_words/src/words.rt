@@ -1,9 +1,10 @@
 //! Making a table of words with its Master.
-ghost use Rattle.std.specs.Prelude.{◌≡◌, ◌≤◌, IfOk, IfErr, replicate};
+ghost use Rattle.std.specs.Prelude.{◌≡◌, ◌≤◌, ◌+◌, ◌-◌, ◌/◌, IfOk, IfErr, replicate, false};
 ghost use Rattle.std.specs.Arc.{arc_value};
 ghost use Rattle.kf_core.specs.declared.key.Node.TheVariants as node_of;
 ghost use Rattle.kf_core.specs.declared.refusal.Refusal.TheVariants as refusal_of;
 ghost use Rattle.kf_words.specs.Layout.{opening_words};
+ghost use Rattle.kf_words.specs.Nodes.{master_view};
 ghost use Rattle.kf_words.specs.Steps.{opened};
 
 use crate::blocks::block_of;
@@ -66,6 +67,47 @@ fn first_slots(alloc: Global, slots: u32, start: u32) -> Result<Vec<SlotState>, 
     Ok(states)
 }
 
+/// What a Master keeps by slot and by block of slots, at the opening.
+fn first_lists(
+    alloc: Global,
+    slots: u32,
+    start: u32,
+) -> Result<(Vec<SlotState>, Vec<Node>, Vec<bool>), AllocError>
+    requires some { 1 ≤ slots }
+    requires generations { start ≤ 4294967294 }
+    ensures slots { IfOk result (λ r. r.0.items ≡ (opened 0 slots start).slots) }
+    ensures nodes { IfOk result (λ r. r.1.items ≡ replicate slots node_of.Dir) }
+    ensures full { IfOk result (λ r. r.2.items ≡ replicate ((slots - 1) / 64 + 1) false) }
+{
+    let states = first_slots(alloc, slots, start)?;
+    let nodes = vec![in alloc; Node::Dir; slots as usize]?;
+    let full = vec![in alloc; false; block_of(slots - 1) + 1]?;
+    Ok((states, nodes, full))
+}
+
+/// A new table with the words of its opening, and the Master's seat at it.
+fn open_table(
+    alloc: Global,
+    words: &[u64],
+    opening: Opening,
+) -> Result<(Words, MasterSeat), AllocError>
+    requires some { 1 ≤ opening.slots }
+    requires few { opening.holds ≤ 65535 }
+    requires words { words.now ≡ opening_words opening.slots opening.start }
+    ensures table { IfOk result (λ r. r.0 ≡ r.1.token.table_id) }
+    ensures view { IfOk result
+        (λ r. master_view r.1 ≡ opened opening.holds opening.slots opening.start) }
+{
+    let (table, token) = WordTable::of_words(alloc, words, &opening)?;
+    let table = Arc::new(alloc, table)?;
+    let shared = Arc::try_clone(&table)?;
+    let steps = MasterSeat {
+        table: shared,
+        token: MasterToken::new(token),
+    };
+    Ok((Words { table }, steps))
+}
+
 impl Words {
     /// A table of words with its Master: only the root has a node, a live directory of generation 1.
     ///
@@ -91,30 +133,36 @@ impl Words {
         ensures nodes { IfOk result (λ r. r.1.nodes ≡ replicate limits.slots node_of.Dir) }
         ensures refused { IfErr result (λ why. why ≡ refusal_of.NoMemory) }
     {
+        match Words::open(alloc, limits, start) {
+            Ok(opened) => Ok(opened),
+            Err(_) => Err(Refusal::NoMemory),
+        }
+    }
+
+    /// As `new_at`, which names the refusal.
+    fn open(alloc: Global, limits: Limits, start: u32) -> Result<(Words, Master), AllocError>
+        requires { start ≤ 4294967294 }
+        ensures table { IfOk result (λ r. r.0 ≡ r.1.table) }
+        ensures view { IfOk result (λ r. r.1.view ≡ opened limits.holds limits.slots start) }
+        ensures nodes { IfOk result (λ r. r.1.nodes ≡ replicate limits.slots node_of.Dir) }
+    {
         let count = limits.slots();
         let holds = limits.holds();
         let words = first_words(alloc, count, start)?;
-        let slots = first_slots(alloc, count, start)?;
-        let nodes = vec![in alloc; Node::Dir; count as usize]?;
-        let full = vec![in alloc; false; block_of(count - 1) + 1]?;
+        let (slots, nodes, full) = first_lists(alloc, count, start)?;
         let opening = Opening {
             holds,
             slots: count,
             start,
         };
-        let (table, token) = WordTable::of_words(alloc, words.as_slice(), &opening)?;
-        let table = Arc::new(alloc, table)?;
-        let shared = Arc::try_clone(&table)?;
+        let (table, steps) = open_table(alloc, words.as_slice(), opening)?;
         let master = Master {
-            steps: MasterSeat {
-                table: shared,
-                token: MasterToken::new(token),
-            },
+            steps,
             slots,
             nodes,
             holds,
             full,
         };
-        Ok((Words { table }, master))
+        Ok((table, master))
     }
 }
