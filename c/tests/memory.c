@@ -3,7 +3,7 @@
 #include <stdio.h>
 #include <string.h>
 
-static struct kt_handle tree, hold, post, open;
+static struct kt_handle tree, hold, post, open, small, all;
 static struct kt_key root, dir, file, key;
 static struct kt_stat stat;
 static char text[300], long_name[201];
@@ -16,6 +16,40 @@ static char text[300], long_name[201];
             answer = call;                       \
         printf(#call ": %lld\n", (long long)answer); \
     } while (0)
+
+/* A call that is refused for another cause is refused for that, whatever memory is refused: want of it comes last. */
+#define REFUSED(call) printf(#call ": %lld\n", (long long)(call))
+
+/* Hides the file; where memory was refused it is not hidden. */
+static void hide(void)
+{
+    int32_t answer = kt_hide(&tree, file);
+    if (answer == -ENOMEM) {
+        if (kt_stat(&tree, file, &stat) || stat.hidden || kt_enter(&open) || kt_leave(&open))
+            printf("it is hidden where memory was refused\n");
+        answer = kt_hide(&tree, file);
+    }
+    printf("hidden: %d\n", answer);
+}
+
+/* A file with as many holds as there may be. */
+static void full(void)
+{
+    AGAIN(kt_new(&small.at));
+    AGAIN(kt_new(&all.at));
+    AGAIN(kt_create_root(&small, 4, 1));
+    AGAIN(kt_root(&small, &root));
+    AGAIN(kt_create_file(&small, root, "f", 1, 0644, 0, true, &file));
+    AGAIN(kt_hold(&small, file, &all));
+    REFUSED(kt_hold(&small, file, &open));
+    REFUSED(kt_open(&small, file, true, false, &open));
+    REFUSED(kt_open(&small, root, true, false, &open));
+    REFUSED(kt_hide(&small, file));
+    REFUSED(kt_hide(&small, root));
+    REFUSED(kt_claim(&small, file));
+    REFUSED(kt_claim(&small, root));
+    REFUSED(kt_unhide(&small, file));
+}
 
 static void list(struct kt_key at)
 {
@@ -65,7 +99,7 @@ int main(void)
     AGAIN(kt_begin_read(&open, 0));
     AGAIN(kt_shown(&open, "text", 4));
     AGAIN(kt_leave(&open));
-    AGAIN(kt_hide(&tree, file));
+    hide();
     AGAIN(kt_enter(&open));
     AGAIN(kt_unhide(&tree, file));
     AGAIN(kt_hold(&tree, file, &hold));
@@ -79,6 +113,10 @@ int main(void)
     AGAIN(kt_clear(&hold));
     list(root);
     AGAIN(kt_copy(&open, 0, text, sizeof text));
+    kt_clear(&open);
+    full();
+    kt_delete(all);
+    kt_delete(small);
     kt_delete(post);
     kt_delete(open);
     kt_delete(hold);

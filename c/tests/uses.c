@@ -1,23 +1,9 @@
-/* Each call, as it is meant and as it is not. A line tells each thing that was tried; the last one is
+/* Each call but for hiding, as it is meant and as it is not. A line tells each thing that was tried; the last one is
  * 'N passed, M failed'. */
 #include <kernfs_tree.h>
-#include <stdio.h>
 #include <string.h>
 
-static int passed, failed;
-
-static void expect(const char *what, int64_t found, int64_t wanted)
-{
-    if (found == wanted) {
-        passed++;
-        printf("%s: %lld\n", what, (long long)found);
-    } else {
-        failed++;
-        printf("%s: %lld and not %lld\n", what, (long long)found, (long long)wanted);
-    }
-}
-
-#define TRY(call, wanted) expect(#call, call, wanted)
+#include "trying.h"
 
 static struct kt_handle tree, hold, other, nothing;
 static struct kt_key root, dir, file, link_key, key, stale;
@@ -173,8 +159,17 @@ static void holds(void)
     TRY(kt_leave(&nothing), -EINVAL);
     TRY(kt_hold(&tree, file, &other), 0);
     TRY(kt_hold(&tree, file, &nothing), -EMFILE);
+    TRY(kt_remove(&tree, dir), -EMFILE);
+    TRY(kt_claim(&tree, dir), -EMFILE);
+    TRY(kt_stat(&tree, dir, &stat), 0);
+    TRY(stat.doomed, 0);
     TRY(kt_enter(&hold), 0);
     TRY(kt_enter(&hold), -EINVAL);
+    TRY(kt_begin_read(&hold, 0), -EINVAL);
+    TRY(kt_shown(&hold, "x", 1), -EINVAL);
+    TRY(kt_copy(&hold, 0, text, sizeof text), -EINVAL);
+    TRY(kt_begin_write(&hold), -EINVAL);
+    TRY(kt_changed(&hold), -EINVAL);
     TRY(kt_restore(&hold), -EINVAL);
     TRY(kt_break(&hold), 0);
     TRY(kt_break(&hold), -EINVAL);
@@ -198,6 +193,9 @@ static void removal(void)
     TRY(kt_clear(&other), 0);
     TRY(kt_remove(&tree, dir), -EAGAIN);
     TRY(kt_leave(&hold), 1);
+    TRY(kt_hold(&tree, file, &other), 0);
+    TRY(kt_remove(&tree, dir), -EAGAIN); /* it needs a hold for a moment */
+    TRY(kt_clear(&other), 0);
     TRY(kt_remove(&tree, dir), 0);
     TRY(kt_enter(&hold), -ENODEV);
     TRY(kt_stat(&tree, file, &stat), -ENOENT);
@@ -221,115 +219,6 @@ static void self_removal(void)
     TRY(kt_clear(&hold), 1); /* ends the call too */
 }
 
-/* A file hidden with nobody inside, and shown again. */
-static void hidden_alone(struct kt_handle *own, struct kt_key top, struct kt_key folder, struct kt_key shy)
-{
-    struct kt_key none = {3, 9}, far = {UINT32_MAX, 1};
-    TRY(kt_create_link(own, top, "l", 1, shy, true, &key), 0);
-    TRY(kt_hide(&hold, shy), -EINVAL);
-    TRY(kt_unhide(&hold, shy), -EINVAL);
-    TRY(kt_hide(own, top), -EISDIR);
-    TRY(kt_hide(own, folder), -EISDIR);
-    TRY(kt_hide(own, key), -EINVAL);
-    TRY(kt_hide(own, none), -ENOENT);
-    TRY(kt_hide(own, far), -ENOENT);
-    TRY(kt_unhide(own, none), -ENOENT);
-    TRY(kt_unhide(own, far), -ENOENT);
-    TRY(kt_unhide(own, shy), -EINVAL);
-    TRY(kt_hold(own, shy, &hold), 0);
-    TRY(kt_hide(own, shy), 0);
-    TRY(kt_hide(own, shy), 0); /* now or before */
-    TRY(kt_stat(own, shy, &stat), 0);
-    TRY(stat.hidden && stat.activated && !stat.doomed, 1);
-    TRY(kt_enter(&hold), -ENODEV);
-    TRY(kt_open(own, shy, true, false, &other), -ENODEV);
-    TRY(kt_next(own, folder, "", 0, text, sizeof text), -ENOENT);
-    TRY(kt_find(own, folder, "f", 1, &key), 0);
-    TRY(kt_unhide(own, shy), 0);
-    TRY(kt_unhide(own, shy), -EINVAL);
-    TRY(kt_stat(own, shy, &stat), 0);
-    TRY(stat.hidden, 0);
-    TRY(kt_enter(&hold), 0);
-    TRY(kt_leave(&hold), 0);
-}
-
-/* With a reader inside, and in the end with as many holds as there may be. */
-static void hidden_in_use(struct kt_handle *own, struct kt_key shy)
-{
-    TRY(kt_enter(&hold), 0);
-    TRY(kt_hold(own, shy, &other), 0);
-    TRY(kt_hide(own, shy), -EAGAIN);
-    TRY(kt_enter(&other), -ENODEV);
-    TRY(kt_hide(own, shy), -EAGAIN);
-    TRY(kt_unhide(own, shy), -EAGAIN);
-    TRY(kt_stat(own, shy, &stat), 0);
-    TRY(stat.hidden, 1);
-    TRY(kt_clear(own), -EBUSY);
-    TRY(kt_delete(*own), -EBUSY);
-    TRY(kt_leave(&hold), 1); /* who hides waits for this */
-    TRY(kt_enter(&hold), -ENODEV);
-    TRY(kt_clear(own), -EBUSY); /* nobody has looked since */
-    TRY(kt_hide(own, shy), 0);
-    TRY(kt_enter(&hold), -ENODEV);
-    TRY(kt_unhide(own, shy), 0);
-    TRY(kt_enter(&other), 0);
-    TRY(kt_hide(own, shy), -EAGAIN);
-    TRY(kt_leave(&other), 1);
-    TRY(kt_unhide(own, shy), 0); /* it looks itself */
-    TRY(kt_enter(&hold), 0);
-    TRY(kt_break(&hold), 0);
-    TRY(kt_hide(own, shy), 0); /* who has broken its protection is not waited for */
-    TRY(kt_restore(&hold), 0);
-    TRY(kt_unhide(own, shy), 0);
-    TRY(kt_leave(&hold), 0);
-    TRY(kt_hold(own, shy, &nothing), 0);
-    TRY(kt_hide(own, shy), -EMFILE); /* a hidden file keeps a hold */
-    TRY(kt_enter(&hold), 0);
-    TRY(kt_leave(&hold), 0);
-    TRY(kt_clear(&nothing), 0);
-    TRY(kt_clear(&other), 0);
-}
-
-/* A hidden file removed, with and without somebody inside: its slot is given again. */
-static void hidden_and_removed(struct kt_handle *own, struct kt_key top, struct kt_key folder, struct kt_key shy)
-{
-    TRY(kt_hide(own, shy), 0);
-    TRY(kt_remove(own, folder), 0);
-    TRY(kt_hide(own, shy), -ENOENT);
-    TRY(kt_unhide(own, shy), -ENOENT);
-    TRY(kt_enter(&hold), -ENODEV);
-    TRY(kt_clear(&hold), 0);
-    TRY(kt_create_file(own, top, "g", 1, 0644, 0, true, &shy), 0);
-    TRY(kt_hold(own, shy, &hold), 0);
-    TRY(kt_enter(&hold), 0);
-    TRY(kt_hide(own, shy), -EAGAIN);
-    TRY(kt_remove(own, shy), -EAGAIN);
-    TRY(kt_hide(own, shy), -EAGAIN);
-    TRY(kt_leave(&hold), 1);
-    TRY(kt_remove(own, shy), 0);
-    TRY(kt_unhide(own, shy), -ENOENT);
-    TRY(kt_clear(&hold), 0);
-    for (int i = 0; i < 6; i++)
-        TRY(kt_create_file(own, top, (char[]){(char)('0' + i)}, 1, 0644, 0, true, &shy), 0);
-    TRY(kt_create_file(own, top, "6", 1, 0644, 0, true, &key), -ENOSPC);
-    TRY(kt_hide(own, shy), 0);
-}
-
-static void hiding(void)
-{
-    struct kt_handle own;
-    struct kt_key top, folder, shy;
-    TRY(kt_new(&own.at), 0);
-    TRY(kt_create_root(&own, 8, 3), 0);
-    TRY(kt_root(&own, &top), 0);
-    TRY(kt_create_dir(&own, top, "d", 1, true, &folder), 0);
-    TRY(kt_create_file(&own, folder, "f", 1, 0644, 0, true, &shy), 0);
-    hidden_alone(&own, top, folder, shy);
-    hidden_in_use(&own, shy);
-    hidden_and_removed(&own, top, folder, shy);
-    TRY(kt_delete(own), 0); /* with a hidden file, where nobody is inside */
-}
-
 static void posts(void)
 {
     uint64_t event = 9;
@@ -342,6 +231,9 @@ static void posts(void)
     TRY(kt_post(&tree, file, &tree), -EINVAL);
     TRY(kt_post(&tree, file, &hold), 0);
     TRY(kt_post(&tree, file, &hold), -EINVAL);
+    TRY(kt_hide(&hold, file), -EINVAL);
+    TRY(kt_unhide(&hold, file), -EINVAL);
+    TRY(kt_shown(&hold, "x", 1), -EINVAL);
     TRY(kt_post(&tree, file, &other), 0);
     TRY(kt_event(&hold, &event), 0);
     TRY((int64_t)event, 1);
@@ -449,13 +341,11 @@ int main(void)
     holds();
     removal();
     self_removal();
-    hiding();
     posts();
     open_files();
     TRY(kt_delete(nothing), 0);
     TRY(kt_delete(other), 0);
     TRY(kt_delete(hold), 0);
     TRY(kt_delete(tree), 0);
-    printf("%d passed, %d failed\n", passed, failed);
-    return failed != 0;
+    return tried();
 }

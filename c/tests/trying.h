@@ -1,0 +1,25 @@
+/* Calls that are tried: a line tells each, and what it answered. */
+#include <inttypes.h>
+#include <stdio.h>
+
+static int passed, failed;
+
+static void expect(const char *what, int64_t found, int64_t wanted)
+{
+    if (found == wanted) {
+        passed++;
+        printf("%s: %lld\n", what, (long long)found);
+    } else {
+        failed++;
+        printf("%s: %lld and not %lld\n", what, (long long)found, (long long)wanted);
+    }
+}
+
+#define TRY(call, wanted) expect(#call, call, wanted)
+
+/* Tells how many were as they must be, and how many not: the status of the program. */
+static int tried(void)
+{
+    printf("%d passed, %d failed\n", passed, failed);
+    return failed != 0;
+}
