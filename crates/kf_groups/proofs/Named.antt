@@ -3,7 +3,6 @@ use Rattle.std.proofs.Common.{◌≡◌, ℕ, suc, refl, ap, sym, ◌∙◌, Boo
 use Rattle.std.specs.Prelude.{Option, None, Some, Ok, Err, slice_get, is_some, if◌then◌else◌}
 use Rattle.std.specs.List.{find as first}
 use Rattle.std.specs.Option.{option_and_then}
-use Rattle.std.specs.Str.{bytes_eq}
 use Rattle.std.proofs.lemmas.Option.{none-some}
 use Rattle.std.proofs.lemmas.Slice.Eq.{bytes_eq-Decides}
 use Rattle.kf_core.specs.declared.key.Key.{Key}
