@@ -22,7 +22,7 @@
  * A file is hidden by kt_hide(), which names it by its key, and shown again by kt_unhide(), both under the tree's lock;
  * kt_hide_wait() is kt_hide() that sleeps until nobody is inside. What hides a file lies in the tree, so a program has
  * nothing to keep but the key. Hidings are not counted: kt_hide() of a hidden file only looks again whether somebody is
- * inside, and one kt_unhide() shows it.
+ * inside, and one kt_unhide() shows it (who still waits in kt_hide_wait() then hides it anew).
  *
  * Answers: 0 or more where it is done; a Linux error number below 0 where it is not, and then nothing has changed and
  * what `out` points to is as it was; but -EAGAIN of kt_remove() and kt_hide() says that it has begun. Only the helpers
@@ -32,7 +32,7 @@
  * file_calls.rt:
  * - 0 only where the thing was done, as the tree defines it: the node linked, found, moved, held, activated, out of the
  *   tree; the hold let in while its node was live, the call left, broken, restored; the event number raised. kt_leave()
- *   and kt_break() answer 1 exactly where a removal may be waiting for that step.
+ *   and kt_break() answer 1 exactly where a removal or a hiding may be waiting for that step.
  * - What is written to `out` is what the tree, the post or the text has; a length is that of what is written.
  * - A file is hidden, by one step of a hold of its own, and kt_hide() answers 0 where a look after that step saw nobody
  *   inside, and -EAGAIN where this look saw somebody. Of the calls on a tree kt_unhide() and kt_remove() alone show it.
@@ -41,15 +41,16 @@
  * - Which number kt_enter(), kt_begin_read() and kt_begin_write() refuse with; that kt_clear() and kt_delete() refuse
  *   only a tree with a file in which a hiding has yet to see nobody.
  * - What was behind a handle that is given something new was nothing.
- * - After an answer below 0, but for -EAGAIN of kt_remove() and kt_hide(), the tree, the handle and `out` are as they
- *   were (a refused try to enter was counted for a moment).
+ * - After an answer below 0, but for -EAGAIN of kt_remove() and kt_hide(), and those of kt_new() and kt_delete(), the
+ *   tree, the handle and `out` are as they were (a refused try to enter was counted for a moment).
  * - No function reads or writes out of bounds or after a free, and each ends.
  *
  * On a node that is not in the tree nobody runs, and a key that has left it never comes again: these are laws over
  * every run of these functions' steps. Not proved: which error number comes of other calls; that kt_remove() and
- * kt_claim() mark, and that kt_remove() takes out, and shows, only it and those below; which of 0 and 1 kt_clear() and
- * kt_delete() answer; that kt_new() gives a handle; and everything that is C, the helpers below too. `make -C c test`
- * tries these.
+ * kt_claim() mark, that somebody is inside where kt_remove() answers -EAGAIN, and that the two take out, show and
+ * change nothing but it and those below; that kt_unhide() shows it to those who enter; that kt_clear() and kt_delete()
+ * let go, and which of 0 and 1 they answer; that kt_new() gives a handle; and everything that is C, the helpers below
+ * too. `make -C c test` tries these.
  *
  * What a program has to keep to, which the library cannot see:
  * - A handle comes from kt_new(), is used by one function at a time, and not after kt_delete(). It may pass to another
@@ -385,11 +386,14 @@ static inline int32_t kt_break_wake(struct kt_handle *call, struct kt_lock *lock
     return 0;
 }
 
-/* Lets go of what lies behind a handle, with the wake that this may owe. */
-static inline void kt_clear_wake(struct kt_handle *handle, struct kt_lock *lock)
+/* Lets go of what lies behind a handle, with the wake that this may owe. 0, or -EBUSY as of kt_clear(). */
+static inline int32_t kt_clear_wake(struct kt_handle *handle, struct kt_lock *lock)
 {
-    if (kt_clear(handle) == 1)
-        kt_wake(lock);
+    int32_t answer = kt_clear(handle);
+    if (answer != 1)
+        return answer;
+    kt_wake(lock);
+    return 0;
 }
 
 /* Removes a node and all below it, and waits until no callback runs there (kernfs_remove). It sleeps, and takes the
@@ -462,7 +466,7 @@ static inline int64_t kt_run(struct kt_handle *hold, struct kt_lock *lock, kt_ca
     return answer;
 }
 
-/* Shows into the page: how many bytes, or an error number below 0. */
+/* Shows into the page: how many bytes (more than its 4,096 are cut), or an error number below 0. */
 typedef int64_t kt_show(struct kt_handle *file, void *data, char *page);
 
 /* Takes 1 to 4,096 bytes: how many it took, or an error number below 0. */
@@ -479,7 +483,7 @@ static inline int64_t kt_read(struct kt_handle *file, struct kt_lock *lock, uint
     if (begun == 1) {
         length = show(file, data, page);
         if (length >= 0)
-            kt_shown(file, page, (size_t)length);
+            kt_shown(file, page, length < KT_PAGE_SIZE ? (size_t)length : KT_PAGE_SIZE);
         else
             begun = length;
         kt_end_wake(file, lock);

@@ -228,7 +228,6 @@ static void posts(void)
     TRY((int64_t)event, 9);
     TRY(kt_post(&tree, stale, &hold), -ENOENT);
     TRY(kt_post(&hold, file, &other), -EINVAL);
-    TRY(kt_post(&tree, file, &tree), -EINVAL);
     TRY(kt_post(&tree, file, &hold), 0);
     TRY(kt_post(&tree, file, &hold), -EINVAL);
     TRY(kt_hide(&hold, file), -EINVAL);
