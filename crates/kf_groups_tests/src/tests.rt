@@ -2,7 +2,7 @@
 ghost use Rattle.std.specs.Prelude.{◌≡◌};
 
 use kf_core::{Key, Limits, Refusal};
-use kf_groups::{Attribute, Group, create_group, create_groups, remove_group};
+use kf_groups::{Attribute, Group, create_group, remove_group};
 use kf_shared::{Naming, NewTree, SharedTree};
 use std::alloc::Global;
 use std::marker::Brand;
@@ -38,17 +38,6 @@ fn make<N: Naming, R: Wait>(
     let mut editor = tree.edit(rt);
     let root = editor.state().root();
     create_group(&mut editor, root, &Group { name, attributes })
-}
-
-/// Makes several groups in the root's directory.
-fn make_all<N: Naming, R: Wait>(
-    rt: &R,
-    tree: &SharedTree<N>,
-    groups: &[Group],
-) -> Result<(), Refusal> {
-    let mut editor = tree.edit(rt);
-    let root = editor.state().root();
-    create_groups(&mut editor, root, groups)
 }
 
 /// Removes a group from the root's directory.
@@ -121,99 +110,6 @@ fn three_slots<N: Naming, R: Abort + Wait>(rt: &R, new: NewTree)
     assert_eq!(rt; first_wrong(&answers), None);
 }
 
-/// Whether nothing stands at the path, live or not.
-fn is_free<N: Naming, R: Wait>(rt: &R, tree: &SharedTree<N>, path: &[u8]) -> bool {
-    tree.read(rt).state().walk(path).is_err()
-}
-
-/// Whether two groups, one after the other, are refused so.
-fn are_refused<N: Naming, R: Wait>(
-    rt: &R,
-    tree: &SharedTree<N>,
-    first: Group,
-    second: Group,
-    why: Refusal,
-) -> bool {
-    make_all(rt, tree, &[first, second]) == Err(why)
-}
-
-/// Groups that make an entry of one name, a name that is not lawful, and no group at all change nothing.
-fn several_refused<N: Naming, R: Abort + Wait>(rt: &R, tree: &SharedTree<N>) {
-    let files = [attribute(b"c", 0o644, 3), attribute(b"g", 0, 5)];
-    let slash = [attribute(b"a/b", 0o444, 6)];
-    let nameless = Group::new(None, &files);
-    let answers = [
-        make_all(rt, tree, &[]) == Ok(()),
-        are_refused(rt, tree, nameless, nameless, Refusal::Exists),
-        are_refused(
-            rt,
-            tree,
-            nameless,
-            Group::new(Some(b"c".as_slice()), &[]),
-            Refusal::Exists,
-        ),
-        are_refused(
-            rt,
-            tree,
-            Group::new(Some(b"c".as_slice()), &[]),
-            nameless,
-            Refusal::Exists,
-        ),
-        are_refused(
-            rt,
-            tree,
-            nameless,
-            Group::new(None, &slash),
-            Refusal::Invalid,
-        ),
-        commands(rt, tree) == 0,
-    ];
-    assert_eq!(rt; first_wrong(&answers), None);
-}
-
-/// In a tree of six slots groups that want one slot more leave nothing; then the same slots serve a group with
-/// a name and one without.
-fn several_made<N: Naming, R: Abort + Wait>(rt: &R, tree: &SharedTree<N>) {
-    let files = [
-        attribute(b"a", 0o444, 1),
-        attribute(b"b", 0o644, 2),
-        attribute(b"c", 0o644, 3),
-    ];
-    let away = [
-        attribute(b"a", 0o444, 1),
-        attribute(b"g", 0, 5),
-        attribute(b"c", 0o644, 3),
-    ];
-    let named = Group::new(Some(b"g".as_slice()), &away);
-    let answers = [
-        are_refused(rt, tree, named, Group::new(None, &files), Refusal::NoSpace),
-        are_refused(rt, tree, Group::new(None, &files), named, Refusal::NoSpace),
-        is_free(rt, tree, b"/g"),
-        is_free(rt, tree, b"/a"),
-        make_all(rt, tree, &[named, Group::new(None, &away)]) == Ok(()),
-        slot(rt, tree, b"/g/c") == Some(3),
-        slot(rt, tree, b"/c") == Some(5),
-        are_refused(
-            rt,
-            tree,
-            Group::new(Some(b"h".as_slice()), &[]),
-            named,
-            Refusal::Exists,
-        ),
-        is_free(rt, tree, b"/h"),
-    ];
-    assert_eq!(rt; first_wrong(&answers), None);
-}
-
-/// The tree of its name, for both.
-fn several<N: Naming, R: Abort + Wait>(rt: &R, new: NewTree)
-    requires { new.master.table ≡ N.table }
-{
-    let tree = new.named::<N>();
-    several_refused(rt, &tree);
-    several_made(rt, &tree);
-}
-
 /// A group of its own directory goes with all in it, and one without a name file by file: one file is gone
 /// already, and the other's mode is 0 by now.
 fn removals<N: Naming, R: Abort + Wait>(rt: &R, new: NewTree)
@@ -242,11 +138,6 @@ fn removals<N: Naming, R: Abort + Wait>(rt: &R, new: NewTree)
 fn groups_are_made_whole_or_not_at_all(rt: HostRuntime) {
     six_slots::<Brand, _>(&rt, made(&rt, rt.alloc(), 6));
     three_slots::<Brand, _>(&rt, made(&rt, rt.alloc(), 3));
-}
-
-#[test]
-fn several_groups_are_made_whole_or_not_at_all(rt: HostRuntime) {
-    several::<Brand, _>(&rt, made(&rt, rt.alloc(), 6));
 }
 
 #[test]
