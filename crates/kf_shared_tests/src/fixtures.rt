@@ -5,6 +5,7 @@ ghost use Rattle.kf_core.specs.declared.caller.Phase.TheVariants as phase_of;
 ghost use Rattle.kf_words.specs.Callers.{IsSameSeat};
 ghost use Rattle.kf_shared.specs.Receipts.{AreOf};
 
+use crate::expected::{same_key, same_refusal, stored};
 use kf_core::{Key, Limits, Node, Phase, Refusal};
 use kf_shared::{Naming, NewTree, SharedTree};
 use kf_words::{Call, Drained, Hidden, Hold, Parted};
@@ -111,7 +112,7 @@ pub(crate) fn no_hold<N: Naming, R: Abort + Wait>(
             hold.release();
             panic!(rt; "a hold that should be refused")
         }
-        Err(refusal) => assert_eq!(rt; refusal, why),
+        Err(refusal) => same_refusal(rt, refusal, why),
     }
 }
 
@@ -153,7 +154,7 @@ pub(crate) fn last<N: Naming, R: Abort>(
 {
     match holds.pop() {
         Some(hold) => {
-            assert_eq!(rt; hold.key(), key);
+            same_key(rt, hold.key(), key);
             hold
         }
         None => panic!(rt; "a hold is missing"),
@@ -226,7 +227,7 @@ pub(crate) fn told<R: Abort>(rt: &R, mut receipts: Vec<Parted>, keys: &[Key]) {
     for key in keys.iter().rev() {
         match receipts.pop() {
             Some(receipt) => {
-                assert_eq!(rt; receipt.key(), *key);
+                same_key(rt, receipt.key(), *key);
                 receipt.release();
             }
             None => panic!(rt; "a receipt is missing"),
@@ -284,8 +285,8 @@ pub(crate) fn not_removed<N: Naming, R: Abort + Wait>(
             panic!(rt; "a removal that should be refused")
         }
         Err((hold, refusal)) => {
-            assert_eq!(rt; refusal, why);
-            assert_eq!(rt; commands(rt, tree), before);
+            same_refusal(rt, refusal, why);
+            stored(rt, tree, before);
             hold
         }
     }
@@ -321,11 +322,11 @@ pub(crate) fn not_hidden<N: Naming, R: Abort + Wait>(
             panic!(rt; "a hiding that should be refused")
         }
         Err((hold, refusal)) => {
-            assert_eq!(rt; refusal, why);
+            same_refusal(rt, refusal, why);
             hold.release();
         }
     }
-    assert_eq!(rt; commands(rt, tree), before);
+    stored(rt, tree, before);
 }
 
 /// The call removes its own node, as the first.
@@ -366,9 +367,9 @@ pub(crate) fn not_removed_self<N: Naming, R: Abort + Wait>(
             told(rt, receipts, &[]);
             panic!(rt; "a self-removal that should be refused")
         }
-        Err(refusal) => assert_eq!(rt; refusal, why),
+        Err(refusal) => same_refusal(rt, refusal, why),
     }
     assert_eq!(rt; call.phase(), Phase::Running);
-    assert_eq!(rt; commands(rt, tree), before);
+    stored(rt, tree, before);
     call
 }

@@ -1,10 +1,10 @@
 //! A node in every slot, behind the lock.
 ghost use Rattle.std.specs.Prelude.{◌≡◌};
 
-use crate::fixtures::{FILE, commands, hidden, hold, is_bare, is_live, key_at, made, removed};
+use crate::expected::{activated, bare, compacts, counted, live, stored};
+use crate::fixtures::{FILE, hidden, hold, key_at, made, removed};
 use kf_core::{Key, Node};
 use kf_shared::{Naming, NewTree, SharedTree};
-use kf_words::Parted;
 use std::marker::Brand;
 use std::process::Abort;
 use std::sync::Wait;
@@ -32,16 +32,12 @@ fn chain<N: Naming, R: Abort + Wait>(rt: &R, tree: &SharedTree<N>, count: usize)
     parent
 }
 
-/// There are as many receipts as asked. They are released.
-fn counted<R: Abort>(rt: &R, mut receipts: Vec<Parted>, count: usize) {
-    for _ in 0..count {
-        match receipts.pop() {
-            Some(receipt) => receipt.release(),
-            None => panic!(rt; "a receipt is missing"),
-        }
-    }
-    assert!(rt; receipts.is_empty(), "a receipt too many");
-    receipts.destroy_empty();
+/// A Create for each node and a Hide are kept while the file is hidden.
+fn compacted_while_hidden<N: Naming, R: Abort + Wait>(rt: &R, tree: &SharedTree<N>, file: Key) {
+    let token = hidden(rt, tree, hold(rt, tree, file));
+    compacts(rt, tree);
+    stored(rt, tree, 4096);
+    tree.show(rt, token).release();
 }
 
 fn every_slot<N: Naming, R: Abort + Wait>(rt: &R, new: NewTree)
@@ -50,19 +46,13 @@ fn every_slot<N: Naming, R: Abort + Wait>(rt: &R, new: NewTree)
     let tree = new.named::<N>();
     let last = chain(rt, &tree, 4094);
     let file = add_below(rt, &tree, last, FILE, false);
-    assert!(rt; tree.edit(rt).activate(key_at(1, 1)).is_ok());
-    let token = hidden(rt, &tree, hold(rt, &tree, file));
-    assert!(rt; tree.edit(rt).compact().is_ok());
-    assert_eq!(rt;
-        commands(rt, &tree),
-        4096,
-        "a Create for each node, and a Hide"
-    );
-    tree.show(rt, token).release();
-    assert!(rt; is_live(rt, &tree, file) && is_live(rt, &tree, key_at(1, 1)));
+    activated(rt, &tree, key_at(1, 1));
+    compacted_while_hidden(rt, &tree, file);
+    live(rt, &tree, file);
+    live(rt, &tree, key_at(1, 1));
     let receipts = removed(rt, &tree, hold(rt, &tree, key_at(1, 1)));
     counted(rt, receipts, 4095);
-    assert!(rt; is_bare(rt, &tree));
+    bare(rt, &tree);
 }
 
 #[test]

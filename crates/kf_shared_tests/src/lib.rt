@@ -2,7 +2,11 @@
 #![tactic(auto)]
 
 #[cfg(test)]
+mod crowd_roles;
+#[cfg(test)]
 mod crowd_tests;
+#[cfg(test)]
+mod expected;
 #[cfg(test)]
 mod fixtures;
 #[cfg(test)]
@@ -12,9 +16,15 @@ mod kept_tests;
 #[cfg(test)]
 mod large_tests;
 #[cfg(test)]
+mod left_behind;
+#[cfg(test)]
 mod reading_tests;
 #[cfg(test)]
+mod self_tests;
+#[cfg(test)]
 mod tests;
+#[cfg(test)]
+mod thread_fixtures;
 #[cfg(test)]
 mod thread_tests;
 #[cfg(test)]

@@ -1,9 +1,11 @@
 //! Who looks beside those who change the tree, and what needs no lock.
 ghost use Rattle.std.specs.Prelude.{◌≡◌};
 
-use crate::fixtures::{FILE, add, enter, hold, is_bare, is_linked, made, told};
-use crate::thread_tests::{
-    LOOKS, SelfRemoval, first_of, receipts, removal_of, run, run_self, self_removal_of, wait_for,
+use crate::expected::bare;
+use crate::fixtures::{FILE, add, enter, hold, is_linked, made, told};
+use crate::thread_fixtures::{
+    LOOKS, Removal, SelfRemoval, first_of, receipts, removal_of, run, run_self, self_removal_of,
+    wait_for,
 };
 use kf_core::{Key, Node, Refusal};
 use kf_shared::{Naming, NewTree, SharedTree};
@@ -42,15 +44,19 @@ fn read_side_by_side<N: Naming + Send + Sync, R: Abort + Threads + Wait + Sync>(
 
 // ---- a file that is used while the lock is held
 
+fn used_under<N: Naming, R: Abort + Wait>(rt: &R, tree: &SharedTree<N>, other: Hold) {
+    let editor = tree.edit(rt);
+    enter(rt, other).leave().release();
+    assert_eq!(rt; editor.state().commands().len(), 2);
+}
+
 fn used_beside_an_editor<N: Naming, R: Abort + Wait>(rt: &R, new: NewTree)
     requires { new.master.table ≡ N.table }
 {
     let tree = new.named::<N>();
-    let _ = add(rt, &tree, b"/a", FILE, true);
-    let other = hold(rt, &tree, add(rt, &tree, b"/b", FILE, true));
-    let editor = tree.edit(rt);
-    enter(rt, other).leave().release();
-    assert_eq!(rt; editor.state().commands().len(), 2);
+    add(rt, &tree, b"/a", FILE, true);
+    let b = add(rt, &tree, b"/b", FILE, true);
+    used_under(rt, &tree, hold(rt, &tree, b));
 }
 
 // ---- look-ups beside a removal
@@ -67,6 +73,39 @@ fn looks_until_gone<N: Naming, R: Wait>(rt: &R, tree: &SharedTree<N>, key: Key) 
     false
 }
 
+fn two_look<N: Naming + Send + Sync, R: Threads + Wait + Sync>(
+    rt: &R,
+    tree: &SharedTree<N>,
+    file: Key,
+    seen: &mut [bool; 2],
+) {
+    for_each_mut(
+        rt,
+        seen,
+        2,
+        &|_, place| *place = looks_until_gone(rt, tree, file),
+    );
+}
+
+fn looked_at_beside<N: Naming + Send + Sync, R: Threads + Wait + Sync>(
+    rt: &R,
+    tree: &SharedTree<N>,
+    file: Key,
+    seen: &mut [bool; 2],
+    removal: &mut Removal<N>,
+) {
+    let answered = AtomicU64::new(0);
+    join(
+        rt,
+        || two_look(rt, tree, file, seen),
+        || run(rt, tree, removal, &answered),
+    );
+}
+
+fn both_saw<R: Abort>(rt: &R, seen: [bool; 2]) {
+    assert_eq!(rt; seen, [true, true]);
+}
+
 fn looked_up_while_removed<N: Naming + Send + Sync, R: Abort + Threads + Wait + Sync>(
     rt: &R,
     new: NewTree,
@@ -77,21 +116,11 @@ fn looked_up_while_removed<N: Naming + Send + Sync, R: Abort + Threads + Wait + 
     let dir = add(rt, &tree, b"/d", Node::Dir, true);
     let file = add(rt, &tree, b"/d/f", FILE, true);
     let mut removal = removal_of(rt, &tree, dir);
-    let answered = AtomicU64::new(0);
     let mut seen = [false; 2];
-    join(
-        rt,
-        || for_each_mut(
-            rt,
-            &mut seen,
-            2,
-            &|_, place| *place = looks_until_gone(rt, &tree, file),
-        ),
-        || run(rt, &tree, &mut removal, &answered),
-    );
-    assert_eq!(rt; seen, [true, true]);
+    looked_at_beside(rt, &tree, file, &mut seen, &mut removal);
+    both_saw(rt, seen);
     told(rt, receipts(rt, removal), &[file, dir]);
-    assert!(rt; is_bare(rt, &tree));
+    bare(rt, &tree);
 }
 
 // ---- a self-removal restores its call under the lock
@@ -137,6 +166,23 @@ fn give_back(place: Option<Hold>) {
     }
 }
 
+/// The self-removal beside one who looks under the lock, with two holds.
+fn looked_at_under_the_lock<N: Naming + Send + Sync, R: Threads + Wait + Clock + Sync>(
+    rt: &R,
+    tree: &SharedTree<N>,
+    key: Key,
+    removal: &mut SelfRemoval<N>,
+    one: &mut Option<Hold>,
+    other: &mut Option<Hold>,
+) -> bool {
+    let ((), same) = join(
+        rt,
+        || run_self(rt, tree, removal),
+        || same_under_the_lock(rt, tree, key, one, other),
+    );
+    same
+}
+
 fn restored_under_the_lock<N: Naming + Send + Sync, R: Abort + Threads + Wait + Clock + Sync>(
     rt: &R,
     new: NewTree,
@@ -145,14 +191,10 @@ fn restored_under_the_lock<N: Naming + Send + Sync, R: Abort + Threads + Wait + 
 {
     let tree = new.named::<N>();
     let key = add(rt, &tree, b"/delete", FILE, true);
-    let mut removal: SelfRemoval<N> = self_removal_of(rt, &tree, key);
+    let mut removal = self_removal_of(rt, &tree, key);
     let mut one = Some(hold(rt, &tree, key));
     let mut other = Some(hold(rt, &tree, key));
-    let ((), same) = join(
-        rt,
-        || run_self(rt, &tree, &mut removal),
-        || same_under_the_lock(rt, &tree, key, &mut one, &mut other),
-    );
+    let same = looked_at_under_the_lock(rt, &tree, key, &mut removal, &mut one, &mut other);
     give_back(one);
     give_back(other);
     assert!(rt; first_of(rt, removal, key));

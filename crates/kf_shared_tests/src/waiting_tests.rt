@@ -1,10 +1,9 @@
 //! Removals that wait together, for a call that runs or for one that has its reference again.
 ghost use Rattle.std.specs.Prelude.{◌≡◌};
 
-use crate::fixtures::{
-    FILE, add, commands, doom_alone, hold, is_bare, is_linked, made, told, turned_away,
-};
-use crate::thread_tests::{
+use crate::expected::bare;
+use crate::fixtures::{FILE, add, commands, doom_alone, hold, is_linked, made, told, turned_away};
+use crate::thread_fixtures::{
     Held, Inside, Removal, SelfRemoval, call_of, first_of, free_the_rest, held_by, leave, receipts,
     removal_of, run, run_self, self_removal_of, stays_zero, wait_for, wait_for_mark,
 };
@@ -66,27 +65,28 @@ fn act<N: Naming, R: Wait>(rt: &R, tree: &SharedTree<N>, role: &mut Role<N>, ans
     }
 }
 
+fn close_end<N: Naming, R: Abort>(rt: &R, end: End<N>) {
+    let End {
+        running,
+        spare,
+        waited,
+    } = end;
+    if let Some(inside) = running {
+        leave(inside);
+    }
+    if let Some(hold) = spare {
+        turned_away(rt, hold).release();
+    }
+    assert!(rt;
+        waited,
+        "all four wait for the call, and its end wakes them"
+    );
+}
+
 fn close<N: Naming, R: Abort>(rt: &R, role: Role<N>, key: Key) {
     match role {
         Role::Removes(removal) => told(rt, receipts(rt, removal), &[key]),
-        Role::Ends(
-            End {
-                running,
-                spare,
-                waited,
-            },
-        ) => {
-            if let Some(inside) = running {
-                leave(inside);
-            }
-            if let Some(hold) = spare {
-                turned_away(rt, hold).release();
-            }
-            assert!(rt;
-                waited,
-                "all four wait for the call, and its end wakes them"
-            );
-        }
+        Role::Ends(end) => close_end(rt, end),
     }
 }
 
@@ -118,6 +118,20 @@ fn four_and_an_end<N: Naming, R: Abort + Wait>(
     roles
 }
 
+fn all_act<N: Naming + Send + Sync, R: Threads + Wait + Sync>(
+    rt: &R,
+    tree: &SharedTree<N>,
+    roles: &mut Vec<Role<N>>,
+) {
+    let answered = AtomicU64::new(0);
+    for_each_mut(
+        rt,
+        roles.as_mut_slice(),
+        5,
+        &|_, role| act(rt, tree, role, &answered),
+    );
+}
+
 fn four_wait<N: Naming + Send + Sync, R: Abort + Threads + Wait + Sync>(
     rt: &R,
     alloc: Global,
@@ -128,43 +142,49 @@ fn four_wait<N: Naming + Send + Sync, R: Abort + Threads + Wait + Sync>(
     let tree = new.named::<N>();
     let key = add(rt, &tree, b"/t", FILE, true);
     let mut roles = four_and_an_end(rt, alloc, &tree, key);
-    let answered = AtomicU64::new(0);
-    for_each_mut(
-        rt,
-        roles.as_mut_slice(),
-        5,
-        &|_, role| act(rt, &tree, role, &answered),
-    );
+    all_act(rt, &tree, &mut roles);
     while let Some(role) = roles.pop() {
         close(rt, role, key);
     }
     roles.destroy_empty();
-    assert!(rt; is_bare(rt, &tree));
+    bare(rt, &tree);
 }
 
 // ---- the first of two self-removals is the one that claimed first
 
-/// The second waits until the first has marked the node, and its own call runs on until then.
+/// The second waits until the first has marked the node, and its own call runs on until then. True where the
+/// node was marked.
+fn claims_in_turn<N: Naming + Send + Sync, R: Threads + Wait + Sync>(
+    rt: &R,
+    tree: &SharedTree<N>,
+    key: Key,
+    one: &mut SelfRemoval<N>,
+    other: &mut SelfRemoval<N>,
+) -> bool {
+    let ((), marked) = join(
+        rt,
+        || run_self(rt, tree, one),
+        || {
+            let marked = wait_for_mark(rt, tree, key);
+            run_self(rt, tree, other);
+            marked
+        },
+    );
+    marked
+}
+
 fn second_claims<N: Naming + Send + Sync, R: Abort + Threads + Wait + Sync>(rt: &R, new: NewTree)
     requires { new.master.table ≡ N.table }
 {
     let tree = new.named::<N>();
     let key = add(rt, &tree, b"/delete", FILE, true);
-    let mut one: SelfRemoval<N> = self_removal_of(rt, &tree, key);
-    let mut other: SelfRemoval<N> = self_removal_of(rt, &tree, key);
-    let ((), marked) = join(
-        rt,
-        || run_self(rt, &tree, &mut one),
-        || {
-            let marked = wait_for_mark(rt, &tree, key);
-            run_self(rt, &tree, &mut other);
-            marked
-        },
-    );
+    let mut one = self_removal_of(rt, &tree, key);
+    let mut other = self_removal_of(rt, &tree, key);
+    let marked = claims_in_turn(rt, &tree, key, &mut one, &mut other);
     assert!(rt; marked);
     assert!(rt; first_of(rt, one, key), "it claimed first");
     assert!(rt; !first_of(rt, other, key), "it claimed second");
-    assert!(rt; is_bare(rt, &tree));
+    bare(rt, &tree);
 }
 
 // ---- a finish that finds the node in use again
@@ -216,6 +236,59 @@ fn end_call(mut call: Call) {
     }
 }
 
+/// Restores the call under the lock, looks whether the finish answers, and ends the call.
+fn restored_and_ended<N: Naming, R: Wait + Clock>(
+    rt: &R,
+    tree: &SharedTree<N>,
+    key: Key,
+    broken: &mut Option<Call>,
+    begin: &AtomicU64,
+    answered: &AtomicU64,
+) -> bool {
+    restore_under_the_lock(rt, tree, broken, begin);
+    let waits = stays_zero(10_000, answered);
+    thread::sleep(rt, Duration::from_millis(20));
+    let still = stays_zero(1, answered);
+    let linked = is_linked(rt, tree, key); // the finish sleeps without the lock
+    if let Some(call) = broken.take() {
+        end_call(call);
+    }
+    waits && still && linked && wait_for(1, answered)
+}
+
+fn finished_beside<N: Naming + Send + Sync, R: Threads + Wait + Clock + Sync>(
+    rt: &R,
+    tree: &SharedTree<N>,
+    key: Key,
+    place: &mut Option<Held<N>>,
+    broken: &mut Option<Call>,
+) -> bool {
+    let begin = AtomicU64::new(0);
+    let answered = AtomicU64::new(0);
+    let ((), waits) = join(
+        rt,
+        || finish_in(rt, tree, place, &begin, &answered),
+        || restored_and_ended(rt, tree, key, broken, &begin, &answered),
+    );
+    waits
+}
+
+/// A call that broke its protection.
+fn broken_call<N: Naming, R: Abort + Wait>(rt: &R, tree: &SharedTree<N>, key: Key) -> Call {
+    let Inside { mut call, name: _ } = call_of(rt, tree, key);
+    call.break_protection();
+    call
+}
+
+fn end_both<N: Naming>(broken: Option<Call>, place: Option<Held<N>>) {
+    if let Some(call) = broken {
+        end_call(call);
+    }
+    if let Some(Held { hold, name: _ }) = place {
+        hold.release();
+    }
+}
+
 fn restored_call<N: Naming + Send + Sync, R: Abort + Threads + Wait + Clock + Sync>(
     rt: &R,
     new: NewTree,
@@ -224,36 +297,12 @@ fn restored_call<N: Naming + Send + Sync, R: Abort + Threads + Wait + Clock + Sy
 {
     let tree = new.named::<N>();
     let key = add(rt, &tree, b"/t", FILE, true);
-    let Inside { mut call, name: _ } = call_of(rt, &tree, key);
-    call.break_protection();
-    let mut broken = Some(call);
+    let mut broken = Some(broken_call(rt, &tree, key));
     let mut place = Some(held_by(&tree, doom_alone(rt, &tree, key)));
-    let begin = AtomicU64::new(0);
-    let answered = AtomicU64::new(0);
-    let ((), waits) = join(
-        rt,
-        || finish_in(rt, &tree, &mut place, &begin, &answered),
-        || {
-            restore_under_the_lock(rt, &tree, &mut broken, &begin);
-            let waits = stays_zero(10_000, &answered);
-            thread::sleep(rt, Duration::from_millis(20));
-            let still = stays_zero(1, &answered);
-            let linked = is_linked(rt, &tree, key); // the finish sleeps without the lock
-            if let Some(call) = broken.take() {
-                end_call(call);
-            }
-            waits && still && linked && wait_for(1, &answered)
-        },
-    );
-    if let Some(call) = broken {
-        end_call(call);
-    }
-    if let Some(held) = place {
-        let Held { hold, name: _ } = held;
-        hold.release();
-    }
+    let waits = finished_beside(rt, &tree, key, &mut place, &mut broken);
+    end_both(broken, place);
     assert!(rt; waits);
-    assert!(rt; is_bare(rt, &tree));
+    bare(rt, &tree);
 }
 
 #[test]
