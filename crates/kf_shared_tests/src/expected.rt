@@ -3,7 +3,7 @@
 ghost use Rattle.std.specs.Prelude.{◌≡◌};
 
 use crate::fixtures::{commands, hold, is_bare, is_live, key_at, removed, told};
-use kf_core::{Key, Refusal};
+use kf_core::{Key, Phase, Refusal};
 use kf_shared::{Naming, SharedTree};
 use kf_words::{Drained, Hold, Parted};
 use std::process::Abort;
@@ -38,6 +38,10 @@ pub(crate) fn same_key<R: Abort>(rt: &R, key: Key, wanted: Key) {
 
 pub(crate) fn same_refusal<R: Abort>(rt: &R, refusal: Refusal, wanted: Refusal) {
     assert_eq!(rt; refusal, wanted);
+}
+
+pub(crate) fn same_phase<R: Abort>(rt: &R, phase: Phase, wanted: Phase) {
+    assert_eq!(rt; phase, wanted);
 }
 
 pub(crate) fn activated<N: Naming, R: Abort + Wait>(rt: &R, tree: &SharedTree<N>, key: Key) {

@@ -5,7 +5,7 @@ ghost use Rattle.kf_core.specs.declared.caller.Phase.TheVariants as phase_of;
 ghost use Rattle.kf_words.specs.Callers.{IsSameSeat};
 ghost use Rattle.kf_shared.specs.Receipts.{AreOf};
 
-use crate::expected::{same_key, same_refusal, stored};
+use crate::expected::{same_key, same_phase, same_refusal, stored};
 use kf_core::{Key, Limits, Node, Phase, Refusal};
 use kf_shared::{Naming, NewTree, SharedTree};
 use kf_words::{Call, Drained, Hidden, Hold, Parted};
@@ -342,7 +342,7 @@ pub(crate) fn removed_self<N: Naming, R: Abort + Wait>(
     match tree.remove_self(rt, &mut call) {
         Ok((first, receipts)) => {
             assert!(rt; first, "it is the first self-removal");
-            assert_eq!(rt; call.phase(), Phase::Restored);
+            same_phase(rt, call.phase(), Phase::Restored);
             told(rt, receipts, keys);
         }
         Err(_) => panic!(rt; "not removed by itself"),
@@ -369,7 +369,7 @@ pub(crate) fn not_removed_self<N: Naming, R: Abort + Wait>(
         }
         Err(refusal) => same_refusal(rt, refusal, why),
     }
-    assert_eq!(rt; call.phase(), Phase::Running);
+    same_phase(rt, call.phase(), Phase::Running);
     stored(rt, tree, before);
     call
 }

@@ -255,20 +255,32 @@ fn ends_once_hidden<N: Naming, R: Wait>(
     marked && waits && wait_for(1, answered)
 }
 
-fn hides_under_a_call<N: Naming + Send + Sync, R: Threads + Wait + Sync>(
+fn hides_under_a_call<N: Naming + Send + Sync, R: Abort + Threads + Wait + Sync>(
     rt: &R,
     tree: &SharedTree<N>,
     key: Key,
     hiding: &mut Hiding<N>,
     running: &mut Option<Inside<N>>,
-) -> bool {
+) {
     let answered = AtomicU64::new(0);
     let ((), waited) = join(
         rt,
         || run_hide(rt, tree, hiding, &answered),
         || ends_once_hidden(rt, tree, key, running, &answered),
     );
-    waited
+    assert!(rt; waited);
+}
+
+/// The hiding was accepted. Another hold of the file gets no call until it is shown, and then gets one.
+fn entered_once_shown<N: Naming, R: Abort + Wait>(
+    rt: &R,
+    tree: &SharedTree<N>,
+    hiding: Hiding<N>,
+    other: Hold,
+) {
+    let other = turned_away(rt, other);
+    assert!(rt; has_hidden(rt, tree, hiding), "the hiding was refused");
+    enter(rt, other).leave().release();
 }
 
 fn hiding_waits<N: Naming + Send + Sync, R: Abort + Threads + Wait + Sync>(rt: &R, new: NewTree)
@@ -279,12 +291,9 @@ fn hiding_waits<N: Naming + Send + Sync, R: Abort + Threads + Wait + Sync>(rt: &
     let mut running = Some(call_of(rt, &tree, key));
     let other = hold(rt, &tree, key);
     let mut hiding = hiding_of(rt, &tree, key);
-    let waited = hides_under_a_call(rt, &tree, key, &mut hiding, &mut running);
-    assert!(rt; waited);
-    let other = turned_away(rt, other);
-    assert!(rt; has_hidden(rt, &tree, hiding), "the hiding was refused");
-    enter(rt, other).leave().release();
+    hides_under_a_call(rt, &tree, key, &mut hiding, &mut running);
     has_ended(rt, running);
+    entered_once_shown(rt, &tree, hiding, other);
 }
 
 // ---- two who hide one file
@@ -303,6 +312,17 @@ fn both_hide<N: Naming + Send + Sync, R: Threads + Wait + Sync>(
     );
 }
 
+fn one_alone_hid<N: Naming, R: Abort + Wait>(
+    rt: &R,
+    tree: &SharedTree<N>,
+    one: Hiding<N>,
+    other: Hiding<N>,
+) {
+    let first = has_hidden(rt, tree, one);
+    let second = has_hidden(rt, tree, other);
+    assert!(rt; first != second, "one of the two hides it");
+}
+
 fn two_hide<N: Naming + Send + Sync, R: Abort + Threads + Wait + Sync>(rt: &R, new: NewTree)
     requires { new.master.table ≡ N.table }
 {
@@ -311,9 +331,7 @@ fn two_hide<N: Naming + Send + Sync, R: Abort + Threads + Wait + Sync>(rt: &R, n
     let mut one = hiding_of(rt, &tree, key);
     let mut other = hiding_of(rt, &tree, key);
     both_hide(rt, &tree, &mut one, &mut other);
-    let first = has_hidden(rt, &tree, one);
-    let second = has_hidden(rt, &tree, other);
-    assert!(rt; first != second, "one of the two hides it");
+    one_alone_hid(rt, &tree, one, other);
     stored(rt, &tree, 3); // one hiding and one show
     live(rt, &tree, key);
 }

@@ -167,20 +167,20 @@ fn give_back(place: Option<Hold>) {
 }
 
 /// The self-removal beside one who looks under the lock, with two holds.
-fn looked_at_under_the_lock<N: Naming + Send + Sync, R: Threads + Wait + Clock + Sync>(
+fn looked_at_under_the_lock<N: Naming + Send + Sync, R: Abort + Threads + Wait + Clock + Sync>(
     rt: &R,
     tree: &SharedTree<N>,
     key: Key,
     removal: &mut SelfRemoval<N>,
     one: &mut Option<Hold>,
     other: &mut Option<Hold>,
-) -> bool {
+) {
     let ((), same) = join(
         rt,
         || run_self(rt, tree, removal),
         || same_under_the_lock(rt, tree, key, one, other),
     );
-    same
+    assert!(rt; same, "the call is restored by one who has the lock");
 }
 
 fn restored_under_the_lock<N: Naming + Send + Sync, R: Abort + Threads + Wait + Clock + Sync>(
@@ -194,11 +194,10 @@ fn restored_under_the_lock<N: Naming + Send + Sync, R: Abort + Threads + Wait + 
     let mut removal = self_removal_of(rt, &tree, key);
     let mut one = Some(hold(rt, &tree, key));
     let mut other = Some(hold(rt, &tree, key));
-    let same = looked_at_under_the_lock(rt, &tree, key, &mut removal, &mut one, &mut other);
+    looked_at_under_the_lock(rt, &tree, key, &mut removal, &mut one, &mut other);
     give_back(one);
     give_back(other);
     assert!(rt; first_of(rt, removal, key));
-    assert!(rt; same, "the call is restored by one who has the lock");
     assert!(rt; !is_linked(rt, &tree, key));
 }
 
