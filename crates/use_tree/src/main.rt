@@ -1,93 +1,10 @@
-//! The plain tree with keys of its owner's own choice: fans that come and go, each in the slot of its number.
+//! Two uses without threads, a file each: the plain tree of one owner, and scripts over a board of one's own.
 #![tactic(auto)]
 
-ghost use Rattle.std.specs.Prelude.{◌≡◌, IfSome, None, Some, slice_get};
-
-use anyhow::Context;
-use kf_core::{Key, Limits, Node, Refusal};
-use kf_tree::State;
-use std::alloc::Global;
-
-/// The root's key. Slot and generation are the owner's to choose, as long as no key is given twice.
-const ROOT: Key = Key {
-    slot: 0,
-    generation: 1,
-};
-
-/// The key of a fan that has come so many times before, where its slot is vacant. `create` asks for that.
-fn key_of(state: &State, fan: u32, times: u32) -> Option<Key>
-    ensures vacant { IfSome result (λ key. slice_get state.now.tree key.slot ≡ Some None) }
-{
-    let slot = 1 + fan % 8;
-    if !state.is_vacant(slot) {
-        return None;
-    }
-    Some(Key {
-        slot,
-        generation: 1 + times % 1000,
-    })
-}
-
-/// A fan comes: its attribute is live at once.
-fn come(state: &mut State, name: &[u8], fan: u32, times: u32) -> Result<Key, Refusal> {
-    let attribute = Node::File {
-        mode: 0o644,
-        tag: u64::from(fan),
-    };
-    let next = key_of(state, fan, times);
-    state.create(ROOT, name, attribute, true, next)
-}
-
-/// A node goes, and all below it: each is doomed at once, and unlinked after what is below it.
-fn go(state: &mut State, key: Key) -> Result<(), Refusal> {
-    for doomed in state.doom(key)? {
-        state.unlink(doomed)?;
-    }
-    Ok(())
-}
-
-/// Two fans come. A third one, of a name that is taken, is refused.
-fn two_come(rt: &impl Print, state: &mut State) -> anyhow::Result<Key> {
-    let fan1 = come(state, b"fan1", 1, 0)?;
-    come(state, b"fan0", 0, 0)?;
-    if let Err(refusal) = come(state, b"fan1", 2, 0) {
-        println!(rt; "fan1 again: {refusal}")?;
-    }
-    Ok(fan1)
-}
-
-/// A fan goes and comes again, under a new key.
-fn come_again(rt: &impl Print, state: &mut State, fan1: Key) -> anyhow::Result<()> {
-    go(state, fan1)?;
-    let again = come(state, b"fan1", 1, 1)?;
-    println!(rt; "fan1 came again as {}.{}", again.slot, again.generation)?;
-    Ok(())
-}
-
-fn print_names(rt: &impl Print, alloc: Global, state: &State) -> anyhow::Result<()> {
-    for name in state.list(ROOT, None, 10)? {
-        println!(rt; "{}", String::from_utf8_lossy(alloc, name.bytes())?)?;
-    }
-    Ok(())
-}
-
-/// The stored commands make the tree, before and after they are compacted.
-fn compact(rt: &impl Print, state: &mut State) -> anyhow::Result<()> {
-    println!(rt; "{} commands make this tree", state.commands().len())?;
-    state.compact()?;
-    println!(rt; "{} commands make it too", state.commands().len())?;
-    Ok(())
-}
-
-fn fans(rt: &impl Print, alloc: Global) -> anyhow::Result<()> {
-    let limits = Limits::new(16, 100).context("16 slots and 100 holds are within the limits")?;
-    let mut state = State::new(alloc, limits, ROOT)?;
-    let fan1 = two_come(rt, &mut state)?;
-    come_again(rt, &mut state, fan1)?;
-    print_names(rt, alloc, &state)?;
-    compact(rt, &mut state)
-}
+mod board;
+mod tree;
 
 fn main(rt: HostRuntime) -> anyhow::Result<()> {
-    fans(&rt, rt.alloc())
+    tree::start(&rt, rt.alloc())?;
+    board::start(&rt, rt.alloc())
 }

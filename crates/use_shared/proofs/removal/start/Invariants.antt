@@ -1,4 +1,4 @@
-use Rattle.use_file.proofs.main.Given as goal
+use Rattle.use_shared.proofs.removal.start.Given as goal
 
 -- the tree that was just made
 abbrev pub ghosts-run : goal.ghosts-run

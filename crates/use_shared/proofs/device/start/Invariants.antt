@@ -1,4 +1,4 @@
-use Rattle.use_removal.proofs.main.Given as goal
+use Rattle.use_shared.proofs.device.start.Given as goal
 
 -- the tree that was just made
 abbrev pub ghosts-run : goal.ghosts-run

@@ -1,6 +1,5 @@
 //! Removal among threads: a reader uses an attribute again and again until it is refused, while its directory
 //! is removed. When `remove` has answered, no reader is inside and none comes in any more.
-#![tactic(auto)]
 
 ghost use Rattle.std.specs.Prelude.{◌≡◌};
 ghost use Rattle.kf_core.specs.declared.caller.Phase.TheVariants as phase_of;
@@ -9,6 +8,7 @@ use anyhow::Context;
 use kf_core::{Key, Limits, Node, Refusal};
 use kf_shared::{Naming, NewTree, SharedTree, release_all};
 use kf_words::Hold;
+use std::alloc::Global;
 use std::marker::{Brand, PhantomData};
 use std::sync::Wait;
 use std::sync::atomic::{AtomicU64, Ordering};
@@ -117,7 +117,8 @@ fn run<N: Naming + Send + Sync, R: Threads + Wait + Sync + Print>(
     Ok(())
 }
 
-fn main(rt: HostRuntime) -> anyhow::Result<()> {
+/// Makes the tree, and removes under use what it has.
+pub(crate) fn start<R: Threads + Wait + Sync + Print>(rt: &R, alloc: Global) -> anyhow::Result<()> {
     let limits = Limits::new(16, 100).context("16 slots and 100 holds are within the limits")?;
-    run::<Brand, _>(&rt, SharedTree::<Brand>::new(rt.alloc(), limits)?)
+    run::<Brand, _>(rt, SharedTree::<Brand>::new(alloc, limits)?)
 }

@@ -1,5 +1,4 @@
 //! Devices on a bus: two are plugged, one is unplugged by its name, and one by its own attribute `delete`.
-#![tactic(auto)]
 
 ghost use Rattle.std.specs.Prelude.{◌≡◌};
 
@@ -100,11 +99,8 @@ fn run<N: Naming, R: Wait + Print>(rt: &R, alloc: Global, new: NewTree) -> anyho
     Ok(())
 }
 
-fn main(rt: HostRuntime) -> anyhow::Result<()> {
+/// Makes the tree, and a bus over it.
+pub(crate) fn start<R: Wait + Print>(rt: &R, alloc: Global) -> anyhow::Result<()> {
     let limits = Limits::new(SLOTS, 100).context("32 slots and 100 holds are within the limits")?;
-    run::<Brand, _>(
-        &rt,
-        rt.alloc(),
-        SharedTree::<Brand>::new(rt.alloc(), limits)?,
-    )
+    run::<Brand, _>(rt, alloc, SharedTree::<Brand>::new(alloc, limits)?)
 }

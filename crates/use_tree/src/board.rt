@@ -1,5 +1,4 @@
 //! A script over a board of one's own: it keeps no tree, makes nodes up and counts what it was asked.
-#![tactic(auto)]
 
 ghost use Rattle.std.specs.Prelude.{◌≤◌};
 
@@ -33,18 +32,12 @@ impl Board for Counter {
     }
 }
 
-fn run<R: Print>(rt: &R, alloc: Global, mut script: &[u8]) -> anyhow::Result<()> {
+/// Runs a script of five lines, and prints the replies.
+pub(crate) fn start<R: Print>(rt: &R, alloc: Global) -> anyhow::Result<()> {
+    let mut script = b"mkdir /a\nfile /a/x 644 v\ncommands\nls /\nfrob\n".as_slice();
     let mut board = Counter { nodes: 0 };
     let mut replies = Vec::new(alloc);
     run_script(alloc, &mut board, &mut script, &mut replies)?;
     print!(rt; "{}", String::from_utf8_lossy(alloc, replies.as_slice())?)?;
     Ok(())
-}
-
-fn main(rt: HostRuntime) -> anyhow::Result<()> {
-    run(
-        &rt,
-        rt.alloc(),
-        b"mkdir /a\nfile /a/x 644 v\ncommands\nls /\nfrob\n",
-    )
 }

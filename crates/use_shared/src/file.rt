@@ -1,6 +1,5 @@
 //! An open file with callbacks of one's own: the attribute `limit` of a fan is a number, which a read shows
 //! in decimal and a write replaces.
-#![tactic(auto)]
 
 ghost use Rattle.std.specs.Prelude.{◌≡◌, Ok, decimal};
 
@@ -128,11 +127,8 @@ fn run<N: Naming, R: Wait + Print>(rt: &R, alloc: Global, new: NewTree) -> anyho
     told
 }
 
-fn main(rt: HostRuntime) -> anyhow::Result<()> {
+/// Makes the tree, and tries a file of it out.
+pub(crate) fn start<R: Wait + Print>(rt: &R, alloc: Global) -> anyhow::Result<()> {
     let limits = Limits::new(16, 100).context("16 slots and 100 holds are within the limits")?;
-    run::<Brand, _>(
-        &rt,
-        rt.alloc(),
-        SharedTree::<Brand>::new(rt.alloc(), limits)?,
-    )
+    run::<Brand, _>(rt, alloc, SharedTree::<Brand>::new(alloc, limits)?)
 }
