@@ -1,5 +1,6 @@
-//! What an open and a close of a file of a shared tree cost, on a page in a box and on one in the file, and
-//! what a read costs each of several threads that read files of their own.
+//! What an open and a close of a file of a shared tree cost, on a page in a box and on one in the file, where
+//! hold, post and page stay: a close gives them back, and the next open takes them. And what a read costs
+//! each of several threads that read files of their own.
 
 ghost use Rattle.std.specs.Prelude.{◌≡◌, IfOk};
 
@@ -204,6 +205,7 @@ fn tell_openings<N: Naming + Send + Sync, R: Threads + Wait + Clock + Print + Sy
     files: &Files<'_, N, R>,
 ) -> io::Result<()> {
     let mut slots = FILES;
+    println!(rt; "an open takes the hold, post and page that the close before it gave back")?;
     println!(rt; "ns an open and a close          boxed page    own page")?;
     begin_line(rt, "1 thread")?;
     column(rt, &BoxedOpenings { files }, OPENINGS, 1, &mut slots)?;
@@ -231,11 +233,8 @@ pub(crate) fn tell<N: Naming + Send + Sync, R: Threads + Wait + Clock + Print + 
     rt: &R,
     alloc: Global,
     tree: &SharedTree<N>,
-) -> io::Result<()> {
-    let Ok(posts) = Posts::new(alloc, SLOTS) else {
-        return println!(rt; "no memory");
-    };
-    let posts = Mutex::new(posts);
+) -> anyhow::Result<()> {
+    let posts = Mutex::new(Posts::new(alloc, SLOTS)?);
     let files = Files {
         rt,
         alloc,
@@ -244,5 +243,6 @@ pub(crate) fn tell<N: Naming + Send + Sync, R: Threads + Wait + Clock + Print + 
     };
     tell_openings(rt, &files)?;
     println!(rt; "")?;
-    tell_reads(rt, &files)
+    tell_reads(rt, &files)?;
+    Ok(())
 }

@@ -1,7 +1,8 @@
 //! What the parts of the library cost on this machine, in nanoseconds at best: `kf_bench words` tells it of
 //! holds, `kf_bench tree` of look-ups of a path, and `kf_bench files` of opens, closes and reads of files.
 //! `kf_bench wait` has four waiters for a node that is hidden, unused and not marked, for a second: who runs
-//! it counts how often they sleep. With none of these words it does nothing.
+//! it counts how often they sleep. With none of these words it does nothing. Where what is measured cannot be
+//! set up it says so, and ends with 1.
 #![tactic(auto)]
 
 ghost use Rattle.std.specs.Prelude.{◌≡◌};
@@ -13,6 +14,7 @@ mod looks;
 mod waiters;
 mod words;
 
+use anyhow::Context;
 use kf_core::Limits;
 use kf_shared::{Naming, NewTree, SharedTree};
 use std::alloc::Global;
@@ -52,30 +54,26 @@ fn run<N: Naming + Send + Sync, R: Threads + Wait + Clock + Print + Sync>(
     alloc: Global,
     new: NewTree,
     part: Part,
-) -> io::Result<()>
+) -> anyhow::Result<()>
     requires { new.master.table ≡ N.table }
 {
     let tree = new.named::<N>();
-    if grown::grow(rt, &tree).is_err() {
-        return println!(rt; "the tree has no room");
-    }
+    grown::grow(rt, &tree)?;
     match part {
         Part::Words => words::tell(rt, alloc, &tree),
-        Part::Tree => looks::tell(rt, &tree),
+        Part::Tree => Ok(looks::tell(rt, &tree)?),
         Part::Files => files::tell(rt, alloc, &tree),
         Part::Wait => waiters::wait(rt, &tree),
     }
 }
 
-fn main(rt: HostRuntime) -> io::Result<()> {
+fn main(rt: HostRuntime) -> anyhow::Result<()> {
     let Some(part) = asked(&rt)? else {
         return Ok(());
     };
-    let Some(limits) = Limits::new(grown::SLOTS, 16) else {
-        return Ok(());
-    };
-    match SharedTree::<Brand>::new(rt.alloc(), limits) {
-        Ok(new) => run::<Brand, _>(&rt, rt.alloc(), new, part),
-        Err(_) => println!(rt; "no memory"),
-    }
+    let limits = Limits::new(grown::SLOTS, 16).context(
+        "so many slots and holds are within the limits",
+    )?;
+    let new = SharedTree::<Brand>::new(rt.alloc(), limits)?;
+    run::<Brand, _>(&rt, rt.alloc(), new, part)
 }

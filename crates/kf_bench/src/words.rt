@@ -16,7 +16,8 @@ use std::time::Clock;
 /// How often each thread does in one round what is measured.
 const TURNS: u32 = 1_000_000;
 
-/// So many words are a line: each slot has one of its own, as the words of a slot have.
+/// So many words are a line, and as many locks no less: each slot has a line of its own for its word and for
+/// its lock, as the words of a slot have.
 const LINE: u32 = 8;
 
 /// Tries by a hold of a slot's node, which let the thread in where the node is live.
@@ -77,7 +78,7 @@ impl Work for Additions<'_> {
     }
 }
 
-/// Locks a slot's lock for reading and unlocks it.
+/// Locks the first lock of a slot's line for reading and unlocks it.
 #[derive(Drop)]
 struct Locks<'a, R> {
     rt: &'a R,
@@ -86,7 +87,7 @@ struct Locks<'a, R> {
 
 impl<R: Wait> Work for Locks<'_, R> {
     fn turns(&self, place: u32, turns: u32) -> u32 {
-        let Some(lock) = self.locks.get(place as usize) else {
+        let Some(lock) = self.locks.get(place.saturating_mul(LINE) as usize) else {
             return turns;
         };
         for _ in 0..turns {
@@ -105,10 +106,10 @@ fn new_words(alloc: Global) -> Result<Vec<AtomicU64>, AllocError> {
     Ok(words)
 }
 
-/// A lock for each slot.
+/// A line of locks for each slot.
 fn new_locks(alloc: Global) -> Result<Vec<RwLock<u64>>, AllocError> {
     let mut locks = Vec::new(alloc);
-    for _ in 0..SLOTS {
+    for _ in 0..SLOTS * LINE {
         locks.push(RwLock::new(0))?;
     }
     Ok(locks)
@@ -154,16 +155,13 @@ fn begin_removal<N: Naming, R: Wait>(rt: &R, tree: &SharedTree<N>) -> Result<Rem
 fn tell_refused<N: Naming + Send + Sync, R: Threads + Wait + Clock + Print + Sync>(
     rt: &R,
     tree: &SharedTree<N>,
-) -> io::Result<()> {
+) -> anyhow::Result<()> {
     let live = false;
-    match begin_removal(rt, tree) {
-        Ok(removing) => {
-            let told = column(rt, &Tries { rt, tree, live }, TURNS, 1, &mut [LEAF]);
-            release_all(removing.finish(rt, tree));
-            told
-        }
-        Err(_) => print!(rt; " no node"),
-    }
+    let removing = begin_removal(rt, tree)?;
+    let told = column(rt, &Tries { rt, tree, live }, TURNS, 1, &mut [LEAF]);
+    release_all(removing.finish(rt, tree));
+    told?;
+    Ok(())
 }
 
 /// Measures all.
@@ -171,7 +169,7 @@ pub(crate) fn tell<N: Naming + Send + Sync, R: Threads + Wait + Clock + Print + 
     rt: &R,
     alloc: Global,
     tree: &SharedTree<N>,
-) -> io::Result<()> {
+) -> anyhow::Result<()> {
     let words = new_words(alloc)?;
     let locks = new_locks(alloc)?;
     println!(rt; "ns a turn                            words   additions      RwLock")?;
@@ -179,5 +177,6 @@ pub(crate) fn tell<N: Naming + Send + Sync, R: Threads + Wait + Clock + Print + 
     begin_line(rt, "refused tries, 1 thread")?;
     tell_refused(rt, tree)?;
     column(rt, &Additions { words: &words }, TURNS, 1, &mut [LEAF])?;
-    println!(rt; "")
+    println!(rt; "")?;
+    Ok(())
 }
