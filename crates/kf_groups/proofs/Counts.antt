@@ -3,13 +3,12 @@ use Rattle.std.proofs.Common.{◌≡◌, inl, inr, ℕ, suc, ◌+◌, ◌≤◌,
 use Rattle.std.specs.Prelude.{Option, None, Some, Result, Ok, slice_get, is_some, IfOk, ◌&&◌}
 use Rattle.std.proofs.lemmas.Bool.Decides.{eqb_tells}
 use Rattle.std.proofs.lemmas.Option.{same_Some}
-use Rattle.kf_core.specs.declared.command.Command.{Command}
 use Rattle.kf_core.specs.declared.command.Command.TheVariants.{Create, Activate, Doom, Unlink}
 use Rattle.kf_core.specs.declared.key.Key.{Key}
 use Rattle.kf_core.specs.declared.key.Node.{Node}
 use Rattle.kf_core.specs.declared.records.Record.{Record}
 use Rattle.kf_core.specs.declared.refusal.Refusal.{Refusal}
-use Rattle.kf_core.specs.Commands.{after, replay, new_record}
+use Rattle.kf_core.specs.Commands.{after, new_record}
 use Rattle.kf_core.specs.Tree.{Tree, is_linked}
 use Rattle.kf_core.proofs.FoundRecords.{linked_here}
 use Rattle.kf_core.proofs.Lists.{count_cleared, count_filled, count_mapped}
@@ -17,11 +16,10 @@ use Rattle.kf_core.proofs.Tallies.{count_cons}
 use Rattle.kf_core.specs.Counts.{tally}
 use Rattle.kf_shared.specs.Locked.{Locked, UnlinkDone}
 use Rattle.kf_table.proofs.ChildTests.{both}
-use Rattle.kf_tree.proofs.Opening.{length_after}
 use Rattle.kf_tree.specs.TreeLogs.{TreeLog, IsAccepted}
 use Rattle.kf_words.specs.Callers.{Handle}
-use Rattle.kf_groups.specs.Making.{GaveUp, LacksRoom, RoomRefused}
-use Rattle.kf_groups.specs.Stores.{Keeps, Stores, node_count}
+use Rattle.kf_groups.specs.Stores.{Keeps, node_count}
+use Rattle.kf_groups.specs.TakenBack.{GaveUp, LacksRoom, RoomRefused}
 
 pub created_more : (t : Tree) (key parent : Key) (name : List ℕ) (node : Node) (live : Bool) → slice_get t key.slot ≡ Some None
     → node_count (after t (Create key parent name node live)) ≡ node_count t + 1
@@ -80,10 +78,6 @@ kept_all (x ∷ xs) (y ∷ ys) l keeps few =
     let head = same_first x y (λ r e. same_Some y (Some r) (keeps 0 r (ap Some e))) (omega (arith, few, rest, c, d)) in
     ap (λ z. z ∷ ys) head ∙ ap (λ zs. x ∷ zs) tail
 
-replay_length : (t : Tree) (cs : List Command) → length (replay t cs) ≡ length t
-replay_length t [] = refl
-replay_length t (c ∷ cs) = replay_length (after t c) cs ∙ length_after t c
-
 -- a node was unlinked
 pub unlinked_one : (old new : Locked) (key drained : Key) (r : Result Bool Refusal) → r ≡ Ok true
     → IfOk r (λ linked. is_linked old.state.tree drained ≡ linked) → IfOk r (λ linked. UnlinkDone old new drained linked)
@@ -128,18 +122,16 @@ directory_gone n0 n1 n2 files all one before now h' =
     omega (arith, x, y)
 
 -- where the records stay and as many nodes are linked, the tree is as it was
-pub as_it_was : (old new : TreeLog) (commands : List Command) → Stores old new commands → Keeps old.tree new.tree → node_count new.tree ≡ node_count old.tree → new.tree ≡ old.tree
-as_it_was old new commands stores keeps count =
-    kept_all old.tree new.tree (ap length stores.changed ∙ replay_length old.tree commands) keeps (omega arith)
-
-pub room_refused : (old new : TreeLog) (commands : List Command) (refusal : Refusal) → Stores old new commands → Keeps old.tree new.tree
-    → LacksRoom old.tree new.tree refusal → RoomRefused old.tree new.tree refusal
-room_refused old new commands refusal stores keeps (inl slots) = inl (slots.0, as_it_was old new commands stores keeps slots.1)
-room_refused old new commands refusal stores keeps (inr memory) = inr memory
+pub room_refused : (old new : Tree) (why refusal : Refusal) → length new ≡ length old → Keeps old new
+    → LacksRoom old new why refusal → RoomRefused old new why refusal
+room_refused old new why refusal same keeps (inl slots) =
+    inl (slots.0, slots.1, (let count = slots.2 in kept_all old new same keeps (omega (arith, count))))
+room_refused old new why refusal same keeps (inr memory) = inr memory
 
 -- what was made since is taken back, or there was no memory for that
-pub gave_up : (t0 t1 t2 t3 : Tree) (why result : Refusal) (nodes : ℕ) → node_count t1 ≡ node_count t0 + nodes
-    → LacksRoom t1 t2 why → GaveUp nodes t2 t3 why result → LacksRoom t0 t3 result
-gave_up t0 t1 t2 t3 why result nodes more lacks (inr memory) = inr memory
-gave_up t0 t1 t2 t3 why result nodes more (inl slots) (inl gave) = inl (gave.0 ∙ slots.0, (let a = slots.1 in let b = gave.1 in omega (arith, a, b, more)))
-gave_up t0 t1 t2 t3 why result nodes more (inr memory) (inl gave) = inr (gave.0 ∙ memory)
+pub gave_up : (t0 t1 t2 t3 : Tree) (why refusal result : Refusal) (nodes : ℕ) → node_count t1 ≡ node_count t0 + nodes
+    → LacksRoom t1 t2 why refusal → GaveUp nodes t2 t3 refusal result → LacksRoom t0 t3 why result
+gave_up t0 t1 t2 t3 why refusal result nodes more lacks (inr memory) = inr memory
+gave_up t0 t1 t2 t3 why refusal result nodes more (inl slots) (inl gave) =
+    inl (gave.0 ∙ slots.0, slots.1, (let a = slots.2 in let b = gave.1 in omega (arith, a, b, more)))
+gave_up t0 t1 t2 t3 why refusal result nodes more (inr memory) (inl gave) = inr (gave.0 ∙ memory)

@@ -1,6 +1,7 @@
 pub mod Names
 pub mod Storing
 pub mod Unlinks
+pub mod Dooms
 pub mod Free
 pub mod Linked
 pub mod Older
@@ -9,6 +10,7 @@ pub mod Named
 pub mod NewDirectory
 pub mod Lacks
 pub mod Makings
+pub mod Lengths
 pub mod Turns
 pub mod Refusals
 pub mod Fresh

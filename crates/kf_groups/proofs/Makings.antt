@@ -1,8 +1,7 @@
 -- Files are made one after another, and taken back the last first.
-use Rattle.std.proofs.Common.{◌≡◌, ◌≢◌, ◌⊎◌, ◌≤◌, ◌+◌, ◌-◌, ◌∙◌, ℕ, suc, Bool, true, false, cond, List, [], ◌∷◌, ◌++◌, length, take, drop, get_or, ap, refl, sym, subst, inr, arith}
+use Rattle.std.proofs.Common.{◌≡◌, ◌≢◌, ◌⊎◌, ◌≤◌, ◌+◌, ◌-◌, ◌∙◌, ℕ, suc, Bool, true, false, cond, List, [], ◌∷◌, ◌++◌, length, take, drop, get_or, ap, refl, sym, subst, inl, inr, arith}
 use Rattle.std.specs.Prelude.{Option, ◌&&◌}
 use Rattle.std.proofs.lemmas.Bool.Decides.{nat_tests}
-use Rattle.kf_core.specs.declared.command.Command.{Command}
 use Rattle.kf_core.specs.declared.command.Command.TheVariants.{Create, Activate}
 use Rattle.kf_core.specs.declared.key.Key.{Key}
 use Rattle.kf_core.specs.declared.key.Node.{Node}
@@ -11,11 +10,13 @@ use Rattle.kf_core.specs.declared.refusal.Refusal.{Refusal}
 use Rattle.kf_core.specs.Tree.{Tree}
 use Rattle.kf_table.proofs.ChildTests.{both}
 use Rattle.kf_tree.specs.TreeLogs.{TreeLog, IsAccepted}
-use Rattle.kf_shared.specs.Locked.{Locked, Created}
+use Rattle.kf_core.specs.declared.refusal.Refusal.TheVariants.{NoMemory}
+use Rattle.kf_shared.specs.Locked.{Locked, Created, CreateRefused}
 use Rattle.kf_groups.specs.declared.attribute.Attribute.{Attribute}
-use Rattle.kf_groups.specs.Attributes.{is_shown, shown}
-use Rattle.kf_groups.specs.Making.{creation, creations, live_creations, named_creations, TookBack, NameTookBack, EachTookBack, LiveTakenBack, FilesTakenBack, DirectoryTakenBack}
+use Rattle.kf_groups.specs.Attributes.{file_of, is_shown, shown}
+use Rattle.kf_groups.specs.Making.{creation, creations, live_creations, named_creations}
 use Rattle.kf_groups.specs.Stores.{Stores, node_count}
+use Rattle.kf_groups.specs.TakenBack.{EachTookBack, FileMade, FilesTakenBack, LiveTakenBack, NameTookBack, NotActivated, TookBack}
 use Rattle.kf_groups.proofs.Names.{rest_of}
 use Rattle.kf_groups.proofs.Storing.{one, join}
 
@@ -25,6 +26,11 @@ pub created : (old new : Locked) (parent key : Key) (name : List ℕ) (node node
 created old new parent key name node node' same made =
     subst (λ n. Stores old.state new.state (Create key parent name n false ∷ [])) same
     (one old.state new.state _ (Create key parent name node false) made)
+
+-- the file that was made is that of the attribute
+pub file_made : (old new : Locked) (dir key : Key) (a : Attribute) (node : Node) → node ≡ file_of a
+    → Created old new dir a.name.now node false key → FileMade old new dir a key
+file_made old new dir key a node same made = subst (λ n. Created old new dir a.name.now n false key) same made
 
 -- what is left behind the first
 abbrev pub later : List Attribute → List Attribute
@@ -100,64 +106,36 @@ made s0 s1 s2 s3 dir key attributes d cause some there created rest activated =
     )
 
 -- files were made and activated, and then taken back
-pub live_stopped : (s0 s1 s2 : TreeLog) (dir : Key) (attributes : List Attribute)
-    → (keys : List Key) × (length keys ≡ length attributes) × Stores s0 s1 (live_creations dir attributes keys)
-    → (undone : List Command) × EachTookBack s1.tree dir attributes undone × Stores s1 s2 undone
-    → (rest : List Command) × Stores s0 s2 rest × LiveTakenBack s0.tree dir attributes rest
-live_stopped s0 s1 s2 dir attributes live undone =
-    let made : Stores s0 s1 (live_creations dir attributes live.0) = live.2 in (
-      live_creations dir attributes live.0 ++ undone.0,
-      join s0 s1 s2 (live_creations dir attributes live.0) undone.0 made undone.2,
-      (live.0, undone.0, live.1, refl, subst (λ t. EachTookBack t dir attributes undone.0) made.changed undone.1),
-    )
+pub live_stopped : (s0 s1 s2 s3 : Locked) (dir : Key) (attributes : List Attribute) → s2 ≡ s1
+    → (keys : List Key) × (length keys ≡ length attributes) × Stores s0.state s1.state (live_creations dir attributes keys)
+    → EachTookBack s2 s3 dir attributes → LiveTakenBack s0 s3 dir attributes NoMemory
+live_stopped s0 s1 s2 s3 dir attributes same live undone =
+    (refl, s1, live, subst (λ s. EachTookBack s s3 dir attributes) same undone)
 
--- the later files were taken back, and then this one was
-pub each_more : (s0 s1 s2 : TreeLog) (dir : Key) (attributes : List Attribute) (d : Attribute)
-    → 1 ≤ length attributes → (get_or attributes 0 d).mode ≢ 0
-    → (rest : List Command) × EachTookBack s0.tree dir (shown (later attributes)) rest × Stores s0 s1 rest
-    → (back : List Command) × NameTookBack s1.tree dir (get_or attributes 0 d).name.now back × Stores s1 s2 back
-    → (commands : List Command) × EachTookBack s0.tree dir (shown attributes) commands × Stores s0 s2 commands
-each_more s0 s1 s2 dir attributes d some there rest back =
-    let before : Stores s0 s1 rest.0 = rest.2 in
-    subst (λ xs. (commands : List Command) × EachTookBack s0.tree dir xs commands × Stores s0 s2 commands)
-    (sym (first_shown attributes d some there)) (
-      rest.0 ++ back.0,
-      (
-        rest.0,
-        back.0,
-        refl,
-        rest.1,
-        subst (λ t. NameTookBack t dir (get_or attributes 0 d).name.now back.0) before.changed back.1,
-      ),
-      join s0 s1 s2 rest.0 back.0 before back.2,
-    )
+module _ (dir : Key) (attributes : List Attribute) (d : Attribute) (some : 1 ≤ length attributes) (there : (get_or attributes 0 d).mode ≢ 0) where
+  abbrev first : Attribute
+  first = get_or attributes 0 d
 
--- the later files were taken back, live ones or not; and then this one was taken back
-pub stopped : (s0 s1 s2 s3 : TreeLog) (dir key : Key) (attributes : List Attribute) (d : Attribute)
-    → 1 ≤ length attributes → (get_or attributes 0 d).mode ≢ 0
-    → Stores s0 s1 (creation dir (get_or attributes 0 d) key ∷ [])
-    → (rest : List Command) × Stores s1 s2 rest × (FilesTakenBack s1.tree dir (shown (later attributes)) rest
-    ⊎ LiveTakenBack s1.tree dir (shown (later attributes)) rest)
-    → (back : List Command) × TookBack s2.tree key back × Stores s2 s3 back
-    → (commands : List Command) × Stores s0 s3 commands × FilesTakenBack s0.tree dir (shown attributes) commands
-stopped s0 s1 s2 s3 dir key attributes d some there created rest back =
-    let a = get_or attributes 0 d in
-    let first : Stores s0 s1 (creation dir a key ∷ []) = created in
-    let both : Stores s0 s2 (creation dir a key ∷ rest.0) = join s0 s1 s2 (creation dir a key ∷ []) rest.0 first rest.1 in
-    subst (λ xs. (commands : List Command) × Stores s0 s3 commands × FilesTakenBack s0.tree dir xs commands)
-    (sym (first_shown attributes d some there)) (
-      creation dir a key ∷ (rest.0 ++ back.0),
-      join s0 s1 s3 (creation dir a key ∷ []) (rest.0 ++ back.0) first (join s1 s2 s3 rest.0 back.0 rest.1 back.2),
-      inr (
-        key,
-        rest.0,
-        back.0,
-        refl,
-        subst (λ t. FilesTakenBack t dir (shown (later attributes)) rest.0
-            ⊎ LiveTakenBack t dir (shown (later attributes)) rest.0) first.changed rest.2,
-        subst (λ t. TookBack t key back.0) both.changed back.1,
-      ),
-    )
+  parts : shown attributes ≡ first ∷ shown (later attributes)
+  parts = first_shown attributes d some there
+
+  -- the later files were taken back, and then this one was
+  pub each_more : (s0 s1 s2 : Locked) → EachTookBack s0 s1 dir (shown (later attributes)) → NameTookBack s1 s2 dir first.name.now
+      → EachTookBack s0 s2 dir (shown attributes)
+  each_more s0 s1 s2 rest back = subst (EachTookBack s0 s2 dir) (sym parts) (s1, rest, back)
+
+  -- the later files were taken back, live ones or not; and then this one was taken back
+  pub stopped : (s0 s1 s2 s3 : Locked) (key : Key) (why : Refusal) → FileMade s0 s1 dir first key
+      → FilesTakenBack s1 s2 dir (shown (later attributes)) why ⊎ LiveTakenBack s1 s2 dir (shown (later attributes)) why
+      → TookBack s2 s3 key → FilesTakenBack s0 s3 dir (shown attributes) why
+  stopped s0 s1 s2 s3 key why made rest back =
+      subst (λ xs. FilesTakenBack s0 s3 dir xs why) (sym parts) (inr (s1, s2, key, made, rest, back))
+
+  -- this file was refused
+  pub not_made : (s0 s1 : Locked) (node : Node) (why : Refusal) → node ≡ file_of first → CreateRefused s0 s1 dir first.name.now node why
+      → FilesTakenBack s0 s1 dir (shown attributes) why
+  not_made s0 s1 node why same refused =
+      subst (λ xs. FilesTakenBack s0 s1 dir xs why) (sym parts) (inl (subst (λ n. CreateRefused s0 s1 dir first.name.now n why) same refused))
 
 -- the directory with its files was made, and activated
 pub directory_made : (s0 s1 s2 s3 : TreeLog) (dir key : Key) (name : List ℕ) (attributes : List Attribute) (keys : List Key)
@@ -169,37 +147,13 @@ directory_made s0 s1 s2 s3 dir key name attributes keys cause created files acti
     created
     (join s1 s2 s3 (creations key attributes keys) (Activate key ∷ []) files (one s2 s3 cause (Activate key) activated))
 
--- the directory was made, with some files or not, and taken back
-pub directory_stopped : (s0 s1 s2 s3 : TreeLog) (dir key : Key) (name : List ℕ) (attributes : List Attribute)
-    → Stores s0 s1 (Create key dir name Dir false ∷ [])
-    → (files : List Command) × Stores s1 s2 files × (FilesTakenBack s1.tree key attributes files
-    ⊎ ((keys : List Key) × (length keys ≡ length attributes) × (files ≡ creations key attributes keys)))
-    → (back : List Command) × TookBack s2.tree key back × Stores s2 s3 back
-    → (commands : List Command) × Stores s0 s3 commands × DirectoryTakenBack s0.tree dir name attributes commands
-directory_stopped s0 s1 s2 s3 dir key name attributes created files back =
-    let c = Create key dir name Dir false in
-    let first : Stores s0 s1 (c ∷ []) = created in
-    let both : Stores s0 s2 (c ∷ files.0) = join s0 s1 s2 (c ∷ []) files.0 first files.1 in (
-      c ∷ (files.0 ++ back.0),
-      join s0 s1 s3 (c ∷ []) (files.0 ++ back.0) first (join s1 s2 s3 files.0 back.0 files.1 back.2),
-      inr (
-        key,
-        files.0,
-        back.0,
-        refl,
-        subst (λ t. FilesTakenBack t key attributes files.0
-            ⊎ ((keys : List Key) × (length keys ≡ length attributes) × (files.0 ≡ creations key attributes keys))) first.changed files.2,
-        subst (λ t. TookBack t key back.0) both.changed back.1,
-      ),
-    )
-
 -- the directory and its files were all made, and it was not activated
-pub all_made : (s0 s1 s2 : TreeLog) (key : Key) (attributes : List Attribute) → s2 ≡ s1
-    → (keys : List Key) × (length keys ≡ length attributes) × Stores s0 s1 (creations key attributes keys)
-    → (files : List Command) × Stores s0 s2 files × (FilesTakenBack s0.tree key attributes files
-    ⊎ ((keys : List Key) × (length keys ≡ length attributes) × (files ≡ creations key attributes keys)))
+pub all_made : (s0 s1 s2 : Locked) (key : Key) (attributes : List Attribute) → s2 ≡ s1
+    → (keys : List Key) × (length keys ≡ length attributes) × Stores s0.state s1.state (creations key attributes keys)
+    → NotActivated s0 s2 key attributes NoMemory
 all_made s0 s1 s2 key attributes same files = (
-  creations key attributes files.0,
-  subst (λ s. Stores s0 s (creations key attributes files.0)) (sym same) files.2,
-  inr (files.0, files.1, refl),
+  refl,
+  files.0,
+  files.1,
+  subst (λ (s : Locked). Stores s0.state s.state (creations key attributes files.0)) (sym same) files.2,
 )

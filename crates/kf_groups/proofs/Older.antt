@@ -4,7 +4,6 @@ use Rattle.std.specs.Prelude.{Option, None, Some, slice_get, is_some, not, ◌&&
 use Rattle.std.specs.Option.{option_map}
 use Rattle.std.proofs.lemmas.Option.{same_Some, none-some, slice_get-map}
 use Rattle.std.proofs.lemmas.Bool.Decides.{eqb_tells}
-use Rattle.kf_core.specs.declared.command.Command.{Command}
 use Rattle.kf_core.specs.declared.command.Command.TheVariants.{Create, Activate, Doom, Unlink}
 use Rattle.kf_core.specs.declared.key.Key.{Key}
 use Rattle.kf_core.specs.declared.key.Node.{Node}
@@ -17,8 +16,9 @@ use Rattle.kf_core.proofs.Ancestors.{in_subtree_is_below}
 use Rattle.kf_core.proofs.Climbs.{first_step}
 use Rattle.kf_core.proofs.FoundRecords.{found_in, in_found, linked_here, parent_known}
 use Rattle.kf_core.proofs.Lists.{slice_get-set_other}
-use Rattle.kf_groups.specs.Making.{TookBack}
+use Rattle.kf_shared.specs.Locked.{Locked}
 use Rattle.kf_groups.specs.Stores.{Keeps, KeepsOlder}
+use Rattle.kf_groups.specs.TakenBack.{TookBack}
 
 pub keeps_self : (t : Tree) → Keeps t t
 keeps_self t slot r h = h
@@ -108,12 +108,13 @@ all_unlinked base root (k ∷ keys) t away keeps =
     (unlinked base t root k (away 0 k (omega arith)) keeps)
 
 -- what is taken back is no older node
-pub took_older : (t : Tree) (key : Key) (commands : List Command) → TookBack t key commands → KeepsOlder key t (replay t commands)
-took_older t key commands (inl none) base root l fresh keeps = subst (λ cs. Keeps base (replay t cs)) (sym none) keeps
-took_older t key commands (inr took) base root l fresh keeps =
+pub took_older : (a b : Locked) (key : Key) → TookBack a b key → KeepsOlder key a.state.tree b.state.tree
+took_older a b key (inl refused) base root l fresh keeps = subst (Keeps base) (sym refused.0.tree) keeps
+took_older a b key (inr took) base root l fresh keeps =
+    let t = a.state.tree in
     let order : List Key = took.0 in
     let ordered : IsPostOrder t key order = took.2 in
     let each : All (λ k. is_linked base k ≡ false) took.1 =
     λ i d inside. younger base root key l fresh t _ keeps ((ordered.members _).0 (took.3 i d inside)).1 in
-    subst (λ cs. Keeps base (replay t cs)) (sym took.4)
+    subst (Keeps base) (sym took.4.changed)
     (all_unlinked base root took.1 (after t (Doom key)) each (doomed base root key l fresh t keeps))

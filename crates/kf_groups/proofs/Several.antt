@@ -1,6 +1,6 @@
 -- Nothing is wrong with the later groups, once one that makes no entry of theirs is made.
-use Rattle.std.proofs.Common.{◌≡◌, ◌≤◌, ◌+◌, ◌-◌, inl, inr, ℕ, refl, ap, sym, ◌∙◌, subst, arith, Bool, true, false, List, [], ◌∷◌, ◌++◌, length, take, drop, get_or}
-use Rattle.std.specs.Prelude.{Option, None, Some, Result, Ok, Err, IfErr, OnErr, is_some, not, slice_get}
+use Rattle.std.proofs.Common.{◌≡◌, ◌≤◌, ◌+◌, ◌-◌, inl, inr, ℕ, refl, ap, sym, ◌∙◌, subst, arith, Bool, true, false, List, [], ◌∷◌, length, take, drop, get_or}
+use Rattle.std.specs.Prelude.{Option, None, Some, Result, Ok, Err, IfErr, is_some, not, slice_get}
 use Rattle.std.specs.List.{list_any}
 use Rattle.std.specs.Option.{option_map, option_map_or}
 use Rattle.std.proofs.lemmas.Option.{none-some}
@@ -18,21 +18,23 @@ use Rattle.kf_core.specs.Names.{name_fault}
 use Rattle.kf_core.specs.Refusals.{unless, first_cause}
 use Rattle.kf_core.specs.Tree.{Tree, IsIn, record_at, is_dir, is_linked}
 use Rattle.kf_core.proofs.FoundRecords.{found_in, in_found}
-use Rattle.kf_tree.specs.Causes.{create_fault, target_fault, target_of, is_directory, doomed_in, has_entry}
+use Rattle.kf_tree.specs.Causes.{create_fault, target_fault, target_of, is_directory, doomed_in, has_entry, list_cause}
+use Rattle.kf_shared.specs.Locked.{Locked}
 use Rattle.kf_tree.specs.TreeLogs.{TreeLog}
 use Rattle.kf_tree.proofs.Allowed.{linked_record, no_first, not_passed, passed}
 use Rattle.kf_groups.specs.declared.attribute.Attribute.{Attribute}
 use Rattle.kf_groups.specs.declared.attribute.Group.{Group}
 use Rattle.kf_groups.specs.Attributes.{HasNone, cause_by_name, file_fault, file_of, files_cause, group_cause, group_size, has_name, shown}
 use Rattle.kf_groups.specs.Groups.{GroupTakenBack, GroupsMade, GroupsRefused, GroupsTakenBack, IsWithout, clashes, groups_cause, groups_size, makes, shares, shares_by_name}
-use Rattle.kf_groups.specs.Making.{GroupMade, GroupRefused, LacksRoom, MadeByName, RoomRefused}
+use Rattle.kf_groups.specs.Making.{GroupMade, MadeByName}
 use Rattle.kf_groups.specs.Stores.{Keeps, Stores, node_count}
+use Rattle.kf_groups.specs.TakenBack.{GroupRefused, LacksRoom, RoomRefused}
 use Rattle.kf_groups.proofs.Counts.{room_refused}
 use Rattle.kf_groups.proofs.Free.{joined, neither, parted}
 use Rattle.kf_groups.proofs.Fresh.{no_other}
 use Rattle.kf_groups.proofs.Named.{entry_stands}
 use Rattle.kf_groups.proofs.Names.{rest_of}
-use Rattle.kf_groups.proofs.Storing.{join}
+use Rattle.kf_groups.proofs.Lengths.{groups_length}
 use Rattle.kf_groups.proofs.Turns.{none_yet}
 
 -- ---- lists and causes
@@ -108,6 +110,18 @@ module _ (old new : Tree) (root dir : Key) (keeps : Keeps old new) (node : Node)
 
 -- ---- groups
 
+-- a directory stays one
+still_dir : (old new : Tree) (dir : Key) → Keeps old new → list_cause old dir ≡ None → list_cause new dir ≡ None
+still_dir old new dir keeps free =
+    let c = two (unless (is_linked old dir) NoEntry) (unless (is_directory old dir) NotDir) free in
+    let r = linked_record old dir (passed (is_linked old dir) NoEntry c.0) in
+    let f = found_in old dir r.0 r.1 in
+    let now : record_at new dir ≡ Some r.0 = ap (record_at new) (sym f.1) ∙ in_found new r.0 (keeps r.0.key.slot r.0 f.0) in
+    let same : record_at new dir ≡ record_at old dir = now ∙ sym r.1 in
+    both_none (unless (is_linked new dir) NoEntry) (unless (is_directory new dir) NotDir)
+    (ap (λ (o : Option Record). unless (is_some o) NoEntry) same ∙ c.0)
+    (ap (λ (o : Option Record). unless (option_map_or (λ r. is_dir r.node) o false) NotDir) same ∙ c.1)
+
 -- the directory of a group that nothing is wrong with is linked; or the group is none
 either_linked : (t : Tree) (root dir : Key) (name : List ℕ) (node : Node) → create_fault t root dir name node ≡ None → is_linked t dir ≡ true
 either_linked t root dir name node free =
@@ -146,7 +160,10 @@ module _ (old new : TreeLog) (dir key : Key) (group : Group) (l : Lawful old.tre
 
   by_name : (attributes : List Attribute) (name : Option (Bor (List ℕ))) → shares_by_name group (shown attributes) name ≡ false
       → cause_by_name old.tree root dir attributes name ≡ None → cause_by_name new.tree root dir attributes name ≡ None
-  by_name attributes None other free = files_apart (shown attributes) other free
+  by_name attributes None other free =
+      let c = two (list_cause old.tree dir) (files_cause (file_fault old.tree root (Some dir)) (shown attributes)) free in
+      both_none (list_cause new.tree dir) (files_cause (file_fault new.tree root (Some dir)) (shown attributes))
+      (still_dir old.tree new.tree dir keeps c.0) (files_apart (shown attributes) other c.1)
   by_name attributes (Some name) other free =
       let c = two (create_fault old.tree root dir name.now Dir) (files_cause (file_fault old.tree root None) (shown attributes)) free in
       both_none (create_fault new.tree root dir name.now Dir) (files_cause (file_fault new.tree root None) (shown attributes))
@@ -205,24 +222,24 @@ module _ (groups : List Group) (d : Group) (some : 1 ≤ length groups) where
   counted t0 t1 t2 one others =
       let all : groups_size groups ≡ group_size first + groups_size rest = ap groups_size parts in omega (arith, one, others, all)
 
-  pub first_refused : (old new : TreeLog) (dir : Key) (refusal : Refusal) → groups_cause old.tree old.root dir groups ≡ None → GroupRefused old new dir first refusal
-      → LacksRoom old.tree new.tree refusal × GroupsTakenBack old new dir groups
+  pub first_refused : (old new : Locked) (dir : Key) (refusal : Refusal) → groups_cause old.state.tree old.state.root dir groups ≡ None → GroupRefused old new dir first refusal
+      → (why : Refusal) × LacksRoom old.state.tree new.state.tree why refusal × GroupsTakenBack old new dir groups why
   first_refused old new dir refusal free (inl cause) =
-      absurd (none-some refusal (sym (apart_free old.tree old.root dir free).0 ∙ cause.0))
+      absurd (none-some refusal (sym (apart_free old.state.tree old.state.root dir free).0 ∙ cause.0))
   first_refused old new dir refusal free (inr stopped) = (
-    lacking old.tree new.tree refusal stopped.1,
-    subst (GroupsTakenBack old new dir) (sym parts) (inl stopped.2),
+    stopped.1,
+    lacking old.state.tree new.state.tree stopped.1 refusal stopped.2,
+    subst (λ gs. GroupsTakenBack old new dir gs stopped.1) (sym parts) (inl stopped.3),
   )
     where
-      lacking : (old new : Tree) (refusal : Refusal) → RoomRefused old new refusal → LacksRoom old new refusal
-      lacking old new refusal (inl slots) = inl (slots.0, ap (λ t. node_count t) slots.1)
-      lacking old new refusal (inr memory) = inr memory
+      lacking : (old new : Tree) (why refusal : Refusal) → RoomRefused old new why refusal → LacksRoom old new why refusal
+      lacking old new why refusal (inl slots) = inl (slots.0, slots.1, ap (λ t. node_count t) slots.2)
+      lacking old new why refusal (inr memory) = inr memory
 
-  pub later_refused : (old made stopped new : TreeLog) (dir key : Key) → GroupMade old made dir first key → GroupsTakenBack made stopped dir rest
-      → (back : List Command) × Stores stopped new back × GroupTakenBack stopped.tree dir key (shown first.attributes.now) first.name back
-      → GroupsTakenBack old new dir groups
-  later_refused old made stopped new dir key first_made others back =
-      subst (GroupsTakenBack old new dir) (sym parts) (inr (made, stopped, key, back.0, first_made, others, back.1, back.2))
+  pub later_refused : (old made stopped new : Locked) (dir key : Key) (why : Refusal) → GroupMade old.state made.state dir first key → GroupsTakenBack made stopped dir rest why
+      → GroupTakenBack stopped new dir key (shown first.attributes.now) first.name → GroupsTakenBack old new dir groups why
+  later_refused old made stopped new dir key why first_made others back =
+      subst (λ gs. GroupsTakenBack old new dir gs why) (sym parts) (inr (made, stopped, key, first_made, others, back))
 
 -- nothing of a group was there before it was made
 pub without_before : (old new : TreeLog) (dir key : Key) (group : Group) → GroupMade old new dir group key
@@ -231,7 +248,8 @@ without_before old new dir key group made = go group.name made.no_cause made.mad
   where
     go : (own : Option (Bor (List ℕ))) → cause_by_name old.tree old.root dir group.attributes.now own ≡ None
         → MadeByName old new dir (shown group.attributes.now) own key → IsWithout old.tree dir key (shown group.attributes.now) own
-    go None free made = none_yet old dir (shown group.attributes.now) free
+    go None free made = none_yet old dir (shown group.attributes.now)
+        (two (list_cause old.tree dir) (files_cause (file_fault old.tree old.root (Some dir)) (shown group.attributes.now)) free).1
     go (Some own) free made = made.0
 
 -- a directory that is not linked has no entries
@@ -247,19 +265,14 @@ none_in t root key (a ∷ attributes) l away = (nobody (has_entry t key a.name.n
         let d = l.in_directory s.entry key i s.parent in
         let x : is_linked t key ≡ true = ap (λ (o : Option Record). is_some o) d.known in cc (x, away))
 
-stored : (old new : TreeLog) (dir : Key) (groups : List Group) → GroupsTakenBack old new dir groups → (commands : List Command) × Stores old new commands
-stored old new dir [] none = absurd none
-stored old new dir (group ∷ groups) (inl first) = (first.0, first.1)
-stored old new dir (group ∷ groups) (inr t) =
-    let a = made_stores old t.0 dir t.2 (shown group.attributes.now) group.name t.4.made in
-    let b = stored t.0 t.1 dir groups t.5 in (
-      a.0 ++ (b.0 ++ t.3),
-      join old t.0 new a.0 (b.0 ++ t.3) a.1 (join t.0 t.1 new b.0 t.3 b.1 t.6),
-    )
-
-pub groups_refused : {A : Type 0} (r : Result A Refusal) (old new : TreeLog) (dir : Key) (groups : List Group) → groups_cause old.tree old.root dir groups ≡ None
-    → Keeps old.tree new.tree → IfErr r (λ refusal. LacksRoom old.tree new.tree refusal) → OnErr r (GroupsTakenBack old new dir groups)
+pub groups_refused : {A : Type 0} (r : Result A Refusal) (old new : Locked) (dir : Key) (groups : List Group) → groups_cause old.state.tree old.state.root dir groups ≡ None
+    → Keeps old.state.tree new.state.tree
+    → IfErr r (λ refusal. (why : Refusal) × LacksRoom old.state.tree new.state.tree why refusal × GroupsTakenBack old new dir groups why)
     → IfErr r (λ refusal. GroupsRefused old new dir groups refusal)
-groups_refused (Ok a) old new dir groups free keeps lacks back = tt
-groups_refused (Err refusal) old new dir groups free keeps lacks back =
-    let s = stored old new dir groups back in inr (free, room_refused old new s.0 refusal s.1 keeps lacks, back)
+groups_refused (Ok a) old new dir groups free keeps back = tt
+groups_refused (Err refusal) old new dir groups free keeps back = inr (
+  free,
+  back.0,
+  room_refused old.state.tree new.state.tree back.0 refusal (groups_length old new dir groups back.0 back.2) keeps back.1,
+  back.2,
+)

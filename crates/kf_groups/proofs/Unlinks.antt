@@ -1,9 +1,8 @@
 -- Nodes that are taken back are unlinked one after another.
-use Rattle.std.proofs.Common.{◌≡◌, ◌<◌, zero, suc, List, [], ◌∷◌, ◌++◌, length, refl, sym, subst, inr, arith}
+use Rattle.std.proofs.Common.{◌≡◌, ◌<◌, zero, suc, List, [], ◌∷◌, ◌++◌, length, refl, sym, subst, arith}
 use Rattle.std.specs.Prelude.{map, All, Contains, Option}
 use Rattle.std.proofs.lemmas.List.{map-append}
 use Rattle.std.proofs.lemmas.List.Elements.{All-append}
-use Rattle.kf_core.specs.declared.command.Command.{Command}
 use Rattle.kf_core.specs.declared.command.Command.TheVariants.{Doom, Unlink}
 use Rattle.kf_core.specs.declared.key.Key.{Key}
 use Rattle.kf_core.specs.declared.refusal.Refusal.{Refusal}
@@ -11,8 +10,9 @@ use Rattle.kf_core.specs.PostOrder.{IsPostOrder}
 use Rattle.kf_tree.specs.TreeLogs.{TreeLog, IsAccepted}
 use Rattle.kf_words.specs.Callers.{Handle}
 use Rattle.kf_shared.specs.Removal.{keys_of}
-use Rattle.kf_groups.specs.Making.{TookBack}
+use Rattle.kf_shared.specs.Locked.{Locked}
 use Rattle.kf_groups.specs.Stores.{Stores}
+use Rattle.kf_groups.specs.TakenBack.{DoomedAndUnlinked}
 use Rattle.kf_groups.proofs.Storing.{one, join}
 
 -- unlinks of some of these nodes were stored
@@ -43,11 +43,12 @@ one_more among a b c key before inside now = (
       (join a b c (map Unlink before.0) (map Unlink now.0) before.2 now.2),
 )
 
-pub took : (a b c : TreeLog) (key : Key) (cause : Option Refusal) (order : List Key) → IsPostOrder a.tree key order
-    → IsAccepted a b cause (Doom key) → Unlinks order b c
-    → (commands : List Command) × TookBack a.tree key commands × Stores a c commands
+pub took : (a b c : Locked) (key : Key) (cause : Option Refusal) (order : List Key) → IsPostOrder a.state.tree key order
+    → IsAccepted a.state b.state cause (Doom key) → Unlinks order b.state c.state → DoomedAndUnlinked a c key
 took a b c key cause order ordered doomed unlinked = (
-  Doom key ∷ map Unlink unlinked.0,
-  inr (order, unlinked.0, ordered, unlinked.1, refl),
-  join a b c (Doom key ∷ []) (map Unlink unlinked.0) (one a b cause (Doom key) doomed) unlinked.2,
+  order,
+  unlinked.0,
+  ordered,
+  unlinked.1,
+  join a.state b.state c.state (Doom key ∷ []) (map Unlink unlinked.0) (one a.state b.state cause (Doom key) doomed) unlinked.2,
 )

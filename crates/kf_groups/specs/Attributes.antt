@@ -11,7 +11,7 @@ use Rattle.kf_core.specs.declared.refusal.Refusal.TheVariants.{Exists}
 use Rattle.kf_core.specs.Names.{name_fault}
 use Rattle.kf_core.specs.Refusals.{unless, first_cause}
 use Rattle.kf_core.specs.Tree.{Tree}
-use Rattle.kf_tree.specs.Causes.{create_fault, has_entry}
+use Rattle.kf_tree.specs.Causes.{create_fault, has_entry, list_cause}
 use Rattle.kf_groups.specs.declared.attribute.Attribute.{Attribute}
 use Rattle.kf_groups.specs.declared.attribute.Group.{Group}
 
@@ -58,9 +58,13 @@ abbrev pub file_fault : Tree → Key → Option Key → Attribute → Option Ref
 file_fault t root None attribute = name_fault attribute.name.now
 file_fault t root (Some dir) attribute = create_fault t root dir attribute.name.now (file_of attribute)
 
--- the group's directory, where it has one of its own, and its files
+-- what is wrong with the group's own directory, or where it has none with the one that its files are to stand
+-- in; and with its files
 abbrev pub cause_by_name : Tree → Key → Key → List Attribute → Option (Bor (List ℕ)) → Option Refusal
-cause_by_name t root dir attributes None = files_cause (file_fault t root (Some dir)) (shown attributes)
+cause_by_name t root dir attributes None = first_cause (
+    list_cause t dir
+    ∷ files_cause (file_fault t root (Some dir)) (shown attributes)
+    ∷ [])
 cause_by_name t root dir attributes (Some name) = first_cause (
     create_fault t root dir name.now Dir
     ∷ files_cause (file_fault t root None) (shown attributes)

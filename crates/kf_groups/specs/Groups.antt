@@ -1,21 +1,20 @@
 -- Several groups of one directory, and what is made and taken back of them.
-use Rattle.std.specs.Prelude.{◌≡◌, ◌⊎◌, ◌+◌, ℕ, Bool, false, not, List, [], ◌∷◌, ◌++◌, Option, None, Some}
+use Rattle.std.specs.Prelude.{◌≡◌, ◌⊎◌, ◌+◌, ℕ, Bool, false, not, List, [], ◌∷◌, Option, None, Some}
 use Rattle.std.specs.List.{list_any}
 use Rattle.std.specs.Str.{bytes_eq}
 use denote.Ref.{Bor}
-use Rattle.kf_core.specs.declared.command.Command.{Command}
 use Rattle.kf_core.specs.declared.key.Key.{Key}
 use Rattle.kf_core.specs.declared.refusal.Refusal.{Refusal}
 use Rattle.kf_core.specs.declared.refusal.Refusal.TheVariants.{Exists}
-use Rattle.kf_core.specs.Commands.{replay}
 use Rattle.kf_core.specs.Refusals.{unless, first_cause}
 use Rattle.kf_core.specs.Tree.{Tree, is_linked}
+use Rattle.kf_shared.specs.Locked.{Locked}
 use Rattle.kf_tree.specs.TreeLogs.{TreeLog}
 use Rattle.kf_groups.specs.declared.attribute.Attribute.{Attribute}
 use Rattle.kf_groups.specs.declared.attribute.Group.{Group}
 use Rattle.kf_groups.specs.Attributes.{HasNone, group_cause, group_size, has_name, shown}
-use Rattle.kf_groups.specs.Making.{EachTookBack, GroupMade, RoomRefused, TakenBackByName, TookBack}
-use Rattle.kf_groups.specs.Stores.{Stores}
+use Rattle.kf_groups.specs.Making.{GroupMade}
+use Rattle.kf_groups.specs.TakenBack.{EachTookBack, RoomRefused, TakenBackByName, TookBack}
 
 -- whether the group makes an entry of this name: its own directory, or one of its files
 abbrev pub makes_by_name : List Attribute → Option (Bor (List ℕ)) → List ℕ → Bool
@@ -64,26 +63,25 @@ IsWithout t dir key attributes None = HasNone t dir attributes
 IsWithout t dir key attributes (Some own) = is_linked t key ≡ false
 
 -- a group that was made was taken back: its files, the last first, and then its own directory
-abbrev pub GroupTakenBack : Tree → Key → Key → List Attribute → Option (Bor (List ℕ)) → List Command → Type 0
-GroupTakenBack t dir key attributes None commands = EachTookBack t dir attributes commands
-GroupTakenBack t dir key attributes (Some own) commands = (files back : List Command)
-    × (commands ≡ files ++ back) × EachTookBack t key attributes files × TookBack (replay t files) key back
+abbrev pub GroupTakenBack : Locked → Locked → Key → Key → List Attribute → Option (Bor (List ℕ)) → Type 0
+GroupTakenBack old new dir key attributes None = EachTookBack old new dir attributes
+GroupTakenBack old new dir key attributes (Some own) =
+    (between : Locked) × EachTookBack old between key attributes × TookBack between new key
 
--- one of the groups was not made, and what was made of it was taken back, and then each group before it, the
--- last first
-abbrev pub GroupsTakenBack : TreeLog → TreeLog → Key → List Group → Type 0
-GroupsTakenBack old new dir [] = ⊥
-GroupsTakenBack old new dir (group ∷ groups) =
-    ((commands : List Command) × Stores old new commands
-    × TakenBackByName old.tree dir (shown group.attributes.now) group.name commands)
-    ⊎ ((made stopped : TreeLog) × (key : Key) × (back : List Command) × GroupMade old made dir group key
-    × GroupsTakenBack made stopped dir groups × Stores stopped new back
-    × GroupTakenBack stopped.tree dir key (shown group.attributes.now) group.name back)
+-- one of the groups was not made, for this reason, and what was made of it was taken back; then each group
+-- before it was, the last first
+abbrev pub GroupsTakenBack : Locked → Locked → Key → List Group → Refusal → Type 0
+GroupsTakenBack old new dir [] why = ⊥
+GroupsTakenBack old new dir (group ∷ groups) why =
+    TakenBackByName old new dir (shown group.attributes.now) group.name why
+    ⊎ ((made stopped : Locked) × (key : Key) × GroupMade old.state made.state dir group key
+    × GroupsTakenBack made stopped dir groups why
+    × GroupTakenBack stopped new dir key (shown group.attributes.now) group.name)
 
--- there was this against the groups, and nothing changed; or there was not, and all that was made of them was
--- taken back, as there was no slot, or no memory
-abbrev pub GroupsRefused : TreeLog → TreeLog → Key → List Group → Refusal → Type 0
+-- there was this against the groups, and nothing changed; or there was not, and for want of a slot or of
+-- memory what was made of them was taken back, all but nodes whose removal was refused
+abbrev pub GroupsRefused : Locked → Locked → Key → List Group → Refusal → Type 0
 GroupsRefused old new dir groups refusal =
-    ((groups_cause old.tree old.root dir groups ≡ Some refusal) × (new ≡ old))
-    ⊎ ((groups_cause old.tree old.root dir groups ≡ None) × RoomRefused old.tree new.tree refusal
-    × GroupsTakenBack old new dir groups)
+    ((groups_cause old.state.tree old.state.root dir groups ≡ Some refusal) × (new ≡ old))
+    ⊎ ((groups_cause old.state.tree old.state.root dir groups ≡ None) × (why : Refusal)
+    × RoomRefused old.state.tree new.state.tree why refusal × GroupsTakenBack old new dir groups why)

@@ -1,4 +1,5 @@
 pub mod Stores
 pub mod Attributes
 pub mod Making
+pub mod TakenBack
 pub mod Groups

@@ -2,6 +2,7 @@
 ghost use Rattle.std.specs.Prelude.{◌≡◌, ◌&&◌, Option, None, Some};
 ghost use Rattle.std.specs.List.{list_any};
 ghost use Rattle.std.specs.Str.{bytes_eq};
+ghost use Rattle.kf_tree.specs.Causes.{list_cause};
 ghost use Rattle.kf_groups.specs.Attributes.{file_fault, file_of, files_cause, group_cause, has_name, is_shown, shown, shown_cause};
 ghost use Rattle.kf_groups.specs.Groups.{clashes, groups_cause, makes, shares};
 
@@ -88,11 +89,24 @@ fn files_cause(state: &State, dir: Option<Key>, attributes: &[Attribute]) -> Opt
     None
 }
 
+// What is wrong with a directory that is to have files: it is not linked, or is none.
+fn dir_fault(state: &State, dir: Key) -> Option<Refusal>
+    ensures first { result ≡ list_cause state.now.tree dir }
+{
+    match state.names(dir, None, 0) {
+        Ok(_) => None,
+        Err(refusal) => Some(refusal),
+    }
+}
+
 /// Why the group is refused, want of slots and memory aside.
 pub(crate) fn group_cause(state: &State, dir: Key, group: &Group) -> Option<Refusal>
     ensures first { result ≡ group_cause state.now.tree state.now.root dir group.now }
 {
     let Some(name) = group.name else {
+        if let Some(fault) = dir_fault(state, dir) {
+            return Some(fault);
+        }
         return files_cause(state, Some(dir), group.attributes);
     };
     if let Some(fault) = state.create_fault(dir, name, Node::Dir) {

@@ -1,13 +1,14 @@
 //! Several groups are made, all or nothing.
-ghost use Rattle.std.specs.Prelude.{◌≡◌, ◌+◌, ◌++◌, true, List, length, suc, IfErr, None, OnErr, OnOk};
-ghost use Rattle.kf_core.specs.declared.command.Command.{Command};
-ghost use Rattle.kf_core.specs.Commands.{replay};
+ghost use Rattle.std.specs.Prelude.{◌≡◌, ◌+◌, true, length, suc, IfErr, None, OnOk};
+ghost use Rattle.kf_core.specs.declared.refusal.Refusal.{Refusal};
+ghost use Rattle.kf_core.specs.declared.key.Key.{Key};
 ghost use Rattle.kf_core.specs.Lawful.{Lawful};
 ghost use Rattle.kf_core.specs.Tree.{Tree};
 ghost use Rattle.kf_groups.specs.Attributes.{group_size, shown};
 ghost use Rattle.kf_groups.specs.Groups.{groups_cause, groups_size, GroupTakenBack, GroupsMade, GroupsRefused, GroupsTakenBack, IsWithout};
-ghost use Rattle.kf_groups.specs.Making.{EachTookBack, GaveUp, LacksRoom, TookBack};
-ghost use Rattle.kf_groups.specs.Stores.{Keeps, KeepsOlder, Stores, node_count};
+ghost use Rattle.kf_groups.specs.Stores.{Keeps, KeepsOlder, node_count};
+ghost use Rattle.kf_groups.specs.TakenBack.{EachTookBack, GaveUp, LacksRoom, TookBack};
+ghost use Rattle.kf_shared.specs.Locked.{Locked};
 
 use crate::attribute::{Attribute, Group};
 use crate::checks::groups_cause;
@@ -22,10 +23,8 @@ fn take_back_directory<N: Naming>(
     key: Key,
     attributes: &[Attribute],
 ) -> bool
-    ensures took { (files back : List Command)
-        × EachTookBack editor.old.state.tree key (shown attributes.now) files
-        × TookBack (replay editor.old.state.tree files) key back
-        × Stores editor.old.state editor.new.state (files ++ back) }
+    ensures took { (between : Locked)
+        × EachTookBack editor.old between key (shown attributes.now) × TookBack between editor.new key }
     ensures older { KeepsOlder key editor.old.state.tree editor.new.state.tree }
     ensures counted { result ≡ true → node_count editor.new.state.tree + suc (length (shown attributes.now))
         ≡ node_count editor.old.state.tree }
@@ -38,8 +37,8 @@ fn take_back_directory<N: Naming>(
 
 // Takes a group back that was made in this turn of the lock. Whether all nodes were taken out of the tree.
 fn take_back_group<N: Naming>(editor: &mut Editor<'_, N>, dir: Key, group: &Group, key: Key) -> bool
-    ensures took { (back : List Command) × Stores editor.old.state editor.new.state back
-        × GroupTakenBack editor.old.state.tree dir key (shown group.now.attributes.now) group.now.name back }
+    ensures took { GroupTakenBack editor.old editor.new dir key (shown group.now.attributes.now)
+        group.now.name }
     ensures older { (base : Tree) (root : Key) → Lawful base root
         → IsWithout base dir key (shown group.now.attributes.now) group.now.name
         → Keeps base editor.old.state.tree → Keeps base editor.new.state.tree }
@@ -61,8 +60,8 @@ fn give_up_group<N: Naming>(
     key: Key,
     refusal: Refusal,
 ) -> Refusal
-    ensures took { (back : List Command) × Stores editor.old.state editor.new.state back
-        × GroupTakenBack editor.old.state.tree dir key (shown group.now.attributes.now) group.now.name back }
+    ensures took { GroupTakenBack editor.old editor.new dir key (shown group.now.attributes.now)
+        group.now.name }
     ensures older { (base : Tree) (root : Key) → Lawful base root
         → IsWithout base dir key (shown group.now.attributes.now) group.now.name
         → Keeps base editor.old.state.tree → Keeps base editor.new.state.tree }
@@ -85,9 +84,9 @@ fn make_groups<N: Naming>(
 ) -> Result<(), Refusal>
     requires free { groups_cause editor.old.state.tree editor.old.state.root dir groups.now ≡ None }
     ensures made { OnOk result (GroupsMade editor.old.state editor.new.state dir groups.now) }
-    ensures refused { OnErr result (GroupsTakenBack editor.old.state editor.new.state dir groups.now) }
-    ensures lacks { IfErr result
-        (λ refusal. LacksRoom editor.old.state.tree editor.new.state.tree refusal) }
+    ensures refused { IfErr result (λ refusal. (why : Refusal)
+        × LacksRoom editor.old.state.tree editor.new.state.tree why refusal
+        × GroupsTakenBack editor.old editor.new dir groups.now why) }
     ensures others { Keeps editor.old.state.tree editor.new.state.tree }
     ensures counted { OnOk result (node_count editor.new.state.tree
         ≡ node_count editor.old.state.tree + groups_size groups.now) }
@@ -111,8 +110,9 @@ fn make_groups<N: Naming>(
 /// Each may have a name or not.
 ///
 /// Refusals, in order: of one group after another those of [`create_group`], and Exists where a later one
-/// makes an entry of the same name. After these nothing has changed. Then NoSpace, after which the tree is as
-/// it was. Last NoMemory, be it to take back what was made: what lacks memory for that stays.
+/// makes an entry of the same name. After these nothing has changed. Then NoSpace (a search found no free
+/// slot): the tree is as it was, with more commands stored and generations used. Last NoMemory, be it to take
+/// back what was made: what lacks memory for that stays, and may be live.
 ///
 /// Whatever the answer, each node that was there is as it was.
 pub fn create_groups<N: Naming>(
@@ -122,7 +122,7 @@ pub fn create_groups<N: Naming>(
 ) -> Result<(), Refusal>
     ensures made { OnOk result (GroupsMade editor.old.state editor.new.state dir groups.now) }
     ensures refused { IfErr result
-        (λ refusal. GroupsRefused editor.old.state editor.new.state dir groups.now refusal) }
+        (λ refusal. GroupsRefused editor.old editor.new dir groups.now refusal) }
     ensures others { Keeps editor.old.state.tree editor.new.state.tree }
     ensures counted { OnOk result (node_count editor.new.state.tree
         ≡ node_count editor.old.state.tree + groups_size groups.now) }

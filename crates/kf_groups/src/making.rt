@@ -1,13 +1,14 @@
 //! A group is made, all or nothing.
-ghost use Rattle.std.specs.Prelude.{◌≡◌, ◌+◌, suc, false, List, length, IfOk, IfErr, OnErr, OnOk, None, Some};
-ghost use Rattle.kf_core.specs.declared.command.Command.{Command};
+ghost use Rattle.std.specs.Prelude.{◌≡◌, ◌+◌, suc, false, List, length, IfOk, IfErr, OnOk, None, Some};
 ghost use Rattle.kf_core.specs.declared.key.Key.{Key};
 ghost use Rattle.kf_core.specs.declared.key.Node.TheVariants.{Dir};
+ghost use Rattle.kf_core.specs.declared.refusal.Refusal.{Refusal};
 ghost use Rattle.kf_core.specs.Tree.{is_linked};
 ghost use Rattle.kf_tree.specs.Causes.{create_fault};
 ghost use Rattle.kf_groups.specs.Attributes.{file_fault, files_cause, group_size, shown};
-ghost use Rattle.kf_groups.specs.Making.{creations, live_creations, named_creations, DirectoryTakenBack, FilesTakenBack, GroupMade, GroupRefused, LacksRoom};
+ghost use Rattle.kf_groups.specs.Making.{creations, live_creations, named_creations, GroupMade};
 ghost use Rattle.kf_groups.specs.Stores.{Keeps, Stores, node_count};
+ghost use Rattle.kf_groups.specs.TakenBack.{DirectoryTakenBack, FilesTakenBack, GroupRefused, LacksRoom};
 
 use crate::attribute::{Attribute, Group};
 use crate::checks::{file_of, group_cause};
@@ -25,11 +26,9 @@ fn fill<N: Naming>(
         (shown attributes.now) ≡ None }
     ensures made { OnOk result ((keys : List Key) × (length keys ≡ length (shown attributes.now))
         × Stores editor.old.state editor.new.state (creations dir (shown attributes.now) keys)) }
-    ensures refused { OnErr result ((commands : List Command)
-        × Stores editor.old.state editor.new.state commands
-        × FilesTakenBack editor.old.state.tree dir (shown attributes.now) commands) }
-    ensures lacks { IfErr result
-        (λ refusal. LacksRoom editor.old.state.tree editor.new.state.tree refusal) }
+    ensures refused { IfErr result (λ refusal. (why : Refusal)
+        × LacksRoom editor.old.state.tree editor.new.state.tree why refusal
+        × FilesTakenBack editor.old editor.new dir (shown attributes.now) why) }
     ensures others { Keeps editor.old.state.tree editor.new.state.tree }
     ensures counted { OnOk result (node_count editor.new.state.tree
         ≡ node_count editor.old.state.tree + length (shown attributes.now)) }
@@ -60,11 +59,9 @@ fn make_files<N: Naming>(
         (shown attributes.now) ≡ None }
     ensures made { OnOk result ((keys : List Key) × (length keys ≡ length (shown attributes.now))
         × Stores editor.old.state editor.new.state (live_creations dir (shown attributes.now) keys)) }
-    ensures refused { OnErr result ((commands : List Command)
-        × Stores editor.old.state editor.new.state commands
-        × FilesTakenBack editor.old.state.tree dir (shown attributes.now) commands) }
-    ensures lacks { IfErr result
-        (λ refusal. LacksRoom editor.old.state.tree editor.new.state.tree refusal) }
+    ensures refused { IfErr result (λ refusal. (why : Refusal)
+        × LacksRoom editor.old.state.tree editor.new.state.tree why refusal
+        × FilesTakenBack editor.old editor.new dir (shown attributes.now) why) }
     ensures others { Keeps editor.old.state.tree editor.new.state.tree }
     ensures counted { OnOk result (node_count editor.new.state.tree
         ≡ node_count editor.old.state.tree + length (shown attributes.now)) }
@@ -103,12 +100,10 @@ fn make_directory<N: Naming>(
     ensures made { IfOk result (λ key. (keys : List Key) × (length keys ≡ length (shown attributes.now))
         × Stores editor.old.state editor.new.state
         (named_creations dir name.now (shown attributes.now) key keys)) }
-    ensures refused { OnErr result ((commands : List Command)
-        × Stores editor.old.state editor.new.state commands
-        × DirectoryTakenBack editor.old.state.tree dir name.now (shown attributes.now) commands) }
+    ensures refused { IfErr result (λ refusal. (why : Refusal)
+        × LacksRoom editor.old.state.tree editor.new.state.tree why refusal
+        × DirectoryTakenBack editor.old editor.new dir name.now (shown attributes.now) why) }
     ensures fresh { IfOk result (λ key. is_linked editor.old.state.tree key ≡ false) }
-    ensures lacks { IfErr result
-        (λ refusal. LacksRoom editor.old.state.tree editor.new.state.tree refusal) }
     ensures others { Keeps editor.old.state.tree editor.new.state.tree }
     ensures counted { OnOk result (node_count editor.new.state.tree
         ≡ node_count editor.old.state.tree + suc (length (shown attributes.now))) }
@@ -130,10 +125,12 @@ fn make_directory<N: Naming>(
 /// (`sysfs_create_group`): nothing of it is live until all is there. Gives the key of the directory that its
 /// files stand in.
 ///
-/// Refusals, in order: those of [`Editor::create`] for the group's own directory, where it has a name; then
-/// of one attribute after another what is wrong with its file, and Exists where a later one has its name.
-/// After these nothing has changed. Then NoSpace, after which the tree is as it was: what was made is taken
-/// back under the same lock. Last NoMemory, be it for that: what lacks memory to be taken back stays.
+/// Refusals, in order: those of [`Editor::create`] for the group's own directory, where it has a name, and
+/// else NoEntry (`dir` is not linked) and NotDir; then of one attribute after another what is wrong with its
+/// file, and Exists where a later one has its name. After these nothing has changed. Then NoSpace (a search
+/// found no free slot): what was made is taken back under the same lock, so the tree is as it was, with more
+/// commands stored and generations used. Last NoMemory, be it for that: what lacks memory to be taken back
+/// stays, and may be live.
 ///
 /// Whatever the answer, each node that was there is as it was.
 pub fn create_group<N: Naming>(
@@ -143,7 +140,7 @@ pub fn create_group<N: Naming>(
 ) -> Result<Key, Refusal>
     ensures made { IfOk result (λ key. GroupMade editor.old.state editor.new.state dir group.now key) }
     ensures refused { IfErr result
-        (λ refusal. GroupRefused editor.old.state editor.new.state dir group.now refusal) }
+        (λ refusal. GroupRefused editor.old editor.new dir group.now refusal) }
     ensures others { Keeps editor.old.state.tree editor.new.state.tree }
     ensures counted { OnOk result (node_count editor.new.state.tree
         ≡ node_count editor.old.state.tree + group_size group.now) }

@@ -1,6 +1,5 @@
 //! What was made under the lock, and never left it, is taken back under it.
 ghost use Rattle.std.specs.Prelude.{◌≡◌, ◌+◌, List, length, map, true, false, All, Contains, IfOk, Ok, OnErr};
-ghost use Rattle.kf_core.specs.declared.command.Command.{Command};
 ghost use Rattle.kf_core.specs.declared.command.Command.TheVariants.{Doom, Unlink};
 ghost use Rattle.kf_core.specs.declared.key.Key.{Key};
 ghost use Rattle.kf_core.specs.Lawful.{Lawful};
@@ -8,12 +7,11 @@ ghost use Rattle.kf_core.specs.PostOrder.{IsPostOrder};
 ghost use Rattle.kf_core.specs.Tree.{Tree};
 ghost use Rattle.kf_tree.specs.Causes.{doom_cause, has_entry};
 ghost use Rattle.kf_tree.specs.TreeLogs.{IsAccepted};
-ghost use Rattle.kf_shared.specs.Locked.{Unchanged};
 ghost use Rattle.kf_shared.specs.Receipts.{AreOf};
 ghost use Rattle.kf_shared.specs.Removal.{keys_of};
 ghost use Rattle.kf_groups.specs.Attributes.{HasNone, shown};
-ghost use Rattle.kf_groups.specs.Making.{EachTookBack, GaveUp, NameTookBack, TookBack};
 ghost use Rattle.kf_groups.specs.Stores.{Keeps, KeepsOlder, Stores, node_count};
+ghost use Rattle.kf_groups.specs.TakenBack.{EachTookBack, GaveUp, NameTookBack, RemovalRefused, TookBack};
 
 use crate::attribute::Attribute;
 use kf_core::{Key, Refusal};
@@ -26,10 +24,10 @@ fn doom<N: Naming>(editor: &mut Editor<'_, N>, key: Key) -> Result<Vec<Hold>, Re
     ensures ordered { IfOk result (λ holds. IsPostOrder editor.old.state.tree key (keys_of holds.items)) }
     ensures done { IfOk result (λ _. IsAccepted editor.old.state editor.new.state
         (doom_cause editor.old.state.tree editor.old.state.root key) (Doom key)) }
-    ensures same { OnErr result (Unchanged editor.old editor.new) }
+    ensures refused { OnErr result (RemovalRefused editor.old editor.new key) }
     ensures claims { editor.new.claims ≡ editor.old.claims }
 {
-    editor.state().may_doom(key)?;
+    let _ = editor.state();
     let hold = editor.hold(key)?;
     match editor.doom(hold) {
         Ok(holds) => Ok(holds),
@@ -95,8 +93,7 @@ fn unlink_each<N: Naming>(editor: &mut Editor<'_, N>, holds: Vec<Hold>) -> bool
 /// so it does not wait. Where there is no memory for that, it stays. Whether one node was taken out of the
 /// tree, and that was all of it.
 pub(crate) fn take_back<N: Naming>(editor: &mut Editor<'_, N>, key: Key) -> bool
-    ensures took { (commands : List Command) × TookBack editor.old.state.tree key commands
-        × Stores editor.old.state editor.new.state commands }
+    ensures took { TookBack editor.old editor.new key }
     ensures older { KeepsOlder key editor.old.state.tree editor.new.state.tree }
     ensures counted { result ≡ true →
         node_count editor.new.state.tree + 1 ≡ node_count editor.old.state.tree }
@@ -112,8 +109,7 @@ pub(crate) fn take_back<N: Naming>(editor: &mut Editor<'_, N>, key: Key) -> bool
 
 /// Takes the one node back, and gives the reason for that: NoMemory where it stays.
 pub(crate) fn give_up<N: Naming>(editor: &mut Editor<'_, N>, key: Key, refusal: Refusal) -> Refusal
-    ensures took { (commands : List Command) × TookBack editor.old.state.tree key commands
-        × Stores editor.old.state editor.new.state commands }
+    ensures took { TookBack editor.old editor.new key }
     ensures older { KeepsOlder key editor.old.state.tree editor.new.state.tree }
     ensures counted { GaveUp 1 editor.old.state.tree editor.new.state.tree refusal result }
     ensures claims { editor.new.claims ≡ editor.old.claims }
@@ -128,8 +124,7 @@ pub(crate) fn give_up<N: Naming>(editor: &mut Editor<'_, N>, key: Key, refusal: 
 // Takes the node back that stands in the directory under this name, where one does. Whether one was taken
 // out of the tree, and that was all of it.
 fn take_back_name<N: Naming>(editor: &mut Editor<'_, N>, dir: Key, name: &[u8]) -> bool
-    ensures took { (commands : List Command) × NameTookBack editor.old.state.tree dir name.now commands
-        × Stores editor.old.state editor.new.state commands }
+    ensures took { NameTookBack editor.old editor.new dir name.now }
     ensures older { (base : Tree) (root : Key) → Lawful base root → has_entry base dir name.now ≡ false
         → Keeps base editor.old.state.tree → Keeps base editor.new.state.tree }
     ensures counted { result ≡ true →
@@ -149,9 +144,7 @@ pub(crate) fn take_back_files<N: Naming>(
     dir: Key,
     attributes: &[Attribute],
 ) -> bool
-    ensures took { (commands : List Command)
-        × EachTookBack editor.old.state.tree dir (shown attributes.now) commands
-        × Stores editor.old.state editor.new.state commands }
+    ensures took { EachTookBack editor.old editor.new dir (shown attributes.now) }
     ensures older { (base : Tree) (root : Key) → Lawful base root → HasNone base dir (shown attributes.now)
         → Keeps base editor.old.state.tree → Keeps base editor.new.state.tree }
     ensures counted { result ≡ true → node_count editor.new.state.tree + length (shown attributes.now)

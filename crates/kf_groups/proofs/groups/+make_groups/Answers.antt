@@ -13,14 +13,8 @@ blank = record { name = None; attributes = record { ref_ptr = (0, 0); now = [] }
 pub returns-in-Err-clause-refused : goal.returns-in-Err-clause-refused
 unfolding blank
 returns-in-Err-clause-refused g t c =
-    (first_refused c.args.groups.now blank c.in-len1-up.len_at_least c.args.editor.now.state c.create_group.new.editor.state c.args.dir c.in-Err.refusal
-    c.requires.free c.in-Err.ensures.refused).1
-
-pub returns-in-Err-clause-lacks : goal.returns-in-Err-clause-lacks
-unfolding blank
-returns-in-Err-clause-lacks g t c =
-    (first_refused c.args.groups.now blank c.in-len1-up.len_at_least c.args.editor.now.state c.create_group.new.editor.state c.args.dir c.in-Err.refusal
-    c.requires.free c.in-Err.ensures.refused).0
+    first_refused c.args.groups.now blank c.in-len1-up.len_at_least c.args.editor.now c.create_group.new.editor c.args.dir c.in-Err.refusal
+    c.requires.free c.in-Err.ensures.refused
 
 pub make_groups-requires : goal.make_groups-requires
 unfolding blank
@@ -36,15 +30,14 @@ make_groups-requires g t c κs within = (
 pub returns-in-Err-make_groups-clause-refused : goal.returns-in-Err-make_groups-clause-refused
 unfolding blank
 returns-in-Err-make_groups-clause-refused g t c =
-    later_refused c.args.groups.now blank c.in-len1-up.len_at_least c.args.editor.now.state c.create_group.new.editor.state
-    c.make_groups.new.editor.state c.give_up_group.new.editor.state c.args.dir c.in-Ok.key
-    c.in-Ok.ensures.made c.in-Err-make_groups.ensures.refused c.give_up_group.ensures.took
-
-pub returns-in-Err-make_groups-clause-lacks : goal.returns-in-Err-make_groups-clause-lacks
-unfolding blank
-returns-in-Err-make_groups-clause-lacks g t c =
-    gave_up c.args.editor.now.state.tree c.create_group.new.editor.state.tree c.make_groups.new.editor.state.tree c.give_up_group.new.editor.state.tree
-    c.in-Err-make_groups.refusal c.give_up_group.result _ c.in-Ok.ensures.counted c.in-Err-make_groups.ensures.lacks c.give_up_group.ensures.counted
+    let rest = c.in-Err-make_groups.ensures.refused in (
+      rest.0,
+      gave_up c.args.editor.now.state.tree c.create_group.new.editor.state.tree c.make_groups.new.editor.state.tree c.give_up_group.new.editor.state.tree
+          rest.0 c.in-Err-make_groups.refusal c.give_up_group.result _ c.in-Ok.ensures.counted rest.1 c.give_up_group.ensures.counted,
+      later_refused c.args.groups.now blank c.in-len1-up.len_at_least c.args.editor.now c.create_group.new.editor
+          c.make_groups.new.editor c.give_up_group.new.editor c.args.dir c.in-Ok.key rest.0
+          c.in-Ok.ensures.made rest.2 c.give_up_group.ensures.took,
+    )
 
 pub returns-in-Err-make_groups-clause-others : goal.returns-in-Err-make_groups-clause-others
 unfolding blank

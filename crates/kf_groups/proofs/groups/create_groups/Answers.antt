@@ -9,5 +9,5 @@ pub returns-clause-refused : goal.returns-clause-refused
 returns-clause-refused g c =
     let free : groups_cause c.args.editor.now.state.tree c.args.editor.now.state.root c.args.dir c.args.groups.now ≡ None =
     ap (λ (s : TreeLog). groups_cause s.tree s.root c.args.dir c.args.groups.now) (sym c.state.ensures.same) ∙ sym c.in_default.ensures.first in
-    groups_refused c.make_groups.result c.args.editor.now.state c.make_groups.new.editor.state c.args.dir c.args.groups.now free
-    c.make_groups.ensures.others c.make_groups.ensures.lacks c.make_groups.ensures.refused
+    groups_refused c.make_groups.result c.args.editor.now c.make_groups.new.editor c.args.dir c.args.groups.now free
+    c.make_groups.ensures.others c.make_groups.ensures.refused

@@ -1,14 +1,15 @@
-use Rattle.std.proofs.Common.{[], ◌∙◌, inl, inr, subst, sym, rules}
+use Rattle.std.proofs.Common.{[], get_or, ◌∙◌, inl, inr, subst, sym, rules}
+use Rattle.kf_core.specs.declared.refusal.Refusal.TheVariants.{NoMemory}
+use Rattle.std.proofs.lemmas.Result.{err_from_is_err_and}
 use Rattle.kf_groups.specs.declared.attribute.Attribute.{Attribute}
 use Rattle.kf_groups.specs.Attributes.{shown}
-use Rattle.kf_groups.specs.Making.{live_creations}
-use Rattle.kf_groups.specs.Stores.{Keeps, Stores}
+use Rattle.kf_groups.specs.Stores.{Keeps}
 use Rattle.kf_tree.specs.TreeLogs.{TreeLog}
 use Rattle.kf_groups.proofs.Counts.{gave_up}
-use Rattle.kf_groups.proofs.Makings.{created, later, live_stopped, made, one_more, stopped}
-use Rattle.kf_groups.proofs.Lacks.{activate_lacks}
+use Rattle.kf_groups.proofs.Makings.{created, file_made, later, live_stopped, made, not_made, one_more, stopped}
+use Rattle.kf_groups.proofs.Lacks.{activate_lacks, create_lacks}
 use Rattle.kf_groups.proofs.Older.{keeps_linked, keeps_on}
-use Rattle.kf_groups.proofs.Turns.{activated_count, fresh, itself_linked, later_free, later_none, made_keeps, made_more, stays, stays_activated}
+use Rattle.kf_groups.proofs.Turns.{activated_count, first_free, fresh, itself_linked, later_free, later_none, made_keeps, made_more, stays, stays_activated}
 use Rattle.kf_groups.proofs.making.+make_files.Goals as goal
 
 -- what stands past the end of a list
@@ -26,21 +27,34 @@ make_files-requires-2 g t c κs within = (
   ),
 )
 
+pub returns-in_err-key-clause-refused : goal.returns-in_err-key-clause-refused
+unfolding blank
+returns-in_err-key-clause-refused g t c =
+    let p = err_from_is_err_and c.from_residual.result c.from_residual.ensures.1 in
+    rw (p.1, p.2) (
+      c.in_err-key.field-0.0,
+      create_lacks c.args.editor.now c.create.new.self c.args.dir (get_or c.args.attributes.now 0 blank).name.now c.file_of.result c.in_err-key.field-0.0
+          (first_free c.args.editor.now c.create.new.self c.args.dir c.args.attributes.now blank c.in-len1-up.len_at_least c.if-first-eq0.false
+          c.file_of.result c.file_of.ensures.known c.requires.free)
+          c.in_err-key.ensures.refused c.in_err-key.ensures.same,
+      not_made c.args.dir c.args.attributes.now blank c.in-len1-up.len_at_least c.if-first-eq0.false
+          c.args.editor.now c.create.new.self c.file_of.result c.in_err-key.field-0.0 c.file_of.ensures.known c.in_err-key.ensures.refused,
+    )
+
 pub returns-in-Err-clause-refused : goal.returns-in-Err-clause-refused
 unfolding blank
 returns-in-Err-clause-refused g t c =
-    let rest = c.in-Err.ensures.refused in
-    stopped c.args.editor.now.state c.create.new.self.state c.make_files-2.new.editor.state c.give_up.new.editor.state
-    c.args.dir c.in_ok-key.key c.args.attributes.now blank c.in-len1-up.len_at_least c.if-first-eq0.false
-    (created c.args.editor.now c.create.new.self c.args.dir c.in_ok-key.key _ _ _ c.file_of.ensures.known c.in_ok-key.ensures.accepted)
-    (rest.0, rest.1, inl rest.2) c.give_up.ensures.took
-
-pub returns-in-Err-clause-lacks : goal.returns-in-Err-clause-lacks
-returns-in-Err-clause-lacks g t c =
-    gave_up c.args.editor.now.state.tree c.create.new.self.state.tree c.make_files-2.new.editor.state.tree c.give_up.new.editor.state.tree
-    c.in-Err.refusal c.give_up.result 1 (made_more g.N.Naming.table c.args.editor.now c.create.new.self c.args.dir c.in_ok-key.key _ _
-    c.state.ensures.whole c.in_ok-key.ensures.next c.in_ok-key.ensures.accepted)
-    c.in-Err.ensures.lacks c.give_up.ensures.counted
+    let rest = c.in-Err.ensures.refused in (
+      rest.0,
+      gave_up c.args.editor.now.state.tree c.create.new.self.state.tree c.make_files-2.new.editor.state.tree c.give_up.new.editor.state.tree
+          rest.0 c.in-Err.refusal c.give_up.result 1 (made_more g.N.Naming.table c.args.editor.now c.create.new.self c.args.dir c.in_ok-key.key _ _
+          c.state.ensures.whole c.in_ok-key.ensures.next c.in_ok-key.ensures.accepted)
+          rest.1 c.give_up.ensures.counted,
+      stopped c.args.dir c.args.attributes.now blank c.in-len1-up.len_at_least c.if-first-eq0.false
+          c.args.editor.now c.create.new.self c.make_files-2.new.editor c.give_up.new.editor c.in_ok-key.key rest.0
+          (file_made c.args.editor.now c.create.new.self c.args.dir c.in_ok-key.key (get_or c.args.attributes.now 0 blank) _ c.file_of.ensures.known c.in_ok-key.ensures.accepted)
+          (inl rest.2) c.give_up.ensures.took,
+    )
 
 pub returns-in-Err-clause-others : goal.returns-in-Err-clause-others
 returns-in-Err-clause-others g t c =
@@ -50,26 +64,21 @@ returns-in-Err-clause-others g t c =
 
 pub returns-in-Err-activate-clause-refused : goal.returns-in-Err-activate-clause-refused
 unfolding blank
-returns-in-Err-activate-clause-refused g t c =
-    let live = c.in_default-make_files.ensures.made in
-    let rest = live_stopped c.create.new.self.state c.activate.new.self.state c.take_back_files.new.editor.state
-    c.args.dir (shown (later c.args.attributes.now)) (
-      live.0,
-      live.1,
-      subst (λ s. Stores c.create.new.self.state s (live_creations c.args.dir (shown (later c.args.attributes.now)) live.0))
-          (sym c.in-Err-activate.ensures.refused.unchanged) live.2,
-    ) c.take_back_files.ensures.took in
-    stopped c.args.editor.now.state c.create.new.self.state c.take_back_files.new.editor.state c.take_back.new.editor.state
-    c.args.dir c.in_ok-key.key c.args.attributes.now blank c.in-len1-up.len_at_least c.if-first-eq0.false
-    (created c.args.editor.now c.create.new.self c.args.dir c.in_ok-key.key _ _ _ c.file_of.ensures.known c.in_ok-key.ensures.accepted)
-    (rest.0, rest.1, inr rest.2) c.take_back.ensures.took
-
-pub returns-in-Err-activate-clause-lacks : goal.returns-in-Err-activate-clause-lacks
-returns-in-Err-activate-clause-lacks g t c = inr (activate_lacks c.make_files-2.new.editor.state c.activate.new.self.state c.in_ok-key.key _
-    (keeps_linked c.create.new.self.state.tree c.make_files-2.new.editor.state.tree c.in_ok-key.key c.make_files-2.ensures.others
-    (itself_linked g.N.Naming.table c.args.editor.now c.create.new.self c.args.dir c.in_ok-key.key _ _
-    c.state.ensures.whole c.in_ok-key.ensures.next c.in_ok-key.ensures.accepted))
-    c.in-Err-activate.ensures.refused)
+returns-in-Err-activate-clause-refused g t c = (
+  NoMemory,
+  inr (activate_lacks c.make_files-2.new.editor.state c.activate.new.self.state c.in_ok-key.key _
+      (keeps_linked c.create.new.self.state.tree c.make_files-2.new.editor.state.tree c.in_ok-key.key c.make_files-2.ensures.others
+      (itself_linked g.N.Naming.table c.args.editor.now c.create.new.self c.args.dir c.in_ok-key.key _ _
+      c.state.ensures.whole c.in_ok-key.ensures.next c.in_ok-key.ensures.accepted))
+      c.in-Err-activate.ensures.refused),
+  stopped c.args.dir c.args.attributes.now blank c.in-len1-up.len_at_least c.if-first-eq0.false
+      c.args.editor.now c.create.new.self c.take_back_files.new.editor c.take_back.new.editor c.in_ok-key.key NoMemory
+      (file_made c.args.editor.now c.create.new.self c.args.dir c.in_ok-key.key (get_or c.args.attributes.now 0 blank) _ c.file_of.ensures.known c.in_ok-key.ensures.accepted)
+      (inr (live_stopped c.create.new.self c.make_files-2.new.editor c.activate.new.self c.take_back_files.new.editor
+      c.args.dir (shown (later c.args.attributes.now)) c.in-Err-activate.ensures.same
+      c.in_default-make_files.ensures.made c.take_back_files.ensures.took))
+      c.take_back.ensures.took,
+)
 
 pub returns-in-Err-activate-clause-others : goal.returns-in-Err-activate-clause-others
 unfolding blank

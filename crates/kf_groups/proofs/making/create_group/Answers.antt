@@ -9,12 +9,12 @@ pub returns-in-Err-clause-refused : goal.returns-in-Err-clause-refused
 returns-in-Err-clause-refused g c =
     let cause : group_cause c.args.editor.now.state.tree c.args.editor.now.state.root c.args.dir c.args.group.now ≡ None =
     ap (λ (s : TreeLog). group_cause s.tree s.root c.args.dir c.args.group.now) (sym c.state.ensures.same) ∙ sym c.in_default.ensures.first in
-    in_place_refused c.args.editor.now.state c.make_files.new.editor.state c.args.dir c.args.group.now cause c.make_files.ensures.others
-    c.in-Err.refusal c.in-None.is c.in-Err.ensures.lacks c.in-Err.ensures.refused
+    in_place_refused c.args.editor.now c.make_files.new.editor c.args.dir c.args.group.now cause c.make_files.ensures.others
+    c.in-Err.refusal c.in-None.is c.in-Err.ensures.refused
 
 pub returns-in-Some-name-clause-refused : goal.returns-in-Some-name-clause-refused
 returns-in-Some-name-clause-refused g c =
     let cause : group_cause c.args.editor.now.state.tree c.args.editor.now.state.root c.args.dir c.args.group.now ≡ None =
     ap (λ (s : TreeLog). group_cause s.tree s.root c.args.dir c.args.group.now) (sym c.state.ensures.same) ∙ sym c.in_default.ensures.first in
-    directory_refused c.args.editor.now.state c.make_directory.new.editor.state c.args.dir c.args.group.now cause c.make_directory.ensures.others
-    c.make_directory.result c.in-Some-name.name c.in-Some-name.is c.make_directory.ensures.lacks c.make_directory.ensures.refused
+    directory_refused c.args.editor.now c.make_directory.new.editor c.args.dir c.args.group.now cause c.make_directory.ensures.others
+    c.make_directory.result c.in-Some-name.name c.in-Some-name.is c.make_directory.ensures.refused

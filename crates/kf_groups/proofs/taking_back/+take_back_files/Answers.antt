@@ -11,8 +11,8 @@ blank = record { name = record { ref_ptr = (0, 0); now = [] }; mode = 0; tag = 0
 pub returns-clause-took : goal.returns-clause-took
 unfolding blank
 returns-clause-took g t c =
-    each_more c.args.editor.now.state c.take_back_files-later.new.editor.state c.take_back_name-one.new.editor.state
-    c.args.dir c.args.attributes.now blank c.in-len1-up.len_at_least c.if-first-eq0.false
+    each_more c.args.dir c.args.attributes.now blank c.in-len1-up.len_at_least c.if-first-eq0.false
+    c.args.editor.now c.take_back_files-later.new.editor c.take_back_name-one.new.editor
     c.take_back_files-later.ensures.took c.take_back_name-one.ensures.took
 
 pub returns-clause-older : goal.returns-clause-older

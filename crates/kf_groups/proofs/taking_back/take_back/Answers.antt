@@ -1,21 +1,20 @@
-use Rattle.std.proofs.Common.{arith, length, subst, sym}
+use Rattle.std.proofs.Common.{arith, inr, length}
 use Rattle.kf_shared.specs.Removal.{keys_of}
-use Rattle.kf_groups.specs.Stores.{Keeps, node_count}
+use Rattle.kf_groups.specs.Stores.{node_count}
 use Rattle.kf_groups.proofs.Counts.{doomed_count, one_gone, single}
 use Rattle.kf_groups.proofs.Older.{took_older}
 use Rattle.kf_groups.proofs.Unlinks.{took}
 use Rattle.kf_groups.proofs.taking_back.take_back.Goals as goal
 
 pub returns-clause-took : goal.returns-clause-took
-returns-clause-took g c =
-    took c.args.editor.now.state c.doom.new.editor.state c.unlink_each-all.new.editor.state c.args.key _
-    (keys_of c.in-Ok.holds.items) c.in-Ok.ensures.ordered c.in-Ok.ensures.done c.unlink_each-all.ensures.unlinked
+returns-clause-took g c = inr (took c.args.editor.now c.doom.new.editor c.unlink_each-all.new.editor c.args.key _
+    (keys_of c.in-Ok.holds.items) c.in-Ok.ensures.ordered c.in-Ok.ensures.done c.unlink_each-all.ensures.unlinked)
 
 pub returns-clause-older : goal.returns-clause-older
-returns-clause-older g c base root lawful fresh keeps =
-    let t = took c.args.editor.now.state c.doom.new.editor.state c.unlink_each-all.new.editor.state c.args.key _
-    (keys_of c.in-Ok.holds.items) c.in-Ok.ensures.ordered c.in-Ok.ensures.done c.unlink_each-all.ensures.unlinked in
-    subst (Keeps base) (sym t.2.changed) (took_older c.args.editor.now.state.tree c.args.key t.0 t.1 base root lawful fresh keeps)
+returns-clause-older g c =
+    took_older c.args.editor.now c.unlink_each-all.new.editor c.args.key
+    (inr (took c.args.editor.now c.doom.new.editor c.unlink_each-all.new.editor c.args.key _
+    (keys_of c.in-Ok.holds.items) c.in-Ok.ensures.ordered c.in-Ok.ensures.done c.unlink_each-all.ensures.unlinked))
 
 pub returns-clause-counted : goal.returns-clause-counted
 returns-clause-counted g c =

@@ -1,0 +1,13 @@
+use Rattle.kf_groups.proofs.Dooms.{doom_refused, doomed}
+use Rattle.kf_groups.proofs.taking_back.doom.Goals as goal
+
+pub returns-in-Ok-clause-done : goal.returns-in-Ok-clause-done
+returns-in-Ok-clause-done g c =
+    doomed g.N.Naming.table c.args.editor.now c.hold.new.self c.args.key c.in_ok-hold.hold
+    c.in_ok-hold.ensures.state c.in_ok-hold.ensures.hold c.doom.new.self c.in-Ok.ensures.done
+
+pub returns-in-Err-clause-refused : goal.returns-in-Err-clause-refused
+returns-in-Err-clause-refused g c =
+    doom_refused c.args.editor.now c.hold.new.self c.args.key c.in_ok-hold.ensures.state c.in_ok-hold.ensures.words c.in_ok-hold.ensures.claims
+    c.doom.new.self c.in_ok-hold.hold c.in-Err.refusal c.in_ok-hold.ensures.hold.key_is c.in_ok-hold.ensures.pinned
+    c.in-Err.ensures.same c.in-Err.ensures.refused

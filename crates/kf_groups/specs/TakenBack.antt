@@ -1,0 +1,113 @@
+-- What was made of a group is taken back, and why: each step between what the lock kept before it and after.
+use Rattle.std.specs.Prelude.{◌≡◌, ◌⊎◌, ◌+◌, ℕ, false, List, [], ◌∷◌, length, map, All, Contains, Option, None, Some, IfOk, OnErr}
+use denote.Ref.{Bor}
+use Rattle.kf_core.specs.declared.command.Command.TheVariants.{Doom, Unlink}
+use Rattle.kf_core.specs.declared.key.Key.{Key}
+use Rattle.kf_core.specs.declared.key.Node.TheVariants.{Dir}
+use Rattle.kf_core.specs.declared.refusal.Refusal.{Refusal}
+use Rattle.kf_core.specs.declared.refusal.Refusal.TheVariants.{NoMemory, NoSpace}
+use Rattle.kf_core.specs.PostOrder.{IsPostOrder}
+use Rattle.kf_core.specs.Tree.{Tree}
+use Rattle.kf_tree.specs.Paths.{found}
+use Rattle.kf_shared.specs.Locked.{Locked, Created, CreateRefused, HoldRefused, Unchanged}
+use Rattle.kf_shared.specs.Removal.{DoomRefused}
+use Rattle.kf_words.specs.Nodes.{WasPinned}
+use Rattle.kf_groups.specs.declared.attribute.Attribute.{Attribute}
+use Rattle.kf_groups.specs.declared.attribute.Group.{Group}
+use Rattle.kf_groups.specs.Attributes.{file_of, group_cause, shown}
+use Rattle.kf_groups.specs.Making.{creations, live_creations}
+use Rattle.kf_groups.specs.Stores.{Stores, node_count}
+
+-- there was no slot, for this reason, and as many nodes are linked as before; or there was no memory
+abbrev pub LacksRoom : Tree → Tree → Refusal → Refusal → Type 0
+LacksRoom old new why refusal =
+    ((refusal ≡ NoSpace) × (why ≡ NoSpace) × (node_count new ≡ node_count old)) ⊎ (refusal ≡ NoMemory)
+
+-- there was no slot, for this reason, and the tree is as it was; or there was no memory, be it to take back
+-- what was made
+abbrev pub RoomRefused : Tree → Tree → Refusal → Refusal → Type 0
+RoomRefused old new why refusal =
+    ((refusal ≡ NoSpace) × (why ≡ NoSpace) × (new ≡ old)) ⊎ (refusal ≡ NoMemory)
+
+-- this was the reason, and so many nodes fewer are linked; or there was no memory
+abbrev pub GaveUp : ℕ → Tree → Tree → Refusal → Refusal → Type 0
+GaveUp nodes old new refusal result =
+    ((result ≡ refusal) × (node_count new + nodes ≡ node_count old)) ⊎ (result ≡ NoMemory)
+
+-- the removal of the node was refused, and nothing was stored: a hold of it was refused; or one was counted,
+-- and then the doom was refused
+abbrev pub RemovalRefused : Locked → Locked → Key → Type 0
+RemovalRefused old new key = Unchanged old new × (refusal : Refusal) × (HoldRefused old new key refusal
+    ⊎ ((held : Locked) × (held.state ≡ old.state) × WasPinned old.master.view key.slot held.master.view
+    × DoomRefused held new key refusal))
+
+-- the node was doomed with all below it, and some of these were unlinked
+abbrev pub DoomedAndUnlinked : Locked → Locked → Key → Type 0
+DoomedAndUnlinked old new key = (order unlinked : List Key) × IsPostOrder old.state.tree key order
+    × All (Contains order) unlinked × Stores old.state new.state (Doom key ∷ map Unlink unlinked)
+
+-- a node was taken back, or its removal was refused
+abbrev pub TookBack : Locked → Locked → Key → Type 0
+TookBack old new key = RemovalRefused old new key ⊎ DoomedAndUnlinked old new key
+
+-- the node that stands in the directory under this name, live or not, was taken back; where none does,
+-- nothing was done
+abbrev pub NameTookBack : Locked → Locked → Key → List ℕ → Type 0
+NameTookBack old new dir name = IfOk (found old.state.tree dir name) (λ key. TookBack old new key)
+    × OnErr (found old.state.tree dir name) (new ≡ old)
+
+-- the files of these attributes were taken back, each as it then stood in the directory, the last first
+abbrev pub EachTookBack : Locked → Locked → Key → List Attribute → Type 0
+EachTookBack old new dir [] = new ≡ old
+EachTookBack old new dir (attribute ∷ attributes) = (between : Locked)
+    × EachTookBack old between dir attributes × NameTookBack between new dir attribute.name.now
+
+-- the file of the attribute was made under the key, not live
+abbrev pub FileMade : Locked → Locked → Key → Attribute → Key → Type 0
+FileMade old new dir attribute key = Created old new dir attribute.name.now (file_of attribute) false key
+
+-- files were all made and activated; for want of memory to activate an earlier one they were taken back
+abbrev pub LiveTakenBack : Locked → Locked → Key → List Attribute → Refusal → Type 0
+LiveTakenBack old new dir attributes why = (why ≡ NoMemory) × (live : Locked)
+    × ((keys : List Key) × (length keys ≡ length attributes)
+    × Stores old.state live.state (live_creations dir attributes keys))
+    × EachTookBack live new dir attributes
+
+-- the first of these files was refused, for this reason; or it was made, and for this reason a later one was
+-- refused or this one not activated; then each that was made was taken back, the last first
+abbrev pub FilesTakenBack : Locked → Locked → Key → List Attribute → Refusal → Type 0
+FilesTakenBack old new dir [] why = ⊥
+FilesTakenBack old new dir (attribute ∷ attributes) why =
+    CreateRefused old new dir attribute.name.now (file_of attribute) why
+    ⊎ ((made stopped : Locked) × (key : Key) × FileMade old made dir attribute key
+    × (FilesTakenBack made stopped dir attributes why ⊎ LiveTakenBack made stopped dir attributes why)
+    × TookBack stopped new key)
+
+-- files were all made, and their directory was not activated for want of memory
+abbrev pub NotActivated : Locked → Locked → Key → List Attribute → Refusal → Type 0
+NotActivated old new key attributes why = (why ≡ NoMemory) × (keys : List Key)
+    × (length keys ≡ length attributes) × Stores old.state new.state (creations key attributes keys)
+
+-- the directory was refused, for this reason; or it was made, and for this reason a file of it was refused or
+-- it was not activated; then it was taken back, the files first that were made until one was refused
+abbrev pub DirectoryTakenBack : Locked → Locked → Key → List ℕ → List Attribute → Refusal → Type 0
+DirectoryTakenBack old new dir name attributes why = CreateRefused old new dir name Dir why
+    ⊎ ((made stopped : Locked) × (key : Key) × Created old made dir name Dir false key
+    × (FilesTakenBack made stopped key attributes why ⊎ NotActivated made stopped key attributes why)
+    × TookBack stopped new key)
+
+-- a group was not made, for this reason, and each node that was made of it was taken back, or its removal
+-- refused
+abbrev pub TakenBackByName : Locked → Locked → Key → List Attribute → Option (Bor (List ℕ)) → Refusal → Type 0
+TakenBackByName old new dir attributes None why = FilesTakenBack old new dir attributes why
+TakenBackByName old new dir attributes (Some name) why =
+    DirectoryTakenBack old new dir name.now attributes why
+
+-- there was this against the group, and nothing changed; or there was not, and for want of a slot or of
+-- memory what was made of it was taken back, all but nodes whose removal was refused
+abbrev pub GroupRefused : Locked → Locked → Key → Group → Refusal → Type 0
+GroupRefused old new dir group refusal =
+    ((group_cause old.state.tree old.state.root dir group ≡ Some refusal) × (new ≡ old))
+    ⊎ ((group_cause old.state.tree old.state.root dir group ≡ None) × (why : Refusal)
+    × RoomRefused old.state.tree new.state.tree why refusal
+    × TakenBackByName old new dir (shown group.attributes.now) group.name why)
