@@ -28,7 +28,7 @@
  * what `out` points to is as it was; but -EAGAIN of kt_remove() and kt_hide() says that it has begun. Only the helpers
  * at the end sleep, take a lock or call back.
  *
- * What is proved, for all inputs, stands beside each call in crates/kernfs_tree/src, in calls.rt, again_calls.rt and
+ * What is proved, for all inputs, stands beside each call in crates/kernfs_tree/src, in calls.rt, task_calls.rt and
  * file_calls.rt:
  * - 0 only where the thing was done, as the tree defines it: the node linked, found, moved, held, activated, out of the
  *   tree; the hold let in while its node was live, the call left, broken, restored; the event number raised. kt_leave()

@@ -1,24 +1,21 @@
 //! The calls of a program. Each answers 0 or more, or a Linux error number below 0, and then nothing changed.
 ghost use Rattle.std.specs.Prelude.{◌≡◌, ◌≢◌, ◌⊎◌, pos};
 ghost use Rattle.kf_core.specs.declared.key.Node.TheVariants as kind;
-ghost use Rattle.kernfs_tree.specs.declared.object.Object.TheVariants as behind;
-ghost use Rattle.kernfs_tree.specs.Again.{HasHidingIn};
-ghost use Rattle.kernfs_tree.specs.Answers.{IsAsBefore, Wrote};
-ghost use Rattle.kernfs_tree.specs.Calls.{key_in, CreatedIn, FoundIn, WalkedIn, IsNewTree, HoldsNode, RootIn, ActivatedIn, MovedIn, CompactedIn, IsNothing, ToldIn, NextIn, LinkTextIn, ParentIn, NameIn, PathIn};
-ghost use Rattle.kernfs_tree.specs.Numbers.{HasPostOf, IsSameTree, WasNotified, WasFull, TookNumber};
-ghost use Rattle.kernfs_tree.specs.Steps.{WasEntered, WasRefused, WasLeft, WasBroken, WasRestored, enter_error, wake_of};
+ghost use Rattle.kf_handles.specs.declared.object.Object.TheVariants as behind;
+ghost use Rattle.kf_handles.specs.Tasks.{HasHidingIn};
+ghost use Rattle.kf_handles.specs.Answers.{IsAsBefore, Wrote};
+ghost use Rattle.kf_handles.specs.Calls.{key_in, CreatedIn, FoundIn, WalkedIn, IsNewTree, HoldsNode, RootIn, ActivatedIn, MovedIn, CompactedIn, IsNothing, ToldIn, NextIn, LinkTextIn, ParentIn, NameIn, PathIn};
+ghost use Rattle.kf_handles.specs.Numbers.{HasPostOf, IsSameTree, WasNotified, WasFull, TookNumber};
+ghost use Rattle.kf_handles.specs.Steps.{WasEntered, WasRefused, WasLeft, WasBroken, WasRestored, enter_error, wake_of};
 
-use crate::handle::KtHandle;
-use crate::questions::Question;
-use crate::replies::{KtKey, KtStat, key_of};
-use crate::{numbers, replies, stepping};
 use kf_core::{Key, Node};
+use kf_handles::{KtHandle, KtKey, KtStat, Question, key_of};
 use std::alloc::Global;
 
 /// A new handle with nothing behind it.
 #[unsafe(no_mangle)]
 pub extern "C" fn kt_new(alloc: Global, out: &mut *mut u8) -> i32 {
-    replies::make(alloc, out)
+    kf_handles::make(alloc, out)
 }
 
 /// Lets go of a handle and of what lies behind it; not of a tree with a hidden file in which somebody may be.
@@ -26,18 +23,18 @@ pub extern "C" fn kt_new(alloc: Global, out: &mut *mut u8) -> i32 {
 pub extern "C" fn kt_delete(handle: KtHandle) -> i32
     ensures busy { result ≢ pos 0 → result ≢ pos 1 → HasHidingIn handle.place.object }
 {
-    replies::delete(handle)
+    kf_handles::delete(handle)
 }
 
-/// Lets go of what lies behind a handle: a hold is released, and a call ended first. A tree with a hidden file
-/// in which somebody may be stays.
+/// Lets go of what lies behind a handle: a hold is released, and a call ended first. A tree with a hidden
+/// file in which somebody may be stays.
 #[unsafe(no_mangle)]
 pub extern "C" fn kt_clear(handle: &mut KtHandle) -> i32
     ensures empty { (result ≡ pos 0) ⊎ (result ≡ pos 1) → IsNothing handle.new.place }
     ensures busy { result ≢ pos 0 → result ≢ pos 1 →
         HasHidingIn handle.old.place.object × (handle.new.place ≡ handle.old.place) }
 {
-    replies::clear(handle)
+    kf_handles::clear(handle)
 }
 
 /// A new tree of the root alone (`kernfs_create_root`).
@@ -52,7 +49,7 @@ pub extern "C" fn kt_create_root(
     ensures was { result ≡ pos 0 → IsNothing handle.old.place }
     ensures same { result ≢ pos 0 → handle.new.place ≡ handle.old.place }
 {
-    replies::make_tree(alloc, handle, slots, holds)
+    kf_handles::make_tree(alloc, handle, slots, holds)
 }
 
 /// The key of the root.
@@ -62,7 +59,7 @@ pub extern "C" fn kt_root(tree: &mut KtHandle, out: &mut KtKey) -> i32
     ensures kept { result ≢ pos 0 →
         IsAsBefore tree.old.place.object tree.new.place.object × (out.new ≡ out.old) }
 {
-    replies::name(tree, Question::Root, out)
+    kf_handles::name(tree, Question::Root, out)
 }
 
 /// A new directory (`kernfs_create_dir_ns`).
@@ -90,7 +87,7 @@ pub extern "C" fn kt_create_dir(
         node,
         live,
     };
-    replies::name(tree, question, out)
+    kf_handles::name(tree, question, out)
 }
 
 /// A new attribute file (`__kernfs_create_file`).
@@ -121,7 +118,7 @@ pub extern "C" fn kt_create_file(
         node,
         live,
     };
-    replies::name(tree, question, out)
+    kf_handles::name(tree, question, out)
 }
 
 /// A new link to a node (`kernfs_create_link`).
@@ -155,7 +152,7 @@ pub extern "C" fn kt_create_link(
         node,
         live,
     };
-    replies::name(tree, question, out)
+    kf_handles::name(tree, question, out)
 }
 
 /// Makes the nodes of a subtree live (`kernfs_activate`).
@@ -164,7 +161,7 @@ pub extern "C" fn kt_activate(tree: &mut KtHandle, key: KtKey) -> i32
     ensures activated { result ≡ pos 0 → ActivatedIn tree.old.place.object tree.new.place.object key }
     ensures kept { result ≢ pos 0 → IsAsBefore tree.old.place.object tree.new.place.object }
 {
-    replies::change(tree, Question::Activate(key_of(key)))
+    kf_handles::change(tree, Question::Activate(key_of(key)))
 }
 
 /// Moves a node into a directory, under a name (`kernfs_rename_ns`).
@@ -182,7 +179,7 @@ pub extern "C" fn kt_rename(tree: &mut KtHandle, key: KtKey, dir: KtKey, name: &
         generation: dir.generation,
     };
     let question = Question::Rename { key, dir, name };
-    replies::change(tree, question)
+    kf_handles::change(tree, question)
 }
 
 /// The child of this name, live or not (`kernfs_find_ns`).
@@ -197,7 +194,7 @@ pub extern "C" fn kt_find(tree: &mut KtHandle, dir: KtKey, name: &[u8], out: &mu
         slot: dir.slot,
         generation: dir.generation,
     };
-    replies::name(tree, Question::Find { dir, name }, out)
+    kf_handles::name(tree, Question::Find { dir, name }, out)
 }
 
 /// The node that a path names, live or not (`kernfs_walk_ns`).
@@ -208,7 +205,7 @@ pub extern "C" fn kt_walk(tree: &mut KtHandle, path: &[u8], out: &mut KtKey) -> 
     ensures kept { result ≢ pos 0 →
         IsAsBefore tree.old.place.object tree.new.place.object × (out.new ≡ out.old) }
 {
-    replies::name(tree, Question::Walk(path), out)
+    kf_handles::name(tree, Question::Walk(path), out)
 }
 
 /// The name of the first live child above a name, in byte order; of the first of all where it is empty.
@@ -218,7 +215,7 @@ pub extern "C" fn kt_next(tree: &mut KtHandle, dir: KtKey, after: &[u8], out: &m
     ensures told { Wrote (NextIn tree.old.place.object tree.new.place.object dir after.now)
         result out.old out.new }
 {
-    replies::next(tree, dir, after, out)
+    kf_handles::next(tree, dir, after, out)
 }
 
 /// What is told of a node.
@@ -228,7 +225,7 @@ pub extern "C" fn kt_stat(tree: &mut KtHandle, key: KtKey, out: &mut KtStat) -> 
     ensures tree { IsAsBefore tree.old.place.object tree.new.place.object }
     ensures kept { result ≢ pos 0 → out.new ≡ out.old }
 {
-    replies::tell(tree, key, out)
+    kf_handles::tell(tree, key, out)
 }
 
 /// The text of a link (`kernfs_get_target_path`).
@@ -238,7 +235,7 @@ pub extern "C" fn kt_readlink(tree: &mut KtHandle, key: KtKey, out: &mut [u8]) -
     ensures told { Wrote (LinkTextIn tree.old.place.object tree.new.place.object key)
         result out.old out.new }
 {
-    replies::text(tree, Question::ReadLink(key_of(key)), out)
+    kf_handles::text(tree, Question::ReadLink(key_of(key)), out)
 }
 
 /// The directory of a node (`kernfs_get_parent`).
@@ -248,7 +245,7 @@ pub extern "C" fn kt_parent(tree: &mut KtHandle, key: KtKey, out: &mut KtKey) ->
     ensures kept { result ≢ pos 0 →
         IsAsBefore tree.old.place.object tree.new.place.object × (out.new ≡ out.old) }
 {
-    replies::name(tree, Question::Parent(key_of(key)), out)
+    kf_handles::name(tree, Question::Parent(key_of(key)), out)
 }
 
 /// The name of a node (`kernfs_name`).
@@ -259,7 +256,7 @@ pub extern "C" fn kt_name(alloc: Global, tree: &mut KtHandle, key: KtKey, out: &
         result out.old out.new }
 {
     let key = key_of(key);
-    replies::text(tree, Question::Name { key, alloc }, out)
+    kf_handles::text(tree, Question::Name { key, alloc }, out)
 }
 
 /// The path of a node (`kernfs_path_from_node` from the root).
@@ -269,7 +266,7 @@ pub extern "C" fn kt_path(tree: &mut KtHandle, key: KtKey, out: &mut [u8]) -> i6
     ensures told { Wrote (PathIn tree.old.place.object tree.new.place.object key)
         result out.old out.new }
 {
-    replies::text(tree, Question::Path(key_of(key)), out)
+    kf_handles::text(tree, Question::Path(key_of(key)), out)
 }
 
 /// Makes the list of the stored commands as short as may be.
@@ -278,7 +275,7 @@ pub extern "C" fn kt_compact(tree: &mut KtHandle) -> i32
     ensures compacted { result ≡ pos 0 → CompactedIn tree.old.place.object tree.new.place.object }
     ensures kept { result ≢ pos 0 → IsAsBefore tree.old.place.object tree.new.place.object }
 {
-    replies::change(tree, Question::Compact)
+    kf_handles::change(tree, Question::Compact)
 }
 
 /// A hold of a node, behind a handle with nothing behind it (`kernfs_get`).
@@ -290,7 +287,7 @@ pub extern "C" fn kt_hold(tree: &mut KtHandle, key: KtKey, out: &mut KtHandle) -
     ensures was { result ≡ pos 0 → IsNothing out.old.place }
     ensures same { result ≢ pos 0 → out.new.place ≡ out.old.place }
 {
-    replies::hold(tree, key, out)
+    kf_handles::hold(tree, key, out)
 }
 
 /// A post of the slot of a node, behind a handle with nothing behind it.
@@ -302,7 +299,7 @@ pub extern "C" fn kt_post(tree: &mut KtHandle, key: KtKey, out: &mut KtHandle) -
     ensures was { result ≡ pos 0 → IsNothing out.old.place }
     ensures same { result ≢ pos 0 → out.new.place ≡ out.old.place }
 {
-    numbers::post(tree, key, out)
+    kf_handles::post(tree, key, out)
 }
 
 /// Raises the event number of a post's slot (`kernfs_notify`).
@@ -311,7 +308,7 @@ pub extern "C" fn kt_notify(post: &mut KtHandle) -> i32
     ensures notified { result ≡ pos 0 → WasNotified post.old.place.object post.new.place.object }
     ensures full { result ≢ pos 0 → WasFull post.old.place.object post.new.place.object }
 {
-    numbers::notify(post)
+    kf_handles::notify(post)
 }
 
 /// The event number of a post's slot (`kernfs_open_node.event`).
@@ -321,7 +318,7 @@ pub extern "C" fn kt_event(post: &mut KtHandle, out: &mut u64) -> i32
     ensures same { result ≢ pos 0 →
         (post.new.place.object ≡ post.old.place.object) × (out.new ≡ out.old) }
 {
-    numbers::number(post, out)
+    kf_handles::number(post, out)
 }
 
 /// Tries for an active reference (`kernfs_get_active`): 0, or -ENODEV where the node is not live.
@@ -332,7 +329,7 @@ pub extern "C" fn kt_enter(hold: &mut KtHandle) -> i32
     ensures why { result ≢ pos 0 → result ≡ enter_error hold.old.place.seat }
     ensures beside { hold.new.place.object ≡ hold.old.place.object }
 {
-    stepping::enter(hold)
+    kf_handles::enter(hold)
 }
 
 /// Gives the reference back (`kernfs_put_active`): 0, or 1 where one who removes may wait for that.
@@ -344,7 +341,7 @@ pub extern "C" fn kt_leave(call: &mut KtHandle) -> i32
     ensures same { result ≢ pos 0 → result ≢ pos 1 → call.new.place.seat ≡ call.old.place.seat }
     ensures beside { call.new.place.object ≡ call.old.place.object }
 {
-    stepping::leave(call)
+    kf_handles::leave(call)
 }
 
 /// Gives the reference up inside the callback (`kernfs_break_active_protection`): 0, or 1 where one who
@@ -357,7 +354,7 @@ pub extern "C" fn kt_break(call: &mut KtHandle) -> i32
     ensures same { result ≢ pos 0 → result ≢ pos 1 → call.new.place.seat ≡ call.old.place.seat }
     ensures beside { call.new.place.object ≡ call.old.place.object }
 {
-    stepping::break_off(call)
+    kf_handles::break_off(call)
 }
 
 /// Takes a reference again (`kernfs_unbreak_active_protection`).
@@ -367,5 +364,5 @@ pub extern "C" fn kt_restore(call: &mut KtHandle) -> i32
     ensures same { result ≢ pos 0 → call.new.place.seat ≡ call.old.place.seat }
     ensures beside { call.new.place.object ≡ call.old.place.object }
 {
-    stepping::restore(call)
+    kf_handles::restore(call)
 }

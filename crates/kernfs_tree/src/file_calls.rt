@@ -1,14 +1,12 @@
 //! The calls of a program on open files. Each answers 0 or more, or a Linux error number below 0.
 ghost use Rattle.std.specs.Prelude.{◌≡◌, ◌≢◌, pos, true, false, length};
-ghost use Rattle.kernfs_tree.specs.Answers.{IsAsBefore, Wrote};
-ghost use Rattle.kernfs_tree.specs.Calls.{IsNothing};
-ghost use Rattle.kernfs_tree.specs.Files.{OpenedIn, Serves, BeganRead, HasShown, TextFrom, MayWrite, WasPolled, WasKeptOut, IsSamePlace, read_error, write_error};
-ghost use Rattle.kernfs_tree.specs.Steps.{WasEntered};
+ghost use Rattle.kf_handles.specs.Answers.{IsAsBefore, Wrote};
+ghost use Rattle.kf_handles.specs.Calls.{IsNothing};
+ghost use Rattle.kf_handles.specs.Files.{OpenedIn, Serves, BeganRead, HasShown, TextFrom, MayWrite, WasPolled, WasKeptOut, IsSamePlace, read_error, write_error};
+ghost use Rattle.kf_handles.specs.Steps.{WasEntered};
 
-use crate::file_steps;
-use crate::handle::KtHandle;
-use crate::replies::KtKey;
 use kf_files::Want;
+use kf_handles::{KtHandle, KtKey};
 use std::alloc::Global;
 
 /// Opens a file of the tree (`kernfs_fop_open`), behind a handle with nothing behind it.
@@ -27,7 +25,7 @@ pub extern "C" fn kt_open(
     ensures tree { IsAsBefore tree.old.place.object tree.new.place.object }
     ensures same { result ≢ pos 0 → out.new.place ≡ out.old.place }
 {
-    file_steps::open(alloc, tree, key, Want { read, write }, out)
+    kf_handles::open(alloc, tree, key, Want { read, write }, out)
 }
 
 /// Begins a read (`kernfs_fop_read_iter`): 0 where the text serves it; 1 where the node was entered, and the
@@ -41,7 +39,7 @@ pub extern "C" fn kt_begin_read(file: &mut KtHandle, offset: u64) -> i32
     ensures why { result ≢ pos 0 → result ≢ pos 1 →
         result ≡ read_error file.old.place.object file.old.place.seat }
 {
-    file_steps::begin_read(file, offset)
+    kf_handles::begin_read(file, offset)
 }
 
 /// Keeps the text that a show made, of at most 4,095 bytes, in the call that began it.
@@ -50,7 +48,7 @@ pub extern "C" fn kt_shown(file: &mut KtHandle, text: &[u8]) -> i32
     ensures kept { result ≡ pos 0 → HasShown text.now file.old.place file.new.place }
     ensures same { result ≢ pos 0 → IsSamePlace file.old.place file.new.place }
 {
-    file_steps::shown(file, text)
+    kf_handles::shown(file, text)
 }
 
 /// Copies the text from the offset on, as much as there is room for.
@@ -60,7 +58,7 @@ pub extern "C" fn kt_copy(file: &mut KtHandle, offset: u64, out: &mut [u8]) -> i
         result out.old out.new }
     ensures same { IsSamePlace file.old.place file.new.place }
 {
-    file_steps::copy(file, offset, out)
+    kf_handles::copy(file, offset, out)
 }
 
 /// Begins a write (`kernfs_fop_write_iter`): 0 where the node was entered for a store.
@@ -72,7 +70,7 @@ pub extern "C" fn kt_begin_write(file: &mut KtHandle) -> i32
     ensures refused { result ≢ pos 0 → WasKeptOut file.old.place file.new.place }
     ensures why { result ≢ pos 0 → result ≡ write_error file.old.place.object file.old.place.seat }
 {
-    file_steps::begin_write(file)
+    kf_handles::begin_write(file)
 }
 
 /// Whether a file has changed since its last show (`kernfs_fop_poll`), asked in a call of it.
@@ -82,5 +80,5 @@ pub extern "C" fn kt_changed(file: &mut KtHandle) -> i32
     ensures changed { result ≡ pos 1 → WasPolled true file.old.place file.new.place }
     ensures kept { result ≢ pos 0 → result ≢ pos 1 → IsSamePlace file.old.place file.new.place }
 {
-    file_steps::changed(file)
+    kf_handles::changed(file)
 }

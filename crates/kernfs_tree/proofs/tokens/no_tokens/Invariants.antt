@@ -1,6 +1,0 @@
-use Rattle.std.proofs.Common.{◌≡◌, ◌≤◌, None, replicate, vec_len, vec_capacity}
-use Rattle.kernfs_tree.proofs.tokens.no_tokens.Given as goal
-
-abbrev pub invariant-loop : goal.invariant-loop
-invariant-loop l = (l.tokens.items ≡ replicate l.counter None) × (vec_len l.tokens ≡ l.counter)
-    × (l.slots ≤ vec_capacity l.tokens)

@@ -1,0 +1,60 @@
+//! The calls of a program that remove a node, and that hide a file and show it again. Each answers -EAGAIN
+//! where somebody is inside: it has begun then, and is made again.
+ghost use Rattle.std.specs.Prelude.{◌≡◌, ◌≢◌, pos, negsuc, false, true};
+ghost use Rattle.kf_handles.specs.Tasks.{IsLinkedIn, IsHiddenIn, IsShownIn, IsHiddenStillIn};
+ghost use Rattle.kf_handles.specs.Answers.{IsAsBefore};
+ghost use Rattle.kf_handles.specs.Calls.{ClaimedIn};
+ghost use Rattle.kf_handles.specs.Hiding.{SawNobody, SawSomebody};
+
+use kf_handles::{KtHandle, KtKey};
+
+/// Claims the self-removal of a node (`kernfs_remove_self`), after it has marked the node and all below it.
+/// 0 for the first that claims it, and 1 for each later one.
+#[unsafe(no_mangle)]
+pub extern "C" fn kt_claim(tree: &mut KtHandle, key: KtKey) -> i32
+    ensures first { result ≡ pos 0 → ClaimedIn tree.old.place.object tree.new.place.object key false }
+    ensures again { result ≡ pos 1 → ClaimedIn tree.old.place.object tree.new.place.object key true }
+    ensures kept { result ≢ pos 0 → result ≢ pos 1 → IsAsBefore tree.old.place.object tree.new.place.object }
+{
+    kf_handles::claim(tree, key)
+}
+
+/// Marks a node and all below it, and takes each of them out of the tree that nobody uses (`kernfs_remove`).
+/// 0 where the node is out, -EAGAIN where it is not, since somebody is inside.
+#[unsafe(no_mangle)]
+pub extern "C" fn kt_remove(tree: &mut KtHandle, key: KtKey) -> i32
+    ensures gone { result ≡ pos 0 →
+        IsLinkedIn tree.old.place.object tree.new.place.object key false }
+    ensures not_yet { result ≡ negsuc 10 →
+        IsLinkedIn tree.old.place.object tree.new.place.object key true }
+    ensures kept { result ≢ pos 0 → result ≢ negsuc 10 →
+        IsAsBefore tree.old.place.object tree.new.place.object }
+{
+    kf_handles::remove(tree, key)
+}
+
+/// Hides a file (`kernfs_show` with `show` false). 0 where nobody is inside, -EAGAIN where somebody is.
+#[unsafe(no_mangle)]
+pub extern "C" fn kt_hide(tree: &mut KtHandle, key: KtKey) -> i32
+    ensures hidden { result ≡ pos 0 →
+        IsHiddenIn SawNobody tree.old.place.object tree.new.place.object key }
+    ensures not_yet { result ≡ negsuc 10 →
+        IsHiddenIn SawSomebody tree.old.place.object tree.new.place.object key }
+    ensures kept { result ≢ pos 0 → result ≢ negsuc 10 →
+        IsAsBefore tree.old.place.object tree.new.place.object }
+{
+    kf_handles::hide(tree, key)
+}
+
+/// Shows a hidden file again (`kernfs_show` with `show` true). 0 where it is shown, -EAGAIN where somebody is
+/// inside still, and then it stays hidden.
+#[unsafe(no_mangle)]
+pub extern "C" fn kt_unhide(tree: &mut KtHandle, key: KtKey) -> i32
+    ensures shown { result ≡ pos 0 → IsShownIn tree.old.place.object tree.new.place.object key }
+    ensures not_yet { result ≡ negsuc 10 →
+        IsHiddenStillIn tree.old.place.object tree.new.place.object key }
+    ensures kept { result ≢ pos 0 → result ≢ negsuc 10 →
+        IsAsBefore tree.old.place.object tree.new.place.object }
+{
+    kf_handles::unhide(tree, key)
+}

@@ -1,0 +1,159 @@
+-- What the calls of a program say in the words of the tree.
+use Rattle.std.specs.Prelude.{◌≡◌, ℕ, List, [], ◌∷◌, Bool, Option, None, Some, Ok, replicate}
+use Rattle.std.specs.Option.{option_map}
+use Rattle.kf_core.specs.declared.key.Key.{Key}
+use Rattle.kf_core.specs.declared.key.Node.{Node}
+use Rattle.kf_core.specs.declared.command.Command.TheVariants.{Activate}
+use Rattle.kf_core.specs.declared.key.Node.TheVariants.{Dir, File, Link}
+use Rattle.kf_core.specs.Tree.{record_at}
+use Rattle.kf_tree.specs.declared.stat.Stat.{Stat}
+use Rattle.kf_tree.specs.Causes.{linked_cause, target_of}
+use Rattle.kf_tree.specs.Links.{HasLinkText}
+use Rattle.kf_tree.specs.Listing.{IsListing}
+use Rattle.kf_tree.specs.Stat.{stat_of}
+use Rattle.kf_tree.specs.Ways.{IsPathOf}
+use Rattle.kf_tree.specs.TreeLogs.{IsNew, IsAccepted, IsCompacted}
+use Rattle.kf_words.specs.Steps.{opened}
+use Rattle.kf_tree.specs.Paths.{found, walked}
+use Rattle.kf_shared.specs.Locked.{Created, IsHoldOfNode, is_claimed}
+use Rattle.kf_handles.specs.declared.object.Object.{Object}
+use Rattle.kf_handles.specs.declared.object.Place.{Place}
+use Rattle.kf_handles.specs.declared.object.Seat.{Seat}
+use Rattle.kf_handles.specs.declared.object.Seat.TheVariants as seat
+use Rattle.kf_handles.specs.declared.replies.KtKey.{KtKey}
+use Rattle.kf_handles.specs.declared.replies.KtStat.{KtStat}
+use Rattle.kf_handles.specs.declared.object.Object.TheVariants as behind
+use Rattle.kf_handles.specs.Answers.{ClaimedTo, Moved, OfTrees, bound_of}
+
+-- the key that a program has of a node
+abbrev pub key_in : KtKey → Key
+key_in key = record { slot = key.slot; generation = key.generation }
+
+-- the node was linked in the directory, under this key, and that is stored
+abbrev pub CreatedIn : Object → Object → KtKey → List ℕ → Node → Bool → KtKey → Type 0
+CreatedIn old new parent name node live key =
+    OfTrees (λ before after. Created before after (key_in parent) name node live (key_in key)) old new
+
+-- the name leads to this key from the directory, and the tree is as it was
+abbrev pub FoundIn : Object → Object → KtKey → List ℕ → KtKey → Type 0
+FoundIn old new dir name key =
+    OfTrees (λ before after. (found before.state.tree (key_in dir) name ≡ Ok (key_in key))
+    × (after ≡ before)) old new
+
+-- the path leads to this key, and the tree is as it was
+abbrev pub WalkedIn : Object → Object → List ℕ → KtKey → Type 0
+WalkedIn old new path key =
+    OfTrees (λ before after. (walked before.state.tree before.state.root path ≡ Ok (key_in key))
+    × (after ≡ before)) old new
+
+-- it is the key of the directory that the node is in, and the tree is as it was
+abbrev pub ParentIn : Object → Object → KtKey → KtKey → Type 0
+ParentIn old new key parent = OfTrees (λ before after.
+    (option_map (λ r. r.parent) (record_at before.state.tree (key_in key)) ≡ Some (Some (key_in parent)))
+    × (after ≡ before)) old new
+
+-- it is the node's name, and the tree is as it was
+abbrev pub NameIn : Object → Object → KtKey → List ℕ → Type 0
+NameIn old new key name = OfTrees (λ before after.
+    (option_map (λ r. r.name) (record_at before.state.tree (key_in key)) ≡ Some name)
+    × (after ≡ before)) old new
+
+-- it is the path that leads to the node, and the tree is as it was
+abbrev pub PathIn : Object → Object → KtKey → List ℕ → Type 0
+PathIn old new key path = OfTrees (λ before after.
+    IsPathOf before.state.tree before.state.root (key_in key) path × (after ≡ before)) old new
+
+-- it is the text of the link, and the tree is as it was
+abbrev pub LinkTextIn : Object → Object → KtKey → List ℕ → Type 0
+LinkTextIn old new key text = OfTrees (λ before after.
+    HasLinkText before.state.tree before.state.root (key_in key) text × (after ≡ before)) old new
+
+-- it is the first name of a live child above this one, and the tree is as it was
+abbrev pub NextIn : Object → Object → KtKey → List ℕ → List ℕ → Type 0
+NextIn old new dir after_this name = OfTrees (λ before after.
+    IsListing before.state.tree (key_in dir) (bound_of after_this) 1 (name ∷ []) × (after ≡ before)) old new
+
+-- a key as a program has it; where there is none the key 0, 0
+abbrev pub key_in_c : Option Key → KtKey
+key_in_c None = record { slot = 0; generation = 0 }
+key_in_c (Some key) = record { slot = key.slot; generation = key.generation }
+
+-- the number that a program has for a kind of node
+abbrev pub kind_in_c : Node → ℕ
+kind_in_c Dir = 0
+kind_in_c (File mode tag) = 1
+kind_in_c (Link target) = 2
+
+-- the tag of a file
+abbrev pub tag_of : Node → ℕ
+tag_of Dir = 0
+tag_of (File mode tag) = tag
+tag_of (Link target) = 0
+
+-- the permission bits of a file
+abbrev pub mode_of : Node → ℕ
+mode_of Dir = 0
+mode_of (File mode tag) = mode
+mode_of (Link target) = 0
+
+-- what is told of a node, as a program has it
+abbrev pub stat_in_c : Stat → KtStat
+stat_in_c stat = record {
+  tag = tag_of stat.node;
+  target = key_in_c (target_of stat.node);
+  kind = kind_in_c stat.node;
+  links = stat.links;
+  mode = mode_of stat.node;
+  activated = stat.activated;
+  doomed = stat.doomed;
+  hidden = stat.hidden;
+}
+
+-- it is what the tree tells of the node, and the tree is as it was
+abbrev pub ToldIn : Object → Object → KtKey → KtStat → Type 0
+ToldIn old new key out = OfTrees (λ before after. (stat : Stat)
+    × (option_map (stat_of before.state.tree) (record_at before.state.tree (key_in key)) ≡ Some stat)
+    × (out ≡ stat_in_c stat) × (after ≡ before)) old new
+
+-- it is a new tree of the root alone, of so many slots and holds of each; the event number of each slot
+-- is 1, and nothing is hidden
+abbrev pub IsNewTree : ℕ → ℕ → Object → Type 0
+IsNewTree slots holds (behind.Tree tree) =
+    IsNew slots (record { slot = 0; generation = 1 }) tree.value.nodes.state
+    × (tree.value.nodes.master.view ≡ opened holds slots 0)
+    × (tree.value.posts.slots ≡ slots) × (tree.value.posts.start ≡ 1)
+    × (tree.value.hidden ≡ replicate slots None)
+IsNewTree slots holds other = ⊥
+
+-- it is a hold of the node that has this key in the tree
+abbrev pub HoldsNode : Object → KtKey → Seat → Type 0
+HoldsNode (behind.Tree tree) key (seat.Hold held) =
+    IsHoldOfNode tree.value.nodes.master.table tree.value.nodes.state.tree (key_in key) held.hold
+HoldsNode tree key other = ⊥
+
+-- it is the root's key, and the tree is as it was
+abbrev pub RootIn : Object → Object → KtKey → Type 0
+RootIn old new key = OfTrees (λ before after. (key_in key ≡ before.state.root) × (after ≡ before)) old new
+
+-- each node of the subtree that is not being removed is activated, and that is stored
+abbrev pub ActivatedIn : Object → Object → KtKey → Type 0
+ActivatedIn old new key = OfTrees (λ before after. IsAccepted before.state after.state
+    (linked_cause before.state.tree (key_in key)) (Activate (key_in key))) old new
+
+-- the node is in the directory under the name
+abbrev pub MovedIn : Object → Object → KtKey → KtKey → List ℕ → Type 0
+MovedIn old new key dir name =
+    OfTrees (λ before after. Moved before after (key_in key) (key_in dir) name) old new
+
+-- the stored commands are the fewest that make this tree
+abbrev pub CompactedIn : Object → Object → Type 0
+CompactedIn old new = OfTrees (λ before after. IsCompacted before.state after.state) old new
+
+-- the removal of the node was claimed before, or not, and is now
+abbrev pub ClaimedIn : Object → Object → KtKey → Bool → Type 0
+ClaimedIn old new key before_this = OfTrees (λ before after.
+    (is_claimed before.claims (key_in key) ≡ before_this) × ClaimedTo before after (key_in key)) old new
+
+-- nothing lies there
+abbrev pub IsNothing : Place → Type 0
+IsNothing place = (place.seat ≡ seat.None) × (place.object ≡ behind.Empty)

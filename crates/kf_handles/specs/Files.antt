@@ -1,0 +1,131 @@
+-- What the calls on open files say.
+use Rattle.std.specs.Prelude.{◌≡◌, ◌<◌, ◌⊎◌, ℕ, ℤ, negsuc, Bool, true, false, not, ◌&&◌, List, Option, None, Some, IsTrue, IsSome}
+use Rattle.std.specs.Option.{option_map}
+use Rattle.kf_core.specs.declared.caller.Phase.TheVariants.{Running}
+use Rattle.kf_core.specs.declared.key.Node.{Node}
+use Rattle.kf_core.specs.declared.key.Node.TheVariants.{Dir, File, Link}
+use Rattle.kf_core.specs.declared.refusal.Refusal.{Refusal}
+use Rattle.kf_core.specs.declared.refusal.Refusal.TheVariants.{IsDir, Invalid}
+use Rattle.kf_core.specs.Tree.{record_at}
+use Rattle.kf_tree.specs.declared.stat.Stat.{Stat}
+use Rattle.kf_tree.specs.Stat.{stat_of}
+use Rattle.kf_notify.specs.PostStates.{IsNewPost, Took}
+use Rattle.kf_files.specs.declared.contents.Want.{Want}
+use Rattle.kf_files.specs.Files.{open_cause, new_file, text_of, text_in_file, slice, is_changed}
+use Rattle.kf_handles.specs.declared.object.Object.{Object}
+use Rattle.kf_handles.specs.declared.object.Object.TheVariants as behind
+use Rattle.kf_handles.specs.declared.object.Place.{Place}
+use Rattle.kf_handles.specs.declared.object.Seat.{Seat}
+use Rattle.kf_handles.specs.declared.object.Seat.TheVariants as seat
+use Rattle.kf_handles.specs.declared.replies.KtKey.{KtKey}
+use Rattle.kf_handles.specs.Calls.{HoldsNode, key_in}
+use Rattle.kf_handles.specs.Steps.{WasEnteredToShow, WasRefused, enter_error}
+
+-- what is told of a node says that it is live
+abbrev pub tells_live : Stat → Bool
+tells_live stat = stat.activated && not stat.doomed && not stat.hidden
+
+-- why a node of which this is told may not be opened as wanted
+abbrev pub open_fault : Stat → Node → Want → Option Refusal
+open_fault stat Dir want = Some IsDir
+open_fault stat (Link target) want = Some Invalid
+open_fault stat (File mode tag) want = open_cause mode want (tells_live stat)
+
+-- it is a file just opened, of a live node that the tree has, and that may be opened as wanted
+abbrev pub IsOpened : Object → KtKey → Want → Object → Type 0
+IsOpened (behind.Tree tree) key want (behind.File file) = (stat : Stat)
+    × (option_map (stat_of tree.value.nodes.state.tree)
+    (record_at tree.value.nodes.state.tree (key_in key)) ≡ Some stat)
+    × (open_fault stat stat.node want ≡ None) × (file.value.state ≡ new_file want)
+    × IsNewPost tree.value.posts key.slot file.value.post
+IsOpened tree key want other = ⊥
+
+-- the same lies there
+abbrev pub IsSamePlace : Place → Place → Type 0
+IsSamePlace old new = (new.seat ≡ old.seat) × (new.object ≡ old.object)
+
+-- nothing was done, but for a try of a hold that found its node not live, and was taken back
+abbrev pub WasKeptOut : Place → Place → Type 0
+WasKeptOut old new = ((new.seat ≡ old.seat) ⊎ WasRefused old.seat new.seat) × (new.object ≡ old.object)
+
+-- such a file lies there, with a hold of its node
+abbrev pub OpenedIn : Object → KtKey → Want → Place → Type 0
+OpenedIn tree key want place = HoldsNode tree key place.seat × IsOpened tree key want place.object
+
+-- the file was opened for reading, and its text serves a read at this offset
+abbrev pub Serves : ℕ → Object → Type 0
+Serves offset (behind.File file) =
+    IsTrue file.value.state.want.read × (0 < offset) × IsSome file.value.state.text
+Serves offset other = ⊥
+
+-- the file was opened for reading, no text serves a read at this offset, and now there is none: its event
+-- number was taken for a show
+abbrev pub Begins : ℕ → Object → Object → Type 0
+Begins offset (behind.File old) (behind.File new) = IsTrue old.value.state.want.read
+    × ((offset ≡ 0) ⊎ (old.value.state.text ≡ None))
+    × Took old.value.post new.value.state.number new.value.post
+    × (new.value.state ≡ record old.value.state { text = None; number = new.value.state.number })
+Begins offset old new = ⊥
+
+-- the node was entered, and then the show begun
+abbrev pub BeganRead : ℕ → Place → Place → Type 0
+BeganRead offset old new = WasEnteredToShow old.seat new.seat × Begins offset old.object new.object
+
+-- the number of what is refused of a file: -EACCES where it was not opened for that, else as of the try
+abbrev pub access_error : Bool → Seat → ℤ
+access_error true at = enter_error at
+access_error false at = negsuc 12
+
+-- the number of a read that is refused: -EINVAL of what is no file
+abbrev pub read_error : Object → Seat → ℤ
+read_error (behind.File file) at = access_error file.value.state.want.read at
+read_error other at = negsuc 21
+
+-- and of a write
+abbrev pub write_error : Object → Seat → ℤ
+write_error (behind.File file) at = access_error file.value.state.want.write at
+write_error other at = negsuc 21
+
+-- it is a call in which a show was begun
+abbrev pub IsShowing : Seat → Type 0
+IsShowing (seat.Show inside) = Unit {0}
+IsShowing other = ⊥
+
+-- it is a call that runs
+abbrev pub IsRunning : Seat → Type 0
+IsRunning (seat.Call inside) = inside.call.phase ≡ Running
+IsRunning (seat.Show inside) = inside.call.phase ≡ Running
+IsRunning other = ⊥
+
+-- the text of these bytes is the file's now
+abbrev pub Keeps : List ℕ → Object → Object → Type 0
+Keeps shown (behind.File old) (behind.File new) = (new.value.post ≡ old.value.post)
+    × (new.value.state ≡ record old.value.state { text = Some (text_of shown) })
+Keeps shown old new = ⊥
+
+-- in a call that began a show this text became the file's
+abbrev pub HasShown : List ℕ → Place → Place → Type 0
+HasShown shown old new = IsShowing old.seat × (new.seat ≡ old.seat) × Keeps shown old.object new.object
+
+-- these are the bytes of the file's text from the offset on, at most so many
+abbrev pub TextFrom : Object → ℕ → ℕ → List ℕ → Type 0
+TextFrom (behind.File file) offset most bytes = IsSome file.value.state.text
+    × (bytes ≡ slice (text_in_file file.value.state) offset most)
+TextFrom other offset most bytes = ⊥
+
+-- the file was opened for writing
+abbrev pub MayWrite : Object → Type 0
+MayWrite (behind.File file) = IsTrue file.value.state.want.write
+MayWrite other = ⊥
+
+-- the slot's event number, as it was taken now, is another than that of the last show, or not
+abbrev pub Polled : Bool → Object → Object → Type 0
+Polled changed (behind.File old) (behind.File new) =
+    Took old.value.post new.value.post.found new.value.post
+    × (is_changed old.value.state (Some new.value.post.found) ≡ changed)
+    × (new.value.state ≡ old.value.state)
+Polled changed old new = ⊥
+
+-- in a call that ran the file was polled
+abbrev pub WasPolled : Bool → Place → Place → Type 0
+WasPolled changed old new = IsRunning old.seat × (new.seat ≡ old.seat) × Polled changed old.object new.object

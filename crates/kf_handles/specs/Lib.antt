@@ -1,0 +1,10 @@
+pub mod Ownership
+pub mod Kept
+pub mod Stages
+pub mod Hiding
+pub mod Steps
+pub mod Answers
+pub mod Calls
+pub mod Tasks
+pub mod Numbers
+pub mod Files

@@ -1,0 +1,16 @@
+-- What a handle owns: what a box of a place owns.
+use base.Fml.{Fml}
+use base.Stored.{Coded}
+use denote.RawPtr.{Ptr}
+use Rattle.std.specs.Box.Ownership.{box_owns}
+use Rattle.std.specs.Global.{Global}
+use Rattle.std_heap.specs.contracts.GlobalAllocator.TheImpl.{ghosts}
+use Rattle.kf_handles.specs.contracts.object.Place.{the_row}
+
+-- the place at the pointer, and the right to free it
+abbrev pub handle_owns : Global → Ptr → the_row.Denot → Fml
+handle_owns alloc = box_owns (ghosts.dealloc_token alloc) the_row
+
+-- how the logic stores a place
+abbrev pub place_coded : Coded the_row.Denot
+place_coded = the_row.coded

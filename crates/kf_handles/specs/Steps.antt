@@ -1,0 +1,81 @@
+-- What the steps of a hold and a call make of what lies behind a handle.
+use Rattle.std.specs.Prelude.{◌≡◌, ◌-◌, ℕ, ℤ, pos, negsuc, if◌then◌else◌}
+use Rattle.kf_words.specs.Layout.{wants_wake}
+use Rattle.kf_words.specs.Callers.{Handle, IsSameSeat, Entered, WasTurned, seat_view}
+use Rattle.kf_words.specs.Callers.{WasLeft as LeftHandle, WasBroken as BrokenHandle, WasRestored as RestoredHandle}
+use Rattle.kf_words.specs.Made.{WasALeave, WasABreak, WasARestore, WasLetInLive}
+use Rattle.kf_handles.specs.declared.object.Seat.{Seat}
+use Rattle.kf_handles.specs.declared.object.Seat.TheVariants as seat
+
+-- a hold was let in by one try, while its node was live: it is a running call of the same seat
+abbrev pub HasEntered : Handle → Handle → Type 0
+HasEntered hold call =
+    IsSameSeat hold call × Entered hold call × WasLetInLive (seat_view hold) (seat_view call)
+
+-- a hold became such a call
+abbrev pub WasEntered : Seat → Seat → Type 0
+WasEntered (seat.Hold held) (seat.Call inside) = HasEntered held.hold inside.call
+WasEntered old new = ⊥
+
+-- a hold became such a call, for a show
+abbrev pub WasEnteredToShow : Seat → Seat → Type 0
+WasEnteredToShow (seat.Hold held) (seat.Show inside) = HasEntered held.hold inside.call
+WasEnteredToShow old new = ⊥
+
+-- a hold's try found its node not live, and was taken back; where there was no hold nothing was done
+abbrev pub WasRefused : Seat → Seat → Type 0
+WasRefused (seat.Hold held) (seat.Hold back) =
+    IsSameSeat held.hold back.hold × WasTurned held.hold back.hold
+WasRefused old new = new ≡ old
+
+-- the number of what is refused so: -ENODEV of a hold, and -EINVAL where there is none
+abbrev pub enter_error : Seat → ℤ
+enter_error (seat.Hold held) = negsuc 18
+enter_error other = negsuc 21
+
+-- one step ended a call
+abbrev pub HasLeft : Handle → Handle → Type 0
+HasLeft call hold = IsSameSeat call hold × LeftHandle call hold × WasALeave (seat_view call) (seat_view hold)
+
+-- a call was ended so: its hold is there again
+abbrev pub WasLeft : Seat → Seat → Type 0
+WasLeft (seat.Call inside) (seat.Hold held) = HasLeft inside.call held.hold
+WasLeft (seat.Show inside) (seat.Hold held) = HasLeft inside.call held.hold
+WasLeft old new = ⊥
+
+-- one step gave the reference of a call up
+abbrev pub HasBroken : Handle → Handle → Type 0
+HasBroken call broken = IsSameSeat call broken × BrokenHandle call broken
+    × WasABreak (seat_view call) (seat_view broken)
+
+-- a call gave its reference up so
+abbrev pub WasBroken : Seat → Seat → Type 0
+WasBroken (seat.Call inside) (seat.Call broken) = HasBroken inside.call broken.call
+WasBroken (seat.Show inside) (seat.Show broken) = HasBroken inside.call broken.call
+WasBroken old new = ⊥
+
+-- one step took a reference again
+abbrev pub HasRestored : Handle → Handle → Type 0
+HasRestored broken call = IsSameSeat broken call × RestoredHandle broken call
+    × WasARestore (seat_view broken) (seat_view call)
+
+-- a call took its reference again so
+abbrev pub WasRestored : Seat → Seat → Type 0
+WasRestored (seat.Call broken) (seat.Call inside) = HasRestored broken.call inside.call
+WasRestored (seat.Show broken) (seat.Show inside) = HasRestored broken.call inside.call
+WasRestored old new = ⊥
+
+-- 1 where one who sleeps may wait for the word that a step took one user off, and else 0
+abbrev pub wake_after : ℕ → ℤ
+wake_after found = pos (if wants_wake (found - 1) then 1 else 0)
+
+-- the word that its last step found
+abbrev pub found_by : Seat → ℕ
+found_by (seat.Hold held) = held.hold.found
+found_by (seat.Call inside) = inside.call.found
+found_by (seat.Show inside) = inside.call.found
+found_by seat.None = 0
+
+-- the same of what its last step found
+abbrev pub wake_of : Seat → ℤ
+wake_of at = wake_after (found_by at)

@@ -1,0 +1,69 @@
+-- What may have to be asked of a tree again, since somebody is inside, and what that makes of it.
+use Rattle.std.specs.Prelude.{◌≡◌, Bool, true, false, List, Option}
+use Rattle.kf_core.specs.Tree.{is_linked}
+use Rattle.kf_words.specs.Callers.{TableId, Handle}
+use Rattle.kf_shared.specs.Locked.{Locked, Unchanged}
+use Rattle.kf_handles.specs.declared.object.Object.{Object}
+use Rattle.kf_handles.specs.declared.object.Object.TheVariants as behind
+use Rattle.kf_handles.specs.declared.questions.Task.{Task}
+use Rattle.kf_handles.specs.declared.questions.Task.TheVariants as task
+use Rattle.kf_handles.specs.declared.questions.Reply.{Reply}
+use Rattle.kf_handles.specs.declared.questions.Reply.TheVariants as told
+use Rattle.kf_handles.specs.declared.replies.KtKey.{KtKey}
+use Rattle.kf_handles.specs.Answers.{DoneOr}
+use Rattle.kf_handles.specs.Calls.{key_in}
+use Rattle.kf_handles.specs.Hiding.{SawNobody, SawSomebody, HasHiding, IsHidden, IsShown, IsHiddenStill}
+
+-- what becomes of a tree, of this table, and of its tokens, where it answers this
+abbrev pub Stepped : TableId → Task → Locked → List (Option Handle) → Locked → List (Option Handle)
+    → Reply → Type 0
+Stepped table (task.Remove key) old tokens new tokens' reply =
+    DoneOr (is_linked new.state.tree key ≡ false) (is_linked new.state.tree key ≡ true)
+    (λ why. Unchanged old new × (tokens' ≡ tokens)) reply
+Stepped table (task.Hide key) old tokens new tokens' reply =
+    DoneOr (IsHidden SawNobody table old tokens new tokens' key)
+    (IsHidden SawSomebody table old tokens new tokens' key)
+    (λ why. Unchanged old new × (tokens' ≡ tokens)) reply
+Stepped table (task.Show key) old tokens new tokens' reply =
+    DoneOr (IsShown old tokens new tokens' key) (IsHiddenStill old tokens new tokens' key)
+    (λ why. (new ≡ old) × (tokens' ≡ tokens)) reply
+
+-- there was a tree and there is one, of the same event numbers, and this holds of both and of their tokens
+abbrev pub OfSteps : (Locked → List (Option Handle) → Locked → List (Option Handle) → Type 0)
+    → Object → Object → Type 0
+OfSteps Such (behind.Tree old) (behind.Tree new) =
+    Such old.value.nodes old.value.hidden new.value.nodes new.value.hidden
+    × (new.value.posts ≡ old.value.posts)
+OfSteps Such old new = ⊥
+
+-- the step is made by the tree behind the handle, or there is none there
+abbrev pub SteppedBehind : Task → Object → Object → Reply → Type 0
+SteppedBehind what (behind.Tree old) (behind.Tree new) reply =
+    Stepped old.value.nodes.master.table what old.value.nodes old.value.hidden new.value.nodes
+    new.value.hidden reply × (new.value.posts ≡ old.value.posts)
+SteppedBehind what old new reply = (new ≡ old) × (reply ≡ told.Wrong)
+
+-- it is a tree with a hidden file in which somebody may be
+abbrev pub HasHidingIn : Object → Type 0
+HasHidingIn (behind.Tree tree) = HasHiding tree.value.hidden
+HasHidingIn other = ⊥
+
+-- the key is linked in the tree afterwards, or not
+abbrev pub IsLinkedIn : Object → Object → KtKey → Bool → Type 0
+IsLinkedIn old new key linked =
+    OfSteps (λ before tokens after tokens'. is_linked after.state.tree (key_in key) ≡ linked) old new
+
+-- the file is hidden, and its token saw this
+abbrev pub IsHiddenIn : (Handle → Type 0) → Object → Object → KtKey → Type 0
+IsHiddenIn Saw old new key = OfSteps (λ before tokens after tokens'.
+    IsHidden Saw before.master.table before tokens after tokens' (key_in key)) old new
+
+-- the hidden file is shown again
+abbrev pub IsShownIn : Object → Object → KtKey → Type 0
+IsShownIn old new key =
+    OfSteps (λ before tokens after tokens'. IsShown before tokens after tokens' (key_in key)) old new
+
+-- the hidden file is hidden still: somebody is inside
+abbrev pub IsHiddenStillIn : Object → Object → KtKey → Type 0
+IsHiddenStillIn old new key =
+    OfSteps (λ before tokens after tokens'. IsHiddenStill before tokens after tokens' (key_in key)) old new

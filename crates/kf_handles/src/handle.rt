@@ -1,0 +1,66 @@
+//! A handle: the pointer of a box, which a program in C keeps.
+ghost use Rattle.std.specs.Prelude.{◌≡◌};
+ghost use Rattle.kf_handles.specs.declared.object.Place.{Place};
+ghost use Rattle.kf_handles.specs.Ownership.{handle_owns, place_coded};
+
+mod apart;
+
+use crate::object::Place;
+use apart::Apart;
+use std::alloc::Global;
+use std::marker::Model;
+
+/// What a program in C keeps. It owns the box of a place.
+#[repr(C)]
+pub struct KtHandle {
+    at: *mut u8,
+    alloc: Global,
+    pub ghost place: { Place } by { place_coded },
+}
+
+impl Model for KtHandle {
+    ghost also_owns = { λ h. handle_owns h.alloc h.at h.place };
+}
+
+impl KtHandle {
+    fn of_apart(apart: Apart<Place, Global>) -> KtHandle
+        ensures { result.place ≡ apart.value }
+    {
+        let Apart { ptr, alloc } = apart;
+        let at = ptr as *mut u8;
+        KtHandle { at, alloc }
+    }
+
+    fn into_apart(self) -> Apart<Place, Global>
+        ensures { result.value ≡ self.place }
+    {
+        let KtHandle { at, alloc } = self;
+        let ptr = at as *mut Place;
+        Apart { ptr, alloc }
+    }
+
+    /// The handle of a box.
+    pub(crate) fn of(boxed: Box<Place, Global>) -> KtHandle
+        ensures { result.place ≡ boxed.value }
+    {
+        KtHandle::of_apart(Apart::of(boxed))
+    }
+
+    /// The box.
+    pub(crate) fn into_box(self) -> Box<Place, Global>
+        ensures { result.value ≡ self.place }
+    {
+        self.into_apart().into_box()
+    }
+
+    /// The pointer alone. What it owned is the program's from now on.
+    pub(crate) fn into_pointer(self) -> *mut u8
+        ensures { result ≡ self.at }
+    {
+        let KtHandle { at, alloc: _ } = self;
+        at
+    }
+}
+
+/// What lies behind a handle may go to another thread.
+unsafe impl Send for KtHandle {}

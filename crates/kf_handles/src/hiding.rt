@@ -1,0 +1,118 @@
+//! Files that are hidden and shown again, in steps: what is hidden is looked at until nobody is inside.
+ghost use Rattle.std.specs.Prelude.{◌≡◌, IfOk, OnErr};
+ghost use Rattle.kf_core.specs.declared.caller.Phase.TheVariants as phase_of;
+ghost use Rattle.kf_core.specs.declared.command.Command.TheVariants.{Hide};
+ghost use Rattle.kf_tree.specs.TreeLogs.{IsAccepted};
+ghost use Rattle.kf_shared.specs.Locked.{Unchanged};
+ghost use Rattle.kf_shared.specs.Hiding.{hold_cause};
+ghost use Rattle.kf_handles.specs.Answers.{DoneOr};
+ghost use Rattle.kf_handles.specs.Kept.{AreTokensOf};
+ghost use Rattle.kf_handles.specs.Hiding.{SawNobody, SawSomebody, IsHidden, IsHiddenStill, IsShown, hide_fault};
+
+use crate::questions::Reply;
+use crate::token::Token;
+use crate::tokens::{look_at, put, take};
+use kf_core::{Key, Node, Refusal};
+use kf_shared::{Locked, Naming};
+use kf_tree::Stat;
+use kf_words::Hiding;
+
+/// Why a node of which this is told is not hidden: files alone are, and not once they are marked for removal.
+fn hide_fault(stat: &Stat) -> Option<Refusal>
+    ensures { result ≡ hide_fault stat.now stat.now.node }
+{
+    match stat.node {
+        Node::Dir => Some(Refusal::IsDir),
+        Node::Link { .. } => Some(Refusal::Invalid),
+        Node::File { .. } => {
+            if stat.doomed {
+                Some(Refusal::NoEntry)
+            } else {
+                None
+            }
+        }
+    }
+}
+
+/// Hides a file by a hold of its own. What is told against the file comes first, then the holds that there
+/// may be, then memory.
+fn begin<N: Naming>(locked: &mut Locked<N>, key: Key) -> Result<Hiding, Refusal>
+    ensures token { IfOk result (λ hiding. (hiding.table ≡ N.table) × (hiding.key ≡ key)
+        × (hiding.phase ≡ phase_of.Hiding) × (hiding.steps ≡ 1)) }
+    ensures accepted { IfOk result (λ hiding. IsAccepted locked.old.state locked.new.state
+        (hold_cause locked.old.state.tree hiding) (Hide key)) }
+    ensures same { OnErr result (Unchanged locked.old locked.new) }
+    ensures claims { locked.new.claims ≡ locked.old.claims }
+{
+    let stat = locked.state().stat(key)?;
+    if let Some(refusal) = hide_fault(&stat) {
+        return Err(refusal);
+    }
+    let hold = locked.hold(key)?;
+    match locked.hide(hold) {
+        Ok(hiding) => Ok(hiding),
+        Err((hold, refusal)) => {
+            hold.release();
+            Err(refusal)
+        }
+    }
+}
+
+/// Hides a file, where it is not hidden yet, and looks whether nobody is inside: Done where it saw so, and
+/// Not where it saw somebody.
+pub fn hide<N: Naming>(locked: &mut Locked<N>, tokens: &mut Vec<Option<Token>>, key: Key) -> Reply
+    requires { AreTokensOf N.table tokens.old.items }
+    ensures tokens { AreTokensOf N.table tokens.new.items }
+    ensures told { DoneOr
+        (IsHidden SawNobody N.table locked.old tokens.old.items locked.new tokens.new.items key)
+        (IsHidden SawSomebody N.table locked.old tokens.old.items locked.new tokens.new.items key)
+        (λ why. Unchanged locked.old locked.new × (tokens.new.items ≡ tokens.old.items)) result }
+{
+    if key.slot as usize >= tokens.len() {
+        return Reply::Refused(Refusal::NoEntry);
+    }
+    if let Some(token) = take(tokens, key) {
+        return if look_at(tokens, token) {
+            Reply::Done
+        } else {
+            Reply::Not
+        };
+    }
+    match begin(locked, key) {
+        Ok(hiding) => {
+            if look_at(tokens, Token::new(hiding)) {
+                Reply::Done
+            } else {
+                Reply::Not
+            }
+        }
+        Err(refusal) => Reply::Refused(refusal),
+    }
+}
+
+/// Shows a hidden file again: Done, or Not where somebody is inside still.
+pub fn show<N: Naming>(locked: &mut Locked<N>, tokens: &mut Vec<Option<Token>>, key: Key) -> Reply
+    requires { AreTokensOf N.table tokens.old.items }
+    ensures tokens { AreTokensOf N.table tokens.new.items }
+    ensures told { DoneOr
+        (IsShown locked.old tokens.old.items locked.new tokens.new.items key)
+        (IsHiddenStill locked.old tokens.old.items locked.new tokens.new.items key)
+        (λ why. (locked.new ≡ locked.old) × (tokens.new.items ≡ tokens.old.items)) result }
+{
+    let Some(token) = take(tokens, key) else {
+        return Reply::Refused(match locked.state().stat(key) {
+            Ok(_) => Refusal::Invalid,
+            Err(refusal) => refusal,
+        });
+    };
+    match token.into_hidden() {
+        Ok(hidden) => {
+            locked.show(hidden).release();
+            Reply::Done
+        }
+        Err(token) => {
+            put(tokens, token);
+            Reply::Not
+        }
+    }
+}

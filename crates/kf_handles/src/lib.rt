@@ -1,0 +1,32 @@
+//! The attribute tree behind handles, for programs in C: what the calls of the static library `kernfs_tree` do.
+//! Behind each handle lies nothing, a tree, a hold of a node or a call of one, a post, or an open file.
+#![tactic(auto)]
+
+mod answers;
+mod errors;
+mod file;
+mod file_steps;
+mod handle;
+mod hiding;
+mod holds;
+mod numbers;
+mod object;
+mod questions;
+mod removal;
+mod replies;
+mod stepping;
+mod steps;
+mod tasks;
+mod token;
+mod tokens;
+mod tree;
+
+pub use file_steps::{begin_read, begin_write, changed, copy, open, shown};
+pub use handle::KtHandle;
+pub use numbers::{notify, number, post};
+pub use questions::Question;
+pub use replies::{
+    KtKey, KtStat, change, claim, clear, delete, hold, key_of, make, make_tree, name, next, tell, text,
+};
+pub use stepping::{break_off, enter, leave, restore};
+pub use tasks::{hide, remove, unhide};

@@ -1,0 +1,103 @@
+//! What lies behind a handle: a hold or a call, and what is beside it.
+ghost use Rattle.std.specs.Prelude.{◌≡◌, IsTrue, true};
+ghost use Rattle.kf_handles.specs.Calls.{IsNothing};
+ghost use Rattle.kf_handles.specs.Tasks.{HasHidingIn};
+
+use crate::file::File;
+use crate::holds::{Held, Inside};
+use crate::tree::Tree;
+use kf_notify::Post;
+
+/// A hold of a node, or a call of one. A call that a read began, for a show, is a variant of its own: a field
+/// more would make each step slower.
+#[derive(Drop)]
+pub enum Seat {
+    None,
+    Hold(Held),
+    Call(Inside),
+    Show(Inside),
+}
+
+/// What is beside a seat.
+#[derive(Drop)]
+pub enum Object {
+    Empty,
+    Tree(Box<Tree>),
+    Post(Post),
+    File(Box<File>),
+}
+
+/// A seat and an object in memory of their own. The words after them keep them off the cache lines of the
+/// next ones.
+#[derive(Drop)]
+pub struct Place {
+    pub seat: Seat,
+    pub object: Object,
+    apart: [u64; 8],
+}
+
+impl Place {
+    /// A place with these.
+    pub fn of(seat: Seat, object: Object) -> Place
+        ensures seat { result.seat ≡ seat }
+        ensures object { result.object ≡ object }
+    {
+        Place {
+            seat,
+            object,
+            apart: [0; 8],
+        }
+    }
+
+    /// The seat, and what is beside it.
+    pub fn into_parts(self) -> (Seat, Object)
+        ensures seat { result.0 ≡ self.seat }
+        ensures object { result.1 ≡ self.object }
+    {
+        let Place {
+            seat,
+            object,
+            apart: _,
+        } = self;
+        (seat, object)
+    }
+
+    /// Whether nothing lies there.
+    pub fn is_empty(&self) -> bool
+        ensures { IsTrue result → IsNothing self.now }
+    {
+        match (&self.seat, &self.object) {
+            (Seat::None, Object::Empty) => true,
+            _ => false,
+        }
+    }
+
+    /// Whether it is a tree with a hidden file in which somebody may be.
+    pub fn is_hiding(&self) -> bool
+        ensures { result ≡ true → HasHidingIn self.now.object }
+    {
+        match &self.object {
+            Object::Tree(tree) => tree.is_hiding(),
+            _ => false,
+        }
+    }
+
+    /// Lets go of what lies there: a hold is released, and a call ended first. True where one who sleeps at
+    /// the node of a call may wait for that.
+    pub fn end(self) -> bool {
+        let Place {
+            seat,
+            object,
+            apart: _,
+        } = self;
+        drop(object);
+        match seat {
+            Seat::Call(inside) => inside.end(),
+            Seat::Show(inside) => inside.end(),
+            other => {
+                drop(other);
+                false
+            }
+        }
+    }
+}

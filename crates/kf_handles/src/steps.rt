@@ -1,0 +1,147 @@
+//! The steps of a hold and a call behind a handle. They need no lock and wake nobody.
+ghost use Rattle.std.specs.Prelude.{◌≡◌, ◌≢◌, ◌⊎◌, pos, if◌then◌else◌};
+ghost use Rattle.kf_handles.specs.Steps.{WasEntered, WasEnteredToShow, WasRefused, enter_error, WasLeft, HasBroken, WasBroken, HasRestored, WasRestored, wake_after, wake_of};
+
+use crate::errors::{INVALID, NO_DEVICE};
+use crate::holds::{Held, Inside};
+use crate::object::Seat;
+use kf_core::Phase;
+
+/// 1 where one who sleeps may wait for the step that was made.
+fn told(wanted: bool) -> i32
+    ensures value { result ≡ pos (if wanted then 1 else 0) }
+    ensures range { (result ≡ pos 0) ⊎ (result ≡ pos 1) }
+{
+    if wanted { 1 } else { 0 }
+}
+
+/// Tries for a reference.
+#[inline(always)]
+pub fn enter(seat: Seat, _nothing: ()) -> (Seat, i32)
+    ensures entered { result.1 ≡ pos 0 → WasEntered seat result.0 }
+    ensures refused { result.1 ≢ pos 0 → WasRefused seat result.0 }
+    ensures why { result.1 ≢ pos 0 → result.1 ≡ enter_error seat }
+    ensures range { result.1 ≢ pos 1 }
+{
+    match seat {
+        Seat::Hold(held) => match held.into_hold().enter_quiet() {
+            Ok(call) => (Seat::Call(Inside::new(call)), 0),
+            Err((hold, due)) => {
+                due.told();
+                (Seat::Hold(Held::new(hold)), NO_DEVICE)
+            }
+        },
+        other => (other, INVALID),
+    }
+}
+
+/// Tries for a reference for a show.
+pub fn enter_to_show(seat: Seat) -> (Seat, i32)
+    ensures entered { result.1 ≡ pos 0 → WasEnteredToShow seat result.0 }
+    ensures refused { result.1 ≢ pos 0 → WasRefused seat result.0 }
+    ensures why { result.1 ≢ pos 0 → result.1 ≡ enter_error seat }
+    ensures range { result.1 ≢ pos 1 }
+{
+    match seat {
+        Seat::Hold(held) => match held.into_hold().enter_quiet() {
+            Ok(call) => (Seat::Show(Inside::new(call)), 0),
+            Err((back, due)) => {
+                due.told();
+                (Seat::Hold(Held::new(back)), NO_DEVICE)
+            }
+        },
+        other => (other, INVALID),
+    }
+}
+
+/// Gives the reference back, where the call has one.
+#[inline(always)]
+pub fn leave(seat: Seat, _nothing: ()) -> (Seat, i32)
+    ensures left { (result.1 ≡ pos 0) ⊎ (result.1 ≡ pos 1) → WasLeft seat result.0 }
+    ensures owed { (result.1 ≡ pos 0) ⊎ (result.1 ≡ pos 1) → result.1 ≡ wake_of result.0 }
+    ensures same { result.1 ≢ pos 0 → result.1 ≢ pos 1 → result.0 ≡ seat }
+{
+    match seat {
+        Seat::Call(inside) => {
+            let call = inside.into_call();
+            if call.phase() == Phase::Broken {
+                return (Seat::Call(Inside::new(call)), INVALID);
+            }
+            let (hold, due) = call.leave_quiet();
+            (Seat::Hold(Held::new(hold)), told(due.told()))
+        }
+        Seat::Show(inside) => {
+            let call = inside.into_call();
+            if call.phase() == Phase::Broken {
+                return (Seat::Show(Inside::new(call)), INVALID);
+            }
+            let (back, due) = call.leave_quiet();
+            (Seat::Hold(Held::new(back)), told(due.told()))
+        }
+        other => (other, INVALID),
+    }
+}
+
+/// Gives the reference of a call up, where that has the one that it entered with.
+fn break_inside(inside: Inside) -> (Inside, i32)
+    ensures broken { (result.1 ≡ pos 0) ⊎ (result.1 ≡ pos 1) → HasBroken inside.call result.0.call }
+    ensures owed { (result.1 ≡ pos 0) ⊎ (result.1 ≡ pos 1) → result.1 ≡ wake_after result.0.call.found }
+    ensures same { result.1 ≢ pos 0 → result.1 ≢ pos 1 → result.0 ≡ inside }
+{
+    let mut call = inside.into_call();
+    if call.phase() != Phase::Running {
+        return (Inside::new(call), INVALID);
+    }
+    let due = call.break_quiet();
+    (Inside::new(call), told(due.told()))
+}
+
+/// Gives the reference up inside the callback, where the call has the one that it entered with.
+pub fn break_off(seat: Seat, _nothing: ()) -> (Seat, i32)
+    ensures broken { (result.1 ≡ pos 0) ⊎ (result.1 ≡ pos 1) → WasBroken seat result.0 }
+    ensures owed { (result.1 ≡ pos 0) ⊎ (result.1 ≡ pos 1) → result.1 ≡ wake_of result.0 }
+    ensures same { result.1 ≢ pos 0 → result.1 ≢ pos 1 → result.0 ≡ seat }
+{
+    match seat {
+        Seat::Call(inside) => {
+            let (inside, answer) = break_inside(inside);
+            (Seat::Call(inside), answer)
+        }
+        Seat::Show(inside) => {
+            let (inside, answer) = break_inside(inside);
+            (Seat::Show(inside), answer)
+        }
+        other => (other, INVALID),
+    }
+}
+
+/// Takes a reference again, where the call gave its own up.
+fn restore_inside(inside: Inside) -> (Inside, i32)
+    ensures restored { result.1 ≡ pos 0 → HasRestored inside.call result.0.call }
+    ensures same { result.1 ≢ pos 0 → result.0 ≡ inside }
+{
+    let mut call = inside.into_call();
+    if call.phase() != Phase::Broken {
+        return (Inside::new(call), INVALID);
+    }
+    call.restore();
+    (Inside::new(call), 0)
+}
+
+/// Takes a reference again, where the call gave its own up.
+pub fn restore(seat: Seat, _nothing: ()) -> (Seat, i32)
+    ensures restored { result.1 ≡ pos 0 → WasRestored seat result.0 }
+    ensures same { result.1 ≢ pos 0 → result.0 ≡ seat }
+{
+    match seat {
+        Seat::Call(inside) => {
+            let (inside, answer) = restore_inside(inside);
+            (Seat::Call(inside), answer)
+        }
+        Seat::Show(inside) => {
+            let (inside, answer) = restore_inside(inside);
+            (Seat::Show(inside), answer)
+        }
+        other => (other, INVALID),
+    }
+}

@@ -1,0 +1,89 @@
+//! What may have to be asked of a tree again, asked of what lies behind a handle, and the numbers that are
+//! answered.
+ghost use Rattle.std.specs.Prelude.{◌≡◌, ◌≢◌, true, false, pos, negsuc};
+ghost use Rattle.kf_handles.specs.Tasks.{SteppedBehind, IsLinkedIn, IsHiddenIn, IsShownIn, IsHiddenStillIn};
+ghost use Rattle.kf_handles.specs.Answers.{IsAsBefore};
+ghost use Rattle.kf_handles.specs.Hiding.{SawNobody, SawSomebody};
+
+use crate::errors::{AGAIN, INVALID, error_of};
+use crate::handle::KtHandle;
+use crate::object::Object;
+use crate::questions::{Reply, Task};
+use crate::replies::{KtKey, key_of};
+use crate::tree::step;
+use core::mem::replace_with;
+
+/// What lies there after a step, and what it answers.
+fn step_object(object: Object, task: Task) -> (Object, Reply)
+    ensures { SteppedBehind task object result.0 result.1 }
+{
+    match object {
+        Object::Tree(mut tree) => {
+            let reply = replace_with(tree.as_mut(), task, step);
+            (Object::Tree(tree), reply)
+        }
+        other => (other, Reply::Wrong),
+    }
+}
+
+fn step_handle(handle: KtHandle, task: Task) -> (KtHandle, Reply)
+    ensures { SteppedBehind task handle.place.object result.0.place.object result.1 }
+{
+    let mut boxed = handle.into_box();
+    let reply = replace_with(&mut boxed.as_mut().object, task, step_object);
+    (KtHandle::of(boxed), reply)
+}
+
+/// Removes a subtree as far as it can be without waiting.
+pub fn remove(handle: &mut KtHandle, key: KtKey) -> i32
+    ensures gone { result ≡ pos 0 →
+        IsLinkedIn handle.old.place.object handle.new.place.object key false }
+    ensures not_yet { result ≡ negsuc 10 →
+        IsLinkedIn handle.old.place.object handle.new.place.object key true }
+    ensures kept { result ≢ pos 0 → result ≢ negsuc 10 →
+        IsAsBefore handle.old.place.object handle.new.place.object }
+{
+    let task = Task::Remove(key_of(key));
+    match replace_with(handle, task, step_handle) {
+        Reply::Done => 0,
+        Reply::Not => AGAIN,
+        Reply::Refused(refusal) => error_of(refusal),
+        _ => INVALID,
+    }
+}
+
+/// Hides a file, and looks whether nobody is inside.
+pub fn hide(handle: &mut KtHandle, key: KtKey) -> i32
+    ensures hidden { result ≡ pos 0 →
+        IsHiddenIn SawNobody handle.old.place.object handle.new.place.object key }
+    ensures not_yet { result ≡ negsuc 10 →
+        IsHiddenIn SawSomebody handle.old.place.object handle.new.place.object key }
+    ensures kept { result ≢ pos 0 → result ≢ negsuc 10 →
+        IsAsBefore handle.old.place.object handle.new.place.object }
+{
+    let task = Task::Hide(key_of(key));
+    match replace_with(handle, task, step_handle) {
+        Reply::Done => 0,
+        Reply::Not => AGAIN,
+        Reply::Refused(refusal) => error_of(refusal),
+        _ => INVALID,
+    }
+}
+
+/// Shows a hidden file again.
+pub fn unhide(handle: &mut KtHandle, key: KtKey) -> i32
+    ensures shown { result ≡ pos 0 →
+        IsShownIn handle.old.place.object handle.new.place.object key }
+    ensures not_yet { result ≡ negsuc 10 →
+        IsHiddenStillIn handle.old.place.object handle.new.place.object key }
+    ensures kept { result ≢ pos 0 → result ≢ negsuc 10 →
+        IsAsBefore handle.old.place.object handle.new.place.object }
+{
+    let task = Task::Show(key_of(key));
+    match replace_with(handle, task, step_handle) {
+        Reply::Done => 0,
+        Reply::Not => AGAIN,
+        Reply::Refused(refusal) => error_of(refusal),
+        _ => INVALID,
+    }
+}

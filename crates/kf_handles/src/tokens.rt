@@ -1,0 +1,76 @@
+//! The tokens of a tree's hidden files, each in its file's slot. While one lies there the slot is not given
+//! again, so it is the slot's only one.
+ghost use Rattle.std.specs.Prelude.{◌≡◌, ◌<◌, IfOk, IfSome, None, Some, true, false, length, slice_set, replicate};
+ghost use Rattle.kf_handles.specs.Hiding.{IsTokenOf, IsSeen, HasHiding, SawNobody, SawSomebody};
+
+use crate::token::Token;
+use kf_core::{Key, Refusal};
+use std::alloc::Global;
+
+/// No token, of so many slots.
+pub fn no_tokens(alloc: Global, slots: u32) -> Result<Vec<Option<Token>>, Refusal>
+    ensures { IfOk result (λ tokens. tokens.items ≡ replicate slots None) }
+{
+    let Ok(mut tokens) = Vec::with_capacity(alloc, slots as usize) else {
+        return Err(Refusal::NoMemory);
+    };
+    for _ in 0..slots {
+        tokens.push_reserved(None);
+    }
+    Ok(tokens)
+}
+
+/// Takes the token of a key out, where there is one.
+pub fn take(tokens: &mut Vec<Option<Token>>, key: Key) -> Option<Token>
+    ensures found { IfSome result (λ token. IsTokenOf tokens.old.items key token
+        × (key.slot < length tokens.old.items)
+        × (tokens.new.items ≡ slice_set tokens.old.items key.slot None)) }
+    ensures none { result ≡ None → tokens.new.items ≡ tokens.old.items }
+{
+    let place = tokens.get_mut(key.slot as usize)?;
+    match place {
+        Some(token) if token.key() == key => place.take(),
+        _ => None,
+    }
+}
+
+/// Puts a token into its slot.
+pub fn put(tokens: &mut Vec<Option<Token>>, token: Token)
+    requires { token.key.slot < length tokens.old.items }
+    ensures { tokens.new.items ≡ slice_set tokens.old.items token.key.slot (Some token) }
+{
+    let slot = token.key().slot as usize;
+    tokens[slot] = Some(token);
+}
+
+/// Looks whether nobody is inside the file of a token, and puts that into its slot.
+pub fn look_at(tokens: &mut Vec<Option<Token>>, token: Token) -> bool
+    requires { token.key.slot < length tokens.old.items }
+    ensures nobody { result ≡ true → IsSeen SawNobody tokens.old.items tokens.new.items token }
+    ensures somebody { result ≡ false → IsSeen SawSomebody tokens.old.items tokens.new.items token }
+{
+    match token.look() {
+        Ok(token) => {
+            put(tokens, token);
+            true
+        }
+        Err(token) => {
+            put(tokens, token);
+            false
+        }
+    }
+}
+
+/// Whether somebody may be inside a hidden file.
+pub fn has_hiding(tokens: &[Option<Token>]) -> bool
+    ensures { result ≡ true → HasHiding tokens.now }
+{
+    for place in tokens {
+        if let Some(token) = place {
+            if token.is_hiding() {
+                return true;
+            }
+        }
+    }
+    false
+}
