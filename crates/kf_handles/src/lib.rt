@@ -26,7 +26,8 @@ pub use handle::KtHandle;
 pub use numbers::{notify, number, post};
 pub use questions::Question;
 pub use replies::{
-    KtKey, KtStat, change, claim, clear, delete, hold, key_of, make, make_tree, name, next, tell, text,
+    KtKey, KtStat, change, claim, clear, delete, hold, key_of, make, make_tree, name, next, tell,
+    text,
 };
 pub use stepping::{break_off, enter, leave, restore};
 pub use tasks::{hide, remove, unhide};
