@@ -1,7 +1,6 @@
 -- An open of a file leaves its hold in the same slot.
 use Rattle.std.proofs.Common.{◌≡◌, ◌∙◌, ℕ, Option, None, Some, refl, sym, ap}
 use Rattle.kf_core.specs.Calls.{tried}
-use Rattle.kf_core.specs.declared.key.Key.{Key}
 use Rattle.kf_core.specs.declared.key.Node.{Node}
 use Rattle.kf_core.specs.declared.key.Node.TheVariants.{Dir, File, Link}
 use Rattle.kf_core.specs.declared.refusal.Refusal.{Refusal}
