@@ -8,11 +8,6 @@ use Rattle.kf_text.specs.Readings.{number_of}
 abbrev pub unknown : Fault
 unknown = record { number = 22 }
 
--- a page that the attribute may show was filled
-abbrev pub Fills : (List ℕ → Type 0) → Result (List ℕ) Fault → Type 0
-Fills shows (Ok page) = shows page
-Fills shows (Err fault) = ⊥
-
 -- the attribute took the bytes, all of them; or it did not, and the fault has the number of its reason
 abbrev pub TakesAll : (Result (Unit {0}) NotRead → Type 0) → List ℕ → Result ℕ Fault → Type 0
 TakesAll takes bytes (Ok count) = takes (Ok tt) × (count ≡ length bytes)

@@ -3,27 +3,30 @@ ghost use Rattle.std.specs.Prelude.{◌≡◌, ◌==◌, ◌<◌, ◌≤◌, ℕ
 ghost use Rattle.kf_files.specs.declared.ops.Fault.{Fault};
 ghost use Rattle.kf_files.specs.Files.{filled_by};
 ghost use Rattle.kf_text.specs.declared.not_read.NotRead.{NotRead};
-ghost use Rattle.kf_driver.specs.Tables.{Fills, TakesAll, unknown};
+ghost use Rattle.kf_driver.specs.Tables.{TakesAll, unknown};
 
 use kf_files::{Fault, Page};
 use kf_groups::Attribute;
 use kf_text::NotRead;
 
 /// What an attribute shows and stores (`show` and `store` of `struct device_attribute`). Any number of
-/// threads may call both at once.
+/// threads may call both at once. What takes a lock keeps the runtime in its struct: `Label<'a, R>` with
+/// `rt: &'a R` beside its `Mutex`, and `impl<R: Wait> Callbacks for Label<'_, R>`.
 pub trait Callbacks {
-    /// A show may fill a page with these bytes. Where a driver does not say which, any.
-    ghost shows: { Self → List ℕ → Type 0 } = { λ _ _. Unit {0} };
+    /// A show may fill a page with these bytes, or give this fault. Where a driver does not say, any.
+    ghost shows: { Self → Result (List ℕ) Fault → Type 0 } = { λ _ _. Unit {0} };
 
     /// A store of these bytes may answer this. Where a driver does not say what, anything.
     ghost takes: { Self → List ℕ → Result (Unit {0}) NotRead → Type 0 } = { λ _ _ _. Unit {0} };
 
-    /// Fills the empty page.
-    fn show(&self, page: &mut Page)
+    /// Fills the empty page, or gives a fault, as 5 where the device does not answer (`EIO`). What it filled
+    /// before a fault is not shown.
+    fn show(&self, page: &mut Page) -> Result<(), Fault>
         requires empty { page.old.items ≡ [] }
-        ensures shown { shows self.now page.new.items };
+        ensures shown { shows self.now (filled_by result page.new.items) };
 
-    /// Takes all of the bytes, 1 to 4,096 of them, or tells why not.
+    /// Takes all of the bytes, 1 to 4,096 of them, or tells why not (a store with other reasons: a `WaitOps`
+    /// of your own). For a file that nobody may write it is never called: answer Invalid.
     fn store(&self, bytes: &[u8]) -> Result<(), NotRead>
         requires some { 0 < length bytes.now }
         requires fits { length bytes.now ≤ 4096 }
@@ -79,15 +82,14 @@ impl<A, B> Row<A, B> {
 
 impl<A: Callbacks, B: Table> Table for Row<A, B> {
     ghost may_show = { λ row tag filled. MatchBool (tag == row.tag)
-        (Fills (A.shows row.callbacks) filled) (B.may_show row.others tag filled) };
+        (A.shows row.callbacks filled) (B.may_show row.others tag filled) };
 
     ghost may_store = { λ row tag bytes answer. MatchBool (tag == row.tag)
         (TakesAll (A.takes row.callbacks bytes) bytes answer) (B.may_store row.others tag bytes answer) };
 
     fn show(&self, tag: u64, page: &mut Page) -> Result<(), Fault> {
         if tag == self.tag {
-            self.callbacks.show(page);
-            return Ok(());
+            return self.callbacks.show(page);
         }
         self.others.show(tag, page)
     }

@@ -1,37 +1,34 @@
 //! A hardware monitor as its driver writes it: `/hwmon0` with the files of a temperature, and the group
-//! `power` in it. Two threads read and one writes, until the device is removed under them.
+//! `power` in it. One thread reads and one writes, until the device is removed under them.
 #![tactic(auto)]
 
 ghost use Rattle.std.specs.Prelude.{◌≡◌};
 
 use anyhow::Context;
+use arrayvec::ArrayVec;
 use kf_core::{Limits, Node, Refusal};
 use kf_driver::{Callbacks, Driver, End, Row, Table};
-use kf_files::{FileError, Page, WaitingFile, Want};
+use kf_files::{Fault, FileError, Page, WaitingFile, Want};
 use kf_groups::{Attribute, Group, create_group};
 use kf_notify::Posts;
 use kf_paths::{notify, open_path};
-use kf_shared::{Editor, Naming, NewTree, SharedTree, release_all};
-use kf_text::{NotRead, Part, emit, read_flag, read_signed};
+use kf_shared::{Naming, NewTree, SharedTree, release_all};
+use kf_text::{NotRead, Part, emit, line_of, read_signed};
 use std::alloc::Global;
 use std::marker::Brand;
-use std::sync::Wait;
-use std::sync::atomic::{AtomicBool, AtomicI64, Ordering};
+use std::sync::atomic::{AtomicI64, Ordering};
+use std::sync::{Mutex, Wait};
 use std::thread::{Threads, join};
-
-/// What a file is opened for.
-fn wanted(read: bool, write: bool) -> Want {
-    Want { read, write }
-}
 
 /// A temperature, in thousandths of a degree.
 #[derive(Drop)]
 struct Temperature(AtomicI64);
 
 impl Callbacks for Temperature {
-    fn show(&self, page: &mut Page) {
+    fn show(&self, page: &mut Page) -> Result<(), Fault> {
         let degrees = self.0.load(Ordering::SeqCst);
         emit(page, &[Part::Signed(degrees), Part::Newline]);
+        Ok(())
     }
 
     fn store(&self, bytes: &[u8]) -> Result<(), NotRead> {
@@ -41,33 +38,33 @@ impl Callbacks for Temperature {
     }
 }
 
-/// Whether power is on.
-#[derive(Drop)]
-struct Switch(AtomicBool);
+/// Puts a text on the page, as a line.
+fn emit_line(page: &mut Page, text: &[u8]) {
+    emit(page, &[Part::Text(text), Part::Newline]);
+}
 
-impl Callbacks for Switch {
-    fn show(&self, page: &mut Page) {
-        let part = Part::Flag(self.0.load(Ordering::SeqCst));
-        emit(page, &[part, Part::Newline]);
+/// A text of at most 16 bytes, which a lock keeps whole.
+#[derive(Drop)]
+struct Label<'a, R> {
+    rt: &'a R,
+    text: Mutex<ArrayVec<u8, 16>>,
+}
+
+impl<R: Wait> Callbacks for Label<'_, R> {
+    fn show(&self, page: &mut Page) -> Result<(), Fault> {
+        let text = self.text.lock(self.rt);
+        emit_line(page, text.as_slice());
+        Ok(())
     }
 
     fn store(&self, bytes: &[u8]) -> Result<(), NotRead> {
-        self.0.store(read_flag(bytes)?, Ordering::SeqCst);
+        let mut text = ArrayVec::new();
+        if text.try_extend_from_slice(line_of(bytes)).is_err() {
+            return Err(NotRead::Invalid);
+        }
+        *self.text.lock(self.rt) = text;
         Ok(())
     }
-}
-
-/// Makes the device's directory, with a group that has no name and one that has, and then shows all of it.
-fn publish<'g, N: Naming>(
-    editor: &mut Editor<'_, N>,
-    files: &'g [Attribute<'g>],
-    power: &'g [Attribute<'g>],
-) -> Result<(), Refusal> {
-    let root = editor.state().root();
-    let device = editor.create(root, b"hwmon0", Node::Dir, false)?;
-    create_group(editor, device, &Group::new(None, files))?;
-    create_group(editor, device, &Group::new(Some(b"power"), power))?;
-    editor.activate(device)
 }
 
 /// Reads until the device is gone, and answers how many texts were no temperature.
@@ -89,7 +86,7 @@ fn reads<N: Naming, T: Table, R: Wait>(
     wrong
 }
 
-/// Writes a thousand times, removes the device under its readers, and writes once more.
+/// Writes a thousand times, removes the device under its reader, and writes once more.
 fn removes<N: Naming, T: Table, R: Wait>(
     rt: &R,
     tree: &SharedTree<N>,
@@ -114,36 +111,39 @@ fn run<N: Naming + Send + Sync, R: Threads + Wait + Print + Sync>(
     let tree = new.named::<N>();
     let input = Attribute::new(b"temp1_input", 0o444, 1);
     let max = Attribute::new(b"temp1_max", 0o644, 2);
-    let enable = Attribute::new(b"enable", 0o644, 3);
-    let rows = Row::new(enable, Switch(AtomicBool::new(true)), End);
+    let label = Attribute::new(b"label", 0o644, 3);
+    let text = Mutex::new(ArrayVec::new());
+    let rows = Row::new(label, Label { rt, text }, End);
     let rows = Row::new(max, Temperature(AtomicI64::new(90_000)), rows);
     let table = Row::new(input, Temperature(AtomicI64::new(41_000)), rows);
     let driver = Driver { table };
     let mut posts = Posts::new(alloc, 8)?;
     let mut editor = tree.edit(rt);
-    publish(&mut editor, &[input, max], &[enable])?;
-    let (to_read, to_write) = (wanted(true, false), wanted(false, true));
-    let mut first = open_path(&mut editor, &mut posts, b"/hwmon0/temp1_input", to_read)?;
-    let mut second = open_path(&mut editor, &mut posts, b"/hwmon0/temp1_max", to_read)?;
-    let mut limit = open_path(&mut editor, &mut posts, b"/hwmon0/temp1_max", to_write)?;
-    let device = editor.state().lookup(b"/hwmon0")?;
+    let root = editor.state().root();
+    let device = editor.create(root, b"hwmon0", Node::Dir, false)?;
+    create_group(&mut editor, device, &Group::new(None, &[input, max]))?;
+    create_group(&mut editor, device, &Group::new(Some(b"power"), &[label]))?;
+    editor.activate(device)?; // now all of it is live
+    let wanted = Want {
+        read: true,
+        write: true,
+    };
+    let mut shown = open_path(&mut editor, &mut posts, b"/hwmon0/temp1_max", wanted)?;
+    let mut limit = open_path(&mut editor, &mut posts, b"/hwmon0/temp1_max", wanted)?;
     let event = notify(editor.state(), &mut posts, device, b"temp1_max")?;
     drop(editor);
-    let ((one, other), removed) = join(
+    let (wrong, removed) = join(
         rt,
-        || join(
-            rt,
-            || reads(rt, &tree, &driver, &mut first),
-            || reads(rt, &tree, &driver, &mut second),
-        ),
+        || reads(rt, &tree, &driver, &mut shown),
         || removes(rt, &tree, &driver, &mut limit),
     );
     let taken = removed?;
-    println!(rt; "event {event}, wrong texts: {one} {other}, all taken until gone: {taken}")?;
+    println!(rt; "event {event}, wrong texts: {wrong}, all taken until gone: {taken}")?;
     Ok(())
 }
 
 fn main(rt: HostRuntime) -> anyhow::Result<()> {
+    // 8 slots: the root, the device, its group, three files, and two to spare; as many posts in `run`
     let limits = Limits::new(8, 100).context("8 slots and 100 holds are within the limits")?;
     let new = SharedTree::<Brand>::new(rt.alloc(), limits)?;
     run::<Brand, _>(&rt, rt.alloc(), new)
