@@ -38,19 +38,22 @@
  *   inside, and -EAGAIN where this look saw somebody. Of the calls on a tree kt_unhide() and kt_remove() alone show it.
  * - A file is opened where its node is live and its mode allows it. A show begins where the node was entered and the
  *   event number taken, at offset 0 or where there is no text. Text is kept in a call alone that began a show.
- * - Which number kt_enter(), kt_begin_read() and kt_begin_write() refuse with; that kt_clear() and kt_delete() refuse
- *   only a tree with a file in which a hiding has yet to see nobody.
- * - What was behind a handle that is given something new was nothing.
+ * - kt_unhide() answers 0 where it saw nobody inside, and then one step took what hides the file off.
+ * - kt_remove() and kt_claim() mark, where that was not done before; but for marks they store only of kt_remove() that
+ *   nodes of that subtree were shown and taken out.
+ * - Which number kt_enter(), kt_begin_read() and kt_begin_write() refuse with, and that a hold was tried where it is
+ *   -ENODEV; that kt_clear() and kt_delete() refuse a tree with a file in which a hiding has yet to see nobody, with
+ *   -EBUSY, and nothing else.
+ * - What was behind a handle that is given something new was nothing; where something was, it is -EINVAL.
  * - After an answer below 0, but for -EAGAIN of kt_remove() and kt_hide(), and those of kt_new() and kt_delete(), the
  *   tree, the handle and `out` are as they were (a refused try to enter was counted for a moment).
  * - No function reads or writes out of bounds or after a free, and each ends.
  *
  * On a node that is not in the tree nobody runs, and a key that has left it never comes again: these are laws over
- * every run of these functions' steps. Not proved: which error number comes of other calls; that kt_remove() and
- * kt_claim() mark, that somebody is inside where kt_remove() answers -EAGAIN, and that the two take out, show and
- * change nothing but it and those below; that kt_unhide() shows it to those who enter; that kt_clear() and kt_delete()
- * let go, and which of 0 and 1 they answer; that kt_new() gives a handle; and everything that is C, the helpers below
- * too. `make -C c test` tries these.
+ * every run of these functions' steps. Not proved: which error number comes of other calls; that somebody is inside
+ * where kt_remove() answers -EAGAIN, and that it lets no hiding of another file go; that kt_clear() and kt_delete() let
+ * go, and which of 0 and 1 they answer; that kt_new() gives a handle; and everything that is C, the helpers below too.
+ * `make -C c test` tries these.
  *
  * What a program has to keep to, which the library cannot see:
  * - A handle comes from kt_new(), is used by one function at a time, and not after kt_delete(). It may pass to another
@@ -75,7 +78,7 @@
 #include <stdint.h>
 
 #define KT_VERSION_MAJOR 0
-#define KT_VERSION_MINOR 1
+#define KT_VERSION_MINOR 2
 
 /* The kernel's PAGE_SIZE: a show fills as much at most, and a store takes as much. */
 #define KT_PAGE_SIZE 4096
@@ -127,7 +130,7 @@ int32_t kt_delete(struct kt_handle handle);
 /* ---- calls on a tree: under its lock ---- */
 
 /* A new tree of the root alone (kernfs_create_root), behind a handle with nothing behind it. 1 to KT_SLOTS_MAX nodes, 1
- * to KT_HOLDS_MAX holds of each. 0, -EINVAL, -ENOMEM. */
+ * to KT_HOLDS_MAX holds of each. 0, -EINVAL (something is behind the handle, or these limits), -ENOMEM. */
 int32_t kt_create_root(struct kt_handle *tree, uint32_t slots, uint32_t holds);
 
 /* The root's key: slot 0, generation 1. 0, -EINVAL. */
@@ -181,17 +184,17 @@ int64_t kt_path(struct kt_handle *tree, struct kt_key key, void *path, size_t ro
  * `room`), -ENOMEM. */
 int64_t kt_readlink(struct kt_handle *tree, struct kt_key key, void *text, size_t room);
 
-/* A hold of a node (kernfs_get), behind a handle with nothing behind it. 0, -ENOENT, -EMFILE (as many as there may be),
- * -ENOMEM. */
+/* A hold of a node (kernfs_get), behind a handle with nothing behind it. 0, and in this order: -EINVAL (something is
+ * behind the handle), -ENOENT, -EMFILE (as many as there may be), -ENOMEM. */
 int32_t kt_hold(struct kt_handle *tree, struct kt_key key, struct kt_handle *hold);
 
 /* Removes a node and all below it (kernfs_remove), as far as it can without waiting: marks them all, so that no
  * kt_enter() there succeeds any more, and takes each out of the tree that nobody is inside. 0: the node is out, now or
  * before; its holds stay valid, and never enter again. -EAGAIN: somebody is inside; call again when a callback has left
- * (kt_remove_wait() does). Before anything is marked: -EINVAL (the root), -EMFILE (a node has as many holds as there
- * may be), -ENOMEM. It takes a hold of each node for a moment: once marked, a node with the most holds there may be
- * gives -EAGAIN until one is let go. A call that goes on with what an earlier one has marked may answer -ENOMEM too:
- * all stays marked; call it again. */
+ * (kt_remove_wait() does). Before anything is marked, in this order: -EINVAL (the root), -EMFILE (a node has as many
+ * holds as there may be), -ENOMEM. It takes a hold of each node for a moment: once marked, a node with the most holds
+ * there may be gives -EAGAIN until one is let go. A call that goes on with what an earlier one has marked may answer
+ * -ENOMEM too: all stays marked; call it again. */
 int32_t kt_remove(struct kt_handle *tree, struct kt_key key);
 
 /* Hides a file (kernfs_show() with false), as far as it can without waiting: at once no kt_enter() there succeeds, and
@@ -206,7 +209,8 @@ int32_t kt_hide(struct kt_handle *tree, struct kt_key key);
 int32_t kt_unhide(struct kt_handle *tree, struct kt_key key);
 
 /* Marks a node and all below it, as kt_remove() does, and claims its removal for one of its callbacks: of those who
- * claim it the first is answered 0, each other 1. -ENOENT, -EINVAL, -EMFILE, -ENOMEM. */
+ * claim it the first is answered 0, each other 1. Before anything is marked or claimed, in this order: -ENOENT, -EINVAL
+ * (the root), -EMFILE, -ENOMEM. */
 int32_t kt_claim(struct kt_handle *tree, struct kt_key key);
 
 /* The tree keeps each command that changed it, 88 bytes each. This puts the canonical list of the tree
@@ -214,12 +218,13 @@ int32_t kt_claim(struct kt_handle *tree, struct kt_key key);
 int32_t kt_compact(struct kt_handle *tree);
 
 /* A post of a node's slot, behind a handle with nothing behind it. A node's number is its slot's: it never goes back,
- * also where the slot is given again. 0, -ENOENT, -ENOMEM, -EINVAL (something is behind the handle). */
+ * also where the slot is given again. 0, and in this order: -EINVAL (something is behind the handle), -ENOENT,
+ * -ENOMEM. */
 int32_t kt_post(struct kt_handle *tree, struct kt_key key, struct kt_handle *post);
 
 /* Opens a file for reading, writing or both (kernfs_fop_open), behind a handle with nothing behind it. 0, and in this
- * order: -ENOENT, -EISDIR, -EINVAL (a link), -ENODEV (not live), -EACCES (no bit of 0444, or of 0222, of root too, as
- * in sysfs), -EMFILE (as many holds as there may be), -ENOMEM, -EINVAL (something is behind the handle). */
+ * order: -EINVAL (something is behind the handle), -ENOENT, -EISDIR, -EINVAL (a link), -ENODEV (not live), -EACCES (no
+ * bit of 0444, or of 0222, of root too, as in sysfs), -EMFILE (as many holds as there may be), -ENOMEM. */
 int32_t kt_open(struct kt_handle *tree, struct kt_key key, bool read, bool write, struct kt_handle *file);
 
 /* ---- steps of a hold, a call, a post and an open file: no lock, from any thread ---- */
@@ -423,24 +428,28 @@ static inline int32_t kt_hide_wait(struct kt_handle *tree, struct kt_key key, st
 }
 
 /* Removes a call's node, or `key` above it, from inside its callback (kernfs_remove_self), and waits for every other
- * callback there. 1 for the first that does so; 0 for each other, or where it was gone; all once the node is out. Below
- * 0: as of kt_break(), kt_claim() and kt_remove(), and after that of kt_remove() the claim is spent. The call has its
- * protection again. */
+ * callback there. The call runs, and has not broken its protection before. It claims first, and then breaks it. 1 for
+ * the first that does so; 0 for each other, or where it was gone; all once the node is out, and the call has its
+ * protection again. Below 0: as of kt_claim(), and then nothing has changed, so it may be tried again from the same
+ * callback; or, with the claim spent, as of kt_break() and kt_remove(). */
 static inline int32_t kt_remove_self_wait(struct kt_handle *tree, struct kt_handle *call, struct kt_key key,
                                           struct kt_lock *lock)
 {
-    int32_t claimed, answer = kt_break_wake(call, lock);
-    if (answer)
-        return answer;
+    int32_t claimed, answer;
     pthread_mutex_lock(&lock->mutex);
     claimed = kt_claim(tree, key);
-    while (claimed >= 0 && (answer = kt_remove(tree, key)) == -EAGAIN)
-        pthread_cond_wait(&lock->left, &lock->mutex);
+    answer = claimed < 0 ? claimed : kt_break(call);
+    if (answer == 1)
+        pthread_cond_broadcast(&lock->left);
+    if (answer >= 0) {
+        while ((answer = kt_remove(tree, key)) == -EAGAIN)
+            pthread_cond_wait(&lock->left, &lock->mutex);
+        kt_restore(call);
+    }
     pthread_mutex_unlock(&lock->mutex);
-    kt_restore(call);
-    if (claimed < 0)
-        return claimed == -ENOENT ? 0 : claimed;
-    return answer ? answer : claimed == 0;
+    if (answer)
+        return claimed == -ENOENT ? 0 : answer;
+    return claimed == 0;
 }
 
 /* Leaves a call; one that was left broken is restored first. */

@@ -22,14 +22,16 @@ static double now(void)
     return (double)time.tv_sec * 1e9 + (double)time.tv_nsec;
 }
 
+/* The hold, or nothing where an answer was not 0. (The answers are added up: a branch for each would cost more.) */
 static void *enter_and_leave(void *data)
 {
     struct kt_handle *hold = data;
+    int32_t answers = 0;
     for (int i = 0; i < TURNS; i++) {
-        kt_enter(hold);
-        kt_leave(hold);
+        answers |= kt_enter(hold);
+        answers |= kt_leave(hold);
     }
-    return NULL;
+    return answers ? NULL : data;
 }
 
 static void *add(void *data)
@@ -39,9 +41,10 @@ static void *add(void *data)
         atomic_fetch_add(word, 1);
         atomic_fetch_sub(word, 1);
     }
-    return NULL;
+    return data;
 }
 
+/* The best round: how long a turn took. */
 static double best(int count, void *(*what)(void *), int is_words)
 {
     double least = 1e18;
@@ -49,9 +52,13 @@ static double best(int count, void *(*what)(void *), int is_words)
         pthread_t threads[THREADS];
         double start = now();
         for (int i = 0; i < count; i++)
-            pthread_create(&threads[i], NULL, what, is_words ? (void *)&words[i].word : (void *)&holds[i]);
-        for (int i = 0; i < count; i++)
-            pthread_join(threads[i], NULL);
+            if (pthread_create(&threads[i], NULL, what, is_words ? (void *)&words[i].word : (void *)&holds[i]))
+                exit(2);
+        for (int i = 0; i < count; i++) {
+            void *done = NULL;
+            if (pthread_join(threads[i], &done) || !done)
+                exit(2);
+        }
         double took = (now() - start) / TURNS;
         least = took < least ? took : least;
     }

@@ -32,22 +32,31 @@ static void hide(void)
     printf("hidden: %d\n", answer);
 }
 
-/* A file with as many holds as there may be. */
+/* A file with as many holds as there may be, in a directory. */
 static void full(void)
 {
     AGAIN(kt_new(&small.at));
     AGAIN(kt_new(&all.at));
     AGAIN(kt_create_root(&small, 4, 1));
     AGAIN(kt_root(&small, &root));
-    AGAIN(kt_create_file(&small, root, "f", 1, 0644, 0, true, &file));
+    AGAIN(kt_create_dir(&small, root, "d", 1, true, &dir));
+    AGAIN(kt_create_file(&small, dir, "f", 1, 0644, 0, true, &file));
     AGAIN(kt_hold(&small, file, &all));
+    REFUSED(kt_create_root(&small, 4, 1));
+    REFUSED(kt_hold(&small, dir, &all));
+    REFUSED(kt_post(&small, file, &all));
+    REFUSED(kt_open(&small, file, true, false, &all));
     REFUSED(kt_hold(&small, file, &open));
     REFUSED(kt_open(&small, file, true, false, &open));
     REFUSED(kt_open(&small, root, true, false, &open));
     REFUSED(kt_hide(&small, file));
     REFUSED(kt_hide(&small, root));
     REFUSED(kt_claim(&small, file));
+    REFUSED(kt_claim(&small, dir));
     REFUSED(kt_claim(&small, root));
+    REFUSED(kt_remove(&small, file));
+    REFUSED(kt_remove(&small, dir));
+    REFUSED(kt_remove(&small, root));
     REFUSED(kt_unhide(&small, file));
 }
 

@@ -1,10 +1,10 @@
 //! The calls of a program. Each answers 0 or more, or a Linux error number below 0, and then nothing changed.
-ghost use Rattle.std.specs.Prelude.{◌≡◌, ◌≢◌, ◌⊎◌, pos};
+ghost use Rattle.std.specs.Prelude.{◌≡◌, ◌≢◌, ◌⊎◌, pos, negsuc, false};
 ghost use Rattle.kf_core.specs.declared.key.Node.TheVariants as kind;
 ghost use Rattle.kf_handles.specs.declared.object.Object.TheVariants as behind;
-ghost use Rattle.kf_handles.specs.Tasks.{HasHidingIn};
+ghost use Rattle.kf_handles.specs.Tasks.{HasHidingIn, HasNoHidingIn};
 ghost use Rattle.kf_handles.specs.Answers.{IsAsBefore, Wrote};
-ghost use Rattle.kf_handles.specs.Calls.{key_in, CreatedIn, FoundIn, WalkedIn, IsNewTree, HoldsNode, RootIn, ActivatedIn, MovedIn, CompactedIn, IsNothing, ToldIn, NextIn, LinkTextIn, ParentIn, NameIn, PathIn};
+ghost use Rattle.kf_handles.specs.Calls.{key_in, CreatedIn, FoundIn, WalkedIn, IsNewTree, HoldsNode, RootIn, ActivatedIn, MovedIn, CompactedIn, IsNothing, is_nothing, ToldIn, NextIn, LinkTextIn, ParentIn, NameIn, PathIn};
 ghost use Rattle.kf_handles.specs.Numbers.{HasPostOf, IsSameTree, WasNotified, WasFull, TookNumber};
 ghost use Rattle.kf_handles.specs.Steps.{WasEntered, WasRefused, WasLeft, WasBroken, WasRestored, enter_error, wake_of};
 
@@ -21,7 +21,9 @@ pub extern "C" fn kt_new(alloc: Global, out: &mut *mut u8) -> i32 {
 /// Lets go of a handle and of what lies behind it; not of a tree with a hidden file in which somebody may be.
 #[unsafe(no_mangle)]
 pub extern "C" fn kt_delete(handle: KtHandle) -> i32
-    ensures busy { result ≢ pos 0 → result ≢ pos 1 → HasHidingIn handle.place.object }
+    ensures gone { (result ≡ pos 0) ⊎ (result ≡ pos 1) → HasNoHidingIn handle.place.object }
+    ensures busy { result ≢ pos 0 → result ≢ pos 1 →
+        (result ≡ negsuc 15) × HasHidingIn handle.place.object }
 {
     kf_handles::delete(handle)
 }
@@ -30,9 +32,10 @@ pub extern "C" fn kt_delete(handle: KtHandle) -> i32
 /// file in which somebody may be stays.
 #[unsafe(no_mangle)]
 pub extern "C" fn kt_clear(handle: &mut KtHandle) -> i32
-    ensures empty { (result ≡ pos 0) ⊎ (result ≡ pos 1) → IsNothing handle.new.place }
-    ensures busy { result ≢ pos 0 → result ≢ pos 1 →
-        HasHidingIn handle.old.place.object × (handle.new.place ≡ handle.old.place) }
+    ensures empty { (result ≡ pos 0) ⊎ (result ≡ pos 1) →
+        IsNothing handle.new.place × HasNoHidingIn handle.old.place.object }
+    ensures busy { result ≢ pos 0 → result ≢ pos 1 → (result ≡ negsuc 15)
+        × HasHidingIn handle.old.place.object × (handle.new.place ≡ handle.old.place) }
 {
     kf_handles::clear(handle)
 }
@@ -46,6 +49,7 @@ pub extern "C" fn kt_create_root(
     holds: u32,
 ) -> i32
     ensures made { result ≡ pos 0 → IsNewTree slots holds handle.new.place.object }
+    ensures taken { is_nothing handle.old.place ≡ false → result ≡ negsuc 21 }
     ensures was { result ≡ pos 0 → IsNothing handle.old.place }
     ensures same { result ≢ pos 0 → handle.new.place ≡ handle.old.place }
 {
@@ -284,6 +288,7 @@ pub extern "C" fn kt_hold(tree: &mut KtHandle, key: KtKey, out: &mut KtHandle) -
     ensures held { result ≡ pos 0 → HoldsNode tree.old.place.object key out.new.place.seat
         × (out.new.place.object ≡ behind.Empty) }
     ensures tree { IsAsBefore tree.old.place.object tree.new.place.object }
+    ensures taken { is_nothing out.old.place ≡ false → result ≡ negsuc 21 }
     ensures was { result ≡ pos 0 → IsNothing out.old.place }
     ensures same { result ≢ pos 0 → out.new.place ≡ out.old.place }
 {
@@ -296,6 +301,7 @@ pub extern "C" fn kt_post(tree: &mut KtHandle, key: KtKey, out: &mut KtHandle) -
     ensures posted { result ≡ pos 0 →
         HasPostOf tree.old.place.object (key_in key) out.new.place.object }
     ensures tree { IsSameTree tree.old.place.object tree.new.place.object }
+    ensures taken { is_nothing out.old.place ≡ false → result ≡ negsuc 21 }
     ensures was { result ≡ pos 0 → IsNothing out.old.place }
     ensures same { result ≢ pos 0 → out.new.place ≡ out.old.place }
 {
@@ -332,7 +338,8 @@ pub extern "C" fn kt_enter(hold: &mut KtHandle) -> i32
     kf_handles::enter(hold)
 }
 
-/// Gives the reference back (`kernfs_put_active`): 0, or 1 where one who removes may wait for that.
+/// Gives the reference back (`kernfs_put_active`): 0, or 1 where a removal or a hiding may wait for
+/// that.
 #[unsafe(no_mangle)]
 pub extern "C" fn kt_leave(call: &mut KtHandle) -> i32
     ensures left { (result ≡ pos 0) ⊎ (result ≡ pos 1) →
@@ -344,8 +351,8 @@ pub extern "C" fn kt_leave(call: &mut KtHandle) -> i32
     kf_handles::leave(call)
 }
 
-/// Gives the reference up inside the callback (`kernfs_break_active_protection`): 0, or 1 where one who
-/// removes may wait for that.
+/// Gives the reference up inside the callback (`kernfs_break_active_protection`): 0, or 1 where a removal
+/// or a hiding may wait for that.
 #[unsafe(no_mangle)]
 pub extern "C" fn kt_break(call: &mut KtHandle) -> i32
     ensures broken { (result ≡ pos 0) ⊎ (result ≡ pos 1) →

@@ -1,8 +1,8 @@
 //! The calls of a program on open files. Each answers 0 or more, or a Linux error number below 0.
-ghost use Rattle.std.specs.Prelude.{◌≡◌, ◌≢◌, pos, true, false, length};
+ghost use Rattle.std.specs.Prelude.{◌≡◌, ◌≢◌, pos, negsuc, true, false, length};
 ghost use Rattle.kf_handles.specs.Answers.{IsAsBefore, Wrote};
-ghost use Rattle.kf_handles.specs.Calls.{IsNothing};
-ghost use Rattle.kf_handles.specs.Files.{OpenedIn, Serves, BeganRead, HasShown, TextFrom, MayWrite, WasPolled, WasKeptOut, IsSamePlace, read_error, write_error};
+ghost use Rattle.kf_handles.specs.Calls.{IsNothing, is_nothing};
+ghost use Rattle.kf_handles.specs.Files.{OpenedIn, Serves, BeganRead, HasShown, TextFrom, MayWrite, WasPolled, ReadRefused, WriteRefused, IsSamePlace, read_error, write_error};
 ghost use Rattle.kf_handles.specs.Steps.{WasEntered};
 
 use kf_files::Want;
@@ -21,6 +21,7 @@ pub extern "C" fn kt_open(
 ) -> i32
     ensures opened { result ≡ pos 0 → OpenedIn tree.old.place.object key
         (record { read = read; write = write }) out.new.place }
+    ensures taken { is_nothing out.old.place ≡ false → result ≡ negsuc 21 }
     ensures was { result ≡ pos 0 → IsNothing out.old.place }
     ensures tree { IsAsBefore tree.old.place.object tree.new.place.object }
     ensures same { result ≢ pos 0 → out.new.place ≡ out.old.place }
@@ -35,7 +36,7 @@ pub extern "C" fn kt_begin_read(file: &mut KtHandle, offset: u64) -> i32
     ensures served { result ≡ pos 0 →
         Serves offset file.old.place.object × IsSamePlace file.old.place file.new.place }
     ensures begun { result ≡ pos 1 → BeganRead offset file.old.place file.new.place }
-    ensures refused { result ≢ pos 0 → result ≢ pos 1 → WasKeptOut file.old.place file.new.place }
+    ensures refused { result ≢ pos 0 → result ≢ pos 1 → ReadRefused offset file.old.place file.new.place }
     ensures why { result ≢ pos 0 → result ≢ pos 1 →
         result ≡ read_error file.old.place.object file.old.place.seat }
 {
@@ -67,7 +68,7 @@ pub extern "C" fn kt_begin_write(file: &mut KtHandle) -> i32
     ensures entered { result ≡ pos 0 → MayWrite file.old.place.object
         × WasEntered file.old.place.seat file.new.place.seat
         × (file.new.place.object ≡ file.old.place.object) }
-    ensures refused { result ≢ pos 0 → WasKeptOut file.old.place file.new.place }
+    ensures refused { result ≢ pos 0 → WriteRefused file.old.place file.new.place }
     ensures why { result ≢ pos 0 → result ≡ write_error file.old.place.object file.old.place.seat }
 {
     kf_handles::begin_write(file)

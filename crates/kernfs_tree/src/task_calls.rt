@@ -1,7 +1,7 @@
 //! The calls of a program that remove a node, and that hide a file and show it again. Each answers -EAGAIN
 //! where somebody is inside: it has begun then, and is made again.
 ghost use Rattle.std.specs.Prelude.{◌≡◌, ◌≢◌, pos, negsuc, false, true};
-ghost use Rattle.kf_handles.specs.Tasks.{IsLinkedIn, IsHiddenIn, IsShownIn, IsHiddenStillIn};
+ghost use Rattle.kf_handles.specs.Tasks.{IsRemovingIn, IsHiddenIn, IsUnhiddenIn, IsHiddenStillIn};
 ghost use Rattle.kf_handles.specs.Answers.{IsAsBefore};
 ghost use Rattle.kf_handles.specs.Calls.{ClaimedIn};
 ghost use Rattle.kf_handles.specs.Hiding.{SawNobody, SawSomebody};
@@ -24,9 +24,9 @@ pub extern "C" fn kt_claim(tree: &mut KtHandle, key: KtKey) -> i32
 #[unsafe(no_mangle)]
 pub extern "C" fn kt_remove(tree: &mut KtHandle, key: KtKey) -> i32
     ensures gone { result ≡ pos 0 →
-        IsLinkedIn tree.old.place.object tree.new.place.object key false }
+        IsRemovingIn tree.old.place.object tree.new.place.object key false }
     ensures not_yet { result ≡ negsuc 10 →
-        IsLinkedIn tree.old.place.object tree.new.place.object key true }
+        IsRemovingIn tree.old.place.object tree.new.place.object key true }
     ensures kept { result ≢ pos 0 → result ≢ negsuc 10 →
         IsAsBefore tree.old.place.object tree.new.place.object }
 {
@@ -50,7 +50,7 @@ pub extern "C" fn kt_hide(tree: &mut KtHandle, key: KtKey) -> i32
 /// inside still, and then it stays hidden.
 #[unsafe(no_mangle)]
 pub extern "C" fn kt_unhide(tree: &mut KtHandle, key: KtKey) -> i32
-    ensures shown { result ≡ pos 0 → IsShownIn tree.old.place.object tree.new.place.object key }
+    ensures shown { result ≡ pos 0 → IsUnhiddenIn tree.old.place.object tree.new.place.object key }
     ensures not_yet { result ≡ negsuc 10 →
         IsHiddenStillIn tree.old.place.object tree.new.place.object key }
     ensures kept { result ≢ pos 0 → result ≢ negsuc 10 →

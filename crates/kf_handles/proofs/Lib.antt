@@ -1,5 +1,6 @@
 pub mod Boxes
 pub mod BySlot
+pub mod Ends
 pub mod Listed
 pub mod Looks
 pub mod Written

@@ -18,6 +18,7 @@ use Rattle.kf_tree.specs.Ways.{IsPathOf}
 use Rattle.kf_tree.specs.TreeLogs.{TreeLog, IsAccepted, IsCompacted}
 use Rattle.kf_words.specs.Callers.{TableId, Handle}
 use Rattle.kf_shared.specs.Locked.{Locked, Created, CreateRefused, IsHoldOfNode, HoldRefused, Unchanged, move_cause, is_claimed}
+use Rattle.kf_handles.specs.Removing.{IsMarked}
 use Rattle.kf_handles.specs.declared.object.Object.{Object}
 use Rattle.kf_handles.specs.declared.object.Object.TheVariants as behind
 use Rattle.kf_handles.specs.declared.questions.Question.{Question}
@@ -129,8 +130,8 @@ Answered table (asks.Rename key dir name) old new reply = DoneOr (Moved old new 
 Answered table asks.Compact old new reply =
     DoneOr (IsCompacted old.state new.state) ⊥ (λ why. (why ≡ NoMemory) × (new ≡ old)) reply
 Answered table (asks.Claim key) old new reply =
-    DoneOr ((is_claimed old.claims key ≡ false) × ClaimedTo old new key)
-    ((is_claimed old.claims key ≡ true) × ClaimedTo old new key)
+    DoneOr ((is_claimed old.claims key ≡ false) × ClaimedTo old new key × IsMarked old new key)
+    ((is_claimed old.claims key ≡ true) × ClaimedTo old new key × IsMarked old new key)
     (λ why. Unchanged old new) reply
 
 -- the questions that ask for a key
@@ -141,6 +142,19 @@ is_naming (asks.Find dir name) = true
 is_naming (asks.Walk path) = true
 is_naming (asks.Parent key) = true
 is_naming other = false
+
+-- the questions that ask for no hold and no change
+abbrev pub is_look : Question → Bool
+is_look asks.Root = true
+is_look (asks.Find dir name) = true
+is_look (asks.Walk path) = true
+is_look (asks.Next dir after) = true
+is_look (asks.Tell key) = true
+is_look (asks.ReadLink key) = true
+is_look (asks.Parent key) = true
+is_look (asks.Name key alloc) = true
+is_look (asks.Path key) = true
+is_look other = false
 
 -- the questions that ask for a change, which is made at once or refused
 abbrev pub is_change : Question → Bool

@@ -1,5 +1,5 @@
 -- What the calls of a program say in the words of the tree.
-use Rattle.std.specs.Prelude.{◌≡◌, ℕ, List, [], ◌∷◌, Bool, Option, None, Some, Ok, replicate}
+use Rattle.std.specs.Prelude.{◌≡◌, ℕ, List, [], ◌∷◌, Bool, true, false, Option, None, Some, Ok, replicate}
 use Rattle.std.specs.Option.{option_map}
 use Rattle.kf_core.specs.declared.key.Key.{Key}
 use Rattle.kf_core.specs.declared.key.Node.{Node}
@@ -23,6 +23,7 @@ use Rattle.kf_handles.specs.declared.object.Seat.TheVariants as seat
 use Rattle.kf_handles.specs.declared.replies.KtKey.{KtKey}
 use Rattle.kf_handles.specs.declared.replies.KtStat.{KtStat}
 use Rattle.kf_handles.specs.declared.object.Object.TheVariants as behind
+use Rattle.kf_handles.specs.Removing.{IsMarked}
 use Rattle.kf_handles.specs.Answers.{ClaimedTo, Moved, OfTrees, bound_of}
 
 -- the key that a program has of a node
@@ -149,10 +150,20 @@ MovedIn old new key dir name =
 abbrev pub CompactedIn : Object → Object → Type 0
 CompactedIn old new = OfTrees (λ before after. IsCompacted before.state after.state) old new
 
--- the removal of the node was claimed before, or not, and is now
+-- the node and all below it are marked; the removal of the node was claimed before, or not, and is now
 abbrev pub ClaimedIn : Object → Object → KtKey → Bool → Type 0
 ClaimedIn old new key before_this = OfTrees (λ before after.
-    (is_claimed before.claims (key_in key) ≡ before_this) × ClaimedTo before after (key_in key)) old new
+    (is_claimed before.claims (key_in key) ≡ before_this) × ClaimedTo before after (key_in key)
+    × IsMarked before after (key_in key)) old new
+
+-- whether this is nothing
+abbrev pub are_nothing : Seat → Object → Bool
+are_nothing seat.None behind.Empty = true
+are_nothing at object = false
+
+-- whether nothing lies there
+abbrev pub is_nothing : Place → Bool
+is_nothing place = are_nothing place.seat place.object
 
 -- nothing lies there
 abbrev pub IsNothing : Place → Type 0

@@ -1,5 +1,5 @@
 -- What the calls on open files say.
-use Rattle.std.specs.Prelude.{◌≡◌, ◌<◌, ◌⊎◌, ℕ, ℤ, negsuc, Bool, true, false, not, ◌&&◌, List, Option, None, Some, IsTrue, IsSome}
+use Rattle.std.specs.Prelude.{◌≡◌, ◌<◌, ◌⊎◌, ℕ, ℤ, negsuc, Bool, true, false, not, ◌&&◌, List, Option, None, Some, IsTrue, IsSome, MatchBool}
 use Rattle.std.specs.Option.{option_map}
 use Rattle.kf_core.specs.declared.caller.Phase.TheVariants.{Running}
 use Rattle.kf_core.specs.declared.key.Node.{Node}
@@ -44,9 +44,19 @@ IsOpened tree key want other = ⊥
 abbrev pub IsSamePlace : Place → Place → Type 0
 IsSamePlace old new = (new.seat ≡ old.seat) × (new.object ≡ old.object)
 
--- nothing was done, but for a try of a hold that found its node not live, and was taken back
+-- it is a file that was opened for reading
+abbrev pub is_readable : Object → Bool
+is_readable (behind.File file) = file.value.state.want.read
+is_readable other = false
+
+-- it is a file that was opened for writing
+abbrev pub is_writable : Object → Bool
+is_writable (behind.File file) = file.value.state.want.write
+is_writable other = false
+
+-- the try to enter was refused, and nothing else was done
 abbrev pub WasKeptOut : Place → Place → Type 0
-WasKeptOut old new = ((new.seat ≡ old.seat) ⊎ WasRefused old.seat new.seat) × (new.object ≡ old.object)
+WasKeptOut old new = WasRefused old.seat new.seat × (new.object ≡ old.object)
 
 -- such a file lies there, with a hold of its node
 abbrev pub OpenedIn : Object → KtKey → Want → Place → Type 0
@@ -57,6 +67,11 @@ abbrev pub Serves : ℕ → Object → Type 0
 Serves offset (behind.File file) =
     IsTrue file.value.state.want.read × (0 < offset) × IsSome file.value.state.text
 Serves offset other = ⊥
+
+-- no text of the file serves a read at this offset
+abbrev pub NeedsShow : ℕ → Object → Type 0
+NeedsShow offset (behind.File file) = (offset ≡ 0) ⊎ (file.value.state.text ≡ None)
+NeedsShow offset other = ⊥
 
 -- the file was opened for reading, no text serves a read at this offset, and now there is none: its event
 -- number was taken for a show
@@ -70,6 +85,16 @@ Begins offset old new = ⊥
 -- the node was entered, and then the show begun
 abbrev pub BeganRead : ℕ → Place → Place → Type 0
 BeganRead offset old new = WasEnteredToShow old.seat new.seat × Begins offset old.object new.object
+
+-- a read was refused: of a file opened for reading no text served it, and the try to enter was refused; of
+-- all else nothing was done
+abbrev pub ReadRefused : ℕ → Place → Place → Type 0
+ReadRefused offset old new = MatchBool (is_readable old.object)
+    (NeedsShow offset old.object × WasKeptOut old new) (IsSamePlace old new)
+
+-- a write was refused: of a file opened for writing the try to enter was; of all else nothing was done
+abbrev pub WriteRefused : Place → Place → Type 0
+WriteRefused old new = MatchBool (is_writable old.object) (WasKeptOut old new) (IsSamePlace old new)
 
 -- the number of what is refused of a file: -EACCES where it was not opened for that, else as of the try
 abbrev pub access_error : Bool → Seat → ℤ

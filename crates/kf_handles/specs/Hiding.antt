@@ -1,5 +1,5 @@
 -- What hiding a file and showing it again make of a tree and of its tokens.
-use Rattle.std.specs.Prelude.{◌≡◌, ◌⊎◌, ◌+◌, ℕ, true, false, List, Option, None, Some, slice_get, slice_set, if◌then◌else◌}
+use Rattle.std.specs.Prelude.{◌≡◌, ◌⊎◌, ◌+◌, ℕ, true, false, List, All, Option, None, Some, IfSome, slice_get, slice_set, if◌then◌else◌}
 use Rattle.kf_core.specs.declared.key.Key.{Key}
 use Rattle.kf_core.specs.declared.key.Node.{Node}
 use Rattle.kf_core.specs.declared.key.Node.TheVariants.{Dir, File, Link}
@@ -9,10 +9,10 @@ use Rattle.kf_core.specs.declared.refusal.Refusal.{Refusal}
 use Rattle.kf_core.specs.declared.refusal.Refusal.TheVariants.{IsDir, Invalid, NoEntry}
 use Rattle.kf_tree.specs.declared.stat.Stat.{Stat}
 use Rattle.kf_tree.specs.TreeLogs.{IsAccepted}
-use Rattle.kf_words.specs.Callers.{TableId, Handle, IsSameSeat, FoundThere, seat_view}
+use Rattle.kf_words.specs.Callers.{TableId, Handle, IsSameSeat, WasHidden, seat_view}
 use Rattle.kf_words.specs.Layout.{is_unused}
-use Rattle.kf_words.specs.Made.{WasALookHidden}
-use Rattle.kf_shared.specs.Locked.{Locked}
+use Rattle.kf_words.specs.Made.{WasAHide, WasALookHidden, WasAShow}
+use Rattle.kf_shared.specs.Locked.{Locked, IsHoldOfNode}
 use Rattle.kf_shared.specs.Hiding.{hold_cause, ShowDone}
 
 -- ---- one token
@@ -25,11 +25,20 @@ SawNobody token = (token.phase ≡ phase_of.Hidden) × (is_unused token.found �
 abbrev pub SawSomebody : Handle → Type 0
 SawSomebody token = (token.phase ≡ phase_of.Hiding) × (is_unused token.found ≡ false)
 
--- it made one look more, and found the word of its file so; one that had seen nobody is as it was
+-- one step of this seat, a load of the word of its file, made this of it
+abbrev pub LookedOnce : Handle → Handle → Type 0
+LookedOnce before after = IsSameSeat before after × (after.steps ≡ before.steps + 1)
+    × WasALookHidden (seat_view before) (seat_view after)
+
+-- it made one look more; one that had seen nobody is as it was
 abbrev pub HasLooked : Handle → Handle → Type 0
-HasLooked before after = ((before.phase ≡ phase_of.Hidden) × (after ≡ before))
-    ⊎ (IsSameSeat before after × (after.steps ≡ before.steps + 1) × FoundThere before after.found
-    × WasALookHidden (seat_view before) (seat_view after))
+HasLooked before after =
+    ((before.phase ≡ phase_of.Hidden) × (after ≡ before)) ⊎ LookedOnce before after
+
+-- a step of this seat, once it saw that nobody is inside, took the bit of a hidden file off its word
+abbrev pub HasUnhidden : Handle → Type 0
+HasUnhidden token = (seen : Handle) × HasLooked token seen × SawNobody seen
+    × (hold : Handle) × IsSameSeat seen hold × WasAShow (seat_view seen) (seat_view hold)
 
 -- ---- the tokens of a tree, by slot
 
@@ -41,6 +50,10 @@ IsTokenOf tokens key token = (token.key ≡ key) × (slice_get tokens key.slot �
 abbrev pub IsSeen : (Handle → Type 0) → List (Option Handle) → List (Option Handle) → Handle → Type 0
 IsSeen Saw tokens tokens' token = (after : Handle) × IsSameSeat token after × HasLooked token after
     × Saw after × (tokens' ≡ slice_set tokens token.key.slot (Some after))
+
+-- of each hidden file it was seen that nobody is inside
+abbrev pub HasNoHiding : List (Option Handle) → Type 0
+HasNoHiding tokens = All (λ place. IfSome place SawNobody) tokens
 
 -- a file is hidden, and somebody may be inside
 abbrev pub HasHiding : List (Option Handle) → Type 0
@@ -55,11 +68,16 @@ hide_fault stat Dir = Some IsDir
 hide_fault stat (Link target) = Some Invalid
 hide_fault stat (File mode tag) = (if stat.doomed then Some NoEntry else None)
 
--- the file was hidden, and that is stored: one step of this token hid it, and the next one looked
-abbrev pub BeganHide : TableId → Locked → Locked → Key → Handle → Type 0
-BeganHide table old new key token = (token.table ≡ table) × (token.steps ≡ 2)
-    × IsAccepted old.state new.state (hold_cause old.state.tree token) (Hide key)
-    × (new.claims ≡ old.claims)
+-- of a new hold of the node one step hid its key
+abbrev pub HasHidden : TableId → Locked → Key → Handle → Type 0
+HasHidden table old key token = (hold : Handle) × IsHoldOfNode table old.state.tree key hold
+    × IsSameSeat hold token × WasHidden hold token × WasAHide (seat_view hold) (seat_view token)
+
+-- the file was hidden, and that is stored: one step of a new hold of it did so, and the next one looked
+pub record BeganHide (table : TableId) (old new : Locked) (key : Key) (token : Handle) : Type 0 where
+  pub hid : (hidden : Handle) × HasHidden table old key hidden × LookedOnce hidden token
+  pub accepted : IsAccepted old.state new.state (hold_cause old.state.tree token) (Hide key)
+  pub claims : new.claims ≡ old.claims
 
 -- it was hidden before, and its token looked again
 abbrev pub LookedAgain : Locked → List (Option Handle) → Locked → Key → Handle → Type 0
@@ -74,9 +92,10 @@ IsHidden Saw table old tokens new tokens' key =
     × (tokens' ≡ slice_set tokens key.slot (Some token))
     × (BeganHide table old new key token ⊎ LookedAgain old tokens new key token)
 
--- its token is spent, and so the file is shown, and that is stored where it is linked
-abbrev pub IsShown : Locked → List (Option Handle) → Locked → List (Option Handle) → Key → Type 0
-IsShown old tokens new tokens' key = ((token : Handle) × IsTokenOf tokens key token)
+-- its token took the bit off and is spent, and so the file is shown, and that is stored where it is linked
+abbrev pub IsUnhidden : Locked → List (Option Handle) → Locked → List (Option Handle) → Key → Type 0
+IsUnhidden old tokens new tokens' key =
+    ((token : Handle) × IsTokenOf tokens key token × HasUnhidden token)
     × (tokens' ≡ slice_set tokens key.slot None) × ShowDone old new key × (new.claims ≡ old.claims)
 
 -- it is hidden still, since its token looked and saw somebody inside

@@ -2,6 +2,7 @@ pub mod Ownership
 pub mod Kept
 pub mod Stages
 pub mod Hiding
+pub mod Removing
 pub mod Steps
 pub mod Answers
 pub mod Calls

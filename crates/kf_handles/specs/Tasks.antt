@@ -12,20 +12,22 @@ use Rattle.kf_handles.specs.declared.questions.Reply.TheVariants as told
 use Rattle.kf_handles.specs.declared.replies.KtKey.{KtKey}
 use Rattle.kf_handles.specs.Answers.{DoneOr}
 use Rattle.kf_handles.specs.Calls.{key_in}
-use Rattle.kf_handles.specs.Hiding.{SawNobody, SawSomebody, HasHiding, IsHidden, IsShown, IsHiddenStill}
+use Rattle.kf_handles.specs.Removing.{IsRemoving}
+use Rattle.kf_handles.specs.Hiding.{SawNobody, SawSomebody, HasHiding, HasNoHiding, IsHidden, IsUnhidden, IsHiddenStill}
 
 -- what becomes of a tree, of this table, and of its tokens, where it answers this
 abbrev pub Stepped : TableId → Task → Locked → List (Option Handle) → Locked → List (Option Handle)
     → Reply → Type 0
 Stepped table (task.Remove key) old tokens new tokens' reply =
-    DoneOr (is_linked new.state.tree key ≡ false) (is_linked new.state.tree key ≡ true)
+    DoneOr ((is_linked new.state.tree key ≡ false) × IsRemoving old new key)
+    ((is_linked new.state.tree key ≡ true) × IsRemoving old new key)
     (λ why. Unchanged old new × (tokens' ≡ tokens)) reply
 Stepped table (task.Hide key) old tokens new tokens' reply =
     DoneOr (IsHidden SawNobody table old tokens new tokens' key)
     (IsHidden SawSomebody table old tokens new tokens' key)
     (λ why. Unchanged old new × (tokens' ≡ tokens)) reply
-Stepped table (task.Show key) old tokens new tokens' reply =
-    DoneOr (IsShown old tokens new tokens' key) (IsHiddenStill old tokens new tokens' key)
+Stepped table (task.Unhide key) old tokens new tokens' reply =
+    DoneOr (IsUnhidden old tokens new tokens' key) (IsHiddenStill old tokens new tokens' key)
     (λ why. (new ≡ old) × (tokens' ≡ tokens)) reply
 
 -- there was a tree and there is one, of the same event numbers, and this holds of both and of their tokens
@@ -48,10 +50,15 @@ abbrev pub HasHidingIn : Object → Type 0
 HasHidingIn (behind.Tree tree) = HasHiding tree.value.hidden
 HasHidingIn other = ⊥
 
--- the key is linked in the tree afterwards, or not
-abbrev pub IsLinkedIn : Object → Object → KtKey → Bool → Type 0
-IsLinkedIn old new key linked =
-    OfSteps (λ before tokens after tokens'. is_linked after.state.tree (key_in key) ≡ linked) old new
+-- it is no such tree
+abbrev pub HasNoHidingIn : Object → Type 0
+HasNoHidingIn (behind.Tree tree) = HasNoHiding tree.value.hidden
+HasNoHidingIn other = Unit {0}
+
+-- the node is being removed, and its key is linked in the tree afterwards, or not
+abbrev pub IsRemovingIn : Object → Object → KtKey → Bool → Type 0
+IsRemovingIn old new key linked = OfSteps (λ before tokens after tokens'.
+    (is_linked after.state.tree (key_in key) ≡ linked) × IsRemoving before after (key_in key)) old new
 
 -- the file is hidden, and its token saw this
 abbrev pub IsHiddenIn : (Handle → Type 0) → Object → Object → KtKey → Type 0
@@ -59,9 +66,9 @@ IsHiddenIn Saw old new key = OfSteps (λ before tokens after tokens'.
     IsHidden Saw before.master.table before tokens after tokens' (key_in key)) old new
 
 -- the hidden file is shown again
-abbrev pub IsShownIn : Object → Object → KtKey → Type 0
-IsShownIn old new key =
-    OfSteps (λ before tokens after tokens'. IsShown before tokens after tokens' (key_in key)) old new
+abbrev pub IsUnhiddenIn : Object → Object → KtKey → Type 0
+IsUnhiddenIn old new key =
+    OfSteps (λ before tokens after tokens'. IsUnhidden before tokens after tokens' (key_in key)) old new
 
 -- the hidden file is hidden still: somebody is inside
 abbrev pub IsHiddenStillIn : Object → Object → KtKey → Type 0

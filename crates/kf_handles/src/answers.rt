@@ -1,6 +1,6 @@
 //! What a tree answers to each question.
-ghost use Rattle.std.specs.Prelude.{◌≡◌, ◌∷◌, [], Some};
-ghost use Rattle.kf_handles.specs.Answers.{Answered, AnsweredBehind, ListedOr, TextOr, NextRefused, bound_of};
+ghost use Rattle.std.specs.Prelude.{◌≡◌, ◌∷◌, [], Some, true};
+ghost use Rattle.kf_handles.specs.Answers.{Answered, AnsweredBehind, ListedOr, TextOr, NextRefused, bound_of, is_look};
 ghost use Rattle.std.specs.Option.{option_copied, option_map};
 ghost use Rattle.kf_core.specs.Tree.{record_at};
 ghost use Rattle.kf_tree.specs.Listing.{IsListing};
@@ -51,12 +51,50 @@ fn name(state: &State, key: Key, alloc: Global) -> Reply
     }
 }
 
+/// What the tree answers to a question that asks for no hold and no change.
+fn answer_look<N: Naming>(locked: &Locked<N>, question: Question<'_>) -> Reply
+    requires { is_look question ≡ true }
+    ensures { Answered N.table question.entry locked.now locked.now result }
+{
+    let state = locked.state();
+    match question {
+        Question::Root => Reply::Named(state.root()),
+        Question::Find { dir, name } => match state.find(dir, name) {
+            Ok(key) => Reply::Named(key),
+            Err(refusal) => Reply::Refused(refusal),
+        },
+        Question::Walk(path) => match state.walk(path) {
+            Ok(key) => Reply::Named(key),
+            Err(refusal) => Reply::Refused(refusal),
+        },
+        Question::Next { dir, after } => next(state, dir, after),
+        Question::Tell(key) => match state.stat(key) {
+            Ok(stat) => Reply::Told(stat),
+            Err(refusal) => Reply::Refused(refusal),
+        },
+        Question::ReadLink(key) => match state.target_text(key) {
+            Ok(text) => Reply::Text(text),
+            Err(refusal) => Reply::Refused(refusal),
+        },
+        Question::Parent(key) => match state.parent_of(key) {
+            Ok(Some(parent)) => Reply::Named(parent),
+            Ok(None) => Reply::Refused(Refusal::Invalid),
+            Err(refusal) => Reply::Refused(refusal),
+        },
+        Question::Name { key, alloc } => name(state, key, alloc),
+        Question::Path(key) => match state.path_of(key) {
+            Ok(path) => Reply::Text(path),
+            Err(refusal) => Reply::Refused(refusal),
+        },
+        _ => Reply::Wrong,
+    }
+}
+
 /// What the tree answers.
 pub fn answer<N: Naming>(locked: &mut Locked<N>, question: Question<'_>) -> Reply
     ensures { Answered N.table question.entry locked.old locked.new result }
 {
     match question {
-        Question::Root => Reply::Named(locked.state().root()),
         Question::Create {
             parent,
             name,
@@ -64,33 +102,6 @@ pub fn answer<N: Naming>(locked: &mut Locked<N>, question: Question<'_>) -> Repl
             live,
         } => match locked.create(parent, name, node, live) {
             Ok(key) => Reply::Named(key),
-            Err(refusal) => Reply::Refused(refusal),
-        },
-        Question::Find { dir, name } => match locked.state().find(dir, name) {
-            Ok(key) => Reply::Named(key),
-            Err(refusal) => Reply::Refused(refusal),
-        },
-        Question::Walk(path) => match locked.state().walk(path) {
-            Ok(key) => Reply::Named(key),
-            Err(refusal) => Reply::Refused(refusal),
-        },
-        Question::Next { dir, after } => next(locked.state(), dir, after),
-        Question::Tell(key) => match locked.state().stat(key) {
-            Ok(stat) => Reply::Told(stat),
-            Err(refusal) => Reply::Refused(refusal),
-        },
-        Question::ReadLink(key) => match locked.state().target_text(key) {
-            Ok(text) => Reply::Text(text),
-            Err(refusal) => Reply::Refused(refusal),
-        },
-        Question::Parent(key) => match locked.state().parent_of(key) {
-            Ok(Some(parent)) => Reply::Named(parent),
-            Ok(None) => Reply::Refused(Refusal::Invalid),
-            Err(refusal) => Reply::Refused(refusal),
-        },
-        Question::Name { key, alloc } => name(locked.state(), key, alloc),
-        Question::Path(key) => match locked.state().path_of(key) {
-            Ok(path) => Reply::Text(path),
             Err(refusal) => Reply::Refused(refusal),
         },
         Question::Hold(key) => match locked.hold(key) {
@@ -110,6 +121,7 @@ pub fn answer<N: Naming>(locked: &mut Locked<N>, question: Question<'_>) -> Repl
             Err(refusal) => Reply::Refused(refusal),
         },
         Question::Claim(key) => claim(locked, key),
+        look => answer_look(locked, look),
     }
 }
 

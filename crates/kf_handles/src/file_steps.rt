@@ -1,8 +1,8 @@
 //! Open files in halves, round the program's own show and store.
-ghost use Rattle.std.specs.Prelude.{◌≡◌, ◌≢◌, pos, true, false, length};
+ghost use Rattle.std.specs.Prelude.{◌≡◌, ◌≢◌, pos, negsuc, true, false, length};
 ghost use Rattle.kf_handles.specs.Answers.{IsAsBefore, Wrote};
-ghost use Rattle.kf_handles.specs.Calls.{IsNothing};
-ghost use Rattle.kf_handles.specs.Files.{OpenedIn, Serves, BeganRead, HasShown, TextFrom, MayWrite, WasPolled, WasKeptOut, IsSamePlace, open_fault, read_error, write_error};
+ghost use Rattle.kf_handles.specs.Calls.{IsNothing, is_nothing};
+ghost use Rattle.kf_handles.specs.Files.{OpenedIn, Serves, BeganRead, HasShown, TextFrom, MayWrite, WasPolled, ReadRefused, WriteRefused, IsSamePlace, open_fault, read_error, write_error};
 ghost use Rattle.kf_handles.specs.Steps.{WasEntered};
 ghost use Rattle.kf_files.specs.Files.{allows};
 
@@ -12,7 +12,7 @@ use crate::handle::KtHandle;
 use crate::numbers::post_of_handle;
 use crate::object::{Object, Place, Seat};
 use crate::questions::{Question, Reply};
-use crate::replies::{KtKey, ask_handle, copied, key_of, put_handle};
+use crate::replies::{KtKey, ask_handle, copied, is_nothing, key_of, put_handle};
 use crate::steps;
 use core::mem::{replace, replace_with};
 use kf_core::{Node, Refusal};
@@ -49,10 +49,14 @@ fn open_fault(stat: Stat, want: Want) -> Option<Refusal>
 /// Opens a file of the tree, behind a handle with nothing behind it.
 pub fn open(alloc: Global, handle: &mut KtHandle, key: KtKey, want: Want, out: &mut KtHandle) -> i32
     ensures opened { result ≡ pos 0 → OpenedIn handle.old.place.object key want out.new.place }
+    ensures taken { is_nothing out.old.place ≡ false → result ≡ negsuc 21 }
     ensures was { result ≡ pos 0 → IsNothing out.old.place }
     ensures tree { IsAsBefore handle.old.place.object handle.new.place.object }
     ensures same { result ≢ pos 0 → out.new.place ≡ out.old.place }
 {
+    if !is_nothing(out) {
+        return INVALID;
+    }
     let key = key_of(key);
     let stat = match replace_with(handle, Question::Tell(key), ask_handle) {
         Reply::Told(stat) => stat,
@@ -84,7 +88,7 @@ pub fn open(alloc: Global, handle: &mut KtHandle, key: KtKey, want: Want, out: &
 fn begin_read_at(place: Place, offset: u64) -> (Place, i32)
     ensures served { result.1 ≡ pos 0 → Serves offset place.object × IsSamePlace place result.0 }
     ensures begun { result.1 ≡ pos 1 → BeganRead offset place result.0 }
-    ensures refused { result.1 ≢ pos 0 → result.1 ≢ pos 1 → WasKeptOut place result.0 }
+    ensures refused { result.1 ≢ pos 0 → result.1 ≢ pos 1 → ReadRefused offset place result.0 }
     ensures why { result.1 ≢ pos 0 → result.1 ≢ pos 1 → result.1 ≡ read_error place.object place.seat }
 {
     let (seat, object) = place.into_parts();
@@ -111,7 +115,8 @@ fn begin_read_handle(handle: KtHandle, offset: u64) -> (KtHandle, i32)
     ensures served { result.1 ≡ pos 0 →
         Serves offset handle.place.object × IsSamePlace handle.place result.0.place }
     ensures begun { result.1 ≡ pos 1 → BeganRead offset handle.place result.0.place }
-    ensures refused { result.1 ≢ pos 0 → result.1 ≢ pos 1 → WasKeptOut handle.place result.0.place }
+    ensures refused { result.1 ≢ pos 0 → result.1 ≢ pos 1 →
+        ReadRefused offset handle.place result.0.place }
     ensures why { result.1 ≢ pos 0 → result.1 ≢ pos 1 →
         result.1 ≡ read_error handle.place.object handle.place.seat }
 {
@@ -125,7 +130,7 @@ pub fn begin_read(file: &mut KtHandle, offset: u64) -> i32
     ensures served { result ≡ pos 0 →
         Serves offset file.old.place.object × IsSamePlace file.old.place file.new.place }
     ensures begun { result ≡ pos 1 → BeganRead offset file.old.place file.new.place }
-    ensures refused { result ≢ pos 0 → result ≢ pos 1 → WasKeptOut file.old.place file.new.place }
+    ensures refused { result ≢ pos 0 → result ≢ pos 1 → ReadRefused offset file.old.place file.new.place }
     ensures why { result ≢ pos 0 → result ≢ pos 1 →
         result ≡ read_error file.old.place.object file.old.place.seat }
 {
@@ -218,7 +223,7 @@ pub fn copy(file: &mut KtHandle, offset: u64, out: &mut [u8]) -> i64
 fn begin_write_at(place: Place, _nothing: ()) -> (Place, i32)
     ensures entered { result.1 ≡ pos 0 → MayWrite place.object
         × WasEntered place.seat result.0.seat × (result.0.object ≡ place.object) }
-    ensures refused { result.1 ≢ pos 0 → WasKeptOut place result.0 }
+    ensures refused { result.1 ≢ pos 0 → WriteRefused place result.0 }
     ensures why { result.1 ≢ pos 0 → result.1 ≡ write_error place.object place.seat }
 {
     let (seat, object) = place.into_parts();
@@ -238,7 +243,7 @@ fn begin_write_handle(handle: KtHandle, nothing: ()) -> (KtHandle, i32)
     ensures entered { result.1 ≡ pos 0 → MayWrite handle.place.object
         × WasEntered handle.place.seat result.0.place.seat
         × (result.0.place.object ≡ handle.place.object) }
-    ensures refused { result.1 ≢ pos 0 → WasKeptOut handle.place result.0.place }
+    ensures refused { result.1 ≢ pos 0 → WriteRefused handle.place result.0.place }
     ensures why { result.1 ≢ pos 0 → result.1 ≡ write_error handle.place.object handle.place.seat }
 {
     let mut boxed = handle.into_box();
@@ -251,7 +256,7 @@ pub fn begin_write(file: &mut KtHandle) -> i32
     ensures entered { result ≡ pos 0 → MayWrite file.old.place.object
         × WasEntered file.old.place.seat file.new.place.seat
         × (file.new.place.object ≡ file.old.place.object) }
-    ensures refused { result ≢ pos 0 → WasKeptOut file.old.place file.new.place }
+    ensures refused { result ≢ pos 0 → WriteRefused file.old.place file.new.place }
     ensures why { result ≢ pos 0 → result ≡ write_error file.old.place.object file.old.place.seat }
 {
     replace_with(file, (), begin_write_handle)

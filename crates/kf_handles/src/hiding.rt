@@ -7,7 +7,7 @@ ghost use Rattle.kf_shared.specs.Locked.{Unchanged};
 ghost use Rattle.kf_shared.specs.Hiding.{hold_cause};
 ghost use Rattle.kf_handles.specs.Answers.{DoneOr};
 ghost use Rattle.kf_handles.specs.Kept.{AreTokensOf};
-ghost use Rattle.kf_handles.specs.Hiding.{SawNobody, SawSomebody, IsHidden, IsHiddenStill, IsShown, hide_fault};
+ghost use Rattle.kf_handles.specs.Hiding.{SawNobody, SawSomebody, HasHidden, IsHidden, IsHiddenStill, IsUnhidden, hide_fault};
 
 use crate::questions::Reply;
 use crate::token::Token;
@@ -38,7 +38,8 @@ fn hide_fault(stat: &Stat) -> Option<Refusal>
 /// may be, then memory.
 fn begin<N: Naming>(locked: &mut Locked<N>, key: Key) -> Result<Hiding, Refusal>
     ensures token { IfOk result (λ hiding. (hiding.table ≡ N.table) × (hiding.key ≡ key)
-        × (hiding.phase ≡ phase_of.Hiding) × (hiding.steps ≡ 1)) }
+        × (hiding.phase ≡ phase_of.Hiding)) }
+    ensures hid { IfOk result (λ hiding. HasHidden N.table locked.old key hiding) }
     ensures accepted { IfOk result (λ hiding. IsAccepted locked.old.state locked.new.state
         (hold_cause locked.old.state.tree hiding) (Hide key)) }
     ensures same { OnErr result (Unchanged locked.old locked.new) }
@@ -91,11 +92,11 @@ pub fn hide<N: Naming>(locked: &mut Locked<N>, tokens: &mut Vec<Option<Token>>, 
 }
 
 /// Shows a hidden file again: Done, or Not where somebody is inside still.
-pub fn show<N: Naming>(locked: &mut Locked<N>, tokens: &mut Vec<Option<Token>>, key: Key) -> Reply
+pub fn unhide<N: Naming>(locked: &mut Locked<N>, tokens: &mut Vec<Option<Token>>, key: Key) -> Reply
     requires { AreTokensOf N.table tokens.old.items }
     ensures tokens { AreTokensOf N.table tokens.new.items }
     ensures told { DoneOr
-        (IsShown locked.old tokens.old.items locked.new tokens.new.items key)
+        (IsUnhidden locked.old tokens.old.items locked.new tokens.new.items key)
         (IsHiddenStill locked.old tokens.old.items locked.new tokens.new.items key)
         (λ why. (locked.new ≡ locked.old) × (tokens.new.items ≡ tokens.old.items)) result }
 {

@@ -1,5 +1,5 @@
-//! The attribute tree behind handles, for programs in C: what the calls of the static library `kernfs_tree` do.
-//! Behind each handle lies nothing, a tree, a hold of a node or a call of one, a post, or an open file.
+//! The attribute tree behind handles, for programs in C: what the calls of the static library `kernfs_tree`
+//! do. Behind each handle lies nothing, a tree, a hold of a node or a call of one, a post, or an open file.
 #![tactic(auto)]
 
 mod answers;
@@ -9,6 +9,7 @@ mod file_steps;
 mod handle;
 mod hiding;
 mod holds;
+mod marking;
 mod numbers;
 mod object;
 mod questions;

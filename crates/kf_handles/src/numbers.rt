@@ -1,6 +1,6 @@
 //! Event numbers: the posts of a tree's slots, and their steps.
-ghost use Rattle.std.specs.Prelude.{◌≡◌, ◌≢◌, pos, IfOk, IfSome, None};
-ghost use Rattle.kf_handles.specs.Calls.{IsNothing};
+ghost use Rattle.std.specs.Prelude.{◌≡◌, ◌≢◌, pos, negsuc, false, IfOk, IfSome, None};
+ghost use Rattle.kf_handles.specs.Calls.{IsNothing, is_nothing};
 ghost use Rattle.kf_handles.specs.Numbers.{IsPostOf, IsSameTree, HasPostOf, WasNotified, WasFull, TookNumber};
 
 use crate::answers::ask_object;
@@ -8,7 +8,7 @@ use crate::errors::{INVALID, OVERFLOW, error_of};
 use crate::handle::KtHandle;
 use crate::object::{Object, Place, Seat};
 use crate::questions::{Question, Reply};
-use crate::replies::{KtKey, key_of, put_handle};
+use crate::replies::{KtKey, is_nothing, key_of, put_handle};
 use core::mem::replace_with;
 use kf_core::{Key, Refusal};
 use kf_notify::Post;
@@ -48,14 +48,18 @@ pub fn post(handle: &mut KtHandle, key: KtKey, out: &mut KtHandle) -> i32
         HasPostOf handle.old.place.object (record { slot = key.slot; generation = key.generation })
         out.new.place.object }
     ensures tree { IsSameTree handle.old.place.object handle.new.place.object }
+    ensures taken { is_nothing out.old.place ≡ false → result ≡ negsuc 21 }
     ensures was { result ≡ pos 0 → IsNothing out.old.place }
     ensures same { result ≢ pos 0 → out.new.place ≡ out.old.place }
 {
+    if !is_nothing(out) {
+        return INVALID;
+    }
     match replace_with(handle, key_of(key), post_of_handle) {
         Ok(post) => {
             let place = Place::of(Seat::None, Object::Post(post));
             replace_with(out, place, put_handle)
-        },
+        }
         Err(refusal) => error_of(refusal),
     }
 }

@@ -1,7 +1,7 @@
 //! What lies behind a handle: a hold or a call, and what is beside it.
-ghost use Rattle.std.specs.Prelude.{◌≡◌, IsTrue, true};
-ghost use Rattle.kf_handles.specs.Calls.{IsNothing};
-ghost use Rattle.kf_handles.specs.Tasks.{HasHidingIn};
+ghost use Rattle.std.specs.Prelude.{◌≡◌, true, false};
+ghost use Rattle.kf_handles.specs.Calls.{IsNothing, is_nothing};
+ghost use Rattle.kf_handles.specs.Tasks.{HasHidingIn, HasNoHidingIn};
 
 use crate::file::File;
 use crate::holds::{Held, Inside};
@@ -64,7 +64,8 @@ impl Place {
 
     /// Whether nothing lies there.
     pub fn is_empty(&self) -> bool
-        ensures { IsTrue result → IsNothing self.now }
+        ensures nothing { result ≡ true → IsNothing self.now }
+        ensures known { result ≡ is_nothing self.now }
     {
         match (&self.seat, &self.object) {
             (Seat::None, Object::Empty) => true,
@@ -74,7 +75,8 @@ impl Place {
 
     /// Whether it is a tree with a hidden file in which somebody may be.
     pub fn is_hiding(&self) -> bool
-        ensures { result ≡ true → HasHidingIn self.now.object }
+        ensures hiding { result ≡ true → HasHidingIn self.now.object }
+        ensures none { result ≡ false → HasNoHidingIn self.now.object }
     {
         match &self.object {
             Object::Tree(tree) => tree.is_hiding(),

@@ -66,7 +66,7 @@ pub enum Task {
     /// A file hidden, with nobody inside.
     Hide(Key),
     /// A hidden file shown again.
-    Show(Key),
+    Unhide(Key),
 }
 
 /// What a tree answers.

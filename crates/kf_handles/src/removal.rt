@@ -1,58 +1,44 @@
 //! Removal in steps: each marks what is not marked yet, and takes out what nobody uses.
-ghost use Rattle.std.specs.Prelude.{◌≡◌, true, false, OnErr};
+ghost use Rattle.std.specs.Prelude.{◌≡◌, ◌∷◌, [], true, false, OnOk, OnErr};
 ghost use Rattle.kf_core.specs.Tree.{is_linked};
 ghost use Rattle.kf_shared.specs.Locked.{Unchanged, is_claimed};
+ghost use Rattle.kf_shared.specs.Receipts.{AreOf};
+ghost use Rattle.kf_shared.specs.Removal.{keys_of};
 ghost use Rattle.kf_handles.specs.Answers.{ClaimedTo, DoneOr};
 ghost use Rattle.kf_handles.specs.Kept.{AreTokensOf};
+ghost use Rattle.kf_handles.specs.Removing.{Ends, IsMarked, IsRemoving, Removes};
 
-use crate::hiding::show;
+use crate::hiding::unhide;
+use crate::marking::{is_marked, mark, mark_once};
 use crate::questions::Reply;
 use crate::token::Token;
 use kf_core::{Key, Refusal};
 use kf_shared::{Locked, Naming};
 use kf_words::Hold;
 
-/// Gives these holds back.
-fn release_each(mut holds: Vec<Hold>) {
-    while let Some(hold) = holds.pop() {
-        hold.release();
-    }
-    holds.destroy_empty();
-}
-
-/// Marks a linked node and all below it, where it is not marked yet.
-fn mark<N: Naming>(locked: &mut Locked<N>, key: Key, doomed: bool) -> Result<(), Refusal>
-    ensures same { OnErr result (Unchanged locked.old locked.new) }
-    ensures claims { locked.new.claims ≡ locked.old.claims }
-{
-    if doomed {
-        return Ok(());
-    }
-    let hold = locked.hold(key)?;
-    match locked.doom(hold) {
-        Ok(holds) => {
-            release_each(holds);
-            Ok(())
-        }
-        Err((hold, refusal)) => {
-            hold.release();
-            Err(refusal)
-        }
-    }
-}
-
-/// Takes a marked node out of the tree, where a look finds that nobody uses it. What is hidden is shown
-/// first, so that no token is left of a node that is out.
-fn take_out<N: Naming>(locked: &mut Locked<N>, tokens: &mut Vec<Option<Token>>, key: Key)
+/// Shows a marked node again, where it is hidden, so that no token is left of a node that is out. False where
+/// somebody is inside.
+fn unhide_first<N: Naming>(
+    locked: &mut Locked<N>,
+    tokens: &mut Vec<Option<Token>>,
+    key: Key,
+) -> bool
     requires { AreTokensOf N.table tokens.old.items }
-    ensures { AreTokensOf N.table tokens.new.items }
+    ensures ends { Ends (key ∷ []) locked.old locked.new }
+    ensures tokens { AreTokensOf N.table tokens.new.items }
 {
-    if let Reply::Not = show(locked, tokens, key) {
-        return;
+    let reply = unhide(locked, tokens, key);
+    match reply {
+        Reply::Not => false,
+        _ => true,
     }
-    let Ok(hold) = locked.hold(key) else {
-        return;
-    };
+}
+
+/// Takes the node of a hold out of the tree, where nobody uses it.
+fn unlink<N: Naming>(locked: &mut Locked<N>, hold: Hold)
+    requires { hold.table ≡ N.table }
+    ensures { Ends (hold.key ∷ []) locked.old locked.new }
+{
     match hold.look() {
         Ok(drained) => {
             let _ = locked.unlink(&drained);
@@ -62,17 +48,69 @@ fn take_out<N: Naming>(locked: &mut Locked<N>, tokens: &mut Vec<Option<Token>>, 
     }
 }
 
+/// Shows the marked node of a hold, where it is hidden, and takes it out of the tree, where nobody uses it.
+fn take_out<N: Naming>(locked: &mut Locked<N>, tokens: &mut Vec<Option<Token>>, hold: Hold)
+    requires table { hold.table ≡ N.table }
+    requires tokens { AreTokensOf N.table tokens.old.items }
+    ensures ends { Ends (hold.key ∷ []) locked.old locked.new }
+    ensures tokens { AreTokensOf N.table tokens.new.items }
+{
+    if !unhide_first(locked, tokens, hold.key()) {
+        hold.release();
+        return;
+    }
+    unlink(locked, hold);
+}
+
+/// Takes each marked node of these holds out of the tree that nobody uses, in their order.
+fn take_each<N: Naming>(locked: &mut Locked<N>, tokens: &mut Vec<Option<Token>>, holds: Vec<Hold>)
+    requires tables { AreOf N.table holds.items }
+    requires tokens { AreTokensOf N.table tokens.old.items }
+    ensures ends { Ends (keys_of holds.items) locked.old locked.new }
+    ensures tokens { AreTokensOf N.table tokens.new.items }
+{
+    let mut rest = holds.into_iter();
+    while let Some(hold) = rest.next() {
+        take_out(locked, tokens, hold);
+    }
+    rest.destroy_empty();
+}
+
+/// Takes a marked node out of the tree, where nobody uses it and it has room for a hold more.
+fn take_marked<N: Naming>(locked: &mut Locked<N>, tokens: &mut Vec<Option<Token>>, key: Key)
+    requires { AreTokensOf N.table tokens.old.items }
+    ensures ends { Ends (key ∷ []) locked.old locked.new }
+    ensures tokens { AreTokensOf N.table tokens.new.items }
+{
+    if let Ok(hold) = locked.hold(key) {
+        take_out(locked, tokens, hold);
+    }
+}
+
+/// The same with each of these nodes, in their order.
+fn take_all<N: Naming>(locked: &mut Locked<N>, tokens: &mut Vec<Option<Token>>, keys: &[Key])
+    requires { AreTokensOf N.table tokens.old.items }
+    ensures ends { Ends keys.now locked.old locked.new }
+    ensures tokens { AreTokensOf N.table tokens.new.items }
+{
+    for key in keys {
+        take_marked(locked, tokens, *key);
+    }
+}
+
 /// Marks a node and all below it, where it is not marked yet, and claims its removal: Done the first time,
 /// and else Not.
 pub fn claim<N: Naming>(locked: &mut Locked<N>, key: Key) -> Reply
-    ensures { DoneOr ((is_claimed locked.old.claims key ≡ false) × ClaimedTo locked.old locked.new key)
-        ((is_claimed locked.old.claims key ≡ true) × ClaimedTo locked.old locked.new key)
+    ensures { DoneOr ((is_claimed locked.old.claims key ≡ false) × ClaimedTo locked.old locked.new key
+        × IsMarked locked.old locked.new key)
+        ((is_claimed locked.old.claims key ≡ true) × ClaimedTo locked.old locked.new key
+        × IsMarked locked.old locked.new key)
         (λ why. Unchanged locked.old locked.new) result }
 {
-    let Ok(stat) = locked.state().stat(key) else {
+    let Some(marked) = is_marked(locked, key) else {
         return Reply::Refused(Refusal::NoEntry);
     };
-    if let Err(refusal) = mark(locked, key, stat.doomed) {
+    if let Err(refusal) = mark_once(locked, key, marked) {
         return Reply::Refused(refusal);
     }
     if locked.claim(key) {
@@ -80,6 +118,29 @@ pub fn claim<N: Naming>(locked: &mut Locked<N>, key: Key) -> Reply
     } else {
         Reply::Not
     }
+}
+
+/// Marks a node and all below it, where it is not marked yet, and takes each of them out that nobody uses.
+fn take_up<N: Naming>(
+    locked: &mut Locked<N>,
+    tokens: &mut Vec<Option<Token>>,
+    key: Key,
+    marked: bool,
+) -> Result<(), Refusal>
+    requires linked { is_linked locked.old.state.tree key ≡ true }
+    requires tokens { AreTokensOf N.table tokens.old.items }
+    ensures removes { OnOk result (Removes marked locked.old locked.new key) }
+    ensures same { OnErr result (Unchanged locked.old locked.new × (tokens.new.items ≡ tokens.old.items)) }
+    ensures tokens { AreTokensOf N.table tokens.new.items }
+{
+    if marked {
+        let keys = locked.state().post_order(key)?;
+        take_all(locked, tokens, keys.as_slice());
+        return Ok(());
+    }
+    let holds = mark(locked, key)?;
+    take_each(locked, tokens, holds);
+    Ok(())
 }
 
 /// Whether a node is linked.
@@ -95,22 +156,16 @@ fn is_linked<N: Naming>(locked: &Locked<N>, key: Key) -> bool
 pub fn remove<N: Naming>(locked: &mut Locked<N>, tokens: &mut Vec<Option<Token>>, key: Key) -> Reply
     requires { AreTokensOf N.table tokens.old.items }
     ensures tokens { AreTokensOf N.table tokens.new.items }
-    ensures told { DoneOr (is_linked locked.new.state.tree key ≡ false)
-        (is_linked locked.new.state.tree key ≡ true)
+    ensures told { DoneOr
+        ((is_linked locked.new.state.tree key ≡ false) × IsRemoving locked.old locked.new key)
+        ((is_linked locked.new.state.tree key ≡ true) × IsRemoving locked.old locked.new key)
         (λ why. Unchanged locked.old locked.new × (tokens.new.items ≡ tokens.old.items)) result }
 {
-    let Ok(stat) = locked.state().stat(key) else {
+    let Some(marked) = is_marked(locked, key) else {
         return Reply::Done;
     };
-    let order = match locked.state().post_order(key) {
-        Ok(order) => order,
-        Err(refusal) => return Reply::Refused(refusal),
-    };
-    if let Err(refusal) = mark(locked, key, stat.doomed) {
+    if let Err(refusal) = take_up(locked, tokens, key, marked) {
         return Reply::Refused(refusal);
-    }
-    for each in order.as_slice() {
-        take_out(locked, tokens, *each);
     }
     if is_linked(locked, key) {
         Reply::Not

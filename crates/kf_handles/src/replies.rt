@@ -1,8 +1,8 @@
 //! What the calls of a program do to what lies behind its handles, and the numbers that they answer.
-ghost use Rattle.std.specs.Prelude.{◌≡◌, ◌≢◌, ◌⊎◌, true, false, pos};
-ghost use Rattle.kf_handles.specs.Tasks.{HasHidingIn};
+ghost use Rattle.std.specs.Prelude.{◌≡◌, ◌≢◌, ◌⊎◌, true, false, pos, negsuc};
+ghost use Rattle.kf_handles.specs.Tasks.{HasHidingIn, HasNoHidingIn};
 ghost use Rattle.kf_handles.specs.Answers.{Answered, AnsweredBehind, OfTrees, IsAsBefore, IsTextOf, Wrote, is_change, is_naming, is_reading};
-ghost use Rattle.kf_handles.specs.Calls.{IsNewTree, HoldsNode, ClaimedIn, IsNothing, ToldIn, NextIn, stat_in_c};
+ghost use Rattle.kf_handles.specs.Calls.{IsNewTree, HoldsNode, ClaimedIn, IsNothing, is_nothing, ToldIn, NextIn, stat_in_c};
 ghost use Rattle.kf_handles.specs.declared.object.Object.TheVariants as behind;
 ghost use Rattle.kf_handles.specs.declared.questions.Reply.TheVariants as told;
 
@@ -53,6 +53,16 @@ pub fn key_of(key: KtKey) -> Key
     }
 }
 
+/// A node's key, as C sees it.
+fn told_key(key: Key) -> KtKey
+    ensures { result ≡ record { slot = key.slot; generation = key.generation } }
+{
+    KtKey {
+        slot: key.slot,
+        generation: key.generation,
+    }
+}
+
 /// Asks what lies behind a handle.
 pub fn ask_handle(handle: KtHandle, question: Question<'_>) -> (KtHandle, Reply)
     ensures { AnsweredBehind question.entry handle.place.object result.0.place.object result.1 }
@@ -73,10 +83,7 @@ pub fn name(handle: &mut KtHandle, question: Question<'_>, out: &mut KtKey) -> i
 {
     match replace_with(handle, question, ask_handle) {
         Reply::Named(key) => {
-            *out = KtKey {
-                slot: key.slot,
-                generation: key.generation,
-            };
+            *out = told_key(key);
             0
         }
         Reply::Refused(refusal) => error_of(refusal),
@@ -127,15 +134,7 @@ fn told_of(stat: Stat) -> KtStat
     let (kind, mode, tag, target) = match stat.node {
         Node::Dir => (0, 0, 0, nowhere),
         Node::File { mode, tag } => (1, mode, tag, nowhere),
-        Node::Link { target } => (
-            2,
-            0,
-            0,
-            KtKey {
-                slot: target.slot,
-                generation: target.generation,
-            },
-        ),
+        Node::Link { target } => (2, 0, 0, told_key(target)),
     };
     KtStat {
         tag,
@@ -234,14 +233,44 @@ pub fn put_handle(handle: KtHandle, new: Place) -> (KtHandle, i32)
     (KtHandle::of(boxed), answer)
 }
 
+/// Whether nothing lies there.
+fn look(place: Place, _nothing: ()) -> (Place, bool)
+    ensures same { result.0 ≡ place }
+    ensures known { result.1 ≡ is_nothing place }
+{
+    let empty = place.is_empty();
+    (place, empty)
+}
+
+fn look_handle(handle: KtHandle, nothing: ()) -> (KtHandle, bool)
+    ensures same { result.0.place ≡ handle.place }
+    ensures known { result.1 ≡ is_nothing handle.place }
+{
+    let mut boxed = handle.into_box();
+    let empty = replace_with(boxed.as_mut(), nothing, look);
+    (KtHandle::of(boxed), empty)
+}
+
+/// Whether nothing lies behind a handle.
+pub fn is_nothing(handle: &mut KtHandle) -> bool
+    ensures same { handle.new.place ≡ handle.old.place }
+    ensures known { result ≡ is_nothing handle.old.place }
+{
+    replace_with(handle, (), look_handle)
+}
+
 /// Takes a hold of a node, and puts it behind a handle with nothing behind it.
 pub fn hold(handle: &mut KtHandle, key: KtKey, out: &mut KtHandle) -> i32
     ensures held { result ≡ pos 0 → HoldsNode handle.old.place.object key out.new.place.seat
         × (out.new.place.object ≡ behind.Empty) }
+    ensures taken { is_nothing out.old.place ≡ false → result ≡ negsuc 21 }
     ensures was { result ≡ pos 0 → IsNothing out.old.place }
     ensures tree { IsAsBefore handle.old.place.object handle.new.place.object }
     ensures same { result ≢ pos 0 → out.new.place ≡ out.old.place }
 {
+    if !is_nothing(out) {
+        return INVALID;
+    }
     let key = key_of(key);
     match replace_with(handle, Question::Hold(key), ask_handle) {
         Reply::Held(held) => {
@@ -267,9 +296,13 @@ pub fn make(alloc: Global, out: &mut *mut u8) -> i32 {
 /// A new tree of the root alone, behind a handle with nothing behind it.
 pub fn make_tree(alloc: Global, handle: &mut KtHandle, slots: u32, holds: u32) -> i32
     ensures made { result ≡ pos 0 → IsNewTree slots holds handle.new.place.object }
+    ensures taken { is_nothing handle.old.place ≡ false → result ≡ negsuc 21 }
     ensures was { result ≡ pos 0 → IsNothing handle.old.place }
     ensures same { result ≢ pos 0 → handle.new.place ≡ handle.old.place }
 {
+    if !is_nothing(handle) {
+        return INVALID;
+    }
     let Some(limits) = Limits::new(slots, holds) else {
         return INVALID;
     };
@@ -287,8 +320,10 @@ pub fn make_tree(alloc: Global, handle: &mut KtHandle, slots: u32, holds: u32) -
 }
 
 fn end(place: Place, _nothing: ()) -> (Place, i32)
-    ensures empty { (result.1 ≡ pos 0) ⊎ (result.1 ≡ pos 1) → IsNothing result.0 }
-    ensures busy { result.1 ≢ pos 0 → result.1 ≢ pos 1 → HasHidingIn place.object × (result.0 ≡ place) }
+    ensures empty { (result.1 ≡ pos 0) ⊎ (result.1 ≡ pos 1) →
+        IsNothing result.0 × HasNoHidingIn place.object }
+    ensures busy { result.1 ≢ pos 0 → result.1 ≢ pos 1 →
+        (result.1 ≡ negsuc 15) × HasHidingIn place.object × (result.0 ≡ place) }
 {
     if place.is_hiding() {
         return (place, BUSY);
@@ -301,9 +336,10 @@ fn end(place: Place, _nothing: ()) -> (Place, i32)
 }
 
 fn end_handle(handle: KtHandle, nothing: ()) -> (KtHandle, i32)
-    ensures empty { (result.1 ≡ pos 0) ⊎ (result.1 ≡ pos 1) → IsNothing result.0.place }
+    ensures empty { (result.1 ≡ pos 0) ⊎ (result.1 ≡ pos 1) →
+        IsNothing result.0.place × HasNoHidingIn handle.place.object }
     ensures busy { result.1 ≢ pos 0 → result.1 ≢ pos 1 →
-        HasHidingIn handle.place.object × (result.0.place ≡ handle.place) }
+        (result.1 ≡ negsuc 15) × HasHidingIn handle.place.object × (result.0.place ≡ handle.place) }
 {
     let mut boxed = handle.into_box();
     let answer = replace_with(boxed.as_mut(), nothing, end);
@@ -313,9 +349,10 @@ fn end_handle(handle: KtHandle, nothing: ()) -> (KtHandle, i32)
 /// Lets go of what lies behind a handle: 1 where one who sleeps may wait for that, and -EBUSY of a tree with
 /// a hidden file in which somebody may be.
 pub fn clear(handle: &mut KtHandle) -> i32
-    ensures empty { (result ≡ pos 0) ⊎ (result ≡ pos 1) → IsNothing handle.new.place }
-    ensures busy { result ≢ pos 0 → result ≢ pos 1 →
-        HasHidingIn handle.old.place.object × (handle.new.place ≡ handle.old.place) }
+    ensures empty { (result ≡ pos 0) ⊎ (result ≡ pos 1) →
+        IsNothing handle.new.place × HasNoHidingIn handle.old.place.object }
+    ensures busy { result ≢ pos 0 → result ≢ pos 1 → (result ≡ negsuc 15)
+        × HasHidingIn handle.old.place.object × (handle.new.place ≡ handle.old.place) }
 {
     replace_with(handle, (), end_handle)
 }
@@ -323,7 +360,9 @@ pub fn clear(handle: &mut KtHandle) -> i32
 /// Lets go of a handle and of what lies behind it, as `clear` does. Where that is refused the handle stays
 /// the program's.
 pub fn delete(handle: KtHandle) -> i32
-    ensures { result ≢ pos 0 → result ≢ pos 1 → HasHidingIn handle.place.object }
+    ensures gone { (result ≡ pos 0) ⊎ (result ≡ pos 1) → HasNoHidingIn handle.place.object }
+    ensures busy { result ≢ pos 0 → result ≢ pos 1 →
+        (result ≡ negsuc 15) × HasHidingIn handle.place.object }
 {
     let mut boxed = handle.into_box();
     let answer = replace_with(boxed.as_mut(), (), end);

@@ -1,7 +1,7 @@
 //! What may have to be asked of a tree again, asked of what lies behind a handle, and the numbers that are
 //! answered.
 ghost use Rattle.std.specs.Prelude.{◌≡◌, ◌≢◌, true, false, pos, negsuc};
-ghost use Rattle.kf_handles.specs.Tasks.{SteppedBehind, IsLinkedIn, IsHiddenIn, IsShownIn, IsHiddenStillIn};
+ghost use Rattle.kf_handles.specs.Tasks.{SteppedBehind, IsRemovingIn, IsHiddenIn, IsUnhiddenIn, IsHiddenStillIn};
 ghost use Rattle.kf_handles.specs.Answers.{IsAsBefore};
 ghost use Rattle.kf_handles.specs.Hiding.{SawNobody, SawSomebody};
 
@@ -37,9 +37,9 @@ fn step_handle(handle: KtHandle, task: Task) -> (KtHandle, Reply)
 /// Removes a subtree as far as it can be without waiting.
 pub fn remove(handle: &mut KtHandle, key: KtKey) -> i32
     ensures gone { result ≡ pos 0 →
-        IsLinkedIn handle.old.place.object handle.new.place.object key false }
+        IsRemovingIn handle.old.place.object handle.new.place.object key false }
     ensures not_yet { result ≡ negsuc 10 →
-        IsLinkedIn handle.old.place.object handle.new.place.object key true }
+        IsRemovingIn handle.old.place.object handle.new.place.object key true }
     ensures kept { result ≢ pos 0 → result ≢ negsuc 10 →
         IsAsBefore handle.old.place.object handle.new.place.object }
 {
@@ -73,13 +73,13 @@ pub fn hide(handle: &mut KtHandle, key: KtKey) -> i32
 /// Shows a hidden file again.
 pub fn unhide(handle: &mut KtHandle, key: KtKey) -> i32
     ensures shown { result ≡ pos 0 →
-        IsShownIn handle.old.place.object handle.new.place.object key }
+        IsUnhiddenIn handle.old.place.object handle.new.place.object key }
     ensures not_yet { result ≡ negsuc 10 →
         IsHiddenStillIn handle.old.place.object handle.new.place.object key }
     ensures kept { result ≢ pos 0 → result ≢ negsuc 10 →
         IsAsBefore handle.old.place.object handle.new.place.object }
 {
-    let task = Task::Show(key_of(key));
+    let task = Task::Unhide(key_of(key));
     match replace_with(handle, task, step_handle) {
         Reply::Done => 0,
         Reply::Not => AGAIN,

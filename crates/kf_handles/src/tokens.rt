@@ -1,7 +1,7 @@
 //! The tokens of a tree's hidden files, each in its file's slot. While one lies there the slot is not given
 //! again, so it is the slot's only one.
 ghost use Rattle.std.specs.Prelude.{◌≡◌, ◌<◌, IfOk, IfSome, None, Some, true, false, length, slice_set, replicate};
-ghost use Rattle.kf_handles.specs.Hiding.{IsTokenOf, IsSeen, HasHiding, SawNobody, SawSomebody};
+ghost use Rattle.kf_handles.specs.Hiding.{IsTokenOf, IsSeen, HasHiding, HasNoHiding, SawNobody, SawSomebody};
 
 use crate::token::Token;
 use kf_core::{Key, Refusal};
@@ -63,13 +63,17 @@ pub fn look_at(tokens: &mut Vec<Option<Token>>, token: Token) -> bool
 
 /// Whether somebody may be inside a hidden file.
 pub fn has_hiding(tokens: &[Option<Token>]) -> bool
-    ensures { result ≡ true → HasHiding tokens.now }
+    ensures hiding { result ≡ true → HasHiding tokens.now }
+    ensures none { result ≡ false → HasNoHiding tokens.now }
 {
     for place in tokens {
-        if let Some(token) = place {
-            if token.is_hiding() {
-                return true;
+        match place {
+            Some(token) => {
+                if token.is_hiding() {
+                    return true;
+                }
             }
+            None => {}
         }
     }
     false

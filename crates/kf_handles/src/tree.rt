@@ -1,15 +1,15 @@
 //! A tree with the event numbers of its slots and the tokens of its hidden files.
-ghost use Rattle.std.specs.Prelude.{◌≡◌, None, true, IfOk, replicate};
+ghost use Rattle.std.specs.Prelude.{◌≡◌, None, true, false, IfOk, replicate};
 ghost use Rattle.kf_notify.specs.PostStates.{IsNewPost};
 ghost use Rattle.kf_tree.specs.TreeLogs.{IsNew};
 ghost use Rattle.kf_words.specs.Steps.{opened};
 ghost use Rattle.kf_handles.specs.Tasks.{Stepped};
 ghost use Rattle.kf_handles.specs.Answers.{Answered};
-ghost use Rattle.kf_handles.specs.Hiding.{HasHiding};
+ghost use Rattle.kf_handles.specs.Hiding.{HasHiding, HasNoHiding};
 ghost use Rattle.kf_handles.specs.Kept.{AreTokensOf};
 
 use crate::answers::answer;
-use crate::hiding::{hide, show};
+use crate::hiding::{hide, unhide};
 use crate::questions::{Question, Reply, Task};
 use crate::removal::remove;
 use crate::token::Token;
@@ -70,7 +70,8 @@ impl Tree {
 
     /// Whether somebody may be inside a hidden file.
     pub fn is_hiding(&self) -> bool
-        ensures { result ≡ true → HasHiding self.now.hidden }
+        ensures hiding { result ≡ true → HasHiding self.now.hidden }
+        ensures none { result ≡ false → HasNoHiding self.now.hidden }
     {
         has_hiding(self.hidden.as_slice())
     }
@@ -122,7 +123,7 @@ fn step_locked<N: Naming>(
     match task {
         Task::Remove(key) => remove(locked, tokens, key),
         Task::Hide(key) => hide(locked, tokens, key),
-        Task::Show(key) => show(locked, tokens, key),
+        Task::Unhide(key) => unhide(locked, tokens, key),
     }
 }
 

@@ -8,12 +8,6 @@ returns-in-Ok g c = rw c.in-Create.is (search rules)
 pub returns-in-Err : goal.returns-in-Err
 returns-in-Err g c = rw c.in-Create.is (search rules)
 
-pub returns-in-Ok-find : goal.returns-in-Ok-find
-returns-in-Ok-find g c = rw c.in-Find.is (search rules)
-
-pub returns-in-Err-find : goal.returns-in-Err-find
-returns-in-Err-find g c = rw c.in-Find.is (search rules)
-
 pub returns-in-Ok-rename : goal.returns-in-Ok-rename
 returns-in-Ok-rename g c = rw c.in-Rename.is (search rules)
 

@@ -1,5 +1,5 @@
 use Rattle.std.specs.Vec.{vec_len}
-use Rattle.kf_handles.proofs.removal.release_each.Given as goal
+use Rattle.kf_handles.proofs.marking.release_each.Given as goal
 
 abbrev pub decreases-loop-hold : goal.decreases-loop-hold
 decreases-loop-hold l = vec_len l.holds

@@ -1,0 +1,205 @@
+-- What is stored of a removal, step by step.
+use Rattle.std.proofs.Common.{◌≡◌, ◌<◌, ◌+◌, zero, suc, Bool, true, false, inl, inr, List, [], ◌∷◌, ◌++◌, length, refl, sym, ◌∙◌, ap, subst, append_assoc, append-nil, arith}
+use Rattle.std.specs.Prelude.{Contains, All, Option, None, Some, Result, Ok, Err, IfOk, IfErr, MatchBool, is_some, unwrap_or}
+use Rattle.std.specs.Option.{option_map, ok_or}
+use Rattle.std.proofs.lemmas.List.Elements.{All-nil, All-cons, All-append, All-weaker}
+use Rattle.kf_core.specs.declared.command.Command.{Command}
+use Rattle.kf_core.specs.declared.command.Command.TheVariants.{Create, Activate, Doom, Unlink, Rename, Hide, Show}
+use Rattle.kf_core.specs.declared.key.Key.{Key}
+use Rattle.kf_core.specs.declared.records.Record.{Record}
+use Rattle.kf_core.specs.declared.refusal.Refusal.{Refusal}
+use Rattle.kf_core.specs.declared.refusal.Refusal.TheVariants.{NoEntry}
+use Rattle.kf_core.specs.Commands.{replay, after}
+use Rattle.kf_core.specs.Marks.{are_doomed}
+use Rattle.kf_core.specs.PostOrder.{IsPostOrder}
+use Rattle.kf_core.specs.Tree.{Tree, record_at, is_linked}
+use Rattle.kf_tree.specs.declared.stat.Stat.{Stat}
+use Rattle.kf_tree.specs.Causes.{doomed_in, hidden_in}
+use Rattle.kf_tree.specs.Stat.{stat_of}
+use Rattle.kf_tree.specs.TreeLogs.{TreeLog, IsAccepted}
+use Rattle.kf_words.specs.Callers.{Handle}
+use Rattle.kf_shared.specs.Locked.{Locked, Unchanged, UnlinkDone, UnlinkRefused}
+use Rattle.kf_shared.specs.Removal.{keys_of}
+use Rattle.kf_handles.specs.declared.questions.Reply.{Reply}
+use Rattle.kf_handles.specs.declared.questions.Reply.TheVariants as told
+use Rattle.kf_handles.specs.Answers.{DoneOr}
+use Rattle.kf_handles.specs.Hiding.{IsUnhidden, IsHiddenStill}
+use Rattle.kf_handles.specs.Removing.{Stores, IsEndOf, Ends, Removes}
+
+-- ---- commands stored one after another
+
+replay_append : (t : Tree) (cs ds : List Command) → replay t (cs ++ ds) ≡ replay (replay t cs) ds
+replay_append t [] ds = refl
+replay_append t (c ∷ cs) ds = replay_append (after t c) cs ds
+
+pub none : (old new : TreeLog) → new.root ≡ old.root → new.tree ≡ old.tree → new.commands ≡ old.commands → Stores old new []
+none old new root tree commands = record {
+  same_root = root;
+  changed = tree;
+  stored = commands ∙ sym (append-nil old.commands);
+}
+
+pub none_same : (old new : TreeLog) → new ≡ old → Stores old new []
+none_same old new same = none old new (ap (λ (s : TreeLog). s.root) same) (ap (λ (s : TreeLog). s.tree) same) (ap (λ (s : TreeLog). s.commands) same)
+
+pub one : (old new : TreeLog) (cause : Option Refusal) (c : Command) → IsAccepted old new cause c → Stores old new (c ∷ [])
+one old new cause c accepted = record {
+  same_root = accepted.same_root;
+  changed = accepted.changed;
+  stored = accepted.stored;
+}
+
+pub join : (a b c : TreeLog) (xs ys : List Command) → Stores a b xs → Stores b c ys → Stores a c (xs ++ ys)
+join a b c xs ys first other = record {
+  same_root = other.same_root ∙ first.same_root;
+  changed = other.changed ∙ ap (λ t. replay t ys) first.changed ∙ sym (replay_append a.tree xs ys);
+  stored = other.stored ∙ ap (λ cs. cs ++ ys) first.stored ∙ append_assoc a.commands xs ys;
+}
+
+-- ---- ends of nodes
+
+-- nothing was done
+pub no_end : (keys : List Key) (old new : Locked) → new.state ≡ old.state → new.claims ≡ old.claims → Ends keys old new
+no_end keys old new same claims = ([], All-nil (IsEndOf keys), none_same old.state new.state same, claims)
+
+pub no_end_same : (keys : List Key) (old new : Locked) → new ≡ old → Ends keys old new
+no_end_same keys old new same = no_end keys old new (ap (λ (s : Locked). s.state) same) (ap (λ (s : Locked). s.claims) same)
+
+pub no_end_unchanged : (keys : List Key) (old new : Locked) → Unchanged old new → Ends keys old new
+no_end_unchanged keys old new same =
+    ([], All-nil (IsEndOf keys), none old.state new.state same.root same.tree same.commands, same.claims)
+
+-- one command was stored
+pub one_end : (keys : List Key) (old new : Locked) (cause : Option Refusal) (command : Command) → IsEndOf keys command
+    → IsAccepted old.state new.state cause command → new.claims ≡ old.claims → Ends keys old new
+one_end keys old new cause command is accepted claims = (
+  command ∷ [],
+  All-cons (IsEndOf keys) command [] is (All-nil (IsEndOf keys)),
+  one old.state new.state cause command accepted,
+  claims,
+)
+
+-- two parts, one after the other
+pub both_ends : (keys : List Key) (a b c : Locked) → Ends keys a b → Ends keys b c → Ends keys a c
+both_ends keys a b c first other = (
+  first.0 ++ other.0,
+  All-append (IsEndOf keys) first.0 other.0 first.1 other.1,
+  join a.state b.state c.state first.0 other.0 first.2 other.2,
+  other.3 ∙ first.3,
+)
+
+-- of one of the nodes
+end_of_more : (keys : List Key) (key : Key) → Contains keys key → (command : Command) → IsEndOf (key ∷ []) command
+    → IsEndOf keys command
+end_of_more keys key here (Unlink k) (zero, less, is) = subst (λ (x : Key). Contains keys x) is here
+end_of_more keys key here (Unlink k) (suc i, less, is) = absurd (omega (arith, less))
+end_of_more keys key here (Show k) (zero, less, is) = subst (λ (x : Key). Contains keys x) is here
+end_of_more keys key here (Show k) (suc i, less, is) = absurd (omega (arith, less))
+end_of_more keys key here (Create k dir name node live) never = absurd never
+end_of_more keys key here (Activate k) never = absurd never
+end_of_more keys key here (Doom k) never = absurd never
+end_of_more keys key here (Rename k dir name) never = absurd never
+end_of_more keys key here (Hide k) never = absurd never
+
+pub ends_of_more : (keys : List Key) (key : Key) (a b : Locked) → Contains keys key → Ends (key ∷ []) a b → Ends keys a b
+ends_of_more keys key a b here (more, all, stores, claims) =
+    (more, All-weaker (IsEndOf (key ∷ [])) (IsEndOf keys) (end_of_more keys key here) more all, stores, claims)
+
+-- a key alone
+pub alone : (key : Key) → Contains (key ∷ []) key
+alone key = (0, omega arith, refl)
+
+-- ---- the holds of nodes
+
+pub all_among : (holds : List Handle) → All (λ h. Contains (keys_of holds) h.key) holds
+all_among [] k d inside = absurd (omega (arith, inside))
+all_among (h ∷ holds) zero d inside = (0, omega arith, refl)
+all_among (h ∷ holds) (suc k) d inside =
+    let below : k < length holds = omega (arith, inside) in
+    let found = all_among holds k d below in (suc found.0, omega (arith, found.1), found.2)
+
+pub rest_of : (P : Handle → Type 0) (all rest : List Handle) (hold : Handle) → all ≡ hold ∷ rest → All P all → All P rest
+rest_of P all rest hold parts each = λ i d inside. subst (All P) parts each (suc i) d (omega (arith, inside))
+
+pub first_of : (P : Handle → Type 0) (all rest : List Handle) (hold : Handle) → all ≡ hold ∷ rest → All P all → P hold
+first_of P all rest hold parts each = subst (All P) parts each 0 hold (omega arith)
+
+-- ---- what is told of a node
+
+doomed_of : (t : Tree) (found : Option Record) (stat : Stat) → option_map (stat_of t) found ≡ Some stat
+    → stat.doomed ≡ are_doomed (option_map (λ r. r.marks) found)
+doomed_of t None stat never = cc
+doomed_of t (Some r) stat is =
+    ap (λ (o : Option Stat). unwrap_or (option_map (λ (s : Stat). s.doomed) o) false) (sym is)
+
+linked_of : (t : Tree) (found : Option Record) (stat : Stat) → option_map (stat_of t) found ≡ Some stat
+    → is_some found ≡ true
+linked_of t None stat never = cc
+linked_of t (Some r) stat is = refl
+
+told_of : (o : Option Stat) (stat : Stat) → ok_or o NoEntry ≡ Ok stat → o ≡ Some stat
+told_of None stat never = cc
+told_of (Some s) stat is = cc
+
+pub is_told : (t : Tree) (key : Key) (stat : Stat)
+    → ok_or (option_map (stat_of t) (record_at t key)) NoEntry ≡ Ok stat
+    → (is_linked t key ≡ true) × (stat.doomed ≡ doomed_in t key)
+is_told t key stat told =
+    let some = told_of (option_map (stat_of t) (record_at t key)) stat told in
+    (linked_of t (record_at t key) stat some, doomed_of t (record_at t key) stat some)
+
+-- ---- what the steps stored
+
+-- a drained node was taken out or not
+pub unlinked_or_not : (old new : Locked) (key drained : Key) (r : Result Bool Refusal) → drained ≡ key
+    → IfOk r (λ unlinked. UnlinkDone old new drained unlinked)
+    → IfErr r (λ why. UnlinkRefused old new drained why)
+    → new.claims ≡ old.claims → Ends (key ∷ []) old new
+unlinked_or_not old new key drained (Ok true) same done why claims =
+    one_end (key ∷ []) old new _ (Unlink drained) (subst (λ (k : Key). Contains (k ∷ []) drained) same (alone drained)) done claims
+unlinked_or_not old new key drained (Ok false) same done why claims = no_end_same (key ∷ []) old new done
+unlinked_or_not old new key drained (Err refusal) same done (inl refused) claims = no_end_same (key ∷ []) old new refused.1
+unlinked_or_not old new key drained (Err refusal) same done (inr refused) claims =
+    no_end_unchanged (key ∷ []) old new refused.3
+
+-- a hidden node was shown or not
+shown_at : (old new : Locked) (key : Key) (hidden : Bool)
+    → MatchBool hidden (IsAccepted old.state new.state None (Show key)) (new.state ≡ old.state)
+    → new.claims ≡ old.claims → Ends (key ∷ []) old new
+shown_at old new key true accepted claims = one_end (key ∷ []) old new None (Show key) (alone key) accepted claims
+shown_at old new key false same claims = no_end (key ∷ []) old new same claims
+
+pub shown_or_not : (old new : Locked) (tokens tokens' : List (Option Handle)) (key : Key) (reply : Reply)
+    → DoneOr (IsUnhidden old tokens new tokens' key) (IsHiddenStill old tokens new tokens' key)
+    (λ why. (new ≡ old) × (tokens' ≡ tokens)) reply
+    → Ends (key ∷ []) old new
+shown_or_not old new tokens tokens' key told.Done shown =
+    shown_at old new key (hidden_in old.state.tree key) shown.2 shown.3
+shown_or_not old new tokens tokens' key told.Not still = no_end_same (key ∷ []) old new still.4.0
+shown_or_not old new tokens tokens' key (told.Refused why) same = no_end_same (key ∷ []) old new same.0
+shown_or_not old new tokens tokens' key (told.Named k) never = absurd never
+shown_or_not old new tokens tokens' key (told.Listed n) never = absurd never
+shown_or_not old new tokens tokens' key (told.Told s) never = absurd never
+shown_or_not old new tokens tokens' key (told.Text t) never = absurd never
+shown_or_not old new tokens tokens' key (told.Held h) never = absurd never
+shown_or_not old new tokens tokens' key told.Wrong never = absurd never
+
+-- ---- a removal
+
+-- what was marked before goes on to end
+pub went_on : (old new : Locked) (key : Key) (keys : List Key) → IsPostOrder old.state.tree key keys
+    → Ends keys old new → Removes true old new key
+went_on old new key keys order (more, all, stores, claims) = (keys, more, order, all, stores, claims)
+
+-- what is marked now begins to end
+pub begun : (old marked new : Locked) (key : Key) (keys : List Key) → IsPostOrder old.state.tree key keys
+    → Stores old.state marked.state (Doom key ∷ []) → marked.claims ≡ old.claims
+    → Ends keys marked new → Removes false old new key
+begun old marked new key keys order doomed same (more, all, stores, claims) = (
+  keys,
+  more,
+  order,
+  all,
+  join old.state marked.state new.state (Doom key ∷ []) more doomed stores,
+  claims ∙ same,
+)

@@ -1,0 +1,49 @@
+-- What a removal in steps stores.
+use Rattle.std.specs.Prelude.{◌≡◌, true, Bool, List, [], ◌∷◌, ◌++◌, Contains, All, MatchBool, if◌then◌else◌}
+use Rattle.kf_core.specs.declared.key.Key.{Key}
+use Rattle.kf_core.specs.declared.command.Command.{Command}
+use Rattle.kf_core.specs.declared.command.Command.TheVariants.{Doom, Unlink, Show}
+use Rattle.kf_core.specs.Commands.{replay}
+use Rattle.kf_core.specs.PostOrder.{IsPostOrder}
+use Rattle.kf_core.specs.Tree.{is_linked}
+use Rattle.kf_tree.specs.Causes.{doomed_in}
+use Rattle.kf_tree.specs.TreeLogs.{TreeLog}
+use Rattle.kf_shared.specs.Locked.{Locked}
+
+-- these commands were stored, one after another, and the tree is their replay
+pub record Stores (old new : TreeLog) (commands : List Command) : Type 0 where
+  pub same_root : new.root ≡ old.root
+  pub changed : new.tree ≡ replay old.tree commands
+  pub stored : new.commands ≡ old.commands ++ commands
+
+-- it takes one of these nodes out of the tree, or shows it
+abbrev pub IsEndOf : List Key → Command → Type 0
+IsEndOf keys (Unlink key) = Contains keys key
+IsEndOf keys (Show key) = Contains keys key
+IsEndOf keys other = ⊥
+
+-- some of these nodes were shown and taken out, and nothing else was done
+abbrev pub Ends : List Key → Locked → Locked → Type 0
+Ends keys old new = (more : List Command) × All (IsEndOf keys) more × Stores old.state new.state more
+    × (new.claims ≡ old.claims)
+
+-- what is stored of a mark: of a node that was marked before nothing
+abbrev pub mark_of : Bool → Key → List Command
+mark_of marked key = (if marked then [] else Doom key ∷ [])
+
+-- the node and all below it were marked, where it was not marked before, and of these nodes alone some were
+-- shown and taken out
+abbrev pub Removes : Bool → Locked → Locked → Key → Type 0
+Removes marked old new key = (keys : List Key) × (more : List Command)
+    × IsPostOrder old.state.tree key keys × All (IsEndOf keys) more
+    × Stores old.state new.state (mark_of marked key ++ more) × (new.claims ≡ old.claims)
+
+-- so it is of a linked node; one that is not linked leaves the tree as it was
+abbrev pub IsRemoving : Locked → Locked → Key → Type 0
+IsRemoving old new key = MatchBool (is_linked old.state.tree key)
+    (Removes (doomed_in old.state.tree key) old new key) (new ≡ old)
+
+-- the node and all below it are marked, and that is all that is stored
+abbrev pub IsMarked : Locked → Locked → Key → Type 0
+IsMarked old new key = (is_linked old.state.tree key ≡ true)
+    × Stores old.state new.state (mark_of (doomed_in old.state.tree key) key)

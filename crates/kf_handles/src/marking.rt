@@ -1,0 +1,107 @@
+//! The marks of a removal: a hold of each node below comes first, and memory last.
+ghost use Rattle.std.specs.Prelude.{◌≡◌, ◌∷◌, [], None, IfSome, IfOk, OnOk, OnErr, true, false};
+ghost use Rattle.kf_core.specs.declared.command.Command.TheVariants.{Doom};
+ghost use Rattle.kf_core.specs.PostOrder.{IsPostOrder};
+ghost use Rattle.kf_core.specs.Tree.{is_linked};
+ghost use Rattle.kf_tree.specs.Causes.{doomed_in};
+ghost use Rattle.kf_shared.specs.Locked.{Unchanged};
+ghost use Rattle.kf_shared.specs.Receipts.{AreOf};
+ghost use Rattle.kf_shared.specs.Removal.{keys_of};
+ghost use Rattle.kf_handles.specs.Removing.{Stores, mark_of};
+
+use kf_core::{Key, Refusal};
+use kf_shared::{Locked, Naming};
+use kf_words::Hold;
+
+/// Gives these holds back.
+fn release_each(mut holds: Vec<Hold>) {
+    while let Some(hold) = holds.pop() {
+        hold.release();
+    }
+    holds.destroy_empty();
+}
+
+/// Whether a node is marked; None where it is not linked.
+pub fn is_marked<N: Naming>(locked: &Locked<N>, key: Key) -> Option<bool>
+    ensures linked { IfSome result (λ marked. (is_linked locked.now.state.tree key ≡ true)
+        × (marked ≡ doomed_in locked.now.state.tree key)) }
+    ensures none { result ≡ None → is_linked locked.now.state.tree key ≡ false }
+{
+    match locked.state().stat(key) {
+        Ok(stat) => Some(stat.doomed),
+        Err(_) => None,
+    }
+}
+
+/// Whether the node of this slot, where it is below the top, has as many holds as there may be.
+fn is_full_below<N: Naming>(locked: &mut Locked<N>, top: Key, slot: u32) -> bool
+    ensures { Unchanged locked.old locked.new }
+{
+    let Some(key) = locked.state().key_in(slot) else {
+        return false;
+    };
+    if key == top || !locked.state().is_below(top, key) {
+        return false;
+    }
+    match locked.hold(key) {
+        Ok(hold) => {
+            hold.release();
+            false
+        }
+        Err(refusal) => refusal == Refusal::TooManyHolds,
+    }
+}
+
+/// What is answered where a hold of the top is refused: want of memory only where no node below is full.
+fn memory_last<N: Naming>(locked: &mut Locked<N>, top: Key, refusal: Refusal) -> Refusal
+    ensures { Unchanged locked.old locked.new }
+{
+    if refusal != Refusal::NoMemory {
+        return refusal;
+    }
+    for slot in 0..locked.state().slots() {
+        if is_full_below(locked, top, slot) {
+            return Refusal::TooManyHolds;
+        }
+    }
+    refusal
+}
+
+/// Marks a linked node that is not marked yet, and all below it: a hold of each, in post-order. Refusals, in
+/// order: Invalid (the root), TooManyHolds, NoMemory.
+pub fn mark<N: Naming>(locked: &mut Locked<N>, key: Key) -> Result<Vec<Hold>, Refusal>
+    requires { is_linked locked.old.state.tree key ≡ true }
+    ensures tables { IfOk result (λ holds. AreOf N.table holds.items) }
+    ensures ordered { IfOk result (λ holds. IsPostOrder locked.old.state.tree key (keys_of holds.items)) }
+    ensures stored { OnOk result (Stores locked.old.state locked.new.state (Doom key ∷ [])) }
+    ensures same { OnErr result (Unchanged locked.old locked.new) }
+    ensures claims { locked.new.claims ≡ locked.old.claims }
+{
+    locked.state().may_doom(key)?;
+    let hold = match locked.hold(key) {
+        Ok(hold) => hold,
+        Err(refusal) => return Err(memory_last(locked, key, refusal)),
+    };
+    match locked.doom(hold) {
+        Ok(holds) => Ok(holds),
+        Err((hold, refusal)) => {
+            hold.release();
+            Err(refusal)
+        }
+    }
+}
+
+/// Marks a linked node and all below it, where it is not marked yet.
+pub fn mark_once<N: Naming>(locked: &mut Locked<N>, key: Key, marked: bool) -> Result<(), Refusal>
+    requires { is_linked locked.old.state.tree key ≡ true }
+    ensures stored { OnOk result (Stores locked.old.state locked.new.state (mark_of marked key)) }
+    ensures same { OnErr result (Unchanged locked.old locked.new) }
+    ensures claims { locked.new.claims ≡ locked.old.claims }
+{
+    if marked {
+        return Ok(());
+    }
+    let holds = mark(locked, key)?;
+    release_each(holds);
+    Ok(())
+}
