@@ -1,5 +1,5 @@
 //! A hardware monitor as its driver writes it: `/hwmon0` with the files of a temperature, and the group
-//! `power` in it. One thread reads and one writes, until the device is removed under them.
+//! `power` in it. Two threads read and one writes, until the device is removed under them.
 #![tactic(auto)]
 
 ghost use Rattle.std.specs.Prelude.{◌≡◌};
@@ -20,15 +20,19 @@ use std::sync::atomic::{AtomicI64, Ordering};
 use std::sync::{Mutex, Wait};
 use std::thread::{Threads, join};
 
+/// Puts one line on the page.
+fn emit_line(page: &mut Page, part: Part<'_>) -> Result<(), Fault> {
+    emit(page, &[part, Part::Newline]);
+    Ok(())
+}
+
 /// A temperature, in thousandths of a degree.
 #[derive(Drop)]
 struct Temperature(AtomicI64);
 
 impl Callbacks for Temperature {
     fn show(&self, page: &mut Page) -> Result<(), Fault> {
-        let degrees = self.0.load(Ordering::SeqCst);
-        emit(page, &[Part::Signed(degrees), Part::Newline]);
-        Ok(())
+        emit_line(page, Part::Signed(self.0.load(Ordering::SeqCst)))
     }
 
     fn store(&self, bytes: &[u8]) -> Result<(), NotRead> {
@@ -36,11 +40,6 @@ impl Callbacks for Temperature {
         self.0.store(degrees, Ordering::SeqCst);
         Ok(())
     }
-}
-
-/// Puts a text on the page, as a line.
-fn emit_line(page: &mut Page, text: &[u8]) {
-    emit(page, &[Part::Text(text), Part::Newline]);
 }
 
 /// A text of at most 16 bytes, which a lock keeps whole.
@@ -53,15 +52,13 @@ struct Label<'a, R> {
 impl<R: Wait> Callbacks for Label<'_, R> {
     fn show(&self, page: &mut Page) -> Result<(), Fault> {
         let text = self.text.lock(self.rt);
-        emit_line(page, text.as_slice());
-        Ok(())
+        emit_line(page, Part::Text(text.as_slice()))
     }
 
     fn store(&self, bytes: &[u8]) -> Result<(), NotRead> {
         let mut text = ArrayVec::new();
-        if text.try_extend_from_slice(line_of(bytes)).is_err() {
-            return Err(NotRead::Invalid);
-        }
+        text.try_extend_from_slice(line_of(bytes))
+            .or(Err(NotRead::Invalid))?;
         *self.text.lock(self.rt) = text;
         Ok(())
     }
@@ -86,7 +83,7 @@ fn reads<N: Naming, T: Table, R: Wait>(
     wrong
 }
 
-/// Writes a thousand times, removes the device under its reader, and writes once more.
+/// Writes a thousand times, removes the device under its readers, and writes once more.
 fn removes<N: Naming, T: Table, R: Wait>(
     rt: &R,
     tree: &SharedTree<N>,
@@ -128,22 +125,25 @@ fn run<N: Naming + Send + Sync, R: Threads + Wait + Print + Sync>(
         read: true,
         write: true,
     };
-    let mut shown = open_path(&mut editor, &mut posts, b"/hwmon0/temp1_max", wanted)?;
+    let mut first = open_path(&mut editor, &mut posts, b"/hwmon0/temp1_max", wanted)?;
+    let mut second = open_path(&mut editor, &mut posts, b"/hwmon0/temp1_max", wanted)?;
     let mut limit = open_path(&mut editor, &mut posts, b"/hwmon0/temp1_max", wanted)?;
     let event = notify(editor.state(), &mut posts, device, b"temp1_max")?;
     drop(editor);
-    let (wrong, removed) = join(
+    let ((one, other), removed) = join(
         rt,
-        || reads(rt, &tree, &driver, &mut shown),
+        || join(
+            rt,
+            || reads(rt, &tree, &driver, &mut first),
+            || reads(rt, &tree, &driver, &mut second),
+        ),
         || removes(rt, &tree, &driver, &mut limit),
     );
     let taken = removed?;
-    println!(rt; "event {event}, wrong texts: {wrong}, all taken until gone: {taken}")?;
-    Ok(())
+    Ok(println!(rt; "event {event}, wrong texts: {one} {other}, all taken until gone: {taken}")?)
 }
 
 fn main(rt: HostRuntime) -> anyhow::Result<()> {
-    // 8 slots: the root, the device, its group, three files, and two to spare; as many posts in `run`
     let limits = Limits::new(8, 100).context("8 slots and 100 holds are within the limits")?;
     let new = SharedTree::<Brand>::new(rt.alloc(), limits)?;
     run::<Brand, _>(&rt, rt.alloc(), new)
