@@ -6,7 +6,7 @@ ghost use Rattle.kf_handles.specs.Tasks.{HasHidingIn, HasNoHidingIn};
 ghost use Rattle.kf_handles.specs.Answers.{IsAsBefore, Wrote};
 ghost use Rattle.kf_handles.specs.Calls.{key_in, CreatedIn, FoundIn, WalkedIn, IsNewTree, HoldsNode, RootIn, ActivatedIn, MovedIn, CompactedIn, IsNothing, is_nothing, ToldIn, NextIn, LinkTextIn, ParentIn, NameIn, PathIn};
 ghost use Rattle.kf_handles.specs.Numbers.{HasPostOf, IsSameTree, WasNotified, WasFull, TookNumber};
-ghost use Rattle.kf_handles.specs.Steps.{WasEntered, WasRefused, WasLeft, WasBroken, WasRestored, enter_error, wake_of};
+ghost use Rattle.kf_handles.specs.Steps.{WasEntered, WasRefused, WasLeft, WasBroken, WasRestored, HasNoReference, IsNotRunning, IsNotBroken, enter_error, wake_of};
 
 use kf_core::{Key, Node};
 use kf_handles::{KtHandle, KtKey, KtStat, Question, key_of};
@@ -346,6 +346,8 @@ pub extern "C" fn kt_leave(call: &mut KtHandle) -> i32
         WasLeft call.old.place.seat call.new.place.seat }
     ensures owed { (result ≡ pos 0) ⊎ (result ≡ pos 1) → result ≡ wake_of call.new.place.seat }
     ensures same { result ≢ pos 0 → result ≢ pos 1 → call.new.place.seat ≡ call.old.place.seat }
+    ensures why { result ≢ pos 0 → result ≢ pos 1 →
+        (result ≡ negsuc 21) × HasNoReference call.old.place.seat }
     ensures beside { call.new.place.object ≡ call.old.place.object }
 {
     kf_handles::leave(call)
@@ -359,6 +361,8 @@ pub extern "C" fn kt_break(call: &mut KtHandle) -> i32
         WasBroken call.old.place.seat call.new.place.seat }
     ensures owed { (result ≡ pos 0) ⊎ (result ≡ pos 1) → result ≡ wake_of call.new.place.seat }
     ensures same { result ≢ pos 0 → result ≢ pos 1 → call.new.place.seat ≡ call.old.place.seat }
+    ensures why { result ≢ pos 0 → result ≢ pos 1 →
+        (result ≡ negsuc 21) × IsNotRunning call.old.place.seat }
     ensures beside { call.new.place.object ≡ call.old.place.object }
 {
     kf_handles::break_off(call)
@@ -369,6 +373,8 @@ pub extern "C" fn kt_break(call: &mut KtHandle) -> i32
 pub extern "C" fn kt_restore(call: &mut KtHandle) -> i32
     ensures restored { result ≡ pos 0 → WasRestored call.old.place.seat call.new.place.seat }
     ensures same { result ≢ pos 0 → call.new.place.seat ≡ call.old.place.seat }
+    ensures why { result ≢ pos 0 →
+        (result ≡ negsuc 21) × IsNotBroken call.old.place.seat }
     ensures beside { call.new.place.object ≡ call.old.place.object }
 {
     kf_handles::restore(call)

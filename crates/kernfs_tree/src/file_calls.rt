@@ -2,7 +2,7 @@
 ghost use Rattle.std.specs.Prelude.{◌≡◌, ◌≢◌, pos, negsuc, true, false, length};
 ghost use Rattle.kf_handles.specs.Answers.{IsAsBefore, Wrote};
 ghost use Rattle.kf_handles.specs.Calls.{IsNothing, is_nothing};
-ghost use Rattle.kf_handles.specs.Files.{OpenedIn, Serves, BeganRead, HasShown, TextFrom, MayWrite, WasPolled, ReadRefused, WriteRefused, IsSamePlace, read_error, write_error};
+ghost use Rattle.kf_handles.specs.Files.{OpenedIn, Serves, BeganRead, HasShown, TextFrom, MayWrite, WasPolled, ReadRefused, WriteRefused, IsSamePlace, IsNotAsked, read_error, write_error};
 ghost use Rattle.kf_handles.specs.Steps.{WasEntered};
 
 use kf_files::Want;
@@ -80,6 +80,8 @@ pub extern "C" fn kt_changed(file: &mut KtHandle) -> i32
     ensures same { result ≡ pos 0 → WasPolled false file.old.place file.new.place }
     ensures changed { result ≡ pos 1 → WasPolled true file.old.place file.new.place }
     ensures kept { result ≢ pos 0 → result ≢ pos 1 → IsSamePlace file.old.place file.new.place }
+    ensures why { result ≢ pos 0 → result ≢ pos 1 →
+        (result ≡ negsuc 21) × IsNotAsked file.old.place.seat file.old.place.object }
 {
     kf_handles::changed(file)
 }

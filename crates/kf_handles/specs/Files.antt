@@ -19,7 +19,7 @@ use Rattle.kf_handles.specs.declared.object.Seat.{Seat}
 use Rattle.kf_handles.specs.declared.object.Seat.TheVariants as seat
 use Rattle.kf_handles.specs.declared.replies.KtKey.{KtKey}
 use Rattle.kf_handles.specs.Calls.{HoldsNode, key_in}
-use Rattle.kf_handles.specs.Steps.{WasEnteredToShow, WasRefused, enter_error}
+use Rattle.kf_handles.specs.Steps.{WasEnteredToShow, WasRefused, IsNotRunning, enter_error}
 
 -- what is told of a node says that it is live
 abbrev pub tells_live : Stat → Bool
@@ -121,6 +121,11 @@ abbrev pub IsRunning : Seat → Type 0
 IsRunning (seat.Call inside) = inside.call.phase ≡ Running
 IsRunning (seat.Show inside) = inside.call.phase ≡ Running
 IsRunning other = ⊥
+
+-- it is no file, or no call of it runs
+abbrev pub IsNotAsked : Seat → Object → Type 0
+IsNotAsked at (behind.File file) = IsNotRunning at
+IsNotAsked at other = Unit {0}
 
 -- the text of these bytes is the file's now
 abbrev pub Keeps : List ℕ → Object → Object → Type 0

@@ -1,5 +1,6 @@
 -- What the steps of a hold and a call make of what lies behind a handle.
-use Rattle.std.specs.Prelude.{◌≡◌, ◌-◌, ℕ, ℤ, pos, negsuc, if◌then◌else◌}
+use Rattle.std.specs.Prelude.{◌≡◌, ◌≢◌, ◌-◌, ℕ, ℤ, pos, negsuc, if◌then◌else◌}
+use Rattle.kf_core.specs.declared.caller.Phase.TheVariants.{Running, Broken}
 use Rattle.kf_words.specs.Layout.{wants_wake}
 use Rattle.kf_words.specs.Callers.{Handle, IsSameSeat, Entered, WasTurned, seat_view}
 use Rattle.kf_words.specs.Callers.{WasLeft as LeftHandle, WasBroken as BrokenHandle, WasRestored as RestoredHandle}
@@ -64,6 +65,24 @@ abbrev pub WasRestored : Seat → Seat → Type 0
 WasRestored (seat.Call broken) (seat.Call inside) = HasRestored broken.call inside.call
 WasRestored (seat.Show broken) (seat.Show inside) = HasRestored broken.call inside.call
 WasRestored old new = ⊥
+
+-- it is no call, or one that gave its reference up
+abbrev pub HasNoReference : Seat → Type 0
+HasNoReference (seat.Call inside) = inside.call.phase ≡ Broken
+HasNoReference (seat.Show inside) = inside.call.phase ≡ Broken
+HasNoReference other = Unit {0}
+
+-- it is no call, or one that has not the reference that it entered with
+abbrev pub IsNotRunning : Seat → Type 0
+IsNotRunning (seat.Call inside) = inside.call.phase ≢ Running
+IsNotRunning (seat.Show inside) = inside.call.phase ≢ Running
+IsNotRunning other = Unit {0}
+
+-- it is no call, or one that did not give its reference up
+abbrev pub IsNotBroken : Seat → Type 0
+IsNotBroken (seat.Call inside) = inside.call.phase ≢ Broken
+IsNotBroken (seat.Show inside) = inside.call.phase ≢ Broken
+IsNotBroken other = Unit {0}
 
 -- 1 where one who sleeps may wait for the word that a step took one user off, and else 0
 abbrev pub wake_after : ℕ → ℤ

@@ -2,7 +2,7 @@
 ghost use Rattle.std.specs.Prelude.{◌≡◌, ◌≢◌, pos, negsuc, true, false, length};
 ghost use Rattle.kf_handles.specs.Answers.{IsAsBefore, Wrote};
 ghost use Rattle.kf_handles.specs.Calls.{IsNothing, is_nothing};
-ghost use Rattle.kf_handles.specs.Files.{OpenedIn, Serves, BeganRead, HasShown, TextFrom, MayWrite, WasPolled, ReadRefused, WriteRefused, IsSamePlace, open_fault, read_error, write_error};
+ghost use Rattle.kf_handles.specs.Files.{OpenedIn, Serves, BeganRead, HasShown, TextFrom, MayWrite, WasPolled, ReadRefused, WriteRefused, IsSamePlace, IsNotAsked, open_fault, read_error, write_error};
 ghost use Rattle.kf_handles.specs.Steps.{WasEntered};
 ghost use Rattle.kf_files.specs.Files.{allows};
 
@@ -267,6 +267,8 @@ fn changed_at(place: Place, _nothing: ()) -> (Place, i32)
     ensures same { result.1 ≡ pos 0 → WasPolled false place result.0 }
     ensures changed { result.1 ≡ pos 1 → WasPolled true place result.0 }
     ensures kept { result.1 ≢ pos 0 → result.1 ≢ pos 1 → IsSamePlace place result.0 }
+    ensures why { result.1 ≢ pos 0 → result.1 ≢ pos 1 →
+        (result.1 ≡ negsuc 21) × IsNotAsked place.seat place.object }
 {
     let (seat, object) = place.into_parts();
     match object {
@@ -297,6 +299,8 @@ fn changed_handle(handle: KtHandle, nothing: ()) -> (KtHandle, i32)
     ensures same { result.1 ≡ pos 0 → WasPolled false handle.place result.0.place }
     ensures changed { result.1 ≡ pos 1 → WasPolled true handle.place result.0.place }
     ensures kept { result.1 ≢ pos 0 → result.1 ≢ pos 1 → IsSamePlace handle.place result.0.place }
+    ensures why { result.1 ≢ pos 0 → result.1 ≢ pos 1 →
+        (result.1 ≡ negsuc 21) × IsNotAsked handle.place.seat handle.place.object }
 {
     let mut boxed = handle.into_box();
     let answer = replace_with(boxed.as_mut(), nothing, changed_at);
@@ -308,6 +312,8 @@ pub fn changed(file: &mut KtHandle) -> i32
     ensures same { result ≡ pos 0 → WasPolled false file.old.place file.new.place }
     ensures changed { result ≡ pos 1 → WasPolled true file.old.place file.new.place }
     ensures kept { result ≢ pos 0 → result ≢ pos 1 → IsSamePlace file.old.place file.new.place }
+    ensures why { result ≢ pos 0 → result ≢ pos 1 →
+        (result ≡ negsuc 21) × IsNotAsked file.old.place.seat file.old.place.object }
 {
     replace_with(file, (), changed_handle)
 }

@@ -1,5 +1,5 @@
 //! Holds and calls that are given back where they are let go.
-ghost use Rattle.std.specs.Prelude.{◌≡◌, IsTrue};
+ghost use Rattle.std.specs.Prelude.{◌≡◌, ◌≢◌, false, IsTrue};
 ghost use Rattle.kf_core.specs.declared.caller.Phase.TheVariants.{Running};
 
 use kf_core::Phase;
@@ -51,7 +51,8 @@ impl Inside {
     }
 
     pub fn is_running(&self) -> bool
-        ensures { IsTrue result → self.now.call.phase ≡ Running }
+        ensures yes { IsTrue result → self.now.call.phase ≡ Running }
+        ensures no { result ≡ false → self.now.call.phase ≢ Running }
     {
         self.call.phase() == Phase::Running
     }

@@ -1,6 +1,6 @@
 //! The steps of a hold and a call, taken where they lie.
-ghost use Rattle.std.specs.Prelude.{◌≡◌, ◌≢◌, ◌⊎◌, pos};
-ghost use Rattle.kf_handles.specs.Steps.{WasEntered, WasRefused, WasLeft, WasBroken, WasRestored, enter_error, wake_of};
+ghost use Rattle.std.specs.Prelude.{◌≡◌, ◌≢◌, ◌⊎◌, pos, negsuc};
+ghost use Rattle.kf_handles.specs.Steps.{WasEntered, WasRefused, WasLeft, WasBroken, WasRestored, HasNoReference, IsNotRunning, IsNotBroken, enter_error, wake_of};
 
 use crate::handle::KtHandle;
 use crate::steps;
@@ -25,6 +25,8 @@ fn leave_handle(handle: KtHandle, nothing: ()) -> (KtHandle, i32)
     ensures owed { (result.1 ≡ pos 0) ⊎ (result.1 ≡ pos 1) →
         result.1 ≡ wake_of result.0.place.seat }
     ensures same { result.1 ≢ pos 0 → result.1 ≢ pos 1 → result.0.place.seat ≡ handle.place.seat }
+    ensures why { result.1 ≢ pos 0 → result.1 ≢ pos 1 →
+        (result.1 ≡ negsuc 21) × HasNoReference handle.place.seat }
     ensures beside { result.0.place.object ≡ handle.place.object }
 {
     let mut boxed = handle.into_box();
@@ -38,6 +40,8 @@ fn break_handle(handle: KtHandle, nothing: ()) -> (KtHandle, i32)
     ensures owed { (result.1 ≡ pos 0) ⊎ (result.1 ≡ pos 1) →
         result.1 ≡ wake_of result.0.place.seat }
     ensures same { result.1 ≢ pos 0 → result.1 ≢ pos 1 → result.0.place.seat ≡ handle.place.seat }
+    ensures why { result.1 ≢ pos 0 → result.1 ≢ pos 1 →
+        (result.1 ≡ negsuc 21) × IsNotRunning handle.place.seat }
     ensures beside { result.0.place.object ≡ handle.place.object }
 {
     let mut boxed = handle.into_box();
@@ -48,6 +52,8 @@ fn break_handle(handle: KtHandle, nothing: ()) -> (KtHandle, i32)
 fn restore_handle(handle: KtHandle, nothing: ()) -> (KtHandle, i32)
     ensures restored { result.1 ≡ pos 0 → WasRestored handle.place.seat result.0.place.seat }
     ensures same { result.1 ≢ pos 0 → result.0.place.seat ≡ handle.place.seat }
+    ensures why { result.1 ≢ pos 0 →
+        (result.1 ≡ negsuc 21) × IsNotBroken handle.place.seat }
     ensures beside { result.0.place.object ≡ handle.place.object }
 {
     let mut boxed = handle.into_box();
@@ -73,6 +79,8 @@ pub fn leave(call: &mut KtHandle) -> i32
         WasLeft call.old.place.seat call.new.place.seat }
     ensures owed { (result ≡ pos 0) ⊎ (result ≡ pos 1) → result ≡ wake_of call.new.place.seat }
     ensures same { result ≢ pos 0 → result ≢ pos 1 → call.new.place.seat ≡ call.old.place.seat }
+    ensures why { result ≢ pos 0 → result ≢ pos 1 →
+        (result ≡ negsuc 21) × HasNoReference call.old.place.seat }
     ensures beside { call.new.place.object ≡ call.old.place.object }
 {
     replace_with(call, (), leave_handle)
@@ -84,6 +92,8 @@ pub fn break_off(call: &mut KtHandle) -> i32
         WasBroken call.old.place.seat call.new.place.seat }
     ensures owed { (result ≡ pos 0) ⊎ (result ≡ pos 1) → result ≡ wake_of call.new.place.seat }
     ensures same { result ≢ pos 0 → result ≢ pos 1 → call.new.place.seat ≡ call.old.place.seat }
+    ensures why { result ≢ pos 0 → result ≢ pos 1 →
+        (result ≡ negsuc 21) × IsNotRunning call.old.place.seat }
     ensures beside { call.new.place.object ≡ call.old.place.object }
 {
     replace_with(call, (), break_handle)
@@ -93,6 +103,8 @@ pub fn break_off(call: &mut KtHandle) -> i32
 pub fn restore(call: &mut KtHandle) -> i32
     ensures restored { result ≡ pos 0 → WasRestored call.old.place.seat call.new.place.seat }
     ensures same { result ≢ pos 0 → call.new.place.seat ≡ call.old.place.seat }
+    ensures why { result ≢ pos 0 →
+        (result ≡ negsuc 21) × IsNotBroken call.old.place.seat }
     ensures beside { call.new.place.object ≡ call.old.place.object }
 {
     replace_with(call, (), restore_handle)

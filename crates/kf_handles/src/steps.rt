@@ -1,6 +1,7 @@
 //! The steps of a hold and a call behind a handle. They need no lock and wake nobody.
-ghost use Rattle.std.specs.Prelude.{◌≡◌, ◌≢◌, ◌⊎◌, pos, if◌then◌else◌};
-ghost use Rattle.kf_handles.specs.Steps.{WasEntered, WasEnteredToShow, WasRefused, enter_error, WasLeft, HasBroken, WasBroken, HasRestored, WasRestored, wake_after, wake_of};
+ghost use Rattle.std.specs.Prelude.{◌≡◌, ◌≢◌, ◌⊎◌, pos, negsuc, if◌then◌else◌};
+ghost use Rattle.kf_core.specs.declared.caller.Phase.TheVariants.{Running, Broken};
+ghost use Rattle.kf_handles.specs.Steps.{WasEntered, WasEnteredToShow, WasRefused, enter_error, WasLeft, HasBroken, WasBroken, HasRestored, WasRestored, HasNoReference, IsNotRunning, IsNotBroken, wake_after, wake_of};
 
 use crate::errors::{INVALID, NO_DEVICE};
 use crate::holds::{Held, Inside};
@@ -60,6 +61,7 @@ pub fn leave(seat: Seat, _nothing: ()) -> (Seat, i32)
     ensures left { (result.1 ≡ pos 0) ⊎ (result.1 ≡ pos 1) → WasLeft seat result.0 }
     ensures owed { (result.1 ≡ pos 0) ⊎ (result.1 ≡ pos 1) → result.1 ≡ wake_of result.0 }
     ensures same { result.1 ≢ pos 0 → result.1 ≢ pos 1 → result.0 ≡ seat }
+    ensures why { result.1 ≢ pos 0 → result.1 ≢ pos 1 → (result.1 ≡ negsuc 21) × HasNoReference seat }
 {
     match seat {
         Seat::Call(inside) => {
@@ -87,6 +89,8 @@ fn break_inside(inside: Inside) -> (Inside, i32)
     ensures broken { (result.1 ≡ pos 0) ⊎ (result.1 ≡ pos 1) → HasBroken inside.call result.0.call }
     ensures owed { (result.1 ≡ pos 0) ⊎ (result.1 ≡ pos 1) → result.1 ≡ wake_after result.0.call.found }
     ensures same { result.1 ≢ pos 0 → result.1 ≢ pos 1 → result.0 ≡ inside }
+    ensures why { result.1 ≢ pos 0 → result.1 ≢ pos 1 →
+        (result.1 ≡ negsuc 21) × (inside.call.phase ≢ Running) }
 {
     let mut call = inside.into_call();
     if call.phase() != Phase::Running {
@@ -101,6 +105,7 @@ pub fn break_off(seat: Seat, _nothing: ()) -> (Seat, i32)
     ensures broken { (result.1 ≡ pos 0) ⊎ (result.1 ≡ pos 1) → WasBroken seat result.0 }
     ensures owed { (result.1 ≡ pos 0) ⊎ (result.1 ≡ pos 1) → result.1 ≡ wake_of result.0 }
     ensures same { result.1 ≢ pos 0 → result.1 ≢ pos 1 → result.0 ≡ seat }
+    ensures why { result.1 ≢ pos 0 → result.1 ≢ pos 1 → (result.1 ≡ negsuc 21) × IsNotRunning seat }
 {
     match seat {
         Seat::Call(inside) => {
@@ -119,6 +124,7 @@ pub fn break_off(seat: Seat, _nothing: ()) -> (Seat, i32)
 fn restore_inside(inside: Inside) -> (Inside, i32)
     ensures restored { result.1 ≡ pos 0 → HasRestored inside.call result.0.call }
     ensures same { result.1 ≢ pos 0 → result.0 ≡ inside }
+    ensures why { result.1 ≢ pos 0 → (result.1 ≡ negsuc 21) × (inside.call.phase ≢ Broken) }
 {
     let mut call = inside.into_call();
     if call.phase() != Phase::Broken {
@@ -132,6 +138,7 @@ fn restore_inside(inside: Inside) -> (Inside, i32)
 pub fn restore(seat: Seat, _nothing: ()) -> (Seat, i32)
     ensures restored { result.1 ≡ pos 0 → WasRestored seat result.0 }
     ensures same { result.1 ≢ pos 0 → result.0 ≡ seat }
+    ensures why { result.1 ≢ pos 0 → (result.1 ≡ negsuc 21) × IsNotBroken seat }
 {
     match seat {
         Seat::Call(inside) => {
