@@ -99,3 +99,16 @@ fn a_round_begins_when_the_one_above_is_over(rt: HostRuntime) -> Result<(), Fail
     assert!(rt; replies.as_slice().ends_with(b"ok 16.500\nok\n2000\n2000\n"));
     Ok(())
 }
+
+#[test]
+fn all_seats_run_at_once(rt: HostRuntime) -> Result<(), Fail> {
+    let alloc = rt.alloc();
+    let script =
+        b"compact\n@1 compact\n@2 compact\n@3 compact\n@4 compact\n@5 compact\n@6 compact\n\
+        @7 compact\n@8 compact\n@9 compact\n@10 compact\n@11 compact\n@12 compact\n@13 compact\n\
+        @14 compact\n@15 compact\n@16 compact\n";
+    let mut replies = Vec::new(alloc);
+    push_times(&mut replies, b"17\n", 17)?;
+    assert!(rt; is_answered(&rt, alloc, 16, script, replies.as_slice()));
+    Ok(())
+}

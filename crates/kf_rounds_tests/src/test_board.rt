@@ -9,13 +9,31 @@ use std::alloc::{AllocError, Global};
 use std::sync::atomic::{AtomicUsize, Ordering};
 use std::thread::Threads;
 
-/// Answers `commands` with how many other requests all boards have answered so far, and each other request
-/// with `ok WHO.COUNT`: whose it is, and how many of those it has answered itself.
+/// As many seats as there can be: the owner's and those of 16 workers.
+const SEATS: usize = 17;
+
+/// Answers `commands` with how many other requests all boards have answered so far, `compact` with how many
+/// of them met in it, and each other request with `ok WHO.COUNT`: whose it is, and how many of those it has
+/// answered itself.
 #[derive(Drop)]
 struct CountingBoard<'a> {
     who: u32,
     answered: u32,
     all: &'a AtomicUsize,
+}
+
+impl CountingBoard<'_> {
+    /// Waits for all other seats, for some seconds at most, and answers how many came.
+    fn meet(&self) -> usize {
+        let mut came = self.all.fetch_add(1, Ordering::SeqCst);
+        for _ in 0..2_000_000_000u32 {
+            came = self.all.load(Ordering::SeqCst);
+            if came >= SEATS {
+                break;
+            }
+        }
+        came
+    }
 }
 
 impl<'a> Board for CountingBoard<'a> {
@@ -24,6 +42,7 @@ impl<'a> Board for CountingBoard<'a> {
     fn answer(&mut self, request: &Request<'_>, reply: &mut Reply) {
         match *request {
             Request::CountCommands => reply.set_number(self.all.load(Ordering::SeqCst)),
+            Request::Compact => reply.set_number(self.meet()),
             _ => {
                 self.answered = self.answered.saturating_add(1);
                 self.all.fetch_add(1, Ordering::SeqCst);
