@@ -42,8 +42,9 @@
  * - kt_remove() and kt_claim() mark, where that was not done before; but for marks they store only of kt_remove() that
  *   nodes of that subtree were shown and taken out.
  * - Which number kt_enter(), kt_begin_read() and kt_begin_write() refuse with, and that a hold was tried where it is
- *   -ENODEV; that kt_clear() and kt_delete() refuse a tree with a file in which a hiding has yet to see nobody, with
- *   -EBUSY, and nothing else.
+ *   -ENODEV; that kt_leave(), kt_break(), kt_restore() and kt_changed() refuse with -EINVAL, and only what is not in
+ *   such a call; that kt_clear() and kt_delete() refuse a tree with a file in which a hiding has yet to see nobody,
+ *   with -EBUSY, and nothing else.
  * - What was behind a handle that is given something new was nothing; where something was, it is -EINVAL.
  * - After an answer below 0, but for -EAGAIN of kt_remove() and kt_hide(), and those of kt_new() and kt_delete(), the
  *   tree, the handle and `out` are as they were (a refused try to enter was counted for a moment).
