@@ -18,7 +18,7 @@ use Rattle.kf_shared.specs.Locked.{Locked, UnlinkDone}
 use Rattle.kf_table.proofs.ChildTests.{both}
 use Rattle.kf_tree.specs.TreeLogs.{TreeLog, IsAccepted}
 use Rattle.kf_words.specs.Callers.{Handle}
-use Rattle.kf_groups.specs.Stores.{Keeps, node_count}
+use Rattle.kf_groups.specs.Keeps.{Keeps, node_count}
 use Rattle.kf_groups.specs.TakenBack.{GaveUp, LacksRoom, RoomRefused}
 
 pub created_more : (t : Tree) (key parent : Key) (name : List ℕ) (node : Node) (live : Bool) → slice_get t key.slot ≡ Some None

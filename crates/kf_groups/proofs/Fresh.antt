@@ -18,12 +18,12 @@ use Rattle.kf_core.proofs.Mapped.{from_slot}
 use Rattle.kf_tree.specs.Causes.{has_entry}
 use Rattle.kf_tree.specs.TreeLogs.{TreeLog}
 use Rattle.kf_tree.proofs.Allowed.{name_free}
+use Rattle.kf_tree.proofs.Replays.{replay_append}
 use Rattle.kf_groups.specs.declared.attribute.Attribute.{Attribute}
 use Rattle.kf_groups.specs.Attributes.{file_of, has_name}
 use Rattle.kf_groups.specs.Groups.{makes_by_name}
 use Rattle.kf_groups.specs.Making.{MadeByName, creation, creations, live_creations}
 use Rattle.kf_groups.proofs.Named.{Stands, entry_stands}
-use Rattle.kf_groups.proofs.Storing.{replay_append}
 
 -- the record was there before, under the same name of the same directory
 pub record WasThere (t : Tree) (i : ℕ) (r : Record) : Type 0 where

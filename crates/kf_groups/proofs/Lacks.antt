@@ -1,4 +1,4 @@
--- The activation of a linked node is refused for want of memory alone, and a creation with no fault for want of a slot too.
+-- The activation of a linked node is refused for memory alone, a creation with no fault for a slot too.
 use Rattle.std.proofs.Common.{◌≡◌, inl, inr, ap, subst, sym, ◌∙◌, ℕ, true, List, [], ◌∷◌}
 use Rattle.std.specs.Prelude.{Option, None, Some, is_some}
 use Rattle.std.proofs.lemmas.Option.{none-some, same_Some}
@@ -11,7 +11,7 @@ use Rattle.kf_core.specs.Tree.{is_linked}
 use Rattle.kf_shared.specs.Locked.{Locked, CreateRefused, Unchanged, fault_of}
 use Rattle.kf_tree.specs.Causes.{linked_cause}
 use Rattle.kf_tree.specs.TreeLogs.{TreeLog, IsRefused}
-use Rattle.kf_groups.specs.Stores.{node_count}
+use Rattle.kf_groups.specs.Keeps.{node_count}
 use Rattle.kf_groups.specs.TakenBack.{LacksRoom}
 
 pub activate_lacks : (old new : TreeLog) (key : Key) (refusal : Refusal) → is_linked old.tree key ≡ true

@@ -1,5 +1,5 @@
 -- The tree has as many slots after each step as before.
-use Rattle.std.proofs.Common.{◌≡◌, inl, inr, ℕ, false, refl, ap, ◌∙◌, List, [], ◌∷◌, length}
+use Rattle.std.proofs.Common.{◌≡◌, inl, inr, ℕ, false, ap, ◌∙◌, List, [], ◌∷◌, length}
 use Rattle.std.specs.Prelude.{Option, None, Some, Result, Ok, Err, IfOk, OnErr}
 use denote.Ref.{Bor}
 use Rattle.kf_core.specs.declared.command.Command.{Command}
@@ -8,26 +8,19 @@ use Rattle.kf_core.specs.declared.key.Key.{Key}
 use Rattle.kf_core.specs.declared.key.Node.{Node}
 use Rattle.kf_core.specs.declared.key.Node.TheVariants.{Dir}
 use Rattle.kf_core.specs.declared.refusal.Refusal.{Refusal}
-use Rattle.kf_core.specs.Commands.{after, replay}
-use Rattle.kf_core.specs.Tree.{Tree}
 use Rattle.kf_shared.specs.Locked.{Locked, Created, CreateRefused}
-use Rattle.kf_tree.proofs.Opening.{length_after}
+use Rattle.kf_tree.proofs.Opening.{length_after, length_replay}
 use Rattle.kf_tree.specs.Paths.{found}
-use Rattle.kf_tree.specs.TreeLogs.{TreeLog}
+use Rattle.kf_tree.specs.TreeLogs.{TreeLog, Stores}
 use Rattle.kf_groups.specs.declared.attribute.Attribute.{Attribute}
 use Rattle.kf_groups.specs.declared.attribute.Group.{Group}
 use Rattle.kf_groups.specs.Attributes.{file_of, shown}
 use Rattle.kf_groups.specs.Groups.{GroupTakenBack, GroupsTakenBack}
 use Rattle.kf_groups.specs.Making.{MadeByName}
-use Rattle.kf_groups.specs.Stores.{Stores}
 use Rattle.kf_groups.specs.TakenBack.{EachTookBack, FilesTakenBack, LiveTakenBack, NameTookBack, TakenBackByName, TookBack}
 
-replay_length : (t : Tree) (cs : List Command) → length (replay t cs) ≡ length t
-replay_length t [] = refl
-replay_length t (c ∷ cs) = replay_length (after t c) cs ∙ length_after t c
-
 stored : (old new : TreeLog) (commands : List Command) → Stores old new commands → length new.tree ≡ length old.tree
-stored old new commands stores = ap length stores.changed ∙ replay_length old.tree commands
+stored old new commands stores = ap length stores.changed ∙ length_replay old.tree commands
 
 made : (old new : TreeLog) (dir key : Key) (attributes : List Attribute) (own : Option (Bor (List ℕ))) → MadeByName old new dir attributes own key
     → length new.tree ≡ length old.tree

@@ -15,3 +15,4 @@ pub mod Turns
 pub mod Refusals
 pub mod Fresh
 pub mod Several
+pub mod Removing

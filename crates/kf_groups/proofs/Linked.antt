@@ -12,7 +12,7 @@ use Rattle.kf_core.specs.Tree.{Tree, record_at, with_key, is_linked}
 use Rattle.kf_core.proofs.Climbs.{same_key_self}
 use Rattle.kf_core.proofs.Lists.{slice_get-set_same}
 use Rattle.kf_shared.specs.Locked.{Locked, IsWhole}
-use Rattle.kf_shared.proofs.Agreement.{vacant_in_tree}
+use Rattle.kf_tree.proofs.SameMarks.{vacant_in_tree}
 use Rattle.kf_words.specs.Nodes.{IsVacant}
 use Rattle.kf_words.specs.Callers.{TableId}
 

@@ -9,16 +9,16 @@ use Rattle.kf_core.specs.declared.key.Node.TheVariants.{Dir}
 use Rattle.kf_core.specs.declared.refusal.Refusal.{Refusal}
 use Rattle.kf_core.specs.Tree.{Tree}
 use Rattle.kf_table.proofs.ChildTests.{both}
-use Rattle.kf_tree.specs.TreeLogs.{TreeLog, IsAccepted}
+use Rattle.kf_tree.specs.TreeLogs.{TreeLog, IsAccepted, Stores}
+use Rattle.kf_tree.proofs.Storing.{one, join}
 use Rattle.kf_core.specs.declared.refusal.Refusal.TheVariants.{NoMemory}
 use Rattle.kf_shared.specs.Locked.{Locked, Created, CreateRefused}
 use Rattle.kf_groups.specs.declared.attribute.Attribute.{Attribute}
 use Rattle.kf_groups.specs.Attributes.{file_of, is_shown, shown}
 use Rattle.kf_groups.specs.Making.{creation, creations, live_creations, named_creations}
-use Rattle.kf_groups.specs.Stores.{Stores, node_count}
+use Rattle.kf_groups.specs.Keeps.{node_count}
 use Rattle.kf_groups.specs.TakenBack.{EachTookBack, FileMade, FilesTakenBack, LiveTakenBack, NameTookBack, NotActivated, TookBack}
 use Rattle.kf_groups.proofs.Names.{rest_of}
-use Rattle.kf_groups.proofs.Storing.{one, join}
 
 -- the node that was made is that of the attribute
 pub created : (old new : Locked) (parent key : Key) (name : List ℕ) (node node' : Node) → node ≡ node'

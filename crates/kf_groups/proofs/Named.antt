@@ -16,7 +16,7 @@ use Rattle.kf_table.proofs.ChildTests.{both, key_is}
 use Rattle.kf_tree.specs.Causes.{has_entry}
 use Rattle.kf_tree.specs.Paths.{entry_key, found}
 use Rattle.kf_tree.proofs.Allowed.{name_free}
-use Rattle.kf_groups.specs.Stores.{Keeps}
+use Rattle.kf_groups.specs.Keeps.{Keeps}
 use Rattle.kf_groups.proofs.Free.{passes, test}
 
 pub place_of : {X : Type 0} (p : X → Bool) (xs : List X) (y : X) → first p xs ≡ Some y → (i : ℕ) × (slice_get xs i ≡ Some y)

@@ -17,7 +17,7 @@ use Rattle.kf_core.proofs.Climbs.{first_step}
 use Rattle.kf_core.proofs.FoundRecords.{found_in, in_found, linked_here, parent_known}
 use Rattle.kf_core.proofs.Lists.{slice_get-set_other}
 use Rattle.kf_shared.specs.Locked.{Locked}
-use Rattle.kf_groups.specs.Stores.{Keeps, KeepsOlder}
+use Rattle.kf_groups.specs.Keeps.{Keeps, KeepsOlder}
 use Rattle.kf_groups.specs.TakenBack.{TookBack}
 
 pub keeps_self : (t : Tree) → Keeps t t

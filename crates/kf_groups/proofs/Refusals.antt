@@ -7,7 +7,7 @@ use Rattle.kf_core.specs.declared.refusal.Refusal.{Refusal}
 use Rattle.kf_shared.specs.Locked.{Locked}
 use Rattle.kf_groups.specs.declared.attribute.Group.{Group}
 use Rattle.kf_groups.specs.Attributes.{group_cause, shown}
-use Rattle.kf_groups.specs.Stores.{Keeps}
+use Rattle.kf_groups.specs.Keeps.{Keeps}
 use Rattle.kf_groups.specs.TakenBack.{DirectoryTakenBack, FilesTakenBack, GroupRefused, LacksRoom, TakenBackByName}
 use Rattle.kf_groups.proofs.Counts.{room_refused}
 use Rattle.kf_groups.proofs.Lengths.{group_length}

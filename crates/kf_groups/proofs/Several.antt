@@ -20,14 +20,14 @@ use Rattle.kf_core.specs.Tree.{Tree, IsIn, record_at, is_dir, is_linked}
 use Rattle.kf_core.proofs.FoundRecords.{found_in, in_found}
 use Rattle.kf_tree.specs.Causes.{create_fault, target_fault, target_of, is_directory, doomed_in, has_entry, list_cause}
 use Rattle.kf_shared.specs.Locked.{Locked}
-use Rattle.kf_tree.specs.TreeLogs.{TreeLog}
+use Rattle.kf_tree.specs.TreeLogs.{TreeLog, Stores}
 use Rattle.kf_tree.proofs.Allowed.{linked_record, no_first, not_passed, passed}
 use Rattle.kf_groups.specs.declared.attribute.Attribute.{Attribute}
 use Rattle.kf_groups.specs.declared.attribute.Group.{Group}
 use Rattle.kf_groups.specs.Attributes.{HasNone, cause_by_name, file_fault, file_of, files_cause, group_cause, group_size, has_name, shown}
 use Rattle.kf_groups.specs.Groups.{GroupTakenBack, GroupsMade, GroupsRefused, GroupsTakenBack, IsWithout, clashes, groups_cause, groups_size, makes, shares, shares_by_name}
 use Rattle.kf_groups.specs.Making.{GroupMade, MadeByName}
-use Rattle.kf_groups.specs.Stores.{Keeps, Stores, node_count}
+use Rattle.kf_groups.specs.Keeps.{Keeps, node_count}
 use Rattle.kf_groups.specs.TakenBack.{GroupRefused, LacksRoom, RoomRefused}
 use Rattle.kf_groups.proofs.Counts.{room_refused}
 use Rattle.kf_groups.proofs.Free.{joined, neither, parted}

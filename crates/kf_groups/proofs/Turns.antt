@@ -21,7 +21,7 @@ use Rattle.kf_tree.specs.TreeLogs.{TreeLog, IsAccepted}
 use Rattle.kf_tree.proofs.Allowed.{not_passed, passed}
 use Rattle.kf_groups.specs.declared.attribute.Attribute.{Attribute}
 use Rattle.kf_groups.specs.Attributes.{HasNone, file_of, file_fault, files_cause, has_name, shown}
-use Rattle.kf_groups.specs.Stores.{Keeps, KeepsOlder, node_count}
+use Rattle.kf_groups.specs.Keeps.{Keeps, KeepsOlder, node_count}
 use Rattle.kf_groups.proofs.Free.{all_still_free, first_of_six, of_six, parted}
 use Rattle.kf_groups.proofs.Counts.{activated_same, created_more}
 use Rattle.kf_groups.proofs.Linked.{itself_at, not_linked, vacant_slot}

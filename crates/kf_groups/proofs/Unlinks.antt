@@ -7,13 +7,12 @@ use Rattle.kf_core.specs.declared.command.Command.TheVariants.{Doom, Unlink}
 use Rattle.kf_core.specs.declared.key.Key.{Key}
 use Rattle.kf_core.specs.declared.refusal.Refusal.{Refusal}
 use Rattle.kf_core.specs.PostOrder.{IsPostOrder}
-use Rattle.kf_tree.specs.TreeLogs.{TreeLog, IsAccepted}
+use Rattle.kf_tree.specs.TreeLogs.{TreeLog, IsAccepted, Stores}
+use Rattle.kf_tree.proofs.Storing.{one, join}
 use Rattle.kf_words.specs.Callers.{Handle}
 use Rattle.kf_shared.specs.Removal.{keys_of}
 use Rattle.kf_shared.specs.Locked.{Locked}
-use Rattle.kf_groups.specs.Stores.{Stores}
 use Rattle.kf_groups.specs.TakenBack.{DoomedAndUnlinked}
-use Rattle.kf_groups.proofs.Storing.{one, join}
 
 -- unlinks of some of these nodes were stored
 abbrev pub Unlinks : List Key → TreeLog → TreeLog → Type 0

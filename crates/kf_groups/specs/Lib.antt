@@ -1,5 +1,6 @@
-pub mod Stores
+pub mod Keeps
 pub mod Attributes
 pub mod Making
 pub mod TakenBack
 pub mod Groups
+pub mod Removals

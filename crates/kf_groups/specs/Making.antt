@@ -6,11 +6,10 @@ use Rattle.kf_core.specs.declared.command.Command.TheVariants.{Create, Activate}
 use Rattle.kf_core.specs.declared.key.Key.{Key}
 use Rattle.kf_core.specs.declared.key.Node.TheVariants.{Dir}
 use Rattle.kf_core.specs.Tree.{is_linked}
-use Rattle.kf_tree.specs.TreeLogs.{TreeLog}
+use Rattle.kf_tree.specs.TreeLogs.{TreeLog, Stores}
 use Rattle.kf_groups.specs.declared.attribute.Attribute.{Attribute}
 use Rattle.kf_groups.specs.declared.attribute.Group.{Group}
 use Rattle.kf_groups.specs.Attributes.{shown, file_of, group_cause}
-use Rattle.kf_groups.specs.Stores.{Stores}
 
 -- a file is made in the directory, under this key, not live
 abbrev pub creation : Key → Attribute → Key → Command

@@ -9,6 +9,7 @@ use Rattle.kf_core.specs.declared.refusal.Refusal.TheVariants.{NoMemory, NoSpace
 use Rattle.kf_core.specs.PostOrder.{IsPostOrder}
 use Rattle.kf_core.specs.Tree.{Tree}
 use Rattle.kf_tree.specs.Paths.{found}
+use Rattle.kf_tree.specs.TreeLogs.{Stores}
 use Rattle.kf_shared.specs.Locked.{Locked, Created, CreateRefused, HoldRefused, Unchanged}
 use Rattle.kf_shared.specs.Removal.{DoomRefused}
 use Rattle.kf_words.specs.Nodes.{WasPinned}
@@ -16,7 +17,7 @@ use Rattle.kf_groups.specs.declared.attribute.Attribute.{Attribute}
 use Rattle.kf_groups.specs.declared.attribute.Group.{Group}
 use Rattle.kf_groups.specs.Attributes.{file_of, group_cause, shown}
 use Rattle.kf_groups.specs.Making.{creations, live_creations}
-use Rattle.kf_groups.specs.Stores.{Stores, node_count}
+use Rattle.kf_groups.specs.Keeps.{node_count}
 
 -- there was no slot, for this reason, and as many nodes are linked as before; or there was no memory
 abbrev pub LacksRoom : Tree → Tree → Refusal → Refusal → Type 0

@@ -6,7 +6,8 @@ ghost use Rattle.std.specs.Prelude.{◌≡◌};
 pub struct Attribute<'a> {
     /// The name of its file.
     pub name: &'a [u8],
-    /// The mode of its file, nine bits. With 0 there is no file (what `is_visible` says by 0).
+    /// The mode of its file. An open looks at its read bits, 0o444, and its write bits, 0o222; any other bits
+    /// are kept, told by `stat`, and mean nothing. With 0 there is no file (what `is_visible` says by 0).
     pub mode: u16,
     /// The tag of its file, by which a callback tells it from others.
     pub tag: u64,

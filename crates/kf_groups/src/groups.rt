@@ -6,7 +6,7 @@ ghost use Rattle.kf_core.specs.Lawful.{Lawful};
 ghost use Rattle.kf_core.specs.Tree.{Tree};
 ghost use Rattle.kf_groups.specs.Attributes.{group_size, shown};
 ghost use Rattle.kf_groups.specs.Groups.{groups_cause, groups_size, GroupTakenBack, GroupsMade, GroupsRefused, GroupsTakenBack, IsWithout};
-ghost use Rattle.kf_groups.specs.Stores.{Keeps, KeepsOlder, node_count};
+ghost use Rattle.kf_groups.specs.Keeps.{Keeps, KeepsOlder, node_count};
 ghost use Rattle.kf_groups.specs.TakenBack.{EachTookBack, GaveUp, LacksRoom, TookBack};
 ghost use Rattle.kf_shared.specs.Locked.{Locked};
 

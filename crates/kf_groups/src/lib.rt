@@ -11,4 +11,4 @@ mod taking_back;
 pub use attribute::{Attribute, Group};
 pub use groups::create_groups;
 pub use making::create_group;
-pub use removal::remove_group;
+pub use removal::{remove_group, remove_groups};

@@ -5,9 +5,10 @@ ghost use Rattle.kf_core.specs.declared.key.Node.TheVariants.{Dir};
 ghost use Rattle.kf_core.specs.declared.refusal.Refusal.{Refusal};
 ghost use Rattle.kf_core.specs.Tree.{is_linked};
 ghost use Rattle.kf_tree.specs.Causes.{create_fault};
+ghost use Rattle.kf_tree.specs.TreeLogs.{Stores};
 ghost use Rattle.kf_groups.specs.Attributes.{file_fault, files_cause, group_size, shown};
 ghost use Rattle.kf_groups.specs.Making.{creations, live_creations, named_creations, GroupMade};
-ghost use Rattle.kf_groups.specs.Stores.{Keeps, Stores, node_count};
+ghost use Rattle.kf_groups.specs.Keeps.{Keeps, node_count};
 ghost use Rattle.kf_groups.specs.TakenBack.{DirectoryTakenBack, FilesTakenBack, GroupRefused, LacksRoom};
 
 use crate::attribute::{Attribute, Group};

@@ -6,11 +6,11 @@ ghost use Rattle.kf_core.specs.Lawful.{Lawful};
 ghost use Rattle.kf_core.specs.PostOrder.{IsPostOrder};
 ghost use Rattle.kf_core.specs.Tree.{Tree};
 ghost use Rattle.kf_tree.specs.Causes.{doom_cause, has_entry};
-ghost use Rattle.kf_tree.specs.TreeLogs.{IsAccepted};
+ghost use Rattle.kf_tree.specs.TreeLogs.{IsAccepted, Stores};
 ghost use Rattle.kf_shared.specs.Receipts.{AreOf};
 ghost use Rattle.kf_shared.specs.Removal.{keys_of};
 ghost use Rattle.kf_groups.specs.Attributes.{HasNone, shown};
-ghost use Rattle.kf_groups.specs.Stores.{Keeps, KeepsOlder, Stores, node_count};
+ghost use Rattle.kf_groups.specs.Keeps.{Keeps, KeepsOlder, node_count};
 ghost use Rattle.kf_groups.specs.TakenBack.{EachTookBack, GaveUp, NameTookBack, RemovalRefused, TookBack};
 
 use crate::attribute::Attribute;

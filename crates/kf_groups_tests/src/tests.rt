@@ -1,32 +1,13 @@
-//! Groups that are made, groups that are refused, and groups that are removed: what stands afterwards.
+//! Groups that are made, and groups that are refused: what stands afterwards.
 ghost use Rattle.std.specs.Prelude.{◌≡◌};
 
-use kf_core::{Key, Limits, Refusal};
-use kf_groups::{Attribute, Group, create_group, create_groups, remove_group};
+use crate::fixtures::{attribute, first_wrong, is_free, made, slot};
+use kf_core::{Key, Refusal};
+use kf_groups::{Attribute, Group, create_group, create_groups};
 use kf_shared::{Naming, NewTree, SharedTree};
-use std::alloc::Global;
 use std::marker::Brand;
 use std::process::Abort;
 use std::sync::Wait;
-
-/// The place of the first answer that is not as it must be.
-fn first_wrong(answers: &[bool]) -> Option<usize> {
-    answers.iter().position(|is_right| !*is_right)
-}
-
-fn made<R: Abort>(rt: &R, alloc: Global, slots: u32) -> NewTree {
-    let Some(limits) = Limits::new(slots, 9) else {
-        panic!(rt; "no such limits")
-    };
-    match SharedTree::new(alloc, limits) {
-        Ok(tree) => tree,
-        Err(_) => panic!(rt; "no memory"),
-    }
-}
-
-const fn attribute(name: &[u8], mode: u16, tag: u64) -> Attribute<'_> {
-    Attribute { name, mode, tag }
-}
 
 /// Makes a group in the root's directory.
 fn make<N: Naming, R: Wait>(
@@ -51,25 +32,9 @@ fn make_all<N: Naming, R: Wait>(
     create_groups(&mut editor, root, groups)
 }
 
-/// Removes a group from the root's directory.
-fn remove<N: Naming, R: Wait>(
-    rt: &R,
-    tree: &SharedTree<N>,
-    name: Option<&[u8]>,
-    attributes: &[Attribute],
-) -> Result<(), Refusal> {
-    let root = tree.read(rt).state().root();
-    remove_group(rt, tree, root, &Group { name, attributes })
-}
-
 /// The number of stored commands.
 fn commands<N: Naming, R: Wait>(rt: &R, tree: &SharedTree<N>) -> usize {
     tree.read(rt).state().commands().len()
-}
-
-/// The slot of the live node that the path names.
-fn slot<N: Naming, R: Wait>(rt: &R, tree: &SharedTree<N>, path: &[u8]) -> Option<u32> {
-    Some(tree.read(rt).state().lookup(path).ok()?.slot)
 }
 
 /// A tree of six slots: a group of two files and an attribute that is away, a group without a name, and why
@@ -119,11 +84,6 @@ fn three_slots<N: Naming, R: Abort + Wait>(rt: &R, new: NewTree)
         slot(rt, &tree, b"/g/b") == Some(2),
     ];
     assert_eq!(rt; first_wrong(&answers), None);
-}
-
-/// Whether nothing stands at the path, live or not.
-fn is_free<N: Naming, R: Wait>(rt: &R, tree: &SharedTree<N>, path: &[u8]) -> bool {
-    tree.read(rt).state().walk(path).is_err()
 }
 
 /// No group at all changes nothing.
@@ -215,30 +175,6 @@ fn several<N: Naming, R: Abort + Wait>(rt: &R, new: NewTree)
     assert_eq!(rt; first_wrong(&answers), None);
 }
 
-/// A group of its own directory goes with all in it, and one without a name file by file: one file is gone
-/// already, and the other's mode is 0 by now.
-fn removals<N: Naming, R: Abort + Wait>(rt: &R, new: NewTree)
-    requires { new.master.table ≡ N.table }
-{
-    let tree = new.named::<N>();
-    let a = attribute(b"a", 0o444, 1);
-    let b = attribute(b"b", 0o644, 2);
-    let away = attribute(b"b", 0, 2);
-    let g = Some(b"g".as_slice());
-    let answers = [
-        make(rt, &tree, g, &[a, b]).is_ok(),
-        make(rt, &tree, None, &[a, b]).is_ok(),
-        remove(rt, &tree, g, &[a]) == Ok(()),
-        slot(rt, &tree, b"/g").is_none(),
-        remove(rt, &tree, g, &[a]) == Err(Refusal::NoEntry),
-        remove(rt, &tree, None, &[a]) == Ok(()),
-        slot(rt, &tree, b"/b").is_some(),
-        remove(rt, &tree, None, &[a, away]) == Ok(()),
-        slot(rt, &tree, b"/b").is_none(),
-    ];
-    assert_eq!(rt; first_wrong(&answers), None);
-}
-
 #[test]
 fn groups_are_made_whole_or_not_at_all(rt: HostRuntime) {
     six_slots::<Brand, _>(&rt, made(&rt, rt.alloc(), 6));
@@ -248,9 +184,4 @@ fn groups_are_made_whole_or_not_at_all(rt: HostRuntime) {
 #[test]
 fn several_groups_are_made_whole_or_not_at_all(rt: HostRuntime) {
     several::<Brand, _>(&rt, made(&rt, rt.alloc(), 4));
-}
-
-#[test]
-fn groups_are_removed(rt: HostRuntime) {
-    removals::<Brand, _>(&rt, made(&rt, rt.alloc(), 6));
 }

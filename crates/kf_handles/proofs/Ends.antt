@@ -1,5 +1,5 @@
 -- What is stored of a removal, step by step.
-use Rattle.std.proofs.Common.{◌≡◌, ◌<◌, ◌+◌, zero, suc, Bool, true, false, inl, inr, List, [], ◌∷◌, ◌++◌, length, refl, sym, ◌∙◌, ap, subst, append_assoc, append-nil, arith}
+use Rattle.std.proofs.Common.{◌≡◌, ◌<◌, ◌+◌, zero, suc, Bool, true, false, inl, inr, List, [], ◌∷◌, ◌++◌, length, refl, sym, ◌∙◌, ap, subst, arith}
 use Rattle.std.specs.Prelude.{Contains, All, Option, None, Some, Result, Ok, Err, IfOk, IfErr, MatchBool, is_some, unwrap_or}
 use Rattle.std.specs.Option.{option_map, ok_or}
 use Rattle.std.proofs.lemmas.List.Elements.{All-nil, All-cons, All-append, All-weaker}
@@ -9,14 +9,14 @@ use Rattle.kf_core.specs.declared.key.Key.{Key}
 use Rattle.kf_core.specs.declared.records.Record.{Record}
 use Rattle.kf_core.specs.declared.refusal.Refusal.{Refusal}
 use Rattle.kf_core.specs.declared.refusal.Refusal.TheVariants.{NoEntry}
-use Rattle.kf_core.specs.Commands.{replay, after}
 use Rattle.kf_core.specs.Marks.{are_doomed}
 use Rattle.kf_core.specs.PostOrder.{IsPostOrder}
 use Rattle.kf_core.specs.Tree.{Tree, record_at, is_linked}
 use Rattle.kf_tree.specs.declared.stat.Stat.{Stat}
 use Rattle.kf_tree.specs.Causes.{doomed_in, hidden_in}
 use Rattle.kf_tree.specs.Stat.{stat_of}
-use Rattle.kf_tree.specs.TreeLogs.{TreeLog, IsAccepted}
+use Rattle.kf_tree.specs.TreeLogs.{IsAccepted, Stores}
+use Rattle.kf_tree.proofs.Storing.{none, none_same, one, join}
 use Rattle.kf_words.specs.Callers.{Handle}
 use Rattle.kf_shared.specs.Locked.{Locked, Unchanged, UnlinkDone, UnlinkRefused}
 use Rattle.kf_shared.specs.Removal.{keys_of}
@@ -24,37 +24,7 @@ use Rattle.kf_handles.specs.declared.questions.Reply.{Reply}
 use Rattle.kf_handles.specs.declared.questions.Reply.TheVariants as told
 use Rattle.kf_handles.specs.Answers.{DoneOr}
 use Rattle.kf_handles.specs.Hiding.{IsUnhidden, IsHiddenStill}
-use Rattle.kf_handles.specs.Removing.{Stores, IsEndOf, Ends, Removes}
-
--- ---- commands stored one after another
-
-replay_append : (t : Tree) (cs ds : List Command) → replay t (cs ++ ds) ≡ replay (replay t cs) ds
-replay_append t [] ds = refl
-replay_append t (c ∷ cs) ds = replay_append (after t c) cs ds
-
-pub none : (old new : TreeLog) → new.root ≡ old.root → new.tree ≡ old.tree → new.commands ≡ old.commands → Stores old new []
-none old new root tree commands = record {
-  same_root = root;
-  changed = tree;
-  stored = commands ∙ sym (append-nil old.commands);
-}
-
-pub none_same : (old new : TreeLog) → new ≡ old → Stores old new []
-none_same old new same = none old new (ap (λ (s : TreeLog). s.root) same) (ap (λ (s : TreeLog). s.tree) same) (ap (λ (s : TreeLog). s.commands) same)
-
-pub one : (old new : TreeLog) (cause : Option Refusal) (c : Command) → IsAccepted old new cause c → Stores old new (c ∷ [])
-one old new cause c accepted = record {
-  same_root = accepted.same_root;
-  changed = accepted.changed;
-  stored = accepted.stored;
-}
-
-pub join : (a b c : TreeLog) (xs ys : List Command) → Stores a b xs → Stores b c ys → Stores a c (xs ++ ys)
-join a b c xs ys first other = record {
-  same_root = other.same_root ∙ first.same_root;
-  changed = other.changed ∙ ap (λ t. replay t ys) first.changed ∙ sym (replay_append a.tree xs ys);
-  stored = other.stored ∙ ap (λ cs. cs ++ ys) first.stored ∙ append_assoc a.commands xs ys;
-}
+use Rattle.kf_handles.specs.Removing.{IsEndOf, Ends, Removes}
 
 -- ---- ends of nodes
 

@@ -3,18 +3,11 @@ use Rattle.std.specs.Prelude.{◌≡◌, true, Bool, List, [], ◌∷◌, ◌++�
 use Rattle.kf_core.specs.declared.key.Key.{Key}
 use Rattle.kf_core.specs.declared.command.Command.{Command}
 use Rattle.kf_core.specs.declared.command.Command.TheVariants.{Doom, Unlink, Show}
-use Rattle.kf_core.specs.Commands.{replay}
 use Rattle.kf_core.specs.PostOrder.{IsPostOrder}
 use Rattle.kf_core.specs.Tree.{is_linked}
 use Rattle.kf_tree.specs.Causes.{doomed_in}
-use Rattle.kf_tree.specs.TreeLogs.{TreeLog}
+use Rattle.kf_tree.specs.TreeLogs.{Stores}
 use Rattle.kf_shared.specs.Locked.{Locked}
-
--- these commands were stored, one after another, and the tree is their replay
-pub record Stores (old new : TreeLog) (commands : List Command) : Type 0 where
-  pub same_root : new.root ≡ old.root
-  pub changed : new.tree ≡ replay old.tree commands
-  pub stored : new.commands ≡ old.commands ++ commands
 
 -- it takes one of these nodes out of the tree, or shows it
 abbrev pub IsEndOf : List Key → Command → Type 0

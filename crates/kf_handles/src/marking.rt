@@ -4,10 +4,11 @@ ghost use Rattle.kf_core.specs.declared.command.Command.TheVariants.{Doom};
 ghost use Rattle.kf_core.specs.PostOrder.{IsPostOrder};
 ghost use Rattle.kf_core.specs.Tree.{is_linked};
 ghost use Rattle.kf_tree.specs.Causes.{doomed_in};
+ghost use Rattle.kf_tree.specs.TreeLogs.{Stores};
 ghost use Rattle.kf_shared.specs.Locked.{Unchanged};
 ghost use Rattle.kf_shared.specs.Receipts.{AreOf};
 ghost use Rattle.kf_shared.specs.Removal.{keys_of};
-ghost use Rattle.kf_handles.specs.Removing.{Stores, mark_of};
+ghost use Rattle.kf_handles.specs.Removing.{mark_of};
 
 use kf_core::{Key, Refusal};
 use kf_shared::{Locked, Naming};

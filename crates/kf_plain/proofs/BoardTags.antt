@@ -1,5 +1,5 @@
 -- The tag of a file on the board is its own slot, whatever commands come.
-use Rattle.std.proofs.Common.{◌≡◌, inl, inr, ℕ, refl, ap, sym, ◌∙◌, subst, Bool, true, false, cond, List, [], ◌∷◌, length, slice_set}
+use Rattle.std.proofs.Common.{◌≡◌, inl, inr, ℕ, refl, ap, sym, ◌∙◌, subst, Bool, true, false, cond, List, [], ◌∷◌, slice_set}
 use Rattle.std.specs.Prelude.{Option, None, Some, slice_get, map}
 use Rattle.std.specs.Option.{option_map}
 use Rattle.std.proofs.lemmas.Option.{same_Some, none-some, slice_get-map}
@@ -11,7 +11,6 @@ use Rattle.kf_core.specs.Tree.{Tree, is_linked}
 use Rattle.kf_core.specs.Commands.{after, replay, new_record, activated_record, doomed_record, hidden_record, moved_record}
 use Rattle.kf_plain.specs.PlainInside.{IsTagged, IsTaggedNode}
 use Rattle.kf_core.proofs.Lists.{after_set}
-use Rattle.kf_plain.proofs.Ties.{length_after}
 
 abbrev pub AllTagged : Tree → Type 0
 AllTagged t = (slot : ℕ) (o : Option Record) → slice_get t slot ≡ Some o → IsTagged o
@@ -67,10 +66,6 @@ AreTaggedCommands (c ∷ cs) = IsTaggedCommand c × AreTaggedCommands cs
 pub tagged_replay : (t : Tree) (cs : List Command) → AreTaggedCommands cs → AllTagged t → AllTagged (replay t cs)
 tagged_replay t [] x h = h
 tagged_replay t (c ∷ cs) x h = tagged_replay (after t c) cs x.1 (tagged_after t c x.0 h)
-
-pub length_replay : (t : Tree) (cs : List Command) → length (replay t cs) ≡ length t
-length_replay t [] = refl
-length_replay t (c ∷ cs) = length_replay (after t c) cs ∙ length_after t c
 
 pub no_tags : (keys : List Key) → AreTaggedCommands (map Unlink keys)
 no_tags [] = tt

@@ -12,6 +12,7 @@ use Rattle.kf_core.specs.Tree.{is_linked, record_at}
 use Rattle.kf_tree.specs.declared.stat.Stat.{Stat}
 use Rattle.kf_tree.specs.Stat.{stat_of}
 use Rattle.kf_tree.specs.TreeLogs.{TreeLog}
+use Rattle.kf_tree.proofs.Opening.{length_after}
 use Rattle.kf_plain.specs.declared.nodes.visits.BoardFile.{BoardFile}
 use Rattle.kf_plain.specs.declared.nodes.hiding.BoardToken.{BoardToken}
 use Rattle.kf_plain.specs.Nodes.{Nodes, NoneHides, hidden_on, hold_count, logged, spent_on}
@@ -30,7 +31,6 @@ use Rattle.kf_core.proofs.Climbs.{same_key_self}
 use Rattle.kf_core.proofs.FoundRecords.{linked_here}
 use Rattle.std.proofs.lemmas.List.{map-set}
 use Rattle.kf_core.proofs.Lists.{length_set}
-use Rattle.kf_plain.proofs.Ties.{length_after}
 use Rattle.kf_plain.proofs.BoardTags.{AllTagged, tagged_after}
 use Rattle.kf_plain.proofs.Wholes.{held_part, whole_tokens}
 use Rattle.kf_plain.proofs.BoardShows.{leads_shown}

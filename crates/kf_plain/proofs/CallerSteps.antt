@@ -14,10 +14,10 @@ use Rattle.kf_core.specs.Marks.{are_doomed}
 use Rattle.kf_core.specs.Bare.{BareWorld, IsCaller, marks}
 use Rattle.kf_core.specs.Bounded.{BoundedWorld, bounded, Happens, May}
 use Rattle.kf_core.specs.Steps.{with_marks, with_phase, MayLook, MayPart, NoReference}
+use Rattle.kf_tree.proofs.SlotWrites.{marks_written, alone_linked}
 use Rattle.kf_plain.specs.Removals.{IsMarkedDoomed, released, with_callers, taken_out}
 use Rattle.kf_core.proofs.Climbs.{same_key_self}
 use Rattle.kf_core.proofs.Lists.{slice_get-set_same}
-use Rattle.kf_plain.proofs.Places.{marks_written, alone_linked}
 
 -- the caller of this number is on the key, in this phase
 abbrev pub in_phase : BoundedWorld → ℕ → Key → Phase → BoundedWorld
@@ -85,7 +85,7 @@ module _ (w w1 : BoundedWorld) (id : ℕ) (key : Key) (still : IsCaller w.world 
       drained_on = subst (λ (v : BoundedWorld). IsCaller v.world id key Drained) (sym unlinked) drained
 
       gone : marks w2.world key ≡ None
-      gone = ap (λ (v : BoundedWorld). marks v.world key) unlinked ∙ marks_written w1.world key key None (alone_linked w1.world key still_doomed.0 still_doomed.1)
+      gone = ap (λ (v : BoundedWorld). marks v.world key) unlinked ∙ marks_written w1.world.slots key key None (alone_linked w1.world.slots key still_doomed.0 still_doomed.1)
           ∙ ap (λ b. cond b None (marks w1.world key)) (same_key_self key)
 
       pub may_part : MayPart w2.world id

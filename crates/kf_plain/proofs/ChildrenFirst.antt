@@ -10,9 +10,9 @@ use Rattle.kf_core.specs.Tree.{Tree, parent_of, ancestor, in_subtree, IsIn}
 use Rattle.kf_core.specs.Lawful.{Lawful}
 use Rattle.kf_core.specs.PostOrder.{AreApart, IsPostOrder}
 use Rattle.kf_core.specs.Commands.{after, doomed_record}
-use Rattle.kf_plain.specs.Agreement.{contains_key}
+use Rattle.kf_tree.specs.SlotMarks.{contains_key}
+use Rattle.kf_tree.proofs.SameMarks.{is_listed}
 use Rattle.kf_plain.specs.Removals.{AreChildrenFirst}
-use Rattle.kf_plain.proofs.Agreement.{is_listed}
 use Rattle.kf_core.proofs.Climbs.{after_step, no_return}
 use Rattle.kf_core.proofs.Different.{no_apart}
 use Rattle.kf_core.proofs.Mapped.{mapped_from}

@@ -6,10 +6,10 @@ use Rattle.kf_core.specs.declared.command.Command.{Command}
 use Rattle.kf_core.specs.declared.refusal.Refusal.{Refusal}
 use Rattle.kf_core.specs.declared.refusal.Refusal.TheVariants.{NoMemory}
 use Rattle.kf_core.specs.Agrees.{AgreesHidden}
-use Rattle.kf_core.specs.Bare.{marks}
 use Rattle.kf_core.specs.Bounded.{BoundedWorld}
-use Rattle.kf_core.specs.Tree.{Tree, marks_of}
+use Rattle.kf_core.specs.Tree.{Tree}
 use Rattle.kf_tree.specs.Canonical.{IsCanonical}
+use Rattle.kf_tree.specs.SlotMarks.{SameMarks}
 use Rattle.kf_tree.specs.TreeLogs.{TreeLog, IsCompacted}
 use Rattle.kf_plain.specs.Nodes.{Nodes, nodes_of, AreTied, listed}
 
@@ -26,7 +26,7 @@ module _ (n : Nodes) (log log' : TreeLog) (w : BoundedWorld) (is : nodes_of log 
     record {
       kept = done.kept;
       undoomed = tied.undoomed;
-      marks = subst (λ t. (key : Key) → marks w.world key ≡ marks_of t key) (sym done.same_tree) tied.marks;
+      marks = subst (SameMarks w.world.slots) (sym done.same_tree) tied.marks;
       slots = tied.slots ∙ ap length (sym done.same_tree);
     },
     subst (λ t. AgreesHidden t w.world) (sym done.same_tree) told,

@@ -1,7 +1,7 @@
 -- The tree's hidden marks stay those that the callers make.
-use Rattle.std.proofs.Common.{◌≡◌, inl, inr, ℕ, zero, suc, refl, ap, sym, ◌∙◌, subst, Bool, true, false, cond, List, [], ◌∷◌, ◌++◌, slice_set, replicate}
+use Rattle.std.proofs.Common.{◌≡◌, inl, inr, ℕ, refl, ap, sym, ◌∙◌, subst, Bool, true, false, cond, List, [], ◌∷◌, ◌++◌, slice_set, replicate}
 use Rattle.std.specs.Prelude.{Option, None, Some, slice_get, ◌&&◌, map, Result, Ok, Err, IfOk, IfErr}
-use Rattle.std.proofs.lemmas.Option.{same_Some, none-some}
+use Rattle.std.proofs.lemmas.Option.{same_Some}
 use Rattle.kf_core.specs.declared.key.Key.{Key}
 use Rattle.kf_core.specs.declared.key.Node.{Node}
 use Rattle.kf_core.specs.declared.caller.Caller.{Caller}
@@ -25,6 +25,7 @@ use Rattle.kf_core.proofs.Hiding.{hides_set, hides_push}
 use Rattle.kf_core.proofs.Lists.{after_set}
 use Rattle.kf_tree.specs.TreeLogs.{TreeLog, IsNew, IsAccepted, IsRefused}
 use Rattle.kf_table.specs.Children.{is_there_already}
+use Rattle.kf_tree.proofs.Opening.{none_there}
 use Rattle.kf_plain.specs.Nodes.{Waits, StillWaits, root_key, spent_on}
 use Rattle.kf_plain.specs.Removals.{still_on}
 use Rattle.kf_plain.proofs.Ties.{Logs, logs}
@@ -114,16 +115,11 @@ renamed_stays_told log log' w key dir name cause (Err refusal) told stays accept
 
 -- ---- the opening
 
-no_record : (n slot : ℕ) (r : Record) → slice_get (replicate n (let o : Option Record = None in o)) slot ≡ Some (Some r) → ⊥
-no_record zero slot r e = none-some (Some r) e
-no_record (suc n) zero r e = none-some r (same_Some None (Some r) e)
-no_record (suc n) (suc slot) r e = no_record n slot r e
-
 pub told_opening : (count start limit : ℕ) (log : TreeLog) (w : BoundedWorld) → IsNew count (root_key start) log → w ≡ bounded (opening count start) limit → AgreesHidden log.tree w.world
 told_opening count start limit log w new opens = subst (λ (v : BoundedWorld). AgreesHidden log.tree v.world) (sym opens) (subst (λ t. AgreesHidden t (opening count start)) (sym new.tree) alone)
   where
     alone : AgreesHidden (root_alone count (root_key start)) (opening count start)
     alone r is = elim (after_set (replicate count None) 0 r.key.slot (Some (root_record (root_key start))) (Some r) is) [
       | inl e ↦ ap (λ (x : Record). x.hidden) (sym (same_Some (root_record (root_key start)) r e))
-      | inr h ↦ absurd (no_record count r.key.slot r h)
+      | inr h ↦ absurd (none_there count r.key.slot r h)
     ]

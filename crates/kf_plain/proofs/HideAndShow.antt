@@ -20,7 +20,7 @@ use Rattle.kf_core.specs.declared.event.Event.TheVariants.{Pin, Release, LookHid
 use Rattle.kf_core.specs.Agrees.{AgreesHidden}
 use Rattle.kf_core.specs.Bare.{BareWorld, IsCaller, IsLast, marks, marks_in, any_hides, is_hidden}
 use Rattle.kf_core.specs.Bounded.{BoundedWorld, Happens, May}
-use Rattle.kf_core.specs.Commands.{after, hidden_record}
+use Rattle.kf_core.specs.Commands.{after}
 use Rattle.kf_core.specs.Keys.{same_key}
 use Rattle.kf_core.specs.Phases.{is_hiding, has_reference, is_waiting}
 use Rattle.kf_core.specs.Refusals.{unless, first_cause}
@@ -32,39 +32,16 @@ use Rattle.kf_core.proofs.Climbs.{keys_tell, same_key_self}
 use Rattle.kf_core.proofs.FoundRecords.{found_in}
 use Rattle.kf_core.proofs.Hiding.{hider_hides, hider_hidden, hides_push, not_both, hiding_holds}
 use Rattle.kf_core.proofs.Lists.{after_push, slice_get-set_same}
-use Rattle.kf_core.proofs.Mapped.{find_mapped}
 use Rattle.kf_tree.specs.Causes.{Refuses, hide_cause, hidden_in, is_directory, is_link, doomed_in}
 use Rattle.kf_tree.specs.TreeLogs.{TreeLog, IsAccepted, IsReadied}
-use Rattle.kf_plain.specs.Agreement.{SameMarks}
+use Rattle.kf_tree.proofs.SameMarks.{same_hidden}
+use Rattle.kf_tree.specs.SlotMarks.{SameMarks}
 use Rattle.kf_plain.specs.Nodes.{Nodes, nodes_of, last_of, AreTied, AllIdle, NoneHides, hidden_on, hold_count, spent_on, logged}
 use Rattle.kf_plain.proofs.BoardVisits.{Visited, last_there, last_set}
 use Rattle.kf_plain.proofs.CallerSteps.{has_released}
 use Rattle.kf_plain.proofs.Ties.{Logs, log_after, tied_after}
 
 -- ---- the tree
-
-abbrev hidden_at : Key → Bool → Record → Record
-hidden_at key b r = cond (same_key r.key key) (hidden_record b r) r
-
--- the hidden mark is none of the marks of the words
-same_hidden : (w : BareWorld) (t : Tree) (key : Key) (b : Bool) → SameMarks w t → (k : Key) → marks w k ≡ option_map (λ (r : Record). r.marks) (option_map (hidden_at key b) (record_at t k))
-same_hidden w t key b same k = same k ∙ sym (kept (record_at t k))
-  where
-    same_marks : (r : Record) → (hidden_at key b r).marks ≡ r.marks
-    same_marks r = elim (same_key r.key key) as (λ c. (cond c (hidden_record b r) r).marks ≡ r.marks) [ true ↦ refl | false ↦ refl ]
-
-    kept : (o : Option Record) → option_map (λ (x : Record). x.marks) (option_map (hidden_at key b) o) ≡ option_map (λ (x : Record). x.marks) o
-    kept None = refl
-    kept (Some r) = ap (λ m. Some m) (same_marks r)
-
-same_keys : (key : Key) (b : Bool) (r : Record) → (hidden_at key b r).key ≡ r.key
-same_keys key b r = elim (same_key r.key key) as (λ c. (cond c (hidden_record b r) r).key ≡ r.key) [ true ↦ refl | false ↦ refl ]
-
-same_when_hidden : (w : BareWorld) (t : Tree) (key : Key) → SameMarks w t → SameMarks w (after t (Hide key))
-same_when_hidden w t key same k = same_hidden w t key true same k ∙ sym (ap (option_map (λ (x : Record). x.marks)) (find_mapped t (hidden_at key true) (same_keys key true) k))
-
-same_when_shown : (w : BareWorld) (t : Tree) (key : Key) → SameMarks w t → SameMarks w (after t (Show key))
-same_when_shown w t key same k = same_hidden w t key false same k ∙ sym (ap (option_map (λ (x : Record). x.marks)) (find_mapped t (hidden_at key false) (same_keys key false) k))
 
 -- a linked key is hidden by its record where a caller hides it
 pub hidden_agrees : (t : Tree) (w : BareWorld) (key : Key) → AgreesHidden t w → is_linked t key ≡ true → is_hidden w key ≡ hidden_in t key
@@ -103,7 +80,7 @@ at_slots w w' e k = ap (λ ps. marks_in (slice_get ps k.slot) k.generation) e
 -- the tree has the command, and the world the slots that it had
 module _ (n : Nodes) (log log' : TreeLog) (w w' : BoundedWorld) (c : Command) (is : nodes_of log w ≡ n) (tied : AreTied log w.world) (a : Logs log log' c)
     (slots : w'.world.slots ≡ w.world.slots) (limit : w'.limit ≡ w.limit) where
-  tied_with : SameMarks w.world (after log.tree c) → AreTied log' w'.world
+  tied_with : SameMarks w.world.slots (after log.tree c) → AreTied log' w'.world
   tied_with same = tied_after log log' w.world w'.world c tied a (ap length slots) (λ k. at_slots w.world w'.world slots k ∙ same k)
       (λ k m h. tied.undoomed k m (sym (at_slots w.world w'.world slots k) ∙ h))
 
@@ -199,7 +176,7 @@ module _ (n : Nodes) (log : TreeLog) (w w1 : BoundedWorld) (id : ℕ) (key : Key
 
       module _ (log' : TreeLog) (a : Logs log log' (Hide key)) where
         pub tied_hidden : AreTied log' w3.world
-        tied_hidden = tied_with n log log' w w3 (Hide key) is tied a slots3 limit3 (same_when_hidden w.world log.tree key tied.marks)
+        tied_hidden = tied_with n log log' w w3 (Hide key) is tied a slots3 limit3 (same_hidden w.world.slots log.tree key true tied.marks)
 
         now_hidden : is_hidden w3.world key ≡ true
         now_hidden = ap (any_hides key) callers3 ∙ hider_hides (w.world.callers ++ hidden_on key ∷ []) key (length w.world.callers) (hidden_on key) (last_there w.world.callers (hidden_on key)) (ap (λ b. b && true) (same_key_self key))
@@ -286,7 +263,7 @@ module _ (n : Nodes) (log log' : TreeLog) (w w1 : BoundedWorld) (id : ℕ) (key 
       limit_now = release.limit ∙ show.limit
 
       pub tied_shown : AreTied log' w2.world
-      tied_shown = tied_with n log log' w w2 (Show key) is tied a slots_now limit_now (same_when_shown w.world log.tree key tied.marks)
+      tied_shown = tied_with n log log' w w2 (Show key) is tied a slots_now limit_now (same_hidden w.world.slots log.tree key false tied.marks)
 
       pub told_shown : Safe w.world → AgreesHidden log'.tree w2.world
       told_shown safe = subst (λ v. AgreesHidden log'.tree v) (sym ended) (subst (λ t. AgreesHidden t (with_phase w.world id key Spent)) (sym a.changed)

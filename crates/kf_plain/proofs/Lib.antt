@@ -1,6 +1,3 @@
-pub mod Places
-pub mod Agreement
-pub mod Changes
 pub mod Counts
 pub mod Ties
 pub mod HiddenMarks

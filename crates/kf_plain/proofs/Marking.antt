@@ -10,11 +10,11 @@ use Rattle.kf_core.specs.declared.slot.SlotState.{SlotState}
 use Rattle.kf_core.specs.Bare.{BareWorld, marks}
 use Rattle.kf_core.specs.Bounded.{BoundedWorld}
 use Rattle.kf_core.specs.Steps.{with_marks}
-use Rattle.kf_plain.specs.Agreement.{contains_key, Changed}
+use Rattle.kf_tree.specs.SlotMarks.{contains_key, Changed}
+use Rattle.kf_tree.proofs.MarkChanges.{IsMarking}
+use Rattle.kf_tree.proofs.SlotWrites.{linked_slot}
 use Rattle.kf_plain.specs.Nodes.{OnlyMarks, last_of}
 use Rattle.kf_core.proofs.Climbs.{keys_tell}
-use Rattle.kf_plain.proofs.Changes.{IsMarking}
-use Rattle.kf_plain.proofs.Places.{linked_place}
 
 -- a key that stands at none of the first places is not among them
 pub not_among : (keys : List Key) (i : ℕ) (k d : Key) → ((j : ℕ) → j < i → j < length keys → slice_index_or keys j d ≢ k) → contains_key (take i keys) k ≡ false
@@ -32,7 +32,7 @@ not_before keys i d differ h = not_among keys i (slice_index_or keys i d) d (λ 
 
 -- and keeps its marks until it is reached
 pub still_marked : (f : Bool → Marks → Marks) → IsMarking f → (keys : List Key) (i : ℕ) (d : Key) (old now : BareWorld) (m : Marks) → AllPairs (λ a b. a ≢ b) keys → i < length keys →
-    Changed f (take i keys) old now → marks old (slice_index_or keys i d) ≡ Some m → marks now (slice_index_or keys i d) ≡ Some m
+    Changed f (take i keys) old.slots now.slots → marks old (slice_index_or keys i d) ≡ Some m → marks now (slice_index_or keys i d) ≡ Some m
 still_marked f marking keys i d old now m differ h changed was =
     changed (slice_index_or keys i d) ∙ ap (λ b. option_map (f b) (marks old (slice_index_or keys i d))) (not_before keys i d differ h)
     ∙ ap (option_map (f false)) was ∙ ap (λ x. Some x) (marking.none m)
@@ -47,7 +47,7 @@ pub last_marked : (w : BareWorld) (key : Key) (m : Marks) (n : Option Marks) →
 last_marked w key m n h =
     map-set (λ (s : SlotState). s.generation) w.slots key.slot _
     ∙ set_same (last_of w.slots) key.slot key.generation
-    (slice_get-map (λ (s : SlotState). s.generation) w.slots key.slot ∙ ap (option_map (λ (s : SlotState). s.generation)) (linked_place w key m h))
+    (slice_get-map (λ (s : SlotState). s.generation) w.slots key.slot ∙ ap (option_map (λ (s : SlotState). s.generation)) (linked_slot w.slots key m h))
 
 pub only_same : (w : BoundedWorld) → OnlyMarks w w
 only_same w = record { last = refl; limit = refl; callers = refl }

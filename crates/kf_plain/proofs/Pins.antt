@@ -15,10 +15,10 @@ use Rattle.kf_core.specs.Phases.{may_release}
 use Rattle.kf_core.specs.Bare.{BareWorld, marks, is_linked}
 use Rattle.kf_core.specs.Bounded.{BoundedWorld, bounded, Happens, PinRefused, holds}
 use Rattle.kf_core.specs.Steps.{with_caller}
+use Rattle.kf_tree.proofs.SlotWrites.{alone_linked}
 use Rattle.kf_plain.specs.Nodes.{hold_count, holds_slot, spent_on}
 use Rattle.kf_plain.specs.Removals.{PinsRefused, released, still_on, with_callers}
 use Rattle.kf_plain.proofs.Counts.{none_counted}
-use Rattle.kf_plain.proofs.Places.{alone_linked}
 
 some_of : {X : Type 0} (o : Option X) → is_some o ≡ true → (x : X) × (o ≡ Some x)
 some_of None h = absurd (cc)
@@ -29,7 +29,7 @@ slots_differ : (w : BareWorld) (a b : Key) → is_linked w a ≡ true → is_lin
 slots_differ w a b ha hb n s =
     (let m = some_of (marks w a) ha in
     let m' = some_of (marks w b) hb in
-    none-some m'.0 (sym ((alone_linked w a m.0 m.1).alone b (sym s) (λ e. n (sym e))) ∙ m'.1))
+    none-some m'.0 (sym ((alone_linked w.slots a m.0 m.1).alone b (sym s) (λ e. n (sym e))) ∙ m'.1))
 
 -- holds of other slots do not count
 other_holds : (cs : List Caller) (keys : List Key) (slot : ℕ) → ((i : ℕ) (k : Key) → slice_get keys i ≡ Some k → k.slot ≢ slot) → hold_count (cs ++ map still_on keys) slot ≡ hold_count cs slot

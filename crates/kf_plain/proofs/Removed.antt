@@ -12,7 +12,6 @@ use Rattle.kf_core.specs.declared.slot.SlotState.{SlotState}
 use Rattle.kf_core.specs.declared.records.Record.{Record}
 use Rattle.kf_core.specs.declared.caller.Caller.{Caller}
 use Rattle.kf_core.specs.declared.caller.Phase.{Phase}
-use Rattle.kf_core.specs.declared.command.Command.{Command}
 use Rattle.kf_core.specs.declared.command.Command.TheVariants.{Doom, Unlink}
 use Rattle.kf_core.specs.declared.refusal.Refusal.{Refusal}
 use Rattle.kf_core.specs.declared.refusal.Refusal.TheVariants.{NoEntry, Invalid, NoMemory, TooManyHolds}
@@ -27,16 +26,17 @@ use Rattle.kf_core.specs.Commands.{after, replay}
 use Rattle.kf_tree.specs.Causes.{Refuses, linked_cause, doom_cause}
 use Rattle.kf_tree.specs.TreeLogs.{TreeLog, IsKept}
 use Rattle.kf_core.specs.Agrees.{AgreesHidden}
+use Rattle.kf_tree.specs.SlotMarks.{SameMarks, Changed, contains_key, doomed_if}
+use Rattle.kf_tree.proofs.Opening.{length_after, length_replay}
+use Rattle.kf_tree.proofs.SameMarks.{same_doomed, is_listed}
 use Rattle.kf_plain.proofs.HiddenMarks.{told_spent, told_unlinked, told_doomed}
-use Rattle.kf_plain.specs.Agreement.{SameMarks, Changed, contains_key, doomed_if}
 use Rattle.kf_plain.specs.Nodes.{Nodes, nodes_of, AreTied, OnlyMarks, AllIdle, hold_count, is_full_in, is_full_below, last_of, logged, with_spent, spent_on}
 use Rattle.kf_plain.specs.Removals.{AreChildrenFirst, Cleared, IsMarkedDoomed, IsMarkedUndoomed, PinsRefused, released, still_on, with_callers}
-use Rattle.kf_plain.proofs.Agreement.{same_doomed, is_listed}
 use Rattle.kf_plain.proofs.ChildrenFirst.{children_first_doomed}
 use Rattle.kf_core.proofs.Different.{different}
 use Rattle.kf_plain.proofs.Pins.{released_callers}
 use Rattle.kf_core.proofs.FoundRecords.{in_found, linked_here}
-use Rattle.kf_plain.proofs.Ties.{Logs, length_after, log_after}
+use Rattle.kf_plain.proofs.Ties.{Logs, log_after}
 
 -- ---- why it is refused
 
@@ -120,12 +120,12 @@ module _ (s : TreeLog) (w : BoundedWorld) (key : Key) (keys : List Key) (tied : 
 
   -- ---- once they are doomed
   module _ (s1 : TreeLog) (w1 w2 : BoundedWorld) (first : ℕ) (held : w1 ≡ with_callers w (w.world.callers ++ map still_on keys)) (number : first ≡ length w.world.callers)
-      (accepted : Logs s s1 (Doom key)) (doomed : Changed doomed_if keys w1.world w2.world) (only : OnlyMarks w1 w2) where
-    changed : Changed doomed_if keys w.world w2.world
-    changed = subst (λ (v : BoundedWorld). Changed doomed_if keys v.world w2.world) held doomed
+      (accepted : Logs s s1 (Doom key)) (doomed : Changed doomed_if keys w1.world.slots w2.world.slots) (only : OnlyMarks w1 w2) where
+    changed : Changed doomed_if keys w.world.slots w2.world.slots
+    changed = subst (λ (v : BoundedWorld). Changed doomed_if keys v.world.slots w2.world.slots) held doomed
 
-    pub same_after : SameMarks w2.world s1.tree
-    same_after = subst (λ t. SameMarks w2.world t) (sym accepted.changed) (same_doomed s.tree key keys w.world w2.world tied.marks p changed)
+    pub same_after : SameMarks w2.world.slots s1.tree
+    same_after = subst (λ t. SameMarks w2.world.slots t) (sym accepted.changed) (same_doomed s.tree key keys w.world.slots w2.world.slots tied.marks p changed)
 
     pub all_doomed : (ks : List Key) → ks ≡ keys → All (λ k. IsMarkedDoomed (marks w2.world k)) ks
     all_doomed ks e = subst (λ l. All (λ k. IsMarkedDoomed (marks w2.world k)) l) (sym e) (λ i d l.
@@ -159,10 +159,6 @@ module _ (s : TreeLog) (w : BoundedWorld) (key : Key) (keys : List Key) (tied : 
       last_now : last_of w3.world.slots ≡ last_of w.world.slots
       last_now = last ∙ only.last ∙ ap (λ (v : BoundedWorld). last_of v.world.slots) held
 
-      length_replay : (t : Tree) (cs : List Command) → length (replay t cs) ≡ length t
-      length_replay t [] = refl
-      length_replay t (c ∷ cs) = length_replay (after t c) cs ∙ length_after t c
-
       wide : length w3.world.slots ≡ length s2.tree
       wide = sym (length-map w3.world.slots (λ (x : SlotState). x.generation)) ∙ ap length last_now ∙ length-map w.world.slots (λ (x : SlotState). x.generation) ∙ tied.slots
           ∙ sym (ap (λ (l : TreeLog). length l.tree) log ∙ length_replay s1.tree (map Unlink keys) ∙ ap length accepted.changed ∙ length_after s.tree (Doom key))
@@ -178,7 +174,7 @@ module _ (s : TreeLog) (w : BoundedWorld) (key : Key) (keys : List Key) (tied : 
           go true e f = absurd (none-some m f)
           go false e f = kept (marks w.world k) refl (sym (changed k ∙ ap (λ b. option_map (doomed_if b) (marks w.world k)) e) ∙ f)
 
-      pub tied_removed : IsKept s2 → SameMarks w3.world s2.tree → AreTied s2 w3.world
+      pub tied_removed : IsKept s2 → SameMarks w3.world.slots s2.tree → AreTied s2 w3.world
       tied_removed kept same = record { kept = kept; undoomed = none_doomed; marks = same; slots = wide }
 
       callers_now : w3.world.callers ≡ w.world.callers ++ map spent_on keys

@@ -17,10 +17,11 @@ use Rattle.kf_core.specs.Keys.{same_key}
 use Rattle.kf_core.specs.Tree.{Tree, marks_of}
 use Rattle.kf_core.specs.PostOrder.{IsPostOrder}
 use Rattle.kf_tree.specs.TreeLogs.{TreeLog}
-use Rattle.kf_plain.specs.Agreement.{SameMarks, Changed, contains_key, risen_if, is_fresh_key, is_fresh_marked}
+use Rattle.kf_tree.specs.SlotMarks.{SameMarks, Changed, contains_key, risen_if}
+use Rattle.kf_tree.proofs.SameMarks.{same_risen}
+use Rattle.kf_plain.specs.Fresh.{is_fresh_key, is_fresh_marked}
 use Rattle.kf_plain.specs.Nodes.{AreTied, OnlyMarks}
 use Rattle.kf_core.proofs.Climbs.{keys_tell}
-use Rattle.kf_plain.proofs.Agreement.{same_risen}
 use Rattle.kf_core.proofs.Different.{different}
 use Rattle.kf_plain.proofs.Ties.{Logs, IsUndoomed, tied_after}
 
@@ -48,7 +49,7 @@ contains_filtered test (x ∷ xs) k =
     ] refl
 
 -- a rise of those that are not fresh is none
-same_filtered : (t : Tree) (keys : List Key) (w new : BareWorld) → SameMarks w t → Changed risen_if (filter (is_fresh_key t) keys) w new → Changed risen_if keys w new
+same_filtered : (t : Tree) (keys : List Key) (w new : BareWorld) → SameMarks w.slots t → Changed risen_if (filter (is_fresh_key t) keys) w.slots new.slots → Changed risen_if keys w.slots new.slots
 same_filtered t keys w new same changed k =
     changed k ∙ ap (λ b. option_map (risen_if b) (marks w k)) (contains_filtered (is_fresh_key t) keys k) ∙ go (marks w k) (same k)
   where
@@ -76,14 +77,14 @@ fresh_is (Some m) h = ap (λ x. Some x) (go m.activated m.doomed h)
     go false true e = absurd (cc)
     go false false e = refl
 
-pub fresh_listed : (t : Tree) (keys all : List Key) (w : BareWorld) → SameMarks w t → keys ≡ filter (is_fresh_key t) all → All (λ k. marks w k ≡ Some fresh_marks) keys
+pub fresh_listed : (t : Tree) (keys all : List Key) (w : BareWorld) → SameMarks w.slots t → keys ≡ filter (is_fresh_key t) all → All (λ k. marks w k ≡ Some fresh_marks) keys
 fresh_listed t keys all w same e = subst (λ ks. All (λ k. marks w k ≡ Some fresh_marks) ks) (sym e) (λ i d l. same _ ∙ fresh_is _ (filter_passes (is_fresh_key t) all i d l))
 
 pub different_listed : (log : TreeLog) (w : BareWorld) (top : Key) (keys all : List Key) → AreTied log w → IsPostOrder log.tree top all → keys ≡ filter (is_fresh_key log.tree) all → AllPairs (λ a b. a ≢ b) keys
 different_listed log w top keys all tied p e = subst (λ ks. AllPairs (λ a b. a ≢ b) ks) (sym e)
     (AllPairs-filter (λ a b. a ≢ b) (is_fresh_key log.tree) all (different log.tree log.root tied.kept.lawful top all p))
 
-undoomed_risen : (keys : List Key) (w w' : BareWorld) → Changed risen_if keys w w' → IsUndoomed w → IsUndoomed w'
+undoomed_risen : (keys : List Key) (w w' : BareWorld) → Changed risen_if keys w.slots w'.slots → IsUndoomed w → IsUndoomed w'
 undoomed_risen keys w w' changed none k n h = go (marks w k) refl (sym (changed k) ∙ h)
   where
     go : (o : Option Marks) → marks w k ≡ o → option_map (risen_if (contains_key keys k)) o ≡ Some n → n.doomed ≡ false
@@ -94,8 +95,8 @@ pub wide_as : (a b : BoundedWorld) → OnlyMarks a b → length b.world.slots �
 wide_as a b only = sym (length-map b.world.slots (λ (s : SlotState). s.generation)) ∙ ap length only.last ∙ length-map a.world.slots (λ (s : SlotState). s.generation)
 
 pub tied_risen : (log log' : TreeLog) (w w' : BoundedWorld) (top : Key) (keys all : List Key) → AreTied log w.world → IsPostOrder log.tree top all → keys ≡ filter (is_fresh_key log.tree) all →
-    Changed risen_if keys w.world w'.world → OnlyMarks w w' → Logs log log' (Activate top) → AreTied log' w'.world
+    Changed risen_if keys w.world.slots w'.world.slots → OnlyMarks w w' → Logs log log' (Activate top) → AreTied log' w'.world
 tied_risen log log' w w' top keys all tied p e changed only a =
     tied_after log log' w.world w'.world (Activate top) tied a (wide_as w w' only)
-    (same_risen log.tree top all w.world w'.world tied.marks p (same_filtered log.tree all w.world w'.world tied.marks (subst (λ ks. Changed risen_if ks w.world w'.world) e changed)))
+    (same_risen log.tree top all w.world.slots w'.world.slots tied.marks p (same_filtered log.tree all w.world w'.world tied.marks (subst (λ ks. Changed risen_if ks w.world.slots w'.world.slots) e changed)))
     (undoomed_risen keys w.world w'.world changed tied.undoomed)

@@ -21,20 +21,22 @@ use Rattle.kf_core.specs.Phases.{has_reference}
 use Rattle.kf_core.specs.Refusals.{unless, first_cause}
 use Rattle.kf_core.specs.Bare.{IsCaller, marks}
 use Rattle.kf_core.specs.Bounded.{BoundedWorld}
-use Rattle.kf_core.specs.Steps.{with_marks, NoReference}
+use Rattle.kf_core.specs.Steps.{NoReference}
 use Rattle.kf_core.specs.Tree.{Tree, record_at, marks_of, is_linked, IsIn}
 use Rattle.kf_core.specs.Commands.{after, replay}
 use Rattle.kf_tree.specs.Causes.{unlink_cause, doomed_in}
 use Rattle.kf_table.specs.Children.{has_child, is_under}
 use Rattle.kf_tree.specs.TreeLogs.{TreeLog, IsKept, IsAccepted}
-use Rattle.kf_plain.specs.Agreement.{SameMarks, contains_key}
+use Rattle.kf_tree.specs.SlotMarks.{SameMarks, contains_key}
+use Rattle.kf_tree.proofs.MarkChanges.{contains_more}
+use Rattle.kf_tree.proofs.Opening.{replay_push}
+use Rattle.kf_tree.proofs.SameMarks.{same_unlinked}
+use Rattle.kf_tree.proofs.SlotWrites.{written, marks_written, alone_linked}
 use Rattle.kf_plain.specs.Nodes.{AllIdle, last_of, logged, spent_on}
 use Rattle.kf_plain.specs.Removals.{AreChildrenFirst, Cleared, IsMarkedDoomed, released, still_on, taken_out}
-use Rattle.kf_plain.proofs.Agreement.{same_unlinked}
 use Rattle.kf_core.proofs.Climbs.{keys_tell, same_key_self}
 use Rattle.kf_core.proofs.Lists.{slice_get-set_same, after_set}
 use Rattle.kf_plain.proofs.Marking.{last_marked, not_before}
-use Rattle.kf_plain.proofs.Places.{marks_written, alone_linked}
 use Rattle.kf_plain.proofs.Rows.{partly, partly_at, partly_more}
 use Rattle.kf_core.proofs.FoundRecords.{in_found, found_in, find_at, find_cleared, linked_here}
 use Rattle.kf_plain.proofs.Ties.{logs, log_after}
@@ -42,14 +44,6 @@ use Rattle.kf_plain.proofs.Ties.{logs, log_after}
 -- what of each record is left once these are taken out
 abbrev pub Left : List Key → Tree → Tree → Type 0
 Left keys old new = (k : Key) → record_at new k ≡ cond (contains_key keys k) None (record_at old k)
-
-contains_more : (keys : List Key) (x k : Key) → contains_key (keys ++ x ∷ []) k ≡ (contains_key keys k || same_key x k)
-contains_more [] x k = elim (same_key x k) as (λ b. (b || false) ≡ (false || b)) [ true ↦ refl | false ↦ refl ]
-contains_more (y ∷ ys) x k = ap (λ b. same_key y k || b) (contains_more ys x k) ∙ go (same_key y k)
-  where
-    go : (a : Bool) → (a || (contains_key ys k || same_key x k)) ≡ ((a || contains_key ys k) || same_key x k)
-    go true = refl
-    go false = refl
 
 one_less : {X : Type 0} (a b : Bool) (o : Option X) → cond b None (cond a None o) ≡ cond (a || b) None o
 one_less true true o = refl
@@ -71,27 +65,23 @@ record_unlinked t x k linked =
     at : (r : Record) → IsIn t r → r.key ≡ x → x.slot < length t
     at r h e = subst (λ (y : Key). y.slot < length t) e (slice_get_within t r.key.slot _ h)
 
-replay_more : (t : Tree) (cs : List Command) (c : Command) → replay t (cs ++ c ∷ []) ≡ after (replay t cs) c
-replay_more t [] c = refl
-replay_more t (x ∷ xs) c = replay_more (after t x) xs c
-
 logged_more : (log : TreeLog) (cs : List Command) (c : Command) → logged (logged log cs) (c ∷ []) ≡ logged log (cs ++ c ∷ [])
 logged_more log cs c =
     (let made : Tree → List Command → TreeLog = λ t l. record { root = log.root; tree = t; commands = l; ready = None } in
-    ap (λ t. made t ((log.commands ++ cs) ++ c ∷ [])) (sym (replay_more log.tree cs c)) ∙ ap (made (replay log.tree (cs ++ c ∷ []))) (append_assoc log.commands cs (c ∷ [])))
+    ap (λ t. made t ((log.commands ++ cs) ++ c ∷ [])) (sym (replay_push log.tree cs c)) ∙ ap (made (replay log.tree (cs ++ c ∷ []))) (append_assoc log.commands cs (c ∷ [])))
 
 -- these nodes were taken out, and nobody has a reference
 pub record HasTaken (s0 s : TreeLog) (w0 w : BoundedWorld) (keys : List Key) : Type 0 where
   pub log : s ≡ logged s0 (map Unlink keys)
   pub kept : IsKept s
-  pub same : SameMarks w.world s.tree
+  pub same : SameMarks w.world.slots s.tree
   pub left : Left keys s0.tree s.tree
   pub cleared : Cleared keys w0.world w.world
   pub last : last_of w.world.slots ≡ last_of w0.world.slots
   pub limit : w.limit ≡ w0.limit
   pub idle : AllIdle w.world.callers
 
-pub none_taken : (s0 : TreeLog) (w0 : BoundedWorld) → s0.ready ≡ None → IsKept s0 → SameMarks w0.world s0.tree → AllIdle w0.world.callers → HasTaken s0 s0 w0 w0 []
+pub none_taken : (s0 : TreeLog) (w0 : BoundedWorld) → s0.ready ≡ None → IsKept s0 → SameMarks w0.world.slots s0.tree → AllIdle w0.world.callers → HasTaken s0 s0 w0 w0 []
 none_taken s0 w0 unready kept same idle = record {
   log = (let made : List Command → Option Key → TreeLog = λ cs k. record { root = s0.root; tree = s0.tree; commands = cs; ready = k } in
       ap (λ cs. made cs s0.ready) (sym (append-nil s0.commands)) ∙ ap (made (s0.commands ++ [])) unready);
@@ -162,10 +152,10 @@ module _ (s0 s : TreeLog) (w0 w : BoundedWorld) (keys : List Key) (i : ℕ) (d :
     log = log_after s s' (Unlink next) (logs a) ∙ ap (λ l. logged l (Unlink next ∷ [])) taken.log ∙ logged_more s0 (map Unlink (take i keys)) (Unlink next)
         ∙ ap (logged s0) (sym (map-append Unlink (take i keys) (next ∷ [])));
     kept = a.kept;
-    same = subst (λ (v : BoundedWorld). SameMarks v.world s'.tree) (sym e) (subst (λ t. SameMarks (with_marks w.world next None) t) (sym a.changed) (same_unlinked w.world s.tree next taken.same next_linked));
+    same = subst (λ (v : BoundedWorld). SameMarks v.world.slots s'.tree) (sym e) (subst (λ t. SameMarks (written w.world.slots next None) t) (sym a.changed) (same_unlinked w.world.slots s.tree next taken.same next_linked));
     left = λ k. ap (λ t. record_at t k) a.changed ∙ record_unlinked s.tree next k next_linked ∙ ap (cond (same_key next k) None) (taken.left k)
         ∙ one_less (contains_key (take i keys) k) (same_key next k) (record_at s0.tree k) ∙ ap (λ b. cond b None (record_at s0.tree k)) (sym (contains_more (take i keys) next k));
-    cleared = λ k. ap (λ (v : BoundedWorld). marks v.world k) e ∙ marks_written w.world next k None (alone_linked w.world next next_doomed.0 next_doomed.1) ∙ ap (cond (same_key next k) None) (taken.cleared k)
+    cleared = λ k. ap (λ (v : BoundedWorld). marks v.world k) e ∙ marks_written w.world.slots next k None (alone_linked w.world.slots next next_doomed.0 next_doomed.1) ∙ ap (cond (same_key next k) None) (taken.cleared k)
         ∙ one_less (contains_key (take i keys) k) (same_key next k) (marks w0.world k) ∙ ap (λ b. cond b None (marks w0.world k)) (sym (contains_more (take i keys) next k));
     last = ap (λ (v : BoundedWorld). last_of v.world.slots) e ∙ last_marked w.world next next_doomed.0 None next_doomed.1 ∙ taken.last;
     limit = ap (λ (v : BoundedWorld). v.limit) e ∙ taken.limit;

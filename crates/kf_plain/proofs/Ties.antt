@@ -1,6 +1,6 @@
 -- The tree and the callers' world are tied: slots, births, and what each command makes of both.
 use Rattle.std.proofs.Common.{◌≡◌, inl, inr, ℕ, zero, suc, ◌+◌, ◌-◌, ◌^◌, ◌<◌, ◌≤◌, refl, ap, arith, sym, ◌∙◌, subst, Bool, true, false, cond, List, [], ◌∷◌, ◌++◌, length, slice_set, nat_lt}
-use Rattle.std.specs.Prelude.{Option, None, Some, slice_get, slice_index, map, IsFalse, ◌==◌, ◌&&◌, not, IfSome, IfNone, IfOk, IfErr, Result, Ok, Err}
+use Rattle.std.specs.Prelude.{Option, None, Some, slice_get, slice_index, IsFalse, ◌==◌, ◌&&◌, not, IfSome, IfNone, IfOk, IfErr, Result, Ok, Err}
 use Rattle.std.specs.Option.{option_map, option_and_then}
 use Rattle.std.proofs.lemmas.Option.{same_Some, none-some, slice_get_within, slice_get-map, get_or_from_slice_get}
 use Rattle.std.proofs.lemmas.List.{map-set}
@@ -16,23 +16,24 @@ use Rattle.kf_core.specs.declared.caller.Phase.TheVariants.{Still, Turned, Runni
 use Rattle.kf_core.specs.declared.records.Record.{Record}
 use Rattle.kf_core.specs.declared.refusal.Refusal.{Refusal}
 use Rattle.kf_core.specs.declared.command.Command.{Command}
-use Rattle.kf_core.specs.declared.command.Command.TheVariants.{Create, Activate, Doom, Unlink, Rename, Hide, Show}
+use Rattle.kf_core.specs.declared.command.Command.TheVariants.{Create, Rename}
 use Rattle.kf_core.specs.Keys.{same_key}
 use Rattle.kf_core.specs.Marks.{fresh_marks, live_marks}
 use Rattle.kf_core.specs.Phases.{is_spent}
 use Rattle.kf_core.specs.Bare.{BareWorld, marks, marks_in}
 use Rattle.kf_core.specs.Steps.{with_marks, MayBeBorn, OnlySpent}
 use Rattle.kf_core.specs.Bounded.{BoundedWorld, IsFree, IsNextKey}
-use Rattle.kf_core.specs.Tree.{Tree, with_key, marks_of, is_linked}
+use Rattle.kf_core.specs.Tree.{Tree, with_key, marks_of}
 use Rattle.kf_core.specs.Commands.{after}
+use Rattle.kf_tree.specs.SlotMarks.{SameMarks}
 use Rattle.kf_tree.specs.TreeLogs.{TreeLog, IsKept, IsAccepted, IsRefused}
 use Rattle.kf_table.specs.Children.{is_there_already}
+use Rattle.kf_tree.proofs.Opening.{length_after}
+use Rattle.kf_tree.proofs.SameMarks.{vacant_in_tree, same_born, same_born_live, same_renamed}
+use Rattle.kf_tree.proofs.SlotWrites.{IsEmpty, IsAlone, length_written, marks_written, alone_vacant, alone_linked}
 use Rattle.kf_plain.specs.Nodes.{Nodes, nodes_of, AreTied, IsNext, is_free, is_vacant, hold_count, last_of, logged}
-use Rattle.kf_core.proofs.Lists.{length_set}
 use Rattle.kf_core.proofs.Climbs.{same_key_self}
 use Rattle.kf_plain.proofs.Counts.{none_passes, none_counted}
-use Rattle.kf_plain.proofs.Places.{IsVacant, IsAlone, length_written, marks_written, alone_vacant, alone_linked}
-use Rattle.kf_plain.proofs.Agreement.{vacant_in_tree, same_born, same_born_live, same_renamed}
 
 pub some_at : {X : Type 0} (xs : List X) (i : ℕ) → i < length xs → (x : X) × (slice_get xs i ≡ Some x)
 some_at [] i h = absurd (omega (arith, h))
@@ -62,7 +63,7 @@ vacant_in_world log w slot tied h =
 
 -- and the other way round
 pub vacant_in_tree_too : (log : TreeLog) (w : BareWorld) (slot last : ℕ) → AreTied log w → slice_get w.slots slot ≡ Some (record { generation = last; marks = None }) → slice_get log.tree slot ≡ Some None
-vacant_in_tree_too log w slot last tied h = vacant_in_tree w log.tree log.root (record { slot = slot; generation = last }) tied.marks tied.kept.lawful tied.slots (record { last = last; vacant = h })
+vacant_in_tree_too log w slot last tied h = vacant_in_tree w.slots log.tree log.root (record { slot = slot; generation = last }) tied.marks tied.kept.lawful tied.slots (record { last = last; vacant = h })
 
 -- ---- holders
 
@@ -174,23 +175,6 @@ next_is tree last count next key h e = subst (IsNext tree last count) e h
 
 -- ---- commands
 
-length_mapped : {X Y : Type 0} (f : X → Y) (xs : List X) → length (map f xs) ≡ length xs
-length_mapped f [] = refl
-length_mapped f (x ∷ xs) = ap suc (length_mapped f xs)
-
-length_chosen : (b : Bool) (t u : Tree) → length t ≡ length u → length (cond b t u) ≡ length u
-length_chosen true t u h = h
-length_chosen false t u h = refl
-
-pub length_after : (t : Tree) (c : Command) → length (after t c) ≡ length t
-length_after t (Create key parent name node is_live) = length_set t key.slot _
-length_after t (Activate key) = length_mapped _ t
-length_after t (Doom key) = length_mapped _ t
-length_after t (Unlink key) = length_chosen (is_linked t key) (slice_set t key.slot None) t (length_set t key.slot None)
-length_after t (Rename key dir name) = length_mapped _ t
-length_after t (Hide key) = length_mapped _ t
-length_after t (Show key) = length_mapped _ t
-
 -- a command was accepted, whatever could have been against it
 pub record Logs (log log' : TreeLog) (c : Command) : Type 0 where
   pub same_root : log'.root ≡ log.root
@@ -210,18 +194,18 @@ abbrev pub IsUndoomed : BareWorld → Type 0
 IsUndoomed w = (key : Key) (m : Marks) → marks w key ≡ Some m → m.doomed ≡ false
 
 -- nor after a write of marks that are not doomed
-pub undoomed_written : (w : BareWorld) (key : Key) (m : Marks) → IsAlone w key → m.doomed ≡ false → IsUndoomed w → IsUndoomed (with_marks w key (Some m))
-undoomed_written w key m alone fine none k n h = go (same_key key k) (sym (marks_written w key k (Some m) alone) ∙ h)
+pub undoomed_written : (w : BareWorld) (key : Key) (m : Marks) → IsAlone w.slots key → m.doomed ≡ false → IsUndoomed w → IsUndoomed (with_marks w key (Some m))
+undoomed_written w key m alone fine none k n h = go (same_key key k) (sym (marks_written w.slots key k (Some m) alone) ∙ h)
   where
     go : (b : Bool) → cond b (Some m) (marks w k) ≡ Some n → n.doomed ≡ false
     go true e = ap (λ (x : Marks). x.doomed) (sym (same_Some m n e)) ∙ fine
     go false e = none k n e
 
 -- both stay tied where the world has the marks of the new tree
-pub tied_after : (log log' : TreeLog) (w w' : BareWorld) (c : Command) → AreTied log w → Logs log log' c → length w'.slots ≡ length w.slots → ((key : Key) → marks w' key ≡ marks_of (after log.tree c) key) → IsUndoomed w' → AreTied log' w'
+pub tied_after : (log log' : TreeLog) (w w' : BareWorld) (c : Command) → AreTied log w → Logs log log' c → length w'.slots ≡ length w.slots → SameMarks w'.slots (after log.tree c) → IsUndoomed w' → AreTied log' w'
 tied_after log log' w w' c tied a wide same none = record {
   kept = a.kept;
-  marks = subst (λ t. (key : Key) → marks w' key ≡ marks_of t key) (sym a.changed) same;
+  marks = subst (SameMarks w'.slots) (sym a.changed) same;
   slots = wide ∙ tied.slots ∙ sym (ap length a.changed ∙ length_after log.tree c);
   undoomed = none;
 }
@@ -234,25 +218,25 @@ log_after log log' c a =
 
 module _ (log log' : TreeLog) (w w1 : BareWorld) (key parent : Key) (name : List ℕ) (node : Node)
     (tied : AreTied log w) (may : MayBeBorn w key) (born : w1 ≡ with_marks w key (Some fresh_marks)) where
-  vacant : IsVacant w key
+  vacant : IsEmpty w.slots key
   vacant = record { last = may.last; vacant = may.unlinked }
 
   pub fresh_born : marks w1 key ≡ Some fresh_marks
-  fresh_born = ap (λ v. marks v key) born ∙ marks_written w key key (Some fresh_marks) (alone_vacant w key vacant) ∙ ap (λ b. cond b (Some fresh_marks) (marks w key)) (same_key_self key)
+  fresh_born = ap (λ v. marks v key) born ∙ marks_written w.slots key key (Some fresh_marks) (alone_vacant w.slots key vacant) ∙ ap (λ b. cond b (Some fresh_marks) (marks w key)) (same_key_self key)
 
   pub tied_born : Logs log log' (Create key parent name node false) → AreTied log' w1
-  tied_born a = tied_after log log' w w1 (Create key parent name node false) tied a (ap (λ (v : BareWorld). length v.slots) born ∙ length_written w key (Some fresh_marks))
-      (subst (λ v. (k : Key) → marks v k ≡ marks_of (after log.tree (Create key parent name node false)) k) (sym born)
-      (same_born w log.tree log.root key parent name node tied.marks tied.kept.lawful tied.slots vacant))
-      (subst IsUndoomed (sym born) (undoomed_written w key fresh_marks (alone_vacant w key vacant) refl tied.undoomed))
+  tied_born a = tied_after log log' w w1 (Create key parent name node false) tied a (ap (λ (v : BareWorld). length v.slots) born ∙ length_written w.slots key (Some fresh_marks))
+      (subst (λ (v : BareWorld). SameMarks v.slots (after log.tree (Create key parent name node false))) (sym born)
+      (same_born w.slots log.tree log.root key parent name node tied.marks tied.kept.lawful tied.slots vacant))
+      (subst IsUndoomed (sym born) (undoomed_written w key fresh_marks (alone_vacant w.slots key vacant) refl tied.undoomed))
 
   pub tied_born_live : (w2 : BareWorld) → w2 ≡ with_marks w1 key (Some live_marks) → Logs log log' (Create key parent name node true) → AreTied log' w2
   tied_born_live w2 risen a = tied_after log log' w w2 (Create key parent name node true) tied a
-      (ap (λ (v : BareWorld). length v.slots) risen ∙ length_written w1 key (Some live_marks) ∙ ap (λ (v : BareWorld). length v.slots) born ∙ length_written w key (Some fresh_marks))
-      (subst (λ v. (k : Key) → marks v k ≡ marks_of (after log.tree (Create key parent name node true)) k) (sym (risen ∙ ap (λ v. with_marks v key (Some live_marks)) born))
-      (same_born_live w log.tree log.root key parent name node tied.marks tied.kept.lawful tied.slots vacant))
-      (subst IsUndoomed (sym risen) (undoomed_written w1 key live_marks (alone_linked w1 key fresh_marks fresh_born) refl
-      (subst IsUndoomed (sym born) (undoomed_written w key fresh_marks (alone_vacant w key vacant) refl tied.undoomed))))
+      (ap (λ (v : BareWorld). length v.slots) risen ∙ length_written w1.slots key (Some live_marks) ∙ ap (λ (v : BareWorld). length v.slots) born ∙ length_written w.slots key (Some fresh_marks))
+      (subst (λ (v : BareWorld). SameMarks v.slots (after log.tree (Create key parent name node true))) (sym (risen ∙ ap (λ v. with_marks v key (Some live_marks)) born))
+      (same_born_live w.slots log.tree log.root key parent name node tied.marks tied.kept.lawful tied.slots vacant))
+      (subst IsUndoomed (sym risen) (undoomed_written w1 key live_marks (alone_linked w1.slots key fresh_marks fresh_born) refl
+      (subst IsUndoomed (sym born) (undoomed_written w key fresh_marks (alone_vacant w.slots key vacant) refl tied.undoomed))))
 
   pub last_born : last_of w1.slots ≡ slice_set (last_of w.slots) key.slot key.generation
   last_born = ap (λ (v : BareWorld). last_of v.slots) born ∙ map-set (λ (s : SlotState). s.generation) w.slots key.slot _
@@ -267,7 +251,7 @@ module _ (log log' : TreeLog) (w w1 : BareWorld) (key parent : Key) (name : List
 
 -- a rename is nothing to the world
 pub tied_renamed : (log log' : TreeLog) (w : BareWorld) (key dir : Key) (name : List ℕ) → AreTied log w → Logs log log' (Rename key dir name) → AreTied log' w
-tied_renamed log log' w key dir name tied a = tied_after log log' w w (Rename key dir name) tied a refl (same_renamed w log.tree key dir name tied.marks) tied.undoomed
+tied_renamed log log' w key dir name tied a = tied_after log log' w w (Rename key dir name) tied a refl (same_renamed w.slots log.tree key dir name tied.marks) tied.undoomed
 
 -- ---- the same, of the value that contracts see
 

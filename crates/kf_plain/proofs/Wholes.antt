@@ -4,6 +4,7 @@ use Rattle.std.specs.Prelude.{Option}
 use Rattle.std.proofs.Math.Path.{fun_ext}
 use Rattle.kf_core.specs.declared.command.Command.{Command}
 use Rattle.kf_tree.specs.TreeLogs.{TreeLog}
+use Rattle.kf_tree.proofs.Opening.{length_replay}
 use Rattle.kf_plain.specs.declared.nodes.visits.BoardFile.{BoardFile}
 use Rattle.kf_plain.specs.declared.nodes.hiding.BoardToken.{BoardToken}
 use Rattle.kf_plain.specs.Nodes.{Nodes, AllIdle, hold_count, listed, logged}
@@ -11,7 +12,7 @@ use Rattle.kf_plain.specs.Plain.{holder_count}
 use Rattle.kf_plain.specs.PlainInside.{plain_of, IsWhole, IsHeldFile, IsHeldToken}
 use Rattle.kf_plain.proofs.Holding.{AreHeld}
 use Rattle.kf_core.proofs.Lists.{length_set}
-use Rattle.kf_plain.proofs.BoardTags.{AllTagged, AreTaggedCommands, tagged_replay, length_replay}
+use Rattle.kf_plain.proofs.BoardTags.{AllTagged, AreTaggedCommands, tagged_replay}
 
 module _ (n : Nodes) (events : List ℕ) (texts : List (List ℕ)) (files : List (Option BoardFile)) (tokens : List (Option BoardToken)) (whole : IsWhole n events texts files tokens) where
   -- another tree of as many slots, with the same callers

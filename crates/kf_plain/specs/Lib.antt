@@ -1,4 +1,4 @@
-pub mod Agreement
+pub mod Fresh
 pub mod Nodes
 pub mod Visits
 pub mod Plain

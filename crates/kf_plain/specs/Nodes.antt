@@ -12,10 +12,11 @@ use Rattle.kf_core.specs.declared.command.Command.{Command}
 use Rattle.kf_core.specs.Phases.{is_waiting, has_reference, is_hiding, is_spent}
 use Rattle.kf_core.specs.Bare.{BareWorld, marks}
 use Rattle.kf_core.specs.Bounded.{BoundedWorld}
-use Rattle.kf_core.specs.Tree.{Tree, marks_of, in_subtree}
+use Rattle.kf_core.specs.Tree.{Tree, in_subtree}
 use Rattle.kf_core.specs.declared.refusal.Refusal.{Refusal}
 use Rattle.kf_core.specs.declared.refusal.Refusal.TheVariants.{TooManyHolds, NoMemory}
 use Rattle.kf_core.specs.Commands.{replay, root_alone}
+use Rattle.kf_tree.specs.SlotMarks.{SameMarks}
 use Rattle.kf_tree.specs.TreeLogs.{TreeLog, IsKept}
 
 -- the tree with its stored commands, by slot its last generation, the limit of holds, and the callers by
@@ -40,7 +41,7 @@ pub record AreTied (log : TreeLog) (w : BareWorld) : Type 0 where
   pub kept : IsKept log
   -- between two commands no linked node is doomed: a removal takes out what it dooms
   pub undoomed : (key : Key) (m : Marks) → marks w key ≡ Some m → m.doomed ≡ false
-  pub marks : (key : Key) → marks w key ≡ marks_of log.tree key
+  pub marks : SameMarks w.slots log.tree
   pub slots : length w.slots ≡ length log.tree
 
 -- the world has the last generations, the limit and the callers that it had

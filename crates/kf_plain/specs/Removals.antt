@@ -11,7 +11,7 @@ use Rattle.kf_core.specs.Bare.{BareWorld, marks}
 use Rattle.kf_core.specs.Bounded.{BoundedWorld, bounded}
 use Rattle.kf_core.specs.Steps.{with_marks}
 use Rattle.kf_core.specs.Tree.{Tree, IsIn}
-use Rattle.kf_plain.specs.Agreement.{contains_key}
+use Rattle.kf_tree.specs.SlotMarks.{contains_key}
 use Rattle.kf_plain.specs.Nodes.{hold_count, spent_on}
 
 -- a caller that holds the key, and did nothing else yet

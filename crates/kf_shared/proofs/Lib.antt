@@ -1,6 +1,3 @@
-pub mod Slots
-pub mod Changes
-pub mod Agreement
 pub mod Nodes
 pub mod Ties
 pub mod Creating

@@ -16,13 +16,10 @@ use Rattle.kf_tree.specs.TreeLogs.{TreeLog, IsNew}
 use Rattle.kf_words.specs.declared.view.MasterView.{MasterView}
 use Rattle.kf_words.specs.Steps.{opened}
 use Rattle.kf_words.specs.Nodes.{MasterState}
-use Rattle.kf_shared.specs.Agreement.{HasNodes, marks_at}
+use Rattle.kf_tree.specs.SlotMarks.{marks_at}
+use Rattle.kf_tree.proofs.Opening.{none_there}
+use Rattle.kf_shared.specs.Agreement.{HasNodes}
 use Rattle.kf_shared.specs.Locked.{IsTied}
-
-no_record : (n slot : ℕ) (r : Record) → slice_get (replicate n (let o : Option Record = None in o)) slot ≡ Some (Some r) → ⊥
-no_record zero slot r h = none-some _ h
-no_record (suc n) zero r h = none-some r (same_Some _ _ h)
-no_record (suc n) (suc slot) r h = no_record n slot r h
 
 nodes_opening : (count start : ℕ) → HasNodes (replicate count (let d : Node = Dir in d)) (root_alone count (record { slot = 0; generation = start + 1 }))
 nodes_opening zero start key r h = absurd (none-some _ (found_in [] key r h).0)
@@ -32,7 +29,7 @@ nodes_opening (suc n) start key r h =
   where
     go : (slot : ℕ) → slice_get (root_alone (suc n) (record { slot = 0; generation = start + 1 })) slot ≡ Some (Some r) → slice_get (replicate (suc n) (let d : Node = Dir in d)) slot ≡ Some r.node
     go zero e = ap (λ (x : Record). Some x.node) (same_Some _ _ (same_Some _ _ e))
-    go (suc slot) e = absurd (no_record n slot r e)
+    go (suc slot) e = absurd (none_there n slot r e)
 
 module _ (count limit start : ℕ) (log : TreeLog) (m : MasterState) (claims : List ℕ) (some : 1 ≤ count) (new : IsNew count (record { slot = 0; generation = start + 1 }) log)
     (view : m.view ≡ opened limit count start) (nodes : m.nodes ≡ replicate count (let d : Node = Dir in d)) (none : claims ≡ replicate count 0) where

@@ -1,6 +1,6 @@
 -- What the lock keeps is kept by each command.
-use Rattle.std.proofs.Common.{◌≡◌, ℕ, suc, refl, ap, sym, ◌∙◌, subst, Bool, true, false, cond, List, [], ◌∷◌, ◌++◌, length, slice_set}
-use Rattle.std.specs.Prelude.{Option, None, Some, Result, Ok, Err, IfOk, IfErr, IfSome, MatchBool, is_some, All, Contains, map, slice_get, slice_index_or}
+use Rattle.std.proofs.Common.{◌≡◌, ℕ, refl, ap, sym, ◌∙◌, subst, Bool, true, false, cond, List, ◌++◌, length, slice_set}
+use Rattle.std.specs.Prelude.{Option, None, Some, Result, Ok, Err, IfOk, IfErr, IfSome, MatchBool, is_some, All, Contains, slice_get, slice_index_or}
 use Rattle.std.specs.Option.{option_map}
 use Rattle.std.proofs.lemmas.Option.{same_Some, none-some}
 use Rattle.std.proofs.lemmas.List.Elements.{Contains-append_left, Contains-get_or}
@@ -20,27 +20,16 @@ use Rattle.kf_core.proofs.Lists.{length_set}
 use Rattle.kf_tree.specs.TreeLogs.{TreeLog, IsKept, IsAccepted, IsRefused}
 use Rattle.kf_words.specs.Callers.{TableId}
 use Rattle.kf_words.specs.Nodes.{MasterState, KeepsNodes, MayBear, IsVacant, Searched, slots_with}
-use Rattle.kf_shared.specs.Agreement.{marks_at, SameMarks, HasNodes, Changed, OnlyMarks, doomed_if, risen_if}
+use Rattle.kf_tree.specs.SlotMarks.{marks_at, SameMarks, Changed, doomed_if, risen_if}
+use Rattle.kf_tree.proofs.Opening.{length_after}
+use Rattle.kf_tree.proofs.SameMarks.{vacant_in_tree, same_born, same_born_live, same_unlinked, same_renamed, same_hidden, same_doomed, same_risen}
+use Rattle.kf_tree.proofs.SlotWrites.{IsEmpty, length_written, marks_written, alone_vacant}
+use Rattle.kf_shared.specs.Agreement.{HasNodes, OnlyMarks}
 use Rattle.kf_shared.specs.Locked.{Locked, IsTied, BornLowest}
-use Rattle.kf_shared.proofs.Slots.{IsEmpty, length_written, marks_written, alone_vacant}
-use Rattle.kf_shared.proofs.Agreement.{vacant_in_tree, same_born, same_born_live, same_unlinked, same_renamed, same_hidden, same_doomed, same_risen}
 use Rattle.kf_shared.proofs.Nodes.{nodes_created, nodes_activated, nodes_doomed, nodes_unlinked, nodes_renamed, nodes_hidden}
 
 abbrev pub locked : TreeLog → MasterState → List ℕ → Locked
 locked s m claims = record { state = s; master = m; claims = claims }
-
-length_mapped : {X Y : Type 0} (f : X → Y) (xs : List X) → length (map f xs) ≡ length xs
-length_mapped f [] = refl
-length_mapped f (x ∷ xs) = ap suc (length_mapped f xs)
-
-length_after : (t : Tree) (c : Command) → length (after t c) ≡ length t
-length_after t (Create key parent name node is_live) = length_set t key.slot _
-length_after t (Activate key) = length_mapped _ t
-length_after t (Doom key) = length_mapped _ t
-length_after t (Unlink key) = elim (is_linked t key) as (λ b. length (cond b (slice_set t key.slot None) t) ≡ length t) [ true ↦ length_set t key.slot None | false ↦ refl ]
-length_after t (Rename key dir name) = length_mapped _ t
-length_after t (Hide key) = length_mapped _ t
-length_after t (Show key) = length_mapped _ t
 
 bearable : (m : MasterState) (next : Option Key) (key : Key) → IfSome next (λ k. MayBear m.view k) → next ≡ Some key → MayBear m.view key
 bearable m None key h e = absurd (none-some key e)

@@ -1,47 +1,15 @@
--- When the words and a tree tell the same, and what a change of several nodes makes of the words' slots.
-use Rattle.std.specs.Prelude.{◌≡◌, Bool, not, ◌&&◌, ◌||◌, List, length, slice_get, Option, Some}
-use Rattle.std.specs.List.{list_any}
-use Rattle.std.specs.Option.{option_map}
+-- When the Master's nodes are those of the tree, and what a change of marks alone leaves of the Master.
+use Rattle.std.specs.Prelude.{◌≡◌, List, length, slice_get, Some}
 use Rattle.kf_core.specs.declared.key.Key.{Key}
 use Rattle.kf_core.specs.declared.key.Node.{Node}
 use Rattle.kf_core.specs.declared.records.Record.{Record}
-use Rattle.kf_core.specs.declared.slot.Marks.{Marks}
-use Rattle.kf_core.specs.declared.slot.SlotState.{SlotState}
-use Rattle.kf_core.specs.Bare.{marks_in}
-use Rattle.kf_core.specs.Keys.{same_key}
-use Rattle.kf_core.specs.Tree.{Tree, marks_of, record_at}
+use Rattle.kf_core.specs.Tree.{Tree, record_at}
 use Rattle.kf_words.specs.Nodes.{MasterState}
-
--- the marks of a key in the words, where it is linked
-abbrev pub marks_at : List SlotState → Key → Option Marks
-marks_at slots key = marks_in (slice_get slots key.slot) key.generation
-
--- each key has the same marks in both: so both name the same linked, activated and doomed keys
-abbrev pub SameMarks : List SlotState → Tree → Type 0
-SameMarks slots tree = (key : Key) → marks_at slots key ≡ marks_of tree key
 
 -- the node of each linked record is the one that was born last in its slot
 abbrev pub HasNodes : List Node → Tree → Type 0
 HasNodes nodes tree =
     (key : Key) (r : Record) → record_at tree key ≡ Some r → slice_get nodes key.slot ≡ Some r.node
-
--- the key is in the list
-abbrev pub contains_key : List Key → Key → Bool
-contains_key keys key = list_any (λ k. same_key k key) keys
-
--- the marks after a doom that may have chosen this key
-abbrev pub doomed_if : Bool → Marks → Marks
-doomed_if chosen m = record { activated = m.activated; doomed = chosen || m.doomed }
-
--- the marks after an activation that may have chosen this key: activated now, where it was chosen and is
--- not doomed
-abbrev pub risen_if : Bool → Marks → Marks
-risen_if chosen m = record { activated = (chosen && not m.doomed) || m.activated; doomed = m.doomed }
-
--- the marks of these keys are changed in this way, and all others are as they were
-abbrev pub Changed : (Bool → Marks → Marks) → List Key → List SlotState → List SlotState → Type 0
-Changed change keys old new =
-    (key : Key) → marks_at new key ≡ option_map (change (contains_key keys key)) (marks_at old key)
 
 -- the Master has the table, the nodes and the slots that it had
 pub record OnlyMarks (old new : MasterState) : Type 0 where

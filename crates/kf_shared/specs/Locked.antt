@@ -13,7 +13,8 @@ use Rattle.kf_tree.specs.TreeLogs.{TreeLog, IsKept, IsAccepted, IsRefused}
 use Rattle.kf_words.specs.declared.view.MasterView.{MasterView}
 use Rattle.kf_words.specs.Callers.{TableId, Handle}
 use Rattle.kf_words.specs.Nodes.{MasterState, KeepsNodes, IsVacant, Searched, FoundFirst, PinRefused, UnlinkAnswer}
-use Rattle.kf_shared.specs.Agreement.{SameMarks, HasNodes}
+use Rattle.kf_tree.specs.SlotMarks.{SameMarks}
+use Rattle.kf_shared.specs.Agreement.{HasNodes}
 
 -- the tree with its commands, the Master of the words, and by slot the generation that was last claimed
 pub record Locked : Type 0 where

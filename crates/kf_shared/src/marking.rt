@@ -1,6 +1,7 @@
 //! The events of the words for several nodes, one after the other.
 ghost use Rattle.std.specs.Prelude.{◌≡◌, All, is_some, true, [], ◌∷◌};
-ghost use Rattle.kf_shared.specs.Agreement.{marks_at, Changed, OnlyMarks, doomed_if, risen_if};
+ghost use Rattle.kf_tree.specs.SlotMarks.{marks_at, Changed, doomed_if, risen_if};
+ghost use Rattle.kf_shared.specs.Agreement.{OnlyMarks};
 
 use kf_core::Key;
 use kf_words::Master;

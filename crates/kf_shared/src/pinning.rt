@@ -3,7 +3,7 @@ ghost use Rattle.std.specs.Prelude.{◌≡◌, ◌⊎◌, ◌<◌, ◌≤◌, �
 ghost use Rattle.kf_core.specs.declared.key.Key.{Key};
 ghost use Rattle.kf_core.specs.declared.refusal.Refusal.TheVariants as refusal_of;
 ghost use Rattle.kf_words.specs.Nodes.{KeepsNodes, KeepsRooms, FoundFull};
-ghost use Rattle.kf_shared.specs.Agreement.{marks_at};
+ghost use Rattle.kf_tree.specs.SlotMarks.{marks_at};
 ghost use Rattle.kf_shared.specs.Removal.{keys_of, IsNew, FoundFullBelow, HasRoomIfBelow, HoldsBelowRefused};
 
 use kf_core::{Key, Refusal};

@@ -24,6 +24,10 @@ pub mod Apart
 pub mod Tours
 pub mod PreOrder
 pub mod Replays
+pub mod Storing
 pub mod Collected
 pub mod PathOf
 pub mod OneClimb
+pub mod SlotWrites
+pub mod SameMarks
+pub mod MarkChanges

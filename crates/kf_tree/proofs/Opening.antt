@@ -21,7 +21,8 @@ use Rattle.kf_tree.proofs.Doomed.{empty_undoomed, empty_shown}
 abbrev empty_slots : ℕ → Tree
 empty_slots n = replicate n None
 
-none_there : (m slot : ℕ) (r : Record) → slice_get (empty_slots m) slot ≡ Some (Some r) → ⊥
+-- in empty slots there is no record
+pub none_there : (m slot : ℕ) (r : Record) → slice_get (empty_slots m) slot ≡ Some (Some r) → ⊥
 none_there zero slot r h = none-some (Some r) h
 none_there (suc m) zero r h = none-some r (same_Some None (Some r) h)
 none_there (suc m) (suc slot) r h = none_there m slot r h
@@ -90,6 +91,7 @@ module _ (n : ℕ) (root : Key) (within : root.slot < n) where
   pub root_written : (empty : Tree) (entry : Record) → empty ≡ replicate n None → entry ≡ root_record root → slice_set empty root.slot (Some entry) ≡ root_alone n root
   root_written empty entry all is = ap (λ (t : Tree). slice_set t root.slot (Some entry)) all ∙ ap (λ (r : Record). slice_set (empty_slots n) root.slot (Some r)) is
 
+-- each command leaves the slots
 pub length_after : (t : Tree) (c : Command) → length (after t c) ≡ length t
 length_after t (Create key parent name node is_live) = length_set t key.slot _
 length_after t (Activate key) = length-map t _
@@ -99,7 +101,12 @@ length_after t (Rename key dir name) = length-map t _
 length_after t (Hide key) = length-map t _
 length_after t (Show key) = length-map t _
 
-replay_push : (t : Tree) (cs : List Command) (c : Command) → replay t (cs ++ c ∷ []) ≡ after (replay t cs) c
+pub length_replay : (t : Tree) (cs : List Command) → length (replay t cs) ≡ length t
+length_replay t [] = refl
+length_replay t (c ∷ cs) = length_replay (after t c) cs ∙ length_after t c
+
+-- the replay of one command more
+pub replay_push : (t : Tree) (cs : List Command) (c : Command) → replay t (cs ++ c ∷ []) ≡ after (replay t cs) c
 replay_push t [] c = refl
 replay_push t (d ∷ cs) c = replay_push (after t d) cs c
 

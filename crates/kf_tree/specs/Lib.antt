@@ -11,3 +11,4 @@ pub mod Shown
 pub mod Ways
 pub mod Orders
 pub mod Canonical
+pub mod SlotMarks

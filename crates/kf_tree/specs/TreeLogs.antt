@@ -39,6 +39,12 @@ pub record IsAccepted (old new : TreeLog) (cause : Option Refusal) (command : Co
   pub not_ready : new.ready ≡ None
   pub kept : IsKept new
 
+-- these commands were stored, one after another, and the tree is their replay
+pub record Stores (old new : TreeLog) (commands : List Command) : Type 0 where
+  pub same_root : new.root ≡ old.root
+  pub changed : new.tree ≡ replay old.tree commands
+  pub stored : new.commands ≡ old.commands ++ commands
+
 -- there is no cause against hiding the key, and its memory is there; nothing else changed
 pub record IsReadied (old new : TreeLog) (cause : Option Refusal) (key : Key) : Type 0 where
   pub no_cause : cause ≡ None

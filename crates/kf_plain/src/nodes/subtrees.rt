@@ -13,7 +13,8 @@ ghost use Rattle.kf_core.specs.Steps.{NoReference};
 ghost use Rattle.kf_core.specs.Tree.{is_linked};
 ghost use Rattle.kf_tree.specs.Causes.{Refuses, doom_cause, linked_cause, unlink_cause};
 ghost use Rattle.kf_tree.specs.TreeLogs.{IsAccepted, IsKept};
-ghost use Rattle.kf_plain.specs.Agreement.{Changed, SameMarks, doomed_if, is_fresh_key, risen_if};
+ghost use Rattle.kf_tree.specs.SlotMarks.{Changed, SameMarks, doomed_if, risen_if};
+ghost use Rattle.kf_plain.specs.Fresh.{is_fresh_key};
 ghost use Rattle.kf_plain.specs.Nodes.{AllIdle, OnlyMarks, hold_count, is_full_below, last_of, logged, spent_on, with_spent};
 ghost use Rattle.kf_plain.specs.Removals.{AreChildrenFirst, Cleared, IsMarkedDoomed, IsMarkedUndoomed, PinsRefused, released, still_on, taken_out, with_callers};
 
@@ -35,7 +36,7 @@ fn is_fresh(state: &State, key: Key) -> bool
 fn rise_each(world: &mut World, keys: &[Key])
     requires different { AllPairs (λ a b. a ≢ b) keys.now }
     requires fresh { All (λ key. marks world.old.world key ≡ Some fresh_marks) keys.now }
-    ensures risen { Changed risen_if keys.now world.old.world world.new.world }
+    ensures risen { Changed risen_if keys.now world.old.world.slots world.new.world.slots }
     ensures only { OnlyMarks world.old world.new }
 {
     for key in keys {
@@ -90,7 +91,7 @@ fn pin_each(world: &mut World, keys: &[Key]) -> Result<usize, Refusal>
 fn doom_each(world: &mut World, keys: &[Key])
     requires different { AllPairs (λ a b. a ≢ b) keys.now }
     requires undoomed { All (λ key. IsMarkedUndoomed (marks world.old.world key)) keys.now }
-    ensures doomed { Changed doomed_if keys.now world.old.world world.new.world }
+    ensures doomed { Changed doomed_if keys.now world.old.world.slots world.new.world.slots }
     ensures only { OnlyMarks world.old world.new }
 {
     for key in keys {
@@ -120,7 +121,7 @@ fn take_out(state: &mut State, world: &mut World, id: usize, key: Key)
 fn take_out_each(state: &mut State, world: &mut World, first: usize, keys: &[Key])
     requires kept { IsKept state.old }
     requires not_ready { state.old.ready ≡ None }
-    requires same { SameMarks world.old.world state.old.tree }
+    requires same { SameMarks world.old.world.slots state.old.tree }
     requires doomed { All (λ key. IsMarkedDoomed (marks world.old.world key)) keys.now }
     requires different { AllPairs (λ a b. a ≢ b) keys.now }
     requires children { AreChildrenFirst state.old.tree keys.now }
@@ -129,7 +130,7 @@ fn take_out_each(state: &mut State, world: &mut World, first: usize, keys: &[Key
     requires fits { first + length keys.now ≤ 2 ^ 64 }
     ensures log { state.new ≡ logged state.old (map Unlink keys.now) }
     ensures kept { IsKept state.new }
-    ensures same { SameMarks world.new.world state.new.tree }
+    ensures same { SameMarks world.new.world.slots state.new.tree }
     ensures cleared { Cleared keys.now world.old.world world.new.world }
     ensures last { last_of world.new.world.slots ≡ last_of world.old.world.slots }
     ensures limit { world.new.limit ≡ world.old.limit }

@@ -1,10 +1,10 @@
 use Rattle.std.proofs.Common.{[], get_or, ◌∙◌, inl, inr, subst, sym, rules}
 use Rattle.kf_core.specs.declared.refusal.Refusal.TheVariants.{NoMemory}
 use Rattle.std.proofs.lemmas.Result.{err_from_is_err_and}
+use Rattle.kf_tree.specs.TreeLogs.{TreeLog}
 use Rattle.kf_groups.specs.declared.attribute.Attribute.{Attribute}
 use Rattle.kf_groups.specs.Attributes.{shown}
-use Rattle.kf_groups.specs.Stores.{Keeps}
-use Rattle.kf_tree.specs.TreeLogs.{TreeLog}
+use Rattle.kf_groups.specs.Keeps.{Keeps}
 use Rattle.kf_groups.proofs.Counts.{gave_up}
 use Rattle.kf_groups.proofs.Makings.{created, file_made, later, live_stopped, made, not_made, one_more, stopped}
 use Rattle.kf_groups.proofs.Lacks.{activate_lacks, create_lacks}

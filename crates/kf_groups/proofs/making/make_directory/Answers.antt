@@ -2,9 +2,9 @@ use Rattle.std.proofs.Common.{◌≡◌, ◌+◌, arith, inl, inr, refl, sym, su
 use Rattle.std.proofs.lemmas.Result.{err_from_is_err_and}
 use Rattle.kf_core.specs.declared.key.Node.TheVariants.{Dir}
 use Rattle.kf_core.specs.declared.refusal.Refusal.TheVariants.{NoMemory}
-use Rattle.kf_groups.specs.Attributes.{shown}
-use Rattle.kf_groups.specs.Stores.{Keeps, node_count}
 use Rattle.kf_tree.specs.TreeLogs.{TreeLog}
+use Rattle.kf_groups.specs.Attributes.{shown}
+use Rattle.kf_groups.specs.Keeps.{Keeps, node_count}
 use Rattle.kf_groups.proofs.Counts.{gave_up}
 use Rattle.kf_groups.proofs.Makings.{all_made, created, directory_made}
 use Rattle.kf_groups.proofs.Lacks.{activate_lacks, create_lacks}

@@ -1,6 +1,6 @@
 use Rattle.std.proofs.Common.{arith, inr, length}
 use Rattle.kf_shared.specs.Removal.{keys_of}
-use Rattle.kf_groups.specs.Stores.{node_count}
+use Rattle.kf_groups.specs.Keeps.{node_count}
 use Rattle.kf_groups.proofs.Counts.{doomed_count, one_gone, single}
 use Rattle.kf_groups.proofs.Older.{took_older}
 use Rattle.kf_groups.proofs.Unlinks.{took}

@@ -4,9 +4,9 @@ use Rattle.std.specs.Vec.Iter.{into_iter_items}
 use Rattle.std.proofs.lemmas.List.Elements.{All-nil}
 use Rattle.kf_shared.specs.Receipts.{AreOf}
 use Rattle.kf_shared.specs.Removal.{keys_of}
-use Rattle.kf_groups.specs.Stores.{node_count}
+use Rattle.kf_tree.proofs.Storing.{none_same}
+use Rattle.kf_groups.specs.Keeps.{node_count}
 use Rattle.kf_groups.proofs.Counts.{unlinked_more}
-use Rattle.kf_groups.proofs.Storing.{none_same}
 use Rattle.kf_groups.proofs.Unlinks.{all_among, first_of, one_more, rest_of}
 use Rattle.kf_groups.proofs.taking_back.unlink_each.Goals as goal
 

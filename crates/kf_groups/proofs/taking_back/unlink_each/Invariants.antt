@@ -5,7 +5,8 @@ use Rattle.kf_core.specs.declared.command.Command.TheVariants.{Unlink}
 use Rattle.kf_core.specs.declared.key.Key.{Key}
 use Rattle.kf_shared.specs.Receipts.{AreOf}
 use Rattle.kf_shared.specs.Removal.{keys_of}
-use Rattle.kf_groups.specs.Stores.{Stores, node_count}
+use Rattle.kf_tree.specs.TreeLogs.{Stores}
+use Rattle.kf_groups.specs.Keeps.{node_count}
 use Rattle.kf_groups.proofs.taking_back.unlink_each.Given as goal
 
 abbrev pub invariant-loop-hold : goal.invariant-loop-hold

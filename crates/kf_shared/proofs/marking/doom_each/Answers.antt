@@ -1,7 +1,7 @@
 use Rattle.std.proofs.Common.{take, refl, sym, subst}
 use Rattle.std.proofs.lemmas.List.{take_more, take_all}
-use Rattle.kf_shared.specs.Agreement.{Changed, doomed_if}
-use Rattle.kf_shared.proofs.Changes.{doomed_marking, changed_none, changed_more, changed_linked}
+use Rattle.kf_tree.specs.SlotMarks.{Changed, doomed_if}
+use Rattle.kf_tree.proofs.MarkChanges.{doomed_marking, changed_none, changed_more, changed_linked}
 use Rattle.kf_shared.proofs.Ties.{only_after}
 use Rattle.kf_shared.proofs.marking.doom_each.Goals as goal
 

@@ -1,5 +1,6 @@
 use Rattle.std.proofs.Common.{take}
-use Rattle.kf_shared.specs.Agreement.{Changed, OnlyMarks, doomed_if}
+use Rattle.kf_tree.specs.SlotMarks.{Changed, doomed_if}
+use Rattle.kf_shared.specs.Agreement.{OnlyMarks}
 use Rattle.kf_shared.proofs.marking.doom_each.Given as goal
 
 -- the first nodes are doomed, and nothing else changed

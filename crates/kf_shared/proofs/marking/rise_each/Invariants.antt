@@ -1,5 +1,6 @@
 use Rattle.std.proofs.Common.{take}
-use Rattle.kf_shared.specs.Agreement.{Changed, OnlyMarks, risen_if}
+use Rattle.kf_tree.specs.SlotMarks.{Changed, risen_if}
+use Rattle.kf_shared.specs.Agreement.{OnlyMarks}
 use Rattle.kf_shared.proofs.marking.rise_each.Given as goal
 
 -- the first nodes have risen, and nothing else changed

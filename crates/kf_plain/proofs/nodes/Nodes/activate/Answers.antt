@@ -1,6 +1,6 @@
 use Rattle.std.proofs.Common.{rules, ap, filter, ◌∙◌}
 use Rattle.std.proofs.lemmas.Fn.{filter_same}
-use Rattle.kf_plain.specs.Agreement.{is_fresh_key}
+use Rattle.kf_plain.specs.Fresh.{is_fresh_key}
 use Rattle.kf_plain.proofs.Risen.{different_listed, fresh_listed, tied_risen}
 use Rattle.kf_plain.proofs.Ties.{logs}
 use Rattle.kf_plain.proofs.HiddenMarks.{told_after, told_activated, told_callers}

@@ -5,7 +5,7 @@ use Rattle.kf_core.specs.declared.key.Key.{Key}
 use Rattle.kf_core.specs.declared.command.Command.TheVariants.{Doom, Unlink}
 use Rattle.kf_core.specs.Keys.{same_key}
 use Rattle.kf_core.specs.PostOrder.{IsPostOrder}
-use Rattle.kf_plain.specs.Agreement.{Changed, doomed_if}
+use Rattle.kf_tree.specs.SlotMarks.{Changed, doomed_if}
 use Rattle.kf_plain.specs.Nodes.{Nodes, AllIdle, hold_count, is_full_below, logged, with_spent, nodes_of}
 use Rattle.kf_plain.specs.Removals.{Cleared, PinsRefused, still_on, with_callers}
 use Rattle.kf_plain.proofs.Pins.{given_back, may_all_release}
@@ -58,7 +58,7 @@ take_out_each-requires-clause-same c =
     let w = c.self.inside.world in
     let keys = c.in_ok-keys.keys.items in
     let held = c.in_ok-first.ensures.held ∙ ap (λ ks. with_callers w (w.world.callers ++ map still_on ks)) c.as_slice.ensures.value in
-    let doomed = subst (λ ks. Changed doomed_if ks c.pin_each.new.world.world c.doom_each.new.world.world) c.as_slice-2.ensures.value c.doom_each.ensures.doomed in
+    let doomed = subst (λ ks. Changed doomed_if ks c.pin_each.new.world.world.slots c.doom_each.new.world.world.slots) c.as_slice-2.ensures.value c.doom_each.ensures.doomed in
     same_after c.self.inside.state w c.args.key keys c.self.invariant.0 c.in_ok-keys.ensures.ordered c.doom_in_order.new.self c.pin_each.new.world c.doom_each.new.world c.in_ok-first.first held c.in_ok-first.ensures.number
     (logs c.in_default.ensures.accepted) doomed c.doom_each.ensures.only
 
@@ -67,7 +67,7 @@ take_out_each-requires-clause-doomed c =
     let w = c.self.inside.world in
     let keys = c.in_ok-keys.keys.items in
     let held = c.in_ok-first.ensures.held ∙ ap (λ ks. with_callers w (w.world.callers ++ map still_on ks)) c.as_slice.ensures.value in
-    let doomed = subst (λ ks. Changed doomed_if ks c.pin_each.new.world.world c.doom_each.new.world.world) c.as_slice-2.ensures.value c.doom_each.ensures.doomed in
+    let doomed = subst (λ ks. Changed doomed_if ks c.pin_each.new.world.world.slots c.doom_each.new.world.world.slots) c.as_slice-2.ensures.value c.doom_each.ensures.doomed in
     all_doomed c.self.inside.state w c.args.key keys c.self.invariant.0 c.in_ok-keys.ensures.ordered c.doom_in_order.new.self c.pin_each.new.world c.doom_each.new.world c.in_ok-first.first held c.in_ok-first.ensures.number
     (logs c.in_default.ensures.accepted) doomed c.doom_each.ensures.only c.as_slice-3.result.now c.as_slice-3.ensures.value
 
@@ -79,7 +79,7 @@ take_out_each-requires-clause-children c =
     let w = c.self.inside.world in
     let keys = c.in_ok-keys.keys.items in
     let held = c.in_ok-first.ensures.held ∙ ap (λ ks. with_callers w (w.world.callers ++ map still_on ks)) c.as_slice.ensures.value in
-    let doomed = subst (λ ks. Changed doomed_if ks c.pin_each.new.world.world c.doom_each.new.world.world) c.as_slice-2.ensures.value c.doom_each.ensures.doomed in
+    let doomed = subst (λ ks. Changed doomed_if ks c.pin_each.new.world.world.slots c.doom_each.new.world.world.slots) c.as_slice-2.ensures.value c.doom_each.ensures.doomed in
     all_children_first c.self.inside.state w c.args.key keys c.self.invariant.0 c.in_ok-keys.ensures.ordered c.doom_in_order.new.self c.pin_each.new.world c.doom_each.new.world c.in_ok-first.first held c.in_ok-first.ensures.number
     (logs c.in_default.ensures.accepted) doomed c.doom_each.ensures.only c.as_slice-3.result.now c.as_slice-3.ensures.value
 
@@ -88,7 +88,7 @@ take_out_each-requires-clause-idle c =
     let w = c.self.inside.world in
     let keys = c.in_ok-keys.keys.items in
     let held = c.in_ok-first.ensures.held ∙ ap (λ ks. with_callers w (w.world.callers ++ map still_on ks)) c.as_slice.ensures.value in
-    let doomed = subst (λ ks. Changed doomed_if ks c.pin_each.new.world.world c.doom_each.new.world.world) c.as_slice-2.ensures.value c.doom_each.ensures.doomed in
+    let doomed = subst (λ ks. Changed doomed_if ks c.pin_each.new.world.world.slots c.doom_each.new.world.world.slots) c.as_slice-2.ensures.value c.doom_each.ensures.doomed in
     all_idle c.self.inside.state w c.args.key keys c.self.invariant.0 c.in_ok-keys.ensures.ordered c.doom_in_order.new.self c.pin_each.new.world c.doom_each.new.world c.in_ok-first.first held c.in_ok-first.ensures.number
     (logs c.in_default.ensures.accepted) doomed c.doom_each.ensures.only (subst (λ (n : Nodes). AllIdle n.callers) (sym c.self.view_is) c.requires.idle)
 
@@ -107,7 +107,7 @@ invariant_of-self-2 c =
     let w = c.self.inside.world in
     let keys = c.in_ok-keys.keys.items in
     let held = c.in_ok-first.ensures.held ∙ ap (λ ks. with_callers w (w.world.callers ++ map still_on ks)) c.as_slice.ensures.value in
-    let doomed = subst (λ ks. Changed doomed_if ks c.pin_each.new.world.world c.doom_each.new.world.world) c.as_slice-2.ensures.value c.doom_each.ensures.doomed in (
+    let doomed = subst (λ ks. Changed doomed_if ks c.pin_each.new.world.world.slots c.doom_each.new.world.world.slots) c.as_slice-2.ensures.value c.doom_each.ensures.doomed in (
       tied_removed c.self.inside.state w c.args.key keys c.self.invariant.0 c.in_ok-keys.ensures.ordered c.doom_in_order.new.self c.pin_each.new.world c.doom_each.new.world c.in_ok-first.first held c.in_ok-first.ensures.number
           (logs c.in_default.ensures.accepted) doomed c.doom_each.ensures.only c.take_out_each.new.state c.take_out_each.new.world
           (c.take_out_each.ensures.log ∙ ap (λ ks. logged c.doom_in_order.new.self (map Unlink ks)) c.as_slice-3.ensures.value)
@@ -131,7 +131,7 @@ returns-clause-removed c =
     let w = c.self.inside.world in
     let keys = c.in_ok-keys.keys.items in
     let held = c.in_ok-first.ensures.held ∙ ap (λ ks. with_callers w (w.world.callers ++ map still_on ks)) c.as_slice.ensures.value in
-    let doomed = subst (λ ks. Changed doomed_if ks c.pin_each.new.world.world c.doom_each.new.world.world) c.as_slice-2.ensures.value c.doom_each.ensures.doomed in (
+    let doomed = subst (λ ks. Changed doomed_if ks c.pin_each.new.world.world.slots c.doom_each.new.world.world.slots) c.as_slice-2.ensures.value c.doom_each.ensures.doomed in (
       keys,
       subst (λ (n : Nodes). IsPostOrder n.log.tree c.args.key keys) c.self.view_is c.in_ok-keys.ensures.ordered,
       subst (λ (n : Nodes). nodes_of c.take_out_each.new.state c.take_out_each.new.world ≡ with_spent (record n { log = logged n.log (Doom c.args.key ∷ map Unlink keys) }) keys) c.self.view_is

@@ -1,8 +1,9 @@
 use Rattle.std.proofs.Common.{[], ◌∷◌, ◌∙◌, take, refl, sym, subst, slice_index_or}
 use Rattle.std.proofs.lemmas.List.{take_more, take_all}
 use Rattle.kf_core.specs.declared.key.Key.{Key}
-use Rattle.kf_plain.specs.Agreement.{Changed, doomed_if}
-use Rattle.kf_plain.proofs.Changes.{doomed_marking, changed_none, changed_more, changed_one}
+use Rattle.kf_core.specs.Bare.{BareWorld}
+use Rattle.kf_tree.specs.SlotMarks.{Changed, doomed_if}
+use Rattle.kf_tree.proofs.MarkChanges.{doomed_marking, changed_none, changed_more, changed_one}
 use Rattle.kf_plain.proofs.Marking.{still_marked, only_same, only_after, only_marked, same_mark}
 use Rattle.kf_plain.proofs.nodes.subtrees.doom_each.Goals as goal
 
@@ -10,7 +11,7 @@ abbrev none : Key
 none = record { slot = 0; generation = 0 }
 
 pub loop-key-init : goal.loop-key-init
-loop-key-init c = (changed_none doomed_if doomed_marking c.args.world.now.world, only_same c.args.world.now)
+loop-key-init c = (changed_none doomed_if doomed_marking c.args.world.now.world.slots, only_same c.args.world.now)
 
 pub doom-requires : goal.doom-requires
 doom-requires c =
@@ -25,15 +26,15 @@ loop-key-preserved c =
     let was = still_marked doomed_if doomed_marking c.args.keys.now i none c.args.world.now.world c.loop-key.world.world mark.0 c.requires.different c.loop-key-test.true c.loop-key.invariant.0 mark.1 in
     let step = c.doom.ensures.step.steps in
     let new = step.3 ∙ same_mark c.loop-key.world.world key step.0 mark.0 step.1 was in (
-      subst (λ ks. Changed doomed_if ks c.args.world.now.world c.doom.new.self.world) (sym (take_more c.args.keys.now i none c.loop-key-test.true))
-          (changed_more doomed_if doomed_marking (take i c.args.keys.now) key c.args.world.now.world c.loop-key.world.world c.doom.new.self.world c.loop-key.invariant.0
-          (subst (Changed doomed_if (key ∷ []) c.loop-key.world.world) (sym new) (changed_one doomed_if doomed_marking c.loop-key.world.world key mark.0 was))),
+      subst (λ ks. Changed doomed_if ks c.args.world.now.world.slots c.doom.new.self.world.slots) (sym (take_more c.args.keys.now i none c.loop-key-test.true))
+          (changed_more doomed_if doomed_marking (take i c.args.keys.now) key c.args.world.now.world.slots c.loop-key.world.world.slots c.doom.new.self.world.slots c.loop-key.invariant.0
+          (subst (λ (v : BareWorld). Changed doomed_if (key ∷ []) c.loop-key.world.world.slots v.slots) (sym new) (changed_one doomed_if doomed_marking c.loop-key.world.world.slots key mark.0 was))),
       only_after c.args.world.now c.loop-key.world c.doom.new.self c.loop-key.invariant.1
           (only_marked c.loop-key.world c.doom.new.self key mark.0 _ was new c.doom.ensures.step.limit),
     )
 
 pub returns-clause-doomed : goal.returns-clause-doomed
-returns-clause-doomed c = subst (λ ks. Changed doomed_if ks c.args.world.now.world c.loop-key.world.world) (take_all c.loop-key.key-index c.args.keys.now c.loop-key-test.false) c.loop-key.invariant.0
+returns-clause-doomed c = subst (λ ks. Changed doomed_if ks c.args.world.now.world.slots c.loop-key.world.world.slots) (take_all c.loop-key.key-index c.args.keys.now c.loop-key-test.false) c.loop-key.invariant.0
 
 pub returns-clause-only : goal.returns-clause-only
 returns-clause-only c = c.loop-key.invariant.1

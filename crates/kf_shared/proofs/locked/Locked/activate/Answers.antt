@@ -1,5 +1,5 @@
 use Rattle.std.proofs.Common.{subst}
-use Rattle.kf_shared.specs.Agreement.{Changed, risen_if}
+use Rattle.kf_tree.specs.SlotMarks.{Changed, risen_if}
 use Rattle.kf_shared.proofs.Ties.{tied_risen}
 use Rattle.kf_shared.proofs.locked.Locked.activate.Goals as goal
 

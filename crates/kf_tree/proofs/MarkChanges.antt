@@ -6,12 +6,12 @@ use Rattle.kf_core.specs.declared.key.Key.{Key}
 use Rattle.kf_core.specs.declared.slot.Marks.{Marks}
 use Rattle.kf_core.specs.declared.slot.SlotState.{SlotState}
 use Rattle.kf_core.specs.Keys.{same_key}
-use Rattle.kf_words.specs.Nodes.{slots_with}
 use Rattle.kf_core.proofs.Climbs.{keys_tell}
-use Rattle.kf_shared.specs.Agreement.{marks_at, contains_key, doomed_if, risen_if, Changed}
-use Rattle.kf_shared.proofs.Slots.{marks_written, alone_linked}
+use Rattle.kf_tree.specs.SlotMarks.{marks_at, contains_key, doomed_if, risen_if, Changed}
+use Rattle.kf_tree.proofs.SlotWrites.{written, marks_written, alone_linked}
 
-contains_more : (keys : List Key) (x k : Key) → contains_key (keys ++ x ∷ []) k ≡ (contains_key keys k || same_key x k)
+-- a list with one key more
+pub contains_more : (keys : List Key) (x k : Key) → contains_key (keys ++ x ∷ []) k ≡ (contains_key keys k || same_key x k)
 contains_more [] x k = go (same_key x k)
   where
     go : (b : Bool) → (b || false) ≡ b
@@ -75,15 +75,8 @@ module _ (f : Bool → Marks → Marks) (marking : IsMarking f) where
       go (Some m) e = refl
 
   -- one write of the marks that the change makes
-  pub changed_one : (slots : List SlotState) (key : Key) (m : Marks) → marks_at slots key ≡ Some m → Changed f (key ∷ []) slots (slots_with slots key (Some (f true m)))
+  pub changed_one : (slots : List SlotState) (key : Key) (m : Marks) → marks_at slots key ≡ Some m → Changed f (key ∷ []) slots (written slots key (Some (f true m)))
   changed_one slots key m h k = marks_written slots key k (Some (f true m)) (alone_linked slots key m h) ∙ elim (keys_tell key k) [
     | inl e ↦ ap (λ b. cond b (Some (f true m)) (marks_at slots k)) e.0 ∙ sym (ap (λ b. option_map (f (b || false)) (marks_at slots k)) e.0 ∙ ap (option_map (f true)) (subst (λ x. marks_at slots x ≡ Some m) e.1 h))
     | inr n ↦ ap (λ b. cond b (Some (f true m)) (marks_at slots k)) n.0 ∙ sym (ap (λ b. option_map (f (b || false)) (marks_at slots k)) n.0 ∙ sym (changed_none slots k))
-  ]
-
-  -- or none, where the change makes none
-  pub changed_same : (slots : List SlotState) (key : Key) (m : Marks) → marks_at slots key ≡ Some m → f true m ≡ m → Changed f (key ∷ []) slots slots
-  changed_same slots key m h e k = elim (keys_tell key k) [
-    | inl y ↦ subst (λ x. marks_at slots x ≡ Some m) y.1 h ∙ sym (ap (λ b. option_map (f (b || false)) (marks_at slots k)) y.0 ∙ ap (option_map (f true)) (subst (λ x. marks_at slots x ≡ Some m) y.1 h) ∙ ap (λ x. Some x) e)
-    | inr n ↦ changed_none slots k ∙ sym (ap (λ b. option_map (f (b || false)) (marks_at slots k)) n.0)
   ]

@@ -1,5 +1,5 @@
 -- One write of a slot, and what it makes of each key's marks.
-use Rattle.std.proofs.Common.{◌≡◌, ◌≢◌, inl, inr, ℕ, ◌<◌, refl, ap, sym, ◌∙◌, subst, Bool, true, false, cond, List, length}
+use Rattle.std.proofs.Common.{◌≡◌, ◌≢◌, inl, inr, ℕ, ◌<◌, refl, ap, sym, ◌∙◌, subst, Bool, true, false, cond, List, length, slice_set}
 use Rattle.std.specs.Prelude.{Option, None, Some, slice_get, ◌==◌}
 use Rattle.std.proofs.lemmas.Option.{none-some, slice_get_within}
 use Rattle.std.proofs.lemmas.Bool.Decides.{eqb_tells}
@@ -10,8 +10,11 @@ use Rattle.kf_core.specs.Bare.{marks_in}
 use Rattle.kf_core.specs.Keys.{same_key}
 use Rattle.kf_core.proofs.Climbs.{keys_tell, same_key_self, same_parts}
 use Rattle.kf_core.proofs.Lists.{slice_get-set_same, slice_get-set_other, length_set}
-use Rattle.kf_words.specs.Nodes.{slots_with}
-use Rattle.kf_shared.specs.Agreement.{marks_at}
+use Rattle.kf_tree.specs.SlotMarks.{marks_at}
+
+-- the slots, where that of the key has its generation and these marks
+abbrev pub written : List SlotState → Key → Option Marks → List SlotState
+written slots key m = slice_set slots key.slot (record { generation = key.generation; marks = m })
 
 -- the slot of the key has no linked node
 pub record IsEmpty (slots : List SlotState) (key : Key) : Type 0 where
@@ -23,20 +26,20 @@ pub record IsAlone (slots : List SlotState) (key : Key) : Type 0 where
   pub within : key.slot < length slots
   pub alone : (other : Key) → other.slot ≡ key.slot → other ≢ key → marks_at slots other ≡ None
 
-pub marks_written : (slots : List SlotState) (key k : Key) (m : Option Marks) → IsAlone slots key → marks_at (slots_with slots key m) k ≡ cond (same_key key k) m (marks_at slots k)
+pub marks_written : (slots : List SlotState) (key k : Key) (m : Option Marks) → IsAlone slots key → marks_at (written slots key m) k ≡ cond (same_key key k) m (marks_at slots k)
 marks_written slots key k m own = elim (keys_tell key k) [
-  | inl e ↦ subst (λ x. marks_at (slots_with slots key m) x ≡ cond (same_key key x) m (marks_at slots x)) e.1 (here ∙ sym (ap (λ b. cond b m (marks_at slots key)) (same_key_self key)))
+  | inl e ↦ subst (λ x. marks_at (written slots key m) x ≡ cond (same_key key x) m (marks_at slots x)) e.1 (here ∙ sym (ap (λ b. cond b m (marks_at slots key)) (same_key_self key)))
   | inr n ↦ elim (eqb_tells k.slot key.slot) [
-    | inl s ↦ ap (λ x. marks_in (slice_get (slots_with slots key m) x) k.generation) s.1 ∙ ap (λ o. marks_in o k.generation) written ∙ ap (λ b. cond b m None) (other n.1 s.1) ∙ sym (own.alone k s.1 (λ e. n.1 (sym e)))
+    | inl s ↦ ap (λ x. marks_in (slice_get (written slots key m) x) k.generation) s.1 ∙ ap (λ o. marks_in o k.generation) there ∙ ap (λ b. cond b m None) (other n.1 s.1) ∙ sym (own.alone k s.1 (λ e. n.1 (sym e)))
     | inr d ↦ ap (λ o. marks_in o k.generation) (slice_get-set_other slots key.slot k.slot (record { generation = key.generation; marks = m }) d.1)
   ] ∙ sym (ap (λ b. cond b m (marks_at slots k)) n.0)
 ]
   where
-    written : slice_get (slots_with slots key m) key.slot ≡ Some (record { generation = key.generation; marks = m })
-    written = slice_get-set_same slots key.slot (record { generation = key.generation; marks = m }) own.within
+    there : slice_get (written slots key m) key.slot ≡ Some (record { generation = key.generation; marks = m })
+    there = slice_get-set_same slots key.slot (record { generation = key.generation; marks = m }) own.within
 
-    here : marks_at (slots_with slots key m) key ≡ m
-    here = ap (λ o. marks_in o key.generation) written ∙ (elim (eqb_tells key.generation key.generation) [ inl y ↦ ap (λ b. cond b m None) y.0 | inr n ↦ absurd (n.1 refl) ])
+    here : marks_at (written slots key m) key ≡ m
+    here = ap (λ o. marks_in o key.generation) there ∙ (elim (eqb_tells key.generation key.generation) [ inl y ↦ ap (λ b. cond b m None) y.0 | inr n ↦ absurd (n.1 refl) ])
 
     other : key ≢ k → k.slot ≡ key.slot → (key.generation == k.generation) ≡ false
     other n s = elim (eqb_tells key.generation k.generation) [ inl g ↦ absurd (n (same_parts key k (sym s) g.1)) | inr g ↦ g.0 ]
@@ -80,15 +83,5 @@ alone_vacant slots key v = record {
   alone = λ other s n. nobody_vacant slots key.slot v.last other v.vacant s;
 }
 
--- a second write in the same slot
-pub alone_written : (slots : List SlotState) (key : Key) (m : Option Marks) → IsAlone slots key → IsAlone (slots_with slots key m) key
-alone_written slots key m own = record {
-  within = subst (λ n. key.slot < n) (sym (length_set slots key.slot _)) own.within;
-  alone = λ other s n. marks_written slots key other m own ∙ (elim (keys_tell key other) [
-    | inl e ↦ absurd (n (sym e.1))
-    | inr e ↦ ap (λ b. cond b m (marks_at slots other)) e.0
-  ]) ∙ own.alone other s n;
-}
-
-pub length_written : (slots : List SlotState) (key : Key) (m : Option Marks) → length (slots_with slots key m) ≡ length slots
+pub length_written : (slots : List SlotState) (key : Key) (m : Option Marks) → length (written slots key m) ≡ length slots
 length_written slots key m = length_set slots key.slot _

@@ -1,18 +1,9 @@
--- Several commands in one turn of the lock, and what they leave as it was.
-use Rattle.std.specs.Prelude.{◌≡◌, ℕ, false, List, ◌++◌, slice_get, Some, is_some, count_by}
-use Rattle.kf_core.specs.declared.command.Command.{Command}
+-- What several commands leave as it was.
+use Rattle.std.specs.Prelude.{◌≡◌, ℕ, false, slice_get, Some, is_some, count_by}
 use Rattle.kf_core.specs.declared.key.Key.{Key}
 use Rattle.kf_core.specs.declared.records.Record.{Record}
-use Rattle.kf_core.specs.Commands.{replay}
 use Rattle.kf_core.specs.Lawful.{Lawful}
 use Rattle.kf_core.specs.Tree.{Tree, is_linked}
-use Rattle.kf_tree.specs.TreeLogs.{TreeLog}
-
--- these commands were stored, one after another, and the tree is their replay
-pub record Stores (old new : TreeLog) (commands : List Command) : Type 0 where
-  pub same_root : new.root ≡ old.root
-  pub changed : new.tree ≡ replay old.tree commands
-  pub stored : new.commands ≡ old.commands ++ commands
 
 -- how many nodes are linked
 abbrev pub node_count : Tree → ℕ

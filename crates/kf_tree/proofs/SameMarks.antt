@@ -1,4 +1,4 @@
--- Each tree command, and the events of the words that go with it, keep the marks the same.
+-- Each tree command, and the writes of slots that go with it, keep the marks the same.
 use Rattle.std.proofs.Common.{◌≡◌, inl, inr, ℕ, zero, suc, ◌<◌, refl, ap, arith, sym, ◌∙◌, subst, Bool, true, false, cond, List, [], ◌∷◌, length, slice_set}
 use Rattle.std.specs.Prelude.{Option, None, Some, slice_get, is_some, Contains, slice_index_or, ◌&&◌, ◌||◌, not}
 use Rattle.std.specs.Option.{option_map}
@@ -6,22 +6,21 @@ use Rattle.std.proofs.lemmas.Option.{none-some, slice_get_within}
 use Rattle.kf_core.specs.declared.key.Key.{Key}
 use Rattle.kf_core.specs.declared.key.Node.{Node}
 use Rattle.kf_core.specs.declared.slot.Marks.{Marks}
+use Rattle.kf_core.specs.declared.slot.SlotState.{SlotState}
 use Rattle.kf_core.specs.declared.records.Record.{Record}
 use Rattle.kf_core.specs.declared.command.Command.TheVariants.{Create, Activate, Doom, Unlink, Rename}
-use Rattle.kf_core.specs.Bare.{BareWorld, marks}
 use Rattle.kf_core.specs.Marks.{fresh_marks, live_marks}
 use Rattle.kf_core.specs.Keys.{same_key}
-use Rattle.kf_core.specs.Steps.{with_marks}
 use Rattle.kf_core.specs.Tree.{Tree, record_at, marks_of, is_linked, in_subtree, IsIn}
 use Rattle.kf_core.specs.Lawful.{Lawful}
 use Rattle.kf_core.specs.PostOrder.{IsPostOrder}
-use Rattle.kf_core.specs.Commands.{after, activated_record, doomed_record, new_record}
+use Rattle.kf_core.specs.Commands.{after, change, activated_record, doomed_record, hidden_record, new_record}
 use Rattle.kf_core.proofs.Climbs.{keys_tell, same_key_self}
 use Rattle.kf_core.proofs.Lists.{slice_get-set_same}
 use Rattle.kf_core.proofs.Mapped.{find_mapped}
 use Rattle.kf_core.proofs.FoundRecords.{in_found, found_in, find_at, find_cleared, find_filled, linked_here}
-use Rattle.kf_plain.specs.Agreement.{SameMarks, contains_key, doomed_if, risen_if, Changed}
-use Rattle.kf_plain.proofs.Places.{IsVacant, marks_written, alone_linked, alone_vacant, nobody_vacant}
+use Rattle.kf_tree.specs.SlotMarks.{marks_at, SameMarks, contains_key, doomed_if, risen_if, Changed}
+use Rattle.kf_tree.proofs.SlotWrites.{IsEmpty, written, marks_written, alone_linked, alone_vacant, nobody_vacant}
 
 -- the marks of a tree after one write
 pub marks_filled : (t : Tree) (r : Record) (k : Key) → slice_get t r.key.slot ≡ Some None → marks_of (slice_set t r.key.slot (Some r)) k ≡ cond (same_key r.key k) (Some r.marks) (marks_of t k)
@@ -39,11 +38,11 @@ marks_cleared t r k h = elim (keys_tell r.key k) [
 ]
 
 -- a slot that the words have vacant is vacant in the tree
-pub vacant_in_tree : (w : BareWorld) (t : Tree) (root key : Key) → SameMarks w t → Lawful t root → length w.slots ≡ length t → IsVacant w key → slice_get t key.slot ≡ Some None
-vacant_in_tree w t root key same l wide v = go (slice_get t key.slot) refl
+pub vacant_in_tree : (slots : List SlotState) (t : Tree) (root key : Key) → SameMarks slots t → Lawful t root → length slots ≡ length t → IsEmpty slots key → slice_get t key.slot ≡ Some None
+vacant_in_tree slots t root key same l wide v = go (slice_get t key.slot) refl
   where
     go : (o : Option (Option Record)) → slice_get t key.slot ≡ o → slice_get t key.slot ≡ Some None
-    go None e = absurd (let w = slice_get_within w.slots key.slot _ v.vacant in none_at t key.slot (subst (λ n. key.slot < n) wide w) e)
+    go None e = absurd (let within = slice_get_within slots key.slot _ v.vacant in none_at t key.slot (subst (λ n. key.slot < n) wide within) e)
       where
         none_at : (t : Tree) (i : ℕ) → i < length t → slice_get t i ≡ None → ⊥
         none_at [] i h e = absurd (omega arith)
@@ -52,37 +51,37 @@ vacant_in_tree w t root key same l wide v = go (slice_get t key.slot) refl
     go (Some None) e = e
     go (Some (Some r)) e = absurd (let slot = l.in_place key.slot r e in
         let is_in : IsIn t r = ap (slice_get t) slot ∙ e in
-        none-some r.marks (sym (nobody_vacant w key.slot v.last r.key v.vacant slot) ∙ same r.key ∙ ap (option_map (λ (x : Record). x.marks)) (in_found t r is_in)))
+        none-some r.marks (sym (nobody_vacant slots key.slot v.last r.key v.vacant slot) ∙ same r.key ∙ ap (option_map (λ (x : Record). x.marks)) (in_found t r is_in)))
 
--- Create is a birth, and where the node is live_marks a rise
-pub same_born : (w : BareWorld) (t : Tree) (root key parent : Key) (name : List ℕ) (node : Node) → SameMarks w t → Lawful t root → length w.slots ≡ length t → IsVacant w key →
-    SameMarks (with_marks w key (Some fresh_marks)) (after t (Create key parent name node false))
-same_born w t root key parent name node same l wide v k =
-    marks_written w key k (Some fresh_marks) (alone_vacant w key v) ∙ ap (cond (same_key key k) (Some fresh_marks)) (same k)
-    ∙ sym (marks_filled t (new_record key parent name node false) k (vacant_in_tree w t root key same l wide v))
+-- Create is a birth, and where the node is live a rise
+pub same_born : (slots : List SlotState) (t : Tree) (root key parent : Key) (name : List ℕ) (node : Node) → SameMarks slots t → Lawful t root → length slots ≡ length t → IsEmpty slots key →
+    SameMarks (written slots key (Some fresh_marks)) (after t (Create key parent name node false))
+same_born slots t root key parent name node same l wide v k =
+    marks_written slots key k (Some fresh_marks) (alone_vacant slots key v) ∙ ap (cond (same_key key k) (Some fresh_marks)) (same k)
+    ∙ sym (marks_filled t (new_record key parent name node false) k (vacant_in_tree slots t root key same l wide v))
 
-pub same_born_live : (w : BareWorld) (t : Tree) (root key parent : Key) (name : List ℕ) (node : Node) → SameMarks w t → Lawful t root → length w.slots ≡ length t → IsVacant w key →
-    SameMarks (with_marks (with_marks w key (Some fresh_marks)) key (Some live_marks)) (after t (Create key parent name node true))
-same_born_live w t root key parent name node same l wide v k =
-    marks_written (with_marks w key (Some fresh_marks)) key k (Some live_marks) (alone_linked (with_marks w key (Some fresh_marks)) key fresh_marks born)
-    ∙ ap (cond (same_key key k) (Some live_marks)) (marks_written w key k (Some fresh_marks) (alone_vacant w key v) ∙ ap (cond (same_key key k) (Some fresh_marks)) (same k))
+pub same_born_live : (slots : List SlotState) (t : Tree) (root key parent : Key) (name : List ℕ) (node : Node) → SameMarks slots t → Lawful t root → length slots ≡ length t → IsEmpty slots key →
+    SameMarks (written (written slots key (Some fresh_marks)) key (Some live_marks)) (after t (Create key parent name node true))
+same_born_live slots t root key parent name node same l wide v k =
+    marks_written (written slots key (Some fresh_marks)) key k (Some live_marks) (alone_linked (written slots key (Some fresh_marks)) key fresh_marks born)
+    ∙ ap (cond (same_key key k) (Some live_marks)) (marks_written slots key k (Some fresh_marks) (alone_vacant slots key v) ∙ ap (cond (same_key key k) (Some fresh_marks)) (same k))
     ∙ twice (same_key key k) (marks_of t k)
-    ∙ sym (marks_filled t (new_record key parent name node true) k (vacant_in_tree w t root key same l wide v))
+    ∙ sym (marks_filled t (new_record key parent name node true) k (vacant_in_tree slots t root key same l wide v))
   where
     twice : (b : Bool) (m : Option Marks) → cond b (Some live_marks) (cond b (Some fresh_marks) m) ≡ cond b (Some live_marks) m
     twice true m = refl
     twice false m = refl
 
-    born : marks (with_marks w key (Some fresh_marks)) key ≡ Some fresh_marks
-    born = marks_written w key key (Some fresh_marks) (alone_vacant w key v) ∙ ap (λ b. cond b (Some fresh_marks) (marks w key)) (same_key_self key)
+    born : marks_at (written slots key (Some fresh_marks)) key ≡ Some fresh_marks
+    born = marks_written slots key key (Some fresh_marks) (alone_vacant slots key v) ∙ ap (λ b. cond b (Some fresh_marks) (marks_at slots key)) (same_key_self key)
 
--- Unlink is one event too
-pub same_unlinked : (w : BareWorld) (t : Tree) (key : Key) → SameMarks w t → is_linked t key ≡ true → SameMarks (with_marks w key None) (after t (Unlink key))
-same_unlinked w t key same linked k =
+-- Unlink is one write too
+pub same_unlinked : (slots : List SlotState) (t : Tree) (key : Key) → SameMarks slots t → is_linked t key ≡ true → SameMarks (written slots key None) (after t (Unlink key))
+same_unlinked slots t key same linked k =
     (let r = linked_here t key linked in
-    let there : marks w key ≡ Some r.0.marks = same key ∙ ap (option_map (λ (x : Record). x.marks)) (subst (λ x. record_at t x ≡ Some r.0) r.2 (in_found t r.0 r.1)) in
+    let there : marks_at slots key ≡ Some r.0.marks = same key ∙ ap (option_map (λ (x : Record). x.marks)) (subst (λ x. record_at t x ≡ Some r.0) r.2 (in_found t r.0 r.1)) in
     let gone : after t (Unlink key) ≡ slice_set t key.slot None = ap (λ b. cond b (slice_set t key.slot None) t) linked in
-    marks_written w key k None (alone_linked w key r.0.marks there) ∙ ap (cond (same_key key k) None) (same k)
+    marks_written slots key k None (alone_linked slots key r.0.marks there) ∙ ap (cond (same_key key k) None) (same k)
     ∙ sym (ap (λ x. marks_of x k) gone ∙ subst (λ x. marks_of (slice_set t x.slot None) k ≡ cond (same_key x k) None (marks_of t k)) r.2 (marks_cleared t r.0 k r.1)))
 
 abbrev moved_to : Key → Key → List ℕ → Record → Record
@@ -94,9 +93,9 @@ doomed_below t top r = cond (in_subtree t top r.key) (doomed_record r) r
 abbrev risen_below : Tree → Key → Record → Record
 risen_below t top r = cond (in_subtree t top r.key && not r.marks.doomed) (activated_record r) r
 
--- Rename is no event of the words
-pub same_renamed : (w : BareWorld) (t : Tree) (key dir : Key) (name : List ℕ) → SameMarks w t → SameMarks w (after t (Rename key dir name))
-same_renamed w t key dir name same k =
+-- Rename writes no slot
+pub same_renamed : (slots : List SlotState) (t : Tree) (key dir : Key) (name : List ℕ) → SameMarks slots t → SameMarks slots (after t (Rename key dir name))
+same_renamed slots t key dir name same k =
     same k ∙ sym (ap (option_map (λ (x : Record). x.marks)) (find_mapped t (moved_to key dir name) same_keys k) ∙ kept (record_at t k))
   where
     same_keys : (r : Record) → (moved_to key dir name r).key ≡ r.key
@@ -106,6 +105,24 @@ same_renamed w t key dir name same k =
     same_marks r = elim (same_key r.key key) as (λ b. (cond b (record r { parent = Some dir; name = name }) r).marks ≡ r.marks) [ true ↦ refl | false ↦ refl ]
 
     kept : (o : Option Record) → option_map (λ (x : Record). x.marks) (option_map (moved_to key dir name) o) ≡ option_map (λ (x : Record). x.marks) o
+    kept None = refl
+    kept (Some r) = ap (λ m. Some m) (same_marks r)
+
+abbrev hidden_at : Key → Bool → Record → Record
+hidden_at key b r = cond (same_key r.key key) (hidden_record b r) r
+
+-- Hide and Show leave all marks
+pub same_hidden : (slots : List SlotState) (t : Tree) (key : Key) (b : Bool) → SameMarks slots t → SameMarks slots (change (λ r. same_key r.key key) (hidden_record b) t)
+same_hidden slots t key b same k =
+    same k ∙ sym (ap (option_map (λ (x : Record). x.marks)) (find_mapped t (hidden_at key b) same_keys k) ∙ kept (record_at t k))
+  where
+    same_keys : (r : Record) → (hidden_at key b r).key ≡ r.key
+    same_keys r = elim (same_key r.key key) as (λ c. (cond c (hidden_record b r) r).key ≡ r.key) [ true ↦ refl | false ↦ refl ]
+
+    same_marks : (r : Record) → (hidden_at key b r).marks ≡ r.marks
+    same_marks r = elim (same_key r.key key) as (λ c. (cond c (hidden_record b r) r).marks ≡ r.marks) [ true ↦ refl | false ↦ refl ]
+
+    kept : (o : Option Record) → option_map (λ (x : Record). x.marks) (option_map (hidden_at key b) o) ≡ option_map (λ (x : Record). x.marks) o
     kept None = refl
     kept (Some r) = ap (λ m. Some m) (same_marks r)
 
@@ -139,9 +156,9 @@ listed_below t top keys r p h = elim (in_subtree t top r.key) as (λ b. in_subtr
   ] refl
 ] refl
 
-module _ (t : Tree) (top : Key) (keys : List Key) (w new : BareWorld) (same : SameMarks w t) (p : IsPostOrder t top keys) where
+module _ (t : Tree) (top : Key) (keys : List Key) (slots new : List SlotState) (same : SameMarks slots t) (p : IsPostOrder t top keys) where
   -- Doom is one mark for each node of the subtree that is not doomed
-  pub same_doomed : Changed doomed_if keys w new → SameMarks new (after t (Doom top))
+  pub same_doomed : Changed doomed_if keys slots new → SameMarks new (after t (Doom top))
   same_doomed changed k = changed k ∙ ap (option_map (doomed_if (contains_key keys k))) (same k) ∙ (go (record_at t k) refl ∙ sym (ap (option_map (λ (x : Record). x.marks)) (find_mapped t (doomed_below t top) same_keys k)))
     where
       same_keys : (r : Record) → (doomed_below t top r).key ≡ r.key
@@ -157,7 +174,7 @@ module _ (t : Tree) (top : Key) (keys : List Key) (w new : BareWorld) (same : Sa
           ap (λ b. Some (doomed_if b r.marks)) (subst (λ x. contains_key keys x ≡ in_subtree t top r.key) f.1 (listed_below t top keys r p f.0)) ∙ ap (λ m. Some m) (its_marks r (in_subtree t top r.key)))
 
   -- Activate is one rise for each that is neither activated nor doomed
-  pub same_risen : Changed risen_if keys w new → SameMarks new (after t (Activate top))
+  pub same_risen : Changed risen_if keys slots new → SameMarks new (after t (Activate top))
   same_risen changed k = changed k ∙ ap (option_map (risen_if (contains_key keys k))) (same k) ∙ (go (record_at t k) refl ∙ sym (ap (option_map (λ (x : Record). x.marks)) (find_mapped t (risen_below t top) same_keys k)))
     where
       same_keys : (r : Record) → (risen_below t top r).key ≡ r.key

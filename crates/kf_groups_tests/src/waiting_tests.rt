@@ -1,0 +1,130 @@
+//! A removal of a group waits for a call that runs on one of its files.
+ghost use Rattle.std.specs.Prelude.{◌≡◌};
+
+use crate::fixtures::{attribute, directory, is_free, is_made, made};
+use kf_core::{Key, Refusal};
+use kf_groups::{Group, remove_group};
+use kf_shared::{Naming, NewTree, SharedTree};
+use std::marker::Brand;
+use std::process::Abort;
+use std::sync::Wait;
+use std::sync::atomic::{AtomicU64, Ordering};
+use std::thread::{Threads, join};
+
+const LOOKS: u64 = 1_000_000_000;
+
+/// Waits until somebody has counted itself.
+fn wait_for(counter: &AtomicU64) {
+    for _ in 0..LOOKS {
+        if counter.load(Ordering::SeqCst) != 0 {
+            return;
+        }
+    }
+}
+
+/// Waits until the node is marked, and answers whether it is.
+fn wait_for_mark<N: Naming, R: Wait>(rt: &R, tree: &SharedTree<N>, key: Key) -> bool {
+    for _ in 0..100_000_000u64 {
+        let told = tree.read(rt).state().stat(key);
+        match told {
+            Ok(stat) if stat.doomed => return true,
+            Ok(_) => {}
+            Err(_) => return false,
+        }
+    }
+    false
+}
+
+/// Whether nobody has counted itself in 10,000 looks.
+fn stays_zero(counter: &AtomicU64) -> bool {
+    for _ in 0..10_000u32 {
+        if counter.load(Ordering::SeqCst) != 0 {
+            return false;
+        }
+    }
+    true
+}
+
+/// Has a call on the file, counts itself, and leaves once the file is marked. False where the removal has
+/// answered before.
+fn calls<N: Naming, R: Wait>(
+    rt: &R,
+    tree: &SharedTree<N>,
+    key: Key,
+    inside: &AtomicU64,
+    answered: &AtomicU64,
+) -> bool {
+    let held = tree.edit(rt).hold(key);
+    let entered = match held {
+        Ok(hold) => hold.enter(),
+        Err(_) => return false,
+    };
+    match entered {
+        Ok(call) => {
+            inside.fetch_add(1, Ordering::SeqCst);
+            let waits = wait_for_mark(rt, tree, key) && stays_zero(answered);
+            call.leave().release();
+            waits
+        }
+        Err(hold) => {
+            hold.release();
+            false
+        }
+    }
+}
+
+/// Removes the group once the call runs, and counts itself.
+fn removes<N: Naming, R: Wait>(
+    rt: &R,
+    tree: &SharedTree<N>,
+    dir: Key,
+    group: &Group,
+    inside: &AtomicU64,
+    answered: &AtomicU64,
+) -> Result<(), Refusal> {
+    wait_for(inside);
+    let told = remove_group(rt, tree, dir, group);
+    answered.fetch_add(1, Ordering::SeqCst);
+    told
+}
+
+/// The removal of a group answers once the call on the file of this path has ended, and the file is gone.
+fn waits<N: Naming + Send + Sync, R: Abort + Threads + Wait + Sync>(
+    rt: &R,
+    tree: &SharedTree<N>,
+    dir: Key,
+    group: Group,
+    path: &[u8],
+) {
+    assert!(rt; is_made(rt, tree, dir, &group));
+    let Ok(key) = tree.read(rt).state().lookup(path) else {
+        panic!(rt; "no file")
+    };
+    let inside = AtomicU64::new(0);
+    let answered = AtomicU64::new(0);
+    let (told, late) = join(
+        rt,
+        || removes(rt, tree, dir, &group, &inside, &answered),
+        || calls(rt, tree, key, &inside, &answered),
+    );
+    assert_eq!(rt; told, Ok(()));
+    assert!(rt; late, "the removal answered while the call ran");
+    assert!(rt; is_free(rt, tree, path));
+}
+
+fn both_wait<N: Naming + Send + Sync, R: Abort + Threads + Wait + Sync>(rt: &R, new: NewTree)
+    requires { new.master.table ≡ N.table }
+{
+    let tree = new.named::<N>();
+    let dir = directory(rt, &tree);
+    let files = [attribute(b"a", 0o444, 1)];
+    let own = Group::new(Some(b"g".as_slice()), &files);
+    waits(rt, &tree, dir, own, b"/d/g/a");
+    waits(rt, &tree, dir, Group::new(None, &files), b"/d/a");
+    assert!(rt; is_made(rt, &tree, dir, &own), "the slots are free");
+}
+
+#[test]
+fn a_removal_of_a_group_waits_for_a_call(rt: HostRuntime) {
+    both_wait::<Brand, _>(&rt, made(&rt, rt.alloc(), 4));
+}

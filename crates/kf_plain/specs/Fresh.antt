@@ -1,0 +1,14 @@
+-- Which keys of a tree are fresh.
+use Rattle.std.specs.Prelude.{Bool, false, not, ◌&&◌, Option, None, Some}
+use Rattle.kf_core.specs.declared.key.Key.{Key}
+use Rattle.kf_core.specs.declared.slot.Marks.{Marks}
+use Rattle.kf_core.specs.Tree.{Tree, marks_of}
+
+-- linked, and neither activated nor doomed
+abbrev pub is_fresh_marked : Option Marks → Bool
+is_fresh_marked None = false
+is_fresh_marked (Some m) = not m.activated && not m.doomed
+
+-- the key's node is neither activated nor doomed
+abbrev pub is_fresh_key : Tree → Key → Bool
+is_fresh_key tree key = is_fresh_marked (marks_of tree key)
