@@ -12,9 +12,11 @@ use Rattle.std.proofs.lemmas.List.Folds.{position_or_len_push}
 use Rattle.std.proofs.lemmas.Bool.Decides.{nat_tests}
 use Rattle.std.proofs.Math.Seq.{take-append_seam}
 use Rattle.std.proofs.lemmas.Str.Parse.{digit_at, without_leading_plus_none}
+use Rattle.kf_text.specs.declared.base.Base.{Base}
+use Rattle.kf_text.specs.declared.base.Base.TheVariants.{Decimal}
 use Rattle.kf_text.specs.declared.not_read.NotRead.{NotRead}
 use Rattle.kf_text.specs.declared.not_read.NotRead.TheVariants.{Invalid, Range}
-use Rattle.kf_text.specs.Readings.{line, until_zero, without_newline, ReadSigned, ReadUnsigned}
+use Rattle.kf_text.specs.Readings.{line, number_in, until_zero, without_newline, IsNumber, ReadNumber, ReadSigned, ReadUnsigned}
 
 -- the last byte of a line is its newline
 last : (text : List ℕ) → get_or (text ++ 10 ∷ []) (length text) 0 ≡ 10
@@ -52,7 +54,7 @@ high_after_minus digits numeral zero below = omega arith
 high_after_minus digits numeral (suc k) below = high_digits digits numeral k (omega arith)
 
 -- such a text with a newline behind it is a line
-text_line : (text : List ℕ) → ((k : ℕ) → k < length text → 45 ≤ get_or text k 0)
+pub text_line : (text : List ℕ) → ((k : ℕ) → k < length text → 45 ≤ get_or text k 0)
     → line (text ++ 10 ∷ []) ≡ text
 text_line text high = ap without_newline (no_zero text high) ∙ line_of text
 
@@ -62,23 +64,22 @@ no_plus number small =
     let first = digit_at (decimal number) 0 numeral.1 numeral.0 in
     without_leading_plus_none (decimal number) (λ same. absurd (omega (arith, first, same)))
 
-told : (number most : ℕ) (digits : List ℕ) (read : Result ℕ NotRead) → number ≤ most
-    → IsNumeral 10 digits × (digits_value 10 digits ≡ number) → without_leading_plus digits ≡ digits
-    → ReadUnsigned most digits read → read ≡ Ok number
-told number most digits (Ok n) within numeral plus read =
-    ap Ok (read.1 ∙ ap (digits_value 10) plus ∙ numeral.1)
-told number most digits (Err Invalid) within numeral plus read =
-    absurd (read (subst (IsNumeral 10) (sym plus) numeral.0))
-told number most digits (Err Range) within numeral plus read =
-    let above : most < number = subst (λ n. most < n) (ap (digits_value 10) plus ∙ numeral.1) read.1 in
-    absurd (omega arith)
+-- a text that is this number is read as it
+pub told : (base : Base) (number most : ℕ) (text : List ℕ) (read : Result ℕ NotRead) → number ≤ most
+    → IsNumber base text → number_in base text ≡ number → ReadNumber base most text read → read ≡ Ok number
+told base number most text (Ok n) within numeral value read = ap Ok (read.1 ∙ value)
+told base number most text (Err Invalid) within numeral value read = absurd (read numeral)
+told base number most text (Err Range) within numeral value read =
+    let above : most < number = subst (λ n. most < n) value read.1 in absurd (omega arith)
 
 pub read_again : (number most : ℕ) (read : Result ℕ NotRead) → number < 2 ^ 64 → number ≤ most
     → ReadUnsigned most (line (decimal number ++ 10 ∷ [])) read → read ≡ Ok number
 read_again number most read small within told_so =
-    told number most (decimal number) read within (decimal_is_IsNumeral number small) (no_plus number small)
-    (subst (λ text. ReadUnsigned most text read)
-    (text_line (decimal number) (high_digits (decimal number) (decimal_is_IsNumeral number small).0)) told_so)
+    let numeral = decimal_is_IsNumeral number small in
+    told Decimal number most (decimal number) read within numeral.0 numeral.1
+    (subst (λ text. ReadNumber Decimal most text read) (no_plus number small)
+    (subst (λ text. ReadUnsigned most text read) (text_line (decimal number) (high_digits (decimal number) numeral.0))
+    told_so))
 
 -- ---- numbers with a sign
 

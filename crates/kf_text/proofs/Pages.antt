@@ -1,10 +1,10 @@
 -- A page that is filled twice.
-use Rattle.std.proofs.Common.{◌≡◌, ◌<◌, ◌-◌, ◌+◌, ◌++◌, ℕ, List, [], ◌∷◌, zero, suc, length, take, refl, ap, ◌∙◌, sym, append_assoc, arith, get_or}
+use Rattle.std.proofs.Common.{◌≡◌, ◌<◌, ◌-◌, ◌+◌, ◌++◌, ℕ, List, [], ◌∷◌, zero, suc, length, replicate, take, refl, ap, ◌≤◌, ◌∙◌, sym, append_assoc, arith, get_or}
 use Rattle.std.proofs.lemmas.List.{length-append, length-take}
-use Rattle.std.proofs.lemmas.List.{append-nil, take_more}
+use Rattle.std.proofs.lemmas.List.{append-nil, take_more, take-replicate}
 use Rattle.std.proofs.lemmas.Grind.{flat_map-append}
 use Rattle.kf_text.specs.declared.part.Part.{Part}
-use Rattle.kf_text.specs.Texts.{emitted, part_text, text_of}
+use Rattle.kf_text.specs.Texts.{emitted, part_text, text_of, to_width}
 
 -- the front of two lists, one behind the other
 take-append : (k : ℕ) (one other : List ℕ) → take k (one ++ other) ≡ take k one ++ take (k - length one) other
@@ -32,3 +32,12 @@ one_more parts i d page page' page'' inside before here =
     here ∙ ap (λ p. emitted p (part_text (get_or parts i d))) before
     ∙ emitted-emitted page (text_of (take i parts)) (part_text (get_or parts i d))
     ∙ ap (emitted page) (sym (rw (take_more parts i d inside, flat_map-append part_text, append-nil) refl))
+
+-- digits behind zeros that were put first
+pub behind_zeros : (page page' page'' digits : List ℕ) (width missing : ℕ) → missing ≤ 255
+    → missing ≡ width - length digits → page' ≡ emitted page (take missing (replicate 255 48))
+    → page'' ≡ emitted page' digits → page'' ≡ emitted page (to_width width digits)
+behind_zeros page page' page'' digits width missing within same zeros here =
+    here ∙ ap (λ p. emitted p digits)
+    (zeros ∙ ap (emitted page) (take-replicate missing 255 48 within ∙ ap (λ n. replicate n 48) same))
+    ∙ emitted-emitted page (replicate (width - length digits) 48) digits

@@ -1,8 +1,10 @@
 -- What the bytes of a store say.
-use Rattle.std.specs.Prelude.{◌≡◌, ◌⊎◌, ℕ, ℤ, Bool, true, false, ◌-◌, ◌<◌, ◌≤◌, ◌≤ℤ◌, ◌<ℤ◌, ◌==◌, ◌||◌, List, [], ◌∷◌, ◌++◌, length, take, slice_index, codes, Option, Some, None, Result, Ok, Err, if◌then◌else◌}
-use Rattle.std.specs.Str.Parse.{IsNumeral, digits_value, without_leading_plus, without_leading_sign, signed_digits_value}
+use Rattle.std.specs.Prelude.{◌≡◌, ◌⊎◌, ℕ, ℤ, Bool, true, false, ◌-◌, ◌<◌, ◌≤◌, ◌≤ℤ◌, ◌<ℤ◌, ◌==◌, ◌&&◌, ◌||◌, pos, neg_ℤ, List, [], ◌∷◌, ◌++◌, length, take, drop, slice_index, codes, Option, Some, None, Result, Ok, Err, if◌then◌else◌}
+use Rattle.std.specs.Str.Parse.{IsNumeral, digits_value, starts_with_minus, without_leading_plus, without_leading_sign}
 use Rattle.std.specs.List.{list_any, position_or_len}
 use Rattle.std.specs.Str.{bytes_eq}
+use Rattle.kf_text.specs.declared.base.Base.{Base}
+use Rattle.kf_text.specs.declared.base.Base.TheVariants.{Decimal, Hex, ByPrefix}
 use Rattle.kf_text.specs.declared.not_read.NotRead.{NotRead}
 use Rattle.kf_text.specs.declared.not_read.NotRead.TheVariants.{Invalid, Range}
 
@@ -24,25 +26,69 @@ without_newline bytes =
 abbrev pub line : List ℕ → List ℕ
 line bytes = without_newline (until_zero bytes)
 
--- a text is read as an unsigned number of at most this: it is one digit or more, maybe behind a plus
-abbrev pub ReadUnsigned : ℕ → List ℕ → Result ℕ NotRead → Type 0
-ReadUnsigned most text (Ok number) = IsNumeral 10 (without_leading_plus text)
-    × (number ≡ digits_value 10 (without_leading_plus text)) × (number ≤ most)
-ReadUnsigned most text (Err Invalid) = ¬ (IsNumeral 10 (without_leading_plus text))
-ReadUnsigned most text (Err Range) = IsNumeral 10 (without_leading_plus text)
-    × (most < digits_value 10 (without_leading_plus text))
-
--- a text is read as a number between these: it is one digit or more, maybe behind a plus or a minus
-abbrev pub ReadSigned : ℤ → ℤ → List ℕ → Result ℤ NotRead → Type 0
-ReadSigned least most text (Ok number) = IsNumeral 10 (without_leading_sign text)
-    × (number ≡ signed_digits_value 10 text) × (least ≤ℤ number) × (number ≤ℤ most)
-ReadSigned least most text (Err Invalid) = ¬ (IsNumeral 10 (without_leading_sign text))
-ReadSigned least most text (Err Range) = IsNumeral 10 (without_leading_sign text)
-    × ((signed_digits_value 10 text <ℤ least) ⊎ (most <ℤ signed_digits_value 10 text))
-
 -- the byte is one of these
 abbrev pub is_one_of : List ℕ → ℕ → Bool
 is_one_of bytes byte = list_any (λ b. b == byte) bytes
+
+-- a text begins with `0x` or `0X`
+abbrev pub begins_with_0x : List ℕ → Bool
+begins_with_0x text = slice_index text 0 == 48 && is_one_of (codes "xX") (slice_index text 1)
+
+-- the base that a text is in, by its first bytes where no base is named: 48 is `0`
+abbrev pub radix_of : Base → List ℕ → ℕ
+radix_of Decimal text = 10
+radix_of Hex text = 16
+radix_of ByPrefix text =
+    if begins_with_0x text then 16 else (if slice_index text 0 == 48 then 8 else 10)
+
+-- the digits of a text, without the `0x` of base 16
+abbrev pub digits_of : Base → List ℕ → List ℕ
+digits_of Decimal text = text
+digits_of Hex text = if begins_with_0x text then drop 2 text else text
+digits_of ByPrefix text = if begins_with_0x text then drop 2 text else text
+
+-- a text is a number: one digit or more in its base
+abbrev pub IsNumber : Base → List ℕ → Type 0
+IsNumber base text = IsNumeral (radix_of base text) (digits_of base text)
+
+-- the number that it is
+abbrev pub number_in : Base → List ℕ → ℕ
+number_in base text = digits_value (radix_of base text) (digits_of base text)
+
+-- a text is read as a number of at most this
+abbrev pub ReadNumber : Base → ℕ → List ℕ → Result ℕ NotRead → Type 0
+ReadNumber base most text (Ok number) =
+    IsNumber base text × (number ≡ number_in base text) × (number ≤ most)
+ReadNumber base most text (Err Invalid) = ¬ (IsNumber base text)
+ReadNumber base most text (Err Range) = IsNumber base text × (most < number_in base text)
+
+-- the same of a text that may have a plus in front
+abbrev pub ReadUnsignedIn : Base → ℕ → List ℕ → Result ℕ NotRead → Type 0
+ReadUnsignedIn base most text = ReadNumber base most (without_leading_plus text)
+
+-- and in base 10
+abbrev pub ReadUnsigned : ℕ → List ℕ → Result ℕ NotRead → Type 0
+ReadUnsigned = ReadUnsignedIn Decimal
+
+-- a number, or where a minus stands in front what it is below zero
+abbrev pub with_sign : Bool → ℕ → ℤ
+with_sign is_negative number = if is_negative then neg_ℤ (pos number) else pos number
+
+-- the number that a text is, which may have a minus or a plus in front
+abbrev pub signed_number_in : Base → List ℕ → ℤ
+signed_number_in base text = with_sign (starts_with_minus text) (number_in base (without_leading_sign text))
+
+-- a text is read as a number between these: it is a number, maybe with a plus or a minus in front
+abbrev pub ReadSignedIn : Base → ℤ → ℤ → List ℕ → Result ℤ NotRead → Type 0
+ReadSignedIn base least most text (Ok number) = IsNumber base (without_leading_sign text)
+    × (number ≡ signed_number_in base text) × (least ≤ℤ number) × (number ≤ℤ most)
+ReadSignedIn base least most text (Err Invalid) = ¬ (IsNumber base (without_leading_sign text))
+ReadSignedIn base least most text (Err Range) = IsNumber base (without_leading_sign text)
+    × ((signed_number_in base text <ℤ least) ⊎ (most <ℤ signed_number_in base text))
+
+-- and in base 10
+abbrev pub ReadSigned : ℤ → ℤ → List ℕ → Result ℤ NotRead → Type 0
+ReadSigned = ReadSignedIn Decimal
 
 -- what stands behind an `o`: `on` or `off`, by its second byte
 abbrev pub on_or_off : List ℕ → Option Bool

@@ -1,14 +1,25 @@
 -- The text of parts, and what an emit makes of a page.
-use Rattle.std.specs.Prelude.{ℕ, ◌-◌, List, [], ◌∷◌, ◌++◌, length, take, decimal, flat_map, if◌then◌else◌}
-use Rattle.std.specs.Fmt.{signed_decimal}
+use Rattle.std.specs.Prelude.{ℕ, ◌-◌, List, [], ◌∷◌, ◌++◌, length, take, decimal, flat_map, false, replicate, if◌then◌else◌}
+use Rattle.std.specs.Fmt.{digits, signed_decimal}
 use Rattle.kf_text.specs.declared.part.Part.{Part}
-use Rattle.kf_text.specs.declared.part.Part.TheVariants.{Text, Number, Signed, Flag, Newline}
+use Rattle.kf_text.specs.declared.part.Part.TheVariants.{Text, Number, PaddedNumber, Signed, Hex, PaddedHex, Flag, Newline}
+
+-- a number in base 16, in small letters
+abbrev pub hex : ℕ → List ℕ
+hex number = digits 16 false number
+
+-- digits behind zeros, to this width at least: 48 is `0`
+abbrev pub to_width : ℕ → List ℕ → List ℕ
+to_width width digits = replicate (width - length digits) 48 ++ digits
 
 -- the bytes of a part: 48 is `0`, 49 is `1`, 10 ends a line
 abbrev pub part_text : Part → List ℕ
 part_text (Text bytes) = bytes.now
 part_text (Number number) = decimal number
+part_text (PaddedNumber number width) = to_width width (decimal number)
 part_text (Signed number) = signed_decimal number
+part_text (Hex number) = hex number
+part_text (PaddedHex number width) = to_width width (hex number)
 part_text (Flag flag) = if flag then 49 ∷ [] else 48 ∷ []
 part_text Newline = 10 ∷ []
 

@@ -1,53 +1,14 @@
 //! Numbers in the bytes of a store.
-ghost use Rattle.std.specs.Prelude.{◌≡◌, ◌↔◌, ◌<◌, ◌^◌, IsTrue, FitsSigned};
-ghost use Rattle.std.specs.Char.{is_ascii_digit};
+ghost use Rattle.std.specs.Prelude.{◌≡◌, FitsSigned};
 ghost use Rattle.std.specs.Int.{w64};
-ghost use Rattle.std.specs.List.{list_all};
 ghost use Rattle.std.specs.Option.{SomeIff};
-ghost use Rattle.std.specs.Str.Parse.{IsNumeral, digits_value, signed_digits_value, without_leading_plus, without_leading_sign};
-ghost use Rattle.kf_text.specs.Readings.{line, ReadSigned, ReadUnsigned};
+ghost use Rattle.std.specs.Str.Parse.{starts_with_minus, without_leading_plus, without_leading_sign};
+ghost use Rattle.kf_text.specs.Readings.{line, with_sign, ReadNumber, ReadSigned, ReadSignedIn, ReadUnsigned, ReadUnsignedIn};
 
+use crate::base::{Base, digits_in};
 use crate::line::line_of;
 use crate::not_read::NotRead;
-
-// Whether each byte is a decimal digit.
-fn are_digits(bytes: &[u8]) -> bool
-    ensures value { result ≡ list_all is_ascii_digit bytes.now }
-{
-    bytes.iter().all(|byte| byte.is_ascii_digit())
-}
-
-// One decimal digit or more, and nothing else.
-#[tactic(auto, using(crate::proofs::Digits::numeral_from_test, crate::proofs::Digits::test_from_numeral))]
-fn is_numeral(digits: &[u8]) -> bool
-    ensures numeral { IsTrue result ↔ IsNumeral 10 digits.now }
-{
-    !digits.is_empty() && are_digits(digits)
-}
-
-// The number, where 64 bits have room for it.
-fn parse_unsigned(text: &[u8]) -> Option<u64>
-    requires numeral { IsNumeral 10 (without_leading_plus text.now) }
-    ensures value { SomeIff result (digits_value 10 (without_leading_plus text.now) < 2 ^ 64)
-        (digits_value 10 (without_leading_plus text.now)) }
-{
-    match str::from_utf8(text) {
-        Ok(text) => text.parse().ok(),
-        Err(_) => None,
-    }
-}
-
-// The number, where 64 bits have room for it.
-fn parse_signed(text: &[u8]) -> Option<i64>
-    requires numeral { IsNumeral 10 (without_leading_sign text.now) }
-    ensures value { SomeIff result (FitsSigned w64 (signed_digits_value 10 text.now))
-        (signed_digits_value 10 text.now) }
-{
-    match str::from_utf8(text) {
-        Ok(text) => text.parse().ok(),
-        Err(_) => None,
-    }
-}
+use crate::numeral::{is_numeral, parse};
 
 // The text behind a plus, where one stands in front.
 fn after_plus(text: &[u8]) -> &[u8]
@@ -57,6 +18,13 @@ fn after_plus(text: &[u8]) -> &[u8]
         [b'+', digits @ ..] => digits,
         _ => text,
     }
+}
+
+// Whether a minus stands in front.
+fn has_minus(text: &[u8]) -> bool
+    ensures value { result ≡ starts_with_minus text.now }
+{
+    text.first() == Some(&b'-')
 }
 
 // The text behind a minus or a plus, where one stands in front.
@@ -69,38 +37,81 @@ fn after_sign(text: &[u8]) -> &[u8]
     }
 }
 
-/// A number in decimal, at most `most` (`kstrtou64`; with the type's largest number `kstrtou8` and others). A
-/// plus may stand in front, and a newline at the end. A zero byte and what follows it are not read.
-///
-/// Errors, in order: Invalid (no number, or one with a minus), Range (above `most`). Unlike the kernel's,
-/// digits beyond 64 bits with another byte behind them are Invalid.
-pub fn read_unsigned(bytes: &[u8], most: u64) -> Result<u64, NotRead>
-    ensures read { ReadUnsigned most (line bytes.now) result }
+// A number with no sign in front.
+fn read_number(text: &[u8], base: Base, most: u64) -> Result<u64, NotRead>
+    ensures read { ReadNumber base most text.now result }
 {
-    let text = line_of(bytes);
-    if !is_numeral(after_plus(text)) {
+    let (radix, digits) = digits_in(text, base);
+    if !is_numeral(digits, radix) {
         return Err(NotRead::Invalid);
     }
-    match parse_unsigned(text) {
+    match parse(digits, radix) {
         Some(number) if number <= most => Ok(number),
         _ => Err(NotRead::Range),
     }
 }
 
-/// A number in decimal, from `least` to `most` (`kstrtoint` and others, with the type's numbers). A plus or a
-/// minus may stand in front, and a newline at the end. A zero byte and what follows it are not read.
+// The number with its sign, where 64 bits have room for it.
+fn signed(is_negative: bool, number: u64) -> Option<i64>
+    ensures value { SomeIff result (FitsSigned w64 (with_sign is_negative number))
+        (with_sign is_negative number) }
+{
+    match i64::try_from(number) {
+        Ok(number) if is_negative => Some(-number),
+        Ok(number) => Some(number),
+        Err(_) if is_negative && number == 1 << 63 => Some(i64::MIN),
+        Err(_) => None,
+    }
+}
+
+/// A number in a base, at most `most` (`kstrtoull`; with the type's largest number `kstrtouint`, `kstrtoul`
+/// and others). A plus may stand in front, and a newline at the end. A zero byte and what follows it are not
+/// read.
+///
+/// Errors, in order: Invalid (no number, or one with a minus), Range (above `most`). Unlike the kernel's,
+/// digits beyond 64 bits with another byte behind them are Invalid.
+pub fn read_unsigned_in(bytes: &[u8], base: Base, most: u64) -> Result<u64, NotRead>
+    ensures read { ReadUnsignedIn base most (line bytes.now) result }
+{
+    read_number(after_plus(line_of(bytes)), base, most)
+}
+
+/// A number in decimal, at most `most`: `read_unsigned_in` of base 10 (`kstrtou64` of base 10; with the
+/// type's largest number `kstrtou8` and others).
+///
+/// Errors, in order: Invalid (no number, or one with a minus), Range (above `most`).
+pub fn read_unsigned(bytes: &[u8], most: u64) -> Result<u64, NotRead>
+    ensures read { ReadUnsigned most (line bytes.now) result }
+{
+    read_unsigned_in(bytes, Base::Decimal, most)
+}
+
+/// A number in a base, from `least` to `most` (`kstrtoll`; with the type's numbers `kstrtoint`, `kstrtol` and
+/// others). A plus or a minus may stand in front, before the prefix of the base, and a newline at the end. A
+/// zero byte and what follows it are not read.
 ///
 /// Errors, in order: Invalid (no number), Range (below `least` or above `most`). Unlike the kernel's, digits
 /// beyond 64 bits with another byte behind them are Invalid.
-pub fn read_signed(bytes: &[u8], least: i64, most: i64) -> Result<i64, NotRead>
-    ensures read { ReadSigned least most (line bytes.now) result }
+pub fn read_signed_in(bytes: &[u8], base: Base, least: i64, most: i64) -> Result<i64, NotRead>
+    ensures read { ReadSignedIn base least most (line bytes.now) result }
 {
     let text = line_of(bytes);
-    if !is_numeral(after_sign(text)) {
-        return Err(NotRead::Invalid);
-    }
-    match parse_signed(text) {
+    let number = match read_number(after_sign(text), base, u64::MAX) {
+        Ok(number) => number,
+        Err(refusal) => return Err(refusal),
+    };
+    match signed(has_minus(text), number) {
         Some(number) if least <= number && number <= most => Ok(number),
         _ => Err(NotRead::Range),
     }
+}
+
+/// A number in decimal, from `least` to `most`: `read_signed_in` of base 10 (`kstrtoint` of base 10 and
+/// others, with the type's numbers).
+///
+/// Errors, in order: Invalid (no number), Range (below `least` or above `most`).
+pub fn read_signed(bytes: &[u8], least: i64, most: i64) -> Result<i64, NotRead>
+    ensures read { ReadSigned least most (line bytes.now) result }
+{
+    read_signed_in(bytes, Base::Decimal, least, most)
 }

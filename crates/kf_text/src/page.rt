@@ -1,7 +1,8 @@
 //! A page is filled.
 ghost use Rattle.std.specs.Prelude.{◌≡◌, ◌+◌, length, take};
-ghost use Rattle.kf_text.specs.Texts.{emitted, part_text, text_of};
+ghost use Rattle.kf_text.specs.Texts.{emitted, part_text, text_of, to_width};
 
+use crate::hex::hex;
 use crate::part::Part;
 use arrayvec::ArrayVec;
 use itoa::Buffer;
@@ -18,15 +19,33 @@ fn put(page: &mut ArrayVec<u8, 4096>, bytes: &[u8])
     let _ = page.try_extend_from_slice(&bytes[..end]);
 }
 
+// Puts digits behind zeros, to this width at least, as far as there is room.
+fn put_to_width(page: &mut ArrayVec<u8, 4096>, digits: &[u8], width: u8)
+    ensures put { page.new.items ≡ emitted page.old.items (to_width width digits.now) }
+{
+    let zeros = [b'0'; 255];
+    let missing = usize::from(width).saturating_sub(digits.len());
+    put(page, &zeros[..missing]);
+    put(page, digits);
+}
+
 // Puts a part behind what the page has, as far as there is room.
 fn put_part(page: &mut ArrayVec<u8, 4096>, part: &Part)
     ensures put { page.new.items ≡ emitted page.old.items (part_text part.now) }
 {
     let mut buffer = Buffer::new();
+    let mut bytes = [0; 64];
     match *part {
         Part::Text(bytes) => put(page, bytes),
         Part::Number(number) => put(page, buffer.format(number).as_bytes()),
+        Part::PaddedNumber { number, width } => put_to_width(
+            page,
+            buffer.format(number).as_bytes(),
+            width,
+        ),
         Part::Signed(number) => put(page, buffer.format(number).as_bytes()),
+        Part::Hex(number) => put(page, hex(number, &mut bytes)),
+        Part::PaddedHex { number, width } => put_to_width(page, hex(number, &mut bytes), width),
         Part::Flag(true) => put(page, b"1"),
         Part::Flag(false) => put(page, b"0"),
         Part::Newline => put(page, b"\n"),

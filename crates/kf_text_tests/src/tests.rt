@@ -3,8 +3,8 @@
 
 use arrayvec::ArrayVec;
 use kf_text::{
-    NotRead, Part, emit, emit_at, is_same_text, line_of, read_flag, read_signed, read_unsigned,
-    read_word,
+    Base, NotRead, Part, emit, emit_at, is_same_text, line_of, read_flag, read_signed,
+    read_signed_in, read_unsigned, read_unsigned_in, read_word,
 };
 
 /// The place of the first answer that is not as it must be.
@@ -79,6 +79,184 @@ fn numbers_are_read_to_their_bounds(rt: HostRuntime) {
         ]),
         None
     );
+}
+
+/// The place of the first text that is not read as its answer says.
+fn first_misread(base: Base, most: u64, rows: &[(&str, Result<u64, NotRead>)]) -> Option<usize> {
+    rows.iter().position(|row| read_unsigned_in(row.0.as_bytes(), base, most) != row.1)
+}
+
+/// The same with signs, by prefix.
+fn first_signed_misread(
+    least: i64,
+    most: i64,
+    rows: &[(&str, Result<i64, NotRead>)],
+) -> Option<usize> {
+    rows.iter().position(|row| read_signed_in(row.0.as_bytes(), Base::ByPrefix, least, most)
+        != row.1)
+}
+
+#[test]
+fn a_prefix_says_the_base(rt: HostRuntime) {
+    assert_eq!(rt;
+        first_misread(
+            Base::ByPrefix,
+            u64::MAX,
+            &[
+                ("0x1f\n", Ok(31)),
+                ("+0X1F", Ok(31)),
+                ("0", Ok(0)),
+                ("00\n", Ok(0)),
+                ("017", Ok(15)),
+                ("08", Err(NotRead::Invalid)),
+                ("019", Err(NotRead::Invalid)),
+                ("19", Ok(19)),
+                ("1f", Err(NotRead::Invalid)),
+                ("0x", Err(NotRead::Invalid)),
+                ("0X\n", Err(NotRead::Invalid)),
+                ("0xg", Err(NotRead::Invalid)),
+                ("x1", Err(NotRead::Invalid)),
+                ("00x1", Err(NotRead::Invalid)),
+                ("0x0x1", Err(NotRead::Invalid)),
+                ("0x+1", Err(NotRead::Invalid)),
+                ("-0x1", Err(NotRead::Invalid)),
+                ("++1", Err(NotRead::Invalid)),
+                ("+", Err(NotRead::Invalid)),
+                ("", Err(NotRead::Invalid)),
+                (" 0x1f", Err(NotRead::Invalid)),
+                ("0x1f\n\n", Err(NotRead::Invalid)),
+                ("0x1f\n\0zz", Ok(31)),
+                ("0xffffffffffffffff", Ok(u64::MAX)),
+                ("0x10000000000000000", Err(NotRead::Range)),
+                ("01777777777777777777777", Ok(u64::MAX)),
+                ("02000000000000000000000", Err(NotRead::Range)),
+                ("18446744073709551615", Ok(u64::MAX)),
+                ("18446744073709551616", Err(NotRead::Range)),
+            ]
+        ),
+        None
+    );
+}
+
+#[test]
+fn a_base_that_is_named_is_kept(rt: HostRuntime) {
+    let hex = first_misread(
+        Base::Hex,
+        u64::MAX,
+        &[
+            ("1F", Ok(31)),
+            ("+0x1f", Ok(31)),
+            ("0XaB\n", Ok(171)),
+            ("010", Ok(16)),
+            ("0", Ok(0)),
+            ("0x", Err(NotRead::Invalid)),
+            ("0xx1", Err(NotRead::Invalid)),
+            ("g", Err(NotRead::Invalid)),
+            ("00000000000000000001", Ok(1)),
+            ("ffffffffffffffff", Ok(u64::MAX)),
+            ("10000000000000000", Err(NotRead::Range)),
+        ],
+    );
+    let decimal = first_misread(
+        Base::Decimal,
+        u64::MAX,
+        &[
+            ("010", Ok(10)),
+            ("0x1f", Err(NotRead::Invalid)),
+            ("1a", Err(NotRead::Invalid)),
+            ("18446744073709551615", Ok(u64::MAX)),
+            ("18446744073709551616", Err(NotRead::Range)),
+        ],
+    );
+    let bound = first_misread(
+        Base::ByPrefix,
+        31,
+        &[
+            ("0x1f", Ok(31)),
+            ("0x20", Err(NotRead::Range)),
+            ("037", Ok(31)),
+            ("32", Err(NotRead::Range)),
+        ],
+    );
+    assert_eq!(rt;
+        first_wrong(&[hex.is_none(), decimal.is_none(), bound.is_none()]),
+        None
+    );
+}
+
+#[test]
+fn a_sign_stands_before_the_prefix(rt: HostRuntime) {
+    let small = first_signed_misread(
+        -128,
+        127,
+        &[
+            ("-0x80\n", Ok(-128)),
+            ("-0x81", Err(NotRead::Range)),
+            ("0x7f", Ok(127)),
+            ("+0x80", Err(NotRead::Range)),
+            ("-0177", Ok(-127)),
+            ("-09", Err(NotRead::Invalid)),
+            ("-0x", Err(NotRead::Invalid)),
+            ("0x-1", Err(NotRead::Invalid)),
+            ("-+1", Err(NotRead::Invalid)),
+            ("-0", Ok(0)),
+        ],
+    );
+    let wide = first_signed_misread(
+        i64::MIN,
+        i64::MAX,
+        &[
+            ("-0x8000000000000000", Ok(i64::MIN)),
+            ("-0x8000000000000001", Err(NotRead::Range)),
+            ("0x7fffffffffffffff", Ok(i64::MAX)),
+            ("0x8000000000000000", Err(NotRead::Range)),
+            ("-0xffffffffffffffff", Err(NotRead::Range)),
+            ("-0x10000000000000000", Err(NotRead::Range)),
+        ],
+    );
+    assert_eq!(rt; first_wrong(&[small.is_none(), wide.is_none()]), None);
+}
+
+/// A number in base 16, to this width.
+const fn hex(number: u64, width: u8) -> Part<'static> {
+    Part::PaddedHex { number, width }
+}
+
+/// A number in base 10, to this width.
+const fn padded(number: u64, width: u8) -> Part<'static> {
+    Part::PaddedNumber { number, width }
+}
+
+#[test]
+fn numbers_are_shown_to_their_width(rt: HostRuntime) {
+    let mut page = ArrayVec::<u8, 4096>::new();
+    let parts = [
+        Part::Hex(0),
+        Part::Text(b" ".as_slice()),
+        Part::Hex(u64::MAX),
+        Part::Text(b" ".as_slice()),
+        hex(0x9abcdef, 0),
+        hex(0x1f, 1),
+        hex(0x1f, 2),
+        hex(0x1f, 8),
+        hex(0, 16),
+        Part::Text(b".".as_slice()),
+        padded(7, 3),
+        padded(1250, 3),
+    ];
+    emit(&mut page, &parts);
+    let shown = b"0 ffffffffffffffff 9abcdef1f1f0000001f0000000000000000.0071250".as_slice();
+    let is_shown = page.as_slice() == shown;
+    let long = [b'x'; 4086];
+    let counts = [
+        emit_at(&mut page, 0, &[Part::Text(long.as_slice())]),
+        emit(&mut page, &[hex(0xab, 5)]),
+        emit(&mut page, &[hex(0xabcd, 6)]),
+        emit(&mut page, &[padded(1, 255)]),
+    ];
+    let is_cut = page.as_slice().ends_with(b"x000ab00ab".as_slice());
+    assert!(rt; is_shown && is_cut);
+    assert_eq!(rt; counts, [4086, 5, 4, 0]);
 }
 
 #[test]
