@@ -2,7 +2,9 @@
 #![tactic(auto)]
 
 mod driver;
+mod fault;
 mod table;
 
 pub use driver::Driver;
+pub use fault::fault_of;
 pub use table::{Callbacks, End, Row, Table};

@@ -2,12 +2,10 @@
 ghost use Rattle.std.specs.Prelude.{◌≡◌, ◌==◌, ◌<◌, ◌≤◌, ℕ, List, [], length, Result, Err, MatchBool};
 ghost use Rattle.kf_files.specs.declared.ops.Fault.{Fault};
 ghost use Rattle.kf_files.specs.Files.{filled_by};
-ghost use Rattle.kf_text.specs.declared.not_read.NotRead.{NotRead};
 ghost use Rattle.kf_driver.specs.Tables.{TakesAll, unknown};
 
 use kf_files::{Fault, Page};
 use kf_groups::Attribute;
-use kf_text::NotRead;
 
 /// What an attribute shows and stores (`show` and `store` of `struct device_attribute`). Any number of
 /// threads may call both at once. What takes a lock keeps the runtime in its struct: `Label<'a, R>` with
@@ -17,7 +15,7 @@ pub trait Callbacks {
     ghost shows: { Self → Result (List ℕ) Fault → Type 0 } = { λ _ _. Unit {0} };
 
     /// A store of these bytes may answer this. Where a driver does not say what, anything.
-    ghost takes: { Self → List ℕ → Result (Unit {0}) NotRead → Type 0 } = { λ _ _ _. Unit {0} };
+    ghost takes: { Self → List ℕ → Result (Unit {0}) Fault → Type 0 } = { λ _ _ _. Unit {0} };
 
     /// Fills the empty page, or gives a fault, as 5 where the device does not answer (`EIO`). What it filled
     /// before a fault is not shown.
@@ -25,9 +23,10 @@ pub trait Callbacks {
         requires empty { page.old.items ≡ [] }
         ensures shown { shows self.now (filled_by result page.new.items) };
 
-    /// Takes all of the bytes, 1 to 4,096 of them, or tells why not (a store with other reasons: a `WaitOps`
-    /// of your own). For a file that nobody may write it is never called: answer Invalid.
-    fn store(&self, bytes: &[u8]) -> Result<(), NotRead>
+    /// Takes all of the bytes, 1 to 4,096 of them, or gives a fault, as 5 where the device does not answer
+    /// (`EIO`), or that of what they do not say ([`crate::fault_of`]). For a file that nobody may write it is
+    /// never called: give 22.
+    fn store(&self, bytes: &[u8]) -> Result<(), Fault>
         requires some { 0 < length bytes.now }
         requires fits { length bytes.now ≤ 4096 }
         ensures taken { takes self.now bytes.now result };
@@ -96,12 +95,8 @@ impl<A: Callbacks, B: Table> Table for Row<A, B> {
 
     fn store(&self, tag: u64, bytes: &[u8]) -> Result<usize, Fault> {
         if tag == self.tag {
-            return match self.callbacks.store(bytes) {
-                Ok(()) => Ok(bytes.len()),
-                Err(error) => Err(Fault {
-                    number: error.number(),
-                }),
-            };
+            self.callbacks.store(bytes)?;
+            return Ok(bytes.len());
         }
         self.others.store(tag, bytes)
     }

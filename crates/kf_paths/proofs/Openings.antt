@@ -11,6 +11,7 @@ use Rattle.kf_core.specs.Refusals.{unless, first_cause}
 use Rattle.kf_core.specs.Tree.{Tree}
 use Rattle.kf_words.specs.Callers.{Handle}
 use Rattle.kf_words.specs.declared.view.MasterView.{MasterView}
+use Rattle.kf_notify.specs.PostStates.{Numbers, IsNewPost}
 use Rattle.kf_files.specs.declared.contents.Want.{Want}
 use Rattle.kf_files.specs.Files.{Opens, allows, new_file, open_cause}
 use Rattle.kf_files.specs.Waiting.{WaitVisits}
@@ -72,15 +73,15 @@ held_file t place key only =
 unsome : (one other : Node) → Some one ≡ Some other → one ≡ other
 unsome one other same = cc
 
-pub path_opened : (t : Tree) (root place key : Key) (path : List ℕ) (want : Want) (hold : Handle)
-    (result : Result (Opened Handle) Refusal) → seen t root path ≡ Ok place → file_at t (Ok place) ≡ Ok key
+pub path_opened : (t : Tree) (root : Key) (numbers : Numbers) (place key : Key) (path : List ℕ) (want : Want)
+    (hold : Handle) (result : Result (Opened Handle) Refusal) → seen t root path ≡ Ok place → file_at t (Ok place) ≡ Ok key
     → hold.key ≡ key → node_at t key ≡ Some hold.node
     → IfOk result (λ file. (mode tag : ℕ) → hold.node ≡ File mode tag
     → (file.hold.key ≡ hold.key) × (file.tag ≡ tag) × (allows mode want ≡ true))
-    → IfOk result (λ file. file.post.slot ≡ hold.key.slot) → IfOk result (λ file. file.state ≡ new_file want)
-    → IfOk result (λ file. OpenedAt t root path want file)
-path_opened t root place key path want hold (Err why) named only key_is node held slot new = tt
-path_opened t root place key path want hold (Ok file) named only key_is node held slot new =
+    → IfOk result (λ file. IsNewPost numbers hold.key.slot file.post) → IfOk result (λ file. file.state ≡ new_file want)
+    → IfOk result (λ file. OpenedAt t root numbers path want file)
+path_opened t root numbers place key path want hold (Err why) named only key_is node held fresh new = tt
+path_opened t root numbers place key path want hold (Ok file) named only key_is node held fresh new =
     let (same, mode, tag, there) = held_file t place key only in
     let (hold_is, tag_is, allowed) = held mode tag (unsome hold.node (File mode tag) (sym node ∙ there)) in
     record {
@@ -90,7 +91,7 @@ path_opened t root place key path want hold (Ok file) named only key_is node hel
       there = there ∙ ap (λ n. Some (File mode n)) (sym tag_is);
       held = hold_is ∙ key_is;
       allowed = allowed;
-      slot = slot ∙ ap (λ k. k.slot) key_is;
+      fresh = subst (λ k. IsNewPost numbers k.slot file.post) key_is fresh;
       new = new;
     }
 

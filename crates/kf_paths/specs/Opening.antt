@@ -1,5 +1,5 @@
 -- A file that is opened by its path, and a notify by name.
-use Rattle.std.specs.Prelude.{◌≡◌, ◌⊎◌, ◌≤◌, ℕ, List, true, false, Option, None, Some, Ok, Err, Result, MatchResult}
+use Rattle.std.specs.Prelude.{◌≡◌, ◌⊎◌, ◌+◌, ◌<◌, ◌≤◌, ℕ, List, true, false, Option, None, Some, Ok, Err, Result, MatchResult}
 use Rattle.std.specs.Option.{option_map}
 use Rattle.kf_core.specs.declared.key.Key.{Key}
 use Rattle.kf_core.specs.declared.key.Node.{Node}
@@ -12,7 +12,7 @@ use Rattle.kf_words.specs.Callers.{Handle}
 use Rattle.kf_words.specs.Nodes.{WasFull}
 use Rattle.kf_words.specs.declared.view.MasterView.{MasterView}
 use Rattle.kf_shared.specs.Locked.{Locked}
-use Rattle.kf_notify.specs.PostStates.{PostState, Numbers, IsNewPost, Made, FoundThere}
+use Rattle.kf_notify.specs.PostStates.{PostState, Numbers, IsNewPost}
 use Rattle.kf_files.specs.declared.contents.Want.{Want}
 use Rattle.kf_files.specs.Files.{new_file, allows}
 use Rattle.kf_files.specs.Opened.{Opened}
@@ -33,8 +33,8 @@ abbrev pub file_at : Tree → Result Key Refusal → Result Key Refusal
 file_at t place = and_then place (λ key. only_file key (node_at t key))
 
 -- the opened file is new, of the live file that the path names in this tree: it holds that, has its tag and a
--- post of its slot, and its mode allows what is wanted
-pub record OpenedAt (t : Tree) (root : Key) (path : List ℕ) (want : Want)
+-- new post of its slot and of these numbers, and its mode allows what is wanted
+pub record OpenedAt (t : Tree) (root : Key) (numbers : Numbers) (path : List ℕ) (want : Want)
     (file : Opened Handle) : Type 0 where
   pub key : Key
   pub mode : ℕ
@@ -42,12 +42,17 @@ pub record OpenedAt (t : Tree) (root : Key) (path : List ℕ) (want : Want)
   pub there : node_at t key ≡ Some (File mode file.tag)
   pub held : file.hold.key ≡ key
   pub allowed : allows mode want ≡ true
-  pub slot : file.post.slot ≡ key.slot
+  pub fresh : IsNewPost numbers key.slot file.post
   pub new : file.state ≡ new_file want
 
--- why there is no post of the slot: no memory, or none of this many numbers is the slot's
+-- why there is no post of the slot: none of this many numbers is the slot's, or, where one is, no memory
 abbrev pub PostRefused : ℕ → ℕ → Refusal → Type 0
-PostRefused slots slot refusal = (refusal ≡ NoMemory) ⊎ ((refusal ≡ NoSpace) × (slots ≤ slot))
+PostRefused slots slot refusal =
+    ((refusal ≡ NoSpace) × (slots ≤ slot)) ⊎ ((refusal ≡ NoMemory) × (slot < slots))
+
+-- why the slot's number is not raised: there is no post, or the number is the last that there is
+abbrev pub NotifyRefused : ℕ → ℕ → Refusal → Type 0
+NotifyRefused slots slot refusal = PostRefused slots slot refusal ⊎ ((refusal ≡ NoSpace) × (slot < slots))
 
 -- why a file is not opened: it is not live, or its mode denies what is wanted
 abbrev pub NotOpened : ℕ → Want → Refusal → Type 0
@@ -70,12 +75,16 @@ abbrev pub OpenRefused : Locked → MasterView → ℕ → List ℕ → Want →
 OpenRefused s m' slots path want refusal = FileRefused s m' slots want
     (file_at s.state.tree (seen s.state.tree s.state.root path)) refusal
 
--- a new post of the slot of the file at the place made this number, the next of one that its slot had
-pub record Told (t : Tree) (place : Result Key Refusal) (numbers : Numbers) (number : ℕ) : Type 0 where
+-- The post is of these numbers and of the slot of the file at the place. Its second load found a number not
+-- below the one that each slot had at first, and its third step, a raise, made the next, which is this.
+pub record Told (t : Tree) (place : Result Key Refusal) (numbers : Numbers) (number : ℕ)
+    (post : PostState) : Type 0 where
   pub key : Key
-  pub post : PostState
-  pub after : PostState
   pub named : file_at t place ≡ Ok key
-  pub fresh : IsNewPost numbers key.slot post
-  pub made : Made post number after
-  pub there : FoundThere post after.found
+  pub numbers_are : post.numbers ≡ numbers
+  pub slot_is : post.slot ≡ key.slot
+  pub no_less : numbers.start ≤ post.found
+  pub one_more : number ≡ post.found + 1
+  pub made : post.made ≡ number
+  pub known : post.known ≡ number
+  pub three_steps : post.steps ≡ 3

@@ -1,11 +1,10 @@
 //! Files and events of nodes by their names.
 ghost use Rattle.std.specs.Prelude.{◌≡◌, ◌⊎◌, ℕ, IfOk, IfErr, MatchResult, Ok, true};
 ghost use Rattle.kf_core.specs.declared.key.Node.TheVariants.{File};
-ghost use Rattle.kf_core.specs.declared.refusal.Refusal.TheVariants.{NoMemory, NoSpace};
 ghost use Rattle.kf_files.specs.Files.{new_file, allows};
 ghost use Rattle.kf_notify.specs.PostStates.{IsNewPost};
 ghost use Rattle.kf_tree.specs.Paths.{found};
-ghost use Rattle.kf_paths.specs.Opening.{file_at, OpenedAt, OpenRefused, PostRefused, NotOpened, Told};
+ghost use Rattle.kf_paths.specs.Opening.{file_at, OpenedAt, OpenRefused, PostRefused, NotifyRefused, NotOpened, Told};
 
 use kf_core::{Key, Node, Refusal};
 use kf_files::{WaitingFile, Want};
@@ -47,7 +46,7 @@ fn open_held<N: Naming>(
     requires table { hold.table ≡ N.table }
     ensures held { IfOk result (λ file. (mode tag : ℕ) → hold.node ≡ File mode tag
         → (file.hold.key ≡ hold.key) × (file.tag ≡ tag) × (allows mode want ≡ true)) }
-    ensures slot { IfOk result (λ file. file.post.slot ≡ hold.key.slot) }
+    ensures fresh { IfOk result (λ file. IsNewPost posts.old hold.key.slot file.post) }
     ensures new { IfOk result (λ file. file.state ≡ new_file want) }
     ensures refused { IfErr result (λ refusal. (mode tag : ℕ) → hold.node ≡ File mode tag
         → PostRefused posts.old.slots hold.key.slot refusal ⊎ NotOpened mode want refusal) }
@@ -82,7 +81,7 @@ pub fn open_path<N: Naming>(
     want: Want,
 ) -> Result<WaitingFile<N>, Refusal>
     ensures opened { IfOk result
-        (λ file. OpenedAt editor.old.state.tree editor.old.state.root path.now want file) }
+        (λ file. OpenedAt editor.old.state.tree editor.old.state.root posts.old path.now want file) }
     ensures refused { IfErr result
         (λ refusal. OpenRefused editor.old editor.new.master.view posts.old.slots path.now want refusal) }
     ensures state { editor.new.state ≡ editor.old.state }
@@ -96,20 +95,30 @@ pub fn open_path<N: Naming>(
 }
 
 /// Tells who polls the file of this name in a directory that it has changed (`sysfs_notify`), and answers its
-/// slot's new event number.
+/// slot's new event number and the post that made it.
+///
+/// A driver that notifies often keeps the post and calls [`Post::notify`], with no look-up; else it lets the
+/// post go. The post is of the slot: once the file is removed, it tells of what gets that slot next.
 ///
 /// Refusals, in order: those of [`State::find`]; IsDir (a directory), Invalid (a link); NoSpace (the posts
-/// have no number for the slot), NoMemory; NoSpace (its number is the last that there is).
-pub fn notify(state: &State, posts: &mut Posts, dir: Key, name: &[u8]) -> Result<u64, Refusal>
+/// have no number for the slot), NoMemory; NoSpace (its number is the last that there is). After a refusal no
+/// number was raised.
+pub fn notify(
+    state: &State,
+    posts: &mut Posts,
+    dir: Key,
+    name: &[u8],
+) -> Result<(u64, Post), Refusal>
     ensures told { IfOk result
-        (λ number. Told state.now.tree (found state.now.tree dir name.now) posts.old number) }
+        (λ answer. Told state.now.tree (found state.now.tree dir name.now) posts.old answer.0 answer.1) }
     ensures refused { IfErr result (λ refusal.
         MatchResult (file_at state.now.tree (found state.now.tree dir name.now))
-        (λ _. (refusal ≡ NoSpace) ⊎ (refusal ≡ NoMemory)) (λ why. refusal ≡ why)) }
+        (λ key. NotifyRefused posts.old.slots key.slot refusal) (λ why. refusal ≡ why)) }
     ensures posts { posts.new ≡ posts.old }
 {
     let place = state.find(dir, name)?;
     let key = only_file(state, place)?;
     let mut post = post_of(posts, key.slot)?;
-    post.notify().ok().ok_or(Refusal::NoSpace)
+    let number = post.notify().ok().ok_or(Refusal::NoSpace)?;
+    Ok((number, post))
 }

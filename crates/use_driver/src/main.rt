@@ -7,7 +7,7 @@ ghost use Rattle.std.specs.Prelude.{◌≡◌};
 use anyhow::Context;
 use arrayvec::ArrayVec;
 use kf_core::{Limits, Node, Refusal};
-use kf_driver::{Callbacks, Driver, End, Row, Table};
+use kf_driver::{Callbacks, Driver, End, Row, Table, fault_of};
 use kf_files::{Fault, FileError, Page, WaitingFile, Want};
 use kf_groups::{Attribute, Group, create_group};
 use kf_notify::Posts;
@@ -35,8 +35,8 @@ impl Callbacks for Temperature {
         emit_line(page, Part::Signed(self.0.load(Ordering::SeqCst)))
     }
 
-    fn store(&self, bytes: &[u8]) -> Result<(), NotRead> {
-        let degrees = read_signed(bytes, -50_000, 150_000)?;
+    fn store(&self, bytes: &[u8]) -> Result<(), Fault> {
+        let degrees = read_signed(bytes, -50_000, 150_000).map_err(|why| fault_of(why))?;
         self.0.store(degrees, Ordering::SeqCst);
         Ok(())
     }
@@ -55,10 +55,10 @@ impl<R: Wait> Callbacks for Label<'_, R> {
         emit_line(page, Part::Text(text.as_slice()))
     }
 
-    fn store(&self, bytes: &[u8]) -> Result<(), NotRead> {
+    fn store(&self, bytes: &[u8]) -> Result<(), Fault> {
         let mut text = ArrayVec::new();
         text.try_extend_from_slice(line_of(bytes))
-            .or(Err(NotRead::Invalid))?;
+            .or(Err(fault_of(NotRead::Invalid)))?;
         *self.text.lock(self.rt) = text;
         Ok(())
     }
@@ -128,7 +128,7 @@ fn run<N: Naming + Send + Sync, R: Threads + Wait + Print + Sync>(
     let mut first = open_path(&mut editor, &mut posts, b"/hwmon0/temp1_max", wanted)?;
     let mut second = open_path(&mut editor, &mut posts, b"/hwmon0/temp1_max", wanted)?;
     let mut limit = open_path(&mut editor, &mut posts, b"/hwmon0/temp1_max", wanted)?;
-    let event = notify(editor.state(), &mut posts, device, b"temp1_max")?;
+    let (event, _) = notify(editor.state(), &mut posts, device, b"temp1_max")?;
     drop(editor);
     let ((one, other), removed) = join(
         rt,
