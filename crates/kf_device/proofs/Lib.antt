@@ -1,2 +1,4 @@
 pub mod Linked
 pub mod Refused
+pub mod Steps
+pub mod Stops

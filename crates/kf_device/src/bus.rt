@@ -1,9 +1,10 @@
 //! The bus: how devices are plugged and unplugged.
-ghost use Rattle.std.specs.Prelude.{◌≡◌, ◌≤◌, ◌^◌, IfOk, IfErr, Some, Err};
+ghost use Rattle.std.specs.Prelude.{◌≡◌, ◌≤◌, ◌^◌, ◌⊎◌, IfOk, IfErr, None, Some, Err};
 ghost use Rattle.kf_core.specs.declared.refusal.Refusal.{Refusal};
-ghost use Rattle.kf_core.specs.declared.refusal.Refusal.TheVariants.{NoMemory};
+ghost use Rattle.kf_core.specs.declared.refusal.Refusal.TheVariants.{NoMemory, NoSpace};
 ghost use Rattle.kf_core.specs.Names.{name_fault};
 ghost use Rattle.kf_device.specs.Removals.{UnplugRefusal};
+ghost use Rattle.kf_device.specs.Stops.{PlugRefusal};
 
 use crate::devices::{Devices, Nodes};
 use crate::making::{Stopped, make};
@@ -41,7 +42,9 @@ impl<N: Naming> Bus<N> {
     // Begins a plug, and keeps its texts. A value is never shown past its first 4,096 bytes, so no more are
     // kept.
     fn begin<R: Wait>(&self, rt: &R, name: &[u8], value: &[u8]) -> Result<u64, Refusal>
+        requires lawful { name_fault name.now ≡ None }
         ensures few { IfOk result (λ serial. serial ≤ 2 ^ 60) }
+        ensures refused { IfErr result (λ refusal. (refusal ≡ NoSpace) ⊎ (refusal ≡ NoMemory)) }
     {
         let shown = value.len().min(4096);
         let mut devices = self.devices.lock(rt);
@@ -59,9 +62,10 @@ impl<N: Naming> Bus<N> {
     /// Of the value the first 4,096 bytes are kept, and a read shows at most 4,095.
     ///
     /// Refusals: NameTooLong (over 255 bytes) or Invalid (name), then NoSpace where 2^60 plugs have begun:
-    /// they change nothing. Then those of each step in its order, as `Editor::create` and `Editor::activate`
-    /// have them, and NoMemory: the base directories that were made stay, and the device's directory is
-    /// removed again. Only where that removal is refused too does it stay, and `unplug` removes it.
+    /// they change nothing. Then, of each step in its order, NotDir (a base is a file or link), NoEntry (a
+    /// base is marked), Exists (the directory, or the link, is there), NoSpace, and NoMemory: the base
+    /// directories that were made stay, and the device's directory is removed again. Only where that removal
+    /// is refused too does it stay, and `unplug` removes it.
     ///
     /// It may never return: it waits for the tree lock and the lock of the bus, which its caller must not
     /// have, and where its link is refused for the callbacks that run on the new files.
@@ -75,6 +79,7 @@ impl<N: Naming> Bus<N> {
         value: &[u8],
     ) -> Result<Key, Refusal>
         ensures name { (fault : Refusal) → name_fault name.now ≡ Some fault → result ≡ Err fault }
+        ensures refused { IfErr result (λ refusal. PlugRefusal name.now refusal) }
     {
         if let Some(fault) = name_fault(name) {
             return Err(fault);

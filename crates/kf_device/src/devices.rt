@@ -1,6 +1,7 @@
 //! The texts that a bus keeps of its devices, by the number of each plug.
 ghost use Rattle.std.specs.Prelude.{◌≡◌, ◌≢◌, ◌≤◌, ℕ, ◌+◌, ◌^◌, ◌&&◌, nat_le, is_some, true, IfOk, IfErr, IfSome, IfNone, OnOk, OnErr, Some, None};
 ghost use Rattle.kf_core.specs.declared.refusal.Refusal.TheVariants.{NoMemory, NoSpace};
+ghost use Rattle.kf_core.specs.Names.{name_fault};
 
 use kf_core::{Key, Refusal};
 use kf_index::Name;
@@ -23,7 +24,9 @@ pub(crate) struct Nodes {
 
 impl Nodes {
     /// None was made yet.
-    pub(crate) fn new() -> Nodes {
+    pub(crate) fn new() -> Nodes
+        ensures none { result.dir ≡ None }
+    {
         Nodes {
             dir: None,
             value: None,
@@ -106,6 +109,8 @@ impl Devices {
 
     /// Keeps the texts of a plug that is under way. `NoMemory` where that was refused.
     pub(crate) fn add(&mut self, serial: u64, name: &[u8], value: &[u8]) -> Result<(), Refusal>
+        requires lawful { name_fault name.now ≡ None }
+        ensures refused { IfErr result (λ refusal. refusal ≡ NoMemory) }
         ensures name { OnOk result (name_in (get nat_cmp self.new.devices serial) ≡ Some name.now) }
         ensures value { OnOk result (value_in (get nat_cmp self.new.devices serial) ≡ Some value.now) }
         ensures counted { self.new.begun ≡ self.old.begun }

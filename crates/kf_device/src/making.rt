@@ -1,6 +1,9 @@
 //! What a plug makes in the tree, under one turn of its lock.
-ghost use Rattle.std.specs.Prelude.{◌≡◌, ◌≤◌, ◌^◌, None, IfOk, OnOk};
+ghost use Rattle.std.specs.Prelude.{◌≡◌, ◌≢◌, ◌≤◌, ◌^◌, None, IfErr, IfOk, OnErr, OnOk};
+ghost use Rattle.kf_core.specs.Names.{name_fault};
+ghost use Rattle.kf_shared.specs.Locked.{Unchanged};
 ghost use Rattle.kf_device.specs.Plugs.{Filled, HasBase, HasBases, HasFile, Plugged};
+ghost use Rattle.kf_device.specs.Stops.{FewBases, FewFiles, IsStopped, StepRefusal};
 
 use crate::devices::Nodes;
 use crate::tags::{DeviceFile, tag_of};
@@ -16,6 +19,7 @@ pub(crate) struct Stopped<N: Naming> {
 impl<N: Naming> Stopped<N> {
     /// Before the directory was made.
     fn before(refusal: Refusal) -> Stopped<N>
+        ensures refusal { result.refusal ≡ refusal }
         ensures none { result.begun ≡ None }
     {
         Stopped {
@@ -27,7 +31,10 @@ impl<N: Naming> Stopped<N> {
 
 // A directory of this name, made live where nothing has the name.
 fn base<N: Naming>(editor: &mut Editor<'_, N>, parent: Key, name: &[u8]) -> Result<Key, Refusal>
+    requires lawful { name_fault name.now ≡ None }
     ensures there { IfOk result (λ key. HasBase editor.old editor.new parent name.now key) }
+    ensures refused { IfErr result (λ refusal. StepRefusal refusal) }
+    ensures same { OnErr result (Unchanged editor.old editor.new) }
 {
     match editor.state().find(parent, name) {
         Err(Refusal::NoEntry) => editor.create(parent, name, Node::Dir, true),
@@ -38,6 +45,9 @@ fn base<N: Naming>(editor: &mut Editor<'_, N>, parent: Key, name: &[u8]) -> Resu
 // `/devices` and `/bus/devices`, made where they are not there.
 fn bases<N: Naming>(editor: &mut Editor<'_, N>) -> Result<(Key, Key), Refusal>
     ensures there { IfOk result (λ found. HasBases editor.old editor.new found.0 found.1) }
+    ensures root { editor.old.state.root.slot ≡ 0 }
+    ensures refused { IfErr result (λ refusal. StepRefusal refusal) }
+    ensures few { OnErr result (FewBases editor.old editor.new) }
 {
     let root = editor.state().root();
     let devices = base(editor, root, b"devices")?;
@@ -56,7 +66,10 @@ fn file<N: Naming>(
     file: DeviceFile,
 ) -> Result<Key, Refusal>
     requires few { serial ≤ 2 ^ 60 }
+    requires lawful { name_fault name.now ≡ None }
     ensures made { IfOk result (λ key. HasFile editor.old editor.new dir name.now mode serial file key) }
+    ensures refused { IfErr result (λ refusal. StepRefusal refusal) }
+    ensures same { OnErr result (Unchanged editor.old editor.new) }
 {
     let tag = tag_of(serial, file);
     editor.create(dir, name, Node::File { mode, tag }, false)
@@ -72,8 +85,13 @@ fn fill<N: Naming>(
     nodes: &mut Nodes,
 ) -> Result<(), Refusal>
     requires few { serial ≤ 2 ^ 60 }
+    requires lawful { name_fault name.now ≡ None }
+    requires root { editor.old.state.root.slot ≡ 0 }
+    requires below { dir.slot ≢ 0 }
     ensures filled { OnOk result (Filled editor.old editor.new links dir name.now serial nodes.new) }
     ensures dir { nodes.new.dir ≡ nodes.old.dir }
+    ensures refused { IfErr result (λ refusal. StepRefusal refusal) }
+    ensures few { OnErr result (FewFiles dir serial editor.old editor.new) }
 {
     let value = file(editor, dir, b"value", 0o644, serial, DeviceFile::Value)?;
     nodes.value = Some(value);
@@ -94,7 +112,12 @@ pub(crate) fn make<N: Naming>(
     nodes: &mut Nodes,
 ) -> Result<Key, Stopped<N>>
     requires few { serial ≤ 2 ^ 60 }
+    requires lawful { name_fault name.now ≡ None }
+    requires none { nodes.old.dir ≡ None }
     ensures plugged { IfOk result (λ dir. Plugged editor.old editor.new name.now serial nodes.new dir) }
+    ensures refused { IfErr result (λ stopped. StepRefusal stopped.refusal) }
+    ensures stopped { IfErr result (λ stopped.
+        IsStopped editor.old editor.new name.now serial nodes.new stopped.begun) }
 {
     let (devices, links) = match bases(editor) {
         Ok(found) => found,

@@ -6,8 +6,12 @@ mod fixtures;
 #[cfg(test)]
 mod hostile_tests;
 #[cfg(test)]
+mod one_name_tests;
+#[cfg(test)]
 mod replug_tests;
 #[cfg(test)]
 mod text_tests;
 #[cfg(test)]
 mod thread_tests;
+#[cfg(test)]
+mod waiting_tests;

@@ -1,10 +1,12 @@
 //! Devices on a shared tree, in threads.
 ghost use Rattle.std.specs.Prelude.{◌≡◌};
 
-use crate::fixtures::{WRITE, close, first_wrong, key_at, live_in, made, new_bus, open, walked};
+use crate::fixtures::{
+    READ, WRITE, close, first_wrong, key_at, live_in, made, new_bus, open, posted, walked,
+};
 use kf_core::Refusal;
 use kf_device::Bus;
-use kf_files::{Fault, Page, WaitOps, WaitingFile};
+use kf_files::{Fault, FileError, Page, WaitOps, WaitingFile};
 use kf_shared::{Naming, NewTree, SharedTree};
 use kf_words::Call;
 use std::alloc::Global;
@@ -128,7 +130,7 @@ fn two_stores_of_delete_meet(rt: HostRuntime) {
     both_delete::<Brand, _>(&rt, rt.alloc(), new);
 }
 
-// Many plugs of one name, each taken out again by an unplug or by a store of `delete`, whichever comes first.
+// Many plugs of `d0`, each taken out again by a store of its `delete`.
 fn plugs_and_deletes<N: Naming, R: Abort + Wait>(
     rt: &R,
     alloc: Global,
@@ -145,6 +147,7 @@ fn plugs_and_deletes<N: Naming, R: Abort + Wait>(
     }
 }
 
+// As many plugs of `d1`, each taken out again by an unplug.
 fn unplugs<N: Naming, R: Abort + Wait>(rt: &R, tree: &SharedTree<N>, bus: &Bus<N>, rounds: u32) {
     for _ in 0..rounds {
         let answer = bus.unplug(rt, tree, b"d1");
@@ -180,4 +183,101 @@ fn plug_side_by_side<N: Naming + Send + Sync, R: Abort + Threads + Wait + Sync>(
 fn devices_come_and_go_side_by_side(rt: HostRuntime) {
     let new = made(&rt, rt.alloc(), 32);
     plug_side_by_side::<Brand, _>(&rt, rt.alloc(), new);
+}
+
+// ---- a device is read as soon as it is there
+
+const COMINGS: u64 = 100_000;
+
+const MEETINGS: u64 = 1_000;
+
+// Plugs one name again and again, and unplugs it, until the other is over, and tells when that is done.
+fn comes_and_goes<N: Naming, R: Wait>(
+    rt: &R,
+    tree: &SharedTree<N>,
+    bus: &Bus<N>,
+    is_over: &AtomicU64,
+) {
+    for _ in 0..COMINGS {
+        if is_over.load(Ordering::SeqCst) == 1 {
+            break;
+        }
+        let _ = bus.plug(rt, tree, b"d0", b"on");
+        let _ = bus.unplug(rt, tree, b"d0");
+    }
+    is_over.store(1, Ordering::SeqCst);
+}
+
+// Opens the value of the device that is there, if one is.
+fn value_now<N: Naming, R: Abort + Wait>(
+    rt: &R,
+    alloc: Global,
+    tree: &SharedTree<N>,
+) -> Option<WaitingFile<N>> {
+    let mut editor = tree.edit(rt);
+    let key = editor.state().lookup(b"/devices/d0/value").ok()?;
+    let hold = editor.hold(key).ok()?;
+    drop(editor);
+    let node = hold.node();
+    let post = posted(rt, alloc, hold.key().slot);
+    match WaitingFile::open(hold, node, READ, post) {
+        Ok(file) => Some(file),
+        Err((hold, _, _)) => {
+            hold.release();
+            None
+        }
+    }
+}
+
+// Reads the value of each device that it meets, so many of them: it has its text, or the device is gone
+// already. Answers how often neither was so.
+fn reads_each<N: Naming, R: Abort + Wait>(
+    rt: &R,
+    alloc: Global,
+    tree: &SharedTree<N>,
+    bus: &Bus<N>,
+    is_over: &AtomicU64,
+) -> u64 {
+    let (mut met, mut wrong) = (0u64, 0u64);
+    for _ in 0..1_000_000_000u64 {
+        if met >= MEETINGS || is_over.load(Ordering::SeqCst) == 1 {
+            break;
+        }
+        if let Some(mut file) = value_now(rt, alloc, tree) {
+            met = met.saturating_add(1);
+            let mut out = [0u8; 4];
+            match file.read(rt, tree, bus, 0, &mut out) {
+                Ok(2) if &out[..2] == b"on".as_slice() => {}
+                Err(FileError::Refused(Refusal::NoDevice)) => {}
+                _ => wrong = wrong.saturating_add(1),
+            }
+            close(file);
+        }
+    }
+    is_over.store(1, Ordering::SeqCst);
+    wrong
+}
+
+fn read_while_plugged<N: Naming + Send + Sync, R: Abort + Threads + Wait + Sync>(
+    rt: &R,
+    alloc: Global,
+    new: NewTree,
+)
+    requires { new.master.table ≡ N.table }
+{
+    let tree = new.named::<N>();
+    let bus = new_bus(rt, alloc);
+    let is_over = AtomicU64::new(0);
+    let (_, wrong) = join(
+        rt,
+        || comes_and_goes(rt, &tree, &bus, &is_over),
+        || reads_each(rt, alloc, &tree, &bus, &is_over),
+    );
+    assert_eq!(rt; wrong, 0);
+}
+
+#[test]
+fn a_device_that_is_there_has_its_text(rt: HostRuntime) {
+    let new = made(&rt, rt.alloc(), 16);
+    read_while_plugged::<Brand, _>(&rt, rt.alloc(), new);
 }

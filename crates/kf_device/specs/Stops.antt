@@ -1,0 +1,80 @@
+-- Why a plug is refused, and what it has made of its device by then.
+use Rattle.std.specs.Prelude.{◌≡◌, ◌⊎◌, ℕ, false, List, Option, None, Some, codes}
+use Rattle.kf_core.specs.declared.command.Command.TheVariants.{Activate, Doom}
+use Rattle.kf_core.specs.declared.key.Key.{Key}
+use Rattle.kf_core.specs.declared.key.Node.TheVariants.{Dir}
+use Rattle.kf_core.specs.declared.refusal.Refusal.{Refusal}
+use Rattle.kf_core.specs.declared.refusal.Refusal.TheVariants.{NoEntry, NotDir, Exists, NoSpace, NoMemory}
+use Rattle.kf_core.specs.Names.{name_fault}
+use Rattle.kf_core.specs.PostOrder.{IsPostOrder}
+use Rattle.kf_tree.specs.Causes.{doom_cause, linked_cause}
+use Rattle.kf_tree.specs.TreeLogs.{IsAccepted}
+use Rattle.kf_shared.specs.Locked.{Locked, Created, Unchanged}
+use Rattle.kf_shared.specs.Removal.{keys_of}
+use Rattle.kf_words.specs.Callers.{Handle}
+use Rattle.kf_device.specs.Plugs.{HasBase, HasBases, HasFile}
+use Rattle.kf_device.specs.declared.devices.Nodes.{Nodes}
+use Rattle.kf_device.specs.declared.tags.DeviceFile.TheVariants.{Value, Serial, Delete}
+
+-- why a step of a plug is refused: a base is doomed, or is no directory; the name is taken; no slot was found
+-- free; or there was no memory
+abbrev pub StepRefusal : Refusal → Type 0
+StepRefusal refusal = (refusal ≡ NoEntry) ⊎ (refusal ≡ NotDir) ⊎ (refusal ≡ Exists) ⊎ (refusal ≡ NoSpace)
+    ⊎ (refusal ≡ NoMemory)
+
+-- why a plug is refused: this is wrong with its name; or nothing is, and a step was refused
+abbrev pub PlugRefusal : List ℕ → Refusal → Type 0
+PlugRefusal name refusal =
+    (name_fault name ≡ Some refusal) ⊎ ((name_fault name ≡ None) × StepRefusal refusal)
+
+-- a node was not made, and nothing changed; or it was made, and then the rest may have been cut short
+abbrev pub CutShort : (Locked → Locked → Key → Type 0) → (Key → Locked → Locked → Type 0)
+    → Locked → Locked → Type 0
+CutShort Makes Rest s s' =
+    Unchanged s s' ⊎ ((between : Locked) × (key : Key) × Makes s between key × Rest key between s')
+
+-- the base directories, cut short
+abbrev pub FewBases : Locked → Locked → Type 0
+FewBases s s' =
+    CutShort (λ a b key. HasBase a b s.state.root (codes "devices") key) (λ _.
+    CutShort (λ a b key. HasBase a b s.state.root (codes "bus") key) (λ bus.
+    CutShort (λ a b key. HasBase a b bus (codes "devices") key) (λ _. Unchanged))) s s'
+
+-- the directory was activated, or not, and then nothing changed
+abbrev pub MayBeLive : Key → Locked → Locked → Type 0
+MayBeLive dir s s' =
+    Unchanged s s' ⊎ ((live : Locked)
+    × IsAccepted s.state live.state (linked_cause s.state.tree dir) (Activate dir) × Unchanged live s')
+
+-- the device's files and the activation of their directory, cut short
+abbrev pub FewFiles : Key → ℕ → Locked → Locked → Type 0
+FewFiles dir serial s s' =
+    CutShort (λ a b key. HasFile a b dir (codes "value") 420 serial Value key) (λ _.
+    CutShort (λ a b key. HasFile a b dir (codes "serial") 292 serial Serial key) (λ _.
+    CutShort (λ a b key. HasFile a b dir (codes "delete") 128 serial Delete key) (λ _. MayBeLive dir))) s s'
+
+-- the removal of the directory is begun, with all that is in it, by these holds; or it was refused
+abbrev pub TakesBack : Locked → Locked → Key → Option (List Handle) → Type 0
+TakesBack s s' dir None = Unchanged s s'
+TakesBack s s' dir (Some holds) = IsPostOrder s.state.tree dir (keys_of holds)
+    × IsAccepted s.state s'.state (doom_cause s.state.tree s.state.root dir) (Doom dir)
+
+-- the device's directory was made and some of what is in it, and then taken back
+pub record HasTakenBack (s s' : Locked) (name : List ℕ) (serial : ℕ) (begun : Option (List Handle))
+    (dir : Key) : Type 0 where
+  pub based : Locked
+  pub made : Locked
+  pub stopped : Locked
+  pub devices : Key
+  pub links : Key
+  pub bases : HasBases s based devices links
+  pub dir_made : Created based made devices name Dir false dir
+  pub filled : FewFiles dir serial made stopped
+  pub taken_back : TakesBack stopped s' dir begun
+
+-- what a plug leaves that is refused: some of the base directories, and nothing is begun; or all of them, and
+-- the device's directory is taken back
+abbrev pub IsStopped : Locked → Locked → List ℕ → ℕ → Nodes → Option (List Handle) → Type 0
+IsStopped s s' name serial nodes begun =
+    ((nodes.dir ≡ None) × (begun ≡ None) × FewBases s s')
+    ⊎ ((dir : Key) × (nodes.dir ≡ Some dir) × HasTakenBack s s' name serial begun dir)
