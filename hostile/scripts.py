@@ -168,11 +168,13 @@ def of_memory():
     """Pairs of scripts, and how many bytes the first one may have more in use at its end than the second one."""
     moved = "mkdir /a\n" + "mv /a / b\nmv /b / a\n" * 20_000
     made = "".join(f"mkdir /{at}\n" for at in range(2100))
+    there = "file /t 644 v\n" + f"file /t 644 {'t' * 3000}\n" * 500
     for name, script, other, more in (
         # (whoever held a node keeps 12 bytes, of a list with room for 4,096 then)
         ("all that one caller can do, 500 times", ROUND.decode() * 500, ROUND.decode(), 4096 * 12 + 4096),
         ("40,001 commands, compacted to one", moved + "compact\n", "mkdir /a\ncompact\n", 4096),
         ("names of 255 bytes, removed and compacted", come_and_go(255) + "compact\n", come_and_go(4) + "compact\n", 4096),
+        ("a file that is there already, 500 times", there, "file /t 644 v\n", 4096),
         # a list that grows has room for 4,096 commands then, and each has 50 bytes at least
         ("2,100 commands, compacted", made + "compact\n", made, (2100 - 4096) * 50),
     ):

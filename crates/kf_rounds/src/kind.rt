@@ -1,7 +1,6 @@
 //! Whose a line is.
 
 ghost use Rattle.std.specs.Prelude.{◌≡◌, ◌≤◌, IfSome, length, position};
-ghost use Rattle.kf_script.specs.Lines.{line_limit};
 ghost use Rattle.kf_script.specs.Requests.{is_space, first_word as word_of, rest as rest_of};
 ghost use Rattle.kf_rounds.specs.Kinds.{kind_by, worker_of, seat_in};
 ghost use Rattle.kf_rounds.specs.KindViews.{kind_view};

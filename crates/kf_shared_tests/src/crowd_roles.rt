@@ -1,6 +1,6 @@
 //! What each of a crowd does: one who calls, one who creates, one who hides and shows, one who moves, links
 //! and compacts.
-ghost use Rattle.std.specs.Prelude.{◌≡◌, ◌<◌};
+ghost use Rattle.std.specs.Prelude.{◌<◌};
 
 use crate::fixtures::FILE;
 use crate::thread_fixtures::{Held, LOOKS, held_by, hold_of, put_back, tried};

@@ -2,6 +2,8 @@
 #![tactic(auto)]
 
 #[cfg(test)]
+mod crowd_script;
+#[cfg(test)]
 mod crowd_tests;
 #[cfg(test)]
 mod meeting_tests;
@@ -9,5 +11,7 @@ mod meeting_tests;
 mod reading_tests;
 #[cfg(test)]
 mod test_fixtures;
+#[cfg(test)]
+mod text_tests;
 #[cfg(test)]
 mod worker_tests;

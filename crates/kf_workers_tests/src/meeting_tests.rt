@@ -16,7 +16,7 @@ struct Meeting {
 }
 
 /// Turns until the flag is set. Fault 16 where nobody sets it for long.
-fn turn_until(flag: &AtomicU64) -> Result<(), Fault> {
+pub(crate) fn turn_until(flag: &AtomicU64) -> Result<(), Fault> {
     for _ in 0..1_000_000_000u64 {
         if flag.load(Ordering::SeqCst) != 0 {
             return Ok(());
