@@ -204,12 +204,12 @@ fn tell_openings<N: Naming + Send + Sync, R: Threads + Wait + Clock + Print + Sy
     rt: &R,
     files: &Files<'_, N, R>,
 ) -> io::Result<()> {
-    let mut slots = FILES;
+    let slots = FILES;
     println!(rt; "an open takes the hold, post and page that the close before it gave back")?;
     println!(rt; "ns an open and a close          boxed page    own page")?;
     begin_line(rt, "1 thread")?;
-    column(rt, &BoxedOpenings { files }, OPENINGS, 1, &mut slots)?;
-    column(rt, &Openings { files }, PAGED_OPENINGS, 1, &mut slots)?;
+    column(rt, &BoxedOpenings { files }, OPENINGS, 1, &slots)?;
+    column(rt, &Openings { files }, PAGED_OPENINGS, 1, &slots)?;
     println!(rt; "")
 }
 
@@ -218,11 +218,11 @@ fn tell_reads<N: Naming + Send + Sync, R: Threads + Wait + Clock + Print + Sync>
     rt: &R,
     files: &Files<'_, N, R>,
 ) -> io::Result<()> {
-    let mut slots = FILES;
+    let slots = FILES;
     println!(rt; "ns a read of 4 bytes             own files")?;
     for (what, threads) in [("1 thread", 1), ("2 threads", 2), ("4 threads", 4)] {
         begin_line(rt, what)?;
-        column(rt, &Reads { files: &*files }, READS, threads, &mut slots)?;
+        column(rt, &Reads { files: &*files }, READS, threads, &slots)?;
         println!(rt; "")?;
     }
     Ok(())

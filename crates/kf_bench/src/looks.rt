@@ -62,8 +62,8 @@ pub(crate) fn tell<N: Naming + Send + Sync, R: Threads + Wait + Clock + Print + 
     for (what, threads) in [("1 thread", 1), ("2 threads", 2), ("4 threads", 4)] {
         let mut places = [0u32; THREADS];
         begin_line(rt, what)?;
-        column(rt, &Looks { rt, tree }, TURNS, threads, &mut places)?;
-        column(rt, &LooksUnderOne { rt, tree }, TURNS, threads, &mut places)?;
+        column(rt, &Looks { rt, tree }, TURNS, threads, &places)?;
+        column(rt, &LooksUnderOne { rt, tree }, TURNS, threads, &places)?;
         println!(rt; "")?;
     }
     Ok(())

@@ -137,9 +137,9 @@ fn tell_crowds<N: Naming + Send + Sync, R: Threads + Wait + Clock + Print + Sync
     for (what, threads, slots) in CROWDS {
         let mut slots = slots;
         begin_line(rt, what)?;
-        column(rt, &Tries { rt, tree, live }, TURNS, threads, &mut slots)?;
-        column(rt, &Additions { words }, TURNS, threads, &mut slots)?;
-        column(rt, &Locks { rt, locks }, TURNS, threads, &mut slots)?;
+        column(rt, &Tries { rt, tree, live }, TURNS, threads, &slots)?;
+        column(rt, &Additions { words }, TURNS, threads, &slots)?;
+        column(rt, &Locks { rt, locks }, TURNS, threads, &slots)?;
         println!(rt; "")?;
     }
     Ok(())
@@ -158,7 +158,7 @@ fn tell_refused<N: Naming + Send + Sync, R: Threads + Wait + Clock + Print + Syn
 ) -> anyhow::Result<()> {
     let live = false;
     let removing = begin_removal(rt, tree)?;
-    let told = column(rt, &Tries { rt, tree, live }, TURNS, 1, &mut [LEAF]);
+    let told = column(rt, &Tries { rt, tree, live }, TURNS, 1, &[LEAF]);
     release_all(removing.finish(rt, tree));
     told?;
     Ok(())
@@ -176,7 +176,7 @@ pub(crate) fn tell<N: Naming + Send + Sync, R: Threads + Wait + Clock + Print + 
     tell_crowds(rt, tree, &words, &locks)?;
     begin_line(rt, "refused tries, 1 thread")?;
     tell_refused(rt, tree)?;
-    column(rt, &Additions { words: &words }, TURNS, 1, &mut [LEAF])?;
+    column(rt, &Additions { words: &words }, TURNS, 1, &[LEAF])?;
     println!(rt; "")?;
     Ok(())
 }
