@@ -2,7 +2,7 @@
 ghost use Rattle.std.specs.Prelude.{◌≡◌};
 
 use crate::counted::Calls;
-use crate::planted::{first_wrong, made, open, planted};
+use crate::fixtures::{first_wrong, made, open, planted};
 use kf_core::Refusal;
 use kf_driver::{Driver, End, Row, Table};
 use kf_files::WaitingFile;

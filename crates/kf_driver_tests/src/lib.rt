@@ -8,6 +8,6 @@ mod counted;
 #[cfg(test)]
 mod event_tests;
 #[cfg(test)]
-mod open_tests;
+mod fixtures;
 #[cfg(test)]
-mod planted;
+mod open_tests;

@@ -1,7 +1,7 @@
 //! What opens by its path, and why the rest does not.
 ghost use Rattle.std.specs.Prelude.{◌≡◌};
 
-use crate::planted::{BOTH, made, open, planted};
+use crate::fixtures::{BOTH, made, open, planted};
 use kf_core::{Node, Refusal};
 use kf_files::Want;
 use kf_groups::Attribute;

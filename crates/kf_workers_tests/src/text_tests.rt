@@ -12,14 +12,31 @@ use std::sync::Wait;
 use std::sync::atomic::{AtomicU64, Ordering};
 use std::thread::Threads;
 
-/// Counts the texts that were begun, and those that were let go: an empty text took their place.
+/// Counts the texts that were begun, and those that were let go: an empty text took their place. Where it waits,
+/// the first text of the second file is kept once the second of two stores was called, and the first of these
+/// ends once that text is to be kept.
 #[derive(Drop)]
-struct Counted {
+struct Watched {
+    waits: bool,
     begun: AtomicU64,
     let_go: AtomicU64,
+    stores: AtomicU64,
+    second_text: AtomicU64,
+    second_store: AtomicU64,
 }
 
-impl ScriptOps for Counted {
+fn new_watched(waits: bool) -> Watched {
+    Watched {
+        waits,
+        begun: AtomicU64::new(0),
+        let_go: AtomicU64::new(0),
+        stores: AtomicU64::new(0),
+        second_text: AtomicU64::new(0),
+        second_store: AtomicU64::new(0),
+    }
+}
+
+impl ScriptOps for Watched {
     ghost may_show = { λ _ _ _. Unit {0} };
 
     ghost may_store = { λ _ _ _ _. Unit {0} };
@@ -45,30 +62,34 @@ impl ScriptOps for Counted {
         _tag: u64,
         bytes: &[u8],
     ) -> Result<usize, Fault> {
+        if self.stores.fetch_add(1, Ordering::SeqCst) == 0 && self.waits {
+            turn_until(&self.second_text)?;
+        } else {
+            self.second_store.store(1, Ordering::SeqCst);
+        }
         Ok(bytes.len())
     }
 
     fn first<R: Wait>(&self, _rt: &R, _tag: u64, bytes: &[u8]) -> Result<(), Fault> {
-        let count = if bytes.is_empty() {
-            &self.let_go
-        } else {
-            &self.begun
-        };
-        count.fetch_add(1, Ordering::SeqCst);
+        if bytes.is_empty() {
+            self.let_go.fetch_add(1, Ordering::SeqCst);
+            return Ok(());
+        }
+        if self.begun.fetch_add(1, Ordering::SeqCst) == 1 && self.waits {
+            self.second_text.store(1, Ordering::SeqCst);
+            turn_until(&self.second_store)?;
+        }
         Ok(())
     }
 }
 
 /// How many texts a script begins, and how many of them it lets go.
 fn counts<R: Threads + Wait + Sync>(rt: &R, alloc: Global, script: &[u8]) -> Option<(u64, u64)> {
-    let counted = Counted {
-        begun: AtomicU64::new(0),
-        let_go: AtomicU64::new(0),
-    };
-    run_workers(rt, alloc, &counted, Limits::new(2, 100)?, 1, script).ok()?;
+    let watched = new_watched(false);
+    run_workers(rt, alloc, &watched, Limits::new(2, 100)?, 1, script).ok()?;
     Some((
-        counted.begun.load(Ordering::SeqCst),
-        counted.let_go.load(Ordering::SeqCst),
+        watched.begun.load(Ordering::SeqCst),
+        watched.let_go.load(Ordering::SeqCst),
     ))
 }
 
@@ -80,74 +101,16 @@ fn texts_of_files_that_are_refused_or_gone_are_let_go(rt: HostRuntime) {
     assert!(rt; counts(&rt, rt.alloc(), gone) == Some((3, 2)));
 }
 
-/// The first text of the second file that is made is kept once the second of two stores was called, and the
-/// first of these stores ends once that text is to be kept.
-#[derive(Drop)]
-struct Asked {
-    files: AtomicU64,
-    stores: AtomicU64,
-    begins: AtomicU64,
-    asked: AtomicU64,
-}
-
-impl ScriptOps for Asked {
-    ghost may_show = { λ _ _ _. Unit {0} };
-
-    ghost may_store = { λ _ _ _ _. Unit {0} };
-
-    ghost may_begin = { λ _ _ _ _. Unit {0} };
-
-    fn show<N: Naming, R: Wait>(
-        &self,
-        _rt: &R,
-        _tree: &SharedTree<N>,
-        _call: &mut Call,
-        _tag: u64,
-        _page: &mut Page,
-    ) -> Result<(), Fault> {
-        Ok(())
-    }
-
-    fn store<N: Naming, R: Wait>(
-        &self,
-        _rt: &R,
-        _tree: &SharedTree<N>,
-        _call: &mut Call,
-        _tag: u64,
-        bytes: &[u8],
-    ) -> Result<usize, Fault> {
-        if self.stores.fetch_add(1, Ordering::SeqCst) == 0 {
-            turn_until(&self.begins)?;
-        } else {
-            self.asked.store(1, Ordering::SeqCst);
-        }
-        Ok(bytes.len())
-    }
-
-    fn first<R: Wait>(&self, _rt: &R, _tag: u64, _bytes: &[u8]) -> Result<(), Fault> {
-        if self.files.fetch_add(1, Ordering::SeqCst) == 0 {
-            return Ok(());
-        }
-        self.begins.store(1, Ordering::SeqCst);
-        turn_until(&self.asked)
-    }
-}
-
 #[test]
 fn a_file_is_there_once_its_text_is(rt: HostRuntime) {
     let Some(limits) = Limits::new(16, 100) else {
         panic!(&rt; "no such limits")
     };
-    let asked = Asked {
-        files: AtomicU64::new(0),
-        stores: AtomicU64::new(0),
-        begins: AtomicU64::new(0),
-        asked: AtomicU64::new(0),
-    };
+    let watched = new_watched(true);
     let script =
         b"file /g 666 a\nwait\n@1 file /x 666 b\n@2 open g /g w\n@2 write g 1\n@2 open f /x r\n\
         @2 write g 2\n";
-    match run_workers(&rt, rt.alloc(), &asked, limits, 2, script) {
+    match run_workers(&rt, rt.alloc(), &watched, limits, 2, script) {
         Ok(text) => {
             let replies = b"ok 1.1\nok\nok 2.1\nok\n1\nerr NoEntry 2\n1\n";
             assert!(rt; text.as_slice() == replies.as_slice());
