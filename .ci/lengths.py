@@ -5,6 +5,8 @@ from zlib import crc32
 
 NAME, PAGE, LINE, TEXT = 255, 4096, 8192, b"err Line 22"
 ONE_CALLER, ONE_WORKER = (), ("--workers", "1")
+# Who runs the lines of a script: the words that ask for it, and what stands ahead of each line.
+SEATS = {"one caller": (ONE_CALLER, b""), "one worker": (ONE_WORKER, b""), "a worker's lines": (ONE_WORKER, b"@1 ")}
 # What workers are given is read whole, and so has a bound.
 LONGEST_SCRIPT = 1_048_576
 # Bytes of which no two neighbours are alike, so that a text that was cut or moved is another one.
@@ -14,14 +16,17 @@ BYTES = bytes(33 + 7 * at % 89 for at in range(89)) * 800
 class Run:
     """A script that grows, and its replies. It knows which slot a new node takes, and with which generation."""
 
-    def __init__(self, slots=1024):
+    def __init__(self, slots=1024, seat="one caller"):
         self.lines, self.replies, self.size = [], [], 0
+        self.options, self.ahead = SEATS[seat]
+        # how long a line may be without what stands ahead of it
+        self.line = LINE - len(self.ahead)
         self.unused, self.generations = list(range(1, slots)), [0] * slots
 
     def ask(self, line, reply):
-        self.lines.append(line)
-        self.replies.append(reply)
-        self.size += len(line) + 1
+        self.lines.append(self.ahead + line)
+        self.replies.append(reply if len(line) <= self.line else TEXT)
+        self.size += len(self.lines[-1]) + 1
 
     def make(self, line):
         """A line that makes a node, and the slot that it takes: the lowest one that is free, with its next generation."""
@@ -43,22 +48,17 @@ class Run:
         return b"".join(reply + b"\n" for reply in self.replies)
 
 
-def cut(piece, lengths, slots=1024):
+def cut(piece, lengths, slots, seat):
     """Runs that each have some of the lengths, within the bound of what workers are given."""
-    run = Run(slots)
+    run = Run(slots, seat)
     for length in lengths:
-        ahead = Run(slots)
-        piece(ahead, length)
-        if run.size + ahead.size > LONGEST_SCRIPT:
+        next_one = Run(slots, seat)
+        piece(next_one, length)
+        if run.size > 0 and run.size + next_one.size > LONGEST_SCRIPT:
             yield run
-            run = Run(slots)
+            run = Run(slots, seat)
         piece(run, length)
     yield run
-
-
-def of_line(line, reply):
-    """The reply of a line, which may be too long."""
-    return reply if len(line) <= LINE else TEXT
 
 
 def names(run, length):
@@ -97,7 +97,7 @@ def names_in_order(run, length):
 def first_texts(run, length):
     """A file's first text is kept whole, and shown up to one byte less than a page."""
     line = b"file /t 666 " + BYTES[:length]
-    if len(line) > LINE:
+    if len(line) > run.line:
         run.ask(line, TEXT)
         run.ask(b"stat /t", b"err NoEntry 2")
         return
@@ -116,11 +116,21 @@ def writes(run, length):
         run.ask(b"read f 0 65535", b"old")
         run.is_old = True
     line = b"write f " + BYTES[:length]
-    run.ask(line, of_line(line, b"%d" % min(length, PAGE)))
-    if 0 < length and len(line) <= LINE:
+    run.ask(line, b"%d" % min(length, PAGE))
+    if 0 < length and len(line) <= run.line:
         run.text = BYTES[: min(length, PAGE - 1)]
         run.is_old = False
     run.ask(b"read f 0 65535", b"old" if run.is_old else run.text)
+
+
+def stored(run, length):
+    """A text of this length in place of the longest, and a text of one byte in place of that."""
+    if not run.lines:
+        run.make(b"file /t 666 old")
+        run.ask(b"open f /t rw", b"ok")
+    for size in (PAGE, length, 1):
+        run.ask(b"write f " + BYTES[:size], b"%d" % size)
+        run.ask(b"read f 0 65535", BYTES[: min(size or PAGE, PAGE - 1)])
 
 
 def reads(run, length):
@@ -136,8 +146,8 @@ def reads(run, length):
 
 def lines(run, length):
     """A path that leads nowhere, in a line of this length."""
-    line = b"ls /" + b"n" * (length - 4)
-    run.ask(line, of_line(line, b"err NoEntry 2"))
+    line = b"ls /" + b"n" * max(length - 4 - len(run.ahead), 1)
+    run.ask(line, b"err NoEntry 2")
 
 
 def names_of(length):
@@ -160,8 +170,8 @@ def listings(run, length):
 
 
 def link_texts(run, length):
-    """A link's text has the names on the way to its target."""
-    chosen = names_of(length)
+    """A link's text has the names on the way to its target, which a line has room for."""
+    chosen = names_of(min(length, run.line - len(b"link /l /")))
     slots = [run.make(b"mkdir /" + b"/".join(chosen[: count + 1])) for count in range(len(chosen))]
     slots.append(run.make(b"link /l /" + b"/".join(chosen)))
     run.ask(b"readlink /l", b"/".join(chosen))
@@ -179,7 +189,9 @@ def ways_up(run, length):
 
 
 def many_names(run, length):
-    """A directory that takes all slots, in a listing."""
+    """A directory that takes all slots, in a listing. Workers are given names that they have room for."""
+    if run.options:
+        length = min(length, (LONGEST_SCRIPT - 100) // 4095 - len(run.ahead + b"mkdir /\n"))
     chosen = [b"%04d" % (at * 2039 % 4095) for at in range(4095)]
     chosen = [name.ljust(length, b"n") for name in chosen]
     for name in chosen:
@@ -199,6 +211,7 @@ TRIED = {
     "first texts of each length that a line can have, and more": (first_texts, range(LINE - 8), 1024),
     "writes of each length that a line can have, and more": (writes, range(LINE - 4), 1024),
     "reads of each length up to a page, at each offset": (reads, range(PAGE + 4), 1024),
+    "texts that grow and shrink": (stored, [at for most in (4096, 4095, 2000, 40) for at in (most, 1, most - 1, 0, 10)], 1024),
     "reads of the greatest lengths": (reads, [8191, 8192, 16_384, 65_534, 65_535], 1024),
     "lines of each length up to the longest, and more": (
         lines,
@@ -210,11 +223,12 @@ TRIED = {
     "texts of links that go up": (ways_up, [1, 2, 100, 600], 1024),
     "4,095 names, listed": (many_names, [4], 4096),
     "4,095 names of 200 bytes, listed": (many_names, [200], 4096),
+    "4,095 names of the greatest length, listed": (many_names, [NAME], 4096),
 }
 
 
-def runs(name):
-    """The runs of one of these, each with the words for the size of its tree."""
+def runs(name, seat):
+    """The runs of one of these, each with the words that ask for it."""
     piece, chosen, slots = TRIED[name]
-    for run in cut(piece, chosen, slots):
-        yield run, ("--slots", str(slots))
+    for run in cut(piece, chosen, slots, seat):
+        yield run, ("--slots", str(slots), *run.options)

@@ -1,9 +1,10 @@
-"""Scripts that make trees as large as they can be, with the replies that they must have: every slot in one directory and in one
-chain, links across that chain, names of each length, and a long list of commands."""
+"""Scripts that make large trees, with the replies that they must have: every slot in one directory and in one chain, of few
+slots and of the most that there are, links across a chain, names of each length, and a long list of commands."""
 
 from lengths import BYTES, NAME, Run
 
-SLOTS = 4096
+# Of most scripts, three of which fit into what workers are given; and the most that there are.
+SLOTS, MOST_SLOTS = 4096, 1_048_576
 # The program needs some 128 KiB, and a function that took stack for each node of a chain would need more than is left.
 STACK = 160 * 1024
 
@@ -18,23 +19,28 @@ def shuffled(count):
     return [at * 2039 % count for at in range(count)]
 
 
+def emptied(run, top, slots):
+    """A tree that has all slots is compacted, and goes."""
+    run.ask(b"mkdir /more", b"err NoSpace 28")
+    run.ask(b"activate /%s" % top, b"ok")
+    run.ask(b"compact", b"ok")
+    run.ask(b"commands", b"%d" % len(slots))
+    run.free(b"rm /%s" % top, slots)
+    run.ask(b"ls /", b"")
+    run.ask(b"compact", b"ok")
+    run.ask(b"commands", b"0")
+
+
 def one_directory(run):
-    """Filled three times over, each time not activated at first."""
-    for _ in range(3):
-        slots = [run.make(b"mkdir /d off")]
-        chosen = [b"%04d" % at for at in shuffled(SLOTS - 2)]
-        slots += [run.make(b"mkdir /d/%s off" % name) for name in chosen]
-        run.ask(b"mkdir /more", b"err NoSpace 28")
-        run.ask(b"ls /", b"")
-        run.ask(b"activate /d", b"ok")
-        run.ask(b"ls /d", b" ".join(sorted(chosen)))
-        run.ask(b"stat /d", b"dir subdirs=4094 nlink=4096 live")
-        run.ask(b"compact", b"ok")
-        run.ask(b"commands", b"4095")
-        run.free(b"rm /d", slots)
-        run.ask(b"ls /", b"")
-        run.ask(b"compact", b"ok")
-        run.ask(b"commands", b"0")
+    """Filled, not activated at first."""
+    slots, count = [run.make(b"mkdir /d off")], len(run.unused)
+    names = [b"%07d" % at for at in shuffled(count)]
+    slots += [run.make(b"mkdir /d/%s off" % name) for name in names]
+    run.ask(b"ls /", b"")
+    run.ask(b"activate /d", b"ok")
+    run.ask(b"ls /d", b" ".join(sorted(names)))
+    run.ask(b"stat /d", b"dir subdirs=%d nlink=%d live" % (count, count + 2))
+    emptied(run, b"d", slots)
 
 
 def put_above(run, count):
@@ -48,25 +54,22 @@ def put_above(run, count):
 
 
 def one_chain(run):
-    """Filled three times over. A line is too short for the way to the last directory."""
-    for _ in range(3):
-        slots = [run.make(b"mkdir /a"), *put_above(run, SLOTS - 2)]
-        run.ask(b"mkdir /more", b"err NoSpace 28")
-        run.ask(b"ls " + b"/a" * (SLOTS - 2), b"a")
-        run.ask(b"stat /a", b"dir subdirs=1 nlink=3 live")
-        run.ask(b"mv /a %s x" % (b"/a" * 1000), b"err Invalid 22")
-        run.ask(b"activate /a", b"ok")
-        run.ask(b"compact", b"ok")
-        run.ask(b"commands", b"4095")
-        run.free(b"rm /a", slots)
-        run.ask(b"ls /", b"")
-        run.ask(b"compact", b"ok")
-        run.ask(b"commands", b"0")
+    """A line is too short for the way to the last directory."""
+    slots = [run.make(b"mkdir /a"), *put_above(run, len(run.unused))]
+    run.ask(b"ls " + b"/a" * min(SLOTS - 2, (run.line - len(b"ls ")) // 2), b"a")
+    run.ask(b"stat /a", b"dir subdirs=1 nlink=3 live")
+    run.ask(b"mv /a %s x" % (b"/a" * 1000), b"err Invalid 22")
+    emptied(run, b"a", slots)
+
+
+def three_times(fill):
+    """What fills all slots, three times over."""
+    return lambda run: [fill(run) for _ in range(3)]
 
 
 def links_across(run):
     """From the last directory up to one beside the first, as far as a line leads; and from the root down to the last."""
-    up, down = 4090, 4092
+    up, down = (run.line - len(b"readlink /u")) // 2, 4092
     for line in (b"mkdir /t", b"mkdir /a", b"link /a/u /t", b"link /d /a"):
         run.make(line)
     put_above(run, up - 1)
@@ -142,17 +145,23 @@ def names_compacted(run):
 
 # What is tried, by name.
 TRIED = {
-    "every slot in one directory, three times over": one_directory,
-    "every slot in one chain, three times over": one_chain,
-    "links across the longest chain": links_across,
+    "every slot in one directory, three times over": three_times(one_directory),
+    "every slot in one chain, three times over": three_times(one_chain),
+    "links across the longest chain that a line leads along": links_across,
     "4,095 files of one directory, removed one by one": removed_one_by_one,
     "4,096 slots, freed in another order and given again": slots_again,
     "38,000 commands of a tree half removed, compacted": half_removed,
     "names of each length, moved and compacted": names_compacted,
 }
 
+# Too large for what workers are given.
+TRIED_WITH_MOST_SLOTS = {
+    "1,048,576 slots in one directory": one_directory,
+    "1,048,576 slots in one chain": one_chain,
+}
 
-def run_of(name):
-    run = Run(SLOTS)
-    TRIED[name](run)
+
+def run_of(fill, slots, seat):
+    run = Run(slots, seat)
+    fill(run)
     return run

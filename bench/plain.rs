@@ -2,10 +2,10 @@
 //! `rustc -O bench/plain.rs`, std alone, nothing proved. A directory is a `BTreeMap` of its names.
 //!
 //! `plain [--slots N] [--line-writes] [--keep-commands] [--tuned] < SCRIPT`. Replies are gathered and written
-//! before each read; after `--line-writes` each is written by itself, as `kernfs_run` does it. Commands are
-//! counted; after `--keep-commands` they are kept too, as `kernfs_run` keeps them. It is written as one writes it
-//! with std; after `--tuned` it does what a profile of it suggests: numbers without `fmt`, a path walked before it
-//! is searched for an empty name, and standard output as a file, without std's lock and buffer of lines.
+//! before each read; after `--line-writes` each is written by itself. Commands are counted; after
+//! `--keep-commands` they are kept too, as `kernfs_run` keeps them. It is written as one writes it with std; after
+//! `--tuned` it does what a profile of it suggests: numbers without `fmt`, a path walked before it is searched for
+//! an empty name, and standard output as a file, without std's lock and buffer of lines.
 
 use std::cmp::Reverse;
 use std::collections::{BTreeMap, BinaryHeap};
@@ -20,6 +20,8 @@ const LINE_LIMIT: usize = 8192;
 const PAGE: usize = 4096;
 /// The most holds that a slot may have.
 const HOLDS: u32 = 65_535;
+/// The most slots of a tree.
+const MOST_SLOTS: u32 = 1_048_576;
 const ROOT: u32 = 0;
 
 #[derive(Clone, Copy)]
@@ -995,9 +997,9 @@ fn main() -> ExitCode {
             _ => slots = None,
         }
     }
-    let Some(slots) = slots.filter(|slots| (1..=4096).contains(slots)) else {
+    let Some(slots) = slots.filter(|slots| (1..=MOST_SLOTS).contains(slots)) else {
         eprintln!(
-            "plain [--slots N] [--line-writes] [--keep-commands] [--tuned] < SCRIPT, with 1 to 4096 slots"
+            "plain [--slots N] [--line-writes] [--keep-commands] [--tuned] < SCRIPT, with 1 to {MOST_SLOTS} slots"
         );
         return ExitCode::from(2);
     };

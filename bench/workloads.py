@@ -3,7 +3,9 @@
 names, or for all, and prints them; of scripts for workers FOLDER/NAME_1.kf, NAME_2.kf and NAME_4.kf, by how many
 workers they have, and of those for one worker beside other nodes FOLDER/NAME_10.kf and NAME_4000.kf, by how many of
 these there are, and NAME_10_alone.kf and NAME_4000_alone.kf, which make these nodes and end. Scripts for workers have a
-megabyte at most. Each script is the same wherever Python is the same. They need 4,096 slots."""
+megabyte at most. Each script is the same wherever Python is the same. They need 4,096 slots. The scripts of trees, which
+may be larger, trees.py makes."""
+import itertools
 import os
 import random
 import sys
@@ -214,7 +216,39 @@ def readers(workers, spacing):
         yield f"@{worker + 1} read {'abcd'[worker]} 0 9"
 
 
+def like_sys(_):
+    """The nodes of a tree like /sys: 10 names in a directory, three of them directories, breadth first."""
+    directories = ["/sys"]
+    yield "mkdir /sys"
+    for directory in directories:  # it grows meanwhile
+        for number in range(3):
+            directories.append(f"{directory}/dev{number}")
+            yield f"mkdir {directories[-1]}"
+        for number in range(7):
+            yield f"file {directory}/attr{number} 644 v"
+
+
+def one_directory(rng):
+    """Files of one directory, whose names come in any order."""
+    yield "mkdir /wide"
+    for number in itertools.count():
+        yield f"file /wide/{rng.randrange(1 << 32):08x}_{number} 644 v"
+
+
+def chains(_):
+    """Chains of 60 directories."""
+    for number in itertools.count():
+        path = f"/chain{number}"
+        yield f"mkdir {path}"
+        for depth in range(1, 60):
+            path += f"/at{depth}"
+            yield f"mkdir {path}"
+
+
 WORKLOADS = [churn, wide, deep, attributes, pages, openings, listings, links, forests, hiding, compaction, retained]
+
+# What trees.py makes, as large as it wants them.
+TREES = [like_sys, one_directory, chains]
 
 # One worker, beside few nodes and beside many.
 BESIDE = [makes, refusals]
@@ -229,6 +263,9 @@ def scripts_of(names):
         name = workload.__name__
         if not names or name in names:
             yield name, [(name, workload(random.Random(name)))]
+    for workload in TREES:
+        if not names or workload.__name__ in names:
+            yield workload.__name__, []
     for workload in BESIDE:
         name = workload.__name__
         if not names or name in names:
@@ -243,7 +280,7 @@ def main():
     if len(sys.argv) < 2:
         sys.exit("workloads.py FOLDER [NAME..]")
     folder, names = sys.argv[1], sys.argv[2:]
-    known = [*(it.__name__ for it in WORKLOADS + BESIDE), *READERS]
+    known = [*(it.__name__ for it in WORKLOADS + TREES + BESIDE), *READERS]
     if unknown := [it for it in names if it not in known]:
         sys.exit(f"no workload {' '.join(unknown)}; there are {' '.join(known)}")
     os.makedirs(folder, exist_ok=True)

@@ -84,7 +84,7 @@
 /* The kernel's PAGE_SIZE: a show fills as much at most, and a store takes as much. */
 #define KT_PAGE_SIZE 4096
 /* The most nodes of a tree, the root counted; the most holds of a node; the most bytes of a name. */
-#define KT_SLOTS_MAX 4096
+#define KT_SLOTS_MAX 1048576
 #define KT_HOLDS_MAX 65535
 #define KT_NAME_MAX 255
 

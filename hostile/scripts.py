@@ -149,6 +149,15 @@ def of_threads():
         yield name, script_of(text), ("--workers", "3")
 
 
+def of_growth():
+    """Tables, a directory and a list of commands that grow many times, with names in any order, and become smaller."""
+    names = [f"{at * 467 % 1200:04d}" for at in range(1200)]
+    made = "".join(f"mkdir /{it}\n" for it in names) + "ls /\n"
+    gone = "".join(f"rm /{it}\n" for it in names[::4]) + "compact\n" + "".join(f"file /{it} 644\n" for it in names[::8])
+    for options in (ONE_CALLER, ONE_WORKER):
+        yield "a tree that grows", (made + gone + "ls /\ncommands\n").encode(), ("--slots", "1300", *options)
+
+
 def come_and_go(width):
     """As many directories as there are slots come and go, with names of so many bytes."""
     names = [str(at).rjust(width, "n") for at in range(SLOTS - 1)]

@@ -15,7 +15,7 @@ static int same(struct kt_key a, struct kt_key b) { return a.slot == b.slot && a
 static void trees(void)
 {
     TRY(kt_create_root(&tree, 0, 16), -EINVAL);
-    TRY(kt_create_root(&tree, 4097, 16), -EINVAL);
+    TRY(kt_create_root(&tree, 1048577, 16), -EINVAL);
     TRY(kt_create_root(&tree, 16, 0), -EINVAL);
     TRY(kt_create_root(&tree, 16, 65536), -EINVAL);
     TRY(kt_root(&tree, &root), -EINVAL);

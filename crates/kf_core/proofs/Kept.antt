@@ -1,10 +1,11 @@
 -- What the plain list keeps beside its world, after each kind of change.
-use Rattle.std.proofs.Common.{◌≡◌, ◌≢◌, inl, inr, ℕ, zero, suc, ◌+◌, ◌<◌, ◌≤◌, ◌-◌, ◌/◌, ◌^◌, List, [], ◌∷◌, ◌++◌, length, get_or, refl, ap, arith, slice_set, sym, ◌∙◌, subst, ◌↔◌}
+use Rattle.std.proofs.Common.{◌≡◌, ◌≢◌, inl, inr, ℕ, zero, suc, ◌+◌, ◌<◌, ◌≤◌, ◌-◌, ◌/◌, ◌^◌, List, [], ◌∷◌, ◌++◌, length, get_or, refl, ap, arith, slice_set, sym, ◌∙◌, subst, ◌↔◌, replicate}
 use Rattle.std.specs.Prelude.{slice_get, Option, Some, None, not}
 use Rattle.std.proofs.lemmas.Option.{same_Some, none-some, slice_get_within, slice_get_read}
 use Rattle.std.proofs.lemmas.List.Sums.{count_by-le-length}
-use Rattle.std.proofs.lemmas.List.{length-set}
+use Rattle.std.proofs.lemmas.List.{length-set, length-replicate}
 use Rattle.std.proofs.lemmas.Bool.Decides.{eqb_tells, leb_tells}
+use Rattle.kf_core.specs.Limits.{most_slots}
 use Rattle.kf_core.specs.declared.key.Key.{Key}
 use Rattle.kf_core.specs.declared.caller.Phase.{Phase}
 use Rattle.kf_core.specs.declared.caller.Phase.TheVariants.{Still, Spent}
@@ -14,12 +15,12 @@ use Rattle.kf_core.specs.declared.event.Event.{Event}
 use Rattle.kf_core.specs.declared.world.hint.Hint.{Hint}
 use Rattle.kf_core.specs.declared.slot.Marks.{Marks}
 use Rattle.kf_core.specs.declared.slot.SlotState.{SlotState}
-use Rattle.kf_core.specs.Bare.{BareWorld, IsCaller, IsLast}
+use Rattle.kf_core.specs.Bare.{BareWorld, IsCaller, IsLast, opening}
 use Rattle.kf_core.specs.Phases.{has_reference, is_hiding, is_spent}
 use Rattle.kf_core.specs.Safe.{Safe}
 use Rattle.kf_core.specs.Steps.{BareStep, with_phase, with_marks, with_caller, IsHeld}
 use Rattle.kf_core.specs.Bounded.{IsFree, holds}
-use Rattle.kf_core.specs.Hints.{Skips}
+use Rattle.kf_core.specs.Hints.{AsMany, Covers, Skips}
 use Rattle.kf_core.specs.Counts.{tally, references, hiders, IsKept, NoneFree}
 use Rattle.kf_core.proofs.Lists.{slice_get-set_same, slice_get-set_other}
 use Rattle.kf_core.proofs.Keeping.{caller, slot_state, step_keeps, one_key}
@@ -70,9 +71,9 @@ free_before w key slot f = record {
 pub slot_within : (w : BareWorld) (counts : List Counts) (hint : Hint) (c : ℕ) (key : Key) (p : Phase) → IsKept w counts hint → IsCaller w c key p → p ≢ Spent → key.slot < length w.slots
 slot_within w counts hint c key p kept was ne = let l : IsLast w key.slot key.generation = kept.safe.held_last c key p was ne in slice_get_within w.slots key.slot l.0 l.1
 
--- its block has a mark
-pub block_within : (w : BareWorld) (counts : List Counts) (hint : Hint) (slot : ℕ) → IsKept w counts hint → slot < length w.slots → slot / 64 < length hint.full.items
-block_within w counts hint slot kept within = let b : length w.slots / 64 < length hint.full.items = kept.covered in omega arith
+-- its block and its group have marks
+pub block_within : (w : BareWorld) (counts : List Counts) (hint : Hint) (slot : ℕ) → IsKept w counts hint → slot < length w.slots → Covers hint.full slot
+block_within w counts hint slot kept within = (omega (arith, kept.covered.0, within), omega (arith, kept.covered.1, within))
 
 -- what stands at a slot of the counts
 pub counts_there : (w : BareWorld) (counts : List Counts) (hint : Hint) (slot : ℕ) (n : Counts) → IsKept w counts hint → slot < length w.slots → n ≡ get_or counts slot n → slice_get counts slot ≡ Some n
@@ -96,15 +97,15 @@ few_counts w counts hint slot n kept is = (
 
 -- only slots are skipped that were before
 pub record Fewer (now before : Hint) : Type 0 where
-  pub skips : (slot : ℕ) → Skips now.lowest now.full.items slot → Skips before.lowest before.full.items slot
-  pub as_many : length now.full.items ≡ length before.full.items
+  pub skips : (slot : ℕ) → Skips now.lowest now.full slot → Skips before.lowest before.full slot
+  pub as_many : AsMany before.full now.full
 
 -- after a step of a caller on the key
 pub phase_kept : (w : BareWorld) (c : ℕ) (key : Key) (from to : Phase) (counts : List Counts) (old new : Counts) (state : SlotState) (hint hint' : Hint) →
     IsKept w counts hint → (e : Event) → BareStep w e (with_phase w c key to) → IsCaller w c key from → slice_get counts key.slot ≡ Some old → slice_get w.slots key.slot ≡ Some state →
     new.holds + tally (not (is_spent from)) ≡ old.holds + tally (not (is_spent to)) → new.references + tally (has_reference from) ≡ old.references + tally (has_reference to) →
     new.hiders + tally (is_hiding from) ≡ old.hiders + tally (is_hiding to) →
-    Fewer hint' hint → ((state.marks ≡ None) × (state.generation < 2 ^ 32 - 1) × (new.holds ≡ 0) → 1 ≤ key.slot → ¬ Skips hint'.lowest hint'.full.items key.slot) →
+    Fewer hint' hint → ((state.marks ≡ None) × (state.generation < 2 ^ 32 - 1) × (new.holds ≡ 0) → 1 ≤ key.slot → ¬ Skips hint'.lowest hint'.full key.slot) →
     IsKept (with_phase w c key to) (slice_set counts key.slot new) hint'
 phase_kept w c key from to counts old new state hint hint' kept e step was is has h r i fewer looks =
     let counted = phase_counted w c key from to counts old new was is h r i kept.counted in
@@ -114,10 +115,10 @@ phase_kept w c key from to counts old new state hint hint' kept e step was is ha
       few = kept.few;
       as_long = length-set counts key.slot new ∙ kept.as_long;
       counted = counted;
-      covered = subst (λ n. length w.slots / 64 < n) (sym fewer.as_many) kept.covered;
+      covered = (subst (λ n. length w.slots / 64 < n) (sym fewer.as_many.0) kept.covered.0, subst (λ n. length w.slots / 4096 < n) (sym fewer.as_many.1) kept.covered.1);
       skipped = λ slot one s f. elim (eqb_tells slot key.slot) [
         | inl e ↦ (let free = (free_exact (with_phase w c key to) key.slot state has).1 (subst (IsFree (with_phase w c key to)) e.1 f) in
-            looks (free.0, free.1, told ∙ free.2) (subst (λ x. 1 ≤ x) e.1 one) (subst (Skips hint'.lowest hint'.full.items) e.1 s))
+            looks (free.0, free.1, told ∙ free.2) (subst (λ x. 1 ≤ x) e.1 one) (subst (Skips hint'.lowest hint'.full) e.1 s))
         | inr n ↦ kept.skipped slot one (fewer.skips slot s) (free_elsewhere w c key from to slot was n.1 f)
       ];
     }
@@ -128,10 +129,10 @@ marks_kept w key m counts hint kept e step taken =
     let l : length (with_marks w key m).slots ≡ length w.slots = length-set w.slots key.slot (slot_state key.generation m) in
     record {
       safe = step_keeps w e (with_marks w key m) kept.safe step;
-      few = subst (λ n. n ≤ 4096) (sym l) kept.few;
+      few = subst (λ n. n ≤ most_slots) (sym l) kept.few;
       as_long = kept.as_long ∙ sym l;
       counted = kept.counted;
-      covered = subst (λ n. n / 64 < length hint.full.items) (sym l) kept.covered;
+      covered = subst (Covers hint.full) (sym l) kept.covered;
       skipped = λ slot one s f. elim (eqb_tells slot key.slot) [
         | inl e ↦ taken (subst (IsFree (with_marks w key m)) e.1 f)
         | inr n ↦ kept.skipped slot one s (free_beside w key m slot n.1 f)
@@ -156,7 +157,7 @@ past_kept w counts hint slot kept past =
     (sym (past_none w slot (λ p. not (is_spent p)) kept.safe out refl), sym (past_none w slot has_reference kept.safe out refl), sym (past_none w slot is_hiding kept.safe out refl))
 
 -- past slots that are skipped none is free
-pub none_skipped : (w : BareWorld) (counts : List Counts) (hint : Hint) (low high : ℕ) → IsKept w counts hint → NoneFree w low → ((slot : ℕ) → low ≤ slot → slot < high → Skips hint.lowest hint.full.items slot) → NoneFree w high
+pub none_skipped : (w : BareWorld) (counts : List Counts) (hint : Hint) (low high : ℕ) → IsKept w counts hint → NoneFree w low → ((slot : ℕ) → low ≤ slot → slot < high → Skips hint.lowest hint.full slot) → NoneFree w high
 none_skipped w counts hint low high kept passed skips slot one below free = elim (leb_tells low slot) [
   | inl m ↦ kept.skipped slot one (skips slot m.1 below) free
   | inr l ↦ passed slot one (omega (arith, l.1)) free
@@ -195,3 +196,32 @@ none_last w key past l = let i : key.slot < length w.slots = slice_get_within w.
 
 pub other_last : (w : BareWorld) (key : Key) (state : SlotState) → slice_get w.slots key.slot ≡ Some state → state.generation ≢ key.generation → ¬ IsLast w key.slot key.generation
 other_last w key state is ne l = ne (ap (λ (s : SlotState). s.generation) (same_Some _ _ (sym is ∙ l.1)) ∙ l.2)
+
+-- all items of a list of one item are that one
+same_item : {X : Type 0} (n i : ℕ) (x y : X) → slice_get (replicate n x) i ≡ Some y → y ≡ x
+same_item zero i x y h = absurd (none-some y h)
+same_item (suc n) zero x y h = sym (same_Some _ _ h)
+same_item (suc n) (suc i) x y h = same_item n i x y h
+
+-- nobody is there at the opening
+pub opening_kept : (slots start : ℕ) (counts : List Counts) (hint : Hint) → slots ≤ most_slots → counts ≡ replicate slots (record { holds = 0; references = 0; hiders = 0 }) →
+    ((slot : ℕ) → 1 ≤ slot → ¬ Skips hint.lowest hint.full slot) → Covers hint.full slots → IsKept (opening slots start) counts hint
+opening_kept slots start counts hint few is looks covered =
+    let len : length (opening slots start).slots ≡ slots = length-set (replicate slots (slot_state start None)) 0 _ ∙ length-replicate slots _ in
+    record {
+      safe = record {
+        none_running = λ c key phase h. absurd (none-some _ h);
+        drain_doomed = λ c key phase h. absurd (none-some _ h);
+        parted_gone = λ c key h. absurd (none-some _ h);
+        held_last = λ c key phase h. absurd (none-some _ h);
+        running_linked = λ c key h. absurd (none-some _ h);
+        one_hides = λ c key p h hiding. absurd (none-some _ h);
+      };
+      few = subst (λ n. n ≤ most_slots) (sym len) few;
+      as_long = ap length is ∙ length-replicate slots _ ∙ sym len;
+      counted = λ slot n h.
+          (let e : n ≡ record { holds = 0; references = 0; hiders = 0 } = same_item slots slot _ n (ap (λ l. slice_get l slot) (sym is) ∙ h) in
+          (ap (λ (x : Counts). x.holds) e, ap (λ (x : Counts). x.references) e, ap (λ (x : Counts). x.hiders) e));
+      covered = subst (Covers hint.full) (sym len) covered;
+      skipped = λ slot one s f. looks slot one s;
+    }

@@ -6,6 +6,7 @@ pub mod Keeping
 pub mod Passing
 pub mod Runs
 pub mod Tallies
+pub mod SlotLists
 pub mod Kept
 pub mod Events
 pub mod WorldVisits

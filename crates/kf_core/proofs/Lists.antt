@@ -1,5 +1,5 @@
 -- Lists by place: what one write, or one item more, changes.
-use Rattle.std.proofs.Common.{◌≡◌, ◌≢◌, ◌⊎◌, inl, inr, ℕ, zero, suc, ◌+◌, ◌<◌, ◌≤◌, List, [], ◌∷◌, ◌++◌, length, refl, ap, arith, slice_set, get_or, cond, ◌∙◌, Bool, true, false}
+use Rattle.std.proofs.Common.{◌≡◌, ◌≢◌, ◌⊎◌, inl, inr, ℕ, zero, suc, ◌+◌, ◌<◌, ◌≤◌, List, [], ◌∷◌, ◌++◌, length, refl, ap, arith, slice_set, get_or, cond, ◌∙◌, sym, Bool, true, false}
 use Rattle.std.specs.Prelude.{slice_get, Option, None, Some, count_by, is_some, fold, map}
 use Rattle.std.specs.Option.{option_map}
 use Rattle.std.proofs.lemmas.Option.{same_Some, none-some, slice_get_within, get_or_from_slice_get}
@@ -43,6 +43,12 @@ module _ {X : Type 0} where
     | inl p ↦ inl (ap suc p.0, p.1)
     | inr p ↦ inr ((λ e. p.0 (omega arith)), p.1)
   ]
+
+  -- where there is no item, the list has ended
+  pub past_end : (xs : List X) (i : ℕ) → slice_get xs i ≡ None → length xs ≤ i
+  past_end [] i h = omega arith
+  past_end (x ∷ xs) zero h = absurd (none-some x (sym h))
+  past_end (x ∷ xs) (suc i) h = let rest = past_end xs i h in omega (arith, rest)
 
   pub length_set : (xs : List X) (i : ℕ) (v : X) → length (slice_set xs i v) ≡ length xs
   length_set [] i v = refl

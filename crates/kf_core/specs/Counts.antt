@@ -1,12 +1,13 @@
 -- What the plain list keeps beside its slots and callers, so that no question has to walk the callers.
-use Rattle.std.specs.Prelude.{◌≡◌, ℕ, ◌<◌, ◌≤◌, ◌/◌, Bool, ◌&&◌, ◌==◌, List, length, count_by, slice_get, Some, if◌then◌else◌}
+use Rattle.std.specs.Prelude.{◌≡◌, ℕ, ◌<◌, ◌≤◌, Bool, ◌&&◌, ◌==◌, List, length, count_by, slice_get, Some, if◌then◌else◌}
+use Rattle.kf_core.specs.Limits.{most_slots}
 use Rattle.kf_core.specs.declared.counts.Counts.{Counts}
 use Rattle.kf_core.specs.declared.world.hint.Hint.{Hint}
 use Rattle.kf_core.specs.Phases.{has_reference, is_hiding}
 use Rattle.kf_core.specs.Bare.{BareWorld}
 use Rattle.kf_core.specs.Safe.{Safe}
 use Rattle.kf_core.specs.Bounded.{IsFree, holds}
-use Rattle.kf_core.specs.Hints.{Skips}
+use Rattle.kf_core.specs.Hints.{Covers, Skips}
 
 -- one where it is true
 abbrev pub tally : Bool → ℕ
@@ -37,8 +38,8 @@ NoneFree w below = (slot : ℕ) → 1 ≤ slot → slot < below → ¬ IsFree w 
 -- free
 pub record IsKept (w : BareWorld) (counts : List Counts) (hint : Hint) : Type 0 where
   pub safe : Safe w
-  pub few : length w.slots ≤ 4096
+  pub few : length w.slots ≤ most_slots
   pub as_long : length counts ≡ length w.slots
   pub counted : IsCounted w counts
-  pub covered : length w.slots / 64 < length hint.full.items
-  pub skipped : (slot : ℕ) → 1 ≤ slot → Skips hint.lowest hint.full.items slot → ¬ IsFree w slot
+  pub covered : Covers hint.full (length w.slots)
+  pub skipped : (slot : ℕ) → 1 ≤ slot → Skips hint.lowest hint.full slot → ¬ IsFree w slot

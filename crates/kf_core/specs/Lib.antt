@@ -1,3 +1,4 @@
+pub mod Limits
 pub mod Refusals
 pub mod Names
 pub mod Keys

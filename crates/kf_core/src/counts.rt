@@ -15,6 +15,13 @@ pub(crate) struct Counts {
 }
 
 impl Counts {
+    /// Those of a slot on which nobody is.
+    pub(crate) const NONE: Counts = Counts {
+        holds: 0,
+        references: 0,
+        hiders: 0,
+    };
+
     /// One caller more, in this phase.
     pub(crate) fn with(self, phase: Phase) -> Counts
         requires few_holds { self.holds + 1 < 2 ^ 64 }

@@ -14,6 +14,8 @@ mod name_bytes;
 mod records;
 mod refusal;
 mod slot;
+mod slot_list;
+mod slot_map;
 mod world;
 mod world_guard;
 
@@ -25,10 +27,12 @@ pub use key::{Key, Node};
 pub use laws::{
     a_life, no_call_after_drain, no_call_after_removal, slots_kept, subtrees_are_by_steps,
 };
-pub use limits::Limits;
+pub use limits::{Limits, MOST_SLOTS};
 pub use name_bytes::NameBytes;
 pub use records::Record;
 pub use refusal::Refusal;
 pub use slot::{Marks, SlotState};
+pub use slot_list::SlotList;
+pub use slot_map::SlotMap;
 pub use world::World;
 pub use world_guard::WorldCall;

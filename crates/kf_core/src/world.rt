@@ -1,7 +1,7 @@
 //! The plain list of slots and callers. Its methods are the atomic steps, and its questions take constant
 //! time, but for the search for a free slot.
 
-ghost use Rattle.std.specs.Prelude.{◌≡◌, ◌+◌, ◌-◌, ◌^◌, ◌≤◌, ◌<◌, replicate, slice_get, IfOk, IfErr, None};
+ghost use Rattle.std.specs.Prelude.{◌≡◌, ◌+◌, ◌-◌, ◌^◌, ◌≤◌, ◌<◌, slice_get, IfOk, IfErr, None};
 ghost use Rattle.std.specs.Option.{option_map};
 ghost use Rattle.kf_core.specs.declared.refusal.Refusal.TheVariants.{NoMemory};
 ghost use Rattle.kf_core.specs.Bare.{marks, marks_in, is_live, is_linked, is_doomed, is_hidden, opening};
@@ -16,11 +16,13 @@ use crate::key::Key;
 use crate::limits::Limits;
 use crate::refusal::Refusal;
 use crate::slot::{Marks, SlotState};
+use crate::slot_list::SlotList;
 use crate::world::hint::Hint;
 use std::alloc::Global;
 use std::marker::Model;
 
 mod callers;
+mod full;
 mod hint;
 mod search;
 mod slots;
@@ -28,11 +30,11 @@ mod slots;
 /// Each slot with its last generation and marks, and each caller by its number.
 #[derive(Drop)]
 pub struct World {
-    slots: Vec<SlotState>,
+    slots: SlotList<SlotState>,
     callers: Vec<Caller>,
     limit: u32,
     /// By slot, so that no question walks the callers.
-    counts: Vec<Counts>,
+    counts: SlotList<Counts>,
     /// Where the search for a free slot need not look.
     hint: Hint,
 }
@@ -40,45 +42,20 @@ pub struct World {
 impl Model for World {
     ghost Value = { BoundedWorld };
 
-    ghost view = { λ w. bounded (record { slots = w.slots.items; callers = w.callers.items }) w.limit };
+    ghost view = { λ w. bounded (record { slots = w.slots; callers = w.callers.items }) w.limit };
 
     ghost invariant = { λ w. IsKept
-        (record { slots = w.slots.items; callers = w.callers.items }) w.counts.items w.hint };
+        (record { slots = w.slots; callers = w.callers.items }) w.counts w.hint };
 }
 
 /// The marks of the node that a key names, where it is linked.
-fn marks_at(slots: &[SlotState], key: Key) -> Option<Marks>
+fn marks_at(slots: &SlotList<SlotState>, key: Key) -> Option<Marks>
     ensures { result ≡ marks_in (slice_get slots.now key.slot) key.generation }
 {
     match slots.get(key.slot as usize) {
         Some(state) if state.generation == key.generation => state.marks,
         _ => None,
     }
-}
-
-/// So many slots of this last generation, with no node.
-fn empty_slots(alloc: Global, count: usize, generation: u32) -> Result<Vec<SlotState>, Refusal>
-    ensures made { IfOk result
-        (λ slots. slots.items ≡ replicate count (record { generation = generation; marks = None })) }
-    ensures err { IfErr result (λ refusal. refusal ≡ NoMemory) }
-{
-    Ok(vec![in alloc; SlotState {
-        generation,
-        marks: None
-    }; count]?)
-}
-
-/// The counts of so many slots on which nobody is.
-fn no_counts(alloc: Global, count: usize) -> Result<Vec<Counts>, Refusal>
-    ensures made { IfOk result
-        (λ counts. counts.items ≡ replicate count (record { holds = 0; references = 0; hiders = 0 })) }
-    ensures err { IfErr result (λ refusal. refusal ≡ NoMemory) }
-{
-    Ok(vec![in alloc; Counts {
-        holds: 0,
-        references: 0,
-        hiders: 0
-    }; count]?)
 }
 
 impl World {
@@ -90,19 +67,24 @@ impl World {
         ensures err { IfErr result (λ refusal. refusal ≡ NoMemory) }
     {
         let count = limits.slots() as usize;
-        let mut slots = empty_slots(alloc, count, start)?;
-        slots[0] = SlotState {
+        let empty = SlotState {
+            generation: start,
+            marks: None,
+        };
+        let root = SlotState {
             generation: start + 1,
             marks: Some(Marks {
                 activated: true,
                 doomed: false,
             }),
         };
+        let mut slots = SlotList::new(alloc, count, empty)?;
+        slots.set(0, root);
         Ok(World {
             slots,
             callers: Vec::new(alloc),
             limit: limits.holds(),
-            counts: no_counts(alloc, count)?,
+            counts: SlotList::new(alloc, count, Counts::NONE)?,
             hint: Hint::new(alloc, limits.slots())?,
         })
     }
@@ -141,7 +123,7 @@ impl World {
     fn has_live_marks(&self, key: Key) -> bool
         ensures { result ≡ are_live (marks self.now.world key) }
     {
-        match marks_at(self.slots.as_slice(), key) {
+        match marks_at(&self.slots, key) {
             Some(marks) => marks.activated && !marks.doomed,
             None => false,
         }
@@ -150,14 +132,14 @@ impl World {
     fn is_linked(&self, key: Key) -> bool
         ensures { result ≡ is_linked self.now.world key }
     {
-        marks_at(self.slots.as_slice(), key).is_some()
+        marks_at(&self.slots, key).is_some()
     }
 
     /// A node that is not linked counts as doomed.
     fn is_doomed(&self, key: Key) -> bool
         ensures { result ≡ is_doomed self.now.world key }
     {
-        match marks_at(self.slots.as_slice(), key) {
+        match marks_at(&self.slots, key) {
             Some(marks) => marks.doomed,
             None => true,
         }
@@ -171,12 +153,8 @@ impl World {
         ensures safe { Safe self.now.world }
     {
         match self.counts.get(slot as usize) {
-            Some(counts) => *counts,
-            None => Counts {
-                holds: 0,
-                references: 0,
-                hiders: 0,
-            },
+            Some(counts) => counts,
+            None => Counts::NONE,
         }
     }
 }

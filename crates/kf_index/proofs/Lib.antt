@@ -5,3 +5,8 @@ mod Edited
 mod Above
 mod Reordered
 mod Turned
+mod Joined
+mod Inside
+mod Belongs
+mod Chunked
+mod Mapped

@@ -15,6 +15,10 @@ use Rattle.kf_index.specs.Pairs.{Pairs, IsRising, IsPlaceOf}
 pub turned : (a b : List ℕ) → slice_cmp nat_cmp a b ≡ Greater → IsBefore b a
 turned a b e = nat_list_cmp_total.antisymm b a ∙ ap ordering_reverse e
 
+-- what is not above stands no later
+pub not_turned : (a b : List ℕ) → ¬ (slice_cmp nat_cmp a b ≡ Greater) → ¬ IsBefore b a
+not_turned a b unless e = unless (nat_list_cmp_total.antisymm a b ∙ ap ordering_reverse e)
+
 pub same_name : (a b : List ℕ) → slice_cmp nat_cmp a b ≡ Equal → a ≡ b
 same_name = slice_cmp-IsAntisymmetric nat_cmp-IsAntisymmetric
 

@@ -1,3 +1,4 @@
+pub mod Chunks
 pub mod Entries
 pub mod Pairs
 pub mod Places

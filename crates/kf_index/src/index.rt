@@ -1,28 +1,26 @@
-//! The sibling index of a directory: its entries in byte order of their names, found by binary search.
+//! The sibling index of a directory: its entries in byte order of their names, found by binary searches.
 
 ghost use Rattle.std.specs.Prelude.{◌≡◌, ◌<◌, ◌≤◌, ◌^◌, None, IfErr, OnOk, OnErr, IfSome, IfNone, if◌then◌else◌};
 ghost use Rattle.std.specs.Option.{option_copied};
 ghost use Rattle.std.specs.FinMap as map;
 ghost use Rattle.kf_index.specs.Entries.{IsLeastAbove, NoneAbove, AreAbove};
-ghost use Rattle.kf_index.specs.Pairs.{IsRising, IsFirstAbove};
 
+use crate::chunks::Chunks;
 use crate::listed::Listed;
 use crate::name::Name;
-use crate::search::search;
-use crate::sequence::Sequence;
 use kf_core::{Key, Refusal};
 use std::alloc::Global;
 use std::marker::Model;
 
 /// The entries of one directory: each name once, with the key of its node, in byte order of names.
 /// Contracts see an ordered map from names to keys. Of its calls `insert` alone wants memory, by the
-/// allocator that `new` was given: `remove` asks for less than there is, and does without. Where it is not
-/// refused, there is room for four times as many entries as there are, and three more, at most. The kernel
-/// keeps the children of a node so too, in the tree `kn->dir.children`, but orders them by hashes of their
-/// names.
+/// allocator that `new` was given: `remove` asks for less than there is, and does without. Entries lie in
+/// chunks of some 500, and only places of one chunk move. Where it is not refused, a chunk has room for four
+/// times its entries, and three more, at most. The kernel keeps the children of a node so too, in the tree
+/// `kn->dir.children`, but orders them by hashes of their names.
 #[derive(Drop)]
 pub struct Index {
-    entries: Sequence,
+    entries: Chunks,
 }
 
 impl Model for Index {
@@ -39,27 +37,13 @@ impl Model for Index {
     ghost invariant = { λ index. IsRising index.entries };
 }
 
-/// The place of the first name above the bound.
-fn first_above(entries: Listed<'_>, bound: Option<&[u8]>) -> usize
-    requires rising { IsRising entries }
-    ensures first { IsFirstAbove entries.entry (option_copied bound.entry) result }
-{
-    match bound {
-        None => 0,
-        Some(name) => match search(entries, name) {
-            Ok(at) => at + 1,
-            Err(at) => at,
-        },
-    }
-}
-
 impl Index {
     /// An index without entries. It takes no memory yet.
     pub fn new(alloc: Global) -> Index
         ensures empty { result ≡ map.empty }
     {
         Index {
-            entries: Sequence::new(alloc),
+            entries: Chunks::new(alloc),
         }
     }
 
@@ -68,10 +52,7 @@ impl Index {
     pub fn get(&self, name: &[u8]) -> Option<Key>
         ensures found { result ≡ map.get self.now name.now }
     {
-        match search(self.entries.all(), name) {
-            Ok(at) => Some(self.entries.all().at(at).1),
-            Err(_) => None,
-        }
+        self.entries.get(name)
     }
 
     /// How many entries there are.
@@ -80,7 +61,7 @@ impl Index {
     pub fn len(&self) -> usize
         ensures known { result ≡ map.len self.now }
     {
-        self.entries.all().len()
+        self.entries.len()
     }
 
     /// For how many entries there is memory. An index without entries has none.
@@ -105,29 +86,17 @@ impl Index {
             refusal ≡ (if map.contains_key self.old name then Refusal.Exists else Refusal.NoMemory)) }
         ensures unchanged { OnErr result (self.new ≡ self.old) }
     {
-        let Err(at) = search(self.entries.all(), name.bytes()) else {
-            return Err(Refusal::Exists);
-        };
-        let Ok(()) = self.entries.insert(at, (name, key)) else {
-            return Err(Refusal::NoMemory);
-        };
-        Ok(())
+        self.entries.insert(name, key)
     }
 
     /// Takes the entry of this name out and answers its key, or None where there is none
     /// (`kernfs_unlink_sibling`). With the last entry the memory of all is given back. Where few of many are
-    /// left, they move to less memory, or stay where there is none to be had.
+    /// left in a chunk, they move to less memory, or stay where there is none to be had.
     pub fn remove(&mut self, name: &[u8]) -> Option<Key>
         ensures found { result ≡ map.get self.old name.now }
         ensures removed { self.new ≡ map.remove self.old name.now }
     {
-        match search(self.entries.all(), name) {
-            Ok(at) => {
-                let (_, key) = self.entries.remove(at);
-                Some(key)
-            }
-            Err(_) => None,
-        }
+        self.entries.remove(name)
     }
 
     /// The entries with names above the bound, or all where there is no bound, in byte order of names: what
@@ -136,8 +105,7 @@ impl Index {
     pub fn above(&self, bound: Option<&[u8]>) -> Listed<'_>
         ensures listed { AreAbove self.now (option_copied bound.entry) result }
     {
-        let at = first_above(self.entries.all(), bound);
-        self.entries.all().from(at)
+        self.entries.above(bound)
     }
 
     /// The entry with the least name above the bound, or with the least of all where there is no

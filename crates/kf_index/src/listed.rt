@@ -1,10 +1,12 @@
 //! Entries of an index one after another, as they are listed.
 
-ghost use Rattle.std.specs.Prelude.{◌≡◌, ◌∷◌, ◌<◌, ◌≤◌, ℕ, List, [], length, drop, slice_index_or, IfSome, IfNone, IsTrue, ◌↔◌};
+ghost use Rattle.std.specs.Prelude.{◌≡◌, ◌∷◌, ◌++◌, ◌≤◌, ◌^◌, ℕ, List, [], length, IfSome, IfNone, IsTrue, ◌↔◌};
 ghost use Rattle.kf_core.specs.declared.key.Key.{Key};
-ghost use Rattle.kf_index.specs.Places.{AreTaken, pairs_at};
+ghost use Rattle.kf_index.specs.Chunks.{joined, HaveSome};
 
+use crate::chunk::Chunk;
 use crate::name::Name;
+use crate::part::Part;
 use kf_core::Key;
 use std::marker::Model;
 
@@ -12,46 +14,46 @@ use std::marker::Model;
 /// nothing is copied. Contracts see the list of them.
 #[derive(Drop)]
 pub struct Listed<'a> {
-    /// The place of each, in their order.
-    order: &'a [u32],
-    /// An entry at each place, or None where the place is free.
-    entries: &'a [Option<(Name, Key)>],
+    /// The first of them, all in one chunk.
+    part: Part<'a>,
+    /// The chunks of the others, none of them empty.
+    later: &'a [Chunk],
 }
 
 impl<'a> Model for Listed<'a> {
-    ghost use Rattle.std.specs.Prelude.{ℕ, List};
+    ghost use Rattle.std.specs.Prelude.{◌≤◌, ◌^◌, ◌++◌, ℕ, List, length};
     ghost use Rattle.kf_core.specs.declared.key.Key.{Key};
-    ghost use Rattle.kf_index.specs.Places.{AreTaken, pairs_at};
+    ghost use Rattle.kf_index.specs.Chunks.{joined, HaveSome};
 
     ghost Value = { List (List ℕ × Key) };
 
-    ghost view = { λ listed. pairs_at listed.entries.now listed.order.now };
+    ghost view = { λ listed. listed.part ++ joined listed.later.now };
 
-    ghost invariant = { λ listed. AreTaken listed.entries.now listed.order.now };
+    ghost invariant = { λ listed. HaveSome listed.later.now
+        × (length (listed.part ++ joined listed.later.now) ≤ 2 ^ 32) };
 }
 
-/// One of the places in an order. Where there is one place alone, the order is not looked at: a walk waits
-/// for one load less in a directory of one name.
-#[inline(always)]
-fn place_at(entries: &[Option<(Name, Key)>], order: &[u32], at: usize) -> usize
-    requires taken { AreTaken entries.now order.now }
-    requires within { at < length order.now }
-    ensures read { result ≡ slice_index_or order.now at result }
+/// How many entries there are in these chunks.
+fn length_of(chunks: &[Chunk]) -> usize
+    requires few { length (joined chunks.now) ≤ 2 ^ 32 }
+    ensures known { result ≡ length (joined chunks.now) }
 {
-    if entries.len() == 1 {
-        return 0;
+    let mut len = 0;
+    for chunk in chunks {
+        len += chunk.all().len();
     }
-    order[at] as usize
+    len
 }
 
 impl<'a> Listed<'a> {
-    /// What stands at these places, in this order.
+    /// What stands in a part and in later chunks.
     #[inline(always)]
-    pub(crate) fn new(entries: &'a [Option<(Name, Key)>], order: &'a [u32]) -> Listed<'a>
-        requires taken { AreTaken entries.now order.now }
-        ensures made { result ≡ pairs_at entries.now order.now }
+    pub(crate) fn new(part: Part<'a>, later: &'a [Chunk]) -> Listed<'a>
+        requires some { HaveSome later.now }
+        requires few { length (part ++ joined later.now) ≤ 2 ^ 32 }
+        ensures made { result ≡ part.entry ++ joined later.now }
     {
-        Listed { order, entries }
+        Listed { part, later }
     }
 
     /// No entries.
@@ -60,17 +62,16 @@ impl<'a> Listed<'a> {
         ensures empty { result ≡ [] }
     {
         Listed {
-            order: &[],
-            entries: &[],
+            part: Part::none(),
+            later: &[],
         }
     }
 
     /// How many there are.
-    #[inline(always)]
     pub fn len(&self) -> usize
         ensures known { result ≡ length self.now }
     {
-        self.order.len()
+        self.part.len() + length_of(self.later)
     }
 
     /// Whether there are none.
@@ -78,32 +79,7 @@ impl<'a> Listed<'a> {
     pub fn is_empty(&self) -> bool
         ensures known { IsTrue result ↔ (self.now ≡ []) }
     {
-        self.order.is_empty()
-    }
-
-    /// The name and the key of one of them.
-    #[inline(always)]
-    pub(crate) fn at(&self, at: usize) -> (&'a Name, Key)
-        requires within { at < length self.now }
-        ensures read { (other : List ℕ × Key) → (result.0.now, result.1) ≡ slice_index_or self.now at other }
-    {
-        let (entries, order) = (self.entries, self.order);
-        match &entries[place_at(entries, order, at)] {
-            Some((name, key)) => (name, *key),
-            None => unreachable!(),
-        }
-    }
-
-    /// Those from a place in the list on.
-    #[inline(always)]
-    pub(crate) fn from(self, at: usize) -> Listed<'a>
-        requires within { at ≤ length self }
-        ensures left { result ≡ drop at self.entry }
-    {
-        Listed {
-            order: &self.order[at..],
-            entries: self.entries,
-        }
+        self.part.is_empty() && self.later.is_empty()
     }
 
     /// The first of them, and the others.
@@ -112,10 +88,22 @@ impl<'a> Listed<'a> {
         ensures split { IfSome result (λ split. self.entry ≡ (split.0.0.now, split.0.1) ∷ split.1) }
         ensures empty { IfNone result (self.entry ≡ []) }
     {
-        if self.is_empty() {
-            return None;
+        let Listed { part, later } = self;
+        match part.split_first() {
+            Some((first, part)) => Some((first, Listed { part, later })),
+            None => Listed::of_chunks(later),
         }
-        let first = self.at(0);
-        Some((first, self.from(1)))
+    }
+
+    /// The first of the entries in these chunks, and the others.
+    fn of_chunks(later: &'a [Chunk]) -> Option<((&'a Name, Key), Listed<'a>)>
+        requires some { HaveSome later.now }
+        requires few { length (joined later.now) ≤ 2 ^ 32 }
+        ensures split { IfSome result (λ split. joined later.now ≡ (split.0.0.now, split.0.1) ∷ split.1) }
+        ensures empty { IfNone result (joined later.now ≡ []) }
+    {
+        let (chunk, later) = later.split_first()?;
+        let (first, part) = chunk.all().split_first()?;
+        Some((first, Listed { part, later }))
     }
 }

@@ -4,12 +4,12 @@ ghost use Rattle.std.specs.Prelude.{IfOk, IfErr};
 ghost use Rattle.kf_index.specs.Pairs.{IsRising, IsPlaceOf, IsGapFor};
 
 use crate::compare::in_byte_order;
-use crate::listed::Listed;
+use crate::part::Part;
 use std::cmp::Ordering;
 
 /// Where the name is, or else where it would go.
 #[inline(always)]
-pub(crate) fn search(entries: Listed<'_>, name: &[u8]) -> Result<usize, usize>
+pub(crate) fn search(entries: Part<'_>, name: &[u8]) -> Result<usize, usize>
     requires rising { IsRising entries }
     ensures found { IfOk result (λ at. IsPlaceOf entries.entry name.now at) }
     ensures absent { IfErr result (λ at. IsGapFor entries.entry name.now at) }

@@ -1,3 +1,4 @@
+pub mod SlotItems
 pub mod Counts
 pub mod Ties
 pub mod HiddenMarks

@@ -3,6 +3,7 @@ use Rattle.std.proofs.Common.{◌≡◌, ℕ, zero, suc, ◌+◌, ◌≤◌, ref
 use Rattle.std.specs.Prelude.{Option, None, Some, slice_get, count_by, map}
 use Rattle.std.specs.Option.{option_map}
 use Rattle.std.proofs.lemmas.Option.{same_Some, none-some}
+use Rattle.kf_core.specs.Limits.{most_slots}
 use Rattle.kf_core.specs.declared.records.Record.{Record}
 use Rattle.kf_plain.specs.declared.nodes.visits.BoardFile.{BoardFile}
 use Rattle.kf_plain.specs.declared.nodes.hiding.BoardToken.{BoardToken}
@@ -30,7 +31,7 @@ no_file_on slot zero i o e = absurd (none-some o e)
 no_file_on slot (suc n) zero o e = subst (λ p. is_on slot p ≡ false) (same_Some None o e) refl
 no_file_on slot (suc n) (suc i) o e = no_file_on slot n i o e
 
-new_whole : (slots holds start : ℕ) → slots ≤ 4096 → IsWhole (new_nodes slots holds start) (replicate slots 1) (replicate slots []) (replicate 26 None) (replicate slots None)
+new_whole : (slots holds start : ℕ) → slots ≤ most_slots → IsWhole (new_nodes slots holds start) (replicate slots 1) (replicate slots []) (replicate 26 None) (replicate slots None)
 new_whole slots holds start few = record {
   few = rw as_long few;
   an_event_each = length-replicate slots _ ∙ sym as_long;
@@ -56,7 +57,7 @@ new_whole slots holds start few = record {
     no_token_in (suc n) zero = refl
     no_token_in (suc n) (suc slot) = no_token_in n slot
 
-pub whole_new : (slots holds start : ℕ) (n : Nodes) (events : List ℕ) (texts : List (List ℕ)) (files : List (Option BoardFile)) (tokens : List (Option BoardToken)) → slots ≤ 4096 → n ≡ new_nodes slots holds start → events ≡ replicate slots 1 → texts ≡ replicate slots [] → files ≡ replicate 26 None → tokens ≡ replicate slots None → IsWhole n events texts files tokens
+pub whole_new : (slots holds start : ℕ) (n : Nodes) (events : List ℕ) (texts : List (List ℕ)) (files : List (Option BoardFile)) (tokens : List (Option BoardToken)) → slots ≤ most_slots → n ≡ new_nodes slots holds start → events ≡ replicate slots 1 → texts ≡ replicate slots [] → files ≡ replicate 26 None → tokens ≡ replicate slots None → IsWhole n events texts files tokens
 whole_new slots holds start n events texts files tokens few a b c d k =
     subst (λ m. IsWhole m events texts files tokens) (sym a) (subst (λ ev. IsWhole (new_nodes slots holds start) ev texts files tokens) (sym b) (subst (λ ts. IsWhole (new_nodes slots holds start) (replicate slots 1) ts files tokens) (sym c)
     (subst (λ fs. IsWhole (new_nodes slots holds start) (replicate slots 1) (replicate slots []) fs tokens) (sym d)

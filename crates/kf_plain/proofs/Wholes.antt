@@ -2,6 +2,7 @@
 use Rattle.std.proofs.Common.{◌≡◌, ℕ, ◌≤◌, ap, sym, ◌∙◌, subst, List, length, slice_set}
 use Rattle.std.specs.Prelude.{Option}
 use Rattle.std.proofs.Math.Path.{fun_ext}
+use Rattle.kf_core.specs.Limits.{most_slots}
 use Rattle.kf_core.specs.declared.command.Command.{Command}
 use Rattle.kf_tree.specs.TreeLogs.{TreeLog}
 use Rattle.kf_tree.proofs.Opening.{length_replay}
@@ -65,7 +66,7 @@ held_part n events texts files tokens w = record { idle = w.idle; held = w.held;
 -- the same tree, other callers and files that fit each other, and as many event numbers and texts
 pub whole_held : (n n' : Nodes) (events events' : List ℕ) (texts texts' : List (List ℕ)) (files : List (Option BoardFile)) (tokens : List (Option BoardToken)) (files' : List (Option BoardFile)) → IsWhole n events texts files tokens → n'.log ≡ n.log → length events' ≡ length events → length texts' ≡ length texts → length files' ≡ length files → AreHeld n'.callers files' tokens → IsWhole n' events' texts' files' tokens
 whole_held n n' events events' texts texts' files tokens files' w l e t f h = record {
-  few = subst (λ (x : TreeLog). length x.tree ≤ 4096) (sym l) w.few;
+  few = subst (λ (x : TreeLog). length x.tree ≤ most_slots) (sym l) w.few;
   an_event_each = e ∙ w.an_event_each ∙ ap (λ (x : TreeLog). length x.tree) (sym l);
   a_text_each = t ∙ w.a_text_each ∙ ap (λ (x : TreeLog). length x.tree) (sym l);
   a_file_each = f ∙ w.a_file_each;

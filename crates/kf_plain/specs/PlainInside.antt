@@ -1,6 +1,7 @@
 -- How the parts of a plain board fit together.
 use Rattle.std.specs.Prelude.{◌≡◌, ℕ, ◌≤◌, List, length, map, slice_get, Option, Some, None, Ok}
 use Rattle.std.specs.Option.{option_map}
+use Rattle.kf_core.specs.Limits.{most_slots}
 use Rattle.kf_core.specs.declared.key.Node.{Node}
 use Rattle.kf_core.specs.declared.key.Node.TheVariants.{Dir, File, Link}
 use Rattle.kf_core.specs.declared.caller.Caller.{Caller}
@@ -75,7 +76,7 @@ IsTagged (Some r) = IsTaggedNode r.key.slot r.node
 -- that are those of open files and tokens
 pub record IsWhole (n : Nodes) (events : List ℕ) (texts : List (List ℕ)) (files : List (Option BoardFile))
     (tokens : List (Option BoardToken)) : Type 0 where
-  pub few : length n.log.tree ≤ 4096
+  pub few : length n.log.tree ≤ most_slots
   pub an_event_each : length events ≡ length n.log.tree
   pub a_text_each : length texts ≡ length n.log.tree
   pub a_file_each : length files ≡ 26

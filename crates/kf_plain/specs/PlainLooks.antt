@@ -1,6 +1,7 @@
 -- What the commands answer that only look.
 use Rattle.std.specs.Prelude.{ℕ, List, Result}
 use Rattle.std.specs.Option.{option_map, ok_or}
+use Rattle.kf_core.specs.Limits.{most_slots}
 use Rattle.kf_core.specs.declared.key.Key.{Key}
 use Rattle.kf_core.specs.declared.refusal.Refusal.{Refusal}
 use Rattle.kf_core.specs.declared.refusal.Refusal.TheVariants.{NoEntry}
@@ -24,7 +25,7 @@ listed_dir b path =
 
 -- as many names as a list has at most: more than any directory has children
 abbrev pub name_limit : ℕ
-name_limit = 4096
+name_limit = most_slots
 
 -- the link whose text is read
 abbrev pub read_link_key : Plain → List ℕ → Result Key Refusal

@@ -7,7 +7,7 @@ ghost use Rattle.kf_plain.specs.Plain.{new_board};
 use crate::events::EventTable;
 use crate::nodes::{BoardFile, BoardToken, Nodes};
 use crate::text_table::TextTable;
-use kf_core::{Limits, Refusal};
+use kf_core::{Limits, Refusal, SlotList};
 use std::alloc::Global;
 use std::marker::Model;
 
@@ -31,7 +31,7 @@ pub struct PlainBoard {
     events: EventTable,
     texts: TextTable,
     files: Vec<Option<BoardFile>>,
-    tokens: Vec<Option<BoardToken>>,
+    tokens: SlotList<Option<BoardToken>>,
 }
 
 impl Model for PlainBoard {
@@ -41,9 +41,9 @@ impl Model for PlainBoard {
 
     ghost use Rattle.kf_plain.specs.PlainInside.{plain_of, IsWhole};
 
-    ghost view = { λ b. plain_of b.nodes b.events b.texts b.files.items b.tokens.items };
+    ghost view = { λ b. plain_of b.nodes b.events b.texts b.files.items b.tokens };
 
-    ghost invariant = { λ b. IsWhole b.nodes b.events b.texts b.files.items b.tokens.items };
+    ghost invariant = { λ b. IsWhole b.nodes b.events b.texts b.files.items b.tokens };
 }
 
 /// No file under any of the 26 letters.
@@ -57,14 +57,6 @@ fn no_files(alloc: Global) -> Result<Vec<Option<BoardFile>>, Refusal>
         files.push(None).map_err(|_| Refusal::NoMemory)?;
     }
     Ok(files)
-}
-
-/// No token in any of so many slots.
-fn no_tokens(alloc: Global, slots: u32) -> Result<Vec<Option<BoardToken>>, Refusal>
-    ensures none { IfOk result (λ tokens. tokens.items ≡ replicate slots None) }
-    ensures refused { IfErr result (λ refusal. refusal ≡ NoMemory) }
-{
-    Ok(vec![in alloc; None; slots as usize]?)
 }
 
 impl PlainBoard {
@@ -89,7 +81,7 @@ impl PlainBoard {
         let events = EventTable::new(alloc, limits.slots())?;
         let texts = TextTable::new(alloc, limits.slots())?;
         let files = no_files(alloc)?;
-        let tokens = no_tokens(alloc, limits.slots())?;
+        let tokens = SlotList::new(alloc, limits.slots() as usize, None)?;
         Ok(PlainBoard {
             nodes,
             events,

@@ -3,7 +3,7 @@
 ghost use Rattle.std.specs.Prelude.{◌≡◌, ◌+◌, ◌-◌, ◌^◌, ◌<◌, ℕ, List, length, replicate, slice_index, slice_set, IfOk, IfErr};
 ghost use Rattle.kf_core.specs.declared.refusal.Refusal.TheVariants.{NoMemory, NoSpace};
 
-use kf_core::{ActiveCall, Refusal};
+use kf_core::{ActiveCall, Refusal, SlotList};
 use kf_files::EventNumbers;
 use std::alloc::Global;
 use std::marker::Model;
@@ -12,13 +12,13 @@ use std::marker::Model;
 /// goes back.
 #[derive(Drop)]
 pub struct EventTable {
-    numbers: Vec<u64>,
+    numbers: SlotList<u64>,
 }
 
 impl Model for EventTable {
     ghost Value = { List ℕ };
 
-    ghost view = { λ t. t.numbers.items };
+    ghost view = { λ t. t.numbers };
 }
 
 impl EventTable {
@@ -28,7 +28,7 @@ impl EventTable {
         ensures refused { IfErr result (λ refusal. refusal ≡ NoMemory) }
     {
         Ok(EventTable {
-            numbers: vec![in alloc; 1; slots as usize]?,
+            numbers: SlotList::new(alloc, slots as usize, 1)?,
         })
     }
 
@@ -36,7 +36,10 @@ impl EventTable {
     pub fn at(&self, slot: u32) -> u64
         ensures number { result ≡ slice_index self.now slot }
     {
-        self.numbers.get(slot as usize).copied().unwrap_or(0)
+        match self.numbers.get(slot as usize) {
+            Some(number) => number,
+            None => 0,
+        }
     }
 
     /// Raises the slot's number by one (`kernfs_notify`). `NoSpace` where it is 2^64 - 1, and then nothing
@@ -51,11 +54,11 @@ impl EventTable {
         ensures refused { IfErr result (λ refusal. (refusal ≡ NoSpace)
             × (slice_index self.old slot ≡ 2 ^ 64 - 1) × (self.new ≡ self.old)) }
     {
-        let number = &mut self.numbers[slot as usize];
-        if *number == u64::MAX {
+        let number = self.numbers.at(slot as usize);
+        if number == u64::MAX {
             return Err(Refusal::NoSpace);
         }
-        *number += 1;
+        self.numbers.set(slot as usize, number + 1);
         Ok(())
     }
 }

@@ -1,10 +1,11 @@
 //! The texts of a board's files, by slot, and the callbacks that show and store them.
 
-ghost use Rattle.std.specs.Prelude.{◌≡◌, ◌<◌, ◌≤◌, ◌+◌, ◌++◌, List, ℕ, [], length, replicate, slice_set, take, IfOk, IfErr, OnOk, OnErr};
+ghost use Rattle.std.specs.Prelude.{◌≡◌, ◌<◌, ◌≤◌, ◌+◌, ◌++◌, List, ℕ, [], length, replicate, slice_get, slice_index_or, slice_set, take, None, IfOk, IfErr, OnOk, OnErr};
+ghost use Rattle.std.specs.Option.{option_and_then, option_map_or};
 ghost use Rattle.kf_core.specs.declared.refusal.Refusal.TheVariants.{NoMemory};
 ghost use Rattle.kf_plain.specs.TextTable.{ShowsOf, StoresIn};
 
-use kf_core::{ActiveCall, Refusal};
+use kf_core::{ActiveCall, Refusal, SlotMap};
 use kf_files::{Fault, Ops, Page};
 use std::alloc::{AllocError, Global};
 use std::marker::Model;
@@ -13,15 +14,16 @@ use std::marker::Model;
 #[derive(Drop)]
 pub struct TextTable {
     alloc: Global,
-    texts: Vec<Vec<u8>>,
+    texts: SlotMap<Vec<u8>>,
 }
 
 impl Model for TextTable {
-    ghost use Rattle.std.specs.Prelude.{ℕ, List, map};
+    ghost use Rattle.std.specs.Prelude.{ℕ, List, [], map};
+    ghost use Rattle.std.specs.Option.{option_map_or};
 
     ghost Value = { List (List ℕ) };
 
-    ghost view = { λ t. map (λ text. text.items) t.texts.items };
+    ghost view = { λ t. map (λ text. option_map_or (λ bytes. bytes.items) text []) t.texts };
 }
 
 /// Appends bytes for which there is room.
@@ -59,17 +61,25 @@ fn replace(alloc: Global, text: &mut Vec<u8>, bytes: &[u8]) -> Result<(), AllocE
     Ok(())
 }
 
+/// The text of a slot, taken out of its place.
+fn text_in(texts: &mut SlotMap<Vec<u8>>, alloc: Global, slot: usize) -> Vec<u8>
+    ensures text { result.items ≡ option_map_or (λ bytes. bytes.items)
+        (option_and_then (λ text. text) (slice_get texts.old slot)) [] }
+    ensures taken { texts.new ≡ slice_set texts.old slot None }
+{
+    match texts.take(slot) {
+        Some(text) => text,
+        None => Vec::new(alloc),
+    }
+}
+
 impl TextTable {
     /// An empty text for each of so many slots.
     pub fn new(alloc: Global, slots: u32) -> Result<TextTable, Refusal>
         ensures empty { IfOk result (λ table. table ≡ replicate slots []) }
         ensures refused { IfErr result (λ refusal. refusal ≡ NoMemory) }
     {
-        let mut texts = Vec::new(alloc);
-        for made in 0..slots {
-            prove!(made < slots);
-            texts.push(Vec::new(alloc)).map_err(|_| Refusal::NoMemory)?;
-        }
+        let texts = SlotMap::new(alloc, slots as usize)?;
         Ok(TextTable { alloc, texts })
     }
 
@@ -81,12 +91,22 @@ impl TextTable {
         bytes.to_vec(self.alloc).map_err(|_| Refusal::NoMemory)
     }
 
+    /// The text of a slot. Empty where there is none, and past the last slot.
+    fn at(&self, slot: usize) -> &[u8]
+        ensures text { result.now ≡ slice_index_or self.now slot [] }
+    {
+        match self.texts.get(slot) {
+            Some(text) => text.as_slice(),
+            None => &[],
+        }
+    }
+
     /// Puts a text in place of the slot's.
     pub fn put(&mut self, slot: u32, text: Vec<u8>)
         requires slot { slot < length self.old }
         ensures text { self.new ≡ slice_set self.old slot text.items }
     {
-        self.texts[slot as usize] = text;
+        self.texts.put(slot as usize, text);
     }
 
     /// Puts a copy of the bytes in place of the slot's text. After a refusal that is as it was.
@@ -95,7 +115,10 @@ impl TextTable {
         ensures replaced { OnOk result (self.new ≡ slice_set self.old slot bytes.now) }
         ensures unchanged { OnErr result (self.new ≡ self.old) }
     {
-        replace(self.alloc, &mut self.texts[slot], bytes)
+        let mut text = text_in(&mut self.texts, self.alloc, slot);
+        let replaced = replace(self.alloc, &mut text, bytes);
+        self.texts.put(slot, text);
+        replaced
     }
 }
 
@@ -106,13 +129,8 @@ impl<C: ActiveCall> Ops<C> for TextTable {
 
     fn show(&mut self, call: &mut C, tag: u64, page: &mut Page) -> Result<(), Fault> {
         let _ = call;
-        match self.texts.get(tag as usize) {
-            Some(text) => {
-                fill(page, text.as_slice());
-                Ok(())
-            }
-            None => Ok(()),
-        }
+        fill(page, self.at(tag as usize));
+        Ok(())
     }
 
     fn store(&mut self, call: &mut C, tag: u64, bytes: &[u8]) -> Result<usize, Fault> {

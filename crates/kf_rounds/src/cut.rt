@@ -1,6 +1,6 @@
 //! A script in memory as its lines, each cut out and looked at once.
 
-ghost use Rattle.std.specs.Prelude.{◌≡◌, ◌≤◌, ◌∷◌, ◌<◌, map, position, IfOk, IfSome, length};
+ghost use Rattle.std.specs.Prelude.{◌≡◌, ◌≤◌, ◌∷◌, ◌<◌, [], map, position, IfOk, IfSome, IsOk, OnOk, length, vec_capacity};
 ghost use Rattle.std.specs.Option.{option_map};
 ghost use Rattle.std.specs.List.{slice_split};
 ghost use Rattle.kf_script.specs.Lines.{is_newline, lines_of};
@@ -45,6 +45,22 @@ pub fn kinds_in(
         (λ kinds. map kind_view kinds.items ≡ map (kind_by workers) (lines_of script.now)) }
 {
     let mut kinds = Vec::with_capacity(alloc, script.len() / USUAL_LINE)?;
+    push_kinds(&mut kinds, script, workers)?;
+    Ok(kinds)
+}
+
+/// Puts the kinds of a script's lines into an empty list. It is not refused where that has room for all.
+fn push_kinds<'a>(
+    kinds: &mut Vec<LineKind<'a>>,
+    script: &'a [u8],
+    workers: usize,
+) -> Result<(), AllocError>
+    requires few { workers ≤ 16 }
+    requires empty { kinds.old.items ≡ [] }
+    ensures kinds { OnOk result
+        (map kind_view kinds.new.items ≡ map (kind_by workers) (lines_of script.now)) }
+    ensures fits { length (lines_of script.now) ≤ vec_capacity kinds.old → IsOk result }
+{
     let mut left = Some(script);
     while let Some(text) = left {
         let (line, later) = cut_line(text);
@@ -53,5 +69,5 @@ pub fn kinds_in(
         }
         left = later;
     }
-    Ok(kinds)
+    Ok(())
 }

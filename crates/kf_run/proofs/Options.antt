@@ -4,6 +4,7 @@ use Rattle.std.specs.List.{All, slice_index_or}
 use Rattle.std.specs.Str.{bytes_eq}
 use Rattle.std.proofs.lemmas.Bool.{false≢true}
 use Rattle.std.specs.Borrow.{Bor}
+use Rattle.kf_core.specs.Limits.{most_slots}
 use Rattle.clap.specs.Facts.{args_of, groups_of}
 use Rattle.clap.specs.Built.{IsPlain, IsPlainArg, IsParsedFrom}
 use Rattle.clap.specs.Matches.{found_of}
@@ -144,7 +145,7 @@ text_at f x a q r there e exact h =
 
 -- after a parse that succeeded both options have a number in their range
 pub options_given : (c : Command) (m : ArgMatches) → app_of c ≡ program → IsParsedFrom c m
-    → HasText (found_of m) (codes "slots") false (Signed (pos 1) (pos 4096)) × HasText (found_of m) (codes "workers") false (Signed (pos 0) (pos 16))
+    → HasText (found_of m) (codes "slots") false (Signed (pos 1) (pos most_slots)) × HasText (found_of m) (codes "workers") false (Signed (pos 0) (pos 16))
 options_given c m e p =
     let t = three (args_of c) slots_rule workers_rule script_rule (ap (λ (x : App). x.top.rules) e) in
     let (a, b, s, args, ra, rb, rs) = t in
@@ -159,9 +160,9 @@ options_given c m e p =
     let second : slice_index_or (args_of c) 1 b ≡ b = ap (λ l. slice_index_or l 1 b) args in
     let of_slots : slice_index (slice_index_or (args_of c) 0 a).id.now 0 ≡ 115 = ap (λ (x : Arg). slice_index x.id.now 0) first ∙ ap (λ i. slice_index i 0) (id_of a slots_rule ra) in
     let of_workers : slice_index (slice_index_or (args_of c) 1 b).id.now 0 ≡ 119 = ap (λ (x : Arg). slice_index x.id.now 0) second ∙ ap (λ i. slice_index i 0) (id_of b workers_rule rb) in (
-      text_at (found_of m) _ a (Signed (pos 1) (pos 4096)) slots_rule first ra refl
-          (default_text c m p plain simple.1 0 a (omega arith) (Signed (pos 1) (pos 4096))
-          (subst (λ (x : Arg). TakesOne x (Signed (pos 1) (pos 4096))) (sym first) (takes_one a slots_rule _ _ ra refl refl refl refl refl refl))
+      text_at (found_of m) _ a (Signed (pos 1) (pos most_slots)) slots_rule first ra refl
+          (default_text c m p plain simple.1 0 a (omega arith) (Signed (pos 1) (pos most_slots))
+          (subst (λ (x : Arg). TakesOne x (Signed (pos 1) (pos most_slots))) (sym first) (takes_one a slots_rule _ _ ra refl refl refl refl refl refl))
           (subst (λ (l : List Arg). (j : ℕ) (d : Arg) → j < length l → bytes_eq (slice_index_or l j d).id.now (slice_index_or l 0 a).id.now ≡ true → j ≡ 0) (sym args) (only_slots a b s ra rb rs))
           (not_empty (slice_index_or (args_of c) 0 a).id.now 115 of_slots (omega arith)) (not_auto (slice_index_or (args_of c) 0 a).id.now 115 of_slots (λ bad. absurd (omega arith)) (λ bad. absurd (omega arith)))),
       text_at (found_of m) _ b (Signed (pos 0) (pos 16)) workers_rule second rb refl

@@ -1,6 +1,7 @@
 -- What the words of a command line ask for, as clap reads them.
 use Rattle.std.specs.Prelude.{◌≡◌, ◌≢◌, ℕ, Bool, true, List, [], ◌∷◌, Option, Some, pos, codes}
 use Rattle.std.specs.Str.Parse.{digits_value, without_leading_plus}
+use Rattle.kf_core.specs.Limits.{most_slots}
 use Rattle.clap.specs.Words.{Accepts, App, Kinds, Rule, Row, Text, fault_of, first_of, matches_of, new_app, new_rule, one_of}
 use Rattle.clap.specs.Words.{one_text, read_as, reading_of, with_rule}
 use Rattle.clap.specs.Simple.{on_top}
@@ -11,13 +12,13 @@ use Rattle.clap.specs.declared.error.kind.ErrorKind.{ErrorKind}
 use Rattle.clap.specs.declared.error.kind.ErrorKind.TheVariants.{DisplayHelp, DisplayVersion}
 use Rattle.clap.specs.declared.parser.matches.Found.{Found}
 
--- `--slots N`: 1 to 4096, and 1024 where the words have none
+-- `--slots N`: 1 to the most slots, and 1024 where the words have none
 abbrev pub slots_rule : Rule
 slots_rule = record (new_rule (codes "slots")) {
   long = Some (codes "slots");
   action = Some Set;
   value_names = 1;
-  parser = Some (Signed (pos 1) (pos 4096));
+  parser = Some (Signed (pos 1) (pos most_slots));
   defaults = codes "1024" ∷ [];
 }
 

@@ -1,6 +1,7 @@
 //! What the words of the command line ask for.
 
 ghost use Rattle.std.specs.Prelude.{◌≡◌, ◌≤◌, IfErr, IfOk, codes, false, map, option_map, pos};
+ghost use Rattle.kf_core.specs.Limits.{most_slots};
 ghost use Rattle.clap.specs.Words.{FailsBy, app_of, found_of, kind_of, one_text, rule_of};
 ghost use Rattle.clap.specs.declared.builder.value_parser.ValueParser.TheVariants.{Signed};
 ghost use Rattle.clap.specs.declared.error.kind.ErrorKind.{ErrorKind};
@@ -8,7 +9,7 @@ ghost use Rattle.kf_run.specs.Asking.{AskFor, HasText, IsNumber, faults_in, prog
 ghost use Rattle.kf_run.specs.Asking.{workers_rule};
 
 use clap::{Arg, ArgAction, ArgMatches, Command, Error, value_parser};
-use kf_core::Limits;
+use kf_core::{Limits, MOST_SLOTS};
 use std::alloc::Global;
 use std::convert::AsStr;
 
@@ -18,7 +19,7 @@ const VERSION: &str = "0.1.0";
 /// What the program does, as help tells it.
 const ABOUT: &str = "Runs a script on an attribute tree that behaves like Linux kernfs.\n\n\
     The script has one command a line, and each line is answered by one line on\n\
-    standard output: as soon as it was read, or, with workers, when all was run.";
+    standard output: as the script is read, or, with workers, when all was run.";
 
 /// What stands at the end of help: the commands of scripts, and what the program's status says.
 const COMMANDS_AND_STATUSES: &str = "Commands, one a line, words apart by one space:\n  \
@@ -28,6 +29,9 @@ const COMMANDS_AND_STATUSES: &str = "Commands, one a line, words apart by one sp
     poll H              notify PATH           close H            hide PATH\n  \
     show PATH           commands              compact            wait\n  \
     plug NAME TEXT      unplug NAME           @W COMMAND (worker W)\n\
+    \n\
+    Limits: a line 8192 bytes, a page 4096, a name 255; 26 open files for each\n\
+    worker and the owner; a script that workers run 1048576 bytes.\n\
     \n\
     Status: 0 where the script was run, whatever its replies; 1 after a fault of\n\
     reading, writing or memory, which standard error names; 2 where the arguments\n\
@@ -62,8 +66,8 @@ fn slots_option<'a>(alloc: Global) -> Arg<'a>
         .long("slots")
         .action(ArgAction::Set)
         .value_name("N")
-        .help("Nodes that the tree has room for, 1 to 4096, the root counted")
-        .value_parser(value_parser!(u32).range(1..=4096))
+        .help("Nodes that the tree has room for, 1 to 1048576, the root counted")
+        .value_parser(value_parser!(u32).range(1..=i64::from(MOST_SLOTS)))
         .default_value(DEFAULT_SLOTS)
 }
 
@@ -109,10 +113,10 @@ fn command<'a>(alloc: Global) -> Result<Command<'a>, Error>
 
 /// The number of slots that the words name, or else the default.
 fn slots_in(matches: &ArgMatches<'_>) -> u32
-    requires given { HasText (found_of matches.now) (codes "slots") false (Signed (pos 1) (pos 4096)) }
+    requires given { HasText (found_of matches.now) (codes "slots") false (Signed (pos 1) (pos most_slots)) }
     ensures value { IsNumber (one_text (found_of matches.now) (codes "slots")) result }
     ensures some { 1 ≤ result }
-    ensures few { result ≤ 4096 }
+    ensures few { result ≤ most_slots }
 {
     matches.get_one::<u32>("slots").unwrap()
 }
@@ -129,7 +133,7 @@ fn workers_in(matches: &ArgMatches<'_>) -> u32
 /// The limits of a tree with so many slots.
 fn limits_of(slots: u32) -> Limits
     requires some { 1 ≤ slots }
-    requires few { slots ≤ 4096 }
+    requires few { slots ≤ most_slots }
     ensures slots { result.slots ≡ slots }
     ensures holds { result.holds ≡ 65535 }
 {

@@ -3,6 +3,7 @@
 
 mod arguments;
 mod host;
+mod opened;
 mod program;
 
 pub use arguments::{Asked, read_words};

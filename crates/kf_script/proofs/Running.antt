@@ -1,9 +1,9 @@
 -- Lemmas on lines, replies and how far a run has come.
-use Rattle.std.proofs.Common.{◌≡◌, ℕ, ◌+◌, ◌≤◌, Bool, All, false, List, [], ◌∷◌, ◌++◌, length, map, filter, Option, Some, None, Result, Ok, Err, MatchResult, OnOk, IsErrOf, arith, refl, sym, ap, subst, ◌∙◌, append_assoc, append-nil, rules, inl, inr}
+use Rattle.std.proofs.Common.{◌≡◌, ℕ, ◌+◌, ◌≤◌, Bool, All, false, List, [], ◌∷◌, ◌++◌, length, map, filter, Option, Some, None, Result, Ok, Err, MatchResult, arith, refl, sym, ap, subst, ◌∙◌, append_assoc, append-nil, rules, inl, inr}
 use Rattle.std.specs.List.{slice_split}
 use Rattle.std.specs.Option.{option_and_then}
 use Rattle.std.specs.Prelude.{nat_le, ◌==◌}
-use Rattle.std.specs.Io.KnownBytes.{Appends, Consumes, IsAtEnd}
+use Rattle.std.specs.Io.KnownBytes.{Appends}
 use Rattle.std.proofs.KnownBytes.{Appends-trans, Appends-nil}
 use Rattle.std.proofs.lemmas.List.Splits.{slice_split_at, slice_split_none}
 use Rattle.std.proofs.lemmas.List.Concat.{flat_map-append}
@@ -248,6 +248,11 @@ cut-here {read = read} s =
     ∙ ap (λ l. s.ended ++ slice_split is_newline l) (append-nil s.pending)
     ∙ ap (λ l. s.ended ++ l) (slice_split_none is_newline s.pending s.unended)
 
+-- the lines that had ended, and the one that had not
+pub lines-here : {Board : Type 0} {step : Step Board} {first now : Board} {read : List ℕ} {line old new : Option (List ℕ)} (s : Running step first now read line old new)
+    → lines_of read ≡ filter has_bytes s.ended ++ filter has_bytes (s.pending ∷ [])
+lines-here s = ap (filter has_bytes) (cut-here s) ∙ filter-append s.ended (s.pending ∷ [])
+
 -- a read failed: the lines that had ended were answered
 pub running-ended : {Board : Type 0} {step : Step Board} {first now : Board} {read : List ℕ} {line old new : Option (List ℕ)}
     → Running step first now read line old new → Answered step first now (ended_lines_of read) old new
@@ -255,25 +260,14 @@ running-ended {step = step} {first = first} {now = now} {read = read} {old = old
     let same : ended_lines_of read ≡ filter has_bytes s.ended = ap (λ l. filter has_bytes (front l)) (cut-here s) ∙ ap (filter has_bytes) (front-push s.ended s.pending) in
     subst (λ l. Answered step first now l old new) (sym same) s.answered
 
--- the input ended, and its last line was answered or stopped by a fault
-pub running-end : {Board T E : Type 0} {step : Step Board} {first now : Board} (next : Board) {read : List ℕ} {line old new : Option (List ℕ)} (after : Option (List ℕ)) (result : Result T E)
-    → (s : Running step first now read line old new) → AnsweredOrCut step now next (ended_line s.pending) new after result
-    → AnsweredOrCut step first next (lines_of read) old after result
-running-end {step = step} {first = first} next {old = old} after (Ok x) s a =
-    let whole = ap (filter has_bytes) (cut-here s) ∙ filter-append s.ended (s.pending ∷ []) in
-    subst (λ l. Answered step first next l old after) (sym whole) (answered-then s.answered a)
-running-end {step = step} {first = first} next {old = old} after (Err x) s a =
-    let whole = ap (filter has_bytes) (cut-here s) ∙ filter-append s.ended (s.pending ∷ []) in
-    subst (λ l. CutShort step first next l old after) (sym whole) (answered-cut s.answered a)
+-- the input ended, and its last line was answered
+pub end-answered : {Board : Type 0} {step : Step Board} {first now : Board} (next : Board) {read : List ℕ} {line : Option (List ℕ)} (old new after : Option (List ℕ))
+    → (s : Running step first now read line old new) → Answered step now next (ended_line s.pending) new after → Answered step first next (lines_of read) old after
+end-answered {step = step} {first = first} next old new after s a =
+    subst (λ l. Answered step first next l old after) (sym (lines-here s)) (answered-then s.answered a)
 
-pub end-ok : {Board T E : Type 0} (step : Step Board) (first next : Board) (read : List ℕ) (input left old after : Option (List ℕ)) (result : Result T E)
-    → AnsweredOrCut step first next (lines_of read) old after result → Consumes input left read → IsAtEnd left
-    → OnOk result ((read : List ℕ) × Consumes input left read × IsAtEnd left × Answered step first next (lines_of read) old after)
-end-ok step first next read input left old after (Ok x) a took end = (read, took, end, a)
-end-ok step first next read input left old after (Err x) a took end = tt
-
-pub end-cut : {Board T E : Type 0} (step : Step Board) (first next : Board) (read : List ℕ) (input left old after : Option (List ℕ)) (result : Result T E) (fault : E)
-    → AnsweredOrCut step first next (lines_of read) old after result → Consumes input left read
-    → IsErrOf result fault → (read : List ℕ) × Consumes input left read × CutShort step first next (lines_of read) old after
-end-cut step first next read input left old after (Ok x) fault a took failed = absurd (let bad : Ok x ≡ Err fault = failed in cc)
-end-cut step first next read input left old after (Err x) fault a took failed = (read, took, a)
+-- or stopped by a fault
+pub end-stopped : {Board : Type 0} {step : Step Board} {first now : Board} (next : Board) {read : List ℕ} {line : Option (List ℕ)} (old new after : Option (List ℕ))
+    → (s : Running step first now read line old new) → CutShort step now next (ended_line s.pending) new after → CutShort step first next (lines_of read) old after
+end-stopped {step = step} {first = first} next old new after s a =
+    subst (λ l. CutShort step first next l old after) (sym (lines-here s)) (answered-cut s.answered a)

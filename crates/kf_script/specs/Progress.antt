@@ -13,6 +13,10 @@ Writes old new result bytes =
     MatchResult result (λ _. Appends old new bytes)
     (λ _. (part : List ℕ) × IsPrefix part bytes × Appends old new part)
 
+-- bytes were written, or none
+abbrev pub Grows : Option (List ℕ) → Option (List ℕ) → Type 0
+Grows old new = (part : List ℕ) × Appends old new part
+
 -- The lines were answered, and what was written is their replies.
 pub record Answered {Board : Type 0} (step : Step Board) (first now : Board) (lines : List (List ℕ))
     (old new : Option (List ℕ)) : Type 0 where

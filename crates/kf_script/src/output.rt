@@ -1,54 +1,111 @@
-//! The script's output: the one way to the writer, and none after a fault.
+//! The script's output: the one way to the writer, and none after a fault. Replies are kept until more of the
+//! script is to be read, or until no other would find room.
 
-ghost use Rattle.std.specs.Prelude.{◌≡◌, true, false, OnErr, IfErr, IsErrOf};
-ghost use Rattle.kf_script.specs.Progress.{Writes};
+ghost use Rattle.std.specs.Prelude.{◌≡◌, ◌≤◌, ◌-◌, [], true, false, length, take, drop, OnOk, OnErr, IfErr, IsErrOf, vec_len, vec_capacity};
+ghost use Rattle.std.specs.Io.KnownBytes.{Appends, Keeps, append_known};
+ghost use Rattle.kf_script.specs.Progress.{Writes, Grows};
 
 use super::fault::RunFault;
 use std::io::Write;
+
+/// The most bytes of replies that are kept: as many as a pipe takes whole.
+pub const KEPT_LIMIT: usize = 4096;
+
+/// Writes the bytes, and answers how many of them were written: all, or fewer after a call that failed or
+/// took no byte, which is not tried again.
+fn give<W: Write>(writer: &mut W, bytes: &[u8]) -> usize
+    ensures inside { result ≤ length bytes.now }
+    ensures written { Appends (W.contents writer.old) (W.contents writer.new) (take result bytes.now) }
+{
+    let mut given = 0;
+    while given < bytes.len() {
+        match writer.write(&bytes[given..]) {
+            Ok(0) | Err(_) => return given,
+            Ok(count) => given += count,
+        }
+    }
+    given
+}
 
 /// Writes all of the bytes. A call that fails, or that takes no byte, is a fault, and is not tried again.
 pub fn write_whole<W: Write>(writer: &mut W, bytes: &[u8]) -> Result<(), RunFault>
     ensures written { Writes (W.contents writer.old) (W.contents writer.new) result bytes.now }
     ensures fault { IfErr result (λ fault. fault ≡ RunFault.Write) }
 {
-    let mut rest = bytes;
-    while !rest.is_empty() {
-        match writer.write(rest) {
-            Ok(0) => return Err(RunFault::Write),
-            Ok(count) => rest = &rest[count..],
-            Err(_) => return Err(RunFault::Write),
-        }
+    if give(writer, bytes) < bytes.len() {
+        return Err(RunFault::Write);
     }
     Ok(())
 }
 
-/// The writer of one run. While this has it nothing else can write, and after a write that failed there is
-/// none.
+/// Takes so many bytes away from the front.
+fn remove_front(kept: &mut Vec<u8>, count: usize)
+    requires { count ≤ vec_len kept.old }
+    ensures items { kept.new.items ≡ drop count kept.old.items }
+    ensures len { vec_len kept.new ≡ vec_len kept.old - count }
+    ensures capacity { vec_capacity kept.new ≡ vec_capacity kept.old }
+{
+    let len = kept.len();
+    kept.as_mut_slice().copy_within(count..len, 0);
+    kept.truncate(len - count);
+}
+
+/// Writes what is kept. What a fault leaves unwritten is kept.
+fn write_kept<W: Write>(writer: &mut W, kept: &mut Vec<u8>) -> Result<(), RunFault>
+    ensures same { Keeps (append_known (W.contents writer.old) kept.old.items)
+        (append_known (W.contents writer.new) kept.new.items) }
+    ensures grew { Grows (W.contents writer.old) (W.contents writer.new) }
+    ensures empty { OnOk result (kept.new.items ≡ []) }
+    ensures len { vec_len kept.new ≤ vec_len kept.old }
+    ensures capacity { vec_capacity kept.new ≡ vec_capacity kept.old }
+    ensures fault { IfErr result (λ fault. fault ≡ RunFault.Write) }
+{
+    let count = give(writer, kept.as_slice());
+    remove_front(kept, count);
+    if kept.is_empty() {
+        Ok(())
+    } else {
+        Err(RunFault::Write)
+    }
+}
+
+/// The writer of one run, and the replies that it has not been given yet. While this has it nothing else can
+/// write, and after a write that failed there is none.
 #[derive(Drop)]
 pub struct Output<'a, W> {
     writer: &'a mut W,
+    kept: &'a mut Vec<u8>,
     has_failed: bool,
+    ghost few: { vec_len kept.now ≤ 4096 },
+    ghost room: { 4096 ≤ vec_capacity kept.now },
 }
 
 impl<'a, W: Write> Output<'a, W> {
-    /// Takes the writer for one run.
-    pub fn new(writer: &'a mut W) -> Output<'a, W>
+    /// Takes the writer for one run, and memory for what is kept.
+    pub fn new(writer: &'a mut W, kept: &'a mut Vec<u8>) -> Output<'a, W>
+        requires none { kept.old.items ≡ [] }
+        requires empty { vec_len kept.old ≡ 0 }
+        requires room { 4096 ≤ vec_capacity kept.old }
         ensures lent { result.writer.ghost_name ≡ writer.entry.ghost_name }
         ensures writer { result.writer.now ≡ writer.old }
+        ensures none { result.kept.now.items ≡ [] }
         ensures works { result.has_failed ≡ false }
     {
         Output {
             writer,
+            kept,
             has_failed: false,
         }
     }
 
-    /// Writes all of the bytes in as few calls of write as the writer takes. After a fault it writes nothing
+    /// Writes what is kept, in as few calls of write as the writer takes. After a fault it writes nothing
     /// more.
-    pub fn write(&mut self, bytes: &[u8]) -> Result<(), RunFault>
+    pub fn flush(&mut self) -> Result<(), RunFault>
         ensures lent { self.new.writer.ghost_name ≡ self.old.writer.ghost_name }
-        ensures written { Writes (W.contents self.old.writer.now)
-            (W.contents self.new.writer.now) result bytes.now }
+        ensures same { Keeps (append_known (W.contents self.old.writer.now) self.old.kept.now.items)
+            (append_known (W.contents self.new.writer.now) self.new.kept.now.items) }
+        ensures grew { Grows (W.contents self.old.writer.now) (W.contents self.new.writer.now) }
+        ensures empty { OnOk result (self.new.kept.now.items ≡ []) }
         ensures fault { IfErr result (λ fault. fault ≡ RunFault.Write) }
         ensures failed { OnErr result (self.new.has_failed ≡ true) }
         ensures unwritten { self.old.has_failed ≡ true →
@@ -57,8 +114,40 @@ impl<'a, W: Write> Output<'a, W> {
         if self.has_failed {
             return Err(RunFault::Write);
         }
-        let result = write_whole(self.writer, bytes);
+        let result = write_kept(self.writer, self.kept);
         self.has_failed = result.is_err();
         result
+    }
+
+    /// Whether so many bytes more are kept: there is room for them, and no write has failed.
+    fn has_room(&self, count: usize) -> bool
+        ensures fits { result ≡ true → count ≤ 4096 - vec_len self.now.kept.now }
+        ensures works { result ≡ true → self.now.has_failed ≡ false }
+    {
+        !self.has_failed && count <= KEPT_LIMIT - self.kept.len()
+    }
+
+    /// Keeps the bytes behind what is kept, which is written first where they find no room. More than are
+    /// ever kept are written then too.
+    pub fn write(&mut self, bytes: &[u8]) -> Result<(), RunFault>
+        ensures lent { self.new.writer.ghost_name ≡ self.old.writer.ghost_name }
+        ensures written { Writes (append_known (W.contents self.old.writer.now) self.old.kept.now.items)
+            (append_known (W.contents self.new.writer.now) self.new.kept.now.items) result bytes.now }
+        ensures grew { Grows (W.contents self.old.writer.now) (W.contents self.new.writer.now) }
+        ensures fault { IfErr result (λ fault. fault ≡ RunFault.Write) }
+        ensures failed { OnErr result (self.new.has_failed ≡ true) }
+        ensures unwritten { self.old.has_failed ≡ true →
+            IsErrOf result RunFault.Write × (self.new.writer.now ≡ self.old.writer.now) }
+    {
+        if !self.has_room(bytes.len()) {
+            self.flush()?;
+            if bytes.len() > KEPT_LIMIT {
+                let result = write_whole(self.writer, bytes);
+                self.has_failed = result.is_err();
+                return result;
+            }
+        }
+        let _ = self.kept.extend_from_slice(bytes);
+        Ok(())
     }
 }

@@ -1,9 +1,10 @@
 //! The script's input: the one way to the reader, with each call of read counted.
 
-ghost use Rattle.std.specs.Prelude.{◌≡◌, ◌≤◌, ◌<◌, ◌+◌, length, take, MatchResult, OnErr, IfErr, IfOk, IsErrOf};
+ghost use Rattle.std.specs.Prelude.{◌≡◌, ◌≤◌, ◌<◌, ◌+◌, [], length, take, MatchResult, OnErr, IfErr, IfOk, IsErrOf};
 ghost use Rattle.std.specs.Io.KnownBytes.{Consumes, IsAtEnd, Keeps};
 
 use super::fault::RunFault;
+use super::output::Output;
 use std::io::Read;
 
 /// The calls of read that one run may make; after that many it is a read fault.
@@ -33,8 +34,11 @@ impl<'a, R: Read> Input<'a, R> {
 
     /// Reads once and counts it, where a call is left. The number of bytes is 0 at the end of the input
     /// alone.
-    pub fn read(&mut self, chunk: &mut [u8]) -> Result<usize, RunFault>
-        requires { 0 < length chunk.old }
+    ///
+    /// Condition: no reply is kept, as a call of read may wait.
+    pub fn read<W>(&mut self, chunk: &mut [u8], output: &Output<'_, W>) -> Result<usize, RunFault>
+        requires room { 0 < length chunk.old }
+        requires told { output.now.kept.now.items ≡ [] }
         ensures lent { self.new.reader.ghost_name ≡ self.old.reader.ghost_name }
         ensures counted { IfOk result (λ _. self.new.left + 1 ≡ self.old.left) }
         ensures stopped { OnErr result (self.new.left ≡ 0) }

@@ -1,8 +1,9 @@
 //! The text of a reply.
 
-ghost use Rattle.std.specs.Prelude.{◌≡◌, ◌≤◌, ◌<◌, ◌+◌, ◌++◌, ◌∷◌, ℕ, List, [], length, decimal, vec_len, vec_capacity, IfOk, IfErr, OnOk};
+ghost use Rattle.std.specs.Prelude.{◌≡◌, ◌≤◌, ◌<◌, ◌+◌, ◌++◌, ◌∷◌, ℕ, List, [], length, decimal, vec_len, vec_capacity, IfOk, IfErr, IsOk, OnOk};
 ghost use Rattle.kf_core.specs.Refusals.{name_of};
-ghost use Rattle.kf_script.specs.Progress.{Writes};
+ghost use Rattle.std.specs.Io.KnownBytes.{append_known};
+ghost use Rattle.kf_script.specs.Progress.{Writes, Grows};
 ghost use Rattle.kf_script.specs.ReplyText.{done_text, bad_line_text, refusal_text, fault_text, key_text, poll_text, stat_text, octal as octal_text, node_text, state_text};
 
 use super::fault::RunFault;
@@ -147,9 +148,11 @@ impl Reply {
         self.push(bytes);
     }
 
-    /// Any number of bytes as they are. Refuses `NoMemory` alone; the text is then unknown.
+    /// Any number of bytes as they are. Refuses `NoMemory` alone, and no [`SHORT_REPLY`] bytes; the text is
+    /// then unknown.
     pub fn set_text(&mut self, bytes: &[u8]) -> Result<(), Refusal>
         ensures text { OnOk result (self.new ≡ bytes.now) }
+        ensures short { length bytes.now ≤ 4096 → IsOk result }
         ensures refused { IfErr result (λ refusal. refusal ≡ Refusal.NoMemory) }
     {
         self.clear();
@@ -158,8 +161,10 @@ impl Reply {
 
     /// Writes the text and a newline, and forgets the text.
     pub fn write_line<W: Write>(&mut self, output: &mut Output<'_, W>) -> Result<(), RunFault>
-        ensures written { Writes (W.contents output.old.writer.now) (W.contents output.new.writer.now) result
+        ensures written { Writes (append_known (W.contents output.old.writer.now) output.old.kept.now.items)
+            (append_known (W.contents output.new.writer.now) output.new.kept.now.items) result
             (self.old ++ 10 ∷ []) }
+        ensures grew { Grows (W.contents output.old.writer.now) (W.contents output.new.writer.now) }
         ensures lent { output.new.writer.ghost_name ≡ output.old.writer.ghost_name }
         ensures fault { IfErr result (λ fault. fault ≡ RunFault.Write) }
     {
@@ -185,9 +190,11 @@ impl Reply {
         let _ = self.text.extend_from_slice(bytes);
     }
 
-    /// Appends any number of bytes as they are. Refuses `NoMemory` alone; the text is then unknown.
+    /// Appends any number of bytes as they are. Refuses `NoMemory` alone, and nothing that makes a reply of
+    /// [`SHORT_REPLY`] bytes; the text is then unknown.
     pub fn extend(&mut self, bytes: &[u8]) -> Result<(), Refusal>
         ensures text { OnOk result (self.new ≡ self.old ++ bytes.now) }
+        ensures short { length self.old + length bytes.now ≤ 4096 → IsOk result }
         ensures refused { IfErr result (λ refusal. refusal ≡ Refusal.NoMemory) }
     {
         let room = self.text.capacity() - self.text.len();

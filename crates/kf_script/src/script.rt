@@ -2,18 +2,18 @@
 
 ghost use Rattle.std.specs.Prelude.{◌≡◌, ◌≤◌, ℕ, List, Bool, [], ◌∷◌, ◌++◌, Option, Some, All, false, length, MatchResult, OnOk, IfErr, IfSome, IsErrOf};
 ghost use Rattle.std.specs.Option.{option_map};
-ghost use Rattle.std.specs.Io.KnownBytes.{Consumes, IsAtEnd, Keeps};
+ghost use Rattle.std.specs.Io.KnownBytes.{Consumes, IsAtEnd, Keeps, append_known};
 ghost use Rattle.kf_script.specs.Lines.{is_newline, kept_line, line_limit, lines_of, ended_lines_of};
 ghost use Rattle.kf_script.specs.Requests.{request_of};
 ghost use Rattle.kf_script.specs.Answers.{AnswersRequest};
-ghost use Rattle.kf_script.specs.Progress.{Answered, CutShort};
+ghost use Rattle.kf_script.specs.Progress.{Answered, CutShort, Grows};
 ghost use Rattle.kf_script.specs.Running.{Running, Stopped, AnsweredOrCut, ended_line};
 
 use super::board::Board;
 use super::fault::RunFault;
 use super::grammar::parse_into;
 use super::line::{LINE_LIMIT, LineBuffer};
-use super::output::Output;
+use super::output::{KEPT_LIMIT, Output};
 use super::reads::{Input, READ_LIMIT};
 use super::reply::Reply;
 use super::search::place_of;
@@ -47,7 +47,9 @@ fn end_line<B: Board, W: Write>(
     requires { IfSome line (λ line. length line.now ≤ line_limit) }
     ensures answered { (bytes : List ℕ) → option_map (λ line. line.now) line.entry ≡ kept_line bytes →
         AnsweredOrCut B.step board.old board.new (ended_line bytes)
-        (W.contents output.old.writer.now) (W.contents output.new.writer.now) result }
+        (append_known (W.contents output.old.writer.now) output.old.kept.now.items)
+        (append_known (W.contents output.new.writer.now) output.new.kept.now.items) result }
+    ensures grew { Grows (W.contents output.old.writer.now) (W.contents output.new.writer.now) }
     ensures lent { output.new.writer.ghost_name ≡ output.old.writer.ghost_name }
     ensures fault { IfErr result (λ fault. fault ≡ RunFault.Write) }
 {
@@ -72,12 +74,14 @@ fn take_line<B: Board, W: Write>(
 ) -> Result<(), RunFault>
     requires { All (λ byte. is_newline byte ≡ false) bytes.now }
     ensures runs { (first : B) (read : List ℕ) (start : Option (List ℕ)) →
-        Running B.step first board.old read line.old start (W.contents output.old.writer.now) →
+        Running B.step first board.old read line.old start
+        (append_known (W.contents output.old.writer.now) output.old.kept.now.items) →
         MatchResult result
         (λ _. Running B.step first board.new (read ++ (bytes.now ++ 10 ∷ [])) line.new start
-        (W.contents output.new.writer.now))
+        (append_known (W.contents output.new.writer.now) output.new.kept.now.items))
         (λ _. Stopped B.step first board.new (read ++ (bytes.now ++ 10 ∷ [])) start
-        (W.contents output.new.writer.now)) }
+        (append_known (W.contents output.new.writer.now) output.new.kept.now.items)) }
+    ensures grew { Grows (W.contents output.old.writer.now) (W.contents output.new.writer.now) }
     ensures lent { output.new.writer.ghost_name ≡ output.old.writer.ghost_name }
     ensures fault { IfErr result (λ fault. fault ≡ RunFault.Write) }
 {
@@ -99,11 +103,14 @@ fn take_bytes<B: Board, W: Write>(
     bytes: &[u8],
 ) -> Result<(), RunFault>
     ensures runs { (first : B) (read : List ℕ) (start : Option (List ℕ)) →
-        Running B.step first board.old read line.old start (W.contents output.old.writer.now) →
+        Running B.step first board.old read line.old start
+        (append_known (W.contents output.old.writer.now) output.old.kept.now.items) →
         MatchResult result
         (λ _. Running B.step first board.new (read ++ bytes.now) line.new start
-        (W.contents output.new.writer.now))
-        (λ _. Stopped B.step first board.new (read ++ bytes.now) start (W.contents output.new.writer.now)) }
+        (append_known (W.contents output.new.writer.now) output.new.kept.now.items))
+        (λ _. Stopped B.step first board.new (read ++ bytes.now) start
+        (append_known (W.contents output.new.writer.now) output.new.kept.now.items)) }
+    ensures grew { Grows (W.contents output.old.writer.now) (W.contents output.new.writer.now) }
     ensures lent { output.new.writer.ghost_name ≡ output.old.writer.ghost_name }
     ensures fault { IfErr result (λ fault. fault ≡ RunFault.Write) }
 {
@@ -124,7 +131,8 @@ fn read_lines<B: Board, R: Read, W: Write>(
     input: &mut Input<'_, R>,
     output: &mut Output<'_, W>,
 ) -> Result<(), RunFault>
-    requires { line.old ≡ Some [] }
+    requires unread { line.old ≡ Some [] }
+    requires unkept { output.old.kept.now.items ≡ [] }
     ensures ok { OnOk result
         ((read : List ℕ) × Consumes (R.remaining input.old.reader.now) (R.remaining input.new.reader.now) read
         × IsAtEnd (R.remaining input.new.reader.now)
@@ -144,8 +152,12 @@ fn read_lines<B: Board, R: Read, W: Write>(
 {
     let mut chunk = [0u8; CHUNK];
     'reads: loop {
-        let count = match input.read(&mut chunk) {
-            Ok(0) => return end_line(board, reply, line.get(), output),
+        output.flush()?;
+        let count = match input.read(&mut chunk, output) {
+            Ok(0) => {
+                end_line(board, reply, line.get(), output)?;
+                return output.flush();
+            }
             Ok(count) => count,
             Err(_) => return Err(RunFault::Read),
         };
@@ -159,6 +171,9 @@ fn read_lines<B: Board, R: Read, W: Write>(
 /// reader cut it. After [`RunFault::Read`] each line that had ended has its reply. After [`RunFault::Write`]
 /// what was written is a prefix of the replies. [`RunFault::Memory`] comes before the first read, with
 /// nothing read, written or changed. It makes at most 16,777,216 calls of read.
+///
+/// The replies to lines that are read whole are written before more is read: together, whole lines of at most
+/// 4,096 bytes, and a longer one by itself.
 pub fn run_script<B: Board, R: Read, W: Write>(
     alloc: Global,
     board: &mut B,
@@ -188,7 +203,10 @@ pub fn run_script<B: Board, R: Read, W: Write>(
     let Ok(mut reply) = Reply::new(alloc) else {
         return Err(RunFault::Memory);
     };
+    let Ok(mut kept) = Vec::with_capacity(alloc, KEPT_LIMIT) else {
+        return Err(RunFault::Memory);
+    };
     let mut input = Input::new(reader, READ_LIMIT);
-    let mut output = Output::new(writer);
+    let mut output = Output::new(writer, &mut kept);
     read_lines(board, &mut reply, &mut line, &mut input, &mut output)
 }

@@ -11,7 +11,7 @@ use Rattle.std.proofs.lemmas.Slice.Eq.{bytes_eq-Decides}
 use Rattle.std.proofs.lemmas.Option.{slice_get-get_or}
 use Rattle.std.proofs.lemmas.Bool.Decides.{eqb_tells}
 use Rattle.kf_core.specs.declared.key.Key.{Key}
-use Rattle.kf_table.specs.declared.directories.Directory.{Directory}
+use Rattle.kf_table.specs.declared.directory.Directory.{Directory}
 use Rattle.kf_table.specs.Directories.{empty_directory, with_child, without_child, with_entry, entry_at, subdirs_at, names_at}
 use Rattle.kf_core.proofs.Lists.{slice_get-set_same, slice_get-set_other}
 
@@ -108,11 +108,11 @@ module _ (ds : List Directory) (at : ℕ) (within : at < length ds) where
     left_counted = subdirs_written (without_child name is_subdir here) ∙ ap (λ n. cond is_subdir (n - 1) n) (sym subdirs_here)
 
 -- what is read of a slot
-pub entry_read : (ds : List Directory) (slot : ℕ) (d : Directory) (q : List ℕ) → slot < length ds → d ≡ get_or ds slot d → entry_at ds slot q ≡ get d.index q
-entry_read ds slot d q within is = ap (λ o. option_and_then (λ (d : Directory). get d.index q) o) (slice_get-get_or ds slot d within ∙ ap Some (sym is))
+pub entry_read : (ds : List Directory) (slot : ℕ) (d : Directory) (q : List ℕ) → slot < length ds → d ≡ get_or ds slot empty_directory → entry_at ds slot q ≡ get d.index q
+entry_read ds slot d q within is = ap (λ o. option_and_then (λ (d : Directory). get d.index q) o) (slice_get-get_or ds slot empty_directory within ∙ ap Some (sym is))
 
-pub subdirs_read : (ds : List Directory) (slot : ℕ) (d : Directory) → slot < length ds → d ≡ get_or ds slot d → subdirs_at ds slot ≡ d.subdirs
-subdirs_read ds slot d within is = ap (λ o. option_map_or (λ (d : Directory). d.subdirs) o 0) (slice_get-get_or ds slot d within ∙ ap Some (sym is))
+pub subdirs_read : (ds : List Directory) (slot : ℕ) (d : Directory) → slot < length ds → d ≡ get_or ds slot empty_directory → subdirs_at ds slot ≡ d.subdirs
+subdirs_read ds slot d within is = ap (λ o. option_map_or (λ (d : Directory). d.subdirs) o 0) (slice_get-get_or ds slot empty_directory within ∙ ap Some (sym is))
 
-pub names_read : (ds : List Directory) (slot : ℕ) (d : Directory) → slot < length ds → d ≡ get_or ds slot d → names_at ds slot ≡ len d.index
-names_read ds slot d within is = ap (λ o. option_map_or (λ (d : Directory). len d.index) o 0) (slice_get-get_or ds slot d within ∙ ap Some (sym is))
+pub names_read : (ds : List Directory) (slot : ℕ) (d : Directory) → slot < length ds → d ≡ get_or ds slot empty_directory → names_at ds slot ≡ len d.index
+names_read ds slot d within is = ap (λ o. option_map_or (λ (d : Directory). len d.index) o 0) (slice_get-get_or ds slot empty_directory within ∙ ap Some (sym is))

@@ -9,7 +9,7 @@ use Rattle.std.proofs.lemmas.Bool.Decides.{eqb_tells}
 use Rattle.kf_core.specs.declared.key.Key.{Key}
 use Rattle.kf_core.specs.declared.records.Record.{Record}
 use Rattle.kf_core.specs.Tree.{Tree, IsIn, is_dir}
-use Rattle.kf_table.specs.declared.directories.Directory.{Directory}
+use Rattle.kf_table.specs.declared.directory.Directory.{Directory}
 use Rattle.kf_table.specs.Directories.{with_entry, without_entry, without_record, MayRemove, entry_at, subdirs_at, is_slot_of, is_subdir_in, IsEntry, AreKept}
 use Rattle.kf_core.proofs.Lists.{slice_get-set_same, slice_get-set_other}
 use Rattle.kf_table.proofs.Entries.{entries_tell, entered_there, entered_elsewhere, entered_counted, left_there, left_elsewhere, left_counted, subdirs_elsewhere}

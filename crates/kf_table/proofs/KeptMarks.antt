@@ -13,7 +13,7 @@ use Rattle.kf_core.specs.declared.records.Record.{Record}
 use Rattle.kf_core.specs.Tree.{Tree, IsIn, is_dir}
 use Rattle.kf_core.specs.Lawful.{root_record}
 use Rattle.kf_core.specs.Commands.{root_alone, doomed_record, hidden_record, activated_record}
-use Rattle.kf_table.specs.declared.directories.Directory.{Directory}
+use Rattle.kf_table.specs.declared.directory.Directory.{Directory}
 use Rattle.kf_table.specs.Changes.{with_changed_slot, activated_unless_doomed}
 use Rattle.kf_table.specs.Directories.{empty_directory, entry_at, subdirs_at, is_slot_of, is_subdir_in, IsEntry, AreKept}
 use Rattle.kf_core.proofs.Lists.{slice_get-set_same, slice_get-set_other}

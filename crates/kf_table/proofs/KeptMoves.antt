@@ -10,16 +10,17 @@ use Rattle.kf_core.specs.declared.records.Record.{Record}
 use Rattle.kf_core.specs.Tree.{Tree, IsIn, is_dir, record_at}
 use Rattle.kf_core.specs.Lawful.{Lawful}
 use Rattle.kf_core.specs.Commands.{moved_record}
-use Rattle.kf_table.specs.declared.directories.Directory.{Directory}
+use Rattle.kf_table.specs.declared.directory.Directory.{Directory}
 use Rattle.kf_table.specs.Children.{is_there_already}
 use Rattle.kf_table.specs.Changes.{with_changed_slot}
 use Rattle.kf_table.specs.Directories.{empty_directory, with_child, with_entry, without_entry, without_record, HasRoom, MayRemove, entry_at, subdirs_at, AreKept}
 use Rattle.kf_core.proofs.FoundRecords.{in_found}
+use Rattle.kf_table.proofs.Altered.{record_in}
 use Rattle.kf_table.proofs.Entries.{entered_counted, left_elsewhere, subdirs_elsewhere}
 use Rattle.kf_table.proofs.Kept.{kept_with, kept_without, none_there, own_entry, dir_within, dir_counts}
 use Rattle.kf_table.proofs.FewNames.{few_names}
 use Rattle.kf_table.proofs.Rooms.{few_subdirs, move_is, move_low, move_named, move_absent}
-use Rattle.kf_table.proofs.KeptRecords.{linked_place}
+use Rattle.kf_table.proofs.KeptRecords.{linked_seen}
 use Rattle.kf_table.proofs.Swapped.{kept_along, swap_length, swap_entries, swap_counts}
 
 -- what a move asks of the tree
@@ -116,21 +117,21 @@ module _ (t : Tree) (ds : List Directory) (kept : AreKept t ds) (key dir : Key) 
               (swap_counts ds dir.slot name key (is_dir r.node) p r.name low p_low differ counts)
         ] refl kept_after
 
-  -- as the code has it: the record that was read, and what was seen of it
-  pub may_move_out : (b : Bool) (entered : List Directory) (place seen : Option Record) → b ≡ option_map_or (λ (r : Record). is_dir r.node) (record_at t key) false
-      → entered ≡ with_entry dir.slot name key b ds → place ≡ get_or t key.slot place → seen ≡ place → MayRemove entered seen
-  may_move_out b entered place seen tells is read same =
-      let h = linked_place t key place m.linked read in
+  -- as the code has it: what was seen in the record's slot
+  pub may_move_out : (b : Bool) (entered : List Directory) (seen : Option Record) → b ≡ option_map_or (λ (r : Record). is_dir r.node) (record_at t key) false
+      → entered ≡ with_entry dir.slot name key b ds → seen ≡ record_in t key.slot → MayRemove entered seen
+  may_move_out b entered seen tells is read =
+      let h = linked_seen t key seen m.linked read in
       let b_is : b ≡ is_dir h.0.node = tells ∙ ap (λ o. option_map_or (λ (r : Record). is_dir r.node) o false) (known h.0 h.1 h.2) in
-      subst (λ (o : Option Record). MayRemove entered o) (sym (same ∙ h.3))
+      subst (λ (o : Option Record). MayRemove entered o) (sym h.3)
       (subst (λ (es : List Directory). MayRemove es (Some h.0)) (sym (is ∙ ap (λ v. with_entry dir.slot name key v ds) b_is)) (may_leave_after h.0 h.1 h.2))
 
-  pub kept_by_move : (b : Bool) (entered : List Directory) (place seen : Option Record) → b ≡ option_map_or (λ (r : Record). is_dir r.node) (record_at t key) false
-      → entered ≡ with_entry dir.slot name key b ds → place ≡ get_or t key.slot place → seen ≡ place
+  pub kept_by_move : (b : Bool) (entered : List Directory) (seen : Option Record) → b ≡ option_map_or (λ (r : Record). is_dir r.node) (record_at t key) false
+      → entered ≡ with_entry dir.slot name key b ds → seen ≡ record_in t key.slot
       → AreKept (with_changed_slot (moved_record dir name) t key.slot) (without_record seen entered)
-  kept_by_move b entered place seen tells is read same =
-      let h = linked_place t key place m.linked read in
+  kept_by_move b entered seen tells is read =
+      let h = linked_seen t key seen m.linked read in
       let b_is : b ≡ is_dir h.0.node = tells ∙ ap (λ o. option_map_or (λ (r : Record). is_dir r.node) o false) (known h.0 h.1 h.2) in
       let P : Option Record → List Directory → Type 0 = λ o es. AreKept (with_changed_slot (moved_record dir name) t key.slot) (without_record o es) in
-      subst (λ (o : Option Record). P o entered) (sym (same ∙ h.3))
+      subst (λ (o : Option Record). P o entered) (sym h.3)
       (subst (λ (es : List Directory). P (Some h.0) es) (sym (is ∙ ap (λ v. with_entry dir.slot name key v ds) b_is)) (kept_moved h.0 h.1 h.2))

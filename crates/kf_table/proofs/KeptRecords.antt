@@ -1,15 +1,16 @@
 -- The indexes stay right where a record comes or goes.
-use Rattle.std.proofs.Common.{◌≡◌, inl, inr, ◌<◌, refl, ap, arith, sym, ◌∙◌, subst, true, List, length, slice_set, length-set, get_or}
+use Rattle.std.proofs.Common.{◌≡◌, inl, inr, refl, ap, arith, sym, ◌∙◌, subst, true, List, slice_set, length-set}
 use Rattle.std.specs.Prelude.{Option, None, Some, slice_get, is_some}
-use Rattle.std.specs.Option.{option_map_or}
-use Rattle.std.proofs.lemmas.Option.{none-some, slice_get_within, get_or_from_slice_get}
+use Rattle.std.specs.Option.{option_and_then, option_map_or}
+use Rattle.std.proofs.lemmas.Option.{none-some}
 use Rattle.kf_core.specs.declared.key.Key.{Key}
 use Rattle.kf_core.specs.declared.records.Record.{Record}
 use Rattle.kf_core.specs.Tree.{Tree, IsIn, is_dir, record_at}
 use Rattle.kf_core.specs.Lawful.{Lawful}
-use Rattle.kf_table.specs.declared.directories.Directory.{Directory}
+use Rattle.kf_table.specs.declared.directory.Directory.{Directory}
 use Rattle.kf_table.specs.Directories.{is_subdir_in, with_entry, with_record, without_record, MayInsert, MayRemove, AreKept}
 use Rattle.kf_core.proofs.FoundRecords.{linked_here}
+use Rattle.kf_table.proofs.Altered.{record_in}
 use Rattle.kf_table.proofs.Kept.{counted, count_written, in_none, stays, new_or_old, kept_with, kept_without, may_remove}
 use Rattle.kf_table.proofs.FewNames.{few_names}
 use Rattle.kf_table.proofs.Rooms.{few_subdirs, add_low, add_named, add_absent}
@@ -69,29 +70,24 @@ kept_added t ds kept r vacant may = elim r.parent as (λ o. r.parent ≡ o → A
 
 -- ---- a record goes
 
--- the record of a linked key, as it is read from its slot
-pub linked_place : (t : Tree) (key : Key) (place : Option Record) → is_some (record_at t key) ≡ true → place ≡ get_or t key.slot place
-    → (r : Record) × IsIn t r × (r.key ≡ key) × (place ≡ Some r)
-linked_place t key place linked read =
+-- the record of a linked key, as it is seen in its slot
+pub linked_seen : (t : Tree) (key : Key) (seen : Option Record) → is_some (record_at t key) ≡ true → seen ≡ record_in t key.slot
+    → (r : Record) × IsIn t r × (r.key ≡ key) × (seen ≡ Some r)
+linked_seen t key seen linked is =
     let h = linked_here t key linked in
     let there : slice_get t key.slot ≡ Some (Some h.0) = ap (λ (k : Key). slice_get t k.slot) (sym h.2) ∙ h.1 in
-    (h.0, h.1, h.2, read ∙ get_or_from_slice_get t key.slot (Some h.0) place there)
+    (h.0, h.1, h.2, is ∙ ap (option_and_then (λ entry. entry)) there)
 
-pub linked_low : (t : Tree) (key : Key) → is_some (record_at t key) ≡ true → key.slot < length t
-linked_low t key linked =
-    let h = linked_here t key linked in
-    slice_get_within t key.slot (Some h.0) (ap (λ (k : Key). slice_get t k.slot) (sym h.2) ∙ h.1)
+pub may_take : (t : Tree) (ds : List Directory) → AreKept t ds → (key : Key) (seen : Option Record) → is_some (record_at t key) ≡ true
+    → seen ≡ record_in t key.slot → MayRemove ds seen
+may_take t ds kept key seen linked is =
+    let h = linked_seen t key seen linked is in
+    subst (λ o. MayRemove ds o) (sym h.3) (may_remove t ds kept h.0 h.1)
 
-pub may_take : (t : Tree) (ds : List Directory) → AreKept t ds → (key : Key) (place seen : Option Record) → is_some (record_at t key) ≡ true
-    → place ≡ get_or t key.slot place → seen ≡ place → MayRemove ds seen
-may_take t ds kept key place seen linked read is =
-    let h = linked_place t key place linked read in
-    subst (λ o. MayRemove ds o) (sym (is ∙ h.3)) (may_remove t ds kept h.0 h.1)
-
-pub kept_taken : (t : Tree) (ds : List Directory) → AreKept t ds → (key : Key) (place seen : Option Record) → is_some (record_at t key) ≡ true
-    → place ≡ get_or t key.slot place → seen ≡ place → AreKept (slice_set t key.slot None) (without_record seen ds)
-kept_taken t ds kept key place seen linked read is =
-    let h = linked_place t key place linked read in
+pub kept_taken : (t : Tree) (ds : List Directory) → AreKept t ds → (key : Key) (seen : Option Record) → is_some (record_at t key) ≡ true
+    → seen ≡ record_in t key.slot → AreKept (slice_set t key.slot None) (without_record seen ds)
+kept_taken t ds kept key seen linked is =
+    let h = linked_seen t key seen linked is in
     let at : AreKept (slice_set t key.slot None) (without_record (Some h.0) ds) =
     subst (λ (k : Key). AreKept (slice_set t k.slot None) (without_record (Some h.0) ds)) h.2 (kept_without t ds kept h.0 h.1) in
-    subst (λ o. AreKept (slice_set t key.slot None) (without_record o ds)) (sym (is ∙ h.3)) at
+    subst (λ o. AreKept (slice_set t key.slot None) (without_record o ds)) (sym h.3) at

@@ -1,6 +1,7 @@
 pub mod ChildTests
 pub mod Altered
 pub mod Entries
+pub mod Boxes
 pub mod Kept
 pub mod KeptMarks
 pub mod FewNames

@@ -20,10 +20,10 @@ keys_set (r ∷ rs) (suc n) entry = ap (λ (keys : List (Option Key)). live_key 
 
 -- the key that is read after the change is noted
 pub noted : (live : List (Option Key)) (before t : Tree) (slot : ℕ) (entry : Option Record) (key : Option Key) → slot < length live
-    → live ≡ map live_key before → t ≡ slice_set before slot entry → key ≡ option_and_then live_key (slice_get t slot) → slice_set live slot key ≡ map live_key t
+    → live ≡ map live_key before → t ≡ slice_set before slot entry → key ≡ live_key (option_and_then (λ item. item) (slice_get t slot)) → slice_set live slot key ≡ map live_key t
 noted live before t slot entry key within kept is read =
     let low : slot < length before = (let e = ap length kept ∙ length-map before live_key in omega (arith, within, e)) in
     let here : slice_get t slot ≡ Some entry = ap (λ (u : Tree). slice_get u slot) is ∙ slice_get-set_same before slot entry low in
-    let key_is : key ≡ live_key entry = read ∙ ap (option_and_then live_key) here in
+    let key_is : key ≡ live_key entry = read ∙ ap (λ o. live_key (option_and_then (λ item. item) o)) here in
     ap (λ (k : Option Key). slice_set live slot k) key_is ∙ ap (λ (l : List (Option Key)). slice_set l slot (live_key entry)) kept
     ∙ keys_set before slot entry ∙ ap (map live_key) (sym is)

@@ -8,7 +8,7 @@ use Rattle.std.specs.declared.cmp.Ordering.{Ordering}
 use Rattle.std.specs.declared.cmp.Ordering.TheVariants.{Less, Equal, Greater}
 use Rattle.std.specs.Ordering.{nat_cmp, is_lt, ordering_reverse}
 use Rattle.std.specs.Cmp.Lexicographic.{slice_cmp}
-use Rattle.std.specs.FinMap.{get}
+use Rattle.std.specs.FinMap.{get, get-empty}
 use Rattle.std.proofs.lemmas.Cmp.{nat_list_cmp_total, tied_itself}
 use Rattle.std.proofs.lemmas.Slice.Eq.{bytes_eq-Decides}
 use Rattle.std.proofs.lemmas.Option.{same_Some, none-some, slice_get_within}
@@ -22,14 +22,14 @@ use Rattle.kf_core.specs.Tree.{Tree, IsIn, is_dir, record_at, is_linked}
 use Rattle.kf_core.specs.Lawful.{Lawful}
 use Rattle.kf_index.specs.Entries.{Entries, IsAbove, IsLeastAbove}
 use Rattle.kf_index.specs.Entries as index
-use Rattle.kf_table.specs.declared.directories.Directory.{Directory}
+use Rattle.kf_table.specs.declared.directory.Directory.{Directory}
 use Rattle.kf_table.specs.Children.{has_child, is_key, is_under, child, subdirs}
 use Rattle.kf_table.specs.Next.{before, above, IsNext, NoneAbove, AreNext}
-use Rattle.kf_table.specs.Directories.{entry_at, is_slot_of, is_subdir_in, AreKept}
+use Rattle.kf_table.specs.Directories.{empty_directory, entry_at, subdirs_at, is_slot_of, is_subdir_in, AreKept}
 use Rattle.kf_core.proofs.Climbs.{same_key_self}
 use Rattle.kf_table.proofs.ChildTests.{both, key_is, some_first, some_any, is_key_self}
 use Rattle.kf_core.proofs.FoundRecords.{found_in, same_record}
-use Rattle.kf_table.proofs.Entries.{entry_read, subdirs_read}
+use Rattle.kf_table.proofs.Entries.{entry_read}
 
 -- ---- lists
 
@@ -177,7 +177,34 @@ module _ (t : Tree) (root : Key) (lawful : Lawful t root) where
       named = named;
     })
 
-    module _ (kept_dir : Directory) (read : kept_dir ≡ get_or ds dir.slot kept_dir) where
+    same_subdir : (i : ℕ) (o : Option Record) → slice_get t i ≡ Some o → is_subdir_in dir.slot o ≡ is_under dir (λ r. is_dir r.node) o
+    same_subdir i None h = refl
+    same_subdir i (Some r) h = go r.parent refl
+      where
+        go : (p : Option Key) → r.parent ≡ p → (is_slot_of dir.slot p && is_dir r.node) ≡ (is_key dir p && is_dir r.node)
+        go None e = refl
+        go (Some p) e = elim (eqb_tells p.slot dir.slot) [
+          | inl s ↦ (let is = this_dir r p (ap (slice_get t) (lawful.in_place i r h) ∙ h) e s.1 in
+              ap (λ b. b && is_dir r.node) (s.0 ∙ sym (ap (λ (k : Key). same_key k dir) is ∙ same_key_self dir)))
+          | inr s ↦ ap (λ b. b && is_dir r.node) (s.0 ∙ sym (ap (λ b. b && (p.generation == dir.generation)) s.0))
+        ]
+
+    pub subdirs_told : subdirs_at ds dir.slot ≡ subdirs t dir
+    subdirs_told = kept.counted dir.slot (rw (← kept.as_many) dir_low) ∙ count_same (is_subdir_in dir.slot) (λ o. is_under dir (λ r. is_dir r.node) o) t same_subdir
+
+    pub subdirs_few : subdirs_at ds dir.slot ≤ length t
+    subdirs_few = let most = count_by-le-length (is_subdir_in dir.slot) t in
+        let is = kept.counted dir.slot (rw (← kept.as_many) dir_low) in
+        rw is most
+
+    -- nothing is found in a directory without children
+    pub none_found : get_or ds dir.slot empty_directory ≡ empty_directory → (name : List ℕ) → child t dir name ≡ None
+    none_found none name = child_none dir name (λ r is parent named.
+        let gone : entry_at ds dir.slot name ≡ None = entry_read ds dir.slot (get_or ds dir.slot empty_directory) name dir_low refl
+        ∙ ap (λ (d : Directory). get d.index name) none ∙ get-empty (slice_cmp nat_cmp) name in
+        none-some r.key (sym gone ∙ entry_of name r is parent named))
+
+    module _ (kept_dir : Directory) (read : kept_dir ≡ get_or ds dir.slot empty_directory) where
       entry_is : (name : List ℕ) → entry_at ds dir.slot name ≡ get kept_dir.index name
       entry_is name = entry_read ds dir.slot kept_dir name dir_low read
 
@@ -253,27 +280,6 @@ module _ (t : Tree) (root : Key) (lawful : Lawful t root) where
       unfolding index.AreAbove AreNext
       all_read bound [] none = none_read bound none
       all_read bound (entry ∷ later) listed = (next_read bound entry.0 entry.1 listed.0, all_read (Some entry.0) later listed.1)
-
-      same_subdir : (i : ℕ) (o : Option Record) → slice_get t i ≡ Some o → is_subdir_in dir.slot o ≡ is_under dir (λ r. is_dir r.node) o
-      same_subdir i None h = refl
-      same_subdir i (Some r) h = go r.parent refl
-        where
-          go : (p : Option Key) → r.parent ≡ p → (is_slot_of dir.slot p && is_dir r.node) ≡ (is_key dir p && is_dir r.node)
-          go None e = refl
-          go (Some p) e = elim (eqb_tells p.slot dir.slot) [
-            | inl s ↦ (let is = this_dir r p (ap (slice_get t) (lawful.in_place i r h) ∙ h) e s.1 in
-                ap (λ b. b && is_dir r.node) (s.0 ∙ sym (ap (λ (k : Key). same_key k dir) is ∙ same_key_self dir)))
-            | inr s ↦ ap (λ b. b && is_dir r.node) (s.0 ∙ sym (ap (λ b. b && (p.generation == dir.generation)) s.0))
-          ]
-
-      pub subdirs_told : kept_dir.subdirs ≡ subdirs t dir
-      subdirs_told = sym (subdirs_read ds dir.slot kept_dir dir_low read) ∙ kept.counted dir.slot (rw (← kept.as_many) dir_low)
-          ∙ count_same (is_subdir_in dir.slot) (λ o. is_under dir (λ r. is_dir r.node) o) t same_subdir
-
-      pub subdirs_few : kept_dir.subdirs ≤ length t
-      subdirs_few = let most = count_by-le-length (is_subdir_in dir.slot) t in
-          let is = sym (subdirs_read ds dir.slot kept_dir dir_low read) ∙ kept.counted dir.slot (rw (← kept.as_many) dir_low) in
-          rw is most
 
 -- what is seen of a slot
 pub if_some : (P : Record → Type 0) (o : Option (Bor Record)) (x : Record) → option_copied o ≡ Some x → P x → IfSome o (λ b. P b.now)

@@ -13,7 +13,7 @@ use Rattle.kf_core.specs.Names.{IsLawfulName}
 use Rattle.kf_core.specs.Tree.{Tree, IsIn, record_at}
 use Rattle.kf_core.specs.Lawful.{Lawful}
 use Rattle.kf_core.specs.Commands.{moved_record}
-use Rattle.kf_table.specs.declared.directories.Directory.{Directory}
+use Rattle.kf_table.specs.declared.directory.Directory.{Directory}
 use Rattle.kf_table.specs.Children.{is_there_already, is_key}
 use Rattle.kf_table.specs.Changes.{with_changed_slot}
 use Rattle.kf_table.specs.Directories.{entry_at, subdirs_at, is_subdir_in, IsEntry, AreKept}

@@ -4,7 +4,7 @@ use Rattle.std.specs.Prelude.{Some}
 use Rattle.std.proofs.lemmas.Bool.Decides.{eqb_tells}
 use Rattle.kf_core.specs.declared.key.Key.{Key}
 use Rattle.kf_core.specs.Tree.{Tree}
-use Rattle.kf_table.specs.declared.directories.Directory.{Directory}
+use Rattle.kf_table.specs.declared.directory.Directory.{Directory}
 use Rattle.kf_table.specs.Directories.{empty_directory, with_child, without_child, with_entry, without_entry, entry_at, subdirs_at, AreKept}
 use Rattle.kf_table.proofs.Entries.{entries_tell, entered_there, entered_elsewhere, entered_counted, left_there, left_elsewhere, left_counted, subdirs_elsewhere}
 

@@ -1,17 +1,30 @@
 -- What is kept of each directory beside its record, by slot: an index of its children and the number of child
 -- directories.
-use Rattle.std.specs.Prelude.{◌≡◌, ℕ, ◌+◌, ◌-◌, ◌^◌, ◌<◌, ◌↔◌, Bool, true, false, ◌&&◌, ◌==◌, List, length, slice_get, slice_set, slice_index_or, Option, None, Some, count_by, if◌then◌else◌}
+use Rattle.std.specs.Prelude.{◌≡◌, ℕ, ◌+◌, ◌-◌, ◌^◌, ◌<◌, ◌↔◌, Bool, true, false, ◌&&◌, ◌==◌, List, length, slice_get, slice_set, slice_index_or, Option, None, Some, count_by, if◌then◌else◌, refl}
 use Rattle.std.specs.Option.{option_and_then, option_map_or}
+use Rattle.std.specs.Coded.{Coded, code_by, coded×, coded_ℕ, coded_list}
 use Rattle.std.specs.FinMap as map_of
+use Rattle.std.specs.Global.{Box}
 use Rattle.kf_core.specs.declared.key.Key.{Key}
 use Rattle.kf_core.specs.declared.records.Record.{Record}
 use Rattle.kf_core.specs.Names.{IsLawfulName}
 use Rattle.kf_core.specs.Tree.{Tree, IsIn, is_dir}
-use Rattle.kf_table.specs.declared.directories.Directory.{Directory}
+use Rattle.kf_index.specs.Entries.{Entries, entries_code}
+use Rattle.kf_table.specs.declared.directory.Directory.{Directory}
 
 -- a directory without children
 abbrev pub empty_directory : Directory
 empty_directory = record { index = map_of.empty; subdirs = 0 }
+
+-- a directory is stored as the pair of its index and its count
+abbrev pub directories_code : Coded (List Directory)
+directories_code = coded_list (code_by (Entries × ℕ) (coded× entries_code coded_ℕ)
+    (λ d. (d.index, d.subdirs)) (λ p. record { index = p.0; subdirs = p.1 }) (λ _. refl))
+
+-- what a box of a slot holds, and a directory without children where there is none
+abbrev pub directory_in : Option (Box Directory) → Directory
+directory_in None = empty_directory
+directory_in (Some kept) = kept.value
 
 -- the directory with one more child
 abbrev pub with_child : List ℕ → Key → Bool → Directory → Directory

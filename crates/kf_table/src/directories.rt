@@ -1,160 +1,176 @@
-//! What is kept of a directory beside its record, so that no look-up walks all records.
+//! What is kept of each directory, by slot, in boxes that only slots with children have.
 
-ghost use Rattle.std.specs.Prelude.{◌≡◌, ◌+◌, ◌^◌, ◌<◌, replicate, IsTrue, IfOk, IfErr, OnOk, OnErr, if◌then◌else◌};
-ghost use Rattle.std.specs.Option.{option_copied};
-ghost use Rattle.std.specs.FinMap as map_of;
+ghost use Rattle.std.specs.Prelude.{◌≡◌, ◌<◌, None, IsTrue, IfSome, IfNone, IfOk, IfErr, OnOk, OnErr, replicate, slice_get, slice_set, slice_index_or};
+ghost use Rattle.std.specs.Option.{option_copied, option_and_then};
 ghost use Rattle.kf_index.specs.Entries.{AreAbove};
-ghost use Rattle.kf_table.specs.Directories.{empty_directory, with_child, without_child, with_entry, with_record, without_record, HasRoom, MayInsert, MayRemove};
+ghost use Rattle.kf_table.specs.Directories.{empty_directory, directory_in, without_child, with_entry, with_record, without_record, subdirs_at, HasRoom, MayInsert, MayRemove};
 
 use crate::children::is_directory;
-use kf_core::{Key, Record, Refusal};
-use kf_index::{Index, Listed, Name};
+use crate::directory::Directory;
+use kf_core::{Key, Record, Refusal, SlotMap};
+use kf_index::{Listed, Name};
 use std::alloc::Global;
+use std::marker::Model;
 
-/// A directory with so many children is large.
-const LARGE: usize = 64;
-
-/// The index of a directory's children, and how many of them are directories.
+/// The directories by slot. Each is in a box, which is made for its first child and let go with its node: a
+/// slot without children costs no more than the place of a box. Contracts see a directory in each slot, where
+/// there is no box one without children.
 #[derive(Drop)]
-pub(crate) struct Directory {
-    index: Index,
-    subdirs: usize,
+pub(crate) struct Directories {
+    boxes: SlotMap<Box<Directory>>,
+    alloc: Global,
 }
 
-impl Directory {
-    /// A directory without children. Takes no memory.
-    pub(crate) fn new(alloc: Global) -> Directory
-        ensures empty { result ≡ empty_directory }
-    {
-        Directory {
-            index: Index::new(alloc),
-            subdirs: 0,
-        }
-    }
+impl Model for Directories {
+    ghost use Rattle.std.specs.Prelude.{List, map};
+    ghost use Rattle.kf_table.specs.declared.directory.Directory.{Directory};
+    ghost use Rattle.kf_table.specs.Directories.{directories_code, directory_in};
 
-    /// The key of the child with this name.
-    #[inline(always)]
-    pub(crate) fn get(&self, name: &[u8]) -> Option<Key>
-        ensures found { result ≡ map_of.get self.now.index name.now }
-    {
-        self.index.get(name)
-    }
+    ghost Value = { List Directory };
 
-    /// Whether a search takes longer than a look where a hint leads.
-    #[inline(always)]
-    pub(crate) fn is_large(&self) -> bool {
-        self.index.len() >= LARGE
-    }
+    ghost coded = { directories_code };
 
-    /// The names and keys of the children above the bound, in byte order of names.
-    pub(crate) fn above(&self, bound: Option<&[u8]>) -> Listed<'_>
-        ensures listed { AreAbove self.now.index (option_copied bound.entry) result }
-    {
-        self.index.above(bound)
-    }
-
-    /// The number of child directories.
-    pub(crate) fn subdirs(&self) -> usize
-        ensures known { result ≡ self.now.subdirs }
-    {
-        self.subdirs
-    }
-
-    /// Puts a child in. After a refusal all is as before.
-    pub(crate) fn insert(&mut self, name: Name, key: Key, is_subdir: bool) -> Result<(), Refusal>
-        requires few { self.old.subdirs + 1 < 2 ^ 64 }
-        requires few_names { map_of.len self.old.index < 2 ^ 32 }
-        ensures inserted { OnOk result (self.new ≡ with_child name key is_subdir self.old) }
-        ensures unchanged { OnErr result (self.new ≡ self.old) }
-        ensures refused { IfErr result (λ refusal. refusal
-            ≡ (if map_of.contains_key self.old.index name then Refusal.Exists else Refusal.NoMemory)) }
-    {
-        self.index.insert(name, key)?;
-        if is_subdir {
-            self.subdirs += 1;
-        }
-        Ok(())
-    }
-
-    /// Takes a child out.
-    pub(crate) fn remove(&mut self, name: &[u8], is_subdir: bool)
-        requires counted { IsTrue is_subdir → 0 < self.old.subdirs }
-        ensures removed { self.new ≡ without_child name.now is_subdir self.old }
-    {
-        self.index.remove(name);
-        if is_subdir {
-            self.subdirs -= 1;
-        }
-    }
+    ghost view = { λ directories. map directory_in directories.boxes };
 }
 
-/// Puts a child into the index of its directory. After a refusal all is as before.
-pub(crate) fn insert_child(
-    directories: &mut Vec<Directory>,
+/// The box of a slot, taken out of its place, or a new one where there is none.
+fn box_of(
+    boxes: &mut SlotMap<Box<Directory>>,
+    alloc: Global,
     slot: u32,
-    name: &[u8],
-    key: Key,
-    is_subdir: bool,
-) -> Result<(), Refusal>
-    requires room { HasRoom directories.old.items slot name.now }
-    ensures inserted { OnOk result
-        (directories.new.items ≡ with_entry slot name.now key is_subdir directories.old.items) }
-    ensures unchanged { OnErr result (directories.new.items ≡ directories.old.items) }
+) -> Result<Box<Directory>, Refusal>
+    ensures taken { IfOk result (λ kept. kept.value
+        ≡ directory_in (option_and_then (λ item. item) (slice_get boxes.old slot))) }
+    ensures none { boxes.new ≡ slice_set boxes.old slot None }
+    ensures absent { OnErr result (option_and_then (λ item. item) (slice_get boxes.old slot) ≡ None) }
     ensures refused { IfErr result (λ refusal. refusal ≡ Refusal.NoMemory) }
 {
-    let Ok(name) = Name::of_lawful(*directories.allocator(), name) else {
-        return Err(Refusal::NoMemory);
-    };
-    directories[slot as usize].insert(name, key, is_subdir)
-}
-
-/// Puts a record's name into the index of its directory, where it has one. After a refusal all is as
-/// before.
-pub(crate) fn insert_record(directories: &mut Vec<Directory>, entry: &Record) -> Result<(), Refusal>
-    requires lawful { MayInsert directories.old.items entry.now }
-    ensures inserted { OnOk result (directories.new.items ≡ with_record entry.now directories.old.items) }
-    ensures unchanged { OnErr result (directories.new.items ≡ directories.old.items) }
-    ensures refused { IfErr result (λ refusal. refusal ≡ Refusal.NoMemory) }
-{
-    match entry.parent {
-        Some(parent) => {
-            let is_subdir = is_directory(&entry.node);
-            insert_child(
-                directories,
-                parent.slot,
-                entry.name.bytes(),
-                entry.key,
-                is_subdir,
-            )
-        }
-        None => Ok(()),
+    if let Some(kept) = boxes.take(slot as usize) {
+        return Ok(kept);
+    }
+    match Box::new(alloc, Directory::new(alloc)) {
+        Ok(kept) => Ok(kept),
+        Err(_) => Err(Refusal::NoMemory),
     }
 }
 
-/// Takes a record's name out of the index of its directory, where it has one.
-pub(crate) fn remove_record(directories: &mut Vec<Directory>, entry: Option<&Record>)
-    requires counted { MayRemove directories.old.items (option_copied entry) }
-    ensures removed { directories.new.items
-        ≡ without_record (option_copied entry.entry) directories.old.items }
-{
-    if let Some(entry) = entry {
-        if let Some(parent) = entry.parent {
-            let is_subdir = is_directory(&entry.node);
-            directories[parent.slot as usize].remove(entry.name.bytes(), is_subdir);
+impl Directories {
+    /// So many directories without children.
+    pub(crate) fn new(alloc: Global, slots: u32) -> Result<Directories, Refusal>
+        ensures made { IfOk result (λ directories. directories ≡ replicate slots empty_directory) }
+        ensures refused { IfErr result (λ refusal. refusal ≡ Refusal.NoMemory) }
+    {
+        Ok(Directories {
+            boxes: SlotMap::new(alloc, slots as usize)?,
+            alloc,
+        })
+    }
+
+    /// The directory of a slot. None where it is without children and has no box.
+    #[inline(always)]
+    pub(crate) fn get(&self, slot: u32) -> Option<&Directory>
+        ensures kept { IfSome result (λ kept. kept.now ≡ slice_index_or self.now slot empty_directory) }
+        ensures none { IfNone result (slice_index_or self.now slot empty_directory ≡ empty_directory) }
+    {
+        match self.boxes.get(slot as usize) {
+            Some(kept) => Some(&**kept),
+            None => None,
         }
     }
-}
 
-/// So many directories without children.
-pub(crate) fn empty_directories(alloc: Global, slots: u32) -> Result<Vec<Directory>, Refusal>
-    ensures made { IfOk result (λ directories. directories.items ≡ replicate slots empty_directory) }
-    ensures refused { IfErr result (λ refusal. refusal ≡ Refusal.NoMemory) }
-{
-    let mut directories = Vec::new(alloc);
-    for _ in 0..slots {
-        if directories.push(Directory::new(alloc)).is_err() {
+    /// The names and keys of a directory's children above the bound, in byte order of names.
+    pub(crate) fn above(&self, slot: u32, bound: Option<&[u8]>) -> Listed<'_>
+        ensures listed { AreAbove (slice_index_or self.now slot empty_directory).index
+            (option_copied bound.entry) result }
+    {
+        let Some(kept) = self.get(slot) else {
+            return Listed::none();
+        };
+        kept.above(bound)
+    }
+
+    /// The number of child directories of the directory in a slot.
+    pub(crate) fn subdirs(&self, slot: u32) -> usize
+        ensures known { result ≡ subdirs_at self.now slot }
+    {
+        match self.get(slot) {
+            Some(kept) => kept.subdirs(),
+            None => 0,
+        }
+    }
+
+    /// Puts a child into the directory of a slot. After a refusal all is as before.
+    pub(crate) fn insert(
+        &mut self,
+        slot: u32,
+        name: &[u8],
+        key: Key,
+        is_subdir: bool,
+    ) -> Result<(), Refusal>
+        requires room { HasRoom self.old slot name.now }
+        ensures inserted { OnOk result (self.new ≡ with_entry slot name.now key is_subdir self.old) }
+        ensures unchanged { OnErr result (self.new ≡ self.old) }
+        ensures refused { IfErr result (λ refusal. refusal ≡ Refusal.NoMemory) }
+    {
+        let Ok(name) = Name::of_lawful(self.alloc, name) else {
             return Err(Refusal::NoMemory);
+        };
+        let mut kept = box_of(&mut self.boxes, self.alloc, slot)?;
+        let inserted = kept.insert(name, key, is_subdir);
+        self.boxes.put(slot as usize, kept);
+        inserted
+    }
+
+    /// Takes a child out of the directory of a slot.
+    pub(crate) fn remove(&mut self, slot: u32, name: &[u8], is_subdir: bool)
+        requires counted { IsTrue is_subdir → 0 < subdirs_at self.old slot }
+        ensures removed { self.new ≡ slice_set self.old slot
+            (without_child name.now is_subdir (slice_index_or self.old slot empty_directory)) }
+    {
+        if let Some(mut kept) = self.boxes.take(slot as usize) {
+            kept.remove(name, is_subdir);
+            self.boxes.put(slot as usize, kept);
         }
     }
-    Ok(directories)
+
+    /// Lets the box of a slot go, unless its directory has a child.
+    pub(crate) fn forget(&mut self, slot: u32)
+        ensures unchanged { self.new ≡ self.old }
+    {
+        if let Some(kept) = self.boxes.take(slot as usize) {
+            if !kept.is_empty() {
+                self.boxes.put(slot as usize, kept);
+            }
+        }
+    }
+
+    /// Puts a record's name into the index of its directory, where it has one. After a refusal all is as
+    /// before.
+    pub(crate) fn insert_record(&mut self, entry: &Record) -> Result<(), Refusal>
+        requires lawful { MayInsert self.old entry.now }
+        ensures inserted { OnOk result (self.new ≡ with_record entry.now self.old) }
+        ensures unchanged { OnErr result (self.new ≡ self.old) }
+        ensures refused { IfErr result (λ refusal. refusal ≡ Refusal.NoMemory) }
+    {
+        match entry.parent {
+            Some(parent) => {
+                let is_subdir = is_directory(&entry.node);
+                self.insert(parent.slot, entry.name.bytes(), entry.key, is_subdir)
+            }
+            None => Ok(()),
+        }
+    }
+
+    /// Takes a record's name out of the index of its directory, where it has one.
+    pub(crate) fn remove_record(&mut self, entry: Option<&Record>)
+        requires counted { MayRemove self.old (option_copied entry) }
+        ensures removed { self.new ≡ without_record (option_copied entry.entry) self.old }
+    {
+        if let Some(entry) = entry {
+            if let Some(parent) = entry.parent {
+                let is_subdir = is_directory(&entry.node);
+                self.remove(parent.slot, entry.name.bytes(), is_subdir);
+            }
+        }
+    }
 }

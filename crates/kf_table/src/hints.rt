@@ -1,13 +1,17 @@
 //! Where a child of a large directory is looked for first: the slot where its name was last put.
 
-ghost use Rattle.std.specs.Prelude.{◌≡◌, IfErr};
+ghost use Rattle.std.specs.Prelude.{◌≤◌, ◌^◌, length};
 
-use crate::directories::Directory;
-use kf_core::{Record, Refusal};
+use crate::directories::Directories;
+use kf_core::Record;
 use std::alloc::Global;
 
-/// So many places there are for each slot: of a full table, one child in ten has its place taken by another.
-const PLACES: usize = 4;
+/// So many places there are at first.
+const FIRST: usize = 256;
+
+/// Where so many slots were reached, or fewer, there are four places for each: one child in ten has its place
+/// taken by another. Where more were, there are two.
+const FEW: usize = 4096;
 
 /// An odd number whose multiples are spread (the kernel's `GOLDEN_RATIO_64`).
 const SPREAD: u64 = 0x61C8_8646_80B5_83EB;
@@ -16,7 +20,8 @@ const SPREAD: u64 = 0x61C8_8646_80B5_83EB;
 /// kernel's table of names is to a walk (`dentry_hashtable`). Nobody believes it: who reads a slot here
 /// looks whether the record there is the one that is asked for, and searches the index where it is not. So a
 /// record that goes leaves its slot here, and no clause tells what is read. It serves large directories: in
-/// others a search is as short.
+/// others a search is as short. It takes no memory until one has a child, and grows with the slots that were
+/// reached; where it may not grow it serves as it is.
 #[derive(Drop)]
 pub(crate) struct Hints {
     slots: Vec<u32>,
@@ -47,14 +52,37 @@ fn hash_of(name: &[u8]) -> u64 {
     hash
 }
 
+/// So many places there are to be where so many slots were reached.
+fn wanted(slots: usize) -> usize
+    requires few { slots ≤ 2 ^ 32 }
+    ensures few { result ≤ 2 ^ 33 }
+{
+    if slots <= FEW { slots * 4 } else { slots * 2 }
+}
+
+/// Makes twice as many places, or the first ones where there are none. Where their memory is refused all is
+/// as before. A hint goes to both places that come of its own, so it is found as it was.
+fn double(slots: &mut Vec<u32>)
+    requires few { length slots.old.items ≤ 2 ^ 33 }
+{
+    let before = slots.len();
+    if slots.resize(FIRST.max(before * 2), 0).is_err() {
+        return;
+    }
+    let mut at = before;
+    while at > 0 {
+        at -= 1;
+        let hint = slots[at];
+        slots[at * 2] = hint;
+        slots[at * 2 + 1] = hint;
+    }
+}
+
 impl Hints {
-    /// Hints for so many slots, which all lead to the first.
-    pub(crate) fn new(alloc: Global, slots: u32) -> Result<Hints, Refusal>
-        ensures refused { IfErr result (λ refusal. refusal ≡ Refusal.NoMemory) }
-    {
-        match Vec::from_elem(alloc, 0, slots as usize * PLACES) {
-            Ok(slots) => Ok(Hints { slots }),
-            Err(_) => Err(Refusal::NoMemory),
+    /// No places yet. Takes no memory.
+    pub(crate) fn new(alloc: Global) -> Hints {
+        Hints {
+            slots: Vec::new(alloc),
         }
     }
 
@@ -76,12 +104,15 @@ impl Hints {
     }
 
     /// From now on this is the slot that `get` answers for this name, where its directory is a large one.
-    pub(crate) fn put(&mut self, directories: &[Directory], dir: u32, name: &[u8], slot: u32) {
-        let Some(kept) = directories.get(dir as usize) else {
+    pub(crate) fn put(&mut self, directories: &Directories, dir: u32, name: &[u8], slot: u32) {
+        let Some(kept) = directories.get(dir) else {
             return;
         };
         if !kept.is_large() {
             return;
+        }
+        if self.slots.len() < wanted(slot as usize + 1) {
+            double(&mut self.slots);
         }
         let place = self.place(dir, name);
         if let Some(hint) = self.slots.get_mut(place) {
@@ -90,7 +121,7 @@ impl Hints {
     }
 
     /// The same for a record, where it has a directory.
-    pub(crate) fn put_record(&mut self, directories: &[Directory], entry: &Record) {
+    pub(crate) fn put_record(&mut self, directories: &Directories, entry: &Record) {
         if let Some(parent) = entry.parent {
             self.put(directories, parent.slot, entry.name.bytes(), entry.key.slot);
         }

@@ -3,6 +3,7 @@
 
 mod children;
 mod directories;
+mod directory;
 mod hints;
 mod records;
 mod slots;

@@ -1,6 +1,6 @@
 //! The records by slot, and beside each the key of the live one.
 
-ghost use Rattle.std.specs.Prelude.{◌≡◌, ◌<◌, Option, Some, None, IfOk, IfErr, length, map, replicate, slice_get, slice_index_or, slice_set};
+ghost use Rattle.std.specs.Prelude.{◌≡◌, ◌<◌, Option, Some, None, IfOk, IfErr, length, map, replicate, slice_get, slice_set};
 ghost use Rattle.std.specs.Option.{option_copied, option_and_then};
 ghost use Rattle.kf_core.specs.declared.records.Record.{Record};
 ghost use Rattle.kf_core.specs.Commands.{doomed_record, hidden_record, moved_record};
@@ -9,17 +9,17 @@ ghost use Rattle.kf_table.specs.Changes.{with_changed_slot, activated_unless_doo
 ghost use Rattle.kf_table.specs.Live.{live_in, live_key};
 
 use crate::children::is_live;
-use crate::slots::{activate_slot, doom_slot, empty_slots, move_slot, set_hidden_slot};
-use kf_core::{Key, NameBytes, Record, Refusal};
+use crate::slots::{activate_slot, doom_slot, move_slot, set_hidden_slot};
+use kf_core::{Key, NameBytes, Record, Refusal, SlotList, SlotMap};
 use std::alloc::Global;
 use std::marker::Model;
 
 /// The records by slot. Contracts see the tree.
 #[derive(Drop)]
 pub(crate) struct Records {
-    slots: Vec<Option<Record>>,
+    slots: SlotMap<Record>,
     /// The keys of the live ones, by slot: a listing looks at 12 bytes for each name and not at 88.
-    live: Vec<Option<Key>>,
+    live: SlotList<Option<Key>>,
 }
 
 impl Model for Records {
@@ -29,49 +29,30 @@ impl Model for Records {
 
     ghost Value = { List (Option Record) };
 
-    ghost view = { λ records. records.slots.items };
+    ghost view = { λ records. records.slots };
 
-    ghost invariant = { λ records. records.live.items ≡ map live_key records.slots.items };
-}
-
-/// So many slots in which nothing is live.
-fn nothing_live(alloc: Global, slots: u32) -> Result<Vec<Option<Key>>, Refusal>
-    ensures made { IfOk result (λ live. live.items ≡ replicate slots None) }
-    ensures refused { IfErr result (λ refusal. refusal ≡ Refusal.NoMemory) }
-{
-    match Vec::from_elem(alloc, None, slots as usize) {
-        Ok(live) => Ok(live),
-        Err(_) => Err(Refusal::NoMemory),
-    }
+    ghost invariant = { λ records. records.live ≡ map live_key records.slots };
 }
 
 /// The key of a slot's record, where that is live.
-fn live_key(entry: Option<&Option<Record>>) -> Option<Key>
-    ensures known { result ≡ option_and_then live_key (option_copied entry.entry) }
+fn live_key(entry: Option<&Record>) -> Option<Key>
+    ensures known { result ≡ live_key (option_copied entry.entry) }
 {
     match entry {
-        Some(Some(found)) if is_live(found) => Some(found.key),
+        Some(found) if is_live(found) => Some(found.key),
         _ => None,
     }
 }
 
-/// What is in a slot.
-#[inline(always)]
-fn entry_in(slots: &Vec<Option<Record>>, slot: u32) -> Option<&Option<Record>>
-    ensures known { option_copied result ≡ slice_get slots.now.items slot }
-{
-    slots.get(slot as usize)
-}
-
 /// Notes whether the record in this slot is live, which may have changed.
-fn note(live: &mut Vec<Option<Key>>, slots: &Vec<Option<Record>>, slot: u32)
-    ensures kept { (before : Tree) (entry : Option Record) → live.old.items ≡ map live_key before
-        → slots.now.items ≡ slice_set before slot entry → live.new.items ≡ map live_key slots.now.items }
+fn note(live: &mut SlotList<Option<Key>>, slots: &SlotMap<Record>, slot: u32)
+    ensures kept { (before : Tree) (entry : Option Record) → live.old ≡ map live_key before
+        → slots.now ≡ slice_set before slot entry → live.new ≡ map live_key slots.now }
 {
-    let key = live_key(entry_in(slots, slot));
+    let key = live_key(slots.get(slot as usize));
     let at = slot as usize;
     if at < live.len() {
-        live[at] = key;
+        live.set(at, key);
     }
 }
 
@@ -82,8 +63,8 @@ impl Records {
         ensures refused { IfErr result (λ refusal. refusal ≡ Refusal.NoMemory) }
     {
         Ok(Records {
-            slots: empty_slots(alloc, slots)?,
-            live: nothing_live(alloc, slots)?,
+            slots: SlotMap::new(alloc, slots as usize)?,
+            live: SlotList::new(alloc, slots as usize, None)?,
         })
     }
 
@@ -95,21 +76,12 @@ impl Records {
         self.slots.len()
     }
 
-    /// What is in a slot.
+    /// The record in a slot. None also past the last slot.
     #[inline(always)]
-    pub(crate) fn get(&self, slot: u32) -> Option<&Option<Record>>
-        ensures known { option_copied result ≡ slice_get self.now slot }
+    pub(crate) fn get(&self, slot: u32) -> Option<&Record>
+        ensures known { option_copied result ≡ option_and_then (λ entry. entry) (slice_get self.now slot) }
     {
-        entry_in(&self.slots, slot)
-    }
-
-    /// What is in a slot that is there.
-    #[inline(always)]
-    pub(crate) fn at(&self, slot: u32) -> &Option<Record>
-        requires within { slot < length self.now }
-        ensures read { result.now ≡ slice_index_or self.now slot result.now }
-    {
-        &self.slots[slot as usize]
+        self.slots.get(slot as usize)
     }
 
     /// Whether the record of a key is live.
@@ -118,17 +90,25 @@ impl Records {
         ensures known { result ≡ live_in self.now key }
     {
         match self.live.get(key.slot as usize) {
-            Some(Some(found)) => *found == key,
+            Some(Some(found)) => found == key,
             _ => false,
         }
     }
 
-    /// Puts a record into a slot, or empties it.
-    pub(crate) fn put(&mut self, slot: u32, entry: Option<Record>)
+    /// Puts a record into a slot.
+    pub(crate) fn put(&mut self, slot: u32, entry: Record)
         requires within { slot < length self.old }
-        ensures put { self.new ≡ slice_set self.old slot entry }
+        ensures put { self.new ≡ slice_set self.old slot (Some entry) }
     {
-        self.slots[slot as usize] = entry;
+        self.slots.put(slot as usize, entry);
+        note(&mut self.live, &self.slots, slot);
+    }
+
+    /// Empties a slot.
+    pub(crate) fn clear(&mut self, slot: u32)
+        ensures cleared { self.new ≡ slice_set self.old slot None }
+    {
+        self.slots.take(slot as usize);
         note(&mut self.live, &self.slots, slot);
     }
 

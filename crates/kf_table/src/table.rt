@@ -2,6 +2,7 @@
 
 ghost use Rattle.std.specs.Prelude.{◌≡◌, ◌≤◌, ◌<◌, ◌↔◌, Some, None, true, false, IsTrue, IfSome, IfOk, IfErr, OnOk, OnErr, length, slice_get, slice_set};
 ghost use Rattle.std.specs.Option.{option_copied, option_map, option_and_then};
+ghost use Rattle.kf_core.specs.Limits.{most_slots};
 ghost use Rattle.kf_core.specs.declared.key.Key.{Key};
 ghost use Rattle.kf_core.specs.Tree.{IsIn, record_at, parent_of, is_linked, in_subtree};
 ghost use Rattle.kf_core.specs.Lawful.{Lawful};
@@ -12,9 +13,7 @@ ghost use Rattle.kf_table.specs.Next.{AreNext};
 ghost use Rattle.kf_table.specs.Changes.{with_changed_slot, activated_unless_doomed, is_undoomed};
 
 use crate::children::{is_child, is_directory_record};
-use crate::directories::{
-    Directory, empty_directories, insert_child, insert_record, remove_record,
-};
+use crate::directories::Directories;
 use crate::hints::Hints;
 use crate::records::Records;
 use kf_core::{Key, Marks, NameBytes, Node, Record, Refusal};
@@ -27,7 +26,7 @@ use std::marker::Model;
 #[derive(Drop)]
 pub struct Table {
     records: Records,
-    directories: Vec<Directory>,
+    directories: Directories,
     hints: Hints,
 }
 
@@ -40,7 +39,7 @@ impl Model for Table {
 
     ghost view = { λ table. table.records };
 
-    ghost invariant = { λ table. AreKept table.records table.directories.items };
+    ghost invariant = { λ table. AreKept table.records table.directories };
 }
 
 impl Table {
@@ -62,13 +61,12 @@ impl Table {
             node: Node::Dir,
             name: NameBytes::empty(alloc),
         };
-        records.put(root.slot, Some(top));
-        let directories = empty_directories(alloc, slots)?;
-        let hints = Hints::new(alloc, slots)?;
+        records.put(root.slot, top);
+        let directories = Directories::new(alloc, slots)?;
         Ok(Table {
             records,
             directories,
-            hints,
+            hints: Hints::new(alloc),
         })
     }
 
@@ -84,19 +82,16 @@ impl Table {
     pub fn in_slot(&self, slot: u32) -> Option<&Record>
         ensures known { option_copied result ≡ option_and_then (λ entry. entry) (slice_get self.now slot) }
     {
-        match self.records.get(slot) {
-            Some(entry) => entry.as_ref(),
-            None => None,
-        }
+        self.records.get(slot)
     }
 
     /// Whether there is such a slot, without a record.
     pub fn is_vacant(&self, slot: u32) -> bool
         ensures known { IsTrue result ↔ (slice_get self.now slot ≡ Some None) }
     {
-        match self.records.get(slot) {
-            Some(entry) => entry.is_none(),
-            None => false,
+        match self.in_slot(slot) {
+            Some(_) => false,
+            None => (slot as usize) < self.len(),
         }
     }
 
@@ -106,8 +101,8 @@ impl Table {
         ensures known { option_copied result ≡ record_at self.now key }
     {
         match self.records.get(key.slot) {
-            Some(Some(found)) => { if found.key == key { Some(found) } else { None } }
-            _ => None,
+            Some(found) => { if found.key == key { Some(found) } else { None } }
+            None => None,
         }
     }
 
@@ -185,7 +180,7 @@ impl Table {
         ensures keyed { IfSome result (λ found. found.1.now.key ≡ found.0) }
         ensures inside { IfSome result (λ found. IsIn self.now found.1.now) }
     {
-        let kept = &self.directories[dir.slot as usize];
+        let kept = self.directories.get(dir.slot)?;
         if kept.is_large() {
             if let Some(found) = self.hinted(dir, name) {
                 return Some(found);
@@ -207,7 +202,7 @@ impl Table {
         let Some(_) = self.record(dir) else {
             return Listed::none();
         };
-        self.directories[dir.slot as usize].above(bound)
+        self.directories.above(dir.slot, bound)
     }
 
     /// Whether a directory has a linked child.
@@ -221,12 +216,12 @@ impl Table {
     /// How many child directories a directory has.
     pub fn subdirs(&self, dir: Key) -> u32
         requires lawful { (root : Key) × Lawful self.now root }
-        requires few { length self.now ≤ 4096 }
+        requires few { length self.now ≤ most_slots }
         ensures value { result ≡ subdirs self.now dir }
-        ensures few { result ≤ 4096 }
+        ensures few { result ≤ most_slots }
     {
         match self.record(dir) {
-            Some(_) => self.directories[dir.slot as usize].subdirs() as u32,
+            Some(_) => self.directories.subdirs(dir.slot) as u32,
             None => 0,
         }
     }
@@ -239,9 +234,9 @@ impl Table {
         ensures unchanged { OnErr result (self.new ≡ self.old) }
         ensures refused { IfErr result (λ refusal. refusal ≡ Refusal.NoMemory) }
     {
-        insert_record(&mut self.directories, &entry)?;
+        self.directories.insert_record(&entry)?;
         self.hints.put_record(&self.directories, &entry);
-        self.records.put(entry.key.slot, Some(entry));
+        self.records.put(entry.key.slot, entry);
         Ok(())
     }
 
@@ -250,9 +245,9 @@ impl Table {
         requires linked { IsTrue (is_linked self.old key) }
         ensures taken { self.new ≡ slice_set self.old key.slot None }
     {
-        let gone = self.records.at(key.slot).as_ref();
-        remove_record(&mut self.directories, gone);
-        self.records.put(key.slot, None);
+        self.directories.remove_record(self.records.get(key.slot));
+        self.directories.forget(key.slot);
+        self.records.clear(key.slot);
     }
 
     /// Whether the slot has a record that is not doomed.
@@ -308,14 +303,9 @@ impl Table {
         ensures refused { IfErr result (λ refusal. refusal ≡ Refusal.NoMemory) }
     {
         let is_subdir = is_directory_record(self.record(key));
-        insert_child(
-            &mut self.directories,
-            dir.slot,
-            name.bytes(),
-            key,
-            is_subdir,
-        )?;
-        remove_record(&mut self.directories, self.records.at(key.slot).as_ref());
+        self.directories
+            .insert(dir.slot, name.bytes(), key, is_subdir)?;
+        self.directories.remove_record(self.records.get(key.slot));
         self.hints
             .put(&self.directories, dir.slot, name.bytes(), key.slot);
         self.records.move_to(key.slot, dir, name);

@@ -4,6 +4,7 @@ use Rattle.std.specs.Prelude.{Option, None, Some, slice_get}
 use Rattle.std.proofs.lemmas.Option.{same_Some, none-some}
 use Rattle.std.proofs.lemmas.List.{length-map}
 use Rattle.std.proofs.lemmas.Bool.Decides.{eqb_tells}
+use Rattle.kf_core.specs.Limits.{most_slots}
 use Rattle.kf_core.specs.declared.key.Key.{Key}
 use Rattle.kf_core.specs.declared.records.Record.{Record}
 use Rattle.kf_core.specs.declared.command.Command.{Command}
@@ -78,7 +79,7 @@ module _ (n : ℕ) (root : Key) (within : root.slot < n) where
       subst (λ (t : List (Option Record)). IsKept (record { root = root; tree = t; commands = commands; ready = None })) (sym is)
       (subst (λ (cs : List Command). IsKept (record { root = root; tree = root_alone n root; commands = cs; ready = None })) (sym none) alone_kept)
 
-  pub new_sound : (tree : Tree) (commands : List Command) (capacity : ℕ) → n ≤ 4096 → tree ≡ root_alone n root → commands ≡ [] → IsSound (record { root = root; tree = tree; commands = commands; ready = None }) capacity 0
+  pub new_sound : (tree : Tree) (commands : List Command) (capacity : ℕ) → n ≤ most_slots → tree ≡ root_alone n root → commands ≡ [] → IsSound (record { root = root; tree = tree; commands = commands; ready = None }) capacity 0
   new_sound tree commands capacity few is none = record {
     kept = new_kept tree commands is none;
     few = (let e : length tree ≡ n = ap (λ (t : Tree). length t) is ∙ length_alone in omega (arith, few));

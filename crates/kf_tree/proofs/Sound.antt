@@ -4,6 +4,7 @@ use Rattle.std.specs.Prelude.{Option, None, Some, slice_get, IsTrue, is_some, ma
 use Rattle.std.specs.Option.{option_map, option_map_or, option_and_then}
 use Rattle.std.proofs.lemmas.Option.{same_Some, none-some}
 use Rattle.std.proofs.lemmas.List.Sums.{count_by-le-length}
+use Rattle.kf_core.specs.Limits.{most_slots}
 use Rattle.kf_core.specs.declared.key.Key.{Key}
 use Rattle.kf_core.specs.declared.key.Node.{Node}
 use Rattle.kf_core.specs.declared.records.Record.{Record}
@@ -133,7 +134,7 @@ module _ (s : TreeLog) (before had : ℕ) (sound : IsSound s before had) where
       omega (arith, most, e, r, counted))
 
   pub newly_fit : (newly : ℕ) (key : Key) (keys : List Key) (tree : List (Option Record)) → IsPostOrder s.tree key keys → tree ≡ with_changed_slots doomed_record s.tree keys →
-      doomed_count tree ≡ doomed_count s.tree + newly → had + newly ≤ 8192
+      doomed_count tree ≡ doomed_count s.tree + newly → had + newly ≤ most_slots + most_slots
   newly_fit newly key keys tree order changed counted =
       (let same : length tree ≡ length (after s.tree (Doom key)) = ap (λ (t : Tree). length t) (changed ∙ each_doomed s.tree s.root key keys sound.kept.lawful order) in
       let len = length_after s.tree (Doom key) in

@@ -1,5 +1,6 @@
 -- What holds of a state at all times.
 use Rattle.std.specs.Prelude.{◌≡◌, ℕ, ◌+◌, ◌≤◌, length, None, Some}
+use Rattle.kf_core.specs.Limits.{most_slots}
 use Rattle.kf_core.specs.declared.key.Key.{Key}
 use Rattle.kf_tree.specs.Causes.{hide_cause}
 use Rattle.kf_tree.specs.TreeLogs.{TreeLog, IsKept}
@@ -13,7 +14,7 @@ pub record IsReady (s : TreeLog) (capacity owed : ℕ) (key : Key) : Type 0 wher
 -- the command list has this capacity, and so many later commands are owed
 pub record IsSound (s : TreeLog) (capacity owed : ℕ) : Type 0 where
   pub kept : IsKept s
-  pub few : length s.tree ≤ 4096
+  pub few : length s.tree ≤ most_slots
   pub counted : owed ≡ owed_count s.tree
   pub room : length s.commands + owed ≤ capacity
   pub ready : (key : Key) → s.ready ≡ Some key → IsReady s capacity owed key

@@ -1,6 +1,7 @@
 //! What is told of a node.
 
 ghost use Rattle.std.specs.Prelude.{◌≡◌, ◌≤◌, length};
+ghost use Rattle.kf_core.specs.Limits.{most_slots};
 ghost use Rattle.kf_core.specs.declared.key.Key.{Key};
 ghost use Rattle.kf_core.specs.Lawful.{Lawful};
 ghost use Rattle.kf_tree.specs.Stat.{stat_of};
@@ -24,7 +25,7 @@ pub struct Stat {
 /// What is told of a record.
 pub(crate) fn stat_of(table: &Table, entry: &Record) -> Stat
     requires lawful { (root : Key) × Lawful table.now root }
-    requires few { length table.now ≤ 4096 }
+    requires few { length table.now ≤ most_slots }
     ensures told { result ≡ stat_of table.now entry.now }
 {
     let (subdirs, links) = match entry.node {

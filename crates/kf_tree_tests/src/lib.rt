@@ -11,6 +11,10 @@ mod pins_tests;
 #[cfg(test)]
 mod room_tests;
 #[cfg(test)]
+mod slot_tests;
+#[cfg(test)]
 mod tests;
+#[cfg(test)]
+mod wide_tests;
 #[cfg(test)]
 mod world_tests;

@@ -8,6 +8,9 @@ use std::test::Fail;
 
 const NAMES: u32 = 1000;
 
+/// So many chunks such an index has at most: a full one is split in two of 254 entries.
+const CHUNKS: usize = 3;
+
 const DIGITS: [u8; 16] = *b"0123456789abcdef";
 
 fn key(slot: u32) -> Key {
@@ -35,10 +38,10 @@ fn insert(alloc: Global, index: &mut Index, number: u32) -> Result<(), Refusal> 
     index.insert(Name::new(alloc, &name_of(number))?, key(number))
 }
 
-/// Whether there is memory for some four times the entries at most.
+/// Whether there is memory for some four times the entries at most, in each chunk.
 fn is_fitting(index: &Index) -> bool {
     let len = index.len();
-    len <= NAMES as usize && index.room() <= 4 * len + 3
+    len <= NAMES as usize && index.room() <= 4 * len + 3 * CHUNKS
 }
 
 #[test]

@@ -9,11 +9,11 @@ use kf_core::{ActiveCall, Guard, Key, Limits, Phase, Refusal, World};
 use std::alloc::Global;
 use std::test::Fail;
 
-fn key(slot: u32, generation: u32) -> Key {
+pub(crate) fn key(slot: u32, generation: u32) -> Key {
     Key { slot, generation }
 }
 
-fn world_of(alloc: Global, slots: u32, holds: u32, start: u32) -> Result<World, Refusal>
+pub(crate) fn world_of(alloc: Global, slots: u32, holds: u32, start: u32) -> Result<World, Refusal>
     requires start { start ≤ 2 ^ 32 - 2 }
 {
     let limits = Limits::new(slots, holds).ok_or(Refusal::Invalid)?;
@@ -21,7 +21,7 @@ fn world_of(alloc: Global, slots: u32, holds: u32, start: u32) -> Result<World, 
 }
 
 /// A new live node in the lowest free slot.
-fn make(world: &mut World) -> Option<Key> {
+pub(crate) fn make(world: &mut World) -> Option<Key> {
     let key = world.free_key()?;
     world.born(key);
     world.activate(key);
@@ -38,7 +38,7 @@ fn enter(world: &mut World, id: usize) -> Option<bool> {
 }
 
 /// A try by a waiting caller; where it succeeds, the node is then doomed.
-fn enter_and_doom(world: &mut World, id: usize) -> Option<bool> {
+pub(crate) fn enter_and_doom(world: &mut World, id: usize) -> Option<bool> {
     let (key, phase) = world.caller(id)?;
     if !phase.is_waiting() {
         return None;
@@ -51,7 +51,7 @@ fn enter_and_doom(world: &mut World, id: usize) -> Option<bool> {
 }
 
 /// The end of the call of a caller with a reference.
-fn leave(world: &mut World, id: usize) -> Option<()> {
+pub(crate) fn leave(world: &mut World, id: usize) -> Option<()> {
     let (_, phase) = world.caller(id)?;
     if !phase.has_reference() {
         return None;
@@ -95,7 +95,7 @@ fn show(world: &mut World, id: usize) -> Option<()> {
 }
 
 /// Takes the node of a drained caller out, where it is linked.
-fn take_out(world: &mut World, id: usize) -> Option<()> {
+pub(crate) fn take_out(world: &mut World, id: usize) -> Option<()> {
     if world.part(id) {
         return None;
     }
@@ -256,10 +256,10 @@ fn limits_are_within_their_bounds(rt: HostRuntime) {
     let answers = [
         limits_of(0, 1) == None,
         limits_of(1, 0) == None,
-        limits_of(4097, 1) == None,
+        limits_of(1048577, 1) == None,
         limits_of(1, 65536) == None,
         limits_of(1, 1) == Some((1, 1)),
-        limits_of(4096, 65535) == Some((4096, 65535)),
+        limits_of(1048576, 65535) == Some((1048576, 65535)),
     ];
     assert_eq!(rt; first_wrong(&answers), None);
 }

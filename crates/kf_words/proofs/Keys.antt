@@ -1,19 +1,20 @@
 -- What the Master knows of a slot and of its keys, and a search load by load.
-use Rattle.std.proofs.Common.{◌≡◌, ℕ, zero, suc, get_or, slice_set, ◌<◌, ◌≤◌, ◌/◌, true, false, List, [], ◌∷◌, ◌++◌, length, refl, sym, ap, ◌∙◌, arith, subst}
+use Rattle.std.proofs.Common.{◌≡◌, ℕ, zero, suc, ◌+◌, get_or, slice_set, ◌<◌, ◌≤◌, ◌/◌, true, false, List, [], ◌∷◌, ◌++◌, length, refl, sym, ap, ◌∙◌, arith, subst}
 use Rattle.std.specs.Prelude.{slice_get, Option, Some, None, is_some}
 use Rattle.std.specs.Option.{option_map}
 use Rattle.std.proofs.lemmas.Option.{slice_get_within, get_or_from_slice_get, none-some, same_Some}
 use Rattle.kf_core.specs.declared.key.Key.{Key}
 use Rattle.kf_core.specs.declared.slot.Marks.{Marks}
 use Rattle.kf_core.specs.declared.slot.SlotState.{SlotState}
+use Rattle.kf_core.specs.Marks.{fresh_marks}
 use Rattle.kf_core.proofs.SlotStates.{in_place}
 use Rattle.kf_core.proofs.Keeping.{linked_marks, same_key}
 use Rattle.kf_words.specs.declared.view.Load.{Load}
 use Rattle.kf_words.specs.declared.view.MasterView.{MasterView}
 use Rattle.kf_words.specs.Layout.{IsFree}
 use Rattle.kf_words.specs.Rule.{last_key}
-use Rattle.kf_words.specs.Steps.{with_load, without_node, state_at, no_state, remarked, TellsSlot}
-use Rattle.kf_words.specs.Nodes.{FoundRoom, KeepsRooms, with_loads, IsLastKey, HasNext, marks_of, slots_with}
+use Rattle.kf_words.specs.Steps.{with_load, after_store, with_birth, without_node, state_at, no_state, remarked, TellsSlot}
+use Rattle.kf_words.specs.Nodes.{FoundRoom, KeepsRooms, with_loads, IsLastKey, IsVacant, HasNext, marks_of, slots_with}
 use Rattle.kf_words.proofs.Bits.{free_unlinked}
 use Rattle.kf_words.proofs.MasterAllowed.{state_there}
 
@@ -100,3 +101,10 @@ pub slots_remarked : (m : MasterView) (key : Key) (change : Marks → Marks) (x 
 slots_remarked m key change x had =
     let its : slice_get m.slots key.slot ≡ Some (record { generation = key.generation; marks = Some x }) = in_place (slice_get m.slots key.slot) key.generation x had in
     ap (λ (s : SlotState). slice_set m.slots key.slot (remarked change s)) (get_or_from_slice_get m.slots key.slot (record { generation = key.generation; marks = Some x }) no_state its)
+
+-- the slots when a node is born
+pub slots_born : (m : MasterView) (key : Key) → IsVacant m key → (with_birth key.slot (after_store key.slot m)).slots ≡ slots_with m.slots key (Some fresh_marks)
+slots_born m key vacant =
+    let was : SlotState = record { generation = vacant.last; marks = None } in
+    ap (λ (s : SlotState). slice_set m.slots key.slot (record { generation = s.generation + 1; marks = Some fresh_marks })) (get_or_from_slice_get m.slots key.slot was no_state vacant.vacant)
+    ∙ ap (λ (g : ℕ). slots_with m.slots (record { slot = key.slot; generation = g }) (Some fresh_marks)) (sym vacant.next)

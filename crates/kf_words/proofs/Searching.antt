@@ -1,64 +1,99 @@
--- A search for a free slot, slot by slot, and the blocks that it passes over.
-use Rattle.std.proofs.Common.{◌≡◌, ◌≢◌, ◌⊎◌, inl, inr, ℕ, zero, suc, ◌+◌, ◌*◌, ◌/◌, ◌<◌, ◌≤◌, ◌&&◌, ◌==◌, Bool, true, false, not, List, [], ◌∷◌, ◌++◌, length, slice_set, get_or, refl, sym, ap, ◌∙◌, arith, subst}
+-- A search for a free slot, slot by slot, and the blocks and groups that it passes over.
+use Rattle.std.proofs.Common.{◌≡◌, ◌≢◌, ◌⊎◌, inl, inr, ℕ, zero, suc, ◌+◌, ◌*◌, ◌/◌, ◌<◌, ◌≤◌, ◌&&◌, ◌==◌, Bool, true, false, not, List, [], ◌∷◌, ◌++◌, length, length-set, replicate, slice_set, get_or, refl, sym, ap, ◌∙◌, arith, subst}
 use Rattle.std.specs.Prelude.{slice_get, Option, Some, None, is_some}
-use Rattle.std.proofs.lemmas.Option.{slice_get_within}
+use Rattle.std.proofs.lemmas.Option.{slice_get_within, none-some, same_Some}
+use Rattle.kf_core.specs.Limits.{most_slots}
 use Rattle.kf_core.specs.declared.slot.SlotState.{SlotState}
 use Rattle.kf_core.proofs.Lists.{after_set, after_write, slice_get-set_other}
 use Rattle.kf_words.specs.declared.view.Load.{Load}
 use Rattle.kf_words.specs.declared.view.MasterView.{MasterView}
 use Rattle.kf_words.specs.Layout.{IsFree}
 use Rattle.kf_words.specs.Steps.{with_load}
-use Rattle.kf_words.specs.Nodes.{lacks_node, is_unlinked, Passed, with_loads, FoundFirst, FoundNone, AreFull}
+use Rattle.kf_words.specs.Nodes.{lacks_node, is_unlinked, FoundFirst, FoundNone}
+use Rattle.kf_words.specs.Searches.{HasPassed, SearchesOn, AreFull, AreMarked}
 use Rattle.kf_words.proofs.Keys.{with_loads_more, with_loads_slots, with_loads_limit, with_loads_pinning, get_there}
 
--- a search that began at the first view has passed the slots below this one
-abbrev pub IsSearching : MasterView → ℕ → MasterView → Type 0
-IsSearching m slot m' = (loads : List Load) × Passed m.slots slot loads × (m' ≡ with_loads loads m)
-
-pub begins : (m : MasterView) → IsSearching m 0 m
+pub begins : (m : MasterView) → HasPassed m 0 m
 begins m = ([], refl, refl)
 
-pub skips : (m m' : MasterView) (slot : ℕ) → is_unlinked m.slots slot ≡ false → IsSearching m slot m' → IsSearching m (slot + 1) m'
+pub passed_slots : (m m' : MasterView) (slot : ℕ) → HasPassed m slot m' → m'.slots ≡ m.slots
+passed_slots m m' slot s = ap (λ (x : MasterView). x.slots) s.2 ∙ with_loads_slots s.0 m
+
+pub passed_limit : (m m' : MasterView) (slot : ℕ) → HasPassed m slot m' → m'.limit ≡ m.limit
+passed_limit m m' slot s = ap (λ (x : MasterView). x.limit) s.2 ∙ with_loads_limit s.0 m
+
+pub passed_pinning : (m m' : MasterView) (slot : ℕ) → HasPassed m slot m' → m'.pinning ≡ m.pinning
+passed_pinning m m' slot s = ap (λ (x : MasterView). x.pinning) s.2 ∙ with_loads_pinning s.0 m
+
+-- a slot is unlinked at the first view where it is at a later one of the search
+at_first : (m m' : MasterView) (slot i : ℕ) (b : Bool) → HasPassed m slot m' → is_unlinked m'.slots i ≡ b → is_unlinked m.slots i ≡ b
+at_first m m' slot i b s e = ap (λ (l : List SlotState). is_unlinked l i) (sym (passed_slots m m' slot s)) ∙ e
+
+skips : (m m' : MasterView) (slot : ℕ) → is_unlinked m'.slots slot ≡ false → HasPassed m slot m' → HasPassed m (slot + 1) m'
 skips m m' slot linked s =
     let e : suc slot ≡ slot + 1 = omega arith in
-    subst (λ (n : ℕ). IsSearching m n m') e (s.0, inl (linked, s.1), s.2)
+    subst (λ (n : ℕ). HasPassed m n m') e (s.0, inl (at_first m m' slot slot false s linked, s.1), s.2)
 
-pub loads_more : (m m' m'' : MasterView) (slot word : ℕ) → is_unlinked m.slots slot ≡ true → (IsFree word → ⊥) → m'' ≡ with_load slot word m' → IsSearching m slot m' → IsSearching m (slot + 1) m''
+loads_more : (m m' m'' : MasterView) (slot word : ℕ) → is_unlinked m'.slots slot ≡ true → (IsFree word → ⊥) → m'' ≡ with_load slot word m' → HasPassed m slot m' → HasPassed m (slot + 1) m''
 loads_more m m' m'' slot word unlinked taken is s =
     let e : suc slot ≡ slot + 1 = omega arith in
     let load : Load = record { slot = slot; word = word } in
-    subst (λ (n : ℕ). IsSearching m n m'') e
-    (s.0 ++ load ∷ [], inr (unlinked, s.0, word, taken, refl, s.1), is ∙ ap (λ (x : MasterView). with_load slot word x) s.2 ∙ sym (with_loads_more s.0 load m))
+    subst (λ (n : ℕ). HasPassed m n m'') e
+    (s.0 ++ load ∷ [], inr (at_first m m' slot slot true s unlinked, s.0, word, taken, refl, s.1), is ∙ ap (λ (x : MasterView). with_load slot word x) s.2 ∙ sym (with_loads_more s.0 load m))
 
 -- so many slots that all have nodes
-pub passes_over : (m m' : MasterView) (slot count : ℕ) → ((i : ℕ) → slot ≤ i → i < slot + count → is_unlinked m.slots i ≡ false) → IsSearching m slot m' → IsSearching m (slot + count) m'
-passes_over m m' slot zero all s = let e : slot ≡ slot + 0 = omega arith in subst (λ (n : ℕ). IsSearching m n m') e s
+passes_over : (m m' : MasterView) (slot count : ℕ) → ((i : ℕ) → slot ≤ i → i < slot + count → is_unlinked m'.slots i ≡ false) → HasPassed m slot m' → HasPassed m (slot + count) m'
+passes_over m m' slot zero all s = let e : slot ≡ slot + 0 = omega arith in subst (λ (n : ℕ). HasPassed m n m') e s
 passes_over m m' slot (suc count) all s =
     let e : slot + count + 1 ≡ slot + suc count = omega arith in
-    let fewer : (i : ℕ) → slot ≤ i → i < slot + count → is_unlinked m.slots i ≡ false = λ i low high. all i low (omega arith) in
-    subst (λ (n : ℕ). IsSearching m n m') e (skips m m' (slot + count) (all (slot + count) (omega arith) (omega arith)) (passes_over m m' slot count fewer s))
+    let fewer : (i : ℕ) → slot ≤ i → i < slot + count → is_unlinked m'.slots i ≡ false = λ i low high. all i low (omega arith) in
+    subst (λ (n : ℕ). HasPassed m n m') e (skips m m' (slot + count) (all (slot + count) (omega arith) (omega arith)) (passes_over m m' slot count fewer s))
 
-pub finds : (m m' m'' : MasterView) (slot word : ℕ) → is_unlinked m.slots slot ≡ true → IsFree word → m'' ≡ with_load slot word m' → IsSearching m slot m' → FoundFirst m slot m''
+finds : (m m' m'' : MasterView) (slot word : ℕ) → is_unlinked m'.slots slot ≡ true → IsFree word → m'' ≡ with_load slot word m' → HasPassed m slot m' → FoundFirst m slot m''
 finds m m' m'' slot word unlinked free is s = record {
   before = s.0;
   word = word;
   passed = s.1;
-  unlinked = unlinked;
+  unlinked = at_first m m' slot slot true s unlinked;
   free = free;
   view = is ∙ ap (λ (x : MasterView). with_load slot word x) s.2;
 }
 
-pub ends : (m m' : MasterView) (below : ℕ) → length m.slots ≤ below → IsSearching m below m' → FoundNone m m'
+pub found_slots : (m m' : MasterView) (slot : ℕ) → FoundFirst m slot m' → m'.slots ≡ m.slots
+found_slots m m' slot f = ap (λ (x : MasterView). x.slots) f.view ∙ with_loads_slots f.before m
+
+pub found_limit : (m m' : MasterView) (slot : ℕ) → FoundFirst m slot m' → m'.limit ≡ m.limit
+found_limit m m' slot f = ap (λ (x : MasterView). x.limit) f.view ∙ with_loads_limit f.before m
+
+pub found_pinning : (m m' : MasterView) (slot : ℕ) → FoundFirst m slot m' → m'.pinning ≡ m.pinning
+found_pinning m m' slot f = ap (λ (x : MasterView). x.pinning) f.view ∙ with_loads_pinning f.before m
+
+pub ends : (m m' : MasterView) (below : ℕ) → length m.slots ≤ below → HasPassed m below m' → FoundNone m m'
 ends m m' below all s = record { loads = s.0; below = below; passed = s.1; all = all; view = s.2 }
 
-pub searching_slots : (m m' : MasterView) (slot : ℕ) → IsSearching m slot m' → m'.slots ≡ m.slots
-searching_slots m m' slot s = ap (λ (x : MasterView). x.slots) s.2 ∙ with_loads_slots s.0 m
+-- the same of each search that has come so far
+module _ (m : MasterView) (from : ℕ) where
+  pub on_begins : SearchesOn m from from None m
+  on_begins first s = s
 
-pub searching_limit : (m m' : MasterView) (slot : ℕ) → IsSearching m slot m' → m'.limit ≡ m.limit
-searching_limit m m' slot s = ap (λ (x : MasterView). x.limit) s.2 ∙ with_loads_limit s.0 m
+  pub on_skips : (m' : MasterView) (slot : ℕ) → is_unlinked m'.slots slot ≡ false → SearchesOn m from slot None m' → SearchesOn m from (slot + 1) None m'
+  on_skips m' slot linked on first s = skips first m' slot linked (on first s)
 
-pub searching_pinning : (m m' : MasterView) (slot : ℕ) → IsSearching m slot m' → m'.pinning ≡ m.pinning
-searching_pinning m m' slot s = ap (λ (x : MasterView). x.pinning) s.2 ∙ with_loads_pinning s.0 m
+  pub on_loads : (m' m'' : MasterView) (slot word : ℕ) → is_unlinked m'.slots slot ≡ true → (IsFree word → ⊥) → m'' ≡ with_load slot word m' → SearchesOn m from slot None m' → SearchesOn m from (slot + 1) None m''
+  on_loads m' m'' slot word unlinked taken is on first s = loads_more first m' m'' slot word unlinked taken is (on first s)
+
+  pub on_over : (m' : MasterView) (slot count : ℕ) → ((i : ℕ) → slot ≤ i → i < slot + count → is_unlinked m'.slots i ≡ false) → SearchesOn m from slot None m' → SearchesOn m from (slot + count) None m'
+  on_over m' slot count all on first s = passes_over first m' slot count all (on first s)
+
+  pub on_finds : (m' m'' : MasterView) (slot to word : ℕ) → is_unlinked m'.slots slot ≡ true → IsFree word → m'' ≡ with_load slot word m' → SearchesOn m from slot None m' → SearchesOn m from to (Some slot) m''
+  on_finds m' m'' slot to word unlinked free is on first s = finds first m' m'' slot word unlinked free is (on first s)
+
+  -- one part of the way after another
+  pub on_then : (m' m'' : MasterView) (at to : ℕ) → SearchesOn m from at None m' → SearchesOn m' at to None m'' → SearchesOn m from to None m''
+  on_then m' m'' at to on next first s = next first (on first s)
+
+  pub on_then_found : (m' m'' : MasterView) (at to to' slot : ℕ) → SearchesOn m from at None m' → SearchesOn m' at to (Some slot) m'' → SearchesOn m from to' (Some slot) m''
+  on_then_found m' m'' at to to' slot on next first s = next first (on first s)
 
 lacks_there : (o : Option SlotState) → lacks_node o ≡ true → (state : SlotState) × (o ≡ Some state)
 lacks_there None e = absurd (let y : true ≡ false = sym e in cc)
@@ -85,16 +120,14 @@ below_or_at (suc i) (suc slot) h = elim (below_or_at i slot (omega arith)) [ inl
 pub last_or : (slots : List SlotState) (low slot i : ℕ) → ((j : ℕ) → low ≤ j → j < slot → is_unlinked slots j ≡ false) → is_unlinked slots slot ≡ false → low ≤ i → i < slot + 1 → is_unlinked slots i ≡ false
 last_or slots low slot i before here above below = elim (below_or_at i slot below) [ inl h ↦ before i above h | inr h ↦ ap (is_unlinked slots) h ∙ here ]
 
--- each slot of a block that is marked full has a node
-pub in_full_block : (full : List Bool) (slots : List SlotState) (block i : ℕ) → AreFull full slots → block < length full → get_or full block false ≡ true → block * 64 ≤ i → i < block * 64 + 64 → is_unlinked slots i ≡ false
-in_full_block full slots block i all near marked low high =
-    let e : block ≡ i / 64 = omega arith in
-    all i (subst (λ (k : ℕ). slice_get full k ≡ Some true) e (get_there full block false near ∙ ap Some marked))
+-- each slot that shares a mark has a node
+pub in_full : (many : ℕ) (full : List Bool) (slots : List SlotState) (place i : ℕ) → AreFull many full slots → place < length full → get_or full place false ≡ true → place ≡ i / many → is_unlinked slots i ≡ false
+in_full many full slots place i all near marked e = all i (subst (λ (k : ℕ). slice_get full k ≡ Some true) e (get_there full place false near ∙ ap Some marked))
 
--- a block is marked where each of its slots was seen to have a node
-pub full_marked : (full : List Bool) (slots : List SlotState) (block : ℕ) (all : Bool) → AreFull full slots → (all ≡ true → (i : ℕ) → block * 64 ≤ i → i < block * 64 + 64 → is_unlinked slots i ≡ false) → AreFull (slice_set full block all) slots
-full_marked full slots block all old seen slot marked =
-    elim (after_write full block (slot / 64) all true marked) [ inl h ↦ (let e : block ≡ slot / 64 = h.0 in seen h.1 slot (omega arith) (omega arith)) | inr h ↦ old slot h.1 ]
+-- a mark is set where each slot that shares it was seen to have a node
+pub full_marked : (many : ℕ) (full : List Bool) (slots : List SlotState) (place : ℕ) (all : Bool) → AreFull many full slots → (all ≡ true → (i : ℕ) → place ≡ i / many → is_unlinked slots i ≡ false) → AreFull many (slice_set full place all) slots
+full_marked many full slots place all old seen slot marked =
+    elim (after_write full place (slot / many) all true marked) [ inl h ↦ seen h.1 slot h.0 | inr h ↦ old slot h.1 ]
 
 and_keeps : (a b b' : Bool) → (b ≡ false → b' ≡ false) → (a && b) ≡ false → (a && b') ≡ false
 and_keeps true b b' keeps e = keeps e
@@ -110,17 +143,91 @@ has_node o state is lacks = not_false (is_some state.marks) (sym (ap lacks_node 
   not_false true e = refl
   not_false false e = absurd (let y : true ≡ false = e in cc)
 
--- a slot that gets a node, or keeps one, makes no block less full
-pub full_linked : (full : List Bool) (slots : List SlotState) (i : ℕ) (state : SlotState) → is_some state.marks ≡ true → AreFull full slots → AreFull full (slice_set slots i state)
-full_linked full slots i state linked old slot marked =
+-- a slot that gets a node, or keeps one, takes no mark away
+full_linked : (many : ℕ) (full : List Bool) (slots : List SlotState) (i : ℕ) (state : SlotState) → is_some state.marks ≡ true → AreFull many full slots → AreFull many full (slice_set slots i state)
+full_linked many full slots i state linked old slot marked =
     and_keeps (not (slot == 0)) (lacks_node (slice_get slots slot)) (lacks_node (slice_get (slice_set slots i state) slot))
     (λ lacks. lacks_not (slice_get (slice_set slots i state) slot) (λ y is. elim (after_set slots i slot state y is) [ inl h ↦ ap (λ (s : SlotState). is_some s.marks) (sym h) ∙ linked | inr h ↦ has_node (slice_get slots slot) y h lacks ]))
     (old slot marked)
 
--- where a node leaves its slot, the block is no longer marked
-pub full_left : (full : List Bool) (slots : List SlotState) (i : ℕ) (state : SlotState) → AreFull full slots → AreFull (slice_set full (i / 64) false) (slice_set slots i state)
-full_left full slots i state old slot marked =
-    let untouched : ((i / 64) ≢ (slot / 64)) → slice_get full (slot / 64) ≡ Some true → is_unlinked (slice_set slots i state) slot ≡ false = λ differs was.
-    (let other : slot ≢ i = λ e. differs (ap (λ (n : ℕ). n / 64) (sym e)) in
+-- where a node leaves its slot, the mark is taken away
+full_left : (many : ℕ) (full : List Bool) (slots : List SlotState) (i : ℕ) (state : SlotState) → AreFull many full slots → AreFull many (slice_set full (i / many) false) (slice_set slots i state)
+full_left many full slots i state old slot marked =
+    let untouched : ((i / many) ≢ (slot / many)) → slice_get full (slot / many) ≡ Some true → is_unlinked (slice_set slots i state) slot ≡ false = λ differs was.
+    (let other : slot ≢ i = λ e. differs (ap (λ (n : ℕ). n / many) (sym e)) in
     ap (λ (o : Option SlotState). not (slot == 0) && lacks_node o) (slice_get-set_other slots i slot state other) ∙ old slot was) in
-    elim (after_write full (i / 64) (slot / 64) false true marked) [ inl h ↦ absurd (let y : false ≡ true = h.1 in cc) | inr h ↦ untouched h.0 h.1 ]
+    elim (after_write full (i / many) (slot / many) false true marked) [ inl h ↦ absurd (let y : false ≡ true = h.1 in cc) | inr h ↦ untouched h.0 h.1 ]
+
+none_marked : (n i : ℕ) → slice_get (replicate n false) i ≡ Some true → ⊥
+none_marked zero i e = none-some true e
+none_marked (suc n) zero e = let y : false ≡ true = same_Some false true e in cc
+none_marked (suc n) (suc i) e = none_marked n i e
+
+-- no mark is set at first
+full_none : (many n : ℕ) (slots : List SlotState) → AreFull many (replicate n false) slots
+full_none many n slots slot marked = absurd (none_marked n (slot / many) marked)
+
+length-replicate : {X : Type 0} (n : ℕ) (x : X) → length (replicate n x) ≡ n
+length-replicate zero x = refl
+length-replicate (suc n) x = ap suc (length-replicate n x)
+
+pub marked_first : (groups : ℕ) (slots : List SlotState) → length slots ≤ 8192 * groups → 128 * groups ≤ most_slots / 64 → AreMarked (replicate (groups * 128) false) (replicate groups false) slots
+marked_first groups slots covered few =
+    let blocks = length-replicate (groups * 128) false in
+    let long = length-replicate groups false in
+    record {
+      blocks = full_none 64 (groups * 128) slots;
+      groups = full_none 8192 groups slots;
+      covered = omega arith;
+      grouped = omega arith;
+      few = omega arith;
+    }
+
+pub marked_linked : (full full_groups : List Bool) (slots : List SlotState) (i : ℕ) (state : SlotState) → is_some state.marks ≡ true → AreMarked full full_groups slots → AreMarked full full_groups (slice_set slots i state)
+marked_linked full full_groups slots i state linked old =
+    let long = length-set slots i state in
+    let covered = old.covered in
+    record {
+      blocks = full_linked 64 full slots i state linked old.blocks;
+      groups = full_linked 8192 full_groups slots i state linked old.groups;
+      covered = omega arith;
+      grouped = old.grouped;
+      few = old.few;
+    }
+
+pub marked_left : (full full_groups : List Bool) (slots : List SlotState) (i : ℕ) (state : SlotState) → AreMarked full full_groups slots → AreMarked (slice_set full (i / 64) false) (slice_set full_groups (i / 8192) false) (slice_set slots i state)
+marked_left full full_groups slots i state old =
+    let long = length-set slots i state in
+    let blocks = length-set full (i / 64) false in
+    let all = length-set full_groups (i / 8192) false in
+    let covered = old.covered in
+    let grouped = old.grouped in
+    let few = old.few in
+    record {
+      blocks = full_left 64 full slots i state old.blocks;
+      groups = full_left 8192 full_groups slots i state old.groups;
+      covered = omega arith;
+      grouped = omega arith;
+      few = omega arith;
+    }
+
+-- the marks of blocks after a search of one
+pub marked_on : (full full' full_groups : List Bool) (slots : List SlotState) → AreMarked full full_groups slots → AreFull 64 full' slots → length full' ≡ length full → AreMarked full' full_groups slots
+marked_on full full' full_groups slots old blocks as_many =
+    let covered = old.covered in
+    let grouped = old.grouped in
+    let few = old.few in
+    record { blocks = blocks; groups = old.groups; covered = omega arith; grouped = omega arith; few = omega arith }
+
+-- a group is marked where each slot of its blocks was seen to have a node
+pub marked_group : (full full_groups : List Bool) (slots : List SlotState) (group : ℕ) (all : Bool) → AreMarked full full_groups slots → (all ≡ true → (i : ℕ) → group ≡ i / 8192 → is_unlinked slots i ≡ false) → AreMarked full (slice_set full_groups group all) slots
+marked_group full full_groups slots group all old seen =
+    let many = length-set full_groups group all in
+    let grouped = old.grouped in
+    record { blocks = old.blocks; groups = full_marked 8192 full_groups slots group all old.groups seen; covered = old.covered; grouped = omega arith; few = old.few }
+
+pub or_before : (i slot : ℕ) → (i < slot) ⊎ (slot ≤ i)
+or_before zero zero = inr (omega arith)
+or_before zero (suc slot) = inl (omega arith)
+or_before (suc i) zero = inr (omega arith)
+or_before (suc i) (suc slot) = elim (or_before i slot) [ inl h ↦ inl (omega arith) | inr h ↦ inr (omega arith) ]

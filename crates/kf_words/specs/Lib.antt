@@ -3,6 +3,7 @@ pub mod Rule
 pub mod Steps
 pub mod Callers
 pub mod Nodes
+pub mod Searches
 pub mod Laws
 pub mod Events
 pub mod TableSteps

@@ -1,5 +1,5 @@
 -- What contracts see of the Master, and what each of its calls tells.
-use Rattle.std.specs.Prelude.{◌≡◌, ◌≤◌, ◌<◌, ◌↔◌, ◌⊎◌, ℕ, zero, suc, ◌+◌, ◌*◌, ◌/◌, Bool, true, false, not, ◌&&◌, ◌==◌, List, [], ◌∷◌, ◌++◌, length, Option, None, Some, is_some, slice_get, slice_set, IsTrue}
+use Rattle.std.specs.Prelude.{◌≡◌, ◌≤◌, ◌<◌, ◌↔◌, ◌⊎◌, ℕ, zero, suc, ◌+◌, Bool, true, false, not, ◌&&◌, ◌==◌, List, [], ◌∷◌, ◌++◌, length, Option, None, Some, is_some, slice_get, slice_set, IsTrue}
 use Rattle.std.specs.Option.{option_map}
 use Rattle.kf_core.specs.declared.key.Key.{Key}
 use Rattle.kf_core.specs.declared.key.Node.{Node}
@@ -200,20 +200,3 @@ HasMarks m slot x = (state : SlotState) × (slice_get m.slots slot ≡ Some stat
 abbrev pub HasLooked : MasterView → ℕ → Type 0
 HasLooked m slot =
     (found : ℕ) × (m.looked ≡ Some (record { slot = slot; word = found })) × (is_drained found ≡ true)
-
--- no search need look at a slot of a block that is marked full: each has a node linked
-abbrev pub AreFull : List Bool → List SlotState → Type 0
-AreFull full slots = (slot : ℕ) → slice_get full (slot / 64) ≡ Some true → is_unlinked slots slot ≡ false
-
--- what the Master keeps at run time is what its view says, between any two calls
-pub record IsMirrored (m : MasterView) (slots : List SlotState) (nodes : List Node) (holds : ℕ)
-    (full : List Bool) : Type 0 where
-  pub root : 1 ≤ length slots
-  pub few : length slots ≤ 4096
-  pub same_slots : m.slots ≡ slots
-  pub same_limit : m.limit ≡ holds
-  pub no_pin : m.pinning ≡ None
-  pub all_nodes : length nodes ≡ length slots
-  pub full_blocks : AreFull full slots
-  pub covered : length slots ≤ 64 * length full
-  pub few_blocks : length full ≤ 64

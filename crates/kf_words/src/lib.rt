@@ -17,6 +17,7 @@ mod nodes;
 mod plays;
 mod quiet;
 mod receipt;
+mod search;
 mod seat;
 mod seats;
 mod table;

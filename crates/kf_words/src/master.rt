@@ -22,10 +22,13 @@ pub struct Master {
     pub(crate) holds: u32,
     /// By block of 64 slots, whether each of its slots, but for the root's, is known to have a node linked.
     pub(crate) full: Vec<bool>,
+    /// The same by group of 128 blocks.
+    pub(crate) full_groups: Vec<bool>,
 }
 
 impl Model for Master {
-    ghost use Rattle.kf_words.specs.Nodes.{MasterState, IsMirrored, master_view};
+    ghost use Rattle.kf_words.specs.Nodes.{MasterState, master_view};
+    ghost use Rattle.kf_words.specs.Searches.{IsMirrored};
 
     ghost Value = { MasterState };
 
@@ -36,7 +39,7 @@ impl Model for Master {
     } };
 
     ghost invariant = { λ m. IsMirrored (master_view m.steps) m.slots.items m.nodes.items m.holds
-        m.full.items };
+        m.full.items m.full_groups.items };
 }
 
 impl Master {

@@ -1,18 +1,17 @@
 //! The steps of the Master's seat, one by one.
-ghost use Rattle.std.specs.Prelude.{◌≡◌, ◌<◌, ◌≤◌, ◌*◌, IfSome, [], length, Some, None, false};
+ghost use Rattle.std.specs.Prelude.{◌≡◌, ◌<◌, [], length, Some, None, false};
 ghost use Rattle.std.specs.Arc.{arc_value};
 ghost use Rattle.kf_core.specs.Marks.{fresh_marks};
 ghost use Rattle.kf_words.specs.Layout.{active_index, hold_index};
 ghost use Rattle.kf_words.specs.Rule.{last_key};
 ghost use Rattle.kf_words.specs.Steps.{with_load, with_pin, without_pin, after_split, new_hold, state_at, with_look, without_node, after_store, with_birth, TellsSlot, with_marks, activated_marks, doomed_marks};
 ghost use Rattle.kf_core.specs.declared.slot.Marks.{Marks};
-ghost use Rattle.kf_words.specs.Nodes.{HasMarks, HasLooked, FoundRoom, FoundFree, Searched, HasNext, AreFull, master_view};
+ghost use Rattle.kf_words.specs.Nodes.{HasMarks, HasLooked, FoundRoom, FoundFree, master_view};
 ghost use Rattle.kf_words.specs.TableSteps.{takes_bias, marks_node};
 ghost use Rattle.kf_words.specs.Made.{WasMadeByMaster};
 ghost use Rattle.kf_words.specs.declared.view.View.TheVariants as seat_of;
 
-use crate::blocks::{BLOCK, is_unlinked};
-use crate::layout::{BIAS, GENERATION, LINKED, active_index, hold_index, is_free, mark_bits};
+use crate::layout::{BIAS, GENERATION, LINKED, active_index, hold_index, mark_bits};
 use crate::master_seat::MasterSeat;
 use crate::plays::{
     Births, LoadsHold, LooksOver, MarksNode, PinsHold, SplitsHold, StoresFresh, TakesBias, Unlinks,
@@ -20,7 +19,7 @@ use crate::plays::{
 };
 use crate::view::View;
 use atomic_table::Seat;
-use kf_core::{Marks, SlotState};
+use kf_core::Marks;
 
 impl MasterSeat {
     /// Where the active word of a slot stands.
@@ -179,42 +178,5 @@ impl MasterSeat {
         self.table
             .shared
             .fetch_sub::<Unlinks>(&mut token.seat, word, LINKED);
-    }
-
-    /// The first slot from 1 up that is found free. It loads no hold word of a slot where a node is linked,
-    /// and passes over the blocks that are marked full. Where it finds a node in each slot of a block, it
-    /// marks the block.
-    pub(crate) fn find_free(&mut self, slots: &[SlotState], full: &mut [bool]) -> Option<u32>
-        requires slots { slots.now ≡ (master_view self.old).slots }
-        requires covered { length slots.now ≤ 64 * length full.old }
-        requires few { length full.old ≤ 64 }
-        requires full { AreFull full.old slots.now }
-        ensures table { self.new.token.table_id ≡ self.old.token.table_id }
-        ensures searched { Searched (master_view self.old) result (master_view self.new) }
-        ensures next { IfSome result (λ slot. HasNext (master_view self.new) slot) }
-        ensures free { IfSome result (λ slot. FoundFree (master_view self.new) slot) }
-        ensures slots { (master_view self.new).slots ≡ (master_view self.old).slots }
-        ensures limit { (master_view self.new).limit ≡ (master_view self.old).limit }
-        ensures pinning { (master_view self.new).pinning ≡ (master_view self.old).pinning }
-        ensures full { AreFull full.new slots.now }
-        ensures as_many { length full.new ≡ length full.old }
-    {
-        for block in 0..full.len() {
-            if !full[block] {
-                let start = block as u32 * BLOCK;
-                let mut all_linked = true;
-                for slot in start..start + BLOCK {
-                    if is_unlinked(slots, slot) {
-                        all_linked = false;
-                        let found = self.load_hold(slot);
-                        if is_free(found) {
-                            return Some(slot);
-                        }
-                    }
-                }
-                full[block] = all_linked;
-            }
-        }
-        None
     }
 }

@@ -8,7 +8,7 @@ ghost use Rattle.kf_words.specs.TableSteps.{takes_bias, marks_node};
 ghost use Rattle.kf_words.specs.Made.{WasMadeByMaster};
 ghost use Rattle.kf_words.specs.Nodes.{KeepsNodes, MayBear, Searched, UnlinkAnswer, marks_of, slots_with};
 
-use crate::blocks::block_of;
+use crate::blocks::{block_of, group_of};
 use crate::layout::is_drained;
 use crate::master::Master;
 use crate::receipt::Drained;
@@ -22,9 +22,11 @@ impl Master {
         ensures searched { Searched self.old.view (option_map (λ key. key.slot) result) self.new.view }
         ensures may_bear { IfSome result (λ key. MayBear self.new.view key) }
     {
-        let slot = self
-            .steps
-            .find_free(self.slots.as_slice(), self.full.as_mut_slice())?;
+        let slot = self.steps.find_free(
+            self.slots.as_slice(),
+            self.full.as_mut_slice(),
+            self.full_groups.as_mut_slice(),
+        )?;
         Some(Key {
             slot,
             generation: self.slots[slot as usize].generation + 1,
@@ -127,6 +129,7 @@ impl Master {
             marks: None,
         };
         self.full[block_of(key.slot)] = false;
+        self.full_groups[group_of(key.slot)] = false;
         true
     }
 }

@@ -1,13 +1,16 @@
 //! Making a table of words with its Master.
-ghost use Rattle.std.specs.Prelude.{◌≡◌, ◌≤◌, ◌+◌, ◌-◌, ◌/◌, IfOk, IfErr, replicate, false};
+ghost use Rattle.std.specs.Prelude.{◌≡◌, ◌≤◌, IfOk, IfErr, List, length, replicate};
 ghost use Rattle.std.specs.Arc.{arc_value};
 ghost use Rattle.kf_core.specs.declared.key.Node.TheVariants as node_of;
 ghost use Rattle.kf_core.specs.declared.refusal.Refusal.TheVariants as refusal_of;
+ghost use Rattle.kf_core.specs.declared.slot.SlotState.{SlotState};
+ghost use Rattle.kf_core.specs.Limits.{most_slots};
 ghost use Rattle.kf_words.specs.Layout.{opening_words};
 ghost use Rattle.kf_words.specs.Nodes.{master_view};
+ghost use Rattle.kf_words.specs.Searches.{AreMarked};
 ghost use Rattle.kf_words.specs.Steps.{opened};
 
-use crate::blocks::block_of;
+use crate::blocks::{GROUP, group_of};
 use crate::layout::{BIAS, GENERATION, LINKED, active_index, hold_index};
 use crate::master::Master;
 use crate::master_seat::MasterSeat;
@@ -67,22 +70,34 @@ fn first_slots(alloc: Global, slots: u32, start: u32) -> Result<Vec<SlotState>, 
     Ok(states)
 }
 
-/// What a Master keeps by slot and by block of slots, at the opening.
+/// What a Master keeps by slot, at the opening.
 fn first_lists(
     alloc: Global,
     slots: u32,
     start: u32,
-) -> Result<(Vec<SlotState>, Vec<Node>, Vec<bool>), AllocError>
+) -> Result<(Vec<SlotState>, Vec<Node>), AllocError>
     requires some { 1 ≤ slots }
     requires generations { start ≤ 4294967294 }
     ensures slots { IfOk result (λ r. r.0.items ≡ (opened 0 slots start).slots) }
     ensures nodes { IfOk result (λ r. r.1.items ≡ replicate slots node_of.Dir) }
-    ensures full { IfOk result (λ r. r.2.items ≡ replicate ((slots - 1) / 64 + 1) false) }
 {
     let states = first_slots(alloc, slots, start)?;
     let nodes = vec![in alloc; Node::Dir; slots as usize]?;
-    let full = vec![in alloc; false; block_of(slots - 1) + 1]?;
-    Ok((states, nodes, full))
+    Ok((states, nodes))
+}
+
+/// The marks of blocks and of groups, at the opening: none is marked. All groups are whole, so the last may
+/// have blocks of no slots.
+fn first_marks(alloc: Global, slots: u32) -> Result<(Vec<bool>, Vec<bool>), AllocError>
+    requires some { 1 ≤ slots }
+    requires few { slots ≤ most_slots }
+    ensures marked { IfOk result
+        (λ r. (states : List SlotState) → length states ≡ slots → AreMarked r.0.items r.1.items states) }
+{
+    let groups = group_of(slots - 1) + 1;
+    let full = vec![in alloc; false; groups * GROUP]?;
+    let full_groups = vec![in alloc; false; groups]?;
+    Ok((full, full_groups))
 }
 
 /// A new table with the words of its opening, and the Master's seat at it.
@@ -149,7 +164,8 @@ impl Words {
         let count = limits.slots();
         let holds = limits.holds();
         let words = first_words(alloc, count, start)?;
-        let (slots, nodes, full) = first_lists(alloc, count, start)?;
+        let (slots, nodes) = first_lists(alloc, count, start)?;
+        let (full, full_groups) = first_marks(alloc, count)?;
         let opening = Opening {
             holds,
             slots: count,
@@ -162,6 +178,7 @@ impl Words {
             nodes,
             holds,
             full,
+            full_groups,
         };
         Ok((table, master))
     }

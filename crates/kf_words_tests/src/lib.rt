@@ -6,6 +6,8 @@ mod hider_tests;
 #[cfg(test)]
 mod hiding_tests;
 #[cfg(test)]
+mod search_tests;
+#[cfg(test)]
 mod test_fixtures;
 #[cfg(test)]
 mod tests;

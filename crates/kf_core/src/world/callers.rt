@@ -30,13 +30,13 @@ impl World {
         ensures { self.new ≡ bounded (with_phase self.old.world id caller.key phase) self.old.limit }
     {
         let slot = caller.key.slot as usize;
-        let counts = self.counts[slot].without(caller.phase).with(phase);
-        let free = may_be_given(self.slots[slot], counts.holds);
+        let counts = self.counts.at(slot).without(caller.phase).with(phase);
+        let free = may_be_given(self.slots.at(slot), counts.holds);
         self.callers[id] = Caller {
             key: caller.key,
             phase,
         };
-        self.counts[slot] = counts;
+        self.counts.set(slot, counts);
         self.hint.note(caller.key.slot, free);
     }
 
@@ -78,7 +78,8 @@ impl World {
             phase: Phase::Still,
         })?;
         let slot = key.slot as usize;
-        self.counts[slot] = self.counts[slot].with(Phase::Still);
+        self.counts
+            .set(slot, self.counts.at(slot).with(Phase::Still));
         Ok(())
     }
 

@@ -6,7 +6,7 @@ ghost use Rattle.kf_core.specs.Bounded.{IsFree, IsNextKey};
 ghost use Rattle.kf_core.specs.Counts.{NoneFree};
 
 use super::World;
-use super::hint::{BLOCK, block_of};
+use super::full::{BLOCK, block_of, group_of};
 use crate::key::Key;
 use crate::slot::SlotState;
 
@@ -23,7 +23,7 @@ impl World {
         ensures { IsTrue result ↔ IsFree self.now.world slot }
     {
         match self.slots.get(slot as usize) {
-            Some(state) => may_be_given(*state, self.counts_of(slot).holds),
+            Some(state) => may_be_given(state, self.counts_of(slot).holds),
             None => false,
         }
     }
@@ -37,12 +37,35 @@ impl World {
         ensures lowest { IfSome result (λ slot. NoneFree self.now.world slot) }
         ensures none { IfNone result (NoneFree self.now.world (64 * block + 64)) }
     {
-        if self.hint.full[block] {
+        if self.hint.full.blocks[block] {
             return None;
         }
         let start = block as u32 * BLOCK;
         for slot in self.hint.lowest.max(start)..start + BLOCK {
             if self.is_free(slot) {
+                return Some(slot);
+            }
+        }
+        None
+    }
+
+    /// The lowest free slot of a group, where no slot below the group is free.
+    fn free_in_group(&self, group: usize) -> Option<u32>
+        requires within { group ≤ length self.now.world.slots / 4096 }
+        requires passed { NoneFree self.now.world (4096 * group) }
+        ensures free { IfSome result (λ slot. IsFree self.now.world slot) }
+        ensures from_one { IfSome result (λ slot. 1 ≤ slot) }
+        ensures lowest { IfSome result (λ slot. NoneFree self.now.world slot) }
+        ensures none { IfNone result (NoneFree self.now.world (4096 * group + 4096)) }
+    {
+        if self.hint.full.groups[group] {
+            return None;
+        }
+        let start = group * 64;
+        let first = block_of(self.hint.lowest).max(start);
+        let end = (start + 64).min(block_of(self.slots.len() as u32) + 1);
+        for block in first..end {
+            if let Some(slot) = self.free_in(block) {
                 return Some(slot);
             }
         }
@@ -57,8 +80,8 @@ impl World {
         ensures none { IfNone result ((slot : ℕ) → 1 ≤ slot → ¬ IsFree self.now.world slot) }
         ensures safe { Safe self.now.world }
     {
-        for block in block_of(self.hint.lowest)..block_of(self.slots.len() as u32) + 1 {
-            if let Some(slot) = self.free_in(block) {
+        for group in group_of(self.hint.lowest)..group_of(self.slots.len() as u32) + 1 {
+            if let Some(slot) = self.free_in_group(group) {
                 return Some(slot);
             }
         }
@@ -83,7 +106,7 @@ impl World {
         let slot = self.lowest_free()?;
         Some(Key {
             slot,
-            generation: self.slots[slot as usize].generation + 1,
+            generation: self.slots.at(slot as usize).generation + 1,
         })
     }
 }

@@ -21,10 +21,11 @@ impl World {
         requires taken { ¬ IsFree (with_marks self.old.world key marks) key.slot }
         ensures { self.new ≡ bounded (with_marks self.old.world key marks) self.old.limit }
     {
-        self.slots[key.slot as usize] = SlotState {
+        let state = SlotState {
             generation: key.generation,
             marks,
         };
+        self.slots.set(key.slot as usize, state);
     }
 
     /// Links a node, not activated and not doomed, in a slot that nobody holds.
@@ -68,7 +69,7 @@ impl World {
         requires may { May self.old (Mark key) }
         ensures step { Happens self.old (Mark key) self.new }
     {
-        if let Some(marks) = marks_at(self.slots.as_slice(), key) {
+        if let Some(marks) = marks_at(&self.slots, key) {
             self.put_marks(
                 key,
                 Some(Marks {

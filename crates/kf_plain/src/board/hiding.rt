@@ -23,7 +23,7 @@ impl PlainBoard {
         match self.nodes.hide_at(path) {
             Ok(token) => {
                 let slot = token.key.slot as usize;
-                self.tokens[slot] = Some(token);
+                self.tokens.set(slot, Some(token));
                 Ok(())
             }
             Err(refusal) => Err(refusal),
@@ -40,14 +40,14 @@ impl PlainBoard {
         let key = self.nodes.state().walk(path)?;
         let _stat = self.nodes.state().stat(key)?; // the node is linked
         let slot = key.slot as usize;
-        let Some(token) = self.tokens[slot] else {
+        let Some(token) = self.tokens.at(slot) else {
             return Err(Refusal::Invalid);
         };
         if token.key != key {
             return Err(Refusal::Invalid);
         }
         self.nodes.show(token);
-        self.tokens[slot] = None;
+        self.tokens.set(slot, None);
         Ok(())
     }
 }

@@ -9,7 +9,7 @@ ghost use Rattle.kf_script.specs.ReplyText.{names_text};
 ghost use Rattle.kf_plain.specs.Settled.{IsWhy};
 
 use super::PlainBoard;
-use kf_core::Refusal;
+use kf_core::{MOST_SLOTS, Refusal};
 use kf_replies::tell_names;
 use kf_script::Reply;
 use kf_tree::Stat;
@@ -33,7 +33,7 @@ impl PlainBoard {
     {
         let state = self.nodes.state();
         let dir = state.lookup(path)?;
-        let names = state.names(dir, None, 4096)?;
+        let names = state.names(dir, None, MOST_SLOTS as usize)?;
         tell_names(reply, names)
     }
 

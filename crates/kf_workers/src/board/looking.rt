@@ -5,7 +5,7 @@ ghost use Rattle.kf_workers.specs.Replies.{AreNames, IsLinkText};
 
 use super::WorkerBoard;
 use crate::script_ops::ScriptOps;
-use kf_core::Refusal;
+use kf_core::{MOST_SLOTS, Refusal};
 use kf_replies::tell_names;
 use kf_script::Reply;
 use kf_shared::Naming;
@@ -13,7 +13,7 @@ use kf_tree::Stat;
 use std::sync::Wait;
 
 /// The most names of a listing: those of all slots.
-const MOST_NAMES: usize = 4096;
+const MOST_NAMES: usize = MOST_SLOTS as usize;
 
 impl<W: ScriptOps, N: Naming, R: Wait> WorkerBoard<'_, W, N, R> {
     /// What is told of the node at a path, live or not.

@@ -1,7 +1,8 @@
 use Rattle.std.proofs.Common.{◌≡◌, ℕ, List, [], ◌++◌, take, ap, ◌∙◌, subst, append-nil, refl}
 use Rattle.std.specs.Io.KnownBytes.{Consumes}
 use Rattle.std.proofs.KnownBytes.{Consumes-nil, Consumes-trans, Consumes-kept}
-use Rattle.kf_script.proofs.Running.{running-start, running-ended, running-end, stopped-here, end-ok, end-cut}
+use Rattle.kf_script.proofs.Running.{running-start, running-ended, stopped-here, end-answered, end-stopped}
+use Rattle.kf_script.proofs.Kept.{answered-all, answered-kept, cut-reached, cut-running, flushed-cut, flushed-ok, grows-none, grows-trans, running-kept, running-known}
 use Rattle.kf_script.proofs.script.read_lines.Goals as goal
 
 -- no more bytes
@@ -9,35 +10,66 @@ no_more : (read bytes : List ℕ) (n : ℕ) → n ≡ 0 → read ++ take n bytes
 no_more read bytes n e = ap (λ k. read ++ take k bytes) e ∙ append-nil read
 
 pub reads-init : goal.reads-init
-reads-init g c = ([], Consumes-nil _, running-start _ c.requires, refl, refl)
+reads-init g c = ([], Consumes-nil _, running-known _ _ _ c.requires.unkept (running-start _ c.requires.unread), refl, refl, grows-none _)
 
 pub reads-preserved : goal.reads-preserved
 reads-preserved g c =
-    let (read, took, running, same_reader, same_writer) = c.reads.invariant in
+    let (read, took, running, same_reader, same_writer, grew) = c.reads.invariant in
     let (more, last) = c.in-Ok.ensures.bytes in
-    (_, Consumes-trans _ _ _ _ _ took more, c.in_ok-take_bytes.ensures.runs _ _ _ running, c.in-Ok.ensures.lent ∙ same_reader, c.in_ok-take_bytes.ensures.lent ∙ same_writer)
+    let here = running-kept _ _ _ c.flush.ensures.same running in (
+      _,
+      Consumes-trans _ _ _ _ _ took more,
+      c.in_ok-take_bytes.ensures.runs _ _ _ here,
+      c.in-Ok.ensures.lent ∙ same_reader,
+      c.in_ok-take_bytes.ensures.lent ∙ c.flush.ensures.lent ∙ same_writer,
+      grows-trans _ _ _ (grows-trans _ _ _ grew c.flush.ensures.grew) c.in_ok-take_bytes.ensures.grew,
+    )
+
+pub returns-in_err-flush-clause-write : goal.returns-in_err-flush-clause-write
+returns-in_err-flush-clause-write g c = λ _.
+    let (read, took, running, same_reader, same_writer, grew) = c.reads.invariant in
+    (read, took, cut-reached _ _ _ (grows-trans _ _ _ grew c.flush.ensures.grew) (cut-running _ _ (running-kept _ _ _ c.flush.ensures.same running)))
+
+pub returns-in_err-end_line-in-Ok-eq0-clause-write :
+    goal.returns-in_err-end_line-in-Ok-eq0-clause-write
+returns-in_err-end_line-in-Ok-eq0-clause-write g c = λ _.
+    let (read, took, running, same_reader, same_writer, grew) = c.reads.invariant in
+    let (more, last) = c.in-Ok-eq0.ensures.bytes in
+    let all = subst (Consumes _ _) (no_more read c.read.new.chunk c.in-Ok-eq0.field-0 c.in-Ok-eq0.field-0-test) (Consumes-trans _ _ _ _ _ took more) in
+    let here = running-kept _ _ _ c.flush.ensures.same running in
+    let stopped = c.in_err-end_line-in-Ok-eq0.ensures.answered here.pending (c.get.ensures.line ∙ here.buffered) in
+    (read, all, cut-reached _ _ _ (grows-trans _ _ _ (grows-trans _ _ _ grew c.flush.ensures.grew) c.end_line.ensures.grew) (end-stopped _ _ _ _ here stopped))
 
 pub returns-in-Ok-eq0-clause-ok : goal.returns-in-Ok-eq0-clause-ok
 returns-in-Ok-eq0-clause-ok g c =
-    let (read, took, running, same_reader, same_writer) = c.reads.invariant in
+    let (read, took, running, same_reader, same_writer, grew) = c.reads.invariant in
     let (more, last) = c.in-Ok-eq0.ensures.bytes in
     let all = subst (Consumes _ _) (no_more read c.read.new.chunk c.in-Ok-eq0.field-0 c.in-Ok-eq0.field-0-test) (Consumes-trans _ _ _ _ _ took more) in
-    end-ok _ _ _ read _ _ _ _ c.end_line.result (running-end _ _ c.end_line.result running (c.end_line.ensures.answered running.pending (c.get.ensures.line ∙ running.buffered))) all (last c.in-Ok-eq0.field-0-test)
+    let here = running-kept _ _ _ c.flush.ensures.same running in
+    let answered = c.in_ok-end_line-in-Ok-eq0.ensures.answered here.pending (c.get.ensures.line ∙ here.buffered) in
+    let told = answered-kept _ _ _ c.flush-in-Ok-eq0.ensures.same (end-answered _ _ _ _ here answered) in
+    flushed-ok read _ _ _ _ _ c.flush-in-Ok-eq0.result c.flush-in-Ok-eq0.ensures.empty told all (last c.in-Ok-eq0.field-0-test)
 
 pub returns-in-Ok-eq0-clause-write : goal.returns-in-Ok-eq0-clause-write
-returns-in-Ok-eq0-clause-write g c =
-    let (read, took, running, same_reader, same_writer) = c.reads.invariant in
+returns-in-Ok-eq0-clause-write g c = λ _.
+    let (read, took, running, same_reader, same_writer, grew) = c.reads.invariant in
     let (more, last) = c.in-Ok-eq0.ensures.bytes in
     let all = subst (Consumes _ _) (no_more read c.read.new.chunk c.in-Ok-eq0.field-0 c.in-Ok-eq0.field-0-test) (Consumes-trans _ _ _ _ _ took more) in
-    end-cut _ _ _ read _ _ _ _ c.end_line.result _ (running-end _ _ c.end_line.result running (c.end_line.ensures.answered running.pending (c.get.ensures.line ∙ running.buffered))) all
+    let here = running-kept _ _ _ c.flush.ensures.same running in
+    let answered = c.in_ok-end_line-in-Ok-eq0.ensures.answered here.pending (c.get.ensures.line ∙ here.buffered) in
+    let told = answered-kept _ _ _ c.flush-in-Ok-eq0.ensures.same (end-answered _ _ _ _ here answered) in
+    flushed-cut read _ _ _ _ _ told (grows-trans _ _ _ (grows-trans _ _ _ (grows-trans _ _ _ grew c.flush.ensures.grew) c.end_line.ensures.grew) c.flush-in-Ok-eq0.ensures.grew) all
 
 pub returns-in-Err-clause-read : goal.returns-in-Err-clause-read
 returns-in-Err-clause-read g c = λ _.
-    let (read, took, running, same_reader, same_writer) = c.reads.invariant in
-    (read, Consumes-kept _ _ _ read took c.in-Err.ensures.bytes, running-ended running)
+    let (read, took, running, same_reader, same_writer, grew) = c.reads.invariant in
+    let here = running-kept _ _ _ c.flush.ensures.same running in
+    (read, Consumes-kept _ _ _ read took c.in-Err.ensures.bytes, answered-all _ _ _ c.in_ok-flush.ensures.empty (running-ended here))
 
 pub returns-in_err-take_bytes-clause-write : goal.returns-in_err-take_bytes-clause-write
 returns-in_err-take_bytes-clause-write g c = λ _.
-    let (read, took, running, same_reader, same_writer) = c.reads.invariant in
+    let (read, took, running, same_reader, same_writer, grew) = c.reads.invariant in
     let (more, last) = c.in-Ok.ensures.bytes in
-    (_, Consumes-trans _ _ _ _ _ took more, stopped-here (read ++ take c.in-Ok.count c.read.new.chunk) (c.in_err-take_bytes.ensures.runs _ _ _ running))
+    let here = running-kept _ _ _ c.flush.ensures.same running in
+    let stopped = stopped-here (read ++ take c.in-Ok.count c.read.new.chunk) (c.in_err-take_bytes.ensures.runs _ _ _ here) in
+    (_, Consumes-trans _ _ _ _ _ took more, cut-reached _ _ _ (grows-trans _ _ _ (grows-trans _ _ _ grew c.flush.ensures.grew) c.in_err-take_bytes.ensures.grew) stopped)

@@ -1,5 +1,6 @@
 use Rattle.std.proofs.Common.{◌≡◌, ℕ, List}
-use Rattle.std.specs.Io.KnownBytes.{Consumes}
+use Rattle.std.specs.Io.KnownBytes.{Consumes, append_known}
+use Rattle.kf_script.specs.Progress.{Grows}
 use Rattle.kf_script.specs.Running.{Running}
 use Rattle.kf_script.proofs.script.read_lines.Given as goal
 
@@ -7,9 +8,10 @@ use Rattle.kf_script.proofs.script.read_lines.Given as goal
 abbrev pub invariant-reads : goal.invariant-reads
 invariant-reads g l = (read : List ℕ)
     × Consumes (g.R.Read.remaining l.fn.input.reader.now) (g.R.Read.remaining l.input.reader.now) read
-    × Running g.B.Board.step l.fn.board l.board read l.line (g.W.Write.contents l.fn.output.writer.now) (g.W.Write.contents l.output.writer.now)
+    × Running g.B.Board.step l.fn.board l.board read l.line (g.W.Write.contents l.fn.output.writer.now) (append_known (g.W.Write.contents l.output.writer.now) l.output.kept.now.items)
     × (l.input.reader.ghost_name ≡ l.fn.input.reader.ghost_name)
     × (l.output.writer.ghost_name ≡ l.fn.output.writer.ghost_name)
+    × Grows (g.W.Write.contents l.fn.output.writer.now) (g.W.Write.contents l.output.writer.now)
 
 -- the calls of read that are left
 abbrev pub decreases-reads : goal.decreases-reads

@@ -11,9 +11,9 @@ pub returns-then-index-clause-none : goal.returns-then-index-clause-none
 returns-then-index-clause-none c =
     let passed = subst (λ (b : BoundedWorld). NoneFree b.world (64 * c.args.block)) (sym c.self.view_is) c.requires.passed in
     let within = subst (λ (b : BoundedWorld). c.args.block ≤ length b.world.slots / 64) (sym c.self.view_is) c.requires.within in
-    let is = slice_get_read _ (length c.self.inside.hint.full.items) c.args.block c.index.result.now refl (omega (arith, within, c.self.invariant.covered)) c.index.ensures ∙ ap Some c.if-index.true in
+    let is = slice_get_read _ (length c.self.inside.hint.full.blocks.items) c.args.block c.index.result.now refl (omega (arith, within, c.self.invariant.covered.0)) c.index.ensures ∙ ap Some c.if-index.true in
     subst (λ (b : BoundedWorld). NoneFree b.world (64 * c.args.block + 64)) c.self.view_is
-    (none_skipped _ _ _ (64 * c.args.block) _ c.self.invariant passed (λ slot a b. inr (let e : c.args.block ≡ slot / 64 = omega arith in subst (λ k. slice_get c.self.inside.hint.full.items k ≡ Some true) e is)))
+    (none_skipped _ _ _ (64 * c.args.block) _ c.self.invariant passed (λ slot a b. inr (inl (let e : c.args.block ≡ slot / 64 = omega arith in subst (λ k. slice_get c.self.inside.hint.full.blocks.items k ≡ Some true) e is))))
 
 pub loop-slot-init : goal.loop-slot-init
 loop-slot-init c =

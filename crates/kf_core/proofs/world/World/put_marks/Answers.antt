@@ -7,6 +7,6 @@ use Rattle.kf_core.proofs.world.World.put_marks.Goals as goal
 
 pub invariant_of-self : goal.invariant_of-self
 invariant_of-self c =
-    marks_kept _ c.args.key c.args.marks c.self.inside.counts.items c.self.inside.hint c.self.invariant c.requires.step.0
+    rw c.set.ensures.set (marks_kept _ c.args.key c.args.marks c.self.inside.counts c.self.inside.hint c.self.invariant c.requires.step.0
     (subst (λ (b : BoundedWorld). BareStep b.world c.requires.step.0 (with_marks b.world c.args.key c.args.marks)) (sym c.self.view_is) c.requires.step.1)
-    (subst (λ (b : BoundedWorld). ¬ IsFree (with_marks b.world c.args.key c.args.marks) c.args.key.slot) (sym c.self.view_is) c.requires.taken)
+    (subst (λ (b : BoundedWorld). ¬ IsFree (with_marks b.world c.args.key c.args.marks) c.args.key.slot) (sym c.self.view_is) c.requires.taken))

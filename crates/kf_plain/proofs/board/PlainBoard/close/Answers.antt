@@ -7,7 +7,7 @@ use Rattle.kf_plain.proofs.board.PlainBoard.close.Goals as goal
 pub invariant_of-self : goal.invariant_of-self
 invariant_of-self c =
     let read = slice_get_read c.self.inside.files.items 26 c.args.file c.index_mut.result.now (sym c.self.invariant.a_file_each) c.requires.letter c.index_mut.ensures.value in
-    rw c.take.ensures.after (closed_whole c.args.self.now c.self.inside.nodes c.close.new.self c.self.inside.events c.self.inside.events c.self.inside.texts c.self.inside.files.items c.self.inside.tokens.items c.self.view_is c.self.invariant c.args.file c.in-Some.opened
+    rw c.take.ensures.after (closed_whole c.args.self.now c.self.inside.nodes c.close.new.self c.self.inside.events c.self.inside.events c.self.inside.texts c.self.inside.files.items c.self.inside.tokens c.self.view_is c.self.invariant c.args.file c.in-Some.opened
     (read ∙ ap (λ o. Some o) (sym c.take.ensures.value ∙ c.in-Some.is)) c.close.ensures.spent)
 
 pub returns-in-Some-clause-closed : goal.returns-in-Some-clause-closed
@@ -15,8 +15,8 @@ returns-in-Some-clause-closed c =
     let read = slice_get_read c.self.inside.files.items 26 c.args.file c.index_mut.result.now (sym c.self.invariant.a_file_each) c.requires.letter c.index_mut.ensures.value in
     rw c.take.ensures.after (
       _,
-      known_shown c.args.self.now c.self.inside.nodes c.close.new.self c.self.inside.events c.self.inside.events c.self.inside.texts c.self.inside.files.items c.self.inside.tokens.items c.self.view_is c.self.invariant c.args.file c.in-Some.opened (read ∙ ap (λ o. Some o) (sym c.take.ensures.value ∙ c.in-Some.is)),
-      closed_shown c.args.self.now c.self.inside.nodes c.close.new.self c.self.inside.events c.self.inside.events c.self.inside.texts c.self.inside.files.items c.self.inside.tokens.items c.self.view_is c.self.invariant c.args.file c.in-Some.opened
+      known_shown c.args.self.now c.self.inside.nodes c.close.new.self c.self.inside.events c.self.inside.events c.self.inside.texts c.self.inside.files.items c.self.inside.tokens c.self.view_is c.self.invariant c.args.file c.in-Some.opened (read ∙ ap (λ o. Some o) (sym c.take.ensures.value ∙ c.in-Some.is)),
+      closed_shown c.args.self.now c.self.inside.nodes c.close.new.self c.self.inside.events c.self.inside.events c.self.inside.texts c.self.inside.files.items c.self.inside.tokens c.self.view_is c.self.invariant c.args.file c.in-Some.opened
           (read ∙ ap (λ o. Some o) (sym c.take.ensures.value ∙ c.in-Some.is)) c.close.ensures.spent,
     )
 
@@ -24,6 +24,6 @@ pub returns-in-None-clause-refused : goal.returns-in-None-clause-refused
 returns-in-None-clause-refused c =
     let none = sym c.take.ensures.value ∙ c.in-None.is in
     let at = slice_get_read c.self.inside.files.items 26 c.args.file c.index_mut.result.now (sym c.self.invariant.a_file_each) c.requires.letter c.index_mut.ensures.value ∙ ap (λ o. Some o) none in (
-      unknown_shown c.args.self.now c.self.inside.nodes c.self.inside.nodes c.self.inside.events c.self.inside.events c.self.inside.texts c.self.inside.files.items c.self.inside.tokens.items c.self.view_is c.self.invariant c.args.file at,
-      emptied_shown c.args.self.now c.self.inside.nodes c.self.inside.events c.self.inside.texts c.self.inside.files.items c.self.inside.tokens.items c.args.file c.take.new.self c.self.view_is at c.take.ensures.after,
+      unknown_shown c.args.self.now c.self.inside.nodes c.self.inside.nodes c.self.inside.events c.self.inside.events c.self.inside.texts c.self.inside.files.items c.self.inside.tokens c.self.view_is c.self.invariant c.args.file at,
+      emptied_shown c.args.self.now c.self.inside.nodes c.self.inside.events c.self.inside.texts c.self.inside.files.items c.self.inside.tokens c.args.file c.take.new.self c.self.view_is at c.take.ensures.after,
     )

@@ -4,4 +4,4 @@ use Rattle.kf_table.proofs.LiveKeys.{none_live}
 use Rattle.kf_table.proofs.records.Records.new.Goals as goal
 
 pub invariant_of-result : goal.invariant_of-result
-invariant_of-result c = c.in_ok-nothing_live.ensures.made ∙ none_live c.args.slots ∙ sym (ap (map live_key) c.in_ok-empty_slots.ensures.made)
+invariant_of-result c = c.in_ok-new-2.ensures.made ∙ none_live c.args.slots ∙ sym (ap (map live_key) c.in_ok-new.ensures.made)

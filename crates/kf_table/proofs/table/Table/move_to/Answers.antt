@@ -1,11 +1,9 @@
-use Rattle.std.proofs.Common.{◌<◌, arith, length}
 use Rattle.kf_core.proofs.FoundRecords.{linked_here}
-use Rattle.kf_table.proofs.KeptRecords.{linked_low}
 use Rattle.kf_table.proofs.KeptMoves.{IsLawfulMove, has_room, may_move_out, kept_by_move}
 use Rattle.kf_table.proofs.table.Table.move_to.Goals as goal
 
-pub insert_child-requires : goal.insert_child-requires
-insert_child-requires c =
+pub insert-requires : goal.insert-requires
+insert-requires c =
     let m : IsLawfulMove c.self.inside.records c.args.key c.args.dir c.args.name = rw c.self.view_is (record {
       linked = c.requires.linked;
       lawful = c.requires.lawful;
@@ -14,12 +12,6 @@ insert_child-requires c =
     }) in
     let h = linked_here _ c.args.key m.linked in
     rw c.bytes.ensures.same (record { room = has_room _ _ c.self.invariant c.args.key c.args.dir c.args.name m h.0 h.1 h.2 })
-
-pub at-requires : goal.at-requires
-at-requires c =
-    let linked = rw (← c.self.view_is) at c.requires.linked in
-    let low : c.args.key.slot < length c.self.inside.records = linked_low _ c.args.key linked in
-    omega (arith, low)
 
 pub remove_record-requires : goal.remove_record-requires
 remove_record-requires c =
@@ -30,8 +22,8 @@ remove_record-requires c =
       elsewhere = c.requires.elsewhere;
     }) in
     let tells = rw (c.record.ensures.known, ← c.self.view_is) at c.is_directory_record-is_subdir.ensures.known in
-    let entered = rw c.bytes.ensures.same at c.in_ok-insert_child.ensures.inserted in
-    record { counted = may_move_out _ _ c.self.invariant c.args.key c.args.dir c.args.name m _ _ _ _ tells entered c.at.ensures.read c.as_ref.ensures.value }
+    let entered = rw c.bytes.ensures.same at c.in_ok-insert.ensures.inserted in
+    record { counted = may_move_out _ _ c.self.invariant c.args.key c.args.dir c.args.name m _ _ _ tells entered c.get.ensures.known }
 
 pub invariant_of-self-2 : goal.invariant_of-self-2
 invariant_of-self-2 c =
@@ -42,5 +34,5 @@ invariant_of-self-2 c =
       elsewhere = c.requires.elsewhere;
     }) in
     let tells = rw (c.record.ensures.known, ← c.self.view_is) at c.is_directory_record-is_subdir.ensures.known in
-    let entered = rw c.bytes.ensures.same at c.in_ok-insert_child.ensures.inserted in
-    rw (c.move_to.ensures.changed, c.remove_record.ensures.removed) (kept_by_move _ _ c.self.invariant c.args.key c.args.dir c.args.name m _ _ _ _ tells entered c.at.ensures.read c.as_ref.ensures.value)
+    let entered = rw c.bytes.ensures.same at c.in_ok-insert.ensures.inserted in
+    rw (c.move_to.ensures.changed, c.remove_record.ensures.removed) (kept_by_move _ _ c.self.invariant c.args.key c.args.dir c.args.name m _ _ _ tells entered c.get.ensures.known)

@@ -10,14 +10,14 @@ overflow_cast-result c =
     let known : record_at c.self.inside.records c.args.dir ≡ Some c.in-Some.field-0.now = rw c.self.view_is (sym c.record.ensures.known ∙ ap option_copied c.in-Some.is) in
     let lawful = rw (← c.self.view_is) at c.requires.lawful in
     let few = rw (← c.self.view_is) at c.requires.few in
-    let most = subdirs_few _ lawful.0 lawful.1 _ c.self.invariant c.args.dir _ known c.index.result.now c.index.ensures in
+    let most = subdirs_few _ lawful.0 lawful.1 _ c.self.invariant c.args.dir _ known in
     rw c.subdirs.ensures.known (omega (arith, most, few))
 
 pub returns-in-Some-clause-value : goal.returns-in-Some-clause-value
 returns-in-Some-clause-value c =
     let known : record_at c.self.inside.records c.args.dir ≡ Some c.in-Some.field-0.now = rw c.self.view_is (sym c.record.ensures.known ∙ ap option_copied c.in-Some.is) in
     let lawful = rw (← c.self.view_is) at c.requires.lawful in
-    let told = subdirs_told _ lawful.0 lawful.1 _ c.self.invariant c.args.dir _ known c.index.result.now c.index.ensures in
+    let told = subdirs_told _ lawful.0 lawful.1 _ c.self.invariant c.args.dir _ known in
     rw (← c.self.view_is) (c.subdirs.ensures.known ∙ told)
 
 pub returns-in-Some-clause-few : goal.returns-in-Some-clause-few
@@ -25,7 +25,7 @@ returns-in-Some-clause-few c =
     let known : record_at c.self.inside.records c.args.dir ≡ Some c.in-Some.field-0.now = rw c.self.view_is (sym c.record.ensures.known ∙ ap option_copied c.in-Some.is) in
     let lawful = rw (← c.self.view_is) at c.requires.lawful in
     let few = rw (← c.self.view_is) at c.requires.few in
-    let most = subdirs_few _ lawful.0 lawful.1 _ c.self.invariant c.args.dir _ known c.index.result.now c.index.ensures in
+    let most = subdirs_few _ lawful.0 lawful.1 _ c.self.invariant c.args.dir _ known in
     rw c.subdirs.ensures.known (omega (arith, most, few))
 
 pub returns-in-None-clause-value : goal.returns-in-None-clause-value

@@ -8,7 +8,7 @@ use Rattle.kf_words.specs.declared.view.MasterView.{MasterView}
 use Rattle.kf_words.specs.Steps.{doomed_marks, remarked, state_at}
 use Rattle.kf_words.specs.Nodes.{MasterState, master_view, marks_of, slots_with}
 use Rattle.kf_words.proofs.Keys.{slots_remarked}
-use Rattle.kf_words.proofs.Searching.{full_linked}
+use Rattle.kf_words.proofs.Searching.{marked_linked}
 use Rattle.kf_words.proofs.master.Master.doom.Goals as goal
 
 pub invariant_of-self : goal.invariant_of-self
@@ -23,7 +23,6 @@ invariant_of-self c =
     let root = c.self.invariant.root in
     let few = c.self.invariant.few in
     let all = c.self.invariant.all_nodes in
-    let covered = c.self.invariant.covered in
     record {
       root = omega arith;
       few = omega arith;
@@ -31,9 +30,7 @@ invariant_of-self c =
       same_limit = ap (λ (y : MasterView). y.limit) c.mark_node.ensures.view ∙ c.self.invariant.same_limit;
       no_pin = ap (λ (y : MasterView). y.pinning) c.mark_node.ensures.view ∙ c.self.invariant.no_pin;
       all_nodes = all ∙ sym long;
-      full_blocks = full_linked c.self.inside.full.items slots key.slot state refl c.self.invariant.full_blocks;
-      covered = omega arith;
-      few_blocks = c.self.invariant.few_blocks;
+      marked = marked_linked c.self.inside.full.items c.self.inside.full_groups.items slots key.slot state refl c.self.invariant.marked;
     }
 
 pub returns-in-Some-clause-slots : goal.returns-in-Some-clause-slots

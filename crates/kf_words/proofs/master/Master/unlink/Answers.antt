@@ -1,11 +1,12 @@
-use Rattle.std.proofs.Common.{◌≡◌, ℕ, List, length, length-set, slice_set, true, false, refl, arith, sym, ap, ◌∙◌, subst}
+use Rattle.std.proofs.Common.{◌≡◌, ℕ, ◌/◌, List, length, length-set, slice_set, true, false, refl, arith, sym, ap, ◌∙◌, subst}
 use Rattle.std.specs.Prelude.{slice_get, Some, None, is_some}
 use Rattle.kf_core.specs.declared.key.Key.{Key}
 use Rattle.kf_core.specs.declared.slot.SlotState.{SlotState}
 use Rattle.kf_words.specs.declared.view.MasterView.{MasterView}
-use Rattle.kf_words.specs.Nodes.{MasterState, master_view, marks_of, slots_with, IsLastKey, AreFull}
+use Rattle.kf_words.specs.Nodes.{MasterState, master_view, marks_of, slots_with, IsLastKey}
+use Rattle.kf_words.specs.Searches.{AreMarked}
 use Rattle.kf_words.proofs.Keys.{linked_state, last_of_linked, last_within, slots_unlinked}
-use Rattle.kf_words.proofs.Searching.{full_left}
+use Rattle.kf_words.proofs.Searching.{marked_left}
 use Rattle.kf_words.proofs.master.Master.unlink.Goals as goal
 
 pub unlink-requires-clause-marks : goal.unlink-requires-clause-marks
@@ -38,9 +39,7 @@ invariant_of-self-2 c =
     let root = c.self.invariant.root in
     let few = c.self.invariant.few in
     let all = c.self.invariant.all_nodes in
-    let covered = c.self.invariant.covered in
-    let few_blocks = c.self.invariant.few_blocks in
-    let blocks = length-set c.self.inside.full.items c.block_of.result false in
+    let state : SlotState = record { generation = key.generation; marks = None } in
     record {
       root = omega arith;
       few = omega arith;
@@ -48,10 +47,9 @@ invariant_of-self-2 c =
       same_limit = ap (λ (y : MasterView). y.limit) c.unlink.ensures.view ∙ ap (λ (y : MasterView). y.limit) c.look_over.ensures.view ∙ c.self.invariant.same_limit;
       no_pin = ap (λ (y : MasterView). y.pinning) c.unlink.ensures.view ∙ ap (λ (y : MasterView). y.pinning) c.look_over.ensures.view ∙ c.self.invariant.no_pin;
       all_nodes = all ∙ sym long;
-      full_blocks = subst (λ (n : ℕ). AreFull (slice_set c.self.inside.full.items n false) (slice_set c.self.inside.slots.items key.slot (record { generation = key.generation; marks = None }))) (sym c.block_of.ensures)
-          (full_left c.self.inside.full.items c.self.inside.slots.items key.slot (record { generation = key.generation; marks = None }) c.self.invariant.full_blocks);
-      covered = omega arith;
-      few_blocks = omega arith;
+      marked = subst (λ (n : ℕ). AreMarked (slice_set c.self.inside.full.items c.block_of.result false) (slice_set c.self.inside.full_groups.items n false) (slice_set c.self.inside.slots.items key.slot state)) (sym c.group_of.ensures)
+          (subst (λ (n : ℕ). AreMarked (slice_set c.self.inside.full.items n false) (slice_set c.self.inside.full_groups.items (key.slot / 8192) false) (slice_set c.self.inside.slots.items key.slot state)) (sym c.block_of.ensures)
+          (marked_left c.self.inside.full.items c.self.inside.full_groups.items c.self.inside.slots.items key.slot state c.self.invariant.marked));
     }
 
 pub returns-clause-slots : goal.returns-clause-slots

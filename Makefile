@@ -1,0 +1,26 @@
+# The program. To build it takes the Rattle kit with rt on the path, as ./kernfs_run --prove does.
+#
+#     make                                  proves every crate and builds the program, where that is not done
+#     make install DESTDIR=.. PREFIX=..     installs it with its manual page and examples, built first (PREFIX: /usr/local)
+#     make uninstall DESTDIR=.. PREFIX=..   takes that away
+
+PREFIX ?= /usr/local
+BIN := $(DESTDIR)$(PREFIX)/bin
+MAN := $(DESTDIR)$(PREFIX)/share/man/man1
+DOC := $(DESTDIR)$(PREFIX)/share/doc/kernfs_run
+
+all:
+	./kernfs_run --prove --version
+
+install: all
+	install -d "$(BIN)" "$(MAN)" "$(DOC)/examples"
+	install crates/kernfs_run/out/kernfs_run "$(BIN)"
+	install -m 644 docs/kernfs_run.1 "$(MAN)"
+	install -m 644 docs/SCRIPTS.md "$(DOC)"
+	install -m 644 examples/*.kf examples/*.out examples/*.options "$(DOC)/examples"
+
+uninstall:
+	rm -f "$(BIN)/kernfs_run" "$(MAN)/kernfs_run.1"
+	rm -rf "$(DOC)"
+
+.PHONY: all install uninstall

@@ -1,0 +1,10 @@
+use Rattle.std.proofs.Common.{rules, ◌≡◌, ◌≤◌, ◌+◌, ◌-◌, ◌++◌, length, replicate, take}
+use Rattle.kf_core.proofs.SlotLists.{rest_written}
+use Rattle.kf_core.proofs.slot_list.reach.Goals as goal
+
+pub returns-then-len-slot-clause-same : goal.returns-then-len-slot-clause-same
+returns-then-len-slot-clause-same g c =
+    let few : length c.args.items.now.items ≤ c.args.slot + 1 = search rules in
+    let within : c.args.slot + 1 ≤ c.args.slots = search rules in
+    let is : c.resize.new.self.items ≡ take (c.args.slot + 1) c.args.items.now.items ++ replicate (c.args.slot + 1 - length c.args.items.now.items) c.args.rest = search rules in
+    rest_written _ _ c.args.slots (c.args.slot + 1) c.args.rest few within is

@@ -1,0 +1,107 @@
+//! An item for each slot, in memory that is written only as far as slots were ever reached.
+
+ghost use Rattle.std.specs.Prelude.{◌≡◌, ◌≤◌, ◌<◌, ◌-◌, ◌++◌, ◌+◌, IfOk, IfErr, length, replicate, slice_get, slice_index_or, slice_set, vec_capacity};
+ghost use Rattle.kf_core.specs.declared.refusal.Refusal.TheVariants.{NoMemory};
+
+use crate::refusal::Refusal;
+use std::alloc::Global;
+use std::marker::Model;
+
+/// A list with one item a slot. Room for all is taken when the list is made, so that no change needs memory.
+/// It is written up to the highest slot that was set, and the system gives the memory of those alone.
+#[derive(Drop)]
+pub struct SlotList<T: Copy> {
+    items: Vec<T>,
+    /// The number of slots.
+    slots: usize,
+    /// What stands in each slot that was not reached.
+    rest: T,
+}
+
+impl<T: Copy> Model for SlotList<T> {
+    ghost use Rattle.std.specs.Prelude.{List, ◌≤◌, ◌-◌, ◌++◌, length, replicate, vec_capacity};
+
+    ghost Value = { List T };
+
+    ghost view = { λ list. list.items.items ++ replicate (list.slots - length list.items.items) list.rest };
+
+    ghost invariant = { λ list.
+        (length list.items.items ≤ list.slots) × (list.slots ≤ vec_capacity list.items) };
+}
+
+/// Writes the items up to a slot. There is room for each.
+fn reach<T: Copy>(items: &mut Vec<T>, slots: usize, rest: T, slot: usize)
+    requires within { slot < slots }
+    requires few { length items.old.items ≤ slots }
+    requires room { slots ≤ vec_capacity items.old }
+    ensures reached { slot < length items.new.items }
+    ensures few { length items.new.items ≤ slots }
+    ensures room { slots ≤ vec_capacity items.new }
+    ensures same { items.new.items ++ replicate (slots - length items.new.items) rest
+        ≡ items.old.items ++ replicate (slots - length items.old.items) rest }
+{
+    if items.len() <= slot {
+        let _ = items.resize(slot + 1, rest);
+    }
+}
+
+impl<T: Copy> SlotList<T> {
+    /// The same item for each of so many slots. `NoMemory` where room for them could not be had.
+    pub fn new(alloc: Global, slots: usize, item: T) -> Result<SlotList<T>, Refusal>
+        ensures made { IfOk result (λ list. list ≡ replicate slots item) }
+        ensures refused { IfErr result (λ refusal. refusal ≡ NoMemory) }
+    {
+        match Vec::with_capacity(alloc, slots) {
+            Ok(items) => Ok(SlotList {
+                items,
+                slots,
+                rest: item,
+            }),
+            Err(_) => Err(Refusal::NoMemory),
+        }
+    }
+
+    /// The number of slots.
+    #[inline(always)]
+    pub fn len(&self) -> usize
+        ensures known { result ≡ length self.now }
+    {
+        self.slots
+    }
+
+    /// The item of a slot. None past the last slot.
+    #[inline(always)]
+    pub fn get(&self, slot: usize) -> Option<T>
+        ensures known { result ≡ slice_get self.now slot }
+    {
+        if slot < self.items.len() {
+            Some(self.items[slot])
+        } else if slot < self.slots {
+            Some(self.rest)
+        } else {
+            None
+        }
+    }
+
+    /// The item of a slot that there is.
+    #[inline(always)]
+    pub fn at(&self, slot: usize) -> T
+        requires within { slot < length self.now }
+        ensures known { result ≡ slice_index_or self.now slot result }
+    {
+        if slot < self.items.len() {
+            self.items[slot]
+        } else {
+            self.rest
+        }
+    }
+
+    /// Puts an item in place of a slot's.
+    pub fn set(&mut self, slot: usize, item: T)
+        requires within { slot < length self.old }
+        ensures set { self.new ≡ slice_set self.old slot item }
+    {
+        reach(&mut self.items, self.slots, self.rest, slot);
+        self.items[slot] = item;
+    }
+}

@@ -1,0 +1,68 @@
+//! The script as it was opened, or could not be, and its run.
+
+ghost use Rattle.std.specs.Prelude.{◌≡◌, ◌≤◌, IsErr};
+ghost use Rattle.std.specs.Result.{IsOkAnd};
+ghost use Rattle.std.specs.Io.KnownBytes.{Keeps};
+ghost use Rattle.kf_script.specs.declared.fault.RunFault.{RunFault};
+ghost use Rattle.kf_run.specs.Programs.{Named, RanBy, StoppedBy};
+
+use crate::arguments::Asked;
+use crate::program::run_asked;
+use kf_script::write_whole;
+use std::alloc::Global;
+use std::io::{self, ErrorKind, Read, Write};
+use std::sync::Wait;
+use std::thread::Threads;
+
+/// Why a script cannot be opened.
+fn reason(kind: ErrorKind) -> &'static [u8] {
+    match kind {
+        ErrorKind::NotFound => b"no such file",
+        ErrorKind::PermissionDenied => b"permission denied",
+        ErrorKind::IsADirectory => b"is a directory",
+        ErrorKind::NotADirectory => b"a name on its way is no directory",
+        ErrorKind::InvalidFilename => b"the name is too long",
+        ErrorKind::FilesystemLoop => b"too many links on its way",
+        _ => b"the system refuses it",
+    }
+}
+
+/// Says that the script cannot be opened, and why.
+fn refuse<F: Write>(fault: &mut F, name: &str, kind: ErrorKind) {
+    let _ = write_whole(fault, b"kernfs_run: cannot open the script ");
+    let _ = write_whole(fault, name.as_bytes());
+    let _ = write_whole(fault, b": ");
+    let _ = write_whole(fault, reason(kind));
+    let _ = write_whole(fault, b"\n");
+}
+
+/// Runs the script that was opened, whatever it is, as it was asked for, and answers the program's status:
+/// that of [`run_asked`], or 2 where it could not be opened, with nothing run.
+pub(crate) fn run_opened<H: Threads + Wait + Sync, R: Read, W: Write, F: Write>(
+    rt: &H,
+    alloc: Global,
+    asked: &Asked,
+    opened: &mut io::Result<R>,
+    out: &mut W,
+    fault: &mut F,
+) -> u8
+    ensures status { result ≤ 2 }
+    ensures ran { result ≡ 0 → IsOkAnd opened.old (λ reader. IsOkAnd opened.new (λ left.
+        RanBy asked.now.workers asked.now.limits.slots (R.remaining reader) (R.remaining left)
+        (W.contents out.old) (W.contents out.new))) }
+    ensures quiet { result ≡ 0 → Keeps (F.contents fault.old) (F.contents fault.new) }
+    ensures fault { result ≡ 1 → (reason : RunFault)
+        × Named reason (F.contents fault.old) (F.contents fault.new)
+        × IsOkAnd opened.old (λ reader. IsOkAnd opened.new (λ left.
+        StoppedBy reason asked.now.workers asked.now.limits.slots (R.remaining reader) (R.remaining left)
+        (W.contents out.old) (W.contents out.new))) }
+    ensures refused { result ≡ 2 → IsErr opened.old × Keeps (W.contents out.old) (W.contents out.new) }
+{
+    match opened {
+        Ok(reader) => run_asked(rt, alloc, asked, reader, out, fault),
+        Err(error) => {
+            refuse(fault, asked.script.unwrap_or("-"), error.kind());
+            2
+        }
+    }
+}

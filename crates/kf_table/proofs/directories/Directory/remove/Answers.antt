@@ -1,6 +1,0 @@
--- Short searches: where such a goal fails, they end at once.
-use Rattle.std.proofs.Common.{rules}
-use Rattle.kf_table.proofs.directories.Directory.remove.Goals as goal
-
-pub returns-then-is_subdir : goal.returns-then-is_subdir
-returns-then-is_subdir c = search rules

@@ -1,0 +1,399 @@
+#!/usr/bin/env python3
+"""A fake /sys for tests in Python: one file, to be taken into a test suite. It needs the program fakesysfs.
+
+    with FakeSys(description) as sys:                  # the text of a description, or the name of its file
+        sys.set("/class/hwmon/hwmon0/temp1_input", "91000")
+        assert "+91.0" in sys.run(["sensors"], capture_output=True, text=True).stdout
+        sys.unplug("/class/hwmon/hwmon0")
+
+What sys.run() and sys.popen() start sees the tree in place of the folders of /sys, in name spaces of its own;
+sys.path() tells where a test itself finds a node. A line that is refused raises OSError. In a test that runs inside
+`fakesys DESCRIPTION pytest`, FakeSys() is the tree of that run, and /sys is its own.
+"""
+import contextlib
+import ctypes
+import os
+import re
+import shutil
+import signal
+import subprocess
+import sys
+import tempfile
+import threading
+import time
+from pathlib import Path
+
+LIBC = ctypes.CDLL(None, use_errno=True)
+NEW_MOUNTS, NEW_USERS, NEW_PROCESSES, NEW_NETWORK = 0x20000, 0x10000000, 0x20000000, 0x40000000
+READ_ONLY, REMOUNT, BIND, RECURSIVE, PRIVATE = 0x1, 0x20, 0x1000, 0x4000, 0x40000
+PATIENCE = 60  # seconds for a mount to come, on a busy machine
+MOST_LINES = 50  # in one write: the kernel cuts a long one where it likes
+
+
+# ---- lines ----
+
+
+def escaped_path(path):
+    """A path as a word of a line: a blank would end it."""
+    return re.sub(r"[\s\\]", lambda found: f"\\{ord(found[0]):03o}", path)
+
+
+def escaped_text(data):
+    """Bytes as the text of a line `set`, with the escapes of printf's %b. No newline is added to it."""
+    escape = lambda found: b"\\n" if found[0] == b"\n" else b"\\x%02x" % found[0][0]
+    return re.sub(rb"[^ -\[\]-~]", escape, data).decode() + "\\c"
+
+
+def write_lines(control, lines):
+    """Gives a tree lines in one go. Those that are left, and why the first of them was refused, if one was."""
+    left = [os.fsencode(line) + b"\n" for line in lines]
+    file = os.open(control, os.O_WRONLY)
+    try:
+        while left:
+            taken = os.write(file, b"".join(left[:MOST_LINES]))
+            while left and taken >= len(left[0]):
+                taken -= len(left.pop(0))
+    except OSError as error:
+        return lines[len(lines) - len(left) :], error
+    finally:
+        os.close(file)
+    return [], None
+
+
+def write_line(control, line):
+    """Gives a tree a line. OSError where it is refused."""
+    _, error = write_lines(control, [line])
+    if error:
+        raise OSError(error.errno, f"{os.strerror(error.errno)}: {line}")
+
+
+def unescaped_text(text):
+    """The bytes of a text of a line `set`, but for the newline behind it."""
+    return os.fsencode(text.split("\\c")[0]).decode("unicode_escape", "replace").encode("latin-1", "replace")
+
+
+def uevent_words(data):
+    return [word for word in os.fsdecode(data).split("\n") if re.fullmatch(r"\w+=.*", word)]
+
+
+class Description:
+    """The lines of a description, by the nodes that they speak of."""
+
+    def __init__(self, text):
+        made_of = ("mkdir ", "file ", "link ", "set ", "fail ", "late ", "slow ")
+        self.words = [(line.split(" ", 2) + [""])[:3] for line in text.split("\n") if line.startswith(made_of)]
+
+    def tops(self):
+        """The names of the directories right below the root."""
+        return {path[1:] for word, path, _ in self.words if word == "mkdir" and path.count("/") == 1}
+
+    def links(self):
+        return [(path, target) for word, path, target in self.words if word == "link"]
+
+    def files(self):
+        return [path for word, path, _ in self.words if word == "file"]
+
+    def devices(self):
+        """The directories that links of a class or a bus lead to, or that have a link `subsystem`."""
+        of_bus = re.compile(r"/class/[^/]+/[^/]+|/bus/[^/]+/devices/[^/]+")
+        found = {target for path, target in self.links() if of_bus.fullmatch(path)}
+        found |= {os.path.dirname(path) for path, _ in self.links() if path.endswith("/subsystem")}
+        directories = {path for word, path, _ in self.words if word == "mkdir"}
+        return sorted(path for path in found & directories if path.startswith("/devices/"))
+
+    def uevents(self, top):
+        """The devices from a directory on, parents first: each with its subsystem, and the words of its uevent."""
+        told = {}
+        for word, path, rest in self.words:
+            if path.endswith("/uevent") and word in ("file", "set"):
+                told[path[:-7]] = uevent_words(os.fsencode(rest[4:]) if word == "file" else unescaped_text(rest))
+        links = [(path[:-10], os.path.basename(target)) for path, target in self.links() if path.endswith("/subsystem")]
+        return sorted((path, name, told.get(path, [])) for path, name in links if (path + "/").startswith(top + "/"))
+
+    def making(self, top):
+        """The lines that plug a device, with all below it, which is seen when it is whole; and the links into it."""
+        is_in = re.compile(re.escape(top) + r"(/|$)").match
+        inside = [[word, path, rest] for word, path, rest in self.words if is_in(path)]
+        if not inside:
+            raise FileNotFoundError(2, f"the description has no device {top}")
+        lines = [" ".join(filter(None, words)) for words in inside if words[:2] != ["mkdir", top]]
+        into = [f"link {path} {target}" for path, target in self.links() if is_in(target) and not is_in(path)]
+        return [f"mkdir {top} off", *lines, f"activate {top}", *into]
+
+
+class Tree:
+    """A tree that is mounted, and what changes it: its lines, and those that need the description or send uevents."""
+
+    def __init__(self, control, description, send=None):
+        self.control, self.description, self.send = control, description, send
+        self.at = os.path.dirname(control)
+
+    def give(self, line):
+        """A line of the tree's, or `plug PATH`, `unplug PATH`, `change PATH`."""
+        word, _, path = line.partition(" ")
+        if word in ("plug", "unplug", "change"):
+            getattr(self, f"give_{word}")(path)
+        else:
+            write_line(self.control, line)
+
+    def give_plug(self, path):
+        left = self.description.making(path)
+        while left:
+            left, error = write_lines(self.control, left)
+            if error and not (left[0].startswith("link ") and isinstance(error, (FileNotFoundError, FileExistsError))):
+                raise OSError(error.errno, f"{os.strerror(error.errno)}: {left[0]}")
+            left = left[1:]  # what such a link leads to, or stands in, may be gone too
+        self.tell("add", self.description.uevents(path) if self.send else ())
+
+    def give_unplug(self, path):
+        known = self.description.uevents(path) if self.send else []
+        below = [it for it in known if os.path.lexists(self.at + it[0])] or self.device_at(path)
+        write_line(self.control, f"unplug {path}")
+        self.tell("remove", below[::-1])
+
+    def give_change(self, path):
+        self.tell("change", self.device_at(path))
+
+    def device_at(self, path):
+        """The device that a directory is now, with its subsystem and the words of its uevent: one, or none."""
+        folder, words = self.at + path, []
+        if not self.send or not os.path.islink(folder + "/subsystem"):
+            return []
+        with contextlib.suppress(OSError), open(folder + "/uevent", "rb", buffering=0) as file:
+            words = uevent_words(os.read(file.fileno(), 4096))
+        return [(path, os.path.basename(os.readlink(folder + "/subsystem")), words)]
+
+    def tell(self, action, devices):
+        for device in devices if self.send else ():
+            self.send(action, *device)
+
+
+# ---- name spaces ----
+
+
+def system_call(name, *words):
+    """A system call, by its name in the C library. OSError where it is refused."""
+    if getattr(LIBC, name)(*words) < 0:
+        raise OSError(ctypes.get_errno(), f"{name}: {os.strerror(ctypes.get_errno())}")
+
+
+def mount(source, target, kind="none", flags=0, options=""):
+    words = [os.fsencode(word) for word in (source, target, kind)]
+    system_call("mount", *words, ctypes.c_ulong(flags), os.fsencode(options))
+
+
+def enter_spaces(kinds=0):
+    """Enters a name space of mounts, and of these other kinds. Who may not gets one of users too, and is its root."""
+    ways = [enter_users, lambda kinds: system_call("unshare", kinds)]
+    if os.geteuid() == 0 and not kinds & NEW_USERS:
+        ways.reverse()
+    try:
+        ways[0](NEW_MOUNTS | kinds & ~NEW_USERS)
+    except OSError:
+        ways[1](NEW_MOUNTS | kinds & ~NEW_USERS)
+    mount("none", "/", flags=RECURSIVE | PRIVATE)
+
+
+def enter_users(kinds):
+    """Enters name spaces, of users too. A child outside says who is who there: of root's each user is the same,
+    a user's own is root there."""
+    entered, says = os.pipe()
+    child = os.fork()
+    if not child:
+        os.close(says)
+        os._exit(map_users(os.getppid()) if os.read(entered, 1) else 1)
+    try:
+        system_call("unshare", NEW_USERS | kinds)
+        os.write(says, b"!")
+    finally:
+        os.close(entered)
+        os.close(says)
+        status = os.waitpid(child, 0)[1]
+    if status:
+        raise PermissionError(1, "no users can be mapped")
+
+
+def map_users(process):
+    """Says who is who in the name space of another process. 0, or 1 where that is refused."""
+    user, group = os.geteuid(), os.getegid()
+    maps = [("setgroups", "deny"), ("uid_map", f"0 {user} 1"), ("gid_map", f"0 {group} 1")]
+    try:
+        for name, text in maps if user else [(name, same_ids(name)) for name in ("uid_map", "gid_map")]:
+            Path(f"/proc/{process}/{name}").write_text(text, "ascii")
+    except OSError:
+        return 1
+    return 0
+
+
+def same_ids(name):
+    """A map of all who are known here to themselves."""
+    ranges = [line.split() for line in Path(f"/proc/self/{name}").read_text("ascii").splitlines()]
+    return "\n".join(f"{first} {first} {count}" for first, _, count in ranges)
+
+
+def cover_sys(tree):
+    """Binds each directory at the root of a tree over the one of that name in /sys."""
+    for entry in os.scandir(tree):
+        if os.path.isdir(f"/sys/{entry.name}") and entry.is_dir(follow_symlinks=False):
+            mount(entry.path, f"/sys/{entry.name}", flags=BIND)
+        elif entry.name != ".control":
+            print(f"fakesys: /sys has no folder {entry.name}: left out", file=sys.stderr)
+
+
+def daemon_of(folder):
+    """The program fakesysfs: that of $FAKESYSFS, the one beside this file, or the one of the path."""
+    near = [os.path.join(folder, way) for way in ("out/fakesysfs", "fakesysfs", "../../bin/fakesysfs")]
+    told = os.environ.get("FAKESYSFS") or next(filter(os.path.isfile, near), None)
+    return told or shutil.which("fakesysfs") or "fakesysfs"
+
+
+def end_with_parent():
+    """Asks the kernel to end this process in order, when the thread that has started it is gone."""
+    LIBC.prctl(1, signal.SIGTERM)
+
+
+def start_daemon(description, at, options=(), name=None, said=None):
+    """Mounts a description, a text, also in the file `name`. The process, when the tree is there; else ValueError.
+    What the daemon says goes to the file `said`, where there is one, and is then told by the error."""
+    before, program = os.stat(at).st_dev, daemon_of(os.path.dirname(os.path.realpath(__file__)))
+    is_main = threading.current_thread() is threading.main_thread()
+    process = subprocess.Popen(
+        [program, *options, "-f", name or "-", at],
+        stdin=subprocess.PIPE,
+        stderr=said,
+        start_new_session=True,
+        preexec_fn=end_with_parent if is_main else None,
+    )
+    with contextlib.suppress(BrokenPipeError), process.stdin:
+        process.stdin.write(b"" if name else os.fsencode(description))
+    until = time.monotonic() + PATIENCE
+    while os.stat(at).st_dev == before:
+        if process.poll() is not None or time.monotonic() > until:
+            process.kill()
+            raise ValueError(text_of(said) or f"it is not mounted: status {process.wait()}")
+        time.sleep(0.002)
+    return process
+
+
+def text_of(file):
+    """What was written to a file, if there is one."""
+    return os.pread(file.fileno(), 1 << 20, 0).decode(errors="replace").strip() if file else ""
+
+
+# ---- for tests ----
+
+
+def sender():
+    """What sends uevents inside of `fakesys -n`, where the module for that is beside this one."""
+    with contextlib.suppress(ImportError, KeyError):
+        return os.environ["FAKESYS_EVENTS"] and __import__("fakesys_uevent").send
+    return None
+
+
+class FakeSys(Tree):
+    """A tree that is there while a `with` is inside. Paths are those of /sys without /sys, also by links."""
+
+    def __init__(self, description=None, options=()):
+        self.is_here, self.options, self.process = description is None, options, None
+        name = os.environ["FAKESYS_DESCRIPTION"] if self.is_here else os.fspath(description)
+        self.text = name if "\n" in name else Path(name).read_text("utf-8", "surrogateescape")
+        control = os.environ["FAKESYS"] if self.is_here else "/.control"
+        super().__init__(control, Description(self.text), sender() if self.is_here else None)
+
+    def __enter__(self):
+        if not self.is_here:
+            self.at = tempfile.mkdtemp(prefix="fakesys-")
+            self.control = self.at + "/.control"
+            try:
+                self.process = start_daemon(self.text, self.at, self.options, said=tempfile.TemporaryFile())
+            except BaseException:
+                os.rmdir(self.at)
+                raise
+        return self
+
+    def __exit__(self, *_):
+        if self.process:
+            self.process.terminate()
+            try:
+                self.process.wait(PATIENCE)
+            except subprocess.TimeoutExpired:
+                self.process.kill()
+                self.process.wait()
+            if os.path.ismount(self.at):  # somebody is in it, or the daemon was killed
+                subprocess.run(["fusermount3", "-uz", self.at], check=False)
+            os.rmdir(self.at)
+
+    def path(self, path):
+        """Where a node is found by this process."""
+        return self.at + path
+
+    def real(self, path):
+        """The word of a node for a line, where links on the way to it are followed."""
+        return escaped_path(os.path.realpath(self.at + path)[len(self.at) :])
+
+    def read(self, path):
+        return Path(self.path(path)).read_bytes()
+
+    def set(self, path, text):
+        """A file's new text. Bytes are taken as they are; behind a str comes a newline, as drivers have it."""
+        data = text if isinstance(text, bytes) else os.fsencode(f"{text}\n")
+        self.give(f"set {self.real(path)} {escaped_text(data)}")
+
+    def fail(self, path, number):
+        """Each read and write of a file fails with this error number; none with 0."""
+        self.give(f"fail {self.real(path)} {number}")
+
+    def late(self, path, milliseconds):
+        """Each read and write begins so much later: a removal does not wait for it."""
+        self.give(f"late {self.real(path)} {milliseconds}")
+
+    def slow(self, path, milliseconds):
+        """Each read and write takes so long: a removal waits for it."""
+        self.give(f"slow {self.real(path)} {milliseconds}")
+
+    def hide(self, path):
+        self.give(f"hide {self.real(path)}")
+
+    def show(self, path):
+        self.give(f"show {escaped_path(path)}")
+
+    def notify(self, path):
+        """Wakes who polls a file, as sysfs_notify() does."""
+        self.give(f"notify {self.real(path)}")
+
+    def unplug(self, path):
+        """Removes a device, with all below it and the links that lead into it."""
+        self.give(f"unplug {self.real(path)}")
+
+    def plug(self, path):
+        """A device comes again, as the description has it."""
+        self.give(f"plug {escaped_path(path)}")
+
+    def inside(self, command):
+        return [*([] if self.is_here else [sys.executable, os.path.realpath(__file__), self.at]), *command]
+
+    def popen(self, command, **more):
+        """A command that sees the tree in place of the folders of /sys: a subprocess.Popen."""
+        return subprocess.Popen(self.inside(command), **more)
+
+    def run(self, command, check=False, **more):
+        """The same, when it has ended: as subprocess.run()."""
+        return subprocess.run(self.inside(command), check=check, **more)
+
+
+def run_inside(tree, command):
+    """Becomes a command that sees a tree, mounted by another process, in place of the folders of /sys."""
+    enter_spaces()
+    cover_sys(tree)
+    os.environ["FAKESYS"] = os.path.join(tree, ".control")
+    os.execvp(command[0], command)
+
+
+if __name__ == "__main__":
+    if len(sys.argv) < 3:
+        sys.exit("usage: fakesys.py TREE COMMAND ..")
+    try:
+        run_inside(sys.argv[1], sys.argv[2:])
+    except OSError as problem:
+        print(f"fakesys: {problem}", file=sys.stderr)
+        sys.exit(127 if isinstance(problem, FileNotFoundError) else 125)

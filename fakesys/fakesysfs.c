@@ -1,0 +1,165 @@
+/* fakesysfs: a live sysfs, made by the lines of a description, mounted as a file system by libfuse3 (3.10
+ * or later).
+ *
+ * * This file has the words of its command line, and the mount's beginning and end. */
+#include "fakesysfs.h"
+#include <stddef.h>
+
+static const char usage[] =
+    "usage: fakesysfs [OPTION ..] DESCRIPTION MOUNTPOINT\n"
+    "       fakesysfs --check [--slots N] DESCRIPTION\n"
+    "\n"
+    "Mounts a live sysfs. DESCRIPTION is a file of lines that make it, or - for\n"
+    "standard input. Lines that are written to MOUNTPOINT/.control change it.\n"
+    "`fusermount3 -u MOUNTPOINT` ends it.\n"
+    "\n"
+    "    --slots N              nodes that there may be at once, 1 to %u\n"
+    "                           (twice those of DESCRIPTION, at least 1024)\n"
+    "    --check                only reads DESCRIPTION, and tells what is wrong\n"
+    "    -h   --help            these words\n"
+    "    -V   --version         the version\n"
+    "    -f                     in the foreground: what is refused is told there\n"
+    "    -d   -o debug          the same, with each of FUSE's requests\n"
+    "    -s                     one thread\n"
+    "    -o max_threads=N       threads that there may be (1024): each show that\n"
+    "                           sleeps and each rm that waits has one\n"
+    "    -o max_idle_threads=N  threads that are kept for the next work (64)\n"
+    "    -o clone_fd            a descriptor of /dev/fuse for each thread\n";
+
+struct words {
+    char *slots_word, *threads_word, *description;
+    uint64_t slots, threads;
+    int only_check;
+};
+
+static const struct fuse_opt known_words[] = {
+    {"--slots %s", offsetof(struct words, slots_word), 0},
+    {"--slots=%s", offsetof(struct words, slots_word), 0},
+    {"slots=%s", offsetof(struct words, slots_word), 0},
+    {"max_threads=%s", offsetof(struct words, threads_word), 0},
+    {"--check", offsetof(struct words, only_check), 1},
+    FUSE_OPT_END,
+};
+
+/* Takes the first word that is no option. The others are libfuse's. */
+static int take_word(void *data, const char *word, int key, struct fuse_args *rest)
+{
+    struct words *words = data;
+    bool is_input = key == FUSE_OPT_KEY_OPT && !strcmp(word, "-");
+    (void)rest;
+    if (words->description || (key != FUSE_OPT_KEY_NONOPT && !is_input))
+        return 1;
+    words->description = strdup(word);
+    return words->description ? 0 : -1;
+}
+
+static bool read_count(const char *what, const char *word, uint64_t most, uint64_t *out)
+{
+    if (!word || (read_number(word, most, out) && *out))
+        return true;
+    fprintf(stderr, "fakesysfs: %s: 1 to %llu are wanted, not %s\n", what, (unsigned long long)most, word);
+    return false;
+}
+
+static bool read_words(struct fuse_args *args, struct words *words)
+{
+    words->threads = 1024;
+    return !fuse_opt_parse(args, words, known_words, take_word)
+        && read_count("--slots", words->slots_word, KT_SLOTS_MAX, &words->slots)
+        && read_count("-o max_threads", words->threads_word, 100000, &words->threads);
+}
+
+static int tell_usage(FILE *file, int status)
+{
+    fprintf(file, usage, KT_SLOTS_MAX);
+    if (!status) {
+        puts("\nFUSE's own options:");
+        fuse_lowlevel_help();
+    }
+    return status;
+}
+
+static int tell_version(void)
+{
+    printf("fakesysfs %d.%d, libfuse %s\n", KT_VERSION_MAJOR, KT_VERSION_MINOR, fuse_pkgversion());
+    return 0;
+}
+
+/* Serves until it is unmounted or a signal comes. */
+static int loop(struct fuse_session *session, const struct fuse_cmdline_opts *options, unsigned threads)
+{
+    unsigned idle = options->max_idle_threads < 1024 ? options->max_idle_threads : 64;
+    if (options->singlethread)
+        return fuse_session_loop(session);
+#if FUSE_VERSION >= FUSE_MAKE_VERSION(3, 12)
+    struct fuse_loop_config *config = fuse_loop_cfg_create();
+    if (!config)
+        return -ENOMEM;
+    fuse_loop_cfg_set_clone_fd(config, (unsigned)options->clone_fd);
+    fuse_loop_cfg_set_idle_threads(config, idle);
+    fuse_loop_cfg_set_max_threads(config, threads);
+    int answer = fuse_session_loop_mt(session, config);
+    fuse_loop_cfg_destroy(config);
+    return answer;
+#else
+    struct fuse_loop_config config = {.clone_fd = options->clone_fd, .max_idle_threads = idle};
+    (void)threads; /* there is no bound of them */
+    return fuse_session_loop_mt(session, &config);
+#endif
+}
+
+/* Mounts, and serves. The status. */
+static int serve(struct fuse_session *session, const struct fuse_cmdline_opts *options, unsigned threads)
+{
+    int status = 1;
+    if (fuse_set_signal_handlers(session))
+        return 1;
+    if (!fuse_session_mount(session, options->mountpoint)) {
+        if (!fuse_daemonize(options->foreground)) {
+            begin_storms();
+            status = loop(session, options, threads) < 0; /* the number of a signal is no fault */
+            end_storms();
+        }
+        fuse_session_unmount(session);
+    }
+    fuse_remove_signal_handlers(session);
+    return status;
+}
+
+static int run(struct fuse_args *args, const struct words *words, const struct fuse_cmdline_opts *options)
+{
+    if (options->show_help)
+        return tell_usage(stdout, 0);
+    if (options->show_version)
+        return tell_version();
+    if (!words->description || !options->mountpoint == !words->only_check)
+        return tell_usage(stderr, 2);
+    if (words->only_check)
+        return !load_description(words->description, (uint32_t)words->slots);
+    struct fuse_session *session = fuse_session_new(args, &operations, sizeof operations, NULL);
+    if (!session)
+        return 2;
+    int status = 1;
+    if (load_description(words->description, (uint32_t)words->slots))
+        status = serve(session, options, (unsigned)words->threads);
+    fuse_session_destroy(session);
+    return status;
+}
+
+int main(int count, char **list)
+{
+    struct fuse_args args = FUSE_ARGS_INIT(count, list);
+    struct fuse_cmdline_opts options = {0};
+    struct words words = {0};
+    int status = 2;
+    if (read_words(&args, &words)
+        && !fuse_opt_insert_arg(&args, 1, "-odefault_permissions,fsname=fakesysfs,subtype=fakesysfs")
+        && !fuse_parse_cmdline(&args, &options))
+        status = run(&args, &words, &options);
+    fuse_opt_free_args(&args);
+    free(options.mountpoint);
+    free(words.description);
+    free(words.slots_word);
+    free(words.threads_word);
+    return status;
+}

@@ -1,0 +1,26 @@
+# Installs fakesys, its tools, man page, modules, examples and words for users; the Makefile includes this file.
+#
+#     make install [PREFIX=/usr/local] [DESTDIR=..]        make uninstall ..
+PREFIX ?= /usr/local
+PROGRAMS := fakesys fakesys-record fakesys-uevent umockdev2fakesys
+MODULES := fakesys.py fakesys_run.py fakesys_storm.py fakesys_uevent.py fakesys_weather.py
+EXAMPLES := $(wildcard examples/*.kf examples/*.tl examples/*.py)
+SHARE := $(DESTDIR)$(PREFIX)/share
+MANUALS := $(SHARE)/man/man1
+
+install: out/fakesysfs
+	install -d $(DESTDIR)$(PREFIX)/bin $(SHARE)/fakesys/examples $(SHARE)/doc/fakesys $(MANUALS)
+	install -m 755 out/fakesysfs $(PROGRAMS) $(DESTDIR)$(PREFIX)/bin
+	install -m 644 $(MODULES) $(SHARE)/fakesys
+	install -m 644 $(EXAMPLES) $(SHARE)/fakesys/examples
+	install -m 644 ../docs/FAKESYS.md $(SHARE)/doc/fakesys
+	install -m 644 fakesys.1 $(MANUALS)
+	for name in fakesysfs $(filter-out fakesys,$(PROGRAMS)); do \
+	    echo '.so man1/fakesys.1' > $(MANUALS)/$$name.1; done
+
+uninstall:
+	rm -rf $(SHARE)/fakesys $(SHARE)/doc/fakesys
+	cd $(DESTDIR)$(PREFIX)/bin && rm -f fakesysfs $(PROGRAMS)
+	cd $(MANUALS) && rm -f fakesysfs.1 $(PROGRAMS:=.1)
+
+.PHONY: install uninstall

@@ -1,0 +1,73 @@
+/* Listings: a directory's entries, `.` and `..` first, as they are at each call. What comes and goes
+ * between two of them makes no other name come twice or be missed, since the last name is where the next
+ * begins. */
+#include "fakesysfs.h"
+
+/* Keeps the name that is listed at a place. */
+static int keep_name(struct listing *it, size_t at, const char *name)
+{
+    if (at >= it->room) {
+        size_t room = it->room ? 2 * it->room : 16;
+        char **grown = realloc(it->names, room * sizeof *grown);
+        if (!grown)
+            return -ENOMEM;
+        it->names = grown;
+        it->room = room;
+    }
+    char *copy = strdup(name);
+    if (!copy)
+        return -ENOMEM;
+    if (at < it->count)
+        free(it->names[at]);
+    else
+        it->count = at + 1;
+    it->names[at] = copy;
+    return 0;
+}
+
+/* The entry at a place: 0 is the directory, 1 the one above it. -ENOENT where there is no more. */
+static int find_entry(struct listing *it, fuse_ino_t dir, size_t at, char *name, struct stat *stat)
+{
+    struct kt_key key = key_of(dir);
+    const char *last = at > 2 ? it->names[at - 3] : "";
+    if (at < 2) {
+        strcpy(name, at ? ".." : ".");
+        if (at)
+            kt_parent(&tree, key, &key);
+        return describe(number_of(key), stat);
+    }
+    int64_t length = kt_next(&tree, key, last, strlen(last), name, KT_NAME_MAX);
+    if (length < 0)
+        return (int)length;
+    name[length] = 0;
+    int error = keep_name(it, at - 2, name);
+    if (!error)
+        error = kt_find(&tree, key, name, (size_t)length, &key);
+    return error ? error : describe(number_of(key), stat);
+}
+
+int64_t list_entries(struct listing *it, fuse_req_t req, fuse_ino_t dir, size_t offset, char *page,
+                     size_t room)
+{
+    char name[KT_NAME_MAX + 1];
+    struct stat stat;
+    size_t used = 0, at = MIN(offset, it->count + 2);
+    int error;
+    while (!(error = find_entry(it, dir, at, name, &stat))) {
+        at++;
+        if (at <= offset)
+            continue;
+        size_t size = fuse_add_direntry(req, page + used, room - used, name, &stat, (off_t)at);
+        if (size > room - used)
+            break;
+        used += size;
+    }
+    return error && error != -ENOENT && !used ? error : (int64_t)used;
+}
+
+void free_listing(struct listing *it)
+{
+    for (size_t at = 0; at < it->count; at++)
+        free(it->names[at]);
+    free(it->names);
+}

@@ -1,0 +1,134 @@
+/* The tree, and what is kept of each of its nodes beside it: what stat(2) tells, and what its callbacks
+ * show. */
+#include "fakesysfs.h"
+
+struct kt_handle tree;
+struct kt_lock lock = KT_LOCK_INIT;
+
+static struct node *nodes;   /* by slot */
+static uint32_t slots_used;  /* as many as were ever given; the rest of `nodes` was never touched */
+static uint64_t inodes;      /* as many as were given */
+
+static const uint64_t control_inode = 2;
+
+void lock_tree(void)
+{
+    pthread_mutex_lock(&lock.mutex);
+}
+
+void unlock_tree(void)
+{
+    pthread_mutex_unlock(&lock.mutex);
+}
+
+struct node *node_of(fuse_ino_t number)
+{
+    return &nodes[key_of(number).slot];
+}
+
+/* Begins what is kept of a node. Its slot's last node is held by nobody any more, so nobody is at its
+ * text. */
+static void keep(struct kt_key key, mode_t mode, struct kt_key target)
+{
+    struct node *node = &nodes[key.slot];
+    free(node->text);
+    *node = (struct node){
+        .number = number_of(key), .inode = ++inodes, .mode = mode, .links = 1, .target = number_of(target),
+        .owner = getuid(), .group = getgid(),
+    };
+    clock_gettime(CLOCK_REALTIME, &node->changed);
+    node->accessed = node->changed;
+    slots_used = MAX(slots_used, key.slot + 1);
+}
+
+int make_tree(uint32_t slots)
+{
+    struct kt_key root;
+    int error = kt_new(&tree.at);
+    if (!error)
+        error = kt_create_root(&tree, slots, KT_HOLDS_MAX);
+    if (error)
+        return error;
+    nodes = calloc(slots, sizeof *nodes);
+    if (!nodes)
+        return -ENOMEM;
+    kt_root(&tree, &root);
+    keep(root, S_IFDIR | 0755, root);
+    inodes = control_inode;
+    return 0;
+}
+
+int make_node(struct kt_key dir, const char *name, mode_t mode, struct kt_key target, bool live,
+              struct kt_key *out)
+{
+    size_t length = strlen(name);
+    int error;
+    if (S_ISDIR(mode))
+        error = kt_create_dir(&tree, dir, name, length, live, out);
+    else if (S_ISLNK(mode))
+        error = kt_create_link(&tree, dir, name, length, target, live, out);
+    else
+        error = kt_create_file(&tree, dir, name, length, (uint16_t)(mode & 0777), 0, live, out);
+    if (!error)
+        keep(*out, mode, target);
+    return error;
+}
+
+struct node *next_node(uint32_t *slot, mode_t kind)
+{
+    struct kt_stat stat;
+    while (*slot < slots_used) {
+        struct node *node = &nodes[(*slot)++];
+        if ((!kind || (node->mode & S_IFMT) == kind) && !kt_stat(&tree, key_of(node->number), &stat))
+            return node;
+    }
+    return NULL;
+}
+
+bool is_live(struct kt_key key)
+{
+    struct kt_stat stat;
+    return !kt_stat(&tree, key, &stat) && stat.activated && !stat.doomed && !stat.hidden;
+}
+
+bool is_below(struct kt_key key, struct kt_key top)
+{
+    do {
+        if (key.slot == top.slot && key.generation == top.generation)
+            return true;
+    } while (!kt_parent(&tree, key, &key));
+    return false;
+}
+
+/* The control file is as old as the root. */
+static void describe_control(struct stat *out)
+{
+    *out = (struct stat){
+        .st_ino = control_inode, .st_mode = S_IFREG | 0600, .st_nlink = 1,
+        .st_uid = getuid(), .st_gid = getgid(), .st_size = KT_PAGE_SIZE, .st_blksize = KT_PAGE_SIZE,
+        .st_atim = nodes->changed, .st_mtim = nodes->changed, .st_ctim = nodes->changed,
+    };
+}
+
+int describe(fuse_ino_t number, struct stat *out)
+{
+    struct node *node = node_of(number);
+    struct kt_stat stat;
+    if (is_control(number)) {
+        describe_control(out);
+        return 0;
+    }
+    if (!kt_stat(&tree, key_of(number), &stat))
+        node->links = stat.links;
+    else if (node->number == number)
+        node->links = S_ISDIR(node->mode) ? 2 : 1; /* with all below it, it is gone */
+    else
+        return -ENOENT;
+    *out = (struct stat){
+        .st_ino = node->inode, .st_mode = node->mode, .st_nlink = node->links,
+        .st_uid = node->owner, .st_gid = node->group, .st_blksize = KT_PAGE_SIZE,
+        .st_size = S_ISREG(node->mode) ? KT_PAGE_SIZE : 0,
+        .st_atim = node->accessed, .st_mtim = node->changed, .st_ctim = node->changed,
+    };
+    return 0;
+}

@@ -1,0 +1,206 @@
+/* The operations of the file system: names and what is told of them. All timeouts are 0: the kernel asks
+ * each time, and finds nothing that was removed. */
+#include "fakesysfs.h"
+#pragma GCC diagnostic ignored "-Wunused-parameter" /* an operation need not use each */
+
+static struct kt_key next_control(void)
+{
+    static uint32_t controls;
+    return (struct kt_key){0, 2 + controls++ % 1000000000};
+}
+
+/* Finds a live child. Under the lock. */
+static int find_child(fuse_ino_t dir, const char *name, struct kt_key *out)
+{
+    if (dir == FUSE_ROOT_ID && !strcmp(name, CONTROL)) {
+        *out = next_control();
+        return 0;
+    }
+    int error = kt_find(&tree, key_of(dir), name, strlen(name), out);
+    return error ? error : is_live(*out) ? 0 : -ENOENT;
+}
+
+static unsigned lateness(fuse_ino_t number)
+{
+    lock_tree();
+    unsigned late = node_of(number)->late;
+    unlock_tree();
+    return late;
+}
+
+static void fs_lookup(fuse_req_t req, fuse_ino_t dir, const char *name)
+{
+    struct fuse_entry_param entry = {0};
+    struct kt_key key;
+    unsigned late = lateness(dir);
+    if (late)
+        wait_milliseconds(late);
+    lock_tree();
+    int error = find_child(dir, name, &key);
+    if (!error) {
+        entry.ino = number_of(key);
+        error = describe(entry.ino, &entry.attr);
+    }
+    unlock_tree();
+    if (error)
+        fuse_reply_err(req, -error);
+    else
+        fuse_reply_entry(req, &entry);
+}
+
+static void fs_getattr(fuse_req_t req, fuse_ino_t number, struct fuse_file_info *info)
+{
+    struct stat stat;
+    lock_tree();
+    int error = describe(number, &stat);
+    unlock_tree();
+    if (error)
+        fuse_reply_err(req, -error);
+    else
+        fuse_reply_attr(req, &stat, 0);
+}
+
+static void set_time(struct timespec *time, const struct timespec *to, bool is_set, bool is_now)
+{
+    if (is_now)
+        clock_gettime(CLOCK_REALTIME, time);
+    else if (is_set)
+        *time = *to;
+}
+
+/* Owners, modes and times are kept, as in sysfs. A truncation changes nothing; `echo 1 > FILE` asks for
+ * one. */
+static void change_node(struct node *node, const struct stat *to, int what)
+{
+    if (what & FUSE_SET_ATTR_MODE)
+        node->mode = (node->mode & S_IFMT) | (to->st_mode & 07777);
+    if (what & FUSE_SET_ATTR_UID)
+        node->owner = to->st_uid;
+    if (what & FUSE_SET_ATTR_GID)
+        node->group = to->st_gid;
+    set_time(&node->accessed, &to->st_atim, what & FUSE_SET_ATTR_ATIME, what & FUSE_SET_ATTR_ATIME_NOW);
+    set_time(&node->changed, &to->st_mtim, what & FUSE_SET_ATTR_MTIME, what & FUSE_SET_ATTR_MTIME_NOW);
+}
+
+static void fs_setattr(fuse_req_t req, fuse_ino_t number, struct stat *to, int what,
+                       struct fuse_file_info *info)
+{
+    struct stat stat;
+    lock_tree();
+    int error = describe(number, &stat);
+    if (!error && !is_control(number))
+        change_node(node_of(number), to, what);
+    else if (!error && what & (FUSE_SET_ATTR_MODE | FUSE_SET_ATTR_UID | FUSE_SET_ATTR_GID))
+        error = -EPERM;
+    unlock_tree();
+    if (error)
+        fuse_reply_err(req, -error);
+    else
+        fs_getattr(req, number, info);
+}
+
+static void fs_readlink(fuse_req_t req, fuse_ino_t number)
+{
+    char text[KT_PAGE_SIZE];
+    lock_tree();
+    int64_t length = kt_readlink(&tree, key_of(number), text, sizeof text - 1);
+    unlock_tree();
+    if (length < 0) {
+        fuse_reply_err(req, length == -ERANGE ? ENAMETOOLONG : (int)-length);
+        return;
+    }
+    text[length] = 0;
+    fuse_reply_readlink(req, text);
+}
+
+static void fs_statfs(fuse_req_t req, fuse_ino_t number)
+{
+    struct statvfs answer = {.f_bsize = KT_PAGE_SIZE, .f_frsize = KT_PAGE_SIZE, .f_namemax = KT_NAME_MAX};
+    fuse_reply_statfs(req, &answer);
+}
+
+/* ---- extended attributes: there are none ---- */
+
+static void fs_getxattr(fuse_req_t req, fuse_ino_t number, const char *name, size_t size)
+{
+    fuse_reply_err(req, strncmp(name, "system.", 7) ? ENODATA : EOPNOTSUPP);
+}
+
+static void fs_listxattr(fuse_req_t req, fuse_ino_t number, size_t size)
+{
+    if (size)
+        fuse_reply_buf(req, NULL, 0);
+    else
+        fuse_reply_xattr(req, 0);
+}
+
+static void fs_setxattr(fuse_req_t req, fuse_ino_t number, const char *name, const char *value, size_t size,
+                        int flags)
+{
+    fuse_reply_err(req, EOPNOTSUPP);
+}
+
+static void fs_removexattr(fuse_req_t req, fuse_ino_t number, const char *name)
+{
+    fuse_reply_err(req, EOPNOTSUPP);
+}
+
+/* ---- what sysfs refuses: it has no such operation, or may not be given a file by open(2) ---- */
+
+static void fs_create(fuse_req_t req, fuse_ino_t dir, const char *name, mode_t mode,
+                      struct fuse_file_info *info)
+{
+    fuse_reply_err(req, EACCES);
+}
+
+static void fs_mkdir(fuse_req_t req, fuse_ino_t dir, const char *name, mode_t mode)
+{
+    fuse_reply_err(req, EPERM);
+}
+
+static void fs_mknod(fuse_req_t req, fuse_ino_t dir, const char *name, mode_t mode, dev_t device)
+{
+    fuse_reply_err(req, EPERM);
+}
+
+static void fs_symlink(fuse_req_t req, const char *text, fuse_ino_t dir, const char *name)
+{
+    fuse_reply_err(req, EPERM);
+}
+
+static void fs_link(fuse_req_t req, fuse_ino_t number, fuse_ino_t dir, const char *name)
+{
+    fuse_reply_err(req, EPERM);
+}
+
+static void fs_unlink(fuse_req_t req, fuse_ino_t dir, const char *name)
+{
+    fuse_reply_err(req, EPERM);
+}
+
+static void fs_rename(fuse_req_t req, fuse_ino_t dir, const char *name, fuse_ino_t to, const char *as,
+                      unsigned flags)
+{
+    fuse_reply_err(req, EPERM);
+}
+
+/* Without support for handles (name_to_handle_at(2)), which sysfs has not, where it can be told. */
+static void fs_init(void *data, struct fuse_conn_info *connection)
+{
+#ifdef FUSE_CAP_NO_EXPORT_SUPPORT
+    if (connection->capable & FUSE_CAP_NO_EXPORT_SUPPORT)
+        connection->want |= FUSE_CAP_NO_EXPORT_SUPPORT;
+#endif
+}
+
+const struct fuse_lowlevel_ops operations = {
+    .init = fs_init,
+    .lookup = fs_lookup, .getattr = fs_getattr, .setattr = fs_setattr, .readlink = fs_readlink,
+    .open = fs_open, .read = fs_read, .write = fs_write, .poll = fs_poll,
+    .flush = fs_flush, .release = fs_release,
+    .opendir = fs_open, .readdir = fs_readdir, .releasedir = fs_release,
+    .statfs = fs_statfs, .getxattr = fs_getxattr, .listxattr = fs_listxattr,
+    .setxattr = fs_setxattr, .removexattr = fs_removexattr,
+    .create = fs_create, .mkdir = fs_mkdir, .mknod = fs_mknod, .symlink = fs_symlink, .link = fs_link,
+    .unlink = fs_unlink, .rmdir = fs_unlink, .rename = fs_rename,
+};

@@ -1,0 +1,86 @@
+/* Removals and hidings, which wait until nobody is inside; and the compaction of what the tree keeps of
+ * its changes. */
+#include "fakesysfs.h"
+
+typedef int32_t waiting(struct kt_handle *tree, struct kt_key key, struct kt_lock *lock);
+
+/* Waits by one of the library's functions that take the lock themselves. */
+static int wait_without_lock(waiting *wait, struct kt_key key)
+{
+    unlock_tree();
+    int error = wait(&tree, key, &lock);
+    lock_tree();
+    return error;
+}
+
+int remove_node(struct kt_key key)
+{
+    int error = kt_remove(&tree, key);
+    wake_pollers(number_of(key)); /* also where it waits: what is marked reads no more */
+    if (error == -EAGAIN)
+        error = wait_without_lock(kt_remove_wait, key);
+    return error;
+}
+
+/* Marks the links outside a node that lead to it or below it. */
+static void mark_links(struct kt_key top)
+{
+    struct node *node;
+    for (uint32_t slot = 0; (node = next_node(&slot, S_IFLNK));)
+        node->leads_in = is_below(key_of(node->target), top) && !is_below(key_of(node->number), top);
+}
+
+/* A link is entered by nobody, so that its removal does not wait. */
+static void remove_marked_links(void)
+{
+    struct node *node;
+    for (uint32_t slot = 0; (node = next_node(&slot, S_IFLNK));)
+        if (node->leads_in)
+            kt_remove(&tree, key_of(node->number));
+}
+
+/* The links go under the same lock as the node is marked, so that nobody sees one without the other. */
+int unplug_node(struct kt_key key)
+{
+    mark_links(key);
+    int error = kt_remove(&tree, key);
+    if (error && error != -EAGAIN)
+        return error;
+    remove_marked_links();
+    return remove_node(key);
+}
+
+int hide_node(struct kt_key key)
+{
+    struct kt_stat stat;
+    if (!kt_stat(&tree, key, &stat) && stat.hidden)
+        return -EBUSY;
+    int error = kt_hide(&tree, key);
+    wake_pollers(number_of(key));
+    if (error == -EAGAIN)
+        error = wait_without_lock(kt_hide_wait, key);
+    return error;
+}
+
+int show_node(struct kt_key key)
+{
+    int error;
+    while ((error = kt_unhide(&tree, key)) == -EAGAIN)
+        pthread_cond_wait(&lock.left, &lock.mutex);
+    return error;
+}
+
+/* A tree of few nodes that changed often would keep many commands. Each node costs two at most, and each
+ * other change one, so that this bounds them by the nodes. */
+int count_change(void)
+{
+    static uint32_t changes, most = 1000;
+    struct node *node;
+    if (++changes < most || kt_compact(&tree)) /* without memory the next change tries it again */
+        return 0;
+    most = 1000;
+    for (uint32_t slot = 0; (node = next_node(&slot, 0));)
+        most += 2;
+    changes = 0;
+    return 0;
+}

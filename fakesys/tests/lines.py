@@ -1,0 +1,561 @@
+"""The lines that no script of the proved program has: texts, faults, delays, unplugs, storms, and how lines
+are written."""
+import contextlib, errno, os, random, select, subprocess, threading, time
+from pathlib import Path
+
+from mounted import EVENTS, Beside, error_of, eventually, must, read_path
+
+
+def texts(mount):
+    """A text is set from outside: of several lines, of bytes of any value, as printf(1)'s %b; an open file
+    reads the new one."""
+    path = "/devices/fan0/speed"
+    with mount.opened(path) as file:
+        must(os.pread(file, 99, 0) == b"1200\n", "before")
+        for text, wanted in (
+            (r"91000", b"91000\n"),
+            (r"a\nb\\c", b"a\nb\\c\n"),
+            (r"\x00\x7f\xff\x0A1", b"\0\x7f\xff\n1\n"),
+            (r"x\c", b"x"),
+            (r"x\cy", b"x"),
+            ("", b""),
+            (r"\c", b""),
+            (r"\0101\101\t\q\ ", b"AA\t\\q\\ \n"),
+            (r"\xg \x4", b"\\xg \x04\n"),
+            ("two  blanks ", b"two  blanks \n"),
+            ("\\", b"\\\n"),
+            (r"\xe9" + "\xe9", b"\xe9\xe9\n"),
+            (r"\0", b"\0\n"),
+        ):
+            mount.done(f"set {path} {text}")
+            must(
+                os.pread(file, 99, 0) == wanted == read_path(mount.path(path)),
+                f"{text!r}: {os.pread(file, 99, 0)!r}",
+            )
+            spoken = subprocess.run(
+                ["bash", "-c", 'printf %b "$1"', "bash", text.encode("latin-1")],
+                capture_output=True,
+                check=True,
+            ).stdout
+            must(spoken in (wanted, wanted[:-1]), f"{text!r}: printf says {spoken!r}")
+        bytes_of_all = "".join(f"\\x{byte:02x}" for byte in range(256)) * 15 + r"\x41" * 255
+        mount.done(f"set {path} {bytes_of_all}\\c")
+        must(os.pread(file, 9999, 0) == bytes(range(256)) * 15 + b"A" * 255, "4,095 bytes of any value")
+        must(mount.ask(f"set {path} {bytes_of_all}A") == ["err File too large"], "one more is refused")
+        must(
+            os.pread(file, 9999, 0)[-1:] == b"A" and len(os.pread(file, 9999, 0)) == 4095,
+            "and changes nothing",
+        )
+    must(
+        mount.ask("set /devices x", "set /class/cooling x", "set /no x", "set")
+        == ["err IsDir 21", "err Invalid 22", "err NoEntry 2", "err Line 22"],
+        "what has no text",
+    )
+    with mount.opened(path, os.O_WRONLY) as file:
+        must(
+            os.write(file, b"q" * 8000) == 4096 and read_path(mount.path(path)) == b"q" * 4095,
+            "a store takes 4,096 bytes",
+        )
+    mount.done("file /b 444 " + "q" * 8000)
+    must(read_path(mount.path("/b")) == b"q" * 4095, "a text is cut to 4,095 bytes")
+
+
+def faults(mount):
+    """Reads and writes fail as the line tells, until it ends; what was written meanwhile is not taken;
+    opens go on."""
+    path = mount.path("/devices/fan0/limit")
+    with mount.opened("/devices/fan0/limit", os.O_RDWR) as file:
+        for word, number in (("5", 5), ("EAGAIN", errno.EAGAIN), ("ENODATA", errno.ENODATA), ("133", 133)):
+            mount.done(f"fail /devices/fan0/limit {word}")
+            must(
+                error_of(os.pread, file, 9, 0) == number and error_of(read_path, path) == number,
+                f"reads: {word}",
+            )
+            must(error_of(os.pwrite, file, b"1", 0) == number, f"writes: {word}")
+        mount.done("fail /devices/fan0/limit 0")
+        must(
+            os.pread(file, 9, 0) == b"3000\n" and os.pwrite(file, b"7", 0) == 1 and read_path(path) == b"7\n",
+            "it is over",
+        )
+        mount.done("fail /devices/fan0/limit EIO", "slow /devices/fan0/limit 400")
+        begun = time.monotonic()
+        must(
+            error_of(read_path, path) == errno.EIO and time.monotonic() - begun > 0.35,
+            "slow, and then the fault",
+        )
+        mount.done("unplug /devices/fan0")
+        must(error_of(os.pread, file, 9, 0) == errno.ENODEV, "gone is gone")
+    mount.done("file /a 444 1")
+    must(
+        mount.ask(
+            "fail /a", "fail /a EFROB", "fail /a 134", "fail /a -1", "fail /a 5 ", "fail / 5", "fail /no 5"
+        )
+        == ["err Line 22"] * 5 + ["err IsDir 21", "err NoEntry 2"],
+        "wrong words",
+    )
+
+
+def late(mount):
+    """A delay before the show is not waited for by a removal, so that the reader has ENODEV for certain; of
+    a directory it comes between the listing and the look-up."""
+    mount.done("late /devices/fan0/speed 700", "late /class 700")
+    with mount.opened("/devices/fan0/limit") as limit, mount.opened("/devices/fan0/speed", os.O_RDWR) as file:
+        readers = [Beside(error_of, os.pread, file, 9, 0), Beside(error_of, os.pwrite, file, b"1", 0)]
+        must(os.listdir(mount.path("/class")) == ["cooling"], "a listing is not late")
+        looker = Beside(error_of, os.lstat, mount.path("/class/cooling"))
+        time.sleep(0.2)
+        begun = time.monotonic()
+        mount.done("unplug /devices/fan0")
+        must(time.monotonic() - begun < 0.4, "the removal waits for a late reader")
+        must([it.given() for it in readers] == [errno.ENODEV] * 2, "ENODEV")
+        must(looker.given() == errno.ENOENT, "what was listed is not found any more")
+        must(error_of(os.pread, limit, 9, 0) == errno.ENODEV, "of an open file")
+    mount.done("file /b 644 text", "late /b 300")
+    with mount.opened("/b") as file:
+        begun = time.monotonic()
+        must(os.read(file, 2) == b"te" and time.monotonic() - begun > 0.25, "it is late")
+        begun = time.monotonic()
+        must(
+            os.read(file, 9) == b"xt\n" and time.monotonic() - begun < 0.25,
+            "what was shown is not shown again",
+        )
+    mount.done("late /b 0", "link /l /b")
+    must(
+        mount.ask("late /l 1", "late /b 100000", "late /b", "slow /l 1", "slow / 1")
+        == ["err Invalid 22", "err Line 22", "err Line 22", "err Invalid 22", "err IsDir 21"],
+        "wrong words",
+    )
+
+
+def hidden(mount):
+    """A hidden file is not found or listed, and who has it open has ENODEV, after its reader has left; then
+    it is shown again."""
+    path, waiting = "/devices/fan0/speed", select.poll()
+    mount.done(f"slow {path} 500")
+    with mount.opened(path, os.O_RDWR) as file, mount.opened(path) as other:
+        os.pread(other, 9, 0)
+        waiting.register(other, EVENTS)
+        reader = Beside(os.pread, file, 9, 0)
+        time.sleep(0.15)
+        poller = Beside(waiting.poll, 2000)
+        hider = Beside(mount.done, f"hide {path}")
+        must(poller.given(), "a poll is woken while hide waits")
+        must(
+            not hider.ended and error_of(os.stat, mount.path(path)) == errno.ENOENT,
+            "the name is gone while hide waits",
+        )
+        must(reader.given() == b"1200\n", "the reader has its text")
+        hider.given()
+        must(hider.ended >= reader.ended - 0.05, "hide waits for the reader")
+        must(os.listdir(mount.path("/devices/fan0")) == ["limit"], "it is listed no more")
+        must(error_of(os.pread, file, 9, 0) == errno.ENODEV == error_of(os.pwrite, file, b"1", 0), "ENODEV")
+        must(
+            mount.ask(
+                f"hide {path}", "hide /devices", "show /devices", "show /devices/fan0/limit", "hide /no"
+            )
+            == ["err Busy 16", "err IsDir 21", "err Invalid 22", "err Invalid 22", "err NoEntry 2"],
+            "refusals",
+        )
+        mount.done(f"slow {path} 0", f"show {path}")
+        must(
+            os.pread(file, 9, 0) == b"1200\n" and read_path(mount.path(path)) == b"1200\n",
+            "it is shown again",
+        )
+    mount.done(f"hide {path}", "rm /devices/fan0")
+
+
+def unplugged(mount):
+    """What is unplugged goes with the links that lead into it, and no others; a removal leaves them."""
+    mount.done(
+        "mkdir /bus",
+        "mkdir /devices/fan1",
+        "link /bus/fan0 /devices/fan0",
+        "link /bus/speed /devices/fan0/speed",
+        "link /bus/fan1 /devices/fan1",
+        "link /devices/fan0/bus /bus",
+        "link /devices/fan1/other /devices/fan0",
+        "link /bus/again /bus/fan0",
+    )
+    must(
+        mount.ask("unplug /no", "unplug /", "unplug") == ["err NoEntry 2", "err Invalid 22", "err Line 22"],
+        "refusals",
+    )
+    must(sorted(os.listdir(mount.path("/bus"))) == ["again", "fan0", "fan1", "speed"], "which change nothing")
+    mount.done("slow /devices/fan0/speed 500")
+    reader = Beside(read_path, mount.path("/devices/fan0/speed"))
+    time.sleep(0.2)
+    remover = Beside(mount.done, "unplug /devices/fan0")
+    time.sleep(0.1)
+    must(
+        sorted(os.listdir(mount.path("/bus"))) == ["again", "fan1"] and not remover.ended,
+        "the links go at once",
+    )
+    must(reader.given() == b"1200\n", "the reader has its text")
+    remover.given()
+    must(
+        os.listdir(mount.path("/class")) == [] and os.listdir(mount.path("/devices/fan1")) == [],
+        "each link that leads there",
+    )
+    mount.done("rm /devices/fan1")
+    must(os.listdir(mount.path("/bus")) == ["again", "fan1"], "a removal leaves the links")
+
+
+def blanks(mount):
+    """A name may have a blank, a tab, a newline and a backslash, by an escape; a slash or a zero byte it
+    may not have."""
+    mount.done(
+        r"mkdir /a\040b",
+        r"file /a\040b/\011\012\134 644 x",
+        r"link /l /a\040b",
+        r"mv /a\040b /devices \040",
+        r"set /devices/\040/\011\012\134 y",
+        r"mkdir /a\08",
+        r"mkdir /\134040",
+    )
+    must(
+        read_path(mount.path("/l/\t\n\\")) == b"y\n" and os.readlink(mount.path("/l")) == "devices/ ",
+        "names with blanks",
+    )
+    must(
+        os.path.isdir(mount.path("/a\\08")) and os.path.isdir(mount.path("/\\040")),
+        "what is no escape is itself",
+    )
+    must(
+        mount.ask(
+            r"mkdir /\000a",
+            r"mv /l /devices a\057b",
+            r"mkdir /.control",
+            "mv /l / .control",
+            "mkdir /devices/.control",
+        )
+        == ["err Invalid 22", "err Invalid 22", "err Exists 17", "err Exists 17", "ok"],
+        "what no name may be",
+    )
+
+
+def controlled(mount):
+    """The control file: a line fails as what it does, and its reason is told there; it is listed nowhere."""
+    must(read_path(mount.path("/.control")) == b"", "nothing was refused")
+    replies = mount.ask(
+        "mkdir /a",
+        "frob",
+        "mkdir /a",
+        "mkdir b",
+        "rm /no",
+        "slow /a 1",
+        "rm /",
+        "mkdir /a/" + "n" * 256,
+        "mkdir  /a",
+        "mkdir /a ",
+    )
+    must(
+        replies
+        == [
+            "ok",
+            "err Line 22",
+            "err Exists 17",
+            "err Invalid 22",
+            "err NoEntry 2",
+            "err IsDir 21",
+            "err Invalid 22",
+            "err NameTooLong 36",
+            "err Line 22",
+            "err Line 22",
+        ],
+        replies,
+    )
+    must(
+        read_path(mount.path("/.control")) == b"line 1: wanted: mkdir PATH [off]: mkdir /a \n",
+        read_path(mount.path("/.control")),
+    )
+    must(
+        "fakesysfs: .control, line 1: no such command: frob\n" in mount.log.read_text(),
+        "it is told in the foreground too",
+    )
+    Path(mount.path("/.control")).write_text("mkdir /c")
+    must(
+        sorted(os.listdir(mount.path("/"))) == ["a", "c", "class", "devices"],
+        "the last line needs no newline",
+    )
+    must(
+        error_of(Path(mount.path("/.control")).write_text, "mkdir /c") == errno.EEXIST,
+        "close(2) tells how it went",
+    )
+    of = os.stat(mount.path("/.control"))
+    must((of.st_mode, of.st_size) == (0o100600, 4096) and of.st_ino < 2**32, of)
+
+
+def many_lines(mount):
+    """Many lines in one write, and lines that are cut anywhere; the first that is wrong ends it, and its
+    number is told."""
+    control = mount.path("/.control")
+    script = Path(f"{mount.at}.more")
+    script.write_text(
+        "".join(f"mkdir /m{number}\nfile /m{number}/a 444 {'x' * (15 * number)}\n" for number in range(200))
+    )
+    must(script.stat().st_size > 150_000, "more than one write(2)")
+    subprocess.run(f"cat {script} > {control}", shell=True, check=True)
+    must(
+        all(
+            read_path(mount.path(f"/m{number}/a")) == b"x" * (15 * number) + b"\n" * (number > 0)
+            for number in range(200)
+        ),
+        "cat",
+    )
+    lot, text = random.Random(1), "".join(f"rm /m{number}\n" for number in range(200))
+    with contextlib.closing(os.fdopen(os.open(control, os.O_WRONLY), "w")) as file:
+        while text:
+            size = lot.randrange(1, 40)
+            os.write(file.fileno(), text[:size].encode())
+            text = text[size:]
+    must(sorted(os.listdir(mount.path("/"))) == ["class", "devices"], "lines that are cut")
+    script.write_text("mkdir /a\n\n# a remark\nmkdir /b\nmkdir /no/c\nmkdir /d\n")
+    ran = subprocess.run(f"cat {script} > {control}", shell=True, check=False, capture_output=True, text=True)
+    must(ran.returncode == 1 and "No such file" in ran.stderr, f"cat: {ran}")
+    must(
+        sorted(os.listdir(mount.path("/"))) == ["a", "b", "class", "devices"],
+        "those before it are done, none after it",
+    )
+    must(read_path(control) == b"line 5: No such file or directory: mkdir /no/c\n", read_path(control))
+    file = os.open(control, os.O_WRONLY)
+    must(os.write(file, b"rm /a\nrm /no\nrm /b\n") == 6, "what was taken")
+    must(
+        error_of(os.write, file, b"rm /no\n") == errno.ENOENT
+        and os.write(file, b"rm /") == 4
+        and os.write(file, b"b\n") == 2,
+        "and on",
+    )
+    must(error_of(os.write, file, b"x" * 70_000) == errno.EFBIG, "a line that is too long")
+    os.close(file)
+    must(sorted(os.listdir(mount.path("/"))) == ["class", "devices"], "all are gone")
+
+
+def wrong_lines(mount):
+    """No line that is refused changes anything."""
+
+    def told():
+        return [
+            (path, names, files, [os.lstat(f"{path}/{it}").st_mode for it in files])
+            for path, names, files in sorted(os.walk(mount.at))
+        ]
+
+    mount.done("mkdir /off off", "file /off/a 644 1", "hide /devices/fan0/limit")
+    before, text = told(), read_path(mount.path("/devices/fan0/speed"))
+    commands = "mkdir file link activate mv rm unplug hide show notify set fail late slow storm frob".split()
+    wrong = [
+        f"{command}{words}"
+        for command in commands
+        for words in (
+            "",
+            " ",
+            " /no/a",
+            " devices",
+            " /devices/",
+            " /devices//fan0",
+            " /no /no",
+            " /no 1",
+            " /no 1 x",
+            " /no 644 x",
+            " /devices/fan0 999999",
+            " / 1",
+            " /devices/fan0/speed x y z w",
+            "  /devices/fan0",
+            " /class/cooling/speed 5",
+            " /no/a /devices b",
+            r" /\000 644",
+        )
+    ]
+    fitting = ("file /no 644 x", "late / 1", "late /devices/fan0/speed 5", "storm /devices/fan0 999999")
+    wrong = [line for line in wrong if line not in fitting and not line.startswith("set /devices/fan0/speed")]
+    replies = mount.ask(*wrong)
+    must(
+        all(reply.startswith("err ") for reply in replies),
+        [pair for pair in zip(wrong, replies) if pair[1] == "ok"],
+    )
+    must(told() == before and read_path(mount.path("/devices/fan0/speed")) == text, "something changed")
+    return f"{len(wrong)} lines"
+
+
+def noise(mount):
+    """Lines at random, nearly right and of any bytes, while others read: it goes on, and tells what is there."""
+    lot = random.Random(3)
+    names = [
+        "a",
+        "b",
+        "c",
+        ".",
+        "..",
+        r"\040",
+        r"\000",
+        "n" * 255,
+        "n" * 256,
+        ".control",
+        "devices",
+        "fan0",
+        "speed",
+        "\xe9",
+        "",
+    ]
+    commands = "mkdir file link activate mv rm unplug hide show notify set fail late slow".split() + [
+        "storm",
+        "frob",
+        "",
+    ]
+    words = [
+        "off",
+        "644",
+        "000",
+        "999",
+        "0",
+        "1",
+        "3",
+        "EIO",
+        "7" * 30,
+        "x" * 5000,
+        r"a\nb\x00\c",
+        "\\",
+        "\xff\x01",
+        "#",
+    ]
+    stop = threading.Event()
+
+    def look():
+        while not stop.is_set():
+            for folder, _, files in os.walk(mount.at):
+                for name in files:
+                    with contextlib.suppress(OSError):
+                        read_path(f"{folder}/{name}")
+
+    lookers = [Beside(look) for _ in range(3)]
+    mount.done(
+        "mkdir /class/w",
+        "link /class/w/x /devices/fan0",
+        "late /class 1",
+        "late /devices/fan0/speed 1",
+        "slow /devices/fan0/limit 1",
+    )
+    replies = []
+    for _ in range(1500):
+        path = lambda: "".join("/" + lot.choice(names) for _ in range(lot.randrange(4)))
+        near = "".join("/" + lot.choice(names[:3]) for _ in range(lot.randrange(1, 3)))
+        line = lot.choice(
+            (
+                f"mkdir {near}",
+                f"file {near} 644 x",
+                f"link {near} /devices/fan0",
+                f"link {near} /a",
+                f"set {near} y",
+                f"late {near} 1",
+                f"hide {near}",
+                f"show {near}",
+                f"fail {near} EIO",
+                f"unplug {near}",
+                f"rm {near}",
+                f"mv {near} / a",
+                f"storm {near} 4",
+            )
+        )
+        if lot.random() < 0.3:
+            line = " ".join(
+                [
+                    lot.choice(commands),
+                    *(path() if lot.random() < 0.6 else lot.choice(words) for _ in range(lot.randrange(4))),
+                ]
+            )
+        elif lot.random() < 0.1:
+            line = "".join(chr(lot.randrange(256)) for _ in range(lot.randrange(60)))
+        replies.append(mount.tell(line))
+    stop.set()
+    for it in lookers:
+        it.given()
+    must(mount.process.poll() is None and os.listdir(mount.at) is not None, "it goes on")
+    return f"{replies.count('ok')} done, {len(replies) - replies.count('ok')} refused"
+
+
+def storms(mount):
+    """A storm takes a device away and brings it again, with its links, texts and faults, until it is ended;
+    then it is there."""
+    mount.done(
+        "set /devices/fan0/limit a\\nb",
+        "fail /devices/fan0/speed EIO",
+        "link /devices/fan0/class /class",
+        "mkdir /devices/fan0/in",
+        "hide /devices/fan0/limit",
+        "show /devices/fan0/limit",
+        "mkdir /devices/fan1",
+    )
+    must(
+        mount.ask(
+            "storm /devices/fan0",
+            "storm /devices/fan0 x",
+            "storm /no 1",
+            "storm / 1",
+            "storm /class/cooling 1",
+            "storm /devices/fan0 0",
+        )
+        == [
+            "err Line 22",
+            "err Line 22",
+            "err NoEntry 2",
+            "err Invalid 22",
+            "err Invalid 22",
+            "err NoEntry 2",
+        ],
+        "refusals",
+    )
+    mount.done("storm /devices/fan0 18446744073709551615", "storm /devices/fan1 7")
+    must(
+        mount.ask("storm /devices/fan0 2", "storm /devices/fan0 18446744073709551616")
+        == ["err Busy 16", "err Line 22"],
+        "one is enough",
+    )
+    seen, refused = {"there": 0, "gone": 0}, 0
+    until = time.monotonic() + 3
+    while time.monotonic() < until:
+        seen["there" if os.path.isdir(mount.path("/devices/fan0")) else "gone"] += 1
+        try:
+            with mount.opened("/devices/fan0/limit") as file:
+                while time.monotonic() < until:
+                    must(os.pread(file, 9, 0) == b"a\nb\n", "the text comes again")
+        except OSError as error:
+            must(error.errno in (errno.ENOENT, errno.ENODEV), f"{error}")
+            refused += error.errno == errno.ENODEV
+    must(min(seen.values()) > 2 and refused > 2, f"it comes and goes: {seen}, {refused}")
+    mount.done("storm /devices/fan0 0", "storm /devices/fan1 0")
+    must(sorted(os.listdir(mount.path("/devices/fan0"))) == ["class", "in", "limit", "speed"], "all is there")
+    must(
+        os.readlink(mount.path("/class/cooling")) == "../devices/fan0"
+        and os.path.isdir(mount.path("/devices/fan1")),
+        "and what leads there",
+    )
+    must(error_of(read_path, mount.path("/class/cooling/speed")) == errno.EIO, "with its faults")
+    time.sleep(0.2)
+    must(os.path.isdir(mount.path("/devices/fan0")), "it stays")
+    mount.done("storm /devices/fan0 3", "unplug /devices/fan0")
+    must(eventually(lambda: os.path.isdir(mount.path("/devices/fan0"))), "it comes again by itself")
+    mount.done(
+        "storm /devices/fan0 0",
+        "unplug /devices/fan0",
+        "unplug /devices/fan1",
+        "file /alone 644 1",
+        "storm /alone 5",
+    )
+    must(
+        eventually(lambda: not os.path.exists(mount.path("/alone")))
+        and eventually(lambda: os.path.exists(mount.path("/alone"))),
+        "a file alone",
+    )
+    return f"{refused} times met"  # and one storm goes on when it is unmounted
+
+
+def stores(mount):
+    """Two stores of one file are inside at one time, by two descriptors, where libfuse lets them."""
+    mount.done("slow /devices/fan0/speed 1000")
+    with mount.opened("/devices/fan0/speed", os.O_WRONLY) as one, mount.opened(
+        "/devices/fan0/speed", os.O_WRONLY
+    ) as other:
+        begun = time.monotonic()
+        writers = [Beside(os.pwrite, one, b"1", 0), Beside(os.pwrite, other, b"2", 0)]
+        must([it.given() for it in writers] == [1, 1], "each is taken")
+        took = time.monotonic() - begun
+    return "side by side" if took < 1.8 else "one after the other"

@@ -1,0 +1,120 @@
+/* The words of a line: paths, which are looked up, numbers and modes. */
+#include "fakesysfs.h"
+#include <ctype.h>
+
+bool read_number(const char *word, uint64_t most, uint64_t *out)
+{
+    uint64_t value = 0;
+    if (!*word)
+        return false;
+    for (; *word; word++) {
+        uint64_t digit = (uint64_t)(*word - '0');
+        if (!isdigit((unsigned char)*word) || value > (UINT64_MAX - digit) / 10)
+            return false;
+        value = value * 10 + digit;
+    }
+    *out = value;
+    return value <= most;
+}
+
+bool read_error(const char *word, int *out)
+{
+    static const struct { const char *name; int number; } errors[] = {
+        {"EPERM", EPERM}, {"ENOENT", ENOENT}, {"EINTR", EINTR}, {"EIO", EIO}, {"ENXIO", ENXIO},
+        {"EAGAIN", EAGAIN}, {"ENOMEM", ENOMEM}, {"EACCES", EACCES}, {"EFAULT", EFAULT}, {"EBUSY", EBUSY},
+        {"EEXIST", EEXIST}, {"ENODEV", ENODEV}, {"EINVAL", EINVAL}, {"EFBIG", EFBIG}, {"ENOSPC", ENOSPC},
+        {"EPIPE", EPIPE}, {"ERANGE", ERANGE}, {"ENODATA", ENODATA}, {"EPROTO", EPROTO},
+        {"EOVERFLOW", EOVERFLOW}, {"EOPNOTSUPP", EOPNOTSUPP}, {"ETIMEDOUT", ETIMEDOUT},
+        {"EREMOTEIO", EREMOTEIO}, {"ENOMEDIUM", ENOMEDIUM},
+    };
+    uint64_t number;
+    for (size_t at = 0; at < sizeof errors / sizeof *errors; at++) {
+        if (!strcmp(word, errors[at].name)) {
+            *out = errors[at].number;
+            return true;
+        }
+    }
+    if (!read_number(word, EHWPOISON, &number)) /* the last that Linux has */
+        return false;
+    *out = (int)number;
+    return true;
+}
+
+/* Whether a word is of its kind, as far as that is seen without the tree. */
+static bool is_word(char kind, const char *word)
+{
+    size_t length = word ? strlen(word) : 0;
+    uint64_t number;
+    int error;
+    switch (kind) {
+    case 'o': return !word || !strcmp(word, "off");
+    case 't': return true;
+    case 'm': return length == 3 && strspn(word, "01234567") == length;
+    case 'i': return word && read_number(word, 99999, &number);
+    case 's': return word && read_number(word, UINT64_MAX, &number);
+    case 'e': return word && read_error(word, &error);
+    default: return length;
+    }
+}
+
+int find_node(const char *path, struct kt_key *key)
+{
+    return kt_walk(&tree, path, strlen(path), key);
+}
+
+/* The control file has its name for itself. */
+static int refuse_control(struct kt_key dir, const char *name)
+{
+    return number_of(dir) == FUSE_ROOT_ID && !strcmp(name, CONTROL) ? -EEXIST : 0;
+}
+
+int find_place(const char *path, struct kt_key *dir, const char **name)
+{
+    const char *slash = strrchr(path, '/');
+    if (*path != '/' || !path[1] || path[1] == '/')
+        return -EINVAL; /* kt_walk() would not see it of / and //NAME */
+    *name = slash + 1;
+    int error = kt_walk(&tree, path, slash > path ? (size_t)(slash - path) : 1, dir);
+    return error ? error : refuse_control(*dir, *name);
+}
+
+/* Finds the node of a path that has a text, or is a directory where that is wanted too. */
+static int find_text(const char *path, bool is_dir_well, struct kt_key *key)
+{
+    int error = find_node(path, key);
+    if (error)
+        return error;
+    mode_t mode = node_of(number_of(*key))->mode;
+    if (S_ISREG(mode) || (S_ISDIR(mode) && is_dir_well))
+        return 0;
+    return S_ISDIR(mode) ? -EISDIR : -EINVAL;
+}
+
+static int find(char kind, char *word, struct line *line, struct kt_key *key)
+{
+    if (!unescape_path(word))
+        return -EINVAL;
+    switch (kind) {
+    case 'n': return find_place(word, key, &line->name);
+    case 'p': return find_node(word, key);
+    case 'w':
+    case 'x': return 0;
+    default: return find_text(word, kind == 'd', key);
+    }
+}
+
+/* The kinds: n a new node's path, p a path, a that of a file, d that of a file or directory, x a path that
+ * need not be there, w a name, m a mode, i milliseconds, e an error number, s a seed, o `off` or nothing,
+ * t all that follows. */
+int take_words(const char *kinds, struct line *line)
+{
+    int error = 0;
+    for (int at = 0; kinds[at]; at++) {
+        char *word = line->words[at] = strsep(&line->rest, kinds[at] == 't' ? "" : " ");
+        if (!is_word(kinds[at], word))
+            return -EBADMSG;
+        if (!error && strchr("npadwx", kinds[at]))
+            error = find(kinds[at], word, line, &line->keys[MIN(at, 1)]);
+    }
+    return line->rest ? -EBADMSG : error;
+}
