@@ -142,6 +142,10 @@ def beside_worker(program, nodes, script):
     return f"{(with_tree - without) / nodes:.0f}"
 
 
+def in_microseconds(nanoseconds):
+    return f"{nanoseconds / 1000:.{2 if nanoseconds >= 100 else 3}f}"
+
+
 def tell_shape(programs, shape):
     """Prints a line for each size of a shape."""
     bare = {program: root_alone(program) for program in programs}
@@ -149,7 +153,7 @@ def tell_shape(programs, shape):
         parts = list(parts_of(shape, nodes))
         same_replies(programs, nodes + 1, b"".join(script for _, _, script in parts))
         times, most = measure(programs, nodes + 1, parts)
-        cells = [" / ".join(f"{times[it, part] / 1000:.2f}" for it in programs) for part, *_ in parts]
+        cells = [" / ".join(in_microseconds(times[it, part]) for it in programs) for part, *_ in parts]
         cells.append(" / ".join(f"{(most[it, 'create'] - bare[it]) / nodes:.0f}" for it in programs))
         made = parts[0][2]
         cells.append(" / ".join(f"{(compacted(it, nodes + 1, made) - bare[it]) / nodes:.0f}" for it in programs))

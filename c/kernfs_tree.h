@@ -61,8 +61,9 @@
  *   thread by what orders memory (a lock, a join, an atomic).
  * - Calls that take a tree are made under one lock of the program's, one for each tree, or by one thread.
  * - Pointers are valid, lengths are those of what is there, a bool is 0 or 1, and no two arguments of one call overlap.
- * - malloc(), realloc() and free() are of one allocator. No function is called in a signal handler, or between fork()
- *   and exec() in a program with threads.
+ * - malloc(), realloc() and free() are of one allocator, which aligns to 8 bytes at least. No function is called in a
+ *   signal handler, or between fork() and exec() in a program with threads.
+ * - The processor is of level x86-64-v2 at least (SSSE3 and SSE4.1 are used).
  * - After kt_enter() has answered -ENODEV, and after kt_leave(), kt_break(), kt_clear() or kt_delete() has answered 1,
  *   wake those who wait in a removal or a hiding. The _wake helpers do so; kt_delete() has none. A program that lets go
  *   a hold of a node that had the most there may be calls kt_wake() itself, since a removal needs one for a moment.

@@ -47,6 +47,7 @@ struct node {
     struct timespec accessed, changed;
     fuse_ino_t target; /* of a link */
     bool leads_in;     /* of a link: an unplug that is at work takes it away */
+    bool is_uevent;    /* of a file of this name: a write asks for an event, and leaves the text */
     atomic_uint late;  /* milliseconds before a show or store begins; of a directory, before a look-up */
     atomic_uint slow;  /* milliseconds inside each show and store */
     atomic_int fault;  /* the error number that each show and store fails with, else 0 */

@@ -69,8 +69,10 @@ int make_node(struct kt_key dir, const char *name, mode_t mode, struct kt_key ta
         error = kt_create_link(&tree, dir, name, length, target, live, out);
     else
         error = kt_create_file(&tree, dir, name, length, (uint16_t)(mode & 0777), 0, live, out);
-    if (!error)
+    if (!error) {
         keep(*out, mode, target);
+        node_of(number_of(*out))->is_uevent = S_ISREG(mode) && !strcmp(name, "uevent");
+    }
     return error;
 }
 

@@ -67,7 +67,7 @@ int64_t store(struct kt_handle *file, void *data, const char *bytes, size_t leng
     (void)file;
     struct node *node = begin_callback(data);
     int64_t answer = -node->fault;
-    if (!answer)
+    if (!answer && !node->is_uevent)
         answer = set_line(node, bytes, length - (bytes[length - 1] == '\n'));
     unlock_tree();
     return answer ? answer : (int64_t)length;

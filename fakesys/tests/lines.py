@@ -58,6 +58,10 @@ def texts(mount):
         )
     mount.done("file /b 444 " + "q" * 8000)
     must(read_path(mount.path("/b")) == b"q" * 4095, "a text is cut to 4,095 bytes")
+    mount.done(r"file /uevent 644 ", r"set /uevent MAJOR=1\nMINOR=2")
+    with mount.opened("/uevent", os.O_RDWR) as file:
+        must(os.write(file, b"change") == 6, "an event is asked for, as udevadm trigger does")
+        must(os.pread(file, 99, 0) == b"MAJOR=1\nMINOR=2\n", "and the text stays")
 
 
 def faults(mount):

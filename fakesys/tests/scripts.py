@@ -223,7 +223,7 @@ def mirrored(program, folder, runner):
     """A part of the running kernel's /sys is made in the mount; mirror_sysfs makes it of the mount again in
     the program."""
     mirror = [sys.executable, TOP / "examples/mirror_sysfs"]
-    asked = [*mirror, "--nodes", "800", "--texts", "200", "--print"]
+    asked = [*mirror, "--directories", "200", "--print"]
     made = subprocess.run(asked, capture_output=True, timeout=60, check=True)
     lines = [
         line for line in made.stdout.decode().splitlines() if line.split(" ")[0] in ("mkdir", "file", "link")
