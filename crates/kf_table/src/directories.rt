@@ -1,4 +1,4 @@
-//! What is kept of each directory, by slot, in boxes that only slots with children have.
+//! What is kept of each directory, by slot, in boxes that slots have once they had a child.
 
 ghost use Rattle.std.specs.Prelude.{◌≡◌, ◌<◌, None, IsTrue, IfSome, IfNone, IfOk, IfErr, OnOk, OnErr, replicate, slice_get, slice_set, slice_index_or};
 ghost use Rattle.std.specs.Option.{option_copied, option_and_then};
@@ -13,8 +13,8 @@ use std::alloc::Global;
 use std::marker::Model;
 
 /// The directories by slot. Each is in a box, which is made for its first child and let go with its node: a
-/// slot without children costs no more than the place of a box. Contracts see a directory in each slot, where
-/// there is no box one without children.
+/// slot that never had a child costs no more than the place of a box. Contracts see a directory in each
+/// slot, where there is no box one without children.
 #[derive(Drop)]
 pub(crate) struct Directories {
     boxes: SlotMap<Box<Directory>>,
