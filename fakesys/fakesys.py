@@ -319,9 +319,11 @@ class FakeSys(Tree):
             except subprocess.TimeoutExpired:
                 self.process.kill()
                 self.process.wait()
-            if os.path.ismount(self.at):  # somebody is in it, or the daemon was killed
+            try:
+                os.rmdir(self.at)
+            except OSError:  # somebody is in it, or the daemon was killed
                 subprocess.run(["fusermount3", "-uz", self.at], check=False)
-            os.rmdir(self.at)
+                os.rmdir(self.at)
 
     def path(self, path):
         """Where a node is found by this process."""

@@ -69,7 +69,7 @@ def read_timeline(name):
         if not line.strip() or line.lstrip().startswith("#"):
             continue
         try:
-            lines.append(timed(line, before))
+            lines.append(timed(line.strip(), before))
         except Refused as problem:
             raise Refused(f"{name}, line {number}: {problem}") from None
         before = lines[-1][0]

@@ -4,6 +4,7 @@ Looks for a reader of sysfs that cannot bear what a kernel does: runs COMMAND on
 ends with status 0, while devices go and come, reads and writes fail and come late, all by a seed. The status is 1 where
 COMMAND ends otherwise or hangs, told with the seed and the lines that did it; 0 where the time is over before; 2 where a
 word is wrong, or COMMAND fails without a storm; 125 where nothing can be mounted."""
+import contextlib
 import itertools
 import os
 import re
@@ -74,8 +75,18 @@ class Poke:
     """Runs a shell's line again and again, twice at a time, as those do who ask a daemon."""
 
     def __init__(self, line, hang):
-        self.words, self.hang, self.count = ["sh", "-c", line], hang, 0
+        self.words, self.hang, self.count, self.well = ["sh", "-c", line], hang, 0, 0
         self.hangs, self.says = os.pipe()
+        self.check()
+
+    def check(self):
+        """That the shell finds what asks is seen before the storm."""
+        with contextlib.suppress(subprocess.TimeoutExpired):
+            asked = subprocess.run(
+                self.words, stdin=subprocess.DEVNULL, capture_output=True, timeout=self.hang or None, check=False
+            )
+            if asked.returncode in (126, 127):
+                raise fakesys_run.Refused(f"--poke: {asked.stderr.decode(errors='replace').strip()}")
 
     def start(self):
         for _ in range(ASKERS):
@@ -91,7 +102,11 @@ class Poke:
                 os.write(self.says, b"!")
                 return
             self.count += 1
+            self.well += not asker.returncode
             time.sleep(0.01 if asker.returncode else 0)
+
+    def told(self):
+        return f"asked {self.count} times{', each in vain' * (self.count > self.well == 0)}, "
 
 
 class Reader:
@@ -185,8 +200,8 @@ def blow_on(options, lines, place):
         signal.signal(number, lambda number, _: os._exit(128 + number))
     reader = Reader(options)
     try_calm(reader, options)
-    blow, began = Blow(tree, lines, options.time * 1000), time.monotonic()
     poke = Poke(options.poke, HANG if options.hang is None else options.hang) if options.poke else None
+    blow, began = Blow(tree, lines, options.time * 1000), time.monotonic()
     for it in filter(None, (blow, poke)):
         it.start()
     fault = watch_reader(reader, options, poke, began + options.time)
@@ -225,7 +240,7 @@ def again(options):
 
 
 def report(options, fault, seconds, reader, blow, poke):
-    runs = f"{reader.runs} run{'s' * (reader.runs > 1)}, " + (f"asked {poke.count} times, " if poke else "") + blow.told()
+    runs = f"{reader.runs} run{'s' * (reader.runs > 1)}, " + (poke.told() if poke else "") + blow.told()
     if not fault:
         print(f"fakesys storm: no fault in {seconds:.1f} s: {runs}; {source_of(options)}")
         return

@@ -98,10 +98,11 @@ def kept(mount):
     must(error_of(read_path, path) == errno.EACCES, "without a bit for reading, of root too")
     os.chmod(path, 0o600)
     os.utime(path, (1, 2))
-    os.chown(path, 1, 2)
+    owner = (1, 2) if os.geteuid() == 0 else (os.geteuid(), os.getegid())
+    os.chown(path, *owner)
     os.chmod(mount.path("/devices"), 0o750)
     of = os.stat(path)
-    must((of.st_mode, of.st_atime, of.st_mtime, of.st_uid, of.st_gid) == (0o100600, 1, 2, 1, 2), of)
+    must((of.st_mode, of.st_atime, of.st_mtime, of.st_uid, of.st_gid) == (0o100600, 1, 2, *owner), of)
     must(os.stat(mount.path("/devices")).st_mode == 0o40750 and of.st_ino == before.st_ino, "of a directory")
     mount.done("file /r 444 1", "file /w 200 1", "file /n 000 1")
     must(

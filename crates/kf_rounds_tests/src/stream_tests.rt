@@ -91,13 +91,16 @@ fn a_read_fault_leaves_the_lines_that_ended_answered_and_is_the_last_read(rt: Ho
 
 #[test]
 fn a_write_fault_leaves_a_prefix_and_is_the_last_write(rt: HostRuntime) {
-    for (writes, want) in [
-        (0usize, b"".as_slice()),
-        (1, b"ok\n".as_slice()),
-        (2, b"ok\nok\n".as_slice()),
+    // (the replies to what one read gave are one write)
+    for (chunk, writes, want) in [
+        (5usize, 0usize, b"".as_slice()),
+        (5, 1, b"ok\n".as_slice()),
+        (5, 2, b"ok\nok\n".as_slice()),
+        (100, 0, b"".as_slice()),
+        (100, 1, b"ok\nok\n".as_slice()),
     ] {
-        let (text, result) = run(rt.alloc(), b"ls /\nls /\nls /a", 100, 100, writes);
+        let (text, result) = run(rt.alloc(), b"ls /\nls /\nls /a", chunk, 100, writes);
         assert!(rt; matches!(result, Err(RunFault::Write)));
-        assert_eq!(rt; text.as_slice(), want, "at {writes}");
+        assert_eq!(rt; text.as_slice(), want, "at {writes} of {chunk} bytes");
     }
 }

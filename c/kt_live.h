@@ -1,0 +1,744 @@
+/* kt_live.h: what a daemon shows of its devices, and takes away again while others use it. A tree with its own lock;
+ * any call from any thread, also from a callback.
+ *
+ *     kt_live_new(&live, 1024);
+ *     kt_live_publish(live, "/fan0", fan_attributes, 2, fan, &fan->key);      its directory and files, or nothing
+ *     kt_live_read(live, "/fan0/speed", text, sizeof text);                   runs show, as long as the fan is there
+ *     if (kt_live_unpublish(live, fan->key) == 1) free(fan);                  nobody is in its code, or comes
+ *
+ * Not proved: this is C over the proved calls of kernfs_tree.h, tried by `make -C c test`. That no callback starts
+ * under a node once it is out rests on what is proved of kt_remove(); that none is in the device's code any more, also
+ * where it has broken its protection, on the list of callbacks here.
+ *
+ * The functions stand in this header, as the helpers of kernfs_tree.h do, and are static: there is nothing to compile,
+ * link or define besides. All that they keep lies in the struct kt_live, none in variables of a file, so callbacks and
+ * those who run them may be in different source files, also of a plugin.
+ *
+ * Answers: 0 or more where it is done; a Linux error number below 0 where it is not, and then nothing has changed and
+ * what `out` points to is as it was. Paths and names are C strings.
+ */
+#ifndef KT_LIVE_H
+#define KT_LIVE_H
+
+#include <kernfs_tree.h>
+#include <poll.h>
+#include <stdlib.h>
+#include <string.h>
+#include <sys/eventfd.h>
+#include <unistd.h>
+
+#ifdef KT_NO_PTHREAD
+#error "kt_live.h needs the lock of kernfs_tree.h, which KT_NO_PTHREAD leaves out"
+#endif
+
+#ifndef KT_MUST_USE
+#ifdef __GNUC__
+#define KT_MUST_USE __attribute__((warn_unused_result))
+#else
+#define KT_MUST_USE
+#endif
+#endif
+
+/* One copy in a source file that calls it, and none in one that does not. (gcc, which would else take some into their
+ * callers, then also warns of what `out` points to.) */
+#ifdef __GNUC__
+#define KT_LIVE_CALL static __attribute__((unused, noinline))
+#else
+#define KT_LIVE_CALL static inline
+#endif
+
+/* An attribute of a device: a file in its directory, and what runs where it is read and written (struct
+ * device_attribute). The mode has bits of 0666 alone; of 0444 where there is a show and only there, and of 0222 where
+ * there is a store and only there. A mode of 0 makes no file (is_visible): so one table serves devices that differ.
+ *
+ * `show` writes its text into the page, which has KT_PAGE_SIZE bytes, all 0 before, and answers how many it wrote; what
+ * is beyond KT_PAGE_SIZE - 1 is cut. `store` gets 1 to KT_PAGE_SIZE bytes with a zero byte after them, and answers how
+ * many it took. An error number below 0 of either is what the reader or writer is answered.
+ *
+ * Callbacks run in the thread that reads or writes, without the lock, and several at once: what they change of the
+ * device is atomic or under a lock of the program's. They may call everything here, and they return: no longjmp(),
+ * exception or pthread_exit() leaves them. */
+struct kt_attribute {
+    const char *name;
+    uint16_t mode;
+    int64_t (*show)(void *device, const struct kt_attribute *attribute, char *page);
+    int64_t (*store)(void *device, const struct kt_attribute *attribute, const char *bytes, size_t length);
+    int64_t which; /* the program's own: so one callback serves several attributes */
+};
+
+/* What kt_live_list() tells of a node. */
+struct kt_live_node {
+    char name[KT_NAME_MAX + 1];
+    struct kt_key key;
+    uint32_t kind; /* enum kt_kind */
+    uint16_t mode; /* of a file */
+};
+
+/* What was published. Nothing of it is the program's. */
+struct kt_live_device {
+    struct kt_live_device *next; /* of those whose directories had the same slot */
+    struct kt_key key;           /* its directory */
+    void *device;
+    const struct kt_attribute *attributes; /* a file's tag is its number among them */
+    size_t count;
+    uint64_t nodes; /* the directory and the files */
+    bool is_claimed;
+};
+
+/* A callback that runs: it lies on the stack of the thread that runs it. */
+struct kt_live_call {
+    struct kt_live_call *next;
+    struct kt_handle file;
+    struct kt_live_device *device; /* NULL once that is unpublished */
+    const struct kt_attribute *attribute;
+    void *data; /* the program's device */
+    struct kt_key key;
+    pthread_t thread;
+    bool is_aside; /* it has broken its protection */
+};
+
+struct kt_live_watcher {
+    struct kt_live_watcher *next;
+    const char *path;
+    struct kt_key key; /* the node there */
+    int fd;
+    bool is_there;
+};
+
+/* The program may use `tree` and `lock` by the calls of kernfs_tree.h: look at nodes, hold and open them, hide them,
+ * make links, directories and files of its own (and kt_compact() where these are many). What was published it
+ * removes, renames and activates by the calls below alone. The rest is not the program's. */
+struct kt_live {
+    struct kt_handle tree;
+    struct kt_lock lock;
+    struct kt_handle post;
+    struct kt_live_device **devices;  /* by their directories' slots */
+    struct kt_live_device *remnants;  /* directories never live, which want of memory kept from being removed */
+    struct kt_live_call *calls;
+    struct kt_live_watcher *watches;
+    uint32_t slots;
+    uint64_t nodes, stored; /* of what is published; commands that the tree keeps, or more */
+};
+
+/* A new tree of the root alone, of 1 to KT_SLOTS_MAX nodes: the root, and for each device its directory and its
+ * files. A file that is gone counts as long as one still reads or writes it. 0, -EINVAL (another number), -ENOMEM. */
+KT_MUST_USE KT_LIVE_CALL int32_t kt_live_new(struct kt_live **out, uint32_t slots);
+
+/* Frees the tree. 0; -EBUSY: a device is published, something is watched, a callback runs, or a file is being hidden
+ * (kt_clear()); it is all as it was. After 0 `live` is not used again, so no call of another thread may run or come. */
+KT_LIVE_CALL int32_t kt_live_delete(struct kt_live *live);
+
+/* Publishes a device (device_add): a directory at the path with a file for each attribute. Nobody sees a part of it: a
+ * file can be read and listed when all are there, and after a refusal there is none. A device without attributes is a
+ * plain directory, for others to be published in; without one in between, at "/fan0", the root is it.
+ *
+ * `out` gets the directory's key, by which it is unpublished, before the first callback can run. The device, the
+ * attributes and their names stay the program's; they are left as they are until kt_live_unpublish() has answered 1. A
+ * device that a callback may unpublish can be freed before this has returned: its key is kept elsewhere than in it.
+ *
+ * 0, and in this order: -EINVAL (an attribute without a name, or of a mode that does not fit it; the form of the path),
+ * -ENOENT, -ENOTDIR (what the path names above its last name), then of that name and of each attribute's as of
+ * kt_create_dir(): -ENAMETOOLONG, -EINVAL, -ENOENT (the directory above is being removed), -EEXIST, -ENOSPC (no free
+ * slot). -ENOMEM may come before these. */
+KT_MUST_USE KT_LIVE_CALL int32_t kt_live_publish(struct kt_live *live, const char *path,
+                                                 const struct kt_attribute *attributes, size_t count, void *device,
+                                                 struct kt_key *out);
+
+/* Unpublishes a device (device_del): when this answers 0 or 1 its directory, with all that is below it, is out of the
+ * tree, and no callback ever starts there. It sleeps until then. Who watches a node there is told before that.
+ *
+ * 1: this call was the first to ask for it, and no callback is in the device's code: what the device and the attributes
+ * lie in is the caller's to free. 0: another call was first, and 1 is its answer; this one frees nothing. -ENOENT: no
+ * device has this key: it was unpublished before, or never published. -ENOMEM, or -EMFILE (other calls hold a node
+ * there KT_HOLDS_MAX times): nothing has changed; call it again.
+ *
+ * A callback may unpublish its own device, or one above it (device_remove_file_self): then 1 comes when all callbacks
+ * there but those of its thread have ended. It still is in the device's code itself, so after the free() it touches
+ * the device no more. Of several callbacks that do so at once one is answered 1, when the others have returned.
+ *
+ * A device that was published below this one is out of the tree too, but it stays published: its own
+ * kt_live_unpublish() tells whether its memory may be freed. Two callbacks that unpublish each other's device, and one
+ * that waits for a thread that unpublishes its device, wait for ever, as in the kernel. */
+KT_MUST_USE KT_LIVE_CALL int32_t kt_live_unpublish(struct kt_live *live, struct kt_key key);
+
+/* In a callback: the key of its device, the inner one's where callbacks of this thread run in another; so
+ * kt_live_unpublish(live, kt_live_self(live)) unpublishes it. Elsewhere, and once it is unpublished, 0, 0. */
+KT_LIVE_CALL struct kt_key kt_live_self(struct kt_live *live);
+
+/* Reads the attribute at a path: runs its show, and copies the text (open, pread at offset 0, close). How many bytes; a
+ * longer text is cut, and where there is room a zero byte follows that is not counted: KT_PAGE_SIZE is always enough.
+ *
+ * Below 0: what the show answered; or it did not run: -EINVAL (the path, or a link), -ENOENT, -ENOTDIR, -EISDIR,
+ * -ENODEV (it is being removed, or hidden), -EACCES (no bit of 0444), -EIO (a file that the program made by other
+ * calls), -EMFILE (KT_HOLDS_MAX are at it), -ENOMEM. */
+KT_LIVE_CALL int64_t kt_live_read(struct kt_live *live, const char *path, void *out, size_t room);
+
+/* Writes to the attribute at a path: runs its store with the first KT_PAGE_SIZE bytes at most (open, write, close).
+ * What the store answered; 0 of no bytes, and it did not run then; the refusals of kt_live_read(), -EACCES of 0222. */
+KT_LIVE_CALL int64_t kt_live_write(struct kt_live *live, const char *path, const char *bytes, size_t length);
+
+/* Tells that an attribute of a device has changed (sysfs_notify); in a callback the device may be kt_live_self(live).
+ * Raises its event number (kt_poll() of an open file tells it) and who watches it. 0, -ENOENT (the device or a file of
+ * this name is not there), -ENOTDIR (the key is a file's), -EOVERFLOW (of the number), -ENOMEM. */
+KT_LIVE_CALL int32_t kt_live_notify(struct kt_live *live, struct kt_key device, const char *name);
+
+/* Watches the node at a path, a file or a directory, also one that comes later: a new eventfd(2), not blocking and
+ * closed on exec, which becomes readable by each kt_live_notify() of it, when it is being removed, and when it is
+ * published (again). It is for poll(2) and its kind; who is woken reads its 8 bytes first and then the attribute, so
+ * that no change is missed; -ENODEV or -ENOENT of that says that it has gone. What the program makes or removes by
+ * other calls raises nothing. The descriptor stays until kt_live_unwatch(), which alone closes it.
+ *
+ * The descriptor; -EINVAL (the form of the path), -ENOMEM, or as of eventfd(2). */
+KT_MUST_USE KT_LIVE_CALL int kt_live_watch(struct kt_live *live, const char *path);
+
+/* Ends a watch and closes its descriptor. 0, -EBADF (no descriptor of a watch here). */
+KT_LIVE_CALL int32_t kt_live_unwatch(struct kt_live *live, int fd);
+
+/* The names in the directory at a path, one after another in byte order (readdir). `at` is the cursor and the answer:
+ * its name is empty at first, then the last one told; what is published or unpublished meanwhile makes no other name
+ * come twice or be missed.
+ *
+ *     struct kt_live_node at = {.name = ""};
+ *     while (kt_live_list(live, "/", &at) == 1)
+ *         puts(at.name);
+ *
+ * 1, 0 (no more), and then `at` is as it was; -EINVAL (the path), -ENOENT, -ENOTDIR, -ENOMEM. */
+KT_LIVE_CALL int32_t kt_live_list(struct kt_live *live, const char *path, struct kt_live_node *at);
+
+/* ---- what these are made of; under the lock, where nothing else is said ---- */
+
+static inline void kt_live_lock(struct kt_live *live) { pthread_mutex_lock(&live->lock.mutex); }
+static inline void kt_live_unlock(struct kt_live *live) { pthread_mutex_unlock(&live->lock.mutex); }
+
+/* The commands that the tree keeps are made few again: it needs one for each node. Without memory the next change tries
+ * it again. */
+static inline void kt_live_tidy(struct kt_live *live, uint64_t more)
+{
+    live->stored += more;
+    if (live->stored >= 2 * live->nodes + 1000 && !kt_compact(&live->tree))
+        live->stored = live->nodes;
+}
+
+static inline struct kt_live_device *kt_live_find(struct kt_live *live, struct kt_key key)
+{
+    struct kt_live_device *found = key.slot < live->slots ? live->devices[key.slot] : NULL;
+    while (found && found->key.generation != key.generation)
+        found = found->next;
+    return found;
+}
+
+static inline int32_t kt_live_walk(struct kt_live *live, const char *path, struct kt_key *out)
+{
+    return kt_walk(&live->tree, path, strlen(path), out);
+}
+
+/* The handles and the tree of a new struct. 0, -ENOMEM. */
+static inline int32_t kt_live_start(struct kt_live *live)
+{
+    int32_t answer = kt_new(&live->tree.at);
+    if (answer)
+        return answer;
+    answer = kt_new(&live->post.at);
+    if (!answer) {
+        answer = kt_create_root(&live->tree, live->slots, KT_HOLDS_MAX);
+        if (answer)
+            kt_delete(live->post);
+    }
+    if (answer)
+        kt_delete(live->tree);
+    return answer;
+}
+
+KT_LIVE_CALL int32_t kt_live_new(struct kt_live **out, uint32_t slots)
+{
+    struct kt_live *live;
+    int32_t answer;
+    if (slots < 1 || slots > KT_SLOTS_MAX)
+        return -EINVAL;
+    live = (struct kt_live *)calloc(1, sizeof *live);
+    if (!live)
+        return -ENOMEM;
+    live->slots = slots;
+    live->devices = (struct kt_live_device **)calloc(slots, sizeof *live->devices);
+    answer = live->devices ? kt_live_start(live) : -ENOMEM;
+    if (answer) {
+        free(live->devices);
+        free(live);
+        return answer;
+    }
+    pthread_mutex_init(&live->lock.mutex, NULL);
+    pthread_cond_init(&live->lock.left, NULL);
+    *out = live;
+    return 0;
+}
+
+KT_LIVE_CALL int32_t kt_live_delete(struct kt_live *live)
+{
+    struct kt_live_device *next;
+    int32_t answer = -EBUSY;
+    kt_live_lock(live);
+    if (!live->nodes && !live->watches && !live->calls)
+        answer = kt_clear(&live->tree);
+    kt_live_unlock(live);
+    if (answer < 0)
+        return answer;
+    for (; live->remnants; live->remnants = next) {
+        next = live->remnants->next;
+        free(live->remnants);
+    }
+    kt_delete(live->tree);
+    kt_delete(live->post);
+    pthread_cond_destroy(&live->lock.left);
+    pthread_mutex_destroy(&live->lock.mutex);
+    free(live->devices);
+    free(live);
+    return 0;
+}
+
+/* ---- watches ---- */
+
+/* Makes a watch's descriptor readable. It may be so already, and then the write is refused and nothing is lost. */
+static inline void kt_live_raise(struct kt_live_watcher *watch)
+{
+    uint64_t one = 1;
+    if (write(watch->fd, &one, sizeof one) < 0)
+        return;
+}
+
+static inline bool kt_live_is_there(struct kt_live *live, struct kt_key key)
+{
+    struct kt_stat stat;
+    return !kt_stat(&live->tree, key, &stat) && stat.activated && !stat.doomed;
+}
+
+/* Tells who watches nodes that have gone or come, each once. */
+static inline void kt_live_raise_changed(struct kt_live *live)
+{
+    for (struct kt_live_watcher *it = live->watches; it; it = it->next) {
+        bool was_there = it->is_there;
+        if (!was_there && kt_live_walk(live, it->path, &it->key))
+            continue;
+        it->is_there = kt_live_is_there(live, it->key);
+        if (it->is_there != was_there)
+            kt_live_raise(it);
+    }
+}
+
+/* Makes a watch with a path of its own. */
+static inline int kt_live_new_watch(struct kt_live *live, const char *path)
+{
+    size_t size = strlen(path) + 1;
+    struct kt_live_watcher *watch = (struct kt_live_watcher *)calloc(1, sizeof *watch + size);
+    if (!watch)
+        return -ENOMEM;
+    watch->fd = eventfd(0, EFD_CLOEXEC | EFD_NONBLOCK);
+    if (watch->fd < 0) {
+        int answer = -errno;
+        free(watch);
+        return answer;
+    }
+    watch->path = (const char *)memcpy(watch + 1, path, size);
+    watch->is_there = !kt_live_walk(live, path, &watch->key) && kt_live_is_there(live, watch->key);
+    watch->next = live->watches;
+    live->watches = watch;
+    return watch->fd;
+}
+
+KT_LIVE_CALL int kt_live_watch(struct kt_live *live, const char *path)
+{
+    struct kt_key key;
+    int answer;
+    kt_live_lock(live);
+    answer = kt_live_walk(live, path, &key);
+    if (answer != -EINVAL)
+        answer = kt_live_new_watch(live, path);
+    kt_live_unlock(live);
+    return answer;
+}
+
+KT_LIVE_CALL int32_t kt_live_unwatch(struct kt_live *live, int fd)
+{
+    struct kt_live_watcher *watch, **at;
+    kt_live_lock(live);
+    for (at = &live->watches; *at && (*at)->fd != fd; at = &(*at)->next)
+        ;
+    watch = *at;
+    if (watch)
+        *at = watch->next;
+    kt_live_unlock(live);
+    if (!watch)
+        return -EBADF;
+    close(fd);
+    free(watch);
+    return 0;
+}
+
+KT_LIVE_CALL int32_t kt_live_notify(struct kt_live *live, struct kt_key device, const char *name)
+{
+    struct kt_key key;
+    int32_t answer;
+    kt_live_lock(live);
+    answer = kt_find(&live->tree, device, name, strlen(name), &key);
+    if (!answer)
+        answer = kt_post(&live->tree, key, &live->post);
+    if (!answer) {
+        answer = kt_notify(&live->post);
+        kt_clear(&live->post);
+    }
+    for (struct kt_live_watcher *it = live->watches; it && !answer; it = it->next)
+        if (it->key.slot == key.slot && it->key.generation == key.generation)
+            kt_live_raise(it);
+    kt_live_unlock(live);
+    return answer;
+}
+
+/* ---- publishing ---- */
+
+/* Whether each attribute has a name and a mode that fits its callbacks (DEVICE_ATTR). Without the lock. */
+static inline bool kt_live_fits(const struct kt_attribute *attributes, size_t count)
+{
+    for (size_t i = 0; i < count; i++) {
+        const struct kt_attribute *it = &attributes[i];
+        if (!it->mode)
+            continue;
+        if (!it->name || (it->mode & ~0666) || !(it->mode & 0444) != !it->show || !(it->mode & 0222) != !it->store)
+            return false;
+    }
+    return true;
+}
+
+/* Tries again to remove what was never live. 0, -ENOMEM. */
+static inline int32_t kt_live_sweep(struct kt_live *live)
+{
+    while (live->remnants) {
+        struct kt_live_device *it = live->remnants;
+        if (kt_remove(&live->tree, it->key))
+            return -ENOMEM;
+        live->remnants = it->next;
+        free(it);
+    }
+    return 0;
+}
+
+/* Makes the directory of a path, not live. */
+static inline int32_t kt_live_create_dir(struct kt_live *live, const char *path, struct kt_key *out)
+{
+    const char *slash = strrchr(path, '/');
+    struct kt_key parent;
+    int32_t answer;
+    if (!slash || !strncmp(path, "//", 2))
+        return -EINVAL;
+    answer = slash == path ? kt_root(&live->tree, &parent)
+                           : kt_walk(&live->tree, path, (size_t)(slash - path), &parent);
+    return answer ? answer : kt_create_dir(&live->tree, parent, slash + 1, strlen(slash + 1), false, out);
+}
+
+static inline int32_t kt_live_create_files(struct kt_live *live, struct kt_live_device *it)
+{
+    struct kt_key file;
+    int32_t answer = 0;
+    for (size_t i = 0; i < it->count && !answer; i++) {
+        const struct kt_attribute *attribute = &it->attributes[i];
+        if (!attribute->mode)
+            continue;
+        answer = kt_create_file(&live->tree, it->key, attribute->name, strlen(attribute->name), attribute->mode, i,
+                                false, &file);
+        it->nodes += !answer;
+    }
+    return answer;
+}
+
+/* Makes all of it, and then all of it live. What could not be made whole goes again; where memory is wanted for that
+ * too it stays without being live, and is the tree's until a later call removes it. */
+static inline int32_t kt_live_add(struct kt_live *live, const char *path, struct kt_live_device *it, struct kt_key *out)
+{
+    int32_t answer = kt_live_sweep(live);
+    if (!answer)
+        answer = kt_live_create_dir(live, path, &it->key);
+    if (answer) {
+        free(it);
+        return answer;
+    }
+    it->nodes = 1;
+    answer = kt_live_create_files(live, it);
+    if (!answer)
+        answer = kt_activate(&live->tree, it->key);
+    if (!answer) {
+        *out = it->key;
+        it->next = live->devices[it->key.slot];
+        live->devices[it->key.slot] = it;
+        live->nodes += it->nodes;
+        kt_live_tidy(live, it->nodes + 1);
+        kt_live_raise_changed(live);
+        return 0;
+    }
+    kt_live_tidy(live, 3 * it->nodes + 1);
+    it->next = live->remnants;
+    live->remnants = it;
+    (void)!kt_live_sweep(live);
+    return answer;
+}
+
+KT_LIVE_CALL int32_t kt_live_publish(struct kt_live *live, const char *path, const struct kt_attribute *attributes,
+                                     size_t count, void *device, struct kt_key *out)
+{
+    struct kt_live_device *it;
+    int32_t answer;
+    if (!kt_live_fits(attributes, count))
+        return -EINVAL;
+    it = (struct kt_live_device *)calloc(1, sizeof *it);
+    if (!it)
+        return -ENOMEM;
+    it->device = device;
+    it->attributes = attributes;
+    it->count = count;
+    kt_live_lock(live);
+    answer = kt_live_add(live, path, it, out);
+    kt_live_unlock(live);
+    return answer;
+}
+
+/* ---- callbacks ---- */
+
+/* Opens the file at a path and begins a callback there; where it is refused nothing was opened. */
+static inline int32_t kt_live_enter(struct kt_live *live, const char *path, bool to_write, struct kt_live_call *call)
+{
+    struct kt_key dir;
+    struct kt_stat stat;
+    int32_t answer = kt_live_walk(live, path, &call->key);
+    if (!answer)
+        answer = kt_open(&live->tree, call->key, !to_write, to_write, &call->file);
+    if (answer)
+        return answer;
+    /* what can be opened is live, and so it is published as long as the lock is held or a call runs there */
+    if (kt_stat(&live->tree, call->key, &stat) || kt_parent(&live->tree, call->key, &dir) ||
+        !(call->device = kt_live_find(live, dir)) || stat.tag >= call->device->count)
+        answer = -EIO;
+    else
+        answer = to_write ? kt_begin_write(&call->file) : kt_begin_read(&call->file, 0);
+    if (answer < 0) {
+        kt_clear(&call->file);
+        pthread_cond_broadcast(&live->lock.left);
+        return answer;
+    }
+    call->attribute = &call->device->attributes[stat.tag];
+    call->data = call->device->device;
+    call->thread = pthread_self();
+    call->is_aside = false;
+    call->next = live->calls;
+    live->calls = call;
+    return 0;
+}
+
+/* The same, without the lock. */
+static inline int32_t kt_live_begin(struct kt_live *live, const char *path, bool to_write, struct kt_live_call *call)
+{
+    int32_t answer = kt_new(&call->file.at);
+    if (answer)
+        return answer;
+    kt_live_lock(live);
+    answer = kt_live_enter(live, path, to_write, call);
+    kt_live_unlock(live);
+    if (answer)
+        kt_delete(call->file);
+    return answer;
+}
+
+/* Ends a callback, and wakes who waits for that. */
+static inline void kt_live_leave(struct kt_live *live, struct kt_live_call *call)
+{
+    struct kt_live_call **at = &live->calls;
+    while (*at != call)
+        at = &(*at)->next;
+    *at = call->next;
+    kt_leave(&call->file);
+    pthread_cond_broadcast(&live->lock.left);
+}
+
+KT_LIVE_CALL int64_t kt_live_read(struct kt_live *live, const char *path, void *out, size_t room)
+{
+    struct kt_live_call call;
+    char page[KT_PAGE_SIZE];
+    int64_t length = kt_live_begin(live, path, false, &call);
+    if (length)
+        return length;
+    memset(page, 0, sizeof page);
+    length = call.attribute->show(call.data, call.attribute, page);
+    kt_live_lock(live);
+    if (length >= 0)
+        kt_shown(&call.file, page, length < KT_PAGE_SIZE ? (size_t)length : KT_PAGE_SIZE);
+    kt_live_leave(live, &call);
+    if (length >= 0)
+        length = kt_copy(&call.file, 0, out, room);
+    kt_clear(&call.file);
+    kt_live_unlock(live);
+    kt_delete(call.file);
+    if (length >= 0 && (size_t)length < room)
+        ((char *)out)[length] = 0;
+    return length;
+}
+
+KT_LIVE_CALL int64_t kt_live_write(struct kt_live *live, const char *path, const char *bytes, size_t length)
+{
+    struct kt_live_call call;
+    char copy[KT_PAGE_SIZE + 1];
+    int64_t answer = kt_live_begin(live, path, true, &call);
+    if (answer)
+        return answer;
+    if (length > KT_PAGE_SIZE)
+        length = KT_PAGE_SIZE;
+    if (length) {
+        memcpy(copy, bytes, length);
+        copy[length] = 0;
+        answer = call.attribute->store(call.data, call.attribute, copy, length);
+    }
+    kt_live_lock(live);
+    kt_live_leave(live, &call);
+    kt_clear(&call.file);
+    kt_live_unlock(live);
+    kt_delete(call.file);
+    return answer;
+}
+
+/* ---- unpublishing ---- */
+
+static inline bool kt_live_is_below(struct kt_live *live, struct kt_key key, struct kt_key top)
+{
+    do {
+        if (key.slot == top.slot && key.generation == top.generation)
+            return true;
+    } while (!kt_parent(&live->tree, key, &key));
+    return false;
+}
+
+/* Breaks the protection of this thread's own callbacks at a node or below it: its removal would wait for them. */
+static inline void kt_live_step_aside(struct kt_live *live, struct kt_key top)
+{
+    for (struct kt_live_call *it = live->calls; it; it = it->next)
+        if (pthread_equal(it->thread, pthread_self()) && kt_live_is_below(live, it->key, top))
+            it->is_aside = kt_break(&it->file) >= 0;
+    pthread_cond_broadcast(&live->lock.left);
+}
+
+/* Takes it again. */
+static inline void kt_live_step_back(struct kt_live *live)
+{
+    for (struct kt_live_call *it = live->calls; it; it = it->next)
+        if (it->is_aside && pthread_equal(it->thread, pthread_self()))
+            it->is_aside = kt_restore(&it->file) != 0;
+}
+
+/* Whether a callback of another thread is in a device's code. */
+static inline bool kt_live_is_used(struct kt_live *live, struct kt_live_device *device)
+{
+    for (struct kt_live_call *it = live->calls; it; it = it->next)
+        if (it->device == device && !pthread_equal(it->thread, pthread_self()))
+            return true;
+    return false;
+}
+
+/* Takes out what is marked, and sleeps as long as somebody is inside. Memory that is wanted is asked for again: what is
+ * marked cannot stay. */
+static inline void kt_live_drain(struct kt_live *live, struct kt_key key)
+{
+    int32_t answer;
+    while ((answer = kt_remove(&live->tree, key)) < 0) {
+        if (answer == -EAGAIN) {
+            pthread_cond_wait(&live->lock.left, &live->lock.mutex);
+            continue;
+        }
+        kt_live_unlock(live);
+        poll(NULL, 0, 10);
+        kt_live_lock(live);
+    }
+}
+
+/* The device is unpublished: of this thread's callbacks none is its any more. */
+static inline void kt_live_forget(struct kt_live *live, struct kt_live_device *device)
+{
+    struct kt_live_device **at = &live->devices[device->key.slot];
+    for (struct kt_live_call *it = live->calls; it; it = it->next)
+        if (it->device == device)
+            it->device = NULL;
+    while (*at != device)
+        at = &(*at)->next;
+    *at = device->next;
+    live->nodes -= device->nodes;
+    kt_live_tidy(live, 2 * device->nodes + 1);
+    free(device);
+}
+
+KT_LIVE_CALL struct kt_key kt_live_self(struct kt_live *live)
+{
+    struct kt_key key = {0, 0};
+    struct kt_live_call *it;
+    kt_live_lock(live);
+    for (it = live->calls; it && !pthread_equal(it->thread, pthread_self()); it = it->next)
+        ;
+    if (it && it->device)
+        key = it->device->key;
+    kt_live_unlock(live);
+    return key;
+}
+
+KT_LIVE_CALL int32_t kt_live_unpublish(struct kt_live *live, struct kt_key key)
+{
+    struct kt_live_device *device;
+    int32_t answer = -ENOENT;
+    bool is_first = false;
+    kt_live_lock(live);
+    device = kt_live_find(live, key);
+    if (device) {
+        answer = kt_claim(&live->tree, key); /* marks it; -ENOENT: it went with one above it */
+        if (answer == 1 || answer == -ENOENT)
+            answer = 0;
+    }
+    if (!answer) {
+        is_first = !device->is_claimed;
+        device->is_claimed = true;
+        kt_live_raise_changed(live);
+        kt_live_step_aside(live, key);
+        kt_live_drain(live, key);
+        while (is_first && kt_live_is_used(live, device))
+            pthread_cond_wait(&live->lock.left, &live->lock.mutex);
+        if (is_first)
+            kt_live_forget(live, device);
+        kt_live_step_back(live);
+        (void)!kt_live_sweep(live);
+    }
+    kt_live_unlock(live);
+    return answer ? answer : is_first;
+}
+
+/* ---- names ---- */
+
+KT_LIVE_CALL int32_t kt_live_list(struct kt_live *live, const char *path, struct kt_live_node *at)
+{
+    struct kt_key dir, key;
+    struct kt_stat stat;
+    char name[KT_NAME_MAX];
+    int64_t length;
+    int32_t answer;
+    kt_live_lock(live);
+    answer = kt_live_walk(live, path, &dir);
+    length = answer ? answer : kt_next(&live->tree, dir, at->name, strlen(at->name), name, sizeof name);
+    if (length > 0) {
+        answer = kt_find(&live->tree, dir, name, (size_t)length, &key);
+        if (!answer)
+            answer = kt_stat(&live->tree, key, &stat);
+        if (!answer) {
+            memcpy(at->name, name, (size_t)length);
+            at->name[length] = 0;
+            at->key = key;
+            at->kind = stat.kind;
+            at->mode = stat.mode;
+            answer = 1;
+        }
+    } else if (!answer && length != -ENOENT) {
+        answer = (int32_t)length;
+    }
+    kt_live_unlock(live);
+    return answer;
+}
+
+#endif /* KT_LIVE_H */
