@@ -35,6 +35,10 @@ pub(super) fn group_of(slot: u32) -> usize
 fn mark(marks: &mut Vec<bool>, first: usize, end: usize)
     ensures marked { (place : ℕ) → slice_get marks.new.items place ≡ Some true →
         ((first ≤ place) × (place < end)) ⊎ (slice_get marks.old.items place ≡ Some true) }
+    ensures each { (place : ℕ) → first ≤ place → place < end → place < length marks.old.items →
+        slice_get marks.new.items place ≡ Some true }
+    ensures kept { (place : ℕ) → slice_get marks.old.items place ≡ Some true →
+        slice_get marks.new.items place ≡ Some true }
     ensures as_many { length marks.new.items ≡ length marks.old.items }
 {
     for place in first..end.min(marks.len()) {
@@ -66,15 +70,20 @@ impl Full {
         self.groups[group_of(slot)] = false;
     }
 
-    /// The search passes over the blocks between two slots from now on: mostly by their groups.
+    /// The search passes over the groups from that of one slot to that of another from now on, and over the
+    /// blocks between the two slots at both ends.
     pub(super) fn pass(&mut self, from: u32, to: u32)
         ensures passed { (slot : ℕ) → IsInFull self.new slot → (slot < to) ⊎ IsInFull self.old slot }
+        ensures groups { (slot : ℕ) → from ≤ slot → slot / 4096 < to / 4096 → Covers self.old slot →
+            slice_get self.new.groups.items (slot / 4096) ≡ Some true }
+        ensures blocks { (slot : ℕ) → from ≤ slot → slot / 64 < to / 64 → Covers self.old slot →
+            IsInFull self.new slot }
         ensures as_many { AsMany self.old self.new }
     {
-        let (first, end) = (group_of(from) + 1, group_of(to));
-        if first <= end {
-            mark(&mut self.blocks, block_of(from), first * 64);
-            mark(&mut self.groups, first, end);
+        let (first, end) = (group_of(from), group_of(to));
+        mark(&mut self.groups, first, end);
+        if first < end {
+            mark(&mut self.blocks, block_of(from), (first + 1) * 64);
             mark(&mut self.blocks, end * 64, block_of(to));
         } else {
             mark(&mut self.blocks, block_of(from), block_of(to));

@@ -1,9 +1,9 @@
 //! Which slots the search for a free one skips: those below the lowest that may be free, and those in full
 //! blocks and groups.
 
-ghost use Rattle.std.specs.Prelude.{ℕ, ◌≡◌, ◌<◌, ◌≤◌, ◌⊎◌, IsTrue, IfOk, IfErr};
+ghost use Rattle.std.specs.Prelude.{ℕ, ◌≡◌, ◌<◌, ◌≤◌, ◌/◌, ◌⊎◌, IsTrue, IfOk, IfErr};
 ghost use Rattle.kf_core.specs.declared.refusal.Refusal.TheVariants.{NoMemory};
-ghost use Rattle.kf_core.specs.Hints.{AsMany, Covers, Skips};
+ghost use Rattle.kf_core.specs.Hints.{AsMany, Covers, IsInFull, Skips};
 
 use crate::refusal::Refusal;
 use crate::world::full::Full;
@@ -51,6 +51,8 @@ impl Hint {
         requires from_one { 1 ≤ lowest }
         ensures skips { (slot : ℕ) → Skips self.new.lowest self.new.full slot → (slot < lowest)
             ⊎ Skips self.old.lowest self.old.full slot }
+        ensures passes { (slot : ℕ) → self.old.lowest ≤ slot → slot / 64 < lowest / 64 →
+            Covers self.old.full slot → IsInFull self.new.full slot }
         ensures as_many { AsMany self.old.full self.new.full }
     {
         self.full.pass(self.lowest, lowest);

@@ -1,8 +1,12 @@
--- What is marked lies in the range, or was marked before.
+-- What is marked lies in the range, or was marked before; and all of it so far is marked.
 use Rattle.std.proofs.Common.{◌≡◌, ℕ, ◌<◌, ◌≤◌, ◌⊎◌, length, true}
 use Rattle.std.specs.Prelude.{slice_get, Some}
 use Rattle.kf_core.proofs.world.full.mark.Given as goal
 
 abbrev pub invariant-loop-place : goal.invariant-loop-place
-invariant-loop-place l = (length l.marks.items ≡ length l.initial.marks.items)
-    × ((place : ℕ) → slice_get l.marks.items place ≡ Some true → ((l.first ≤ place) × (place < l.end)) ⊎ (slice_get l.initial.marks.items place ≡ Some true))
+invariant-loop-place l = record {
+  as_many : length l.marks.items ≡ length l.initial.marks.items;
+  marked : (place : ℕ) → slice_get l.marks.items place ≡ Some true → ((l.first ≤ place) × (place < l.end)) ⊎ (slice_get l.initial.marks.items place ≡ Some true);
+  each : (place : ℕ) → l.first ≤ place → place < l.place → place < length l.marks.items → slice_get l.marks.items place ≡ Some true;
+  kept : (place : ℕ) → slice_get l.initial.marks.items place ≡ Some true → slice_get l.marks.items place ≡ Some true;
+}
