@@ -1,6 +1,6 @@
 //! The entries of an index in chunks: where one comes or goes, only places of its chunk move.
 
-ghost use Rattle.std.specs.Prelude.{◌≡◌, ◌≢◌, ◌∷◌, ◌<◌, ◌≤◌, ◌+◌, ◌*◌, ◌^◌, ℕ, [], length, drop, slice_index_or, vec_capacity, IfErr, IfNone, IfSome, OnErr, OnOk, OnSome};
+ghost use Rattle.std.specs.Prelude.{◌≡◌, ◌≢◌, ◌∷◌, ◌<◌, ◌≤◌, ◌+◌, ◌*◌, ◌^◌, ℕ, [], length, max, drop, slice_index_or, vec_capacity, IfErr, IfNone, IfSome, OnErr, OnOk, OnSome};
 ghost use Rattle.std.specs.Option.{option_copied};
 ghost use Rattle.kf_index.specs.Chunks.{joined, HaveSome, ReachTo, IsPartFor, HasKey, LacksName, IsPut, WasRefused, IsTakenOut};
 ghost use Rattle.kf_index.specs.Pairs.{IsRising, IsFirstAbove};
@@ -11,7 +11,7 @@ use crate::listed::Listed;
 use crate::name::Name;
 use crate::named::{first_above, insert_into, key_in, remove_from};
 use kf_core::{Key, Refusal};
-use std::alloc::Global;
+use std::alloc::{AllocError, Global};
 use std::cmp::Ordering;
 use std::marker::Model;
 
@@ -75,15 +75,31 @@ fn room_of(chunks: &[Chunk]) -> usize
     room
 }
 
+/// Sees to it that there is room for one chunk more. A list that grows has room for twice its chunks.
+fn room_for_one(later: &mut Vec<Chunk>) -> Result<(), AllocError>
+    ensures same { later.new.items ≡ later.old.items }
+    ensures room { OnOk result (length later.new.items < vec_capacity later.new) }
+    ensures stays { length later.old.items < vec_capacity later.old → later.new ≡ later.old }
+    ensures fits { vec_capacity later.new ≤ max (vec_capacity later.old) (2 * length later.old.items + 4) }
+    ensures doubles { vec_capacity later.old < vec_capacity later.new
+        → 2 * vec_capacity later.old ≤ vec_capacity later.new }
+{
+    if later.len() < later.capacity() {
+        return Ok(());
+    }
+    later.reserve_exact(later.len() + 4)
+}
+
 /// Splits the first chunk in two, where it is full and there is memory for that.
 fn split_first(first: &mut Chunk, later: &mut Vec<Chunk>)
     requires some { HaveSome later.old.items }
     ensures same { joined (first.new ∷ later.new.items) ≡ joined (first.old ∷ later.old.items) }
     ensures some { HaveSome later.new.items }
     ensures first { first.new ≡ [] → first.old ≡ [] }
-    ensures full { length first.old < FULL → (first.new ≡ first.old) × (later.new.items ≡ later.old.items) }
+    ensures not_full { length first.old < FULL → (first.new ≡ first.old) × (later.new ≡ later.old) }
+    ensures fits { vec_capacity later.new ≤ max (vec_capacity later.old) (2 * length later.old.items + 4) }
 {
-    if first.all().len() < FULL || later.reserve(1).is_err() {
+    if first.all().len() < FULL || room_for_one(later).is_err() {
         return;
     }
     if let Ok(upper) = first.split() {
@@ -100,10 +116,10 @@ fn split_later(later: &mut Vec<Chunk>, chunk: usize)
     requires some { HaveSome later.old.items }
     ensures same { joined later.new.items ≡ joined later.old.items }
     ensures some { HaveSome later.new.items }
-    ensures full { length (slice_index_or later.old.items chunk []) < FULL
-        → later.new.items ≡ later.old.items }
+    ensures not_full { length (slice_index_or later.old.items chunk []) < FULL → later.new ≡ later.old }
+    ensures fits { vec_capacity later.new ≤ max (vec_capacity later.old) (2 * length later.old.items + 4) }
 {
-    if later[chunk].all().len() < FULL || later.reserve(1).is_err() {
+    if later[chunk].all().len() < FULL || room_for_one(later).is_err() {
         return;
     }
     if let Ok(upper) = later[chunk].split() {
@@ -169,9 +185,11 @@ fn put(first: &mut Chunk, later: &mut Vec<Chunk>, name: Name, key: Key) -> Resul
 }
 
 /// Gives memory of chunks that are gone back, where there is room for more than four times those that are
-/// left.
+/// left. Where no smaller memory can be had it stays; where no chunk is left, all is given back.
 fn thin(later: &mut Vec<Chunk>)
     ensures same { later.new.items ≡ later.old.items }
+    ensures fits { vec_capacity later.new ≤ vec_capacity later.old }
+    ensures freed { length later.old.items ≡ 0 → vec_capacity later.new ≡ 0 }
     ensures stays { length later.old.items ≢ 0 → vec_capacity later.old ≤ 4 * length later.old.items
         → later.new ≡ later.old }
 {

@@ -44,6 +44,11 @@ pub(crate) fn make_room(
         → 2 * vec_capacity entries.old ≤ vec_capacity entries.new }
     ensures doubles_order { vec_capacity order.old < vec_capacity order.new
         → 2 * vec_capacity order.old ≤ vec_capacity order.new }
+    ensures stays { len < length order.old.items → (entries.new ≡ entries.old) × (order.new ≡ order.old) }
+    ensures in_place { length entries.old.items < vec_capacity entries.old
+        → vec_capacity entries.new ≡ vec_capacity entries.old }
+    ensures in_place_order { length order.old.items < vec_capacity order.old
+        → vec_capacity order.new ≡ vec_capacity order.old }
 {
     if len < order.len() {
         return Ok(());
