@@ -12,3 +12,4 @@ pub mod KeptMoves
 pub mod LiveKeys
 pub mod LookUps
 pub mod Climbing
+pub mod LinkedCounts

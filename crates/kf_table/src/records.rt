@@ -1,6 +1,6 @@
-//! The records by slot, and beside each the key of the live one.
+//! The records by slot, and beside each the key of the live one; how many records there are.
 
-ghost use Rattle.std.specs.Prelude.{◌≡◌, ◌<◌, Option, Some, None, IfOk, IfErr, length, map, replicate, slice_get, slice_set};
+ghost use Rattle.std.specs.Prelude.{◌≡◌, ◌<◌, Option, Some, None, IfOk, IfErr, length, map, replicate, slice_get, slice_set, count_by, is_some};
 ghost use Rattle.std.specs.Option.{option_copied, option_and_then};
 ghost use Rattle.kf_core.specs.declared.records.Record.{Record};
 ghost use Rattle.kf_core.specs.Commands.{doomed_record, hidden_record, moved_record};
@@ -20,10 +20,12 @@ pub(crate) struct Records {
     slots: SlotMap<Record>,
     /// The keys of the live ones, by slot: a listing looks at 12 bytes for each name and not at 88.
     live: SlotList<Option<Key>>,
+    /// How many records there are.
+    linked: usize,
 }
 
 impl Model for Records {
-    ghost use Rattle.std.specs.Prelude.{◌≡◌, List, Option, map};
+    ghost use Rattle.std.specs.Prelude.{◌≡◌, List, Option, map, count_by, is_some};
     ghost use Rattle.kf_core.specs.declared.records.Record.{Record};
     ghost use Rattle.kf_table.specs.Live.{live_key};
 
@@ -31,7 +33,8 @@ impl Model for Records {
 
     ghost view = { λ records. records.slots };
 
-    ghost invariant = { λ records. records.live ≡ map live_key records.slots };
+    ghost invariant = { λ records. (records.live ≡ map live_key records.slots)
+        × (records.linked ≡ count_by is_some records.slots) };
 }
 
 /// The key of a slot's record, where that is live.
@@ -65,6 +68,7 @@ impl Records {
         Ok(Records {
             slots: SlotMap::new(alloc, slots as usize)?,
             live: SlotList::new(alloc, slots as usize, None)?,
+            linked: 0,
         })
     }
 
@@ -74,6 +78,14 @@ impl Records {
         ensures known { result ≡ length self.now }
     {
         self.slots.len()
+    }
+
+    /// How many slots have a record.
+    #[inline(always)]
+    pub(crate) fn linked(&self) -> usize
+        ensures known { result ≡ count_by is_some self.now }
+    {
+        self.linked
     }
 
     /// The record in a slot. None also past the last slot.
@@ -100,6 +112,11 @@ impl Records {
         requires within { slot < length self.old }
         ensures put { self.new ≡ slice_set self.old slot (Some entry) }
     {
+        if self.slots.get(slot as usize).is_none() {
+            let slots = self.slots.len();
+            prove!(self.linked < slots);
+            self.linked += 1;
+        }
         self.slots.put(slot as usize, entry);
         note(&mut self.live, &self.slots, slot);
     }
@@ -108,7 +125,9 @@ impl Records {
     pub(crate) fn clear(&mut self, slot: u32)
         ensures cleared { self.new ≡ slice_set self.old slot None }
     {
-        self.slots.take(slot as usize);
+        if self.slots.take(slot as usize).is_some() {
+            self.linked -= 1;
+        }
         note(&mut self.live, &self.slots, slot);
     }
 

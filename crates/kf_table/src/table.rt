@@ -1,6 +1,6 @@
 //! The records of a tree by slot.
 
-ghost use Rattle.std.specs.Prelude.{◌≡◌, ◌≤◌, ◌<◌, ◌↔◌, Some, None, true, false, IsTrue, IfSome, IfOk, IfErr, OnOk, OnErr, length, slice_get, slice_set};
+ghost use Rattle.std.specs.Prelude.{◌≡◌, ◌≤◌, ◌<◌, ◌↔◌, Some, None, true, false, IsTrue, IfSome, IfOk, IfErr, OnOk, OnErr, length, slice_get, slice_set, count_by, is_some};
 ghost use Rattle.std.specs.Option.{option_copied, option_map, option_and_then};
 ghost use Rattle.kf_core.specs.Limits.{most_slots};
 ghost use Rattle.kf_core.specs.declared.key.Key.{Key};
@@ -75,6 +75,14 @@ impl Table {
         ensures known { result ≡ length self.now }
     {
         self.records.len()
+    }
+
+    /// How many records there are.
+    #[inline(always)]
+    pub fn linked(&self) -> usize
+        ensures known { result ≡ count_by is_some self.now }
+    {
+        self.records.linked()
     }
 
     /// The record in a slot.

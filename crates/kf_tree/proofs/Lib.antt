@@ -21,6 +21,7 @@ pub mod Unique
 pub mod OneText
 pub mod RenameRule
 pub mod Apart
+pub mod Distinct
 pub mod Tours
 pub mod PreOrder
 pub mod Replays
@@ -31,3 +32,4 @@ pub mod OneClimb
 pub mod SlotWrites
 pub mod SameMarks
 pub mod MarkChanges
+pub mod CanonicalLengths

@@ -1,5 +1,5 @@
 -- A walk over a subtree from node to node.
-use Rattle.std.proofs.Common.{◌≡◌, ◌≢◌, ◌⊎◌, inl, inr, ℕ, zero, suc, ◌-◌, ◌<◌, refl, ap, arith, sym, ◌∙◌, subst, true, false, List, [], ◌∷◌, ◌++◌, length, lit<}
+use Rattle.std.proofs.Common.{◌≡◌, ◌≢◌, ◌⊎◌, inl, inr, ℕ, zero, suc, ◌-◌, ◌<◌, refl, ap, arith, sym, ◌∙◌, subst, true, false, List, [], ◌∷◌, ◌++◌, length, length-append, lit<}
 use Rattle.std.specs.Prelude.{Bool, not, ◌||◌, Option, None, Some, is_some, IsTrue, ◌↔◌, Contains, AllPairs, count_by}
 use Rattle.std.proofs.lemmas.List.Sums.{count_by-le-length}
 use Rattle.kf_core.specs.declared.key.Key.{Key}
@@ -20,7 +20,9 @@ use Rattle.std.proofs.lemmas.List.Elements.{Contains-append_left, Contains-appen
 use Rattle.std.specs.List.{list_any}
 use Rattle.std.proofs.lemmas.List.Folds.{list_any-append}
 use Rattle.kf_tree.specs.Orders.{IsFirstBelow, IsNextInPostOrder}
+use Rattle.kf_tree.specs.Tours.{IsUpTo}
 use Rattle.kf_tree.proofs.Over.{fewer_over}
+use Rattle.kf_tree.proofs.Distinct.{distinct_from, few_keys}
 use Rattle.kf_tree.proofs.Apart.{dir_of, sub_self, sub_parent, sub_trans, sub_up, sub_down, not_apart, apart_above, apart_child, apart_sibling, before_parent}
 
 -- how far the way down by first children has come
@@ -37,13 +39,6 @@ first_listed t dir bound entry later left = (left.0.0, left.0.1, left.0.3)
 pub none_listed : (t : Tree) (dir : Key) (bound : Option (List ℕ)) → AreNext t dir bound [] → NoneAbove t dir bound
 unfolding AreNext
 none_listed t dir bound left = left
-
--- the keys before the current one in the post-order of the subtree
-pub record IsUpTo (t : Tree) (top current : Key) (keys : List Key) : Type 0 where
-  pub linked : IsTrue (is_linked t current)
-  pub below : IsTrue (in_subtree t top current)
-  pub members : (key : Key) → Contains keys key ↔ (IsTrue (is_linked t key) × IsTrue (in_subtree t top key) × StandsBefore t key current)
-  pub ordered : AllPairs (StandsBefore t) keys
 
 abbrev pub is_pushed : List Key → Key → Bool
 is_pushed keys key = list_any (same_key key) keys
@@ -245,6 +240,20 @@ module _ (t : Tree) (root : Key) (l : Lawful t root) where
     },
     (keys, e ∙ ap (λ k. keys ++ k ∷ []) at),
   )
+
+  -- all of these and the current key are linked, and none is there twice
+  pub fewer_passed : (top current : Key) (keys : List Key) → IsUpTo t top current keys → length keys < length t
+  fewer_passed top current keys u =
+      (let linked : (k : Key) → Contains (keys ++ current ∷ []) k → IsTrue (is_linked t k) = λ k c. elim (Contains-append_cases keys (current ∷ []) k c) [
+        | inl a ↦ ((u.members k).0 a).0
+        | inr b ↦ ap (is_linked t) (sym (only current k b)) ∙ u.linked
+      ] in
+      let ordered = pushed_pairs current keys u.ordered (λ key a. ((u.members key).0 a).2) in
+      let distinct = distinct_from (StandsBefore t) (keys ++ current ∷ []) (λ k c. not_before_itself k (linked k c)) ordered in
+      let few = few_keys (keys ++ current ∷ []) t l.in_place distinct linked in
+      let most = count_by-le-length is_some t in
+      let long = length-append keys (current ∷ []) in
+      omega (arith, few, most, long))
 
   -- one key more is pushed
   pub fewer_left : (top current : Key) (keys new : List Key) → IsUpTo t top current keys → new ≡ keys ++ current ∷ [] → count_by (is_left new) t < count_by (is_left keys) t

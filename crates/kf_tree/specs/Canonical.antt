@@ -1,5 +1,5 @@
--- The canonical list of commands that makes a tree.
-use Rattle.std.specs.Prelude.{◌≡◌, ◌≢◌, ◌⊎◌, ◌↔◌, Bool, false, not, ◌&&◌, List, [], ◌∷◌, ◌++◌, Option, None, Some, IsTrue, Contains, AllPairs, if◌then◌else◌}
+-- The canonical list of commands that makes a tree, and what makes it shorter.
+use Rattle.std.specs.Prelude.{◌≡◌, ◌≢◌, ◌⊎◌, ◌↔◌, ℕ, Bool, false, not, ◌&&◌, List, [], ◌∷◌, ◌++◌, Option, None, Some, IsTrue, Contains, AllPairs, count_by, if◌then◌else◌}
 use Rattle.std.specs.Option.{option_map_or}
 use Rattle.kf_core.specs.declared.key.Key.{Key}
 use Rattle.kf_core.specs.declared.records.Record.{Record}
@@ -51,3 +51,12 @@ hide_of t key = if hidden_in t key then Hide key ∷ [] else []
 abbrev pub IsCanonical : Tree → List Command → Type 0
 IsCanonical t commands = (keys : List Key) × IsPreOrder t keys
     × (commands ≡ collected (create_of t) keys ++ (collected (doom_of t) keys ++ collected (hide_of t) keys))
+
+-- whether the slot has a doomed record whose directory is doomed too: the doom of the top stands for it
+abbrev pub is_doomed_inside : Tree → Option Record → Bool
+is_doomed_inside t slot =
+    option_map_or (λ r. r.marks.doomed && option_map_or (doomed_in t) r.parent false) slot false
+
+-- how many records are doomed inside a doomed directory
+abbrev pub doomed_inside_count : Tree → ℕ
+doomed_inside_count t = count_by (is_doomed_inside t) t

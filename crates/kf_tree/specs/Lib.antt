@@ -12,3 +12,4 @@ pub mod Ways
 pub mod Orders
 pub mod Canonical
 pub mod SlotMarks
+pub mod Tours

@@ -1,5 +1,5 @@
--- The keys of slots, changes of records key by key, and how many are doomed or hidden.
-use Rattle.std.specs.Prelude.{ℕ, ◌+◌, Bool, false, List, Option, None, Some, slice_get, fold, count_by}
+-- The keys of slots, changes of records key by key, and how many are linked, doomed or hidden.
+use Rattle.std.specs.Prelude.{ℕ, ◌+◌, Bool, false, List, Option, None, Some, slice_get, fold, count_by, is_some}
 use Rattle.std.specs.Option.{option_map, option_and_then, option_map_or}
 use Rattle.kf_core.specs.declared.key.Key.{Key}
 use Rattle.kf_core.specs.declared.records.Record.{Record}
@@ -20,7 +20,11 @@ is_over_key t key slot = option_map_or (λ r. in_subtree t r.key key) slot false
 abbrev pub with_changed_slots : (Record → Record) → Tree → List Key → Tree
 with_changed_slots f t keys = fold (λ x key. with_changed_slot f x key.slot) t keys
 
--- ---- doomed records
+-- ---- how many
+
+-- how many records are linked
+abbrev pub linked_count : Tree → ℕ
+linked_count t = count_by is_some t
 
 -- whether the slot has a record that is doomed
 abbrev pub is_doomed_record : Option Record → Bool

@@ -1,6 +1,6 @@
 //! What takes memory: names, and room for commands.
 
-ghost use Rattle.std.specs.Prelude.{◌≡◌, ◌≤◌, ◌<◌, ◌+◌, ◌*◌, ◌^◌, ◌++◌, ◌∷◌, [], vec_capacity, length, IsOk, IfOk, IfErr, OnOk};
+ghost use Rattle.std.specs.Prelude.{◌≡◌, ◌≤◌, ◌<◌, ◌+◌, ◌*◌, ◌^◌, ◌++◌, ◌∷◌, [], vec_capacity, length, max, IsOk, IfOk, IfErr, OnOk};
 
 use kf_core::{Command, NameBytes, Refusal};
 use std::alloc::Global;
@@ -26,6 +26,8 @@ pub(crate) fn make_room(commands: &mut Vec<Command>, later: usize) -> Result<(),
     ensures room { OnOk result (length commands.old.items + 1 + later ≤ vec_capacity commands.new) }
     ensures doubles { OnOk result (vec_capacity commands.old < vec_capacity commands.new
         → 2 * length commands.old.items ≤ vec_capacity commands.new) }
+    ensures fits { vec_capacity commands.new ≤ max (vec_capacity commands.old)
+        (length commands.old.items + max (length commands.old.items) (1 + later)) }
     ensures succeeds { length commands.old.items + 1 + later ≤ vec_capacity commands.old → IsOk result }
     ensures refused { IfErr result (λ refusal. refusal ≡ Refusal.NoMemory) }
 {

@@ -14,8 +14,10 @@ mod paths;
 mod post_order;
 mod stat;
 mod state;
+mod tour;
 
 pub use laws::{answers_are_unique, renames_have_one_rule};
 pub use listing::Names;
 pub use stat::Stat;
 pub use state::State;
+pub use tour::Tour;

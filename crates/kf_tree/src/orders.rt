@@ -27,7 +27,7 @@ pub(crate) fn later_siblings(table: &Table, key: Key) -> Listed<'_>
 }
 
 /// The same for a node below the top of a walk, which ends at its top: no sibling of that is asked for.
-fn later_below(table: &Table, top: Key, key: Key) -> Listed<'_>
+pub(crate) fn later_below(table: &Table, top: Key, key: Key) -> Listed<'_>
     requires lawful { (root : Key) × Lawful table.now root }
     ensures later { key ≢ top → AreLater table.now key result }
 {
@@ -68,6 +68,7 @@ pub(crate) fn next_in_post_order<'t>(
     requires later { key ≢ top → AreLater table.now key later }
     ensures next { IfSome result (λ next. IsNextInPostOrder table.now top key next.0) }
     ensures later { IfSome result (λ next. next.0 ≢ top → AreLater table.now next.0 next.1) }
+    ensures inside { IfSome result (λ _. key ≢ top) }
     ensures end { IfNone result (key ≡ top) }
 {
     if key == top {

@@ -10,6 +10,7 @@ ghost use Rattle.kf_tree.specs.Ends.{EndsWith};
 ghost use Rattle.kf_tree.specs.TreeLogs.{IsNew, IsAccepted, IsReadied, IsCompacted, IsRefused};
 
 mod reads;
+mod tours;
 
 use crate::canonical::canonical_commands;
 use crate::causes::{

@@ -1,16 +1,18 @@
 //! What a state tells: its commands, paths, listings, and what is told of a node. No call changes anything.
 
-ghost use Rattle.std.specs.Prelude.{◌≡◌, ◌↔◌, IfOk, IfErr, IsTrue, slice_get, MatchResult, None, Some, Ok, Err, true, false, length, IfSome};
+ghost use Rattle.std.specs.Prelude.{◌≡◌, ◌↔◌, IfOk, IfErr, IsTrue, slice_get, MatchResult, None, Some, Ok, Err, true, false, length, IfSome, List, ◌+◌};
 ghost use Rattle.std.specs.Option.{option_copied, option_map, ok_or};
+ghost use Rattle.kf_core.specs.declared.command.Command.{Command};
 ghost use Rattle.kf_core.specs.Tree.{record_at, is_linked, in_subtree};
 ghost use Rattle.kf_core.specs.PostOrder.{IsPostOrder};
 ghost use Rattle.kf_tree.specs.Causes.{Refuses, create_fault, create_cause, linked_cause, doom_cause, unlink_cause, list_cause, text_cause};
+ghost use Rattle.kf_tree.specs.Canonical.{IsCanonical, doomed_inside_count};
 ghost use Rattle.kf_tree.specs.Ends.{EndsWith};
 ghost use Rattle.kf_tree.specs.Links.{HasLinkText};
 ghost use Rattle.kf_tree.specs.Listing.{IsListing};
 ghost use Rattle.kf_tree.specs.Paths.{found, walked, seen, walked_parent};
 ghost use Rattle.kf_tree.specs.Stat.{stat_of};
-ghost use Rattle.kf_tree.specs.Subtrees.{key_in};
+ghost use Rattle.kf_tree.specs.Subtrees.{key_in, linked_count, owed_count};
 ghost use Rattle.kf_tree.specs.TreeLogs.{IsKept};
 ghost use Rattle.kf_tree.specs.Ways.{IsPathOf};
 
@@ -44,6 +46,25 @@ impl State {
         ensures kept { IsKept self.now }
     {
         self.commands.as_slice()
+    }
+
+    /// How many commands are stored. Each accepted one adds one, and only [`State::compact`] takes any away.
+    pub fn stored(&self) -> usize
+        ensures known { result ≡ length self.now.commands }
+    {
+        self.commands.len()
+    }
+
+    /// How many commands would be stored after [`State::compact`], at most: one for each linked node but the
+    /// root, one for each doomed node, and one for each hidden one. There are fewer by just the nodes that
+    /// are doomed in a doomed directory, since the doom of the top stands for them. It takes constant time.
+    pub fn compacted(&self) -> usize
+        ensures known { result + 1 ≡ linked_count self.now.tree + owed_count self.now.tree }
+        ensures canonical { (commands : List Command) → IsCanonical self.now.tree commands →
+            length commands + doomed_inside_count self.now.tree ≡ result }
+    {
+        let records = self.table.linked();
+        records - 1 + self.owed
     }
 
     /// Whether there is such a slot, without a record: what [`State::create`] asks of the slot of the next

@@ -1,5 +1,6 @@
 use Rattle.std.proofs.Common.{subst, sym}
-use Rattle.kf_tree.proofs.Tours.{IsUpTo, first_up_to, next_up_to, ended, fewer_left}
+use Rattle.kf_tree.specs.Tours.{IsUpTo}
+use Rattle.kf_tree.proofs.Tours.{first_up_to, next_up_to, ended, fewer_left}
 use Rattle.kf_tree.proofs.post_order.keys_below.Goals as goal
 
 pub visit-init : goal.visit-init

@@ -1,6 +1,7 @@
 use Rattle.std.specs.Prelude.{◌≢◌, count_by}
 use Rattle.kf_tree.specs.Orders.{AreLater}
-use Rattle.kf_tree.proofs.Tours.{IsUpTo, is_left}
+use Rattle.kf_tree.specs.Tours.{IsUpTo}
+use Rattle.kf_tree.proofs.Tours.{is_left}
 use Rattle.kf_tree.proofs.post_order.keys_below.Given as goal
 
 abbrev pub invariant-visit : goal.invariant-visit
