@@ -1,20 +1,24 @@
 -- Where the node of a slot is found in a tree, and the room that loads found for its holds.
-use Rattle.std.proofs.Common.{◌≡◌, ◌⊎◌, inl, inr, ℕ, zero, suc, ◌+◌, ◌<◌, ◌≤◌, refl, ap, sym, ◌∙◌, subst, arith, Bool, true, false, List, length}
-use Rattle.std.specs.Prelude.{Option, None, Some, is_some, slice_get, if◌then◌else◌}
+use Rattle.std.proofs.Common.{◌≡◌, inl, inr, ℕ, zero, suc, ◌<◌, refl, ap, sym, ◌∙◌, arith, Bool, true, false, List, length, [], ◌∷◌, ◌++◌, All}
+use Rattle.std.specs.Prelude.{Contains, Option, None, Some, is_some, slice_get, if◌then◌else◌}
 use Rattle.std.specs.Option.{option_map, option_and_then}
-use Rattle.std.proofs.lemmas.Option.{same_Some, none-some, slice_get_within}
+use Rattle.std.proofs.lemmas.Option.{none-some, slice_get_within}
+use Rattle.std.proofs.lemmas.List.Elements.{All-push, All-contains, Contains-append_cases}
 use Rattle.kf_core.specs.declared.key.Key.{Key}
 use Rattle.kf_core.specs.declared.records.Record.{Record}
 use Rattle.kf_core.specs.declared.refusal.Refusal.{Refusal}
 use Rattle.kf_core.specs.declared.refusal.Refusal.TheVariants.{TooManyHolds}
 use Rattle.kf_core.specs.Keys.{same_key}
 use Rattle.kf_core.specs.declared.slot.SlotState.{SlotState}
-use Rattle.kf_core.specs.Tree.{Tree, with_key, is_linked, parent_of}
+use Rattle.kf_core.specs.Tree.{Tree, with_key, is_linked, parent_of, ancestor}
+use Rattle.kf_core.specs.Lawful.{Lawful}
+use Rattle.kf_core.specs.PostOrder.{IsPostOrder}
+use Rattle.kf_core.proofs.FoundRecords.{in_found, linked_here, met_linked, subtree_to}
 use Rattle.kf_core.proofs.Climbs.{same_key_is, same_key_self, meets_here}
 use Rattle.kf_tree.specs.Subtrees.{key_in}
 use Rattle.kf_words.specs.declared.view.MasterView.{MasterView}
 use Rattle.kf_words.specs.Nodes.{FoundRoom, FoundFull, KeepsRooms, IsLastKey}
-use Rattle.kf_shared.specs.Removal.{IsBelow, FoundRoomBelow, HasRoomIfBelow, HoldsBelowRefused, HoldsInRefused}
+use Rattle.kf_shared.specs.Removal.{FoundRoomBelow, HoldsBelowRefused, HoldsInRefused}
 
 -- a linked key is the key in its slot
 pub linked_in_slot : (t : Tree) (key : Key) → is_linked t key ≡ true → key_in t key.slot ≡ Some key
@@ -37,32 +41,33 @@ found_within t slot key h = go (slice_get t slot) refl h
     go None is h = absurd (none-some key h)
     go (Some r) is h = slice_get_within t slot r is
 
--- the node below the top that is in this slot is the one that was found there
-pub only_key : (t : Tree) (top key other : Key) (slot : ℕ) → key_in t slot ≡ Some key → other.slot ≡ slot → IsBelow t top other → other ≡ key
-only_key t top key other slot found same b = same_Some other key (sym (linked_in_slot t other b.linked) ∙ ap (key_in t) same ∙ found)
+-- a linked key is in one of the slots
+pub linked_within : (t : Tree) (key : Key) → is_linked t key ≡ true → key.slot < length t
+linked_within t key linked = found_within t key.slot key (linked_in_slot t key linked)
 
-pub no_key : (t : Tree) (top other : Key) (slot : ℕ) → key_in t slot ≡ None → other.slot ≡ slot → IsBelow t top other → ⊥
-no_key t top other slot none same b = none-some other (sym none ∙ sym (ap (key_in t) same) ∙ linked_in_slot t other b.linked)
+-- one node more of a tour has room
+pub rooms_more : (m m' : MasterView) (keys : List Key) (key : Key) → All (λ k. FoundRoom m k.slot) keys → KeepsRooms m m' → FoundRoom m' key.slot → All (λ k. FoundRoom m' k.slot) (keys ++ key ∷ [])
+rooms_more m m' keys key before keeps here = All-push (λ k. FoundRoom m' k.slot) keys key (λ i d h. keeps _ (before i d h)) here
 
-split : (n slot : ℕ) → n < slot + 1 → (n < slot) ⊎ (n ≡ slot)
-split zero zero h = inr refl
-split zero (suc s) h = inl (omega arith)
-split (suc n) zero h = absurd (omega (arith, h))
-split (suc n) (suc s) h = elim (split n s (omega (arith, h))) [ inl l ↦ inl (omega (arith, l)) | inr e ↦ inr (ap suc e) ]
-
--- one slot more
-pub rooms_more : (t : Tree) (top : Key) (slot : ℕ) (m m' : MasterView) → ((key : Key) → key.slot < slot → IsBelow t top key → FoundRoom m key.slot) → KeepsRooms m m' → HasRoomIfBelow t top slot m'
-    → (key : Key) → key.slot < slot + 1 → IsBelow t top key → FoundRoom m' key.slot
-rooms_more t top slot m m' before keeps here key near b = elim (split key.slot slot near) [
-  | inl less ↦ keeps key.slot (before key less b)
-  | inr same ↦ subst (FoundRoom m') (sym same) (here key same b)
+-- where each node that a tour passed before its top has room, each node below the top has
+pub all_rooms : (t : Tree) (top key : Key) (m : MasterView) (keys : List Key) → key ≡ top → IsPostOrder t top (keys ++ key ∷ []) → All (λ k. FoundRoom m k.slot) keys → FoundRoomBelow t top m
+all_rooms t top key m keys ends order rooms k b = elim (Contains-append_cases keys (key ∷ []) k ((order.members k).1 (b.linked, b.below))) [
+  | inl among ↦ All-contains (λ x. FoundRoom m x.slot) keys k rooms among
+  | inr last ↦ absurd (b.other (sym (only last) ∙ ends))
 ]
+  where
+    only : Contains (key ∷ []) k → key ≡ k
+    only (zero, h, e) = e
+    only (suc n, h, e) = absurd (omega (arith, h))
 
--- where each slot was looked at, each node below the top has room
-pub all_rooms : (t : Tree) (top : Key) (m : MasterView) (slots : ℕ) → length t ≤ slots → ((key : Key) → key.slot < slots → IsBelow t top key → FoundRoom m key.slot) → FoundRoomBelow t top m
-all_rooms t top m slots all before key b =
-    let near = found_within t key.slot key (linked_in_slot t key b.linked) in
-    before key (omega (arith, near, all)) b
+-- nothing is below a key that is not linked
+pub none_below : (t : Tree) (root top : Key) (m : MasterView) → Lawful t root → is_linked t top ≡ false → FoundRoomBelow t top m
+none_below t root top m l absent key b =
+    (let r = linked_here t key b.linked in
+    let up = subtree_to t root l top key b.below in
+    let x = met_linked t root l up.0 r.0 top r.1 (ap (ancestor t up.0) r.2 ∙ up.1) in
+    let there : is_linked t top ≡ true = ap (is_linked t) (sym x.2) ∙ ap is_some (in_found t x.0 x.1) in
+    absurd (let no : false ≡ true = sym absent ∙ there in cc))
 
 -- the top has room, and so does each node below it; or one of those is full
 pub in_refused : (t : Tree) (top : Key) (m m' : MasterView) (refusal : Refusal) → FoundRoom m top.slot → KeepsRooms m m' → HoldsBelowRefused t top m' refusal → HoldsInRefused t top m' refusal

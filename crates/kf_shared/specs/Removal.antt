@@ -1,5 +1,5 @@
 -- Holds of a subtree, and what its doom makes of what the tree lock keeps.
-use Rattle.std.specs.Prelude.{◌≡◌, ◌≢◌, ◌⊎◌, ℕ, List, [], ◌∷◌, ◌++◌, map, All, MatchBool, true}
+use Rattle.std.specs.Prelude.{◌≡◌, ◌≢◌, ◌⊎◌, List, [], ◌∷◌, ◌++◌, map, All, MatchBool, true}
 use Rattle.kf_core.specs.declared.key.Key.{Key}
 use Rattle.kf_core.specs.declared.command.Command.TheVariants.{Doom}
 use Rattle.kf_core.specs.declared.refusal.Refusal.{Refusal}
@@ -62,10 +62,6 @@ pub record IsBelow (t : Tree) (top key : Key) : Type 0 where
 -- of each linked node below the top a load found room for a hold more
 abbrev pub FoundRoomBelow : Tree → Key → MasterView → Type 0
 FoundRoomBelow t top m = (key : Key) → IsBelow t top key → FoundRoom m key.slot
-
--- where the node of this slot is below the top, a load found room there for a hold more
-abbrev pub HasRoomIfBelow : Tree → Key → ℕ → MasterView → Type 0
-HasRoomIfBelow t top slot m = (key : Key) → key.slot ≡ slot → IsBelow t top key → FoundRoom m slot
 
 -- of the top, and of each linked node below it, a load found room for a hold more
 abbrev pub FoundRoomIn : Tree → Key → MasterView → Type 0

@@ -1,11 +1,14 @@
 //! The guard of the tree lock.
-ghost use Rattle.std.specs.Prelude.{◌≡◌, ◌≤◌, ◌+◌, IfOk, IfErr, OnOk, OnErr, None, true, false, not, vec_capacity, vec_len, slice_set};
+ghost use Rattle.std.specs.Prelude.{◌≡◌, ◌≤◌, ◌+◌, IfOk, IfErr, OnOk, OnErr, None, true, false, not, vec_capacity, vec_len, slice_set, length, List};
 ghost use Rattle.kf_core.specs.declared.key.Key.{Key};
+ghost use Rattle.kf_core.specs.declared.command.Command.{Command};
 ghost use Rattle.kf_core.specs.declared.command.Command.TheVariants.{Activate, Rename, Hide};
 ghost use Rattle.kf_core.specs.declared.refusal.Refusal.TheVariants as refusal_of;
 ghost use Rattle.kf_core.specs.declared.caller.Phase.TheVariants as phase_of;
 ghost use Rattle.kf_core.specs.Tree.{is_linked};
+ghost use Rattle.kf_tree.specs.Canonical.{IsCanonical, doomed_inside_count};
 ghost use Rattle.kf_tree.specs.Causes.{linked_cause};
+ghost use Rattle.kf_tree.specs.Subtrees.{linked_count, owed_count};
 ghost use Rattle.kf_table.specs.Children.{is_there_already};
 ghost use Rattle.kf_tree.specs.TreeLogs.{IsAccepted, IsRefused, IsCompacted};
 ghost use Rattle.kf_words.specs.Callers.{Handle, IsSameSeat, WasHidden, WasShown, seat_view};
@@ -49,6 +52,23 @@ impl<N: Naming> Editor<'_, N> {
         ensures whole { IsWhole N.table self.now }
     {
         self.guard.state()
+    }
+
+    /// How many commands are stored. Each accepted one adds one, and only [`Editor::compact`] takes any away.
+    pub fn stored(&self) -> usize
+        ensures known { result ≡ length self.now.state.commands }
+    {
+        self.state().stored()
+    }
+
+    /// How many commands would be stored after [`Editor::compact`], at most, as [`State::compacted`] tells.
+    pub fn compacted(&self) -> usize
+        ensures known { result + 1 ≡
+            linked_count self.now.state.tree + owed_count self.now.state.tree }
+        ensures canonical { (commands : List Command) → IsCanonical self.now.state.tree commands →
+            length commands + doomed_inside_count self.now.state.tree ≡ result }
+    {
+        self.state().compacted()
     }
 
     /// Links a node in a directory, live where it is asked to be, under the next key of the lowest slot that

@@ -4,7 +4,7 @@ ghost use Rattle.kf_core.specs.declared.key.Key.{Key};
 ghost use Rattle.kf_core.specs.declared.refusal.Refusal.TheVariants as refusal_of;
 ghost use Rattle.kf_words.specs.Nodes.{KeepsNodes, KeepsRooms, FoundFull};
 ghost use Rattle.kf_tree.specs.SlotMarks.{marks_at};
-ghost use Rattle.kf_shared.specs.Removal.{keys_of, IsNew, FoundFullBelow, HasRoomIfBelow, HoldsBelowRefused};
+ghost use Rattle.kf_shared.specs.Removal.{keys_of, IsNew, HoldsBelowRefused};
 
 use kf_core::{Key, Refusal};
 use kf_tree::State;
@@ -46,35 +46,23 @@ pub fn pin_each(master: &mut Master, alloc: Global, keys: &[Key]) -> Result<Vec<
     Ok(holds)
 }
 
-/// Whether one load finds the node of this slot full, where it is below the top.
-fn finds_full_below(state: &State, master: &mut Master, top: Key, slot: u32) -> bool
-    requires slots { length master.old.view.slots ≡ length state.now.tree }
-    ensures kept { KeepsNodes master.old master.new }
-    ensures rooms { KeepsRooms master.old.view master.new.view }
-    ensures full { result ≡ true → FoundFullBelow state.now.tree top master.new.view }
-    ensures room { result ≡ false → HasRoomIfBelow state.now.tree top slot master.new.view }
-{
-    let Some(key) = state.key_in(slot) else {
-        return false;
-    };
-    if key == top || master.room(key) {
-        return false;
-    }
-    state.is_below(top, key)
-}
-
 /// What a removal answers where memory was refused: TooManyHolds where a node below the top is found full,
-/// and NoMemory where each is found to have room. It takes no memory.
+/// and NoMemory where each is found to have room. It takes no memory, and looks at the nodes below alone.
 pub fn full_or_no_memory(state: &State, master: &mut Master, top: Key) -> Refusal
     requires slots { length master.old.view.slots ≡ length state.now.tree }
     ensures kept { KeepsNodes master.old master.new }
     ensures rooms { KeepsRooms master.old.view master.new.view }
     ensures refused { HoldsBelowRefused state.now.tree top master.new.view result }
 {
-    for slot in 0..state.slots() {
-        if finds_full_below(state, master, top, slot) {
+    let _ = state.root();
+    let Some(mut tour) = state.tour(top) else {
+        return Refusal::NoMemory;
+    };
+    'below: while let Some(next) = state.tour_on(tour) {
+        if !master.room(tour.key) {
             return Refusal::TooManyHolds;
         }
+        tour = next;
     }
     Refusal::NoMemory
 }
