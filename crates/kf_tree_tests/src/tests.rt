@@ -8,6 +8,7 @@ mod compaction_tests;
 mod hiding_tests;
 mod large_tests;
 mod naming_tests;
+mod tour_tests;
 
 use crate::answers::first_wrong;
 use kf_core::{Command, Key, Limits, Node, Refusal};

@@ -68,3 +68,23 @@ fn compacts_a_forest_in_its_order(rt: HostRuntime) -> Result<(), Fail> {
     assert_eq!(rt; first_wrong(&answers), None);
     Ok(())
 }
+
+#[test]
+fn tells_how_much_a_compaction_leaves_at_most(rt: HostRuntime) -> Result<(), Fail> {
+    let mut state = new_state(rt.alloc(), 1024)?;
+    let answers = [
+        state.stored() == 0 && state.compacted() == 0,
+        plant_forest(&mut state) == Ok(()),
+        // nine below the root, five doomed (three of them inside `/a`), two hidden
+        state.stored() == 14 && state.compacted() == 16,
+        compact(&mut state) == Ok(()),
+        state.stored() == 13 && state.compacted() == 16,
+        remove(&mut state, b"/a") == Ok(()),
+        // five below the root, one doomed in a directory that is not, one hidden
+        state.compacted() == 7,
+        compact(&mut state) == Ok(()),
+        state.stored() == 7 && state.compacted() == 7,
+    ];
+    assert_eq!(rt; first_wrong(&answers), None);
+    Ok(())
+}
