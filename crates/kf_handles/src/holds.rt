@@ -3,7 +3,7 @@ ghost use Rattle.std.specs.Prelude.{◌≡◌, ◌≢◌, false, IsTrue};
 ghost use Rattle.kf_core.specs.declared.caller.Phase.TheVariants.{Running};
 
 use kf_core::Phase;
-use kf_words::{Call, Hold};
+use kf_words::{Call, Hold, Wake};
 
 /// A hold, released where it is let go.
 pub struct Held {
@@ -66,7 +66,10 @@ impl Inside {
         }
         let (hold, due) = call.leave_quiet();
         hold.release();
-        due.told()
+        match due.told() {
+            Wake::Wanted => true,
+            Wake::Unwanted => false,
+        }
     }
 }
 

@@ -1,19 +1,33 @@
 //! The steps of a hold and a call behind a handle. They need no lock and wake nobody.
 ghost use Rattle.std.specs.Prelude.{◌≡◌, ◌≢◌, ◌⊎◌, pos, negsuc, if◌then◌else◌};
 ghost use Rattle.kf_core.specs.declared.caller.Phase.TheVariants.{Running, Broken};
+ghost use Rattle.kf_words.specs.Callers.{is_wanted};
 ghost use Rattle.kf_handles.specs.Steps.{WasEntered, WasEnteredToShow, WasRefused, enter_error, WasLeft, HasBroken, WasBroken, HasRestored, WasRestored, HasNoReference, IsNotRunning, IsNotBroken, wake_after, wake_of};
 
 use crate::errors::{INVALID, NO_DEVICE};
 use crate::holds::{Held, Inside};
 use crate::object::Seat;
 use kf_core::Phase;
+use kf_words::Wake;
 
 /// 1 where one who sleeps may wait for the step that was made.
-fn told(wanted: bool) -> i32
-    ensures value { result ≡ pos (if wanted then 1 else 0) }
+fn told(wake: Wake) -> i32
+    ensures value { result ≡ pos (if is_wanted wake then 1 else 0) }
     ensures range { (result ≡ pos 0) ⊎ (result ≡ pos 1) }
 {
-    if wanted { 1 } else { 0 }
+    match wake {
+        Wake::Wanted => 1,
+        Wake::Unwanted => 0,
+    }
+}
+
+/// What -ENODEV says after a refused try, whatever its undoing owes: the caller of C wakes those who wait.
+fn no_device(wake: Wake) -> i32
+    ensures { result ≡ negsuc 18 }
+{
+    match wake {
+        Wake::Wanted | Wake::Unwanted => NO_DEVICE,
+    }
 }
 
 /// Tries for a reference.
@@ -27,10 +41,7 @@ pub fn enter(seat: Seat, _nothing: ()) -> (Seat, i32)
     match seat {
         Seat::Hold(held) => match held.into_hold().enter_quiet() {
             Ok(call) => (Seat::Call(Inside::new(call)), 0),
-            Err((hold, due)) => {
-                due.told();
-                (Seat::Hold(Held::new(hold)), NO_DEVICE)
-            }
+            Err((hold, due)) => (Seat::Hold(Held::new(hold)), no_device(due.told())),
         },
         other => (other, INVALID),
     }
@@ -46,10 +57,7 @@ pub fn enter_to_show(seat: Seat) -> (Seat, i32)
     match seat {
         Seat::Hold(held) => match held.into_hold().enter_quiet() {
             Ok(call) => (Seat::Show(Inside::new(call)), 0),
-            Err((back, due)) => {
-                due.told();
-                (Seat::Hold(Held::new(back)), NO_DEVICE)
-            }
+            Err((back, due)) => (Seat::Hold(Held::new(back)), no_device(due.told())),
         },
         other => (other, INVALID),
     }

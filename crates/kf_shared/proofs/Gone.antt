@@ -1,5 +1,5 @@
 -- A key that was linked and is no more is never linked again.
-use Rattle.std.proofs.Common.{◌≡◌, ◌≢◌, inl, inr, ℕ, ◌+◌, ◌≤◌, refl, ap, arith, sym, ◌∙◌, subst, true, false, cond}
+use Rattle.std.proofs.Common.{◌≡◌, ◌≢◌, inl, inr, ℕ, ◌+◌, ◌≤◌, refl, ap, arith, ⊎_elim, sym, ◌∙◌, subst, true, false, cond}
 use Rattle.std.specs.Prelude.{Option, None, Some, slice_get, is_some}
 use Rattle.std.proofs.lemmas.Option.{none-some, same_Some, slice_get_within}
 use Rattle.std.proofs.lemmas.Bool.Decides.{eqb_tells}
@@ -16,6 +16,9 @@ use Rattle.kf_core.specs.Steps.{BareStep, with_marks}
 use Rattle.kf_core.proofs.Climbs.{same_parts}
 use Rattle.kf_core.proofs.Lists.{slice_get-set_same, slice_get-set_other}
 use Rattle.kf_core.proofs.Passing.{HasCome, step_come}
+use Rattle.kf_words.specs.Runs.{Kind}
+use Rattle.kf_words.proofs.WordSteps.{Alone, TakenOut, Came}
+use Rattle.kf_words.proofs.Runs.{alone_come}
 
 -- the key is not linked, and its slot has come to its generation
 pub record Gone (w : BareWorld) (key : Key) : Type 0 where
@@ -79,6 +82,16 @@ stays w (Undo c) w' k s g = subst (λ (x : BareWorld). marks x k ≡ None) (sym 
 
 pub step_gone : (w : BareWorld) (e : Event) (w' : BareWorld) (k : Key) → BareStep w e w' → Gone w k → Gone w' k
 step_gone w e w' k s g = record { unlinked = stays w e w' k s g; come = step_come w e w' k s g.come }
+
+-- the same of a step of the Master that no event tells
+pub alone_gone : (k : Key) (kind : Kind) (w w' : BareWorld) → Alone kind w w' → Gone w k → Gone w' k
+alone_gone k kind w w' a g = record {
+  unlinked = ⊎_elim
+      (λ (o : TakenOut kind w w'). subst (λ (x : BareWorld). marks x k ≡ None) (sym o.is) (linked_else w o.key k o.had None o.linked g.unlinked))
+      (λ (c : Came kind w w'). subst (λ (x : BareWorld). marks x k ≡ None) (sym c.is) g.unlinked)
+      a;
+  come = alone_come k kind w w' a g.come;
+}
 
 -- the key of a parted caller is gone
 pub parted_gone : (w : BareWorld) (c : ℕ) (key : Key) → Safe w → IsCaller w c key Parted → Gone w key

@@ -20,14 +20,14 @@ use Rattle.kf_core.specs.Steps.{BareStep}
 use Rattle.kf_core.specs.Tree.{record_at, is_linked}
 use Rattle.kf_core.proofs.Climbs.{same_parts}
 use Rattle.kf_core.proofs.Lists.{slice_get-set_same}
-use Rattle.kf_core.proofs.Passing.{HasCome, Finished, Lost, step_come, step_lost, step_finished}
-use Rattle.kf_core.proofs.Runs.{bare_run_keeps, seen_finished, linked_has_come}
-use Rattle.kf_words.proofs.Runs.{safe_now, rule_kept, run_is_run, run_is_safe, marked_keeps_out, passed_for_good, born_unheld, try_enters, taken_live, opens_well}
+use Rattle.kf_core.proofs.Passing.{HasCome, Finished, Lost}
+use Rattle.kf_core.proofs.Runs.{seen_finished, linked_has_come}
+use Rattle.kf_words.proofs.Runs.{safe_now, rule_kept, run_holds, come_for_good, lost_for_good, done_for_good, run_is_safe, marked_keeps_out, passed_for_good, born_unheld, try_enters, taken_live, opens_well}
 use Rattle.kf_words.specs.Runs.{Table, world, opened_table, WasLetIn}
 use Rattle.kf_words.specs.declared.view.MasterView.{MasterView}
 use Rattle.kf_shared.specs.Locked.{Locked}
 use Rattle.kf_shared.specs.Running.{IsFreeLock, StartsWell, IsReplay, TreeAgrees, lets_in, StartsLive, RunsLinked, MarkedForGood, RemovedForGood, PartedForGood, HiddenIsStill, HeldNotGiven, HeldIsLast, GoneForGood, TakenWhileLive}
-use Rattle.kf_shared.proofs.Gone.{Gone, step_gone, parted_gone}
+use Rattle.kf_shared.proofs.Gone.{Gone, step_gone, alone_gone, parted_gone}
 
 pub starts_well : StartsWell
 starts_well slots limit start s table some_slot few whole opens =
@@ -85,20 +85,17 @@ dead (Some m) e = off m.activated m.doomed e
 
 pub marked_for_good : MarkedForGood
 marked_for_good slots limit t u kinds s h r free key linked doomed =
-    let events = run_is_run slots limit t u kinds h r in
-    let lost : Lost (world u) key = bare_run_keeps (λ (x : BareWorld). Lost x key) (λ x e y q f. step_lost x e y key q f) events.0 (world t) (world u) events.1 (record { doomed = doomed; come = linked_has_come (world t) key linked }) in
+    let lost : Lost (world u) key = lost_for_good slots limit kinds t u key h r (record { doomed = doomed; come = linked_has_come (world t) key linked }) in
     ((marked_keeps_out slots limit t u kinds h r key linked doomed).1, ap are_live (agrees u s free key) ∙ dead (marks (world u) key) lost.doomed)
 
 pub removed_for_good : RemovedForGood
 removed_for_good slots limit t u kinds s h r free c key phase there past =
-    let events = run_is_run slots limit t u kinds h r in
-    let done : Finished (world u) key = bare_run_keeps (λ (x : BareWorld). Finished x key) (λ x e y q f. step_finished x e y key q f) events.0 (world t) (world u) events.1 (seen_finished (world t) c key phase (safe_now slots limit t h) there past) in
+    let done : Finished (world u) key = done_for_good slots limit kinds t u key h r (seen_finished (world t) c key phase (safe_now slots limit t h) there past) in
     (done.alone, ap are_live (agrees u s free key) ∙ dead (marks (world u) key) done.doomed)
 
 pub parted_for_good : PartedForGood
 parted_for_good slots limit t u kinds s h r free c key there =
-    let events = run_is_run slots limit t u kinds h r in
-    let gone : Gone (world u) key = bare_run_keeps (λ (x : BareWorld). Gone x key) (λ x e y q f. step_gone x e y key q f) events.0 (world t) (world u) events.1 (parted_gone (world t) c key (safe_now slots limit t h) there) in
+    let gone : Gone (world u) key = run_holds (λ (x : BareWorld). Gone x key) (λ x e y q f. step_gone x e y key q f) (alone_gone key) slots limit kinds t u h r (parted_gone (world t) c key (safe_now slots limit t h) there) in
     same_linked u s free key ∙ ap is_some gone.unlinked
 
 pub hidden_is_still : HiddenIsStill
@@ -123,9 +120,8 @@ held_is_last slots limit t u kinds s h r free c key other phase there holds link
 
 pub gone_for_good : GoneForGood
 gone_for_good slots limit t u kinds s h r free key generation last more =
-    let events = run_is_run slots limit t u kinds h r in
     let next : Key = record { slot = key.slot; generation = key.generation + 1 } in
-    let come : HasCome (world u) next = bare_run_keeps (λ (x : BareWorld). HasCome x next) (λ x e y q f. step_come x e y next q f) events.0 (world t) (world u) events.1 (record {
+    let come : HasCome (world u) next = come_for_good slots limit kinds t u next h r (record {
       last = last.0;
       there = last.1;
       come = (let e : last.0.generation ≡ generation = last.2 in omega arith);

@@ -10,7 +10,7 @@ use Rattle.kf_core.specs.Refusals.{first_cause}
 use Rattle.kf_core.specs.Tree.{Tree}
 use Rattle.kf_tree.specs.Causes.{Refuses, hide_cause, hidden_in}
 use Rattle.kf_tree.specs.TreeLogs.{IsAccepted}
-use Rattle.kf_words.specs.declared.view.CallerView.{CallerView}
+use Rattle.kf_words.specs.Callers.{CallerSight}
 use Rattle.kf_words.specs.Callers.{Handle, IsSameSeat, FoundHidden, seat_view}
 use Rattle.kf_words.specs.Runs.{WasAHide, OnlyLookedHidden}
 use Rattle.kf_shared.specs.Locked.{Locked}
@@ -39,8 +39,8 @@ ShowDone old new key = MatchBool (hidden_in old.state.tree key)
     (IsAccepted old.state new.state None (Show key)) (new.state ≡ old.state)
 
 -- one step hid the key, and all others were looks
-abbrev pub HidAndLooked : CallerView → CallerView → Type 0
-HidAndLooked before after = (hid : CallerView) × WasAHide before hid × OnlyLookedHidden hid after
+abbrev pub HidAndLooked : CallerSight → CallerSight → Type 0
+HidAndLooked before after = (hid : CallerSight) × WasAHide before hid × OnlyLookedHidden hid after
 
 -- what the tree may say against the hiding of a file, and the want of memory
 abbrev pub IsHideRefusal : Refusal → Type 0

@@ -8,7 +8,7 @@ use Rattle.kf_core.specs.PostOrder.{IsPostOrder}
 use Rattle.kf_core.specs.Tree.{Tree, is_linked, in_subtree}
 use Rattle.kf_tree.specs.Causes.{doom_cause}
 use Rattle.kf_tree.specs.TreeLogs.{TreeLog}
-use Rattle.kf_words.specs.declared.view.CallerView.{CallerView}
+use Rattle.kf_words.specs.Callers.{CallerSight}
 use Rattle.kf_words.specs.Callers.{TableId, Handle, SeatId, IsSameSeat, id_of}
 use Rattle.kf_words.specs.Runs.{OnlyLooked, OnlyMade, parts}
 use Rattle.kf_words.specs.Nodes.{IsLastKey}
@@ -42,8 +42,8 @@ EndsAt handles hold =
 
 -- all that a hold does while its node is finished: it looks until it sees the drain, and then whether the
 -- node has left the tree
-abbrev pub OnlyWaited : CallerView → CallerView → Type 0
-OnlyWaited before after = (saw : CallerView) × OnlyLooked before saw × OnlyMade parts saw after
+abbrev pub OnlyWaited : CallerSight → CallerSight → Type 0
+OnlyWaited before after = (saw : CallerSight) × OnlyLooked before saw × OnlyMade parts saw after
 
 -- the keys of the node's subtree, in post-order; where the node is not linked, its own alone
 abbrev pub IsDoomList : Tree → Key → List Key → Type 0

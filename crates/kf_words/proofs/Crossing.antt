@@ -3,11 +3,11 @@ use denote.Builtin.{unit}
 use denote.Param.Send.{IsSend, IsSync, owning_send, part_keyless, sendable}
 use Rattle.atomic_table.specs.contracts.shared.Seat as seat
 use Rattle.atomic_table.proofs.shared.Seat.TheSendSync.{the_send}
-use Rattle.kf_words.specs.contracts.view.View as view
+use Rattle.kf_words.specs.contracts.sight.Sight as sight
 use Rattle.kf_words.specs.contracts.master_token.MasterToken.TheInside.{the_row, the_type}
 
-seat_send : IsSend (seat.the_row unit view.the_row)
-seat_send = the_send unit view.the_row (search sendable)
+seat_send : IsSend (seat.the_row unit sight.the_row)
+seat_send = the_send unit sight.the_row (search sendable)
 
 pub token_send : IsSend the_row
 token_send = owning_send the_type (seat_send, tt) (λ d. tt) (λ k x w. (tt, tt))

@@ -18,6 +18,9 @@ pub mod Opening
 pub mod Tells
 pub mod Events
 pub mod WordSteps
+pub mod Keeps
+pub mod Histories
+pub mod OneEnds
 pub mod Runs
 pub mod Made
 pub mod MasterMade

@@ -1,8 +1,8 @@
 -- A run with every kind of step on words: each step is as its table says.
-use Rattle.std.proofs.Common.{◌≡◌, ◌≢◌, true, false, [], ◌∷◌, refl, ltb-true}
+use Rattle.std.proofs.Common.{◌≡◌, ◌≢◌, inl, inr, true, false, [], ◌∷◌, refl, ltb-true}
 use Rattle.std.specs.Prelude.{Some, None}
 use Rattle.kf_core.specs.declared.caller.Phase.TheVariants.{Still, Turned, Running, Broken, Restored, Drained, Parted, Hiding, Hidden, Spent}
-use Rattle.kf_words.specs.TableSteps.{Table, births, breaks, hides, leaves, loads_hold, looks, looks_hidden, looks_over, marks_node, parts, pins_hold, releases, restores, shows, sleeps, awakes, splits_held, splits_linked, stores_fresh, takes_bias, tries, undoes, unlinks, unpins_hold, WordStep}
+use Rattle.kf_words.specs.TableSteps.{Table, births, breaks, hides, leaves, loads_hold, looks, looks_hidden, looks_over, marks_node, parts, pins_hold, releases, restores, shows, sleeps, awakes, splits, stores_fresh, takes_bias, tries, undoes, unlinks, unpins_hold, WordStep}
 use Rattle.kf_words.specs.Life.{with_marks_of, caller_at, master_at, table_at, table_with, WordLife}
 
 still_holds : Still ≢ Spent
@@ -153,8 +153,8 @@ s4 = (master_at 1 (Some (with_marks_of true false)) 0 (None) (None) ([]) (record
 s5 : WordStep t5 (pins_hold 1) t6
 s5 = (master_at 1 (Some (with_marks_of true false)) 0 (None) (None) (record { slot = 1; word = 6442450944 } ∷ []) (record { slot = 1; word = 0 } ∷ []) (None), (ltb-true 1 2 refl, refl, (0, record { slot = 1; word = 6442450944 }, refl, refl, ltb-true 0 3 refl)), record { there = refl; fits = ltb-true 6442450944 18446744073709551616 refl; becomes = refl })
 
-s6 : WordStep t6 (splits_linked 1) t7
-s6 = (master_at 1 (Some (with_marks_of true false)) 0 (Some 1) (None) ([]) (record { slot = 1; word = 0 } ∷ []) (None), refl, refl, ltb-true 1 2 refl, refl, refl)
+s6 : WordStep t6 (splits 1) t7
+s6 = (master_at 1 (Some (with_marks_of true false)) 0 (Some 1) (None) ([]) (record { slot = 1; word = 0 } ∷ []) (None), refl, ltb-true 1 2 refl, refl, refl)
 
 s7 : WordStep t7 (loads_hold 1) t8
 s7 = (master_at 1 (Some (with_marks_of true false)) 1 (None) (None) ([]) (record { slot = 1; word = 0 } ∷ []) (None), ltb-true 1 2 refl, record { there = refl; fits = ltb-true 6442450945 18446744073709551616 refl; becomes = refl })
@@ -162,8 +162,8 @@ s7 = (master_at 1 (Some (with_marks_of true false)) 1 (None) (None) ([]) (record
 s8 : WordStep t8 (pins_hold 1) t9
 s8 = (master_at 1 (Some (with_marks_of true false)) 1 (None) (None) (record { slot = 1; word = 6442450945 } ∷ []) (record { slot = 1; word = 0 } ∷ []) (None), (ltb-true 1 2 refl, refl, (0, record { slot = 1; word = 6442450945 }, refl, refl, ltb-true 1 3 refl)), record { there = refl; fits = ltb-true 6442450945 18446744073709551616 refl; becomes = refl })
 
-s9 : WordStep t9 (splits_held 1 0) t10
-s9 = (master_at 1 (Some (with_marks_of true false)) 1 (Some 1) (None) ([]) (record { slot = 1; word = 0 } ∷ []) (None), (caller_at Still 0 0 0 false, refl, refl, still_holds), refl, ltb-true 1 2 refl, refl, refl)
+s9 : WordStep t9 (splits 1) t10
+s9 = (master_at 1 (Some (with_marks_of true false)) 1 (Some 1) (None) ([]) (record { slot = 1; word = 0 } ∷ []) (None), refl, ltb-true 1 2 refl, refl, refl)
 
 s10 : WordStep t10 (tries 0) t11
 s10 = (caller_at Still 0 0 0 false, (refl, refl), record { there = refl; fits = ltb-true 0 18446744073709551616 refl; becomes = refl })
@@ -228,8 +228,8 @@ s27 = (caller_at Restored 7 3 12884901888 false, (refl, refl), record { there = 
 s28 : WordStep t28 (looks_over 1) t29
 s28 = (master_at 1 (Some (with_marks_of true true)) 2 (None) (None) ([]) (record { slot = 1; word = 0 } ∷ []) (Some (record { slot = 1; word = 12884901889 })), ltb-true 1 2 refl, record { there = refl; fits = ltb-true 12884901888 18446744073709551616 refl; becomes = refl })
 
-s29 : WordStep t29 (unlinks 1 1) t30
-s29 = ((master_at 1 (Some (with_marks_of true true)) 2 (None) (None) ([]) (record { slot = 1; word = 0 } ∷ []) (Some (record { slot = 1; word = 12884901888 })), ((with_marks_of true true, (record { generation = 1; marks = Some (with_marks_of true true) }, refl, refl)), (12884901888, refl, refl)), record { there = refl; fits = ltb-true 6442450946 18446744073709551616 refl; becomes = refl }), (caller_at Drained 8 1 6442450946 false, refl, refl, refl, refl))
+s29 : WordStep t29 (unlinks 1) t30
+s29 = (master_at 1 (Some (with_marks_of true true)) 2 (None) (None) ([]) (record { slot = 1; word = 0 } ∷ []) (Some (record { slot = 1; word = 12884901888 })), ((with_marks_of true true, (record { generation = 1; marks = Some (with_marks_of true true) }, refl, refl)), (12884901888, refl, refl)), record { there = refl; fits = ltb-true 6442450946 18446744073709551616 refl; becomes = refl })
 
 s30 : WordStep t30 (parts 1) t31
 s30 = (caller_at Drained 8 1 6442450946 false, (refl, refl), record { there = refl; fits = ltb-true 4294967298 18446744073709551616 refl; becomes = refl })
@@ -259,4 +259,4 @@ s38 : WordStep t38 (unpins_hold 1) t39
 s38 = (master_at 2 (Some (with_marks_of false false)) 2 (Some 1) (None) ([]) (record { slot = 1; word = 4294967296 } ∷ []) (None), (ltb-true 1 2 refl, refl), record { there = refl; fits = ltb-true 10737418241 18446744073709551616 refl; becomes = refl })
 
 pub lives : WordLife
-lives = (t1, s0, (t2, s1, (t3, s2, (t4, s3, (t5, s4, (t6, s5, (t7, s6, (t8, s7, (t9, s8, (t10, s9, (t11, s10, (t12, s11, (t13, s12, (t14, s13, (t15, s14, (t16, s15, (t17, s16, (t18, s17, (t19, s18, (t20, s19, (t21, s20, (t22, s21, (a22, s22, (a23, a_breaks, (t23, awake, (t24, s23, (t25, s24, (t26, s25, (t27, s26, (t28, s27, (t29, s28, (t30, s29, (t31, s30, (t32, s31, (t33, s32, (t34, s33, (t35, s34, (t36, s35, (t37, s36, (t38, s37, (t39, s38, refl)))))))))))))))))))))))))))))))))))))))))
+lives = (t1, tt, s0, (t2, tt, s1, (t3, tt, s2, (t4, tt, s3, (t5, tt, s4, (t6, tt, s5, (t7, inl refl, s6, (t8, tt, s7, (t9, tt, s8, (t10, inr (0, (caller_at Still 0 0 0 false, refl, refl, still_holds)), s9, (t11, tt, s10, (t12, tt, s11, (t13, tt, s12, (t14, tt, s13, (t15, tt, s14, (t16, tt, s15, (t17, tt, s16, (t18, tt, s17, (t19, tt, s18, (t20, tt, s19, (t21, tt, s20, (t22, tt, s21, (a22, tt, s22, (a23, tt, a_breaks, (t23, tt, awake, (t24, tt, s23, (t25, tt, s24, (t26, tt, s25, (t27, tt, s26, (t28, tt, s27, (t29, tt, s28, (t30, (1, (caller_at Drained 8 1 6442450946 false, refl, refl, refl, refl)), s29, (t31, tt, s30, (t32, tt, s31, (t33, tt, s32, (t34, tt, s33, (t35, tt, s34, (t36, tt, s35, (t37, tt, s36, (t38, tt, s37, (t39, tt, s38, refl)))))))))))))))))))))))))))))))))))))))))

@@ -1,81 +1,143 @@
--- Each step of the Master tells, beside its new view, that a table that meets the rule made it.
-use Rattle.std.proofs.Common.{◌≡◌, ℕ, ◌+◌, false, List, [], refl, sym, ap, ◌∙◌, subst}
-use Rattle.std.specs.Prelude.{slice_get, slice_index, Some}
+-- Each step of the Master is the next of the one run, and tells so beside its new view.
+use Rattle.std.proofs.Common.{◌≡◌, ℕ, ◌+◌, ◌<◌, false, List, [], ◌∷◌, ◌++◌, length, set, refl, sym, ap, ◌∙◌, subst}
+use Rattle.std.specs.Prelude.{slice_get, slice_index, Some, None}
 use mathlib.Core.Option.{some, none}
 use lib.ListN.{get_elem?}
-use Rattle.atomic_table.specs.Table.{Allows, step, stepped, keeps}
+use Rattle.atomic_table.specs.Table.{Allows, Splits, step, stepped, keeps}
 use Rattle.kf_core.specs.declared.slot.Marks.{Marks}
 use Rattle.kf_core.specs.declared.slot.SlotState.{SlotState}
 use Rattle.kf_core.specs.Marks.{fresh_marks}
+use Rattle.kf_words.specs.declared.sight.Opening.{Opening}
+use Rattle.kf_words.specs.declared.sight.Sight.{Sight}
 use Rattle.kf_words.specs.declared.view.MasterView.{MasterView}
 use Rattle.kf_words.specs.declared.view.View.{View}
 use Rattle.kf_words.specs.declared.view.View.TheVariants as seat
-use Rattle.kf_words.specs.Layout.{bit, bias, doom, active_index, slot_of}
+use Rattle.kf_words.specs.Layout.{bit, bias, doom, linked, one_generation, active_index, hold_index, slot_of}
 use Rattle.kf_words.specs.Rule.{Shown}
-use Rattle.kf_words.specs.Steps.{Seated, master_of, with_marks, activated_marks, doomed_marks, unread, On, MasterBecomes}
-use Rattle.kf_words.specs.TableSteps.{Table, Kind, takes_bias, marks_node, plus, minus, Plays, WordStep}
+use Rattle.kf_words.specs.Steps.{Seated, Sighted, plain, master_of, with_load, with_pin, without_pin, after_store, with_birth, with_look, without_node, with_marks, activated_marks, doomed_marks, after_split, hold_for, unread, LoadsHold, MasterBecomes}
+use Rattle.kf_words.specs.Nodes.{FoundRoom, FoundFree, HasMarks, HasLooked, MasterSight, master_sight}
+use Rattle.kf_words.specs.TableSteps.{Table, Kind, loads_hold, pins_hold, unpins_hold, splits, stores_fresh, births, takes_bias, marks_node, looks_over, unlinks, plus, minus, same, Plays, WordStep}
+use Rattle.kf_words.specs.History.{SeenTable, erased, Kept, after_giving, given}
 use Rattle.kf_words.specs.Made.{WasMadeByMaster, MasterMakes}
 use Rattle.kf_words.proofs.Seating.{master_seat}
-use Rattle.kf_words.proofs.MasterAllowed.{active_slot, rise_allowed, mark_allowed}
+use Rattle.kf_words.proofs.Keeps.{view_there, between, now_seen, is_now, step_kept, split_kept, led_here, shown_here}
+use Rattle.kf_words.proofs.MasterAllowed.{active_slot, hold_slot, load_allowed}
 use Rattle.kf_words.proofs.Made.{put}
 
-module _ (count limit homes id : ℕ) (me : Seated) (slot : ℕ) (is : me ≡ (seat.Master (master_of me.0), [])) where
+module _ (o : Opening) (homes id : ℕ) (me : Sighted) (slot : ℕ) (is : plain me ≡ (seat.Master (master_of me.0.view), [])) where
   abbrev m : MasterView
-  m = master_of me.0
+  m = master_of me.0.view
+
+  -- what the step on the word i tells of the view after it, by the word that it found
+  abbrev Tells : ℕ → (ℕ → ℕ → MasterView → MasterView) → (ℕ → Seated → Type 0) → Type 0
+  Tells i after told = (t : Table) → Shown o.slots o.holds t → length t.homes ≡ homes → get_elem? t.views id ≡ some me.0.view → slice_index t.words i < 18446744073709551616
+      → told (slice_index t.words i) (seat.Master (after (slot_of i) (slice_index t.words i) m), me.1)
 
   -- on the word that this index has of the slot
-  there_made : (index : ℕ → ℕ) → slot_of (index slot) ≡ slot → (kind : ℕ → Kind) (f : ℕ → ℕ) (after : ℕ → ℕ → MasterView → MasterView)
+  there_made : (index : ℕ → ℕ) → slot_of (index slot) ≡ slot → (kind : ℕ → Kind) (f : ℕ → ℕ) (after : ℕ → ℕ → MasterView → MasterView) (told : ℕ → Seated → Type 0) → Tells (index slot) after told
       → ((t t' : Table) → Plays t 0 (index slot) f (seat.Master m) (seat.Master (after slot (slice_index t.words (index slot)) m)) t' → WordStep t (kind slot) t')
-      → Allows (Shown count limit) homes id me (index slot) f (On index (MasterBecomes after) (step 0 (index slot) 0 0 none) me)
-      → Allows (Shown count limit) homes id me (index slot) f (MasterMakes index kind after (step 0 (index slot) 0 0 none) me)
-  there_made index back kind f after makes allowed t h far at small =
-      let r = allowed t h far at small in
-      let n : ℕ = slice_index t.words (index slot) in
-      let m' : MasterView = after slot n m in
-      let w_is : r.0 ≡ seat.Master m' = ap (λ (x : Seated). x.0) r.4.1 ∙ ap (λ (k : ℕ). seat.Master (after k n m)) back in
-      let at' : get_elem? t.views id ≡ some (seat.Master m) = at ∙ ap (λ (x : Seated). some x.0) is in
-      let p = master_seat h.master m h.callers id (subst (λ (l : List View). get_elem? l id ≡ some (seat.Master m)) h.views at') in
-      let there : get_elem? t.views 0 ≡ some (seat.Master m) = subst (λ (k : ℕ). get_elem? t.views k ≡ some (seat.Master m)) p.0 at' in
-      let t' : Table = stepped t (index slot) (f n) 0 [] (seat.Master m') keeps in
-      let made : WasMadeByMaster (kind slot) m m' = record {
-        slots = count;
-        limit = limit;
-        found = t;
-        left = t';
-        shown = h;
-        step = makes t t' (record { there = there; fits = small; becomes = refl });
-        was = there;
-        is = put t.views 0 (seat.Master m) (seat.Master m') there;
-      } in (
-        r.0,
-        r.1,
-        r.2,
-        r.3,
+      → Allows (Kept o) homes id me (index slot) f (λ n me'. (index slot ≡ index (slot_of (index slot))) × (told n (plain me') × WasMadeByMaster (kind (slot_of (index slot))) (master_sight me.0) (master_sight me'.0)))
+  there_made index back kind f after told tells makes t h far at small =
+      let e : Table = erased t in
+      let i : ℕ = index slot in
+      let n : ℕ = slice_index t.words i in
+      let k : ℕ = slot_of i in
+      let m' : MasterView = after k n m in
+      let own : get_elem? e.views id ≡ some me.0.view = view_there t.views id me.0 at in
+      let at' : get_elem? e.views id ≡ some (seat.Master m) = own ∙ ap (λ (x : Seated). some x.0) is in
+      let p = master_seat h.shown.master m h.shown.callers id (subst (λ (l : List View). get_elem? l id ≡ some (seat.Master m)) h.shown.views at') in
+      let there : get_elem? e.views 0 ≡ some (seat.Master m) = subst (λ (j : ℕ). get_elem? e.views j ≡ some (seat.Master m)) p.0 at' in
+      let e' : Table = stepped e i (f n) 0 [] (seat.Master m') keeps in
+      let fits : e' ≡ stepped e i (f n) 0 [] (seat.Master (after slot n m)) keeps = ap (λ (j : ℕ). stepped e i (f n) 0 [] (seat.Master (after j n m)) keeps) back in
+      let step : WordStep e (kind k) e' = subst (λ (j : ℕ). WordStep e (kind j) e') (sym back) (makes e e' (record { there = there; fits = small; becomes = fits })) in
+      let w : Sight = record { view = seat.Master m'; seen = now_seen o t h id me.0 at (kind k) } in (
+        w,
+        keeps,
+        tt,
+        step_kept o t h id me.0 at i (f n) w (kind k)
+            (subst (λ (j : ℕ). WordStep e (kind k) (stepped e i (f n) j [] (seat.Master m') keeps)) (sym p.0) step)
+            (is_now o t h id me.0 at (kind k)),
         (
-          r.4.0,
+          ap index (sym back),
           (
-            r.4.1,
-            subst (λ (k : ℕ). WasMadeByMaster (kind k) m (master_of r.0)) (sym back)
-                (subst (λ (x : View). WasMadeByMaster (kind slot) m (master_of x)) (sym w_is) made),
+            tells e h.shown far own small,
+            record {
+              between = between o t h id me.0 at;
+              found = e;
+              left = e';
+              run = led_here o t h id me.0 at;
+              shown = shown_here o t h id me.0 at;
+              step = step;
+              was = there;
+              is = put e.views 0 (seat.Master m) (seat.Master m') there;
+              seen = refl;
+            },
           ),
         ),
       )
 
   master_made : (i : ℕ) (index : ℕ → ℕ) → index slot ≡ i → slot_of (index slot) ≡ slot → (kind : ℕ → Kind) (f : ℕ → ℕ) (after : ℕ → ℕ → MasterView → MasterView)
       → ((t t' : Table) → Plays t 0 (index slot) f (seat.Master m) (seat.Master (after slot (slice_index t.words (index slot)) m)) t' → WordStep t (kind slot) t')
-      → Allows (Shown count limit) homes id me (index slot) f (On index (MasterBecomes after) (step 0 (index slot) 0 0 none) me)
-      → Allows (Shown count limit) homes id me i f (MasterMakes index kind after (step 0 i 0 0 none) me)
-  master_made i index its back kind f after makes allowed =
-      subst (λ (k : ℕ). Allows (Shown count limit) homes id me k f (MasterMakes index kind after (step 0 k 0 0 none) me)) its
-      (there_made index back kind f after makes allowed)
+      → Allows (Kept o) homes id me i f (MasterMakes index kind (MasterBecomes after) (step 0 i 0 0 none) me)
+  master_made i index its back kind f after makes =
+      subst (λ (k : ℕ). Allows (Kept o) homes id me k f (MasterMakes index kind (MasterBecomes after) (step 0 k 0 0 none) me)) its
+      (there_made index back kind f after (MasterBecomes after (step 0 (index slot) 0 0 none) (plain me)) (λ t h far at small. refl) makes)
 
-  pub rise_made : (i : ℕ) (state : SlotState) → active_index slot ≡ i → slice_get m.slots slot ≡ Some state → state.marks ≡ Some fresh_marks
-      → Allows (Shown count limit) homes id me i (minus bias) (MasterMakes active_index takes_bias (unread (with_marks activated_marks)) (step 0 i 0 0 none) me)
-  rise_made i state its at there = master_made i active_index its (active_slot slot (active_index slot) refl) takes_bias (minus bias) (unread (with_marks activated_marks))
-      (λ t t' p. (m, (state, at, there), p)) (rise_allowed count limit homes id me slot (active_index slot) state is refl at there)
+  -- the steps on the hold word
+  module _ (i : ℕ) (its : hold_index slot ≡ i) where
+    abbrev on_hold_word : (kind : ℕ → Kind) (f : ℕ → ℕ) (after : ℕ → ℕ → MasterView → MasterView)
+        → ((t t' : Table) → Plays t 0 (hold_index slot) f (seat.Master m) (seat.Master (after slot (slice_index t.words (hold_index slot)) m)) t' → WordStep t (kind slot) t')
+        → Allows (Kept o) homes id me i f (MasterMakes hold_index kind (MasterBecomes after) (step 0 i 0 0 none) me)
+    on_hold_word = master_made i hold_index its (hold_slot slot (hold_index slot) refl)
 
-  pub mark_made : (i : ℕ) (state : SlotState) (x : Marks) (k : ℕ) → active_index slot ≡ i → slice_get m.slots slot ≡ Some state → state.marks ≡ Some x → x.doomed ≡ false → k ≡ bit x.activated bias + doom
-      → Allows (Shown count limit) homes id me i (plus k) (MasterMakes active_index marks_node (unread (with_marks doomed_marks)) (step 0 i 0 0 none) me)
-  mark_made i state x k its at there undoomed bits = master_made i active_index its (active_slot slot (active_index slot) refl) marks_node (plus k) (unread (with_marks doomed_marks))
-      (λ t t' p. (x, (m, ((state, at, there), undoomed), subst (λ (b : ℕ). Plays t 0 (active_index slot) (plus b) (seat.Master m) (seat.Master (with_marks doomed_marks slot m)) t') bits p)))
-      (mark_allowed count limit homes id me slot (active_index slot) state x k is refl at there undoomed bits)
+    pub load_made : slot < length m.slots → Allows (Kept o) homes id me i same (MasterMakes hold_index loads_hold LoadsHold (step 0 i 0 0 none) me)
+    load_made near =
+        let told : ℕ → ℕ → Seated → Type 0 = λ k. LoadsHold (step 0 k 0 0 none) (plain me) in
+        subst (λ (k : ℕ). Allows (Kept o) homes id me k same (MasterMakes hold_index loads_hold LoadsHold (step 0 k 0 0 none) me)) its
+        (there_made hold_index (hold_slot slot (hold_index slot) refl) loads_hold same with_load (told (hold_index slot))
+        (λ t h far at small. (refl, (load_allowed o.slots o.holds homes id (plain me) slot (hold_index slot) is refl near t h far at small).4.1.1))
+        (λ t t' p. (m, near, p)))
+
+    pub pin_made : slot < length m.slots → m.pinning ≡ None → FoundRoom m slot → Allows (Kept o) homes id me i (plus 1) (MasterMakes hold_index pins_hold (MasterBecomes (unread with_pin)) (step 0 i 0 0 none) me)
+    pin_made near none_yet room = on_hold_word pins_hold (plus 1) (unread with_pin) (λ t t' p. (m, (near, none_yet, room), p))
+
+    pub unpin_made : slot < length m.slots → m.pinning ≡ Some slot → Allows (Kept o) homes id me i (minus 1) (MasterMakes hold_index unpins_hold (MasterBecomes (unread without_pin)) (step 0 i 0 0 none) me)
+    unpin_made near one = on_hold_word unpins_hold (minus 1) (unread without_pin) (λ t t' p. (m, (near, one), p))
+
+    pub birth_made : slot < length m.slots → m.fresh ≡ Some slot → Allows (Kept o) homes id me i (plus (one_generation + linked)) (MasterMakes hold_index births (MasterBecomes (unread with_birth)) (step 0 i 0 0 none) me)
+    birth_made near fresh = on_hold_word births (plus (one_generation + linked)) (unread with_birth) (λ t t' p. (m, (near, fresh), p))
+
+    pub unlink_made : ((x : Marks) × HasMarks m slot x) → HasLooked m slot → Allows (Kept o) homes id me i (minus linked) (MasterMakes hold_index unlinks (MasterBecomes (unread without_node)) (step 0 i 0 0 none) me)
+    unlink_made marks looked = on_hold_word unlinks (minus linked) (unread without_node) (λ t t' p. (m, (marks, looked), p))
+
+  -- the steps on the active word
+  module _ (i : ℕ) (its : active_index slot ≡ i) where
+    abbrev on_active_word : (kind : ℕ → Kind) (f : ℕ → ℕ) (after : ℕ → ℕ → MasterView → MasterView)
+        → ((t t' : Table) → Plays t 0 (active_index slot) f (seat.Master m) (seat.Master (after slot (slice_index t.words (active_index slot)) m)) t' → WordStep t (kind slot) t')
+        → Allows (Kept o) homes id me i f (MasterMakes active_index kind (MasterBecomes after) (step 0 i 0 0 none) me)
+    on_active_word = master_made i active_index its (active_slot slot (active_index slot) refl)
+
+    pub store_made : slot < length m.slots → FoundFree m slot → Allows (Kept o) homes id me i (λ _. bias) (MasterMakes active_index stores_fresh (MasterBecomes (unread after_store)) (step 0 i 0 0 none) me)
+    store_made near free = on_active_word stores_fresh (λ _. bias) (unread after_store) (λ t t' p. (m, (near, free), p))
+
+    pub look_made : slot < length m.slots → Allows (Kept o) homes id me i same (MasterMakes active_index looks_over (MasterBecomes with_look) (step 0 i 0 0 none) me)
+    look_made near = on_active_word looks_over same with_look (λ t t' p. (m, near, p))
+
+    pub rise_made : HasMarks m slot fresh_marks → Allows (Kept o) homes id me i (minus bias) (MasterMakes active_index takes_bias (MasterBecomes (unread (with_marks activated_marks))) (step 0 i 0 0 none) me)
+    rise_made marks = on_active_word takes_bias (minus bias) (unread (with_marks activated_marks)) (λ t t' p. (m, marks, p))
+
+    pub mark_made : (x : Marks) (k : ℕ) → HasMarks m slot x → x.doomed ≡ false → k ≡ bit x.activated bias + doom
+        → Allows (Kept o) homes id me i (plus k) (MasterMakes active_index marks_node (MasterBecomes (unread (with_marks doomed_marks))) (step 0 i 0 0 none) me)
+    mark_made x k marks undoomed bits = on_active_word marks_node (plus k) (unread (with_marks doomed_marks))
+        (λ t t' p. (x, (m, (marks, undoomed), subst (λ (b : ℕ). Plays t 0 (active_index slot) (plus b) (seat.Master m) (seat.Master (with_marks doomed_marks slot m)) t') bits p)))
+
+  -- the pinned hold of a slot gets its seat
+  pub splits_made : slot < length m.slots → m.pinning ≡ Some slot → Splits (Kept o) id me.0 (after_giving me.0) (given me.0)
+  splits_made near pins t h at =
+      let e : Table = erased t in
+      let own : get_elem? e.views id ≡ some me.0.view = view_there t.views id me.0 at in
+      let at' : get_elem? e.views id ≡ some (seat.Master m) = own ∙ ap (λ (x : Seated). some x.0) is in
+      let p = master_seat h.shown.master m h.shown.callers id (subst (λ (l : List View). get_elem? l id ≡ some (seat.Master m)) h.shown.views at') in
+      let there : get_elem? e.views 0 ≡ some (seat.Master m) = subst (λ (j : ℕ). get_elem? e.views j ≡ some (seat.Master m)) p.0 at' in
+      split_kept o t h id me.0 at (after_giving me.0) (given me.0) (splits slot) refl refl
+      (m, there, near, pins, ap (λ (j : ℕ). let x : Table = record { words = t.words; homes = t.homes; views = set e.views j (seat.Master (after_split m)) ++ seat.Caller (hold_for m m.pinning) ∷ [] } in x) p.0)

@@ -1,21 +1,22 @@
 -- What holds over every run of steps of the table.
-use Rattle.std.proofs.Common.{◌≡◌, ◌⊎◌, inl, inr, ℕ, suc, ◌+◌, Bool, true, false, List, [], ◌∷◌, set, if◌then◌else◌, refl, sym, ap, ◌∙◌, subst, ⊎_elim}
-use Rattle.std.specs.Prelude.{slice_get, slice_index, Some}
+use Rattle.std.proofs.Common.{◌≡◌, ◌⊎◌, inl, inr, ℕ, suc, ◌+◌, arith, Bool, true, false, List, [], ◌∷◌, set, if◌then◌else◌, refl, sym, ap, ◌∙◌, subst, ⊎_elim}
+use Rattle.std.specs.Prelude.{slice_get, slice_index, Some, None}
 use Rattle.std.proofs.lemmas.Option.{same_Some, slice_get_within}
 use Rattle.kf_core.specs.declared.key.Key.{Key}
 use Rattle.kf_core.specs.declared.key.Node.TheVariants.{Dir}
 use Rattle.kf_core.specs.declared.caller.Caller.{Caller}
 use Rattle.kf_core.specs.declared.caller.Phase.{Phase}
-use Rattle.kf_core.specs.declared.caller.Phase.TheVariants.{Turned, Running}
+use Rattle.kf_core.specs.declared.caller.Phase.TheVariants.{Still, Turned, Running}
 use Rattle.kf_core.specs.declared.event.Event.{Event}
 use Rattle.kf_core.specs.declared.event.Event.TheVariants.{Enter}
 use Rattle.kf_core.specs.Bare.{BareWorld, IsCaller, is_live}
 use Rattle.kf_core.specs.Phases.{saw_unused}
 use Rattle.kf_core.specs.Safe.{Safe}
-use Rattle.kf_core.specs.Steps.{BareStep, BareRun, OnlySpent}
-use Rattle.kf_core.proofs.Lists.{slice_get-set_same}
+use Rattle.kf_core.specs.Steps.{BareStep, BareRun, OnlySpent, with_caller}
+use Rattle.kf_core.proofs.Lists.{slice_get-set_same, after_push}
 use Rattle.kf_core.proofs.Hiding.{hider_not_live}
-use Rattle.kf_core.proofs.Runs.{doomed_for_good, bare_for_good, bare_passed, step_starts}
+use Rattle.kf_core.proofs.Runs.{seen_finished, linked_has_come, passed_unheld, step_starts}
+use Rattle.kf_core.proofs.Passing.{HasCome, Lost, Finished, linked_come, linked_lost, linked_finished, caller_finished, step_come, step_lost, step_finished, lost_not_live}
 use Rattle.kf_words.specs.declared.view.CallerView.{CallerView}
 use Rattle.kf_words.specs.declared.view.MasterView.{MasterView}
 use Rattle.kf_words.specs.declared.view.View.{View}
@@ -23,36 +24,83 @@ use Rattle.kf_words.specs.declared.view.View.TheVariants as seat
 use Rattle.kf_words.specs.Layout.{active_index}
 use Rattle.kf_words.specs.Rule.{Shown, seats, bare}
 use Rattle.kf_words.specs.Steps.{after_try}
-use Rattle.kf_words.specs.TableSteps.{Table, Kind, tries, world, WordStep}
+use Rattle.kf_words.specs.TableSteps.{Table, Kind, tries, world, WordStep, AttendedRun}
 use Rattle.kf_words.specs.Runs.{WordRun, OpensWell, RuleKept, RunIsRun, RunIsSafe, DrainedForGood, MarkedKeepsOut, HiddenKeepsOut, PassedForGood, BornUnheld, LetInLive, WasLetIn, TakenLive}
 use Rattle.kf_words.proofs.Seating.{seats-set}
 use Rattle.kf_words.proofs.MasterAllowed.{state_there}
 use Rattle.kf_words.proofs.Opening.{opening_shown}
 use Rattle.kf_words.proofs.Events.{try_is_enter, birth_is_born}
-use Rattle.kf_words.proofs.WordSteps.{Led, at, met, world_is, word_step}
+use Rattle.kf_words.proofs.WordSteps.{Led, IsEvent, Alone, TakenOut, Came, at, met, world_is, word_step, attended_event}
 
--- a run keeps the rule, and is a run of events
-pub word_run : (slots limit : ℕ) (kinds : List Kind) (t u : Table) → Shown slots limit t → WordRun t kinds u → Shown slots limit u × ((events : List Event) × BareRun (world t) events (world u))
-word_run slots limit [] t u h r = (subst (λ (x : Table). Shown slots limit x) (sym r) h, ([], ap (λ (x : Table). world x) r))
-word_run slots limit (kind ∷ kinds) t u h r =
-    let s = word_step slots limit t kind r.0 h r.1 in
-    let q = word_run slots limit kinds r.0 u s.0 r.2 in
-    let events : List Event = q.1.0 in (
-      q.0,
-      ⊎_elim
-          (λ (stays : world r.0 ≡ world t). (events, subst (λ (w : BareWorld). BareRun w events (world u)) stays q.1.1))
-          (λ (x : (e : Event) × BareStep (world t) e (world r.0) × ((c : ℕ) → e ≡ Enter c → kind ≡ tries c)). (x.0 ∷ events, (world r.0, x.1, q.1.1)))
-          s.1,
-    )
+-- a run keeps the rule
+word_run : (slots limit : ℕ) (kinds : List Kind) (t u : Table) → Shown slots limit t → WordRun t kinds u → Shown slots limit u
+word_run slots limit [] t u h r = subst (λ (x : Table). Shown slots limit x) (sym r) h
+word_run slots limit (kind ∷ kinds) t u h r = word_run slots limit kinds r.0 u (word_step slots limit t kind r.0 h r.1).0 r.2
+
+-- what each event and each step of the Master alone keeps, a run keeps
+pub run_holds : (P : BareWorld → Type 0) → ((w : BareWorld) (e : Event) (w' : BareWorld) → BareStep w e w' → P w → P w') → ((kind : Kind) (w w' : BareWorld) → Alone kind w w' → P w → P w')
+    → (slots limit : ℕ) (kinds : List Kind) (t u : Table) → Shown slots limit t → WordRun t kinds u → P (world t) → P (world u)
+run_holds P events alone slots limit [] t u h r p = subst (λ (x : Table). P (world x)) (sym r) p
+run_holds P events alone slots limit (kind ∷ kinds) t u h r p =
+    let v : Table = r.0 in
+    let s = word_step slots limit t kind v h r.1 in
+    run_holds P events alone slots limit kinds v u s.0 r.2
+    (⊎_elim
+    (λ (same : world v ≡ world t). subst P (sym same) p)
+    (λ (more : IsEvent kind (world t) (world v) ⊎ Alone kind (world t) (world v)). ⊎_elim
+    (λ (e : IsEvent kind (world t) (world v)). events (world t) e.event (world v) e.step p)
+    (λ (a : Alone kind (world t) (world v)). alone kind (world t) (world v) a p)
+    more)
+    s.1)
+
+pub alone_come : (k : Key) (kind : Kind) (w w' : BareWorld) → Alone kind w w' → HasCome w k → HasCome w' k
+alone_come k kind w w' a h = ⊎_elim
+    (λ (o : TakenOut kind w w'). subst (λ (x : BareWorld). HasCome x k) (sym o.is) (linked_come w o.key k o.had None o.linked h))
+    (λ (c : Came kind w w'). subst (λ (x : BareWorld). HasCome x k) (sym c.is) (record { last = h.last; there = h.there; come = h.come }))
+    a
+
+alone_lost : (k : Key) (kind : Kind) (w w' : BareWorld) → Alone kind w w' → Lost w k → Lost w' k
+alone_lost k kind w w' a f = ⊎_elim
+    (λ (o : TakenOut kind w w'). subst (λ (x : BareWorld). Lost x k) (sym o.is) (linked_lost w o.key k o.had None o.linked (λ _. refl) f))
+    (λ (c : Came kind w w'). subst (λ (x : BareWorld). Lost x k) (sym c.is)
+    (record { doomed = f.doomed; come = record { last = f.come.last; there = f.come.there; come = f.come.come } }))
+    a
+
+alone_finished : (k : Key) (kind : Kind) (w w' : BareWorld) → Alone kind w w' → Finished w k → Finished w' k
+alone_finished k kind w w' a f = ⊎_elim
+    (λ (o : TakenOut kind w w'). subst (λ (x : BareWorld). Finished x k) (sym o.is) (linked_finished w o.key k o.had None o.linked (λ _. refl) f))
+    (λ (c : Came kind w w'). subst (λ (x : BareWorld). Finished x k) (sym c.is)
+    (caller_finished w (with_caller w c.key).callers c.key Still k (λ d y h. after_push w.callers d (record { key = c.key; phase = Still }) y h) (λ e. absurd (let x : Still ≡ Running = e in cc)) f))
+    a
+
+-- a slot that has come to a key's generation stays there, and what is lost or finished stays so
+pub come_for_good : (slots limit : ℕ) (kinds : List Kind) (t u : Table) (k : Key) → Shown slots limit t → WordRun t kinds u → HasCome (world t) k → HasCome (world u) k
+come_for_good slots limit kinds t u k h r = run_holds (λ x. HasCome x k) (λ x e y s p. step_come x e y k s p) (alone_come k) slots limit kinds t u h r
+
+pub lost_for_good : (slots limit : ℕ) (kinds : List Kind) (t u : Table) (k : Key) → Shown slots limit t → WordRun t kinds u → Lost (world t) k → Lost (world u) k
+lost_for_good slots limit kinds t u k h r = run_holds (λ x. Lost x k) (λ x e y s p. step_lost x e y k s p) (alone_lost k) slots limit kinds t u h r
+
+pub done_for_good : (slots limit : ℕ) (kinds : List Kind) (t u : Table) (k : Key) → Shown slots limit t → WordRun t kinds u → Finished (world t) k → Finished (world u) k
+done_for_good slots limit kinds t u k h r = run_holds (λ x. Finished x k) (λ x e y s p. step_finished x e y k s p) (alone_finished k) slots limit kinds t u h r
 
 pub opens_well : OpensWell
 opens_well slots limit start some_slot few = (opening_shown slots limit start some_slot few, refl)
 
 pub rule_kept : RuleKept
-rule_kept slots limit t u kinds h r = (word_run slots limit kinds t u h r).0
+rule_kept slots limit t u kinds h r = word_run slots limit kinds t u h r
 
+-- an attended run is a run, and one of events
 pub run_is_run : RunIsRun
-run_is_run slots limit t u kinds h r = (word_run slots limit kinds t u h r).1
+run_is_run slots limit t u [] h r = (r, [], ap (λ (x : Table). world x) r)
+run_is_run slots limit t u (kind ∷ kinds) h r =
+    let v : Table = r.0 in
+    let q = run_is_run slots limit v u kinds (word_step slots limit t kind v h r.2).0 r.3 in
+    let events : List Event = q.1 in
+    let all : (es : List Event) × BareRun (world t) es (world u) = ⊎_elim
+    (λ (stays : world v ≡ world t). (events, subst (λ (w : BareWorld). BareRun w events (world u)) stays q.2))
+    (λ (x : (e : Event) × BareStep (world t) e (world v)). (x.0 ∷ events, (world v, x.1, q.2)))
+    (attended_event slots limit t kind v h r.2 r.1) in
+    ((v, r.2, q.0), all.0, all.1)
 
 -- the world of a table that meets the rule is safe
 pub safe_now : (slots limit : ℕ) (t : Table) → Shown slots limit t → Safe (world t)
@@ -63,13 +111,17 @@ run_is_safe slots limit t u kinds h r = safe_now slots limit u (rule_kept slots 
 
 pub drained_for_good : DrainedForGood
 drained_for_good slots limit t u kinds h r c key phase there past =
-    let events = run_is_run slots limit t u kinds h r in
-    bare_for_good events.0 (world t) (world u) c key phase (safe_now slots limit t h) there past events.1
+    (done_for_good slots limit kinds t u key h r (seen_finished (world t) c key phase (safe_now slots limit t h) there past)).alone
 
 pub passed_for_good : PassedForGood
 passed_for_good slots limit t u kinds h r key generation last more =
-    let events = run_is_run slots limit t u kinds h r in
-    bare_passed events.0 (world t) (world u) key generation (safe_now slots limit t h) last more events.1
+    let next : Key = record { slot = key.slot; generation = key.generation + 1 } in
+    passed_unheld (world u) key (safe_now slots limit u (rule_kept slots limit t u kinds h r))
+    (come_for_good slots limit kinds t u next h r (record {
+      last = last.0;
+      there = last.1;
+      come = (let e : last.0.generation ≡ generation = last.2 in omega (arith, more, e));
+    }))
 
 pub born_unheld : BornUnheld
 born_unheld slots limit t u kinds g r slot v s =
@@ -128,8 +180,7 @@ enter_refused w w' j key phase s there dead =
 pub marked_keeps_out : MarkedKeepsOut
 marked_keeps_out slots limit t u kinds g r key linked doomed =
     let k = rule_kept slots limit t u kinds g r in
-    let events = run_is_run slots limit t u kinds g r in
-    let dead = doomed_for_good events.0 (world t) (world u) key linked doomed events.1 in (
+    let dead = lost_not_live (world u) key (lost_for_good slots limit kinds t u key g r (record { doomed = doomed; come = linked_has_come (world t) key linked })) in (
       dead,
       λ j old v tried s. enter_refused (world u) (world v) j key old (try_enters slots limit u v k j s) tried dead,
     )
@@ -145,10 +196,19 @@ hidden_keeps_out slots limit t u kinds g r c key phase there hiding =
 started : (kind : Kind) (w w' : BareWorld) (c : ℕ) (key : Key) → Led kind w w' → IsCaller w' c key Running → IsCaller w c key Running ⊎ ((kind ≡ tries c) × (is_live w key ≡ true))
 started kind w w' c key l runs = ⊎_elim
     (λ (stays : w' ≡ w). inl (subst (λ (x : BareWorld). IsCaller x c key Running) stays runs))
-    (λ (x : (e : Event) × BareStep w e w' × ((d : ℕ) → e ≡ Enter d → kind ≡ tries d)). ⊎_elim
+    (λ (more : IsEvent kind w w' ⊎ Alone kind w w'). ⊎_elim
+    (λ (x : IsEvent kind w w'). ⊎_elim
     (λ (old : IsCaller w c key Running). inl old)
-    (λ (new : (x.0 ≡ Enter c) × (is_live w key ≡ true)). inr (x.2 c new.0, new.1))
-    (step_starts w x.0 w' x.1 c key runs))
+    (λ (new : (x.event ≡ Enter c) × (is_live w key ≡ true)). inr (x.only c new.0, new.1))
+    (step_starts w x.event w' x.step c key runs))
+    (λ (a : Alone kind w w'). inl (⊎_elim
+    (λ (o : TakenOut kind w w'). subst (λ (x : BareWorld). slice_get x.callers c ≡ Some (record { key = key; phase = Running })) o.is runs)
+    (λ (p : Came kind w w'). ⊎_elim
+    (λ (new : ◌≡◌ {A = Caller} (record { key = p.key; phase = Still }) (record { key = key; phase = Running })). absurd (let x : Still ≡ Running = ap (λ (y : Caller). y.phase) new in cc))
+    (λ (old : slice_get w.callers c ≡ Some (record { key = key; phase = Running })). old)
+    (after_push w.callers c (record { key = p.key; phase = Still }) (record { key = key; phase = Running }) (subst (λ (x : BareWorld). slice_get x.callers c ≡ Some (record { key = key; phase = Running })) p.is runs)))
+    a))
+    more)
     l
 
 pub taken_live : TakenLive

@@ -11,9 +11,12 @@ use Rattle.kf_core.specs.declared.event.Event.{Event}
 use Rattle.kf_core.specs.declared.event.Event.TheVariants.{Born, Rise, Mark, Pin, Enter, Leave, Break, Restore, Look, Unlink, Part, Hide, LookHidden, Show, Release, Undo}
 use Rattle.kf_core.specs.declared.slot.Marks.{Marks}
 use Rattle.kf_core.specs.declared.slot.SlotState.{SlotState}
-use Rattle.kf_core.specs.Bare.{BareWorld, IsCaller, marks_in}
-use Rattle.kf_core.specs.Marks.{fresh_marks}
+use Rattle.kf_core.specs.Bare.{BareWorld, IsCaller, marks, marks_in}
+use Rattle.kf_core.specs.Marks.{fresh_marks, are_doomed}
 use Rattle.kf_core.specs.Steps.{BareStep, MayPin}
+use Rattle.kf_core.specs.Steps as core
+use Rattle.kf_core.specs.declared.caller.Caller.{Caller}
+use mathlib.Core.List.{map-append}
 use Rattle.kf_core.proofs.SlotStates.{shown}
 use Rattle.kf_core.proofs.Keeping.{same_key}
 use Rattle.kf_words.specs.declared.view.CallerView.{CallerView}
@@ -22,19 +25,50 @@ use Rattle.kf_words.specs.declared.view.View.{View}
 use Rattle.kf_words.specs.declared.view.View.TheVariants as seat
 use Rattle.kf_words.specs.Layout.{bit, bias, doom, hide, linked, one_generation, active_index, hold_index, sleepers_index, slot_of, is_drained, has_hide, is_unused, has_linked}
 use Rattle.kf_words.specs.Rule.{Shows, Shown, seats, bare, caller, last_key}
-use Rattle.kf_words.specs.Steps.{Seated, caller_of, no_state, state_at, after_try, after_undo, after_leave, after_break, after_restore, after_look, after_part, after_hide, after_look_hidden, after_show, after_release, unmoved, after_split, hold_for, with_load, with_pin, without_pin, after_store, with_birth, with_marks, activated_marks, doomed_marks, with_look, without_node, unread, CallerBecomes, On, MasterBecomes, LoadsHold, ShowsKey}
+use Rattle.kf_words.specs.Steps.{Seated, caller_of, no_state, state_at, after_try, after_undo, after_leave, after_break, after_restore, after_look, after_part, after_hide, after_look_hidden, after_show, after_release, unmoved, after_split, new_hold, hold_for, with_load, with_pin, without_pin, after_store, with_birth, with_marks, activated_marks, doomed_marks, with_look, without_node, unread, CallerBecomes, On, MasterBecomes, LoadsHold, ShowsKey}
 use Rattle.kf_words.specs.Nodes.{marks_of}
-use Rattle.kf_words.specs.TableSteps.{Table, Kind, tries, undoes, leaves, breaks, restores, looks, parts, hides, looks_hidden, shows, releases, sleeps, awakes, loads_hold, pins_hold, unpins_hold, splits_linked, splits_held, stores_fresh, births, takes_bias, marks_node, looks_over, unlinks, plus, minus, same, with_hide, master_in, callers_in, world, IsSeated, HoldsSlot, WordStep}
+use Rattle.kf_words.specs.TableSteps.{Table, Kind, tries, undoes, leaves, breaks, restores, looks, parts, hides, looks_hidden, shows, releases, sleeps, awakes, loads_hold, pins_hold, unpins_hold, splits, stores_fresh, births, takes_bias, marks_node, looks_over, unlinks, plus, minus, same, with_hide, master_in, callers_in, world, IsSeated, HoldsSlot, IsDrainedOn, IsPinnable, IsAttended, WordStep}
 use Rattle.kf_words.proofs.Bits.{bool_cases}
 use Rattle.kf_words.proofs.Seating.{caller_seat, master_seat, seats-set, seats-push}
 use Rattle.kf_words.proofs.CallerAllowed.{no_step, try_allowed, undo_allowed, leave_allowed, break_allowed, restore_allowed, look_allowed, release_allowed, part_allowed, hide_allowed, look_hidden_allowed, show_allowed}
 use Rattle.kf_words.proofs.Sleepers.{put_same, sleep_allowed}
-use Rattle.kf_words.proofs.MasterAllowed.{active_slot, hold_slot, hold_allows, pin_owes, unpin_owes, birth_owes, unlink_owes, splits, state_there, look_allowed as look_over_allowed, fresh_allowed, load_allowed, rise_allowed, mark_allowed}
+use Rattle.kf_words.proofs.MasterAllowed.{active_slot, hold_slot, hold_allows, pin_owes, unpin_owes, birth_owes, unlink_owes, splits as splits_shown, state_there, look_allowed as look_over_allowed, fresh_allowed, load_allowed, rise_allowed, mark_allowed}
 use Rattle.kf_words.proofs.Events.{try_is_enter, undo_is_undo, look_is_look, part_is_part, leave_is_leave, break_is_break, restore_is_restore, release_is_release, hide_is_hide, look_hidden_is_look, show_is_show, miss_is_nothing, rise_is_rise, mark_is_mark, birth_is_born, unlink_is_unlink, split_is_pin}
 
--- the next world is the same, or an event leads there, and only a try is an Enter
+-- a doomed node on which nobody runs was taken out, with no caller that is drained there
+pub record TakenOut (kind : Kind) (w w' : BareWorld) : Type 0 where
+  pub slot : ℕ
+  pub kind_is : kind ≡ unlinks slot
+  pub key : Key
+  pub had : Marks
+  pub linked : marks w key ≡ Some had
+  pub doomed : had.doomed ≡ true
+  pub is : w' ≡ core.with_marks w key None
+
+-- a caller came to a key, with no other that holds it
+pub record Came (kind : Kind) (w w' : BareWorld) : Type 0 where
+  pub slot : ℕ
+  pub kind_is : kind ≡ splits slot
+  pub key : Key
+  pub is : w' ≡ core.with_caller w key
+
+-- what an unattended step of the Master makes of the world
+abbrev pub Alone : Kind → BareWorld → BareWorld → Type 0
+Alone kind w w' = TakenOut kind w w' ⊎ Came kind w w'
+
+-- an event that only a try makes an Enter
+pub record IsEvent (kind : Kind) (w w' : BareWorld) : Type 0 where
+  pub event : Event
+  pub step : BareStep w event w'
+  pub only : (c : ℕ) → event ≡ Enter c → kind ≡ tries c
+
+-- the next world is the same, or an event leads there, or the Master's step alone
 abbrev pub Led : Kind → BareWorld → BareWorld → Type 0
-Led kind w w' = (w' ≡ w) ⊎ ((e : Event) × BareStep w e w' × ((c : ℕ) → e ≡ Enter c → kind ≡ tries c))
+Led kind w w' = (w' ≡ w) ⊎ (IsEvent kind w w' ⊎ Alone kind w w')
+
+-- by an event
+happens : (kind : Kind) (w w' : BareWorld) (e : Event) → BareStep w e w' → ((c : ℕ) → e ≡ Enter c → kind ≡ tries c) → Led kind w w'
+happens kind w w' e step only = inr (inl (record { event = e; step = step; only = only }))
 
 -- the rule holds after the step, and the worlds are led
 abbrev Goes : Kind → ℕ → ℕ → Table → Table → Type 0
@@ -158,23 +192,43 @@ module _ (slots limit : ℕ) (t t' : Table) (h0 : Shown slots limit t) (m : Mast
   last_marks : (slot : ℕ) (state : SlotState) (o : Option Marks) → slice_get m.slots slot ≡ Some state → state.marks ≡ o → marks_of m (last_key slot state) ≡ o
   last_marks slot state o its is = ap (λ (x : Option SlotState). marks_in x state.generation) its ∙ shown state.generation state.marks ∙ is
 
-  split_goes : (kind : Kind) (slot : ℕ) (state : SlotState) → slice_get m.slots slot ≡ Some state → m.pinning ≡ Some slot → MayPin (bare m cs) (last_key slot state)
-      → t' ≡ record { words = t.words; homes = t.homes; views = set t.views 0 (seat.Master (after_split m)) ++ seat.Caller (hold_for m m.pinning) ∷ [] } → Goes kind slots limit t t'
-  split_goes kind slot state its pins may becomes =
+  split_views : t' ≡ record { words = t.words; homes = t.homes; views = set t.views 0 (seat.Master (after_split m)) ++ seat.Caller (hold_for m m.pinning) ∷ [] }
+      → t'.views ≡ seats (after_split m) (cs ++ hold_for m m.pinning ∷ [])
+  split_views becomes =
+      ap (λ (x : Table). x.views) becomes ∙ ap (λ (l : List View). set l 0 (seat.Master (after_split m)) ++ seat.Caller (hold_for m m.pinning) ∷ []) met.views ∙ seats-push (after_split m) cs (hold_for m m.pinning)
+
+  split_goes : (slot : ℕ) (state : SlotState) → slice_get m.slots slot ≡ Some state → m.pinning ≡ Some slot
+      → t' ≡ record { words = t.words; homes = t.homes; views = set t.views 0 (seat.Master (after_split m)) ++ seat.Caller (hold_for m m.pinning) ∷ [] } → Goes (splits slot) slots limit t t'
+  split_goes slot state its pins becomes =
       let new : CallerView = hold_for m m.pinning in
-      let views : t'.views ≡ seats (after_split m) (cs ++ new ∷ []) =
-      ap (λ (x : Table). x.views) becomes ∙ ap (λ (l : List View). set l 0 (seat.Master (after_split m)) ++ seat.Caller new ∷ []) met.views ∙ seats-push (after_split m) cs new in (
-        subst (λ (x : Table). Shown slots limit x) (sym becomes) (splits slots limit 0 (seat.Master m) slot state refl its pins t met there),
-        led kind t t' (bare m cs) (bare (after_split m) (cs ++ new ∷ [])) (world_is t m cs met.views) (world_is t' (after_split m) (cs ++ new ∷ []) views)
-            (inr (Pin (length cs) (last_key slot state), split_is_pin slots limit t met slot state pins its may, λ c e. absurd (let x : Pin (length cs) (last_key slot state) ≡ Enter c = e in cc))),
+      let views : t'.views ≡ seats (after_split m) (cs ++ new ∷ []) = split_views becomes in
+      let key : Key = last_key slot state in
+      let who : new ≡ new_hold key = ap (hold_for m) pins ∙ ap (λ (y : SlotState). new_hold (last_key slot y)) (get_or_from_slice_get m.slots slot state no_state its) in
+      let came : bare (after_split m) (cs ++ new ∷ []) ≡ core.with_caller (bare m cs) key =
+      ap (λ (l : List Caller). let w : BareWorld = record { slots = m.slots; callers = l } in w)
+      (map-append caller cs (new ∷ []) ∙ ap (λ (y : CallerView). map caller cs ++ caller y ∷ []) who) in (
+        subst (λ (x : Table). Shown slots limit x) (sym becomes) (splits_shown slots limit 0 (seat.Master m) slot state refl its pins t met there),
+        led (splits slot) t t' (bare m cs) (bare (after_split m) (cs ++ new ∷ [])) (world_is t m cs met.views) (world_is t' (after_split m) (cs ++ new ∷ []) views)
+            (inr (inr (inr (record { slot = slot; kind_is = refl; key = key; is = came })))),
       )
 
+  -- where it was attended, it is a Pin
+  pub split_pins : (slot : ℕ) (state : SlotState) → slice_get m.slots slot ≡ Some state → m.pinning ≡ Some slot → MayPin (bare m cs) (last_key slot state)
+      → t' ≡ record { words = t.words; homes = t.homes; views = set t.views 0 (seat.Master (after_split m)) ++ seat.Caller (hold_for m m.pinning) ∷ [] }
+      → BareStep (world t) (Pin (length cs) (last_key slot state)) (world t')
+  split_pins slot state its pins may becomes =
+      let new : CallerView = hold_for m m.pinning in
+      let is = world_is t m cs met.views in
+      let is' = world_is t' (after_split m) (cs ++ new ∷ []) (split_views becomes) in
+      subst (λ (w : BareWorld). BareStep w (Pin (length cs) (last_key slot state)) (world t')) (sym is)
+      (subst (λ (w : BareWorld). BareStep (bare m cs) (Pin (length cs) (last_key slot state)) w) (sym is') (split_is_pin slots limit t met slot state pins its may))
+
   -- a linked node, or a holder of its slot, lets it be pinned
-  linked_pins : (slot : ℕ) (state : SlotState) → slice_get m.slots slot ≡ Some state → is_some (state_at m slot).marks ≡ true → MayPin (bare m cs) (last_key slot state)
+  pub linked_pins : (slot : ℕ) (state : SlotState) → slice_get m.slots slot ≡ Some state → is_some (state_at m slot).marks ≡ true → MayPin (bare m cs) (last_key slot state)
   linked_pins slot state its linked_is =
       inl (ap is_some (last_marks slot state state.marks its refl) ∙ ap (λ (x : SlotState). is_some x.marks) (sym (get_or_from_slice_get m.slots slot state no_state its)) ∙ linked_is)
 
-  held_pins : (slot : ℕ) (state : SlotState) → slice_get m.slots slot ≡ Some state → (j : ℕ) → HoldsSlot t slot j → MayPin (bare m cs) (last_key slot state)
+  pub held_pins : (slot : ℕ) (state : SlotState) → slice_get m.slots slot ≡ Some state → (j : ℕ) → HoldsSlot t slot j → MayPin (bare m cs) (last_key slot state)
   held_pins slot state its j holder =
       let c : CallerView = holder.0 in
       let in_w = in_world cs j c (at slots limit t t h0 j c holder.1) in
@@ -190,31 +244,31 @@ word_step slots limit t (tries j) t' h s =
     caller_goes slots limit t t' h j c s.2.there (tries j) (active_index c.key.slot) (plus 1) after_try (CallerBecomes after_try no_step (seat.Caller c, []))
     (try_allowed slots limit (length t.homes) (suc j) (seat.Caller c, []) (active_index c.key.slot) refl refl s.1)
     (λ me' e. ap (λ (x : Seated). x.0) e) s.2.fits s.2.becomes
-    (inr (Enter j, try_is_enter slots limit t h j c (at slots limit t t' h j c s.2.there) s.1, λ c e. let x : Enter j ≡ Enter c = e in let one : j ≡ c = cc in ap tries one))
+    (happens _ _ _ (Enter j) (try_is_enter slots limit t h j c (at slots limit t t' h j c s.2.there) s.1) (λ c e. let x : Enter j ≡ Enter c = e in let one : j ≡ c = cc in ap tries one))
 word_step slots limit t (undoes j) t' h s =
     let c : CallerView = s.0 in
     caller_goes slots limit t t' h j c s.2.there (undoes j) (active_index c.key.slot) (minus 1) (λ _. after_undo) (CallerBecomes (λ _. after_undo) no_step (seat.Caller c, []))
     (undo_allowed slots limit (length t.homes) (suc j) (seat.Caller c, []) (active_index c.key.slot) refl refl s.1.0 s.1.1)
     (λ me' e. ap (λ (x : Seated). x.0) e) s.2.fits s.2.becomes
-    (inr (Undo j, undo_is_undo slots limit t h j c (at slots limit t t' h j c s.2.there) s.1.0 s.1.1, λ c e. absurd (let x : Undo j ≡ Enter c = e in cc)))
+    (happens _ _ _ (Undo j) (undo_is_undo slots limit t h j c (at slots limit t t' h j c s.2.there) s.1.0 s.1.1) (λ c e. absurd (let x : Undo j ≡ Enter c = e in cc)))
 word_step slots limit t (leaves j) t' h s =
     let c : CallerView = s.0 in
     caller_goes slots limit t t' h j c s.2.there (leaves j) (active_index c.key.slot) (minus 1) after_leave (CallerBecomes after_leave no_step (seat.Caller c, []))
     (leave_allowed slots limit (length t.homes) (suc j) (seat.Caller c, []) (active_index c.key.slot) refl refl s.1)
     (λ me' e. ap (λ (x : Seated). x.0) e) s.2.fits s.2.becomes
-    (inr (Leave j, leave_is_leave slots limit t h j c (at slots limit t t' h j c s.2.there) s.1 (slice_index t.words (active_index c.key.slot)), λ c e. absurd (let x : Leave j ≡ Enter c = e in cc)))
+    (happens _ _ _ (Leave j) (leave_is_leave slots limit t h j c (at slots limit t t' h j c s.2.there) s.1 (slice_index t.words (active_index c.key.slot))) (λ c e. absurd (let x : Leave j ≡ Enter c = e in cc)))
 word_step slots limit t (breaks j) t' h s =
     let c : CallerView = s.0 in
     caller_goes slots limit t t' h j c s.2.there (breaks j) (active_index c.key.slot) (minus 1) after_break (CallerBecomes after_break no_step (seat.Caller c, []))
     (break_allowed slots limit (length t.homes) (suc j) (seat.Caller c, []) (active_index c.key.slot) refl refl s.1)
     (λ me' e. ap (λ (x : Seated). x.0) e) s.2.fits s.2.becomes
-    (inr (Break j, break_is_break slots limit t h j c (at slots limit t t' h j c s.2.there) s.1 (slice_index t.words (active_index c.key.slot)), λ c e. absurd (let x : Break j ≡ Enter c = e in cc)))
+    (happens _ _ _ (Break j) (break_is_break slots limit t h j c (at slots limit t t' h j c s.2.there) s.1 (slice_index t.words (active_index c.key.slot))) (λ c e. absurd (let x : Break j ≡ Enter c = e in cc)))
 word_step slots limit t (restores j) t' h s =
     let c : CallerView = s.0 in
     caller_goes slots limit t t' h j c s.2.there (restores j) (active_index c.key.slot) (plus 1) after_restore (CallerBecomes after_restore no_step (seat.Caller c, []))
     (restore_allowed slots limit (length t.homes) (suc j) (seat.Caller c, []) (active_index c.key.slot) refl refl s.1)
     (λ me' e. ap (λ (x : Seated). x.0) e) s.2.fits s.2.becomes
-    (inr (Restore j, restore_is_restore slots limit t h j c (at slots limit t t' h j c s.2.there) s.1 (slice_index t.words (active_index c.key.slot)), λ c e. absurd (let x : Restore j ≡ Enter c = e in cc)))
+    (happens _ _ _ (Restore j) (restore_is_restore slots limit t h j c (at slots limit t t' h j c s.2.there) s.1 (slice_index t.words (active_index c.key.slot))) (λ c e. absurd (let x : Restore j ≡ Enter c = e in cc)))
 word_step slots limit t (looks j) t' h s =
     let c : CallerView = s.0 in
     let n : ℕ = slice_index t.words (active_index c.key.slot) in
@@ -223,7 +277,7 @@ word_step slots limit t (looks j) t' h s =
     (look_allowed slots limit (length t.homes) (suc j) (seat.Caller c, []) (active_index c.key.slot) refl refl s.1)
     (λ me' e. ap (λ (x : Seated). x.0) e) s.2.fits s.2.becomes
     (⊎_elim
-    (λ (hit : is_drained n ≡ true). inr (Look j, look_is_look slots limit t h j c its s.1 hit, λ c e. absurd (let x : Look j ≡ Enter c = e in cc)))
+    (λ (hit : is_drained n ≡ true). happens _ _ _ (Look j) (look_is_look slots limit t h j c its s.1 hit) (λ c e. absurd (let x : Look j ≡ Enter c = e in cc)))
     (λ (miss : is_drained n ≡ false). inl ((miss_is_nothing slots limit t h j c its n).0 miss))
     (bool_cases (is_drained n)))
 word_step slots limit t (parts j) t' h s =
@@ -235,7 +289,7 @@ word_step slots limit t (parts j) t' h s =
     (λ me' e. ap (λ (x : Seated). x.0) e) s.2.fits s.2.becomes
     (⊎_elim
     (λ (yes : has_linked n ≡ true). inl ((miss_is_nothing slots limit t h j c its n).1 yes))
-    (λ (gone : has_linked n ≡ false). inr (Part j, part_is_part slots limit t h j c its s.1 gone, λ c e. absurd (let x : Part j ≡ Enter c = e in cc)))
+    (λ (gone : has_linked n ≡ false). happens _ _ _ (Part j) (part_is_part slots limit t h j c its s.1 gone) (λ c e. absurd (let x : Part j ≡ Enter c = e in cc)))
     (bool_cases (has_linked n)))
 word_step slots limit t (hides j) t' h s =
     let c : CallerView = s.0 in
@@ -246,7 +300,7 @@ word_step slots limit t (hides j) t' h s =
     (λ me' e. ap (λ (x : Seated). x.0) e) s.2.fits s.2.becomes
     (⊎_elim
     (λ (already : has_hide n ≡ true). inl ((miss_is_nothing slots limit t h j c its n).2 already))
-    (λ (clear : has_hide n ≡ false). inr (Hide j, hide_is_hide slots limit t h j c its s.1 clear, λ c e. absurd (let x : Hide j ≡ Enter c = e in cc)))
+    (λ (clear : has_hide n ≡ false). happens _ _ _ (Hide j) (hide_is_hide slots limit t h j c its s.1 clear) (λ c e. absurd (let x : Hide j ≡ Enter c = e in cc)))
     (bool_cases (has_hide n)))
 word_step slots limit t (looks_hidden j) t' h s =
     let c : CallerView = s.0 in
@@ -256,7 +310,7 @@ word_step slots limit t (looks_hidden j) t' h s =
     (look_hidden_allowed slots limit (length t.homes) (suc j) (seat.Caller c, []) (active_index c.key.slot) refl refl s.1)
     (λ me' e. ap (λ (x : Seated). x.0) e) s.2.fits s.2.becomes
     (⊎_elim
-    (λ (unused : is_unused n ≡ true). inr (LookHidden j, look_hidden_is_look slots limit t h j c its s.1 unused, λ c e. absurd (let x : LookHidden j ≡ Enter c = e in cc)))
+    (λ (unused : is_unused n ≡ true). happens _ _ _ (LookHidden j) (look_hidden_is_look slots limit t h j c its s.1 unused) (λ c e. absurd (let x : LookHidden j ≡ Enter c = e in cc)))
     (λ (used : is_unused n ≡ false). inl ((miss_is_nothing slots limit t h j c its n).3 used))
     (bool_cases (is_unused n)))
 word_step slots limit t (shows j) t' h s =
@@ -264,13 +318,13 @@ word_step slots limit t (shows j) t' h s =
     caller_goes slots limit t t' h j c s.2.there (shows j) (active_index c.key.slot) (minus hide) after_show (ShowsKey no_step (seat.Caller c, []))
     (show_allowed slots limit (length t.homes) (suc j) (seat.Caller c, []) (active_index c.key.slot) refl refl s.1)
     (λ me' e. ap (λ (x : Seated). x.0) e.0) s.2.fits s.2.becomes
-    (inr (Show j, show_is_show slots limit t h j c (at slots limit t t' h j c s.2.there) s.1 (slice_index t.words (active_index c.key.slot)), λ c e. absurd (let x : Show j ≡ Enter c = e in cc)))
+    (happens _ _ _ (Show j) (show_is_show slots limit t h j c (at slots limit t t' h j c s.2.there) s.1 (slice_index t.words (active_index c.key.slot))) (λ c e. absurd (let x : Show j ≡ Enter c = e in cc)))
 word_step slots limit t (releases j) t' h s =
     let c : CallerView = s.0 in
     caller_goes slots limit t t' h j c s.2.there (releases j) (hold_index c.key.slot) (minus 1) after_release (CallerBecomes after_release no_step (seat.Caller c, []))
     (release_allowed slots limit (length t.homes) (suc j) (seat.Caller c, []) (hold_index c.key.slot) refl refl s.1.0 s.1.1)
     (λ me' e. ap (λ (x : Seated). x.0) e) s.2.fits s.2.becomes
-    (inr (Release j, release_is_release slots limit t h j c (at slots limit t t' h j c s.2.there) s.1.0 (slice_index t.words (hold_index c.key.slot)), λ c e. absurd (let x : Release j ≡ Enter c = e in cc)))
+    (happens _ _ _ (Release j) (release_is_release slots limit t h j c (at slots limit t t' h j c s.2.there) s.1.0 (slice_index t.words (hold_index c.key.slot))) (λ c e. absurd (let x : Release j ≡ Enter c = e in cc)))
 word_step slots limit t (sleeps j) t' h s = sleeper_goes slots limit t t' h j s.0 s.2.there (sleeps j) (plus 1) s.2.fits s.2.becomes
 word_step slots limit t (awakes j) t' h s = sleeper_goes slots limit t t' h j s.0 s.2.there (awakes j) (minus 1) s.2.fits s.2.becomes
 word_step slots limit t (loads_hold slot) t' g s =
@@ -293,14 +347,10 @@ word_step slots limit t (unpins_hold slot) t' g s =
     (hold_allows slots limit (length t.homes) 0 (seat.Master m, []) slot (hold_index slot) (minus 1) (unread without_pin) refl refl (unpin_owes m slot p.0 p.1 s.1.1))
     (λ me' e. slot_view (unread without_pin) m (slice_index t.words (hold_index slot)) (hold_index slot) slot me' (hold_slot slot (hold_index slot) refl) e.1) s.2.fits s.2.becomes
     (inl refl)
-word_step slots limit t (splits_linked slot) t' g s =
+word_step slots limit t (splits slot) t' g s =
     let m : MasterView = s.0 in
-    let p = state_there m.slots slot s.3 in
-    split_goes slots limit t t' g m s.2 (splits_linked slot) slot p.0 p.1 s.4 (linked_pins slots limit t t' g m s.2 slot p.0 p.1 s.1) s.5
-word_step slots limit t (splits_held slot j) t' g s =
-    let m : MasterView = s.0 in
-    let p = state_there m.slots slot s.3 in
-    split_goes slots limit t t' g m s.2 (splits_held slot j) slot p.0 p.1 s.4 (held_pins slots limit t t' g m s.2 slot p.0 p.1 j s.1) s.5
+    let p = state_there m.slots slot s.2 in
+    split_goes slots limit t t' g m s.1 slot p.0 p.1 s.3 s.4
 word_step slots limit t (stores_fresh slot) t' g s =
     let m : MasterView = s.0 in
     master_goes slots limit t t' g m s.2.there (stores_fresh slot) slot (active_index slot) (λ _. bias) (unread after_store) (On active_index (MasterBecomes (unread after_store)) (step 0 (active_index slot) 0 0 none) (seat.Master m, []))
@@ -314,14 +364,14 @@ word_step slots limit t (births slot) t' g s =
     master_goes slots limit t t' g m s.2.there (births slot) slot (hold_index slot) (plus (one_generation + linked)) (unread with_birth) (On hold_index (MasterBecomes (unread with_birth)) (step 0 (hold_index slot) 0 0 none) (seat.Master m, []))
     (hold_allows slots limit (length t.homes) 0 (seat.Master m, []) slot (hold_index slot) (plus (one_generation + linked)) (unread with_birth) refl refl (birth_owes m slot p.0 p.1 s.1.1))
     (λ me' e. slot_view (unread with_birth) m (slice_index t.words (hold_index slot)) (hold_index slot) slot me' (hold_slot slot (hold_index slot) refl) e.1) s.2.fits s.2.becomes
-    (inr (Born key key [] Dir, birth_is_born slots limit t (met slots limit t t' g m s.2.there) slot p.0 key [] Dir s.1.1 p.1, λ c e. absurd (let x : Born key key [] Dir ≡ Enter c = e in cc)))
+    (happens _ _ _ (Born key key [] Dir) (birth_is_born slots limit t (met slots limit t t' g m s.2.there) slot p.0 key [] Dir s.1.1 p.1) (λ c e. absurd (let x : Born key key [] Dir ≡ Enter c = e in cc)))
 word_step slots limit t (takes_bias slot) t' g s =
     let m : MasterView = s.0 in
     let key : Key = last_key slot s.1.0 in
     master_goes slots limit t t' g m s.2.there (takes_bias slot) slot (active_index slot) (minus bias) (unread (with_marks activated_marks)) (On active_index (MasterBecomes (unread (with_marks activated_marks))) (step 0 (active_index slot) 0 0 none) (seat.Master m, []))
     (rise_allowed slots limit (length t.homes) 0 (seat.Master m, []) slot (active_index slot) s.1.0 refl refl s.1.1 s.1.2)
     (λ me' e. slot_view (unread (with_marks activated_marks)) m (slice_index t.words (active_index slot)) (active_index slot) slot me' (active_slot slot (active_index slot) refl) e.1) s.2.fits s.2.becomes
-    (inr (Rise key, rise_is_rise slots limit t (met slots limit t t' g m s.2.there) key (last_marks slots limit t t' g m s.2.there slot s.1.0 (Some fresh_marks) s.1.1 s.1.2), λ c e. absurd (let x : Rise key ≡ Enter c = e in cc)))
+    (happens _ _ _ (Rise key) (rise_is_rise slots limit t (met slots limit t t' g m s.2.there) key (last_marks slots limit t t' g m s.2.there slot s.1.0 (Some fresh_marks) s.1.1 s.1.2)) (λ c e. absurd (let x : Rise key ≡ Enter c = e in cc)))
 word_step slots limit t (marks_node slot) t' g r =
     let x : Marks = r.0 in
     let s = r.1 in
@@ -331,25 +381,74 @@ word_step slots limit t (marks_node slot) t' g r =
     master_goes slots limit t t' g m s.2.there (marks_node slot) slot (active_index slot) (plus (bit x.activated bias + doom)) (unread (with_marks doomed_marks)) (On active_index (MasterBecomes (unread (with_marks doomed_marks))) (step 0 (active_index slot) 0 0 none) (seat.Master m, []))
     (mark_allowed slots limit (length t.homes) 0 (seat.Master m, []) slot (active_index slot) state x (bit x.activated bias + doom) refl refl s.1.0.1 s.1.0.2 s.1.1 refl)
     (λ me' e. slot_view (unread (with_marks doomed_marks)) m (slice_index t.words (active_index slot)) (active_index slot) slot me' (active_slot slot (active_index slot) refl) e.1) s.2.fits s.2.becomes
-    (inr (Mark key, mark_is_mark slots limit t (met slots limit t t' g m s.2.there) key x (last_marks slots limit t t' g m s.2.there slot state (Some x) s.1.0.1 s.1.0.2) s.1.1, λ c e. absurd (let x : Mark key ≡ Enter c = e in cc)))
+    (happens _ _ _ (Mark key) (mark_is_mark slots limit t (met slots limit t t' g m s.2.there) key x (last_marks slots limit t t' g m s.2.there slot state (Some x) s.1.0.1 s.1.0.2) s.1.1) (λ c e. absurd (let x : Mark key ≡ Enter c = e in cc)))
 word_step slots limit t (looks_over slot) t' g s =
     let m : MasterView = s.0 in
     master_goes slots limit t t' g m s.2.there (looks_over slot) slot (active_index slot) same (with_look) (On active_index (MasterBecomes (with_look)) (step 0 (active_index slot) 0 0 none) (seat.Master m, []))
     (look_over_allowed slots limit (length t.homes) 0 (seat.Master m, []) slot (active_index slot) refl refl)
     (λ me' e. slot_view (with_look) m (slice_index t.words (active_index slot)) (active_index slot) slot me' (active_slot slot (active_index slot) refl) e.1) s.2.fits s.2.becomes
     (inl refl)
-word_step slots limit t (unlinks slot j) t' g both =
-    let s = both.0 in
-    let lent = both.1 in
+word_step slots limit t (unlinks slot) t' g s =
+    let m : MasterView = s.0 in
+    let x : Marks = s.1.0.0 in
+    let state : SlotState = s.1.0.1.0 in
+    let its = s.1.0.1.1 in
+    let had = s.1.0.1.2 in
+    let looked = s.1.1 in
+    let key : Key = last_key slot state in
+    let k = met slots limit t t' g m s.2.there in
+    let linked_is = last_marks slots limit t t' g m s.2.there slot state (Some x) its had in
+    let doomed : x.doomed ≡ true = ap are_doomed (sym had) ∙ (k.shows.looked (record { slot = slot; word = looked.0 }) state looked.1 looked.2 its).0 in
+    let out : bare (without_node slot m) g.callers ≡ core.with_marks (bare m g.callers) key None =
+    ap (λ (y : SlotState). let w : BareWorld = record { slots = set m.slots slot (record { generation = y.generation; marks = None }); callers = map caller g.callers } in w)
+    (get_or_from_slice_get m.slots slot state no_state its) in
+    master_goes slots limit t t' g m s.2.there (unlinks slot) slot (hold_index slot) (minus linked) (unread without_node) (On hold_index (MasterBecomes (unread without_node)) (step 0 (hold_index slot) 0 0 none) (seat.Master m, []))
+    (hold_allows slots limit (length t.homes) 0 (seat.Master m, []) slot (hold_index slot) (minus linked) (unread without_node) refl refl (unlink_owes m slot state x looked.0 its had looked.1 looked.2))
+    (λ me' e. slot_view (unread without_node) m (slice_index t.words (hold_index slot)) (hold_index slot) slot me' (hold_slot slot (hold_index slot) refl) e.1) s.2.fits s.2.becomes
+    (inr (inr (inl (record { slot = slot; kind_is = refl; key = key; had = x; linked = linked_is; doomed = doomed; is = out }))))
+
+-- a node taken out while a caller is drained on it is an Unlink by that caller
+pub unlink_event : (slots limit : ℕ) (t : Table) (slot : ℕ) (t' : Table) → Shown slots limit t → WordStep t (unlinks slot) t' → (j : ℕ) → IsDrainedOn t slot j → BareStep (world t) (Unlink j) (world t')
+unlink_event slots limit t slot t' g s j lent =
     let m : MasterView = s.0 in
     let c : CallerView = lent.0 in
-    let x = s.1.0 in
-    let looked = s.1.1 in
     let k = met slots limit t t' g m s.2.there in
     let its = at slots limit t t' g j c lent.1 in
     let there : is_some (marks_of m c.key) ≡ true = ap (λ (l : List View). is_some (marks_of (master_in l) c.key)) (sym k.views) ∙ lent.4 in
-    master_goes slots limit t t' g m s.2.there (unlinks slot j) slot (hold_index slot) (minus linked) (unread without_node) (On hold_index (MasterBecomes (unread without_node)) (step 0 (hold_index slot) 0 0 none) (seat.Master m, []))
-    (hold_allows slots limit (length t.homes) 0 (seat.Master m, []) slot (hold_index slot) (minus linked) (unread without_node) refl refl (unlink_owes m slot x.1.0 x.0 looked.0 x.1.1 x.1.2 looked.1 looked.2))
-    (λ me' e. slot_view (unread without_node) m (slice_index t.words (hold_index slot)) (hold_index slot) slot me' (hold_slot slot (hold_index slot) refl) e.1) s.2.fits s.2.becomes
-    (subst (λ (k : ℕ). Led (unlinks slot j) (bare m g.callers) (bare (without_node k m) g.callers)) lent.2
-    (inr (Unlink j, unlink_is_unlink slots limit t k j c its lent.3 there, λ c e. absurd (let x : Unlink j ≡ Enter c = e in cc))))
+    let m' : MasterView = without_node slot m in
+    let views : t'.views ≡ seats m' g.callers = ap (λ (x : Table). x.views) s.2.becomes ∙ ap (λ (l : List View). set l 0 (seat.Master m')) k.views in
+    let is = world_is t m g.callers k.views in
+    let is' = world_is t' m' g.callers views in
+    subst (λ (w : BareWorld). BareStep w (Unlink j) (world t')) (sym is)
+    (subst (λ (w : BareWorld). BareStep (bare m g.callers) (Unlink j) w) (sym is')
+    (subst (λ (i : ℕ). BareStep (bare m g.callers) (Unlink j) (bare (without_node i m) g.callers)) lent.2
+    (unlink_is_unlink slots limit t k j c its lent.3 there)))
+
+-- a hold that gets its seat while its slot has a linked node, or another who holds it, is a Pin
+pub pin_event : (slots limit : ℕ) (t : Table) (slot : ℕ) (t' : Table) → Shown slots limit t → WordStep t (splits slot) t' → IsPinnable t slot → (e : Event) × BareStep (world t) e (world t')
+pin_event slots limit t slot t' g s may =
+    let m : MasterView = s.0 in
+    let p = state_there m.slots slot s.2 in
+    let k = met slots limit t t' g m s.1 in
+    (Pin (length g.callers) (last_key slot p.0), split_pins slots limit t t' g m s.1 slot p.0 p.1 s.3
+    (⊎_elim
+    (λ (node : is_some (state_at (master_in t.views) slot).marks ≡ true). linked_pins slots limit t t' g m s.1 slot p.0 p.1 (ap (λ (l : List View). is_some (state_at (master_in l) slot).marks) (sym k.views) ∙ node))
+    (λ (held : (j : ℕ) × HoldsSlot t slot j). held_pins slots limit t t' g m s.1 slot p.0 p.1 held.0 held.1)
+    may) s.4)
+
+-- an attended step is an event, or nothing
+pub attended_event : (slots limit : ℕ) (t : Table) (kind : Kind) (t' : Table) → Shown slots limit t → WordStep t kind t' → IsAttended t kind
+    → (world t' ≡ world t) ⊎ ((e : Event) × BareStep (world t) e (world t'))
+attended_event slots limit t kind t' h s may = ⊎_elim
+    (λ (same : world t' ≡ world t). inl same)
+    (λ (more : IsEvent kind (world t) (world t') ⊎ Alone kind (world t) (world t')). ⊎_elim
+    (λ (e : IsEvent kind (world t) (world t')). inr (e.event, e.step))
+    (λ (alone : Alone kind (world t) (world t')). ⊎_elim
+    (λ (o : TakenOut kind (world t) (world t')).
+    let drained : (j : ℕ) × IsDrainedOn t o.slot j = subst (λ (k : Kind). IsAttended t k) o.kind_is may in
+    inr (Unlink drained.0, unlink_event slots limit t o.slot t' h (subst (λ (k : Kind). WordStep t k t') o.kind_is s) drained.0 drained.1))
+    (λ (c : Came kind (world t) (world t')).
+    inr (pin_event slots limit t c.slot t' h (subst (λ (k : Kind). WordStep t k t') c.kind_is s) (subst (λ (k : Kind). IsAttended t k) c.kind_is may)))
+    alone)
+    more)
+    (word_step slots limit t kind t' h s).1

@@ -10,9 +10,13 @@ use Rattle.kf_core.specs.declared.key.Node.TheVariants as node
 use Rattle.kf_words.specs.declared.seat.CallerSeat.{CallerSeat}
 use Rattle.kf_words.specs.declared.seat.Kind.{Kind}
 use Rattle.kf_words.specs.declared.seat.Kind.TheVariants as kind
+use Rattle.kf_words.specs.declared.wake_due.Wake.{Wake}
+use Rattle.kf_words.specs.declared.wake_due.Wake.TheVariants.{Wanted, Unwanted}
 use Rattle.kf_words.specs.declared.view.CallerView.{CallerView}
-use Rattle.kf_words.specs.Layout.{active_index, hold_index, keeps_out, is_drained, has_hide, is_unused, has_linked}
-use Rattle.kf_words.specs.Steps.{caller_of, WasFound}
+use Rattle.kf_words.specs.declared.sight.Seen.{Seen}
+use Rattle.kf_words.specs.declared.sight.Sight.{Sight}
+use Rattle.kf_words.specs.Layout.{keeps_out, is_drained, has_hide, is_unused, has_linked}
+use Rattle.kf_words.specs.Steps.{caller_of}
 
 -- what contracts see of a hold, call or receipt: its seat, its key and node, and how far it is
 pub record Handle : Type 0 where
@@ -25,6 +29,7 @@ pub record Handle : Type 0 where
   pub tries : ℕ  -- how many of them were tries
   pub found : ℕ  -- the word that its last step found, the second step of a refused try left out
   pub undo_due : Bool  -- it is between the two steps of a refused try, as no hold, call or receipt is
+  pub seen : Seen  -- the beginning of the one run of all steps at the table that it has seen
 
 -- which seat of which table, and the node that was born with its key
 pub record SeatId : Type 0 where
@@ -36,9 +41,22 @@ pub record SeatId : Type 0 where
 abbrev pub id_of : Handle → SeatId
 id_of h = record { table = h.table; seat = h.seat; node = h.node }
 
+-- what a caller's seat knows: its view, and the beginning of the one run that it has seen
+pub record CallerSight : Type 0 where
+  pub view : CallerView
+  pub seen : Seen
+
+-- what a seat knows, where it is a caller's
+abbrev pub caller_sight : Sight → CallerSight
+caller_sight s = record { view = caller_of s.view; seen = s.seen }
+
 -- the caller's view, which the token of its seat has
 abbrev pub view_of : CallerSeat → CallerView
-view_of s = caller_of s.token.me.0
+view_of s = caller_of s.token.me.0.view
+
+-- all that the token of a caller's seat knows
+abbrev pub sight_of : CallerSeat → CallerSight
+sight_of s = caller_sight s.token.me.0
 
 -- the node of this kind, with this tag where it is a file, and this target where it is a link
 abbrev pub node_of : Kind → ℕ → Key → Node
@@ -58,6 +76,7 @@ handle_of s = record {
   tries = (view_of s).tries;
   found = (view_of s).found;
   undo_due = (view_of s).undo_due;
+  seen = s.token.me.0.seen;
 }
 
 -- it is the same seat of the same table still, with the same key and node
@@ -163,15 +182,18 @@ WasShown before after =
 abbrev pub WasReleased : Handle → Handle → Type 0
 WasReleased before after = (after.phase ≡ Spent) × (after.steps ≡ before.steps + 1)
 
--- the view of the seat
-abbrev pub seat_view : Handle → CallerView
+-- what the seat knows
+abbrev pub seat_view : Handle → CallerSight
 seat_view h = record {
-  key = h.key;
-  phase = h.phase;
-  steps = h.steps;
-  tries = h.tries;
-  found = h.found;
-  undo_due = h.undo_due;
+  view = record {
+    key = h.key;
+    phase = h.phase;
+    steps = h.steps;
+    tries = h.tries;
+    found = h.found;
+    undo_due = h.undo_due;
+  };
+  seen = h.seen;
 }
 
 -- what a step that took one user off an active word owes to those who sleep there: a wake, where one of them
@@ -180,14 +202,11 @@ pub record Owed : Type 0 where
   pub slot : ℕ
   pub found : ℕ
 
+-- a wake is wanted
+abbrev pub is_wanted : Wake → Bool
+is_wanted Wanted = true
+is_wanted Unwanted = false
+
 -- what the last step of this seat owes
 abbrev pub owed : Handle → Owed
 owed h = record { slot = h.key.slot; found = h.found }
-
--- once, while the rule held and this seat was as told, the active word of its slot was as found
-abbrev pub FoundThere : Handle → ℕ → Type 0
-FoundThere h found = WasFound (seat_view h) (active_index h.key.slot) found
-
--- once, while the rule held and this seat was as told, the hold word of its slot was as found
-abbrev pub FoundInHold : Handle → ℕ → Type 0
-FoundInHold h found = WasFound (seat_view h) (hold_index h.key.slot) found

@@ -7,6 +7,7 @@ pub mod Searches
 pub mod Laws
 pub mod Events
 pub mod TableSteps
+pub mod History
 pub mod Made
 pub mod Runs
 pub mod Life

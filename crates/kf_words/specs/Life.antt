@@ -7,8 +7,8 @@ use Rattle.kf_words.specs.declared.view.CallerView.{CallerView}
 use Rattle.kf_words.specs.declared.view.MasterView.{MasterView}
 use Rattle.kf_words.specs.declared.view.Load.{Load}
 use Rattle.kf_words.specs.declared.view.View.TheVariants as seat
-use Rattle.kf_words.specs.TableSteps.{Table, Kind, births, breaks, hides, leaves, loads_hold, looks, looks_hidden, looks_over, marks_node, parts, pins_hold, releases, restores, shows, sleeps, awakes, splits_held, splits_linked, stores_fresh, takes_bias, tries, undoes, unlinks, unpins_hold}
-use Rattle.kf_words.specs.Runs.{WordRun, opened_table}
+use Rattle.kf_words.specs.TableSteps.{Table, Kind, births, breaks, hides, leaves, loads_hold, looks, looks_hidden, looks_over, marks_node, parts, pins_hold, releases, restores, shows, sleeps, awakes, splits, stores_fresh, takes_bias, tries, undoes, unlinks, unpins_hold}
+use Rattle.kf_words.specs.Runs.{AttendedRun, opened_table}
 
 -- the marks of a node, by whether it is activated and whether it is doomed
 abbrev pub with_marks_of : Bool → Bool → Marks
@@ -55,15 +55,15 @@ table_at active hold m cs = table_with active hold 0 m cs
 -- caller 0 calls into the node, caller 1 hides it, shows it, and removes it
 abbrev pub word_life : List Kind
 word_life = loads_hold 1 ∷ stores_fresh 1 ∷ births 1 ∷ takes_bias 1 ∷ loads_hold 1 ∷ pins_hold 1
-    ∷ splits_linked 1 ∷ loads_hold 1 ∷ pins_hold 1 ∷ splits_held 1 0 ∷ tries 0 ∷ hides 1
+    ∷ splits 1 ∷ loads_hold 1 ∷ pins_hold 1 ∷ splits 1 ∷ tries 0 ∷ hides 1
     ∷ looks_hidden 1 ∷ leaves 0 ∷ looks_hidden 1 ∷ tries 0 ∷ undoes 0 ∷ shows 1 ∷ tries 0
     ∷ marks_node 1 ∷ tries 1 ∷ undoes 1 ∷ sleeps 1 ∷ breaks 0 ∷ awakes 1 ∷ looks 1 ∷ restores 0
-    ∷ parts 1 ∷ looks_over 1 ∷ leaves 0 ∷ looks_over 1 ∷ unlinks 1 1 ∷ parts 1 ∷ releases 1 ∷ releases 0
+    ∷ parts 1 ∷ looks_over 1 ∷ leaves 0 ∷ looks_over 1 ∷ unlinks 1 ∷ parts 1 ∷ releases 1 ∷ releases 0
     ∷ loads_hold 1 ∷ stores_fresh 1 ∷ births 1 ∷ loads_hold 1 ∷ pins_hold 1 ∷ unpins_hold 1 ∷ []
 
--- there is a run of all these steps from the opening of two slots
+-- there is an attended run of all these steps from the opening of two slots
 abbrev pub WordLife : Type 0
-WordLife = WordRun (opened_table 3 2 0) word_life
+WordLife = AttendedRun (opened_table 3 2 0) word_life
     (table_at 4294967296 10737418240
     (master_at 2 (Some (with_marks_of false false)) 2 (None) (None) ([])
     (record { slot = 1; word = 4294967296 } ∷ []) (None))

@@ -1,179 +1,244 @@
--- What a step of a caller's seat tells: which kind of step a table that met the rule made between its views.
-use Rattle.std.specs.Prelude.{◌≡◌, ℕ, zero, suc, true, slice_index}
+-- What a step of a seat tells: which kind of step it was, the next of the one run, and what that had come to.
+use Rattle.std.specs.Prelude.{◌≡◌, ℕ, zero, suc, Bool, true, false, List, [], ◌∷◌, ◌++◌, slice_index}
 use mathlib.Core.Option.{some}
 use lib.ListN.{get_elem?}
 use Rattle.atomic_table.specs.Table.{Step}
 use Rattle.kf_core.specs.Bare.{is_live}
-use Rattle.kf_words.specs.declared.view.CallerView.{CallerView}
-use Rattle.kf_words.specs.declared.view.MasterView.{MasterView}
+use Rattle.kf_words.specs.declared.sight.Seen.{Seen}
 use Rattle.kf_words.specs.declared.view.View.TheVariants as seat
 use Rattle.kf_words.specs.Layout.{active_index, hold_index, slot_of}
 use Rattle.kf_words.specs.Rule.{Shown}
-use Rattle.kf_words.specs.Steps.{Seated, caller_of, after_try, after_undo, after_leave, after_break, after_restore, after_look, after_part, after_hide, after_look_hidden, after_release, CallerBecomes, ShowsKey, master_of, On, MasterBecomes}
-use Rattle.kf_words.specs.Callers.{Handle, Owed, seat_view}
-use Rattle.kf_words.specs.TableSteps.{Table, world, Kind, IsSeated, WordStep, tries, undoes, leaves, breaks, restores, looks, parts, hides, looks_hidden, shows, releases}
+use Rattle.kf_words.specs.Steps.{Seated, Sighted, plain, caller_of, after_try, after_undo, after_leave, after_break, after_restore, after_look, after_part, after_hide, after_look_hidden, after_release, CallerBecomes, ShowsKey}
+use Rattle.kf_words.specs.Callers.{Handle, Owed, CallerSight, caller_sight, seat_view}
+use Rattle.kf_words.specs.Nodes.{MasterSight, master_sight}
+use Rattle.kf_words.specs.TableSteps.{Table, world, Kind, IsSeated, WordStep, WordRun, tries, undoes, leaves, breaks, restores, looks, parts, hides, looks_hidden, shows, releases, loads_hold, pins_hold, stores_fresh, births, looks_over, unlinks}
+use Rattle.kf_words.specs.History.{opened_as}
 
--- a table that met the rule made this kind of step, with the caller's view before it and after it
-pub record WasMade (kind : ℕ → Kind) (before after : CallerView) : Type 0 where
-  pub slots : ℕ
-  pub limit : ℕ
+-- the run that was seen before went on by the steps between, and then by this one, and so far it is seen after
+abbrev pub SawNext : Seen → List Kind → Kind → Seen → Type 0
+SawNext before between kind after =
+    after ≡ record { opening = before.opening; steps = (before.steps ++ between) ++ kind ∷ [] }
+
+-- the run that was seen, and then these steps, lead to this table
+abbrev pub LeadsTo : Seen → List Kind → Table → Type 0
+LeadsTo seen between t = WordRun (opened_as seen.opening) (seen.steps ++ between) t
+
+-- the caller's step was the next of the one run, which had gone on from all that the caller had seen before to
+-- the table that it found. That met the rule, and had the caller's view before it
+pub record WasMade (kind : ℕ → Kind) (before after : CallerSight) : Type 0 where
+  pub between : List Kind
   pub found : Table
   pub left : Table
   pub caller : ℕ
-  pub shown : Shown slots limit found
+  pub run : LeadsTo before.seen between found
+  pub shown : Shown before.seen.opening.slots before.seen.opening.holds found
   pub step : WordStep found (kind caller) left
-  pub was : IsSeated found caller before
-  pub is : IsSeated left caller after
+  pub was : IsSeated found caller before.view
+  pub is : IsSeated left caller after.view
+  pub seen : SawNext before.seen between (kind caller) after.seen
 
 -- what a caller's step tells: that it is on the word that this index has of the caller's slot, the view after
--- it, and that a table made it
+-- it, and that it was the next of the one run
 abbrev pub Makes : (ℕ → ℕ) → (ℕ → Kind) → (Step (Unit {0}) → Seated → ℕ → Seated → Type 0)
-    → Step (Unit {0}) → Seated → ℕ → Seated → Type 0
+    → Step (Unit {0}) → Sighted → ℕ → Sighted → Type 0
 Makes index kind tells st me found me' =
-    (st.word ≡ index (caller_of me.0).key.slot)
-    × (tells st me found me' × WasMade kind (caller_of me.0) (caller_of me'.0))
+    (st.word ≡ index (caller_of me.0.view).key.slot)
+    × (tells st (plain me) found (plain me') × WasMade kind (caller_sight me.0) (caller_sight me'.0))
+
+-- what a step on the count of sleepers tells, which is no step on a word that the rule reads
+abbrev pub Stays : Step (Unit {0}) → Sighted → ℕ → Sighted → Type 0
+Stays st me found me' = me' ≡ me
 
 -- what a try on the active word tells: whether the caller runs, or has the try to undo
-abbrev pub MakesTry : Step (Unit {0}) → Seated → ℕ → Seated → Type 0
+abbrev pub MakesTry : Step (Unit {0}) → Sighted → ℕ → Sighted → Type 0
 MakesTry = Makes active_index tries (CallerBecomes after_try)
 
--- a table that met the rule made a try between these two views of a caller
-abbrev pub WasATry : CallerView → CallerView → Type 0
+-- as WasMade: this seat made a try between these two sights of it
+abbrev pub WasATry : CallerSight → CallerSight → Type 0
 WasATry = WasMade tries
 
--- a table that met the rule took a refused try back between these two views of a caller
-abbrev pub WasAUndo : CallerView → CallerView → Type 0
+-- as WasMade: this seat took a refused try back between these two sights of it
+abbrev pub WasAUndo : CallerSight → CallerSight → Type 0
 WasAUndo = WasMade undoes
 
 -- a refused try was taken back, by a step that found this word, which the view after it does not tell
-abbrev pub WasUndone : CallerView → CallerView → ℕ → Type 0
+abbrev pub WasUndone : CallerSight → CallerSight → ℕ → Type 0
 WasUndone before after found = (made : WasAUndo before after)
-    × (slice_index made.found.words (active_index before.key.slot) ≡ found)
+    × (slice_index made.found.words (active_index before.view.key.slot) ≡ found)
 
 -- what the step tells that takes a refused try back: with the view also the word that it found
-abbrev pub MakesUndo : Step (Unit {0}) → Seated → ℕ → Seated → Type 0
-MakesUndo st me found me' = (st.word ≡ active_index (caller_of me.0).key.slot)
-    × (CallerBecomes (λ _. after_undo) st me found me' × WasUndone (caller_of me.0) (caller_of me'.0) found)
+abbrev pub MakesUndo : Step (Unit {0}) → Sighted → ℕ → Sighted → Type 0
+MakesUndo st me found me' = (st.word ≡ active_index (caller_of me.0.view).key.slot)
+    × (CallerBecomes (λ _. after_undo) st (plain me) found (plain me')
+    × WasUndone (caller_sight me.0) (caller_sight me'.0) found)
 
 -- what the end of a call tells, which is a step on the active word
-abbrev pub MakesLeave : Step (Unit {0}) → Seated → ℕ → Seated → Type 0
+abbrev pub MakesLeave : Step (Unit {0}) → Sighted → ℕ → Sighted → Type 0
 MakesLeave = Makes active_index leaves (CallerBecomes after_leave)
 
--- a table that met the rule ended a call between these two views of a caller
-abbrev pub WasALeave : CallerView → CallerView → Type 0
+-- as WasMade: this seat ended a call between these two sights of it
+abbrev pub WasALeave : CallerSight → CallerSight → Type 0
 WasALeave = WasMade leaves
 
 -- what a step on the active word tells that gives the reference up inside a call
-abbrev pub MakesBreak : Step (Unit {0}) → Seated → ℕ → Seated → Type 0
+abbrev pub MakesBreak : Step (Unit {0}) → Sighted → ℕ → Sighted → Type 0
 MakesBreak = Makes active_index breaks (CallerBecomes after_break)
 
--- a table that met the rule gave a call's reference up between these two views of a caller
-abbrev pub WasABreak : CallerView → CallerView → Type 0
+-- as WasMade: this seat gave a call's reference up between these two sights of it
+abbrev pub WasABreak : CallerSight → CallerSight → Type 0
 WasABreak = WasMade breaks
 
 -- what a step on the active word tells that takes a reference again inside a call
-abbrev pub MakesRestore : Step (Unit {0}) → Seated → ℕ → Seated → Type 0
+abbrev pub MakesRestore : Step (Unit {0}) → Sighted → ℕ → Sighted → Type 0
 MakesRestore = Makes active_index restores (CallerBecomes after_restore)
 
--- a table that met the rule took a call's reference again between these two views of a caller
-abbrev pub WasARestore : CallerView → CallerView → Type 0
+-- as WasMade: this seat took a call's reference again between these two sights of it
+abbrev pub WasARestore : CallerSight → CallerSight → Type 0
 WasARestore = WasMade restores
 
 -- what a waiting caller's load of the active word tells: whether that is drained
-abbrev pub MakesLook : Step (Unit {0}) → Seated → ℕ → Seated → Type 0
+abbrev pub MakesLook : Step (Unit {0}) → Sighted → ℕ → Sighted → Type 0
 MakesLook = Makes active_index looks (CallerBecomes after_look)
 
--- a table that met the rule loaded the active word, for a drain, between these two views of a caller
-abbrev pub WasALook : CallerView → CallerView → Type 0
+-- as WasMade: this seat loaded the active word, for a drain, between these two sights of it
+abbrev pub WasALook : CallerSight → CallerSight → Type 0
 WasALook = WasMade looks
 
 -- what a drained caller's load of the hold word tells: whether a node is linked still
-abbrev pub MakesPart : Step (Unit {0}) → Seated → ℕ → Seated → Type 0
+abbrev pub MakesPart : Step (Unit {0}) → Sighted → ℕ → Sighted → Type 0
 MakesPart = Makes hold_index parts (CallerBecomes after_part)
 
--- a table that met the rule loaded the hold word between these two views of a drained caller
-abbrev pub WasAPart : CallerView → CallerView → Type 0
+-- as WasMade: this seat loaded the hold word between these two sights of it
+abbrev pub WasAPart : CallerSight → CallerSight → Type 0
 WasAPart = WasMade parts
 
 -- what a step tells that sets the bit of a hidden key: whether it was clear, so that this caller hides it
-abbrev pub MakesHide : Step (Unit {0}) → Seated → ℕ → Seated → Type 0
+abbrev pub MakesHide : Step (Unit {0}) → Sighted → ℕ → Sighted → Type 0
 MakesHide = Makes active_index hides (CallerBecomes after_hide)
 
--- a table that met the rule set the bit of a hidden key between these two views of a caller
-abbrev pub WasAHide : CallerView → CallerView → Type 0
+-- as WasMade: this seat set the bit of a hidden key between these two sights of it
+abbrev pub WasAHide : CallerSight → CallerSight → Type 0
 WasAHide = WasMade hides
 
 -- what a hider's load of the active word tells: whether nobody uses the node
-abbrev pub MakesLookHidden : Step (Unit {0}) → Seated → ℕ → Seated → Type 0
+abbrev pub MakesLookHidden : Step (Unit {0}) → Sighted → ℕ → Sighted → Type 0
 MakesLookHidden = Makes active_index looks_hidden (CallerBecomes after_look_hidden)
 
--- a table that met the rule loaded the active word between these two views of a hider
-abbrev pub WasALookHidden : CallerView → CallerView → Type 0
+-- as WasMade: this seat loaded the active word between these two sights of it
+abbrev pub WasALookHidden : CallerSight → CallerSight → Type 0
 WasALookHidden = WasMade looks_hidden
 
 -- what a step tells that takes the bit of a hidden key off: also that it found the bit set
-abbrev pub MakesShow : Step (Unit {0}) → Seated → ℕ → Seated → Type 0
+abbrev pub MakesShow : Step (Unit {0}) → Sighted → ℕ → Sighted → Type 0
 MakesShow = Makes active_index shows ShowsKey
 
--- a table that met the rule took the bit of a hidden key off between these two views of its hider
-abbrev pub WasAShow : CallerView → CallerView → Type 0
+-- as WasMade: this seat took the bit of a hidden key off between these two sights of it
+abbrev pub WasAShow : CallerSight → CallerSight → Type 0
 WasAShow = WasMade shows
 
 -- what a step on the hold word tells that gives a caller's hold back
-abbrev pub MakesRelease : Step (Unit {0}) → Seated → ℕ → Seated → Type 0
+abbrev pub MakesRelease : Step (Unit {0}) → Sighted → ℕ → Sighted → Type 0
 MakesRelease = Makes hold_index releases (CallerBecomes after_release)
 
--- a table that met the rule took a hold back between these two views of the caller who gave it
-abbrev pub WasARelease : CallerView → CallerView → Type 0
+-- as WasMade: this seat gave its hold back between these two sights of it
+abbrev pub WasARelease : CallerSight → CallerSight → Type 0
 WasARelease = WasMade releases
 
--- so many steps of this kind, one after another and no other between them, each made by a table that met the
--- rule
-abbrev pub WereMade : (ℕ → Kind) → ℕ → CallerView → CallerView → Type 0
+-- so many steps of this kind, one after another and no other of this seat between them, each as WasMade says
+abbrev pub WereMade : (ℕ → Kind) → ℕ → CallerSight → CallerSight → Type 0
 WereMade kind zero before after = after ≡ before
 WereMade kind (suc count) before after =
-    (between : CallerView) × WereMade kind count before between × WasMade kind between after
+    (between : CallerSight) × WereMade kind count before between × WasMade kind between after
 
 -- one step of this kind or more, and no other
-abbrev pub OnlyMade : (ℕ → Kind) → CallerView → CallerView → Type 0
+abbrev pub OnlyMade : (ℕ → Kind) → CallerSight → CallerSight → Type 0
 OnlyMade kind before after = (count : ℕ) × WereMade kind (suc count) before after
 
 -- all that a wait for a drain does: it looks, and looks again
-abbrev pub OnlyLooked : CallerView → CallerView → Type 0
+abbrev pub OnlyLooked : CallerSight → CallerSight → Type 0
 OnlyLooked = OnlyMade looks
 
 -- the same of a wait for a hidden key
-abbrev pub OnlyLookedHidden : CallerView → CallerView → Type 0
+abbrev pub OnlyLookedHidden : CallerSight → CallerSight → Type 0
 OnlyLookedHidden = OnlyMade looks_hidden
 
 -- a try, and the step that takes it back
-abbrev pub WasATryUndone : CallerView → CallerView → Type 0
-WasATryUndone before after = (tried : CallerView) × WasATry before tried × WasAUndo tried after
+abbrev pub WasATryUndone : CallerSight → CallerSight → Type 0
+WasATryUndone before after = (tried : CallerSight) × WasATry before tried × WasAUndo tried after
 
 -- what a refused try owes, by the word that its second step found
 abbrev pub OwedForUndo : Handle → Handle → Owed → Type 0
-OwedForUndo before after due = (due.slot ≡ after.key.slot) × (tried : CallerView)
+OwedForUndo before after due = (due.slot ≡ after.key.slot) × (tried : CallerSight)
     × WasATry (seat_view before) tried × WasUndone tried (seat_view after) due.found
 
--- a try that a table which met the rule made where it had the key live
-pub record WasLetInLive (before after : CallerView) : Type 0 where
+-- a try as WasMade says, which found a table where the key was live
+pub record WasLetInLive (before after : CallerSight) : Type 0 where
   pub try : WasATry before after
-  pub live : is_live (world try.found) after.key ≡ true
+  pub live : is_live (world try.found) after.view.key ≡ true
 
--- a table that met the rule made this step, with the Master's view before it and after it
-pub record WasMadeByMaster (kind : Kind) (before after : MasterView) : Type 0 where
-  pub slots : ℕ
-  pub limit : ℕ
+-- the one run had gone on, from all that the caller had seen before, to a table where the word was as found and
+-- the caller's view as it was; and it went on from there to what the caller has seen after
+pub record WasFound (before after : CallerSight) (word found : ℕ) : Type 0 where
+  pub between : List Kind
+  pub later : List Kind
+  pub table : Table
+  pub caller : ℕ
+  pub run : LeadsTo before.seen between table
+  pub there : IsSeated table caller before.view
+  pub as_found : slice_index table.words word ≡ found
+  pub goes_on : after.seen ≡ record {
+    opening = before.seen.opening;
+    steps = (before.seen.steps ++ between) ++ later;
+  }
+
+-- the active word of its slot was as the seat's last step found it, in a table of the one run
+abbrev pub FoundThere : Handle → Handle → Type 0
+FoundThere before after =
+    WasFound (seat_view before) (seat_view after) (active_index before.key.slot) after.found
+
+-- the hold word of its slot was as the seat's last step found it, in a table of the one run
+abbrev pub FoundInHold : Handle → Handle → Type 0
+FoundInHold before after =
+    WasFound (seat_view before) (seat_view after) (hold_index before.key.slot) after.found
+
+-- the Master's step was the next of the one run, which had gone on from all that the Master had seen before to
+-- the table that it found. That met the rule, and had the Master's view before it
+pub record WasMadeByMaster (kind : Kind) (before after : MasterSight) : Type 0 where
+  pub between : List Kind
   pub found : Table
   pub left : Table
-  pub shown : Shown slots limit found
+  pub run : LeadsTo before.seen between found
+  pub shown : Shown before.seen.opening.slots before.seen.opening.holds found
   pub step : WordStep found kind left
-  pub was : get_elem? found.views 0 ≡ some (seat.Master before)
-  pub is : get_elem? left.views 0 ≡ some (seat.Master after)
+  pub was : get_elem? found.views 0 ≡ some (seat.Master before.view)
+  pub is : get_elem? left.views 0 ≡ some (seat.Master after.view)
+  pub seen : SawNext before.seen between kind after.seen
+
+-- a node was born: its new active word was stored, and then its slot got the generation and the bit of a node
+abbrev pub WasBorn : ℕ → MasterSight → MasterSight → Type 0
+WasBorn slot before after = (stored : MasterSight) × WasMadeByMaster (stores_fresh slot) before stored
+    × WasMadeByMaster (births slot) stored after
+
+-- the active word of a node was looked at, and where it was drained the node was taken out
+abbrev pub WasUnlinked : ℕ → Bool → MasterSight → MasterSight → Type 0
+WasUnlinked slot true before after = (looked : MasterSight) × WasMadeByMaster (looks_over slot) before looked
+    × WasMadeByMaster (unlinks slot) looked after
+WasUnlinked slot false before after = WasMadeByMaster (looks_over slot) before after
+
+-- a hold word was loaded, and one hold more counted there. The new seat has seen as much of the one run as the
+-- Master then had, and the Master has seen no more since
+pub record WasCounted (slot : ℕ) (before : MasterSight) (seat after : Seen) : Type 0 where
+  pub loaded : MasterSight
+  pub counted : MasterSight
+  pub load : WasMadeByMaster (loads_hold slot) before loaded
+  pub pin : WasMadeByMaster (pins_hold slot) loaded counted
+  pub told : seat ≡ counted.seen
+  pub same : after ≡ counted.seen
 
 -- what a step of the Master tells: that it is on the word that this index has of some slot, the view after
--- it, and that a table made it
-abbrev pub MasterMakes : (ℕ → ℕ) → (ℕ → Kind) → (ℕ → ℕ → MasterView → MasterView)
-    → Step (Unit {0}) → Seated → ℕ → Seated → Type 0
-MasterMakes index kind after = On index (λ st me found me'. MasterBecomes after st me found me'
-    × WasMadeByMaster (kind (slot_of st.word)) (master_of me.0) (master_of me'.0))
+-- it, and that it was the next of the one run
+abbrev pub MasterMakes : (ℕ → ℕ) → (ℕ → Kind) → (Step (Unit {0}) → Seated → ℕ → Seated → Type 0)
+    → Step (Unit {0}) → Sighted → ℕ → Sighted → Type 0
+MasterMakes index kind tells st me found me' = (st.word ≡ index (slot_of st.word))
+    × (tells st (plain me) found (plain me')
+    × WasMadeByMaster (kind (slot_of st.word)) (master_sight me.0) (master_sight me'.0))

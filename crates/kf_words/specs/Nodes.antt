@@ -12,6 +12,8 @@ use Rattle.kf_core.specs.Bare.{marks_in}
 use Rattle.kf_words.specs.declared.master_seat.MasterSeat.{MasterSeat}
 use Rattle.kf_words.specs.declared.view.Load.{Load}
 use Rattle.kf_words.specs.declared.view.MasterView.{MasterView}
+use Rattle.kf_words.specs.declared.sight.Seen.{Seen}
+use Rattle.kf_words.specs.declared.sight.Sight.{Sight}
 use Rattle.kf_words.specs.Layout.{is_drained, holds_in, IsFree, HasRoom}
 use Rattle.kf_words.specs.Steps.{master_of, with_load, with_pin, without_pin, after_split, with_look, without_node}
 use Rattle.kf_words.specs.Callers.{TableId, Handle}
@@ -21,10 +23,24 @@ pub record MasterState : Type 0 where
   pub table : TableId
   pub view : MasterView
   pub nodes : List Node
+  pub seen : Seen  -- the beginning of the one run of all steps at the table that it has seen
+
+-- what the Master's seat knows: its view, and the beginning of the one run that it has seen
+pub record MasterSight : Type 0 where
+  pub view : MasterView
+  pub seen : Seen
+
+-- what a seat knows, where it is the Master's
+abbrev pub master_sight : Sight → MasterSight
+master_sight s = record { view = master_of s.view; seen = s.seen }
+
+-- all that the Master knows
+abbrev pub sight_in : MasterState → MasterSight
+sight_in m = record { view = m.view; seen = m.seen }
 
 -- the Master's view, which the token of its seat has
 abbrev pub master_view : MasterSeat → MasterView
-master_view s = master_of s.token.me.0
+master_view s = master_of s.token.me.0.view
 
 -- the marks of a node, where it is linked
 abbrev pub marks_of : MasterView → Key → Option Marks

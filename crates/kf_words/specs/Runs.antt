@@ -1,6 +1,5 @@
 -- Runs of steps of the table, by any of its seats, and what holds over each of them.
 use Rattle.std.specs.Prelude.{◌≡◌, ◌⊎◌, ℕ, ◌<◌, ◌≤◌, true, List, [], ◌∷◌, ◌++◌, IsTrue, IsFalse}
-use Rattle.atomic_table.specs.Table.{opening as table_opening}
 use Rattle.kf_core.specs.declared.key.Key.{Key}
 use Rattle.kf_core.specs.declared.caller.Phase.{Phase}
 use Rattle.kf_core.specs.declared.caller.Phase.TheVariants.{Turned, Running, Hidden}
@@ -10,22 +9,9 @@ use Rattle.kf_core.specs.Bare.{IsCaller, IsLast, is_linked, is_doomed, is_live}
 use Rattle.kf_core.specs.Bare.{opening as bare_opening}
 use Rattle.kf_core.specs.Safe.{Safe, NoneRunning, NoneHolding}
 use Rattle.kf_core.specs.Steps.{BareRun, OnlySpent}
-use Rattle.kf_words.specs.declared.view.View.TheVariants as seat
-use Rattle.kf_words.specs.Layout.{opening_words}
 use Rattle.kf_words.specs.Rule.{Shown}
-use Rattle.kf_words.specs.Steps.{opened}
-pub use Rattle.kf_words.specs.TableSteps.{Table, master_in, world, Kind, WordStep, tries, parts, births}
+pub use Rattle.kf_words.specs.TableSteps.{Table, master_in, world, Kind, WordStep, WordRun, AttendedRun, opened_table, tries, parts, births}
 pub use Rattle.kf_words.specs.Made.{WasALeave, WasAHide, WasAShow, WereMade, OnlyMade, OnlyLooked, OnlyLookedHidden, WasATryUndone, WasLetInLive}
-
--- these steps, one after another
-abbrev pub WordRun : Table → List Kind → Table → Type 0
-WordRun t [] t' = t' ≡ t
-WordRun t (kind ∷ kinds) t' = (between : Table) × WordStep t kind between × WordRun between kinds t'
-
--- the table at the opening
-abbrev pub opened_table : ℕ → ℕ → ℕ → Table
-opened_table limit slots start =
-    table_opening (opening_words slots start) [] (seat.Master (opened limit slots start))
 
 -- the table opens with the rule, and as the opening world
 abbrev pub OpensWell : Type 0
@@ -42,9 +28,10 @@ OverRuns Law = (slots limit : ℕ) (t u : Table) (kinds : List Kind) → Shown s
 abbrev pub RuleKept : Type 0
 RuleKept = OverRuns (λ slots limit t u. Shown slots limit u)
 
--- each run of steps is a run of events between the worlds that its tables name
+-- each attended run of steps is a run of events between the worlds that its tables name
 abbrev pub RunIsRun : Type 0
-RunIsRun = OverRuns (λ slots limit t u. (events : List Event) × BareRun (world t) events (world u))
+RunIsRun = (slots limit : ℕ) (t u : Table) (kinds : List Kind) → Shown slots limit t → AttendedRun t kinds u
+    → WordRun t kinds u × (events : List Event) × BareRun (world t) events (world u)
 
 -- the world at the end of a run is safe
 abbrev pub RunIsSafe : Type 0

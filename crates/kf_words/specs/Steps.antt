@@ -13,6 +13,7 @@ use Rattle.kf_core.specs.Marks.{fresh_marks, live_marks}
 use Rattle.kf_words.specs.declared.view.CallerView.{CallerView}
 use Rattle.kf_words.specs.declared.view.MasterView.{MasterView}
 use Rattle.kf_words.specs.declared.view.View.{View}
+use Rattle.kf_words.specs.declared.sight.Sight.{Sight}
 use Rattle.kf_words.specs.declared.view.View.TheVariants as seat
 use Rattle.kf_words.specs.Layout.{slot_of, keeps_out, is_drained, has_hide, is_unused, has_linked, one_generation}
 use Rattle.kf_words.specs.Rule.{last_key, Shown}
@@ -20,6 +21,14 @@ use Rattle.kf_words.specs.Rule.{last_key, Shown}
 -- a seat at the table of words: its view, and the homes that it has taken, of which this table has none
 abbrev pub Seated : Type 0
 Seated = Me (Unit {0}) View
+
+-- a seat that has seen something of the run of all steps
+abbrev pub Sighted : Type 0
+Sighted = Me (Unit {0}) Sight
+
+-- the seat without what it has seen
+abbrev pub plain : Sighted → Seated
+plain me = (me.0.view, me.1)
 
 -- the view that is read of a seat which is no caller's: nothing held, and no step made
 abbrev pub no_caller : CallerView
@@ -249,13 +258,3 @@ opened limit slots start = record no_master {
   slots = slice_set (replicate slots (record { generation = start; marks = None })) 0
       (record { generation = start + 1; marks = Some live_marks });
 }
-
--- once, while the rule held and this caller was among the callers, the word was as found
-pub record WasFound (c : CallerView) (word found : ℕ) : Type 0 where
-  pub slots : ℕ
-  pub limit : ℕ
-  pub table : State (Unit {0}) View
-  pub shown : Shown slots limit table
-  pub caller : ℕ
-  pub there : get_elem? shown.callers caller ≡ some c
-  pub as_found : slice_index table.words word ≡ found

@@ -1,8 +1,9 @@
 -- One atomic step of the table as a whole, by any of its seats.
-use Rattle.std.specs.Prelude.{◌≡◌, ◌≢◌, ℕ, suc, ◌+◌, ◌-◌, ◌%◌, ◌^◌, ◌<◌, bit_or, true, false, List, [], ◌∷◌, ◌++◌, map, length, slice_index, slice_set, Some, None, is_some}
+use Rattle.std.specs.Prelude.{◌≡◌, ◌≢◌, ◌⊎◌, ℕ, suc, ◌+◌, ◌-◌, ◌%◌, ◌^◌, ◌<◌, bit_or, true, false, List, [], ◌∷◌, ◌++◌, map, length, slice_index, slice_set, Some, None, is_some}
 use mathlib.Core.Option.{some}
 use lib.ListN.{get_elem?}
 use Rattle.atomic_table.specs.Table.{State, stepped, keeps}
+use Rattle.atomic_table.specs.Table.{opening as table_opening}
 use Rattle.kf_core.specs.declared.caller.Phase.TheVariants.{Turned, Running, Broken, Drained, Hiding, Hidden, Spent}
 use Rattle.kf_core.specs.declared.slot.Marks.{Marks}
 use Rattle.kf_core.specs.Marks.{fresh_marks}
@@ -12,9 +13,11 @@ use Rattle.kf_words.specs.declared.view.CallerView.{CallerView}
 use Rattle.kf_words.specs.declared.view.MasterView.{MasterView}
 use Rattle.kf_words.specs.declared.view.View.{View}
 use Rattle.kf_words.specs.declared.view.View.TheVariants as seat
-use Rattle.kf_words.specs.Layout.{bit, bias, doom, hide, linked, one_generation, active_index, hold_index, sleepers_index}
+pub use Rattle.kf_words.specs.declared.sight.Kind.{Kind}
+pub use Rattle.kf_words.specs.declared.sight.Kind.TheVariants.{Tries as tries, Undoes as undoes, Leaves as leaves, Breaks as breaks, Restores as restores, Looks as looks, Parts as parts, Hides as hides, LooksHidden as looks_hidden, Shows as shows, Releases as releases, Sleeps as sleeps, Awakes as awakes, LoadsHold as loads_hold, PinsHold as pins_hold, UnpinsHold as unpins_hold, Splits as splits, StoresFresh as stores_fresh, Births as births, TakesBias as takes_bias, MarksNode as marks_node, LooksOver as looks_over, Unlinks as unlinks}
+use Rattle.kf_words.specs.Layout.{bit, bias, doom, hide, linked, one_generation, active_index, hold_index, sleepers_index, opening_words}
 use Rattle.kf_words.specs.Rule.{bare}
-use Rattle.kf_words.specs.Steps.{caller_of, no_master, master_of, state_at, after_try, after_undo, after_leave, after_break, after_restore, after_look, after_part, after_hide, after_look_hidden, after_show, after_release, unmoved, after_split, hold_for, with_load, with_pin, without_pin, after_store, with_birth, with_marks, activated_marks, doomed_marks, with_look, without_node, unread}
+use Rattle.kf_words.specs.Steps.{caller_of, no_master, master_of, state_at, after_try, after_undo, after_leave, after_break, after_restore, after_look, after_part, after_hide, after_look_hidden, after_show, after_release, unmoved, after_split, hold_for, with_load, with_pin, without_pin, after_store, with_birth, with_marks, activated_marks, doomed_marks, with_look, without_node, unread, opened}
 use Rattle.kf_words.specs.Callers.{IsAtRest, HasReference, IsIn}
 use Rattle.kf_words.specs.Nodes.{FoundRoom, FoundFree, HasMarks, HasLooked, marks_of}
 
@@ -35,33 +38,6 @@ callers_in (v ∷ vs) = map caller_of vs
 -- the world that the views of all seats name
 abbrev pub world : Table → BareWorld
 world t = bare (master_in t.views) (callers_in t.views)
-
--- what a step does: of a caller, by its number, or of the Master, on a slot
-pub data Kind : Type 0 where
-  tries : ℕ → Kind
-  undoes : ℕ → Kind
-  leaves : ℕ → Kind
-  breaks : ℕ → Kind
-  restores : ℕ → Kind
-  looks : ℕ → Kind
-  parts : ℕ → Kind
-  hides : ℕ → Kind
-  looks_hidden : ℕ → Kind
-  shows : ℕ → Kind
-  releases : ℕ → Kind
-  sleeps : ℕ → Kind
-  awakes : ℕ → Kind
-  loads_hold : ℕ → Kind
-  pins_hold : ℕ → Kind
-  unpins_hold : ℕ → Kind
-  splits_linked : ℕ → Kind
-  splits_held : ℕ → ℕ → Kind
-  stores_fresh : ℕ → Kind
-  births : ℕ → Kind
-  takes_bias : ℕ → Kind
-  marks_node : ℕ → Kind
-  looks_over : ℕ → Kind
-  unlinks : ℕ → ℕ → Kind
 
 -- the word with k added, which wraps round in 64 bits
 abbrev pub plus : ℕ → ℕ → ℕ
@@ -105,8 +81,8 @@ MasterPlays after May index f t slot t' = (m : MasterView) × May m
     (seat.Master (after slot (slice_index t.words (index slot)) m)) t'
 
 -- the pinned hold of this slot goes to a new seat, behind all others
-abbrev pub MasterSplits : (MasterView → Type 0) → Table → ℕ → Table → Type 0
-MasterSplits May t slot t' = (m : MasterView) × May m
+abbrev pub MasterSplits : Table → ℕ → Table → Type 0
+MasterSplits t slot t' = (m : MasterView)
     × (get_elem? t.views 0 ≡ some (seat.Master m)) × (slot < length m.slots) × (m.pinning ≡ Some slot)
     × (t' ≡ record {
       words = t.words;
@@ -179,8 +155,7 @@ WordStep t (loads_hold slot) t' = MasterPlays with_load (λ m. slot < length m.s
 WordStep t (pins_hold slot) t' = MasterPlays (unread with_pin) (SeesRoom slot) hold_index (plus 1) t slot t'
 WordStep t (unpins_hold slot) t' =
     MasterPlays (unread without_pin) (HasPin slot) hold_index (minus 1) t slot t'
-WordStep t (splits_linked slot) t' = MasterSplits (λ m. is_some (state_at m slot).marks ≡ true) t slot t'
-WordStep t (splits_held slot j) t' = MasterSplits (λ m. HoldsSlot t slot j) t slot t'
+WordStep t (splits slot) t' = MasterSplits t slot t'
 WordStep t (stores_fresh slot) t' =
     MasterPlays (unread after_store) (SeesFree slot) active_index (λ _. bias) t slot t'
 WordStep t (births slot) t' =
@@ -193,6 +168,53 @@ WordStep t (marks_node slot) t' = (x : Marks)
     (plus (bit x.activated bias + doom)) t slot t'
 WordStep t (looks_over slot) t' =
     MasterPlays with_look (λ m. slot < length m.slots) active_index same t slot t'
-WordStep t (unlinks slot j) t' =
+WordStep t (unlinks slot) t' =
     MasterPlays (unread without_node) (SeesDrained slot) hold_index (minus linked) t slot t'
-    × IsDrainedOn t slot j
+
+-- these steps, one after another
+abbrev pub WordRun : Table → List Kind → Table → Type 0
+WordRun t [] t' = t' ≡ t
+WordRun t (kind ∷ kinds) t' = (between : Table) × WordStep t kind between × WordRun between kinds t'
+
+-- the table at the opening
+abbrev pub opened_table : ℕ → ℕ → ℕ → Table
+opened_table limit slots start =
+    table_opening (opening_words slots start) [] (seat.Master (opened limit slots start))
+
+-- the slot of a hold that gets its seat has a linked node, or a caller who holds it
+abbrev pub IsPinnable : Table → ℕ → Type 0
+IsPinnable t slot =
+    (is_some (state_at (master_in t.views) slot).marks ≡ true) ⊎ ((j : ℕ) × HoldsSlot t slot j)
+
+-- who gives a seat to a hold, or takes a node out, was shown a caller that lets it: one on the slot of a node
+-- that is no longer linked, and one that is drained on the node
+abbrev pub IsAttended : Table → Kind → Type 0
+IsAttended t (tries j) = Unit {0}
+IsAttended t (undoes j) = Unit {0}
+IsAttended t (leaves j) = Unit {0}
+IsAttended t (breaks j) = Unit {0}
+IsAttended t (restores j) = Unit {0}
+IsAttended t (looks j) = Unit {0}
+IsAttended t (parts j) = Unit {0}
+IsAttended t (hides j) = Unit {0}
+IsAttended t (looks_hidden j) = Unit {0}
+IsAttended t (shows j) = Unit {0}
+IsAttended t (releases j) = Unit {0}
+IsAttended t (sleeps j) = Unit {0}
+IsAttended t (awakes j) = Unit {0}
+IsAttended t (loads_hold j) = Unit {0}
+IsAttended t (pins_hold j) = Unit {0}
+IsAttended t (unpins_hold j) = Unit {0}
+IsAttended t (stores_fresh j) = Unit {0}
+IsAttended t (births j) = Unit {0}
+IsAttended t (takes_bias j) = Unit {0}
+IsAttended t (marks_node j) = Unit {0}
+IsAttended t (looks_over j) = Unit {0}
+IsAttended t (splits slot) = IsPinnable t slot
+IsAttended t (unlinks slot) = (j : ℕ) × IsDrainedOn t slot j
+
+-- a run in which each step of the Master was attended
+abbrev pub AttendedRun : Table → List Kind → Table → Type 0
+AttendedRun t [] t' = t' ≡ t
+AttendedRun t (kind ∷ kinds) t' = (between : Table) × IsAttended t kind × WordStep t kind between
+    × AttendedRun between kinds t'

@@ -1,9 +1,9 @@
 //! Keys that are hidden: one caller hides a key, waits until nobody uses its node, and shows it again.
 ghost use Rattle.std.specs.Prelude.{◌≡◌, true, IfOk, IfErr, MatchResult};
 ghost use Rattle.kf_core.specs.declared.caller.Phase.TheVariants as phase_of;
-ghost use Rattle.kf_words.specs.Callers.{IsSameSeat, SawUnused, SawUser, WasShown, FoundThere, seat_view};
+ghost use Rattle.kf_words.specs.Callers.{IsSameSeat, SawUnused, SawUser, WasShown, seat_view};
 ghost use Rattle.kf_words.specs.Layout.{is_unused};
-ghost use Rattle.kf_words.specs.Made.{OnlyLookedHidden, WasALookHidden, WasAShow};
+ghost use Rattle.kf_words.specs.Made.{FoundThere, OnlyLookedHidden, WasALookHidden, WasAShow};
 
 use crate::hold::Hold;
 use crate::layout::is_unused;
@@ -60,8 +60,8 @@ impl Hiding {
         ensures same { MatchResult result (λ saw. IsSameSeat self saw) (λ back. IsSameSeat self back) }
         ensures hidden { IfOk result (λ saw. SawUnused self saw) }
         ensures not_yet { IfErr result (λ back. SawUser self back) }
-        ensures found { MatchResult result (λ saw. FoundThere self saw.found)
-            (λ back. FoundThere self back.found) }
+        ensures found { MatchResult result (λ saw. FoundThere self saw)
+            (λ back. FoundThere self back) }
         ensures made { MatchResult result (λ saw. WasALookHidden (seat_view self) (seat_view saw))
             (λ back. WasALookHidden (seat_view self) (seat_view back)) }
     {

@@ -1,8 +1,8 @@
 //! A hold: it keeps the slot of its node, and has no reference to the node.
 ghost use Rattle.std.specs.Prelude.{◌≡◌, true, IfOk, IfErr, MatchResult};
 ghost use Rattle.kf_core.specs.Phases.{is_waiting};
-ghost use Rattle.kf_words.specs.Callers.{IsSameSeat, Entered, WasTurned, SawDrained, SawUse, WasHidden, FoundHidden, FoundThere, seat_view};
-ghost use Rattle.kf_words.specs.Made.{WasATry, WasATryUndone, WasALook, WasAHide, WasLetInLive};
+ghost use Rattle.kf_words.specs.Callers.{IsSameSeat, Entered, WasTurned, SawDrained, SawUse, WasHidden, FoundHidden, seat_view};
+ghost use Rattle.kf_words.specs.Made.{FoundThere, WasATry, WasATryUndone, WasALook, WasAHide, WasLetInLive};
 
 use crate::call::Call;
 use crate::hiding::Hiding;
@@ -51,8 +51,8 @@ impl Hold {
         ensures same { MatchResult result (λ call. IsSameSeat self call) (λ hold. IsSameSeat self hold) }
         ensures call { IfOk result (λ call. Entered self call) }
         ensures refused { IfErr result (λ hold. WasTurned self hold) }
-        ensures found { MatchResult result (λ call. FoundThere self call.found)
-            (λ hold. FoundThere self hold.found) }
+        ensures found { MatchResult result (λ call. FoundThere self call)
+            (λ hold. FoundThere self hold) }
         ensures made { MatchResult result (λ call. WasATry (seat_view self) (seat_view call))
             (λ hold. WasATryUndone (seat_view self) (seat_view hold)) }
         ensures live { IfOk result (λ call. WasLetInLive (seat_view self) (seat_view call)) }
@@ -72,8 +72,8 @@ impl Hold {
         ensures same { MatchResult result (λ saw. IsSameSeat self saw) (λ hold. IsSameSeat self hold) }
         ensures drained { IfOk result (λ saw. SawDrained self saw) }
         ensures not_yet { IfErr result (λ hold. SawUse self hold) }
-        ensures found { MatchResult result (λ saw. FoundThere self saw.found)
-            (λ hold. FoundThere self hold.found) }
+        ensures found { MatchResult result (λ saw. FoundThere self saw)
+            (λ hold. FoundThere self hold) }
         ensures made { MatchResult result (λ saw. WasALook (seat_view self) (seat_view saw))
             (λ hold. WasALook (seat_view self) (seat_view hold)) }
     {

@@ -1,6 +1,7 @@
 //! What the words tell at every moment, and which event each step is.
 ghost use Rattle.kf_words.specs.Laws.{AlwaysSafe, LetsInTheLive, DrainedIsUnused, FreeIsUnheld, TellsTheLinked, TellsTheHidden, HiddenIsRefused, ShownLetsIn};
 ghost use Rattle.kf_words.specs.Events.{TryIsEnter, UndoIsUndo, LookIsLook, PartIsPart, LeaveIsLeave, BreakIsBreak, RestoreIsRestore, ReleaseIsRelease, HideIsHide, LookHiddenIsLook, ShowIsShow, MissIsNothing, RiseIsRise, MarkIsMark, BirthIsBorn, UnlinkIsUnlink, SplitIsPin, HeldSplitIsPin, RestIsNothing};
+ghost use Rattle.kf_words.specs.History.{EndsARun, SeenLeadsHere, OneRunIsSeen, OneEnd};
 ghost use Rattle.kf_words.specs.Life.{WordLife};
 ghost use Rattle.kf_words.specs.Runs.{OpensWell, RuleKept, RunIsRun, RunIsSafe, MarkedKeepsOut, DrainedForGood, HiddenKeepsOut, PassedForGood, BornUnheld, LetInLive, TakenLive};
 
@@ -63,8 +64,9 @@ pub fn words_step()
 /// rule. It does nothing: a step is one of the kinds that `words_step` names, made where the view of its own
 /// seat allows it.
 ///
-/// The table opens with the rule, as the opening world. Each step keeps the rule, and each run of steps is a
-/// run of events, so the world stays safe. Once a key was marked, each try there is refused, ever after.
+/// The table opens with the rule, as the opening world. Each step keeps the rule, so the world stays safe. A
+/// run is one of events, where the Master gives a seat to a hold of a node that is linked or held, and takes a
+/// node out while a caller is drained there: who calls `pin`, `pin_held` and `unlink` shows such a caller. Once a key was marked, each try there is refused, ever after.
 /// While a caller is drained or parted on a key, nobody is running on that key, nor ever after. While a
 /// caller hides a key, a try there is refused, and once it is hidden nobody is running there until it is
 /// shown. Once a slot was given again, only spent callers are on its earlier keys, ever after. A birth finds
@@ -82,6 +84,20 @@ pub fn words_run()
     ensures born_unheld { BornUnheld }
     ensures let_in_live { LetInLive }
     ensures taken_live { TakenLive }
+{}
+
+/// What the rule of the table keeps of the one run, between any two steps, whatever the seats do. It does
+/// nothing: the rule is the premise.
+///
+/// The table is always at the end of a run of `words_run` from its opening. What a seat has seen is a
+/// beginning of that run: it leads to a table that met the rule, and from there the run went on to the table
+/// as it is. Of two seats, one has seen as much as the other or more. Steps of one list lead to one table, so
+/// what a seat has seen names that table.
+pub fn words_kept()
+    ensures ends_a_run { EndsARun }
+    ensures seen_leads_here { SeenLeadsHere }
+    ensures one_run_is_seen { OneRunIsSeen }
+    ensures one_end { OneEnd }
 {}
 
 /// A run of words in which every kind of step stands: a call, a hiding, a removal seen through, and the next

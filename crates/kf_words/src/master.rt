@@ -2,7 +2,8 @@
 //! tree's commands.
 ghost use Rattle.std.specs.Prelude.{◌≡◌, ◌<◌, ◌≤◌, true, false, length, is_some, IfOk, IfErr, OnOk};
 ghost use Rattle.kf_core.specs.declared.refusal.Refusal.TheVariants as refusal_of;
-ghost use Rattle.kf_words.specs.Nodes.{KeepsNodes, KeepsRooms, IsNewHold, IsLastKey, WasPinned, PinRefused, HeldPinRefused, RoomFound, FoundRoom, FoundFull, marks_of};
+ghost use Rattle.kf_words.specs.Nodes.{KeepsNodes, KeepsRooms, IsNewHold, IsLastKey, WasPinned, PinRefused, HeldPinRefused, RoomFound, FoundRoom, FoundFull, marks_of, sight_in};
+ghost use Rattle.kf_words.specs.Made.{WasCounted};
 
 use crate::call::Call;
 use crate::hold::Hold;
@@ -36,6 +37,7 @@ impl Model for Master {
       table = m.steps.token.table_id;
       view = master_view m.steps;
       nodes = m.nodes.items;
+      seen = m.steps.token.me.0.seen;
     } };
 
     ghost invariant = { λ m. IsMirrored (master_view m.steps) m.slots.items m.nodes.items m.holds
@@ -85,6 +87,8 @@ impl Master {
         ensures kept { KeepsNodes self.old self.new }
         ensures hold { IfOk result (λ hold. IsNewHold self.old key hold) }
         ensures pinned { OnOk result (WasPinned self.old.view key.slot self.new.view) }
+        ensures made { IfOk result
+            (λ hold. WasCounted key.slot (sight_in self.old) hold.seen self.new.seen) }
         ensures refused { IfErr result (λ why. PinRefused self.old.view key.slot why self.new.view) }
         ensures full { IfErr result
             (λ why. why ≡ refusal_of.TooManyHolds → FoundFull self.new.view key.slot) }
@@ -104,6 +108,8 @@ impl Master {
         ensures hold { IfOk result (λ hold. IsNewHold self.old call.now.key hold) }
         ensures pinned { OnOk result
             (IsLastKey self.old.view call.now.key × WasPinned self.old.view call.now.key.slot self.new.view) }
+        ensures made { IfOk result
+            (λ hold. WasCounted call.now.key.slot (sight_in self.old) hold.seen self.new.seen) }
         ensures refused { IfErr result (λ why. HeldPinRefused self.old.view call.now.key why self.new.view) }
         ensures full { IfErr result
             (λ why. why ≡ refusal_of.TooManyHolds → FoundFull self.new.view call.now.key.slot) }
@@ -121,6 +127,8 @@ impl Master {
         ensures kept { KeepsNodes self.old self.new }
         ensures hold { IfOk result (λ hold. IsNewHold self.old key hold) }
         ensures pinned { OnOk result (WasPinned self.old.view key.slot self.new.view) }
+        ensures made { IfOk result
+            (λ hold. WasCounted key.slot (sight_in self.old) hold.seen self.new.seen) }
         ensures refused { IfErr result (λ why. PinRefused self.old.view key.slot why self.new.view) }
         ensures full { IfErr result
             (λ why. why ≡ refusal_of.TooManyHolds → FoundFull self.new.view key.slot) }

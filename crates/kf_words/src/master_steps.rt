@@ -4,10 +4,10 @@ ghost use Rattle.std.specs.Arc.{arc_value};
 ghost use Rattle.kf_core.specs.Marks.{fresh_marks};
 ghost use Rattle.kf_words.specs.Layout.{active_index, hold_index};
 ghost use Rattle.kf_words.specs.Rule.{last_key};
-ghost use Rattle.kf_words.specs.Steps.{with_load, with_pin, without_pin, after_split, new_hold, state_at, with_look, without_node, after_store, with_birth, TellsSlot, with_marks, activated_marks, doomed_marks};
+ghost use Rattle.kf_words.specs.Steps.{with_load, with_pin, without_pin, after_split, new_hold, state_at, with_look, without_node, after_store, with_birth, TellsSlot, with_marks, activated_marks, doomed_marks, plain};
 ghost use Rattle.kf_core.specs.declared.slot.Marks.{Marks};
-ghost use Rattle.kf_words.specs.Nodes.{HasMarks, HasLooked, FoundRoom, FoundFree, master_view};
-ghost use Rattle.kf_words.specs.TableSteps.{takes_bias, marks_node};
+ghost use Rattle.kf_words.specs.Nodes.{HasMarks, HasLooked, FoundRoom, FoundFree, master_sight, master_view};
+ghost use Rattle.kf_words.specs.TableSteps.{loads_hold, pins_hold, stores_fresh, births, takes_bias, marks_node, looks_over, unlinks};
 ghost use Rattle.kf_words.specs.Made.{WasMadeByMaster};
 ghost use Rattle.kf_words.specs.declared.view.View.TheVariants as seat_of;
 
@@ -17,7 +17,7 @@ use crate::plays::{
     Births, LoadsHold, LooksOver, MarksNode, PinsHold, SplitsHold, StoresFresh, TakesBias, Unlinks,
     UnpinsHold,
 };
-use crate::view::View;
+use crate::sight::Sight;
 use atomic_table::Seat;
 use kf_core::Marks;
 
@@ -45,6 +45,8 @@ impl MasterSeat {
         requires { slot < length (master_view self.old).slots }
         ensures table { self.new.token.table_id ≡ self.old.token.table_id }
         ensures view { master_view self.new ≡ with_load slot result (master_view self.old) }
+        ensures made { WasMadeByMaster (loads_hold slot) (master_sight self.old.token.me.0)
+            (master_sight self.new.token.me.0) }
         ensures slot { TellsSlot (master_view self.old) slot result }
     {
         let word = self.hold_index(slot);
@@ -59,6 +61,8 @@ impl MasterSeat {
         requires room { FoundRoom (master_view self.old) slot }
         ensures table { self.new.token.table_id ≡ self.old.token.table_id }
         ensures view { master_view self.new ≡ with_pin slot (master_view self.old) }
+        ensures made { WasMadeByMaster (pins_hold slot) (master_sight self.old.token.me.0)
+            (master_sight self.new.token.me.0) }
     {
         let word = self.hold_index(slot);
         let token = &mut self.token;
@@ -82,13 +86,15 @@ impl MasterSeat {
     }
 
     /// A new seat gets the hold.
-    pub(crate) fn give_hold(&mut self, slot: u32) -> Seat<(), View>
+    pub(crate) fn give_hold(&mut self, slot: u32) -> Seat<(), Sight>
         requires slot { slot < length (master_view self.old).slots }
         requires one { (master_view self.old).pinning ≡ Some slot }
         ensures table { self.new.token.table_id ≡ self.old.token.table_id }
         ensures view { master_view self.new ≡ after_split (master_view self.old) }
+        ensures seen { self.new.token.me.0.seen ≡ self.old.token.me.0.seen }
         ensures same_table { result.table_id ≡ self.old.token.table_id }
-        ensures hold { result.me
+        ensures told { result.me.0.seen ≡ self.old.token.me.0.seen }
+        ensures hold { plain result.me
             ≡ (seat_of.Caller (new_hold (last_key slot (state_at (master_view self.old) slot))), []) }
     {
         let _ = slot; // the contract alone names it
@@ -102,6 +108,8 @@ impl MasterSeat {
         requires free { FoundFree (master_view self.old) slot }
         ensures table { self.new.token.table_id ≡ self.old.token.table_id }
         ensures view { master_view self.new ≡ after_store slot (master_view self.old) }
+        ensures made { WasMadeByMaster (stores_fresh slot) (master_sight self.old.token.me.0)
+            (master_sight self.new.token.me.0) }
     {
         let word = self.active_index(slot);
         let token = &mut self.token;
@@ -116,6 +124,8 @@ impl MasterSeat {
         requires fresh { (master_view self.old).fresh ≡ Some slot }
         ensures table { self.new.token.table_id ≡ self.old.token.table_id }
         ensures view { master_view self.new ≡ with_birth slot (master_view self.old) }
+        ensures made { WasMadeByMaster (births slot) (master_sight self.old.token.me.0)
+            (master_sight self.new.token.me.0) }
     {
         let word = self.hold_index(slot);
         let token = &mut self.token;
@@ -129,7 +139,7 @@ impl MasterSeat {
         requires { HasMarks (master_view self.old) slot fresh_marks }
         ensures table { self.new.token.table_id ≡ self.old.token.table_id }
         ensures view { master_view self.new ≡ with_marks activated_marks slot (master_view self.old) }
-        ensures made { WasMadeByMaster (takes_bias slot) (master_view self.old) (master_view self.new) }
+        ensures made { WasMadeByMaster (takes_bias slot) (master_sight self.old.token.me.0) (master_sight self.new.token.me.0) }
     {
         let word = self.active_index(slot);
         let token = &mut self.token;
@@ -145,7 +155,8 @@ impl MasterSeat {
         requires undoomed { marks.doomed ≡ false }
         ensures table { self.new.token.table_id ≡ self.old.token.table_id }
         ensures view { master_view self.new ≡ with_marks doomed_marks slot (master_view self.old) }
-        ensures made { WasMadeByMaster (marks_node slot) (master_view self.old) (master_view self.new) }
+        ensures made { WasMadeByMaster (marks_node slot) (master_sight self.old.token.me.0)
+            (master_sight self.new.token.me.0) }
     {
         let bits = mark_bits(marks);
         let word = self.active_index(slot);
@@ -160,6 +171,8 @@ impl MasterSeat {
         requires { slot < length (master_view self.old).slots }
         ensures table { self.new.token.table_id ≡ self.old.token.table_id }
         ensures view { master_view self.new ≡ with_look slot result (master_view self.old) }
+        ensures made { WasMadeByMaster (looks_over slot) (master_sight self.old.token.me.0)
+            (master_sight self.new.token.me.0) }
     {
         let word = self.active_index(slot);
         let token = &mut self.token;
@@ -172,6 +185,8 @@ impl MasterSeat {
         requires drained { HasLooked (master_view self.old) slot }
         ensures table { self.new.token.table_id ≡ self.old.token.table_id }
         ensures view { master_view self.new ≡ without_node slot (master_view self.old) }
+        ensures made { WasMadeByMaster (unlinks slot) (master_sight self.old.token.me.0)
+            (master_sight self.new.token.me.0) }
     {
         let word = self.hold_index(slot);
         let token = &mut self.token;

@@ -2,22 +2,22 @@
 //! they may look at what lies beside a Master, as those do who only read the tree.
 ghost use Rattle.std.specs.Prelude.{◌≡◌};
 
-use crate::view::View;
+use crate::sight::Sight;
 use atomic_table::Seat;
 use std::marker::Model;
 
 /// The Master's seat at the table, which is reached through a `&mut` alone. To a contract it is that seat.
 #[derive(Drop)]
 pub(crate) struct MasterToken {
-    pub(crate) seat: Seat<(), View>,
+    pub(crate) seat: Seat<(), Sight>,
 }
 
 impl Model for MasterToken {
     ghost use Rattle.std.specs.Borrow.{ftrue};
     ghost use Rattle.atomic_table.specs.declared.shared.Seat.{Seat};
-    ghost use Rattle.kf_words.specs.declared.view.View.{View};
+    ghost use Rattle.kf_words.specs.declared.sight.Sight.{Sight};
 
-    ghost Value = { Seat (Unit {0}) View };
+    ghost Value = { Seat (Unit {0}) Sight };
 
     ghost view = { λ token. token.seat };
 
@@ -33,7 +33,7 @@ unsafe impl Sync for MasterToken {}
 
 impl MasterToken {
     /// The token of this seat.
-    pub(crate) fn new(seat: Seat<(), View>) -> MasterToken
+    pub(crate) fn new(seat: Seat<(), Sight>) -> MasterToken
         ensures same { result ≡ seat }
     {
         MasterToken { seat }

@@ -1,11 +1,11 @@
 //! The kinds of step on the table of words: what each makes of the view of the seat that steps.
-use crate::view::View;
+use crate::sight::Sight;
 use atomic_table::{Play, Split};
 
 /// A caller counts itself in the active word.
 pub(crate) struct Tries;
 
-impl Play<(), View> for Tries {
+impl Play<(), Sight> for Tries {
     ghost use Rattle.kf_words.specs.Made.{MakesTry};
 
     ghost then = { MakesTry };
@@ -14,7 +14,7 @@ impl Play<(), View> for Tries {
 /// A caller takes a refused try back.
 pub(crate) struct Undoes;
 
-impl Play<(), View> for Undoes {
+impl Play<(), Sight> for Undoes {
     ghost use Rattle.kf_words.specs.Made.{MakesUndo};
 
     ghost then = { MakesUndo };
@@ -23,7 +23,7 @@ impl Play<(), View> for Undoes {
 /// A caller ends its call.
 pub(crate) struct Leaves;
 
-impl Play<(), View> for Leaves {
+impl Play<(), Sight> for Leaves {
     ghost use Rattle.kf_words.specs.Made.{MakesLeave};
 
     ghost then = { MakesLeave };
@@ -32,7 +32,7 @@ impl Play<(), View> for Leaves {
 /// A caller gives its reference up inside its call.
 pub(crate) struct Breaks;
 
-impl Play<(), View> for Breaks {
+impl Play<(), Sight> for Breaks {
     ghost use Rattle.kf_words.specs.Made.{MakesBreak};
 
     ghost then = { MakesBreak };
@@ -41,7 +41,7 @@ impl Play<(), View> for Breaks {
 /// A caller takes a reference again inside its call.
 pub(crate) struct Restores;
 
-impl Play<(), View> for Restores {
+impl Play<(), Sight> for Restores {
     ghost use Rattle.kf_words.specs.Made.{MakesRestore};
 
     ghost then = { MakesRestore };
@@ -50,7 +50,7 @@ impl Play<(), View> for Restores {
 /// A caller loads the active word.
 pub(crate) struct Looks;
 
-impl Play<(), View> for Looks {
+impl Play<(), Sight> for Looks {
     ghost use Rattle.kf_words.specs.Made.{MakesLook};
 
     ghost then = { MakesLook };
@@ -59,7 +59,7 @@ impl Play<(), View> for Looks {
 /// A caller sets the bit of a hidden key.
 pub(crate) struct Hides;
 
-impl Play<(), View> for Hides {
+impl Play<(), Sight> for Hides {
     ghost use Rattle.kf_words.specs.Made.{MakesHide};
 
     ghost then = { MakesHide };
@@ -68,7 +68,7 @@ impl Play<(), View> for Hides {
 /// A caller that hides its key loads the active word.
 pub(crate) struct LooksHidden;
 
-impl Play<(), View> for LooksHidden {
+impl Play<(), Sight> for LooksHidden {
     ghost use Rattle.kf_words.specs.Made.{MakesLookHidden};
 
     ghost then = { MakesLookHidden };
@@ -77,7 +77,7 @@ impl Play<(), View> for LooksHidden {
 /// A caller takes the bit of a hidden key off.
 pub(crate) struct Shows;
 
-impl Play<(), View> for Shows {
+impl Play<(), Sight> for Shows {
     ghost use Rattle.kf_words.specs.Made.{MakesShow};
 
     ghost then = { MakesShow };
@@ -86,7 +86,7 @@ impl Play<(), View> for Shows {
 /// A caller loads the hold word.
 pub(crate) struct Parts;
 
-impl Play<(), View> for Parts {
+impl Play<(), Sight> for Parts {
     ghost use Rattle.kf_words.specs.Made.{MakesPart};
 
     ghost then = { MakesPart };
@@ -95,7 +95,7 @@ impl Play<(), View> for Parts {
 /// A caller gives its slot back.
 pub(crate) struct Releases;
 
-impl Play<(), View> for Releases {
+impl Play<(), Sight> for Releases {
     ghost use Rattle.kf_words.specs.Made.{MakesRelease};
 
     ghost then = { MakesRelease };
@@ -104,123 +104,136 @@ impl Play<(), View> for Releases {
 /// A caller counts itself among its slot's sleepers.
 pub(crate) struct Sleeps;
 
-impl Play<(), View> for Sleeps {
-    ghost use Rattle.kf_words.specs.Steps.{CallerBecomes, unmoved};
+impl Play<(), Sight> for Sleeps {
+    ghost use Rattle.kf_words.specs.Made.{Stays};
 
-    ghost then = { CallerBecomes unmoved };
+    ghost then = { Stays };
 }
 
 /// A caller is no longer among its slot's sleepers.
 pub(crate) struct Awakes;
 
-impl Play<(), View> for Awakes {
-    ghost use Rattle.kf_words.specs.Steps.{CallerBecomes, unmoved};
+impl Play<(), Sight> for Awakes {
+    ghost use Rattle.kf_words.specs.Made.{Stays};
 
-    ghost then = { CallerBecomes unmoved };
+    ghost then = { Stays };
 }
 
 /// The Master loads a hold word.
 pub(crate) struct LoadsHold;
 
-impl Play<(), View> for LoadsHold {
+impl Play<(), Sight> for LoadsHold {
     ghost use Rattle.kf_words.specs.Layout.{hold_index};
-    ghost use Rattle.kf_words.specs.Steps.{On, LoadsHold};
+    ghost use Rattle.kf_words.specs.Steps.{LoadsHold};
+    ghost use Rattle.kf_words.specs.TableSteps.{loads_hold};
+    ghost use Rattle.kf_words.specs.Made.{MasterMakes};
 
-    ghost then = { On hold_index LoadsHold };
+    ghost then = { MasterMakes hold_index loads_hold LoadsHold };
 }
 
 /// The Master counts one hold more, which has no seat yet.
 pub(crate) struct PinsHold;
 
-impl Play<(), View> for PinsHold {
+impl Play<(), Sight> for PinsHold {
     ghost use Rattle.kf_words.specs.Layout.{hold_index};
-    ghost use Rattle.kf_words.specs.Steps.{On, MasterBecomes, unread, with_pin};
+    ghost use Rattle.kf_words.specs.Steps.{MasterBecomes, unread, with_pin};
+    ghost use Rattle.kf_words.specs.TableSteps.{pins_hold};
+    ghost use Rattle.kf_words.specs.Made.{MasterMakes};
 
-    ghost then = { On hold_index (MasterBecomes (unread with_pin)) };
+    ghost then = { MasterMakes hold_index pins_hold (MasterBecomes (unread with_pin)) };
 }
 
 /// The Master takes back a hold that has no seat.
 pub(crate) struct UnpinsHold;
 
-impl Play<(), View> for UnpinsHold {
+impl Play<(), Sight> for UnpinsHold {
     ghost use Rattle.kf_words.specs.Layout.{hold_index};
-    ghost use Rattle.kf_words.specs.Steps.{On, MasterBecomes, unread, without_pin};
+    ghost use Rattle.kf_words.specs.Steps.{MasterBecomes, unread, without_pin};
+    ghost use Rattle.kf_words.specs.TableSteps.{unpins_hold};
+    ghost use Rattle.kf_words.specs.Made.{MasterMakes};
 
-    ghost then = { On hold_index (MasterBecomes (unread without_pin)) };
+    ghost then = { MasterMakes hold_index unpins_hold (MasterBecomes (unread without_pin)) };
 }
 
 /// The Master stores the active word of a node that is to be born.
 pub(crate) struct StoresFresh;
 
-impl Play<(), View> for StoresFresh {
+impl Play<(), Sight> for StoresFresh {
     ghost use Rattle.kf_words.specs.Layout.{active_index};
-    ghost use Rattle.kf_words.specs.Steps.{On, MasterBecomes, unread, after_store};
+    ghost use Rattle.kf_words.specs.Steps.{MasterBecomes, unread, after_store};
+    ghost use Rattle.kf_words.specs.TableSteps.{stores_fresh};
+    ghost use Rattle.kf_words.specs.Made.{MasterMakes};
 
-    ghost then = { On active_index (MasterBecomes (unread after_store)) };
+    ghost then = { MasterMakes active_index stores_fresh (MasterBecomes (unread after_store)) };
 }
 
 /// The Master gives a slot its next generation, and links a node there.
 pub(crate) struct Births;
 
-impl Play<(), View> for Births {
+impl Play<(), Sight> for Births {
     ghost use Rattle.kf_words.specs.Layout.{hold_index};
-    ghost use Rattle.kf_words.specs.Steps.{On, MasterBecomes, unread, with_birth};
+    ghost use Rattle.kf_words.specs.Steps.{MasterBecomes, unread, with_birth};
+    ghost use Rattle.kf_words.specs.TableSteps.{births};
+    ghost use Rattle.kf_words.specs.Made.{MasterMakes};
 
-    ghost then = { On hold_index (MasterBecomes (unread with_birth)) };
+    ghost then = { MasterMakes hold_index births (MasterBecomes (unread with_birth)) };
 }
 
 /// The Master takes the bias off an active word: the node is activated.
 pub(crate) struct TakesBias;
 
-impl Play<(), View> for TakesBias {
+impl Play<(), Sight> for TakesBias {
     ghost use Rattle.kf_words.specs.Layout.{active_index};
-    ghost use Rattle.kf_words.specs.Steps.{unread, with_marks, activated_marks};
+    ghost use Rattle.kf_words.specs.Steps.{MasterBecomes, unread, with_marks, activated_marks};
     ghost use Rattle.kf_words.specs.TableSteps.{takes_bias};
     ghost use Rattle.kf_words.specs.Made.{MasterMakes};
 
-    ghost then = { MasterMakes active_index takes_bias (unread (with_marks activated_marks)) };
+    ghost then = { MasterMakes active_index takes_bias (MasterBecomes (unread (with_marks activated_marks))) };
 }
 
 /// The Master marks a node as doomed.
 pub(crate) struct MarksNode;
 
-impl Play<(), View> for MarksNode {
+impl Play<(), Sight> for MarksNode {
     ghost use Rattle.kf_words.specs.Layout.{active_index};
-    ghost use Rattle.kf_words.specs.Steps.{unread, with_marks, doomed_marks};
+    ghost use Rattle.kf_words.specs.Steps.{MasterBecomes, unread, with_marks, doomed_marks};
     ghost use Rattle.kf_words.specs.TableSteps.{marks_node};
     ghost use Rattle.kf_words.specs.Made.{MasterMakes};
 
-    ghost then = { MasterMakes active_index marks_node (unread (with_marks doomed_marks)) };
+    ghost then = { MasterMakes active_index marks_node (MasterBecomes (unread (with_marks doomed_marks))) };
 }
 
 /// The Master loads an active word.
 pub(crate) struct LooksOver;
 
-impl Play<(), View> for LooksOver {
+impl Play<(), Sight> for LooksOver {
     ghost use Rattle.kf_words.specs.Layout.{active_index};
-    ghost use Rattle.kf_words.specs.Steps.{On, MasterBecomes, with_look};
+    ghost use Rattle.kf_words.specs.Steps.{MasterBecomes, with_look};
+    ghost use Rattle.kf_words.specs.TableSteps.{looks_over};
+    ghost use Rattle.kf_words.specs.Made.{MasterMakes};
 
-    ghost then = { On active_index (MasterBecomes with_look) };
+    ghost then = { MasterMakes active_index looks_over (MasterBecomes with_look) };
 }
 
 /// The Master takes a node out of its slot.
 pub(crate) struct Unlinks;
 
-impl Play<(), View> for Unlinks {
+impl Play<(), Sight> for Unlinks {
     ghost use Rattle.kf_words.specs.Layout.{hold_index};
-    ghost use Rattle.kf_words.specs.Steps.{On, MasterBecomes, unread, without_node};
+    ghost use Rattle.kf_words.specs.Steps.{MasterBecomes, unread, without_node};
+    ghost use Rattle.kf_words.specs.TableSteps.{unlinks};
+    ghost use Rattle.kf_words.specs.Made.{MasterMakes};
 
-    ghost then = { On hold_index (MasterBecomes (unread without_node)) };
+    ghost then = { MasterMakes hold_index unlinks (MasterBecomes (unread without_node)) };
 }
 
 /// The hold that has no seat yet goes to a new one.
 pub(crate) struct SplitsHold;
 
-impl Split<View> for SplitsHold {
-    ghost use Rattle.kf_words.specs.Steps.{master_of, after_split, hold_for};
-    ghost use Rattle.kf_words.specs.declared.view.View.TheVariants.{Master, Caller};
+impl Split<Sight> for SplitsHold {
+    ghost use Rattle.kf_words.specs.History.{after_giving, given};
 
-    ghost left = { λ v. Master (after_split (master_of v)) };
+    ghost left = { after_giving };
 
-    ghost right = { λ v. Caller (hold_for (master_of v) (master_of v).pinning) };
+    ghost right = { given };
 }

@@ -3,8 +3,8 @@
 ghost use Rattle.std.specs.Prelude.{◌≡◌, true, IfOk, IfErr, MatchResult};
 ghost use Rattle.kf_core.specs.Phases.{has_reference};
 ghost use Rattle.kf_core.specs.declared.caller.Phase.TheVariants as phase_of;
-ghost use Rattle.kf_words.specs.Callers.{IsSameSeat, Entered, WasTurned, WasLeft, WasBroken, FoundThere, owed, seat_view};
-ghost use Rattle.kf_words.specs.Made.{WasATry, WasATryUndone, OwedForUndo, WasALeave, WasABreak, WasLetInLive};
+ghost use Rattle.kf_words.specs.Callers.{IsSameSeat, Entered, WasTurned, WasLeft, WasBroken, owed, seat_view};
+ghost use Rattle.kf_words.specs.Made.{FoundThere, WasATry, WasATryUndone, OwedForUndo, WasALeave, WasABreak, WasLetInLive};
 
 use crate::call::Call;
 use crate::hold::Hold;
@@ -22,8 +22,8 @@ impl Hold {
         ensures same { MatchResult result (λ call. IsSameSeat self call) (λ back. IsSameSeat self back.0) }
         ensures call { IfOk result (λ call. Entered self call) }
         ensures refused { IfErr result (λ back. WasTurned self back.0) }
-        ensures found { MatchResult result (λ call. FoundThere self call.found)
-            (λ back. FoundThere self back.0.found) }
+        ensures found { MatchResult result (λ call. FoundThere self call)
+            (λ back. FoundThere self back.0) }
         ensures made { MatchResult result (λ call. WasATry (seat_view self) (seat_view call))
             (λ back. WasATryUndone (seat_view self) (seat_view back.0)) }
         ensures live { IfOk result (λ call. WasLetInLive (seat_view self) (seat_view call)) }

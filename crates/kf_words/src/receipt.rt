@@ -1,8 +1,8 @@
 //! Receipts: a caller that saw its node drained, and one that saw it gone as well.
 ghost use Rattle.std.specs.Prelude.{◌≡◌, IfOk, IfErr, MatchResult};
 ghost use Rattle.kf_core.specs.declared.caller.Phase.TheVariants as phase_of;
-ghost use Rattle.kf_words.specs.Callers.{IsSameSeat, SawParted, SawLinked, FoundInHold, seat_view};
-ghost use Rattle.kf_words.specs.Made.{WasAPart};
+ghost use Rattle.kf_words.specs.Callers.{IsSameSeat, SawParted, SawLinked, seat_view};
+ghost use Rattle.kf_words.specs.Made.{FoundInHold, WasAPart};
 
 use crate::layout::has_linked;
 use crate::seat::{CallerSeat, release_seat};
@@ -57,8 +57,8 @@ impl Drained {
         ensures same { MatchResult result (λ gone. IsSameSeat self gone) (λ back. IsSameSeat self back) }
         ensures gone { IfOk result (λ gone. SawParted self gone) }
         ensures linked { IfErr result (λ back. SawLinked self back) }
-        ensures found { MatchResult result (λ gone. FoundInHold self gone.found)
-            (λ back. FoundInHold self back.found) }
+        ensures found { MatchResult result (λ gone. FoundInHold self gone)
+            (λ back. FoundInHold self back) }
         ensures made { MatchResult result (λ gone. WasAPart (seat_view self) (seat_view gone))
             (λ back. WasAPart (seat_view self) (seat_view back)) }
     {

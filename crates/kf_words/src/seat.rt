@@ -3,7 +3,7 @@
 ghost use Rattle.std.specs.Prelude.{◌≡◌, ◌*◌, ◌<◌, []};
 ghost use Rattle.std.specs.Arc.{arc_value};
 ghost use Rattle.kf_words.specs.Layout.{line_words};
-ghost use Rattle.kf_words.specs.Steps.{caller_of};
+ghost use Rattle.kf_words.specs.Steps.{caller_of, plain};
 ghost use Rattle.kf_words.specs.declared.view.View.TheVariants as seat_of;
 
 mod parts;
@@ -11,7 +11,7 @@ mod sleep;
 mod steps;
 
 use crate::table::WordTable;
-use crate::view::View;
+use crate::sight::Sight;
 use atomic_table::Seat;
 use kf_core::Key;
 use std::sync::Arc;
@@ -37,10 +37,10 @@ pub struct CallerSeat {
     target: Key,
     key: Key,
     kind: Kind,
-    token: Seat<(), View>,
+    token: Seat<(), Sight>,
     ghost of_table: { token.table_id ≡ (arc_value table).shared.table_id },
-    ghost a_caller: { token.me ≡ (seat_of.Caller (caller_of token.me.0), []) },
-    ghost same_key: { (caller_of token.me.0).key ≡ key },
+    ghost a_caller: { plain token.me ≡ (seat_of.Caller (caller_of token.me.0.view), []) },
+    ghost same_key: { (caller_of token.me.0.view).key ≡ key },
     ghost lines: { (arc_value table).shared.table_id.words
         ≡ (arc_value table).shared.key.slots * line_words },
     ghost in_table: { key.slot < (arc_value table).shared.key.slots },

@@ -1,14 +1,24 @@
 //! The wake that a step owes to those who sleep at its slot.
 ghost use Rattle.std.specs.Prelude.{◌≡◌, ◌-◌, false};
+ghost use Rattle.kf_words.specs.Callers.{is_wanted};
 ghost use Rattle.kf_words.specs.Layout.{wants_wake};
 
 use crate::layout::ends_a_wait;
 use crate::seat::CallerSeat;
 use std::marker::Model;
 
+/// Whether those who sleep at a slot are to be woken. It is spent by a `match`, and a value that is let go does
+/// not compile.
+pub enum Wake {
+    /// One of them may wait for what the step left.
+    Wanted,
+    /// None of them can.
+    Unwanted,
+}
+
 /// What a step that took one user off an active word owes to those who sleep there: a wake, where the word
-/// that it found tells that one of them may wait for what is left. It must be spent: a step that forgets it
-/// does not compile.
+/// that it found tells that one of them may wait for what is left. It is spent by a wake, by `none` where no
+/// wake is wanted, or by `told`: a step that lets it go does not compile.
 pub struct WakeDue {
     slot: u32,
     found: u64,
@@ -48,13 +58,17 @@ impl WakeDue {
         let WakeDue { slot: _, found: _ } = self;
     }
 
-    /// Spends it with no wake, and tells whether one is wanted. For a caller that wakes its sleepers by its
-    /// own means, or has none.
-    pub fn told(self) -> bool
-        ensures { result ≡ wants_wake (self.found - 1) }
+    /// Tells what it owes, for a caller that wakes its sleepers by its own means. The answer has to be matched
+    /// in turn.
+    pub fn told(self) -> Wake
+        ensures { is_wanted result ≡ wants_wake (self.found - 1) }
     {
         let WakeDue { slot: _, found } = self;
-        ends_a_wait(found)
+        if ends_a_wait(found) {
+            Wake::Wanted
+        } else {
+            Wake::Unwanted
+        }
     }
 
     /// Wakes all who sleep at the slot, which is the seat's. It makes a system call only where somebody does.

@@ -3,7 +3,7 @@ ghost use Rattle.kf_words.specs.Callers.{IsSameSeat};
 
 use crate::test_fixtures::{activate, born, doom, enter, hide, made, pin, refused};
 use crate::thread_tests::let_through;
-use kf_words::{Hidden, Hiding, Hold};
+use kf_words::{Hidden, Hiding, Hold, Wake};
 use std::alloc::Global;
 use std::process::Abort;
 use std::sync::atomic::AtomicU64;
@@ -77,6 +77,13 @@ fn hidden_and_shown<R: Abort>(rt: &R, alloc: Global, activates: bool) {
     }
 }
 
+fn is_wanted(wake: Wake) -> bool {
+    match wake {
+        Wake::Wanted => true,
+        Wake::Unwanted => false,
+    }
+}
+
 /// What the steps that wake nobody tell, on a node that is doomed, hidden, or in use by another call.
 fn told_quietly<R: Abort>(
     rt: &R,
@@ -102,10 +109,10 @@ fn told_quietly<R: Abort>(
         Err(hider)
     };
     if !uses {
-        assert!(rt; !other.break_quiet().told(), "there is a call yet");
+        assert!(rt; !is_wanted(other.break_quiet().told()), "there is a call yet");
     }
     let (hold, due) = call.leave_quiet();
-    assert_eq!(rt; due.told(), wanted);
+    assert_eq!(rt; is_wanted(due.told()), wanted);
     hold.release();
     match third.enter_quiet() {
         Ok(call) => {
@@ -113,7 +120,7 @@ fn told_quietly<R: Abort>(
             call.leave().release();
         }
         Err((back, due)) => {
-            assert_eq!(rt; due.told(), wanted);
+            assert_eq!(rt; is_wanted(due.told()), wanted);
             back.release();
         }
     }
@@ -144,7 +151,7 @@ fn told_before_activation<R: Abort>(rt: &R, alloc: Global, dooms: bool, hides: b
             panic!(rt; "a node that is not activated gave a call")
         }
         Err((back, due)) => {
-            assert_eq!(rt; due.told(), wanted);
+            assert_eq!(rt; is_wanted(due.told()), wanted);
             back.release();
         }
     }

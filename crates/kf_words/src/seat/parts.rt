@@ -4,12 +4,12 @@ ghost use Rattle.std.specs.Arc.{arc_value};
 ghost use Rattle.kf_core.specs.declared.caller.Phase.TheVariants as phase_of;
 ghost use Rattle.kf_words.specs.Callers.{node_of, handle_of, view_of};
 ghost use Rattle.kf_words.specs.Layout.{line_words};
-ghost use Rattle.kf_words.specs.Steps.{caller_of};
+ghost use Rattle.kf_words.specs.Steps.{caller_of, plain};
 ghost use Rattle.kf_words.specs.declared.view.View.TheVariants as seat_of;
 
 use crate::seat::{CallerSeat, Kind};
 use crate::table::WordTable;
-use crate::view::View;
+use crate::sight::Sight;
 use atomic_table::Seat;
 use kf_core::{Key, Node};
 use std::sync::Arc;
@@ -20,11 +20,11 @@ impl CallerSeat {
         table: Arc<WordTable>,
         key: Key,
         node: Node,
-        token: Seat<(), View>,
+        token: Seat<(), Sight>,
     ) -> CallerSeat
         requires table { token.table_id ≡ (arc_value table).shared.table_id }
-        requires caller { token.me ≡ (seat_of.Caller (caller_of token.me.0), []) }
-        requires key { (caller_of token.me.0).key ≡ key }
+        requires caller { plain token.me ≡ (seat_of.Caller (caller_of token.me.0.view), []) }
+        requires key { (caller_of token.me.0.view).key ≡ key }
         requires words { (arc_value table).shared.table_id.words
             ≡ (arc_value table).shared.key.slots * line_words }
         requires slot { key.slot < (arc_value table).shared.key.slots }

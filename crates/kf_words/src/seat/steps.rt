@@ -4,7 +4,7 @@ ghost use Rattle.std.specs.Arc.{arc_value};
 ghost use Rattle.kf_core.specs.Phases.{may_release};
 ghost use Rattle.kf_core.specs.declared.caller.Phase.TheVariants as phase_of;
 ghost use Rattle.kf_words.specs.Steps.{after_try, after_undo, after_leave, after_break, after_restore, after_look, after_part, after_hide, after_look_hidden, after_show};
-ghost use Rattle.kf_words.specs.Callers.{IsSameSeat, IsAtRest, HasReference, IsIn, WasReleased, handle_of, owed, view_of};
+ghost use Rattle.kf_words.specs.Callers.{IsSameSeat, IsAtRest, HasReference, IsIn, WasReleased, handle_of, owed, sight_of, view_of};
 ghost use Rattle.kf_words.specs.Layout.{active_index, hold_index, has_hide};
 ghost use Rattle.kf_words.specs.Made.{WasATry, WasUndone, WasALeave, WasABreak, WasARestore, WasALook, WasAPart, WasAHide, WasALookHidden, WasAShow, WasARelease};
 
@@ -29,7 +29,7 @@ impl CallerSeat {
         requires { IsAtRest (view_of self.old) }
         ensures same { IsSameSeat (handle_of self.old) (handle_of self.new) }
         ensures view { view_of self.new ≡ after_try result (view_of self.old) }
-        ensures made { WasATry (view_of self.old) (view_of self.new) }
+        ensures made { WasATry (sight_of self.old) (sight_of self.new) }
     {
         let word = self.active_index();
         self.table
@@ -43,7 +43,7 @@ impl CallerSeat {
         requires due { (view_of self.old).undo_due ≡ true }
         ensures same { IsSameSeat (handle_of self.old) (handle_of self.new) }
         ensures view { view_of self.new ≡ after_undo (view_of self.old) }
-        ensures made { WasUndone (view_of self.old) (view_of self.new) result.found }
+        ensures made { WasUndone (sight_of self.old) (sight_of self.new) result.found }
         ensures slot { result.slot ≡ self.new.key.slot }
     {
         let word = self.active_index();
@@ -59,7 +59,7 @@ impl CallerSeat {
         requires { HasReference (view_of self.old) }
         ensures same { IsSameSeat (handle_of self.old) (handle_of self.new) }
         ensures view { view_of self.new ≡ after_leave result.found (view_of self.old) }
-        ensures made { WasALeave (view_of self.old) (view_of self.new) }
+        ensures made { WasALeave (sight_of self.old) (sight_of self.new) }
         ensures due { result ≡ owed (handle_of self.new) }
     {
         let word = self.active_index();
@@ -75,7 +75,7 @@ impl CallerSeat {
         requires { IsIn phase_of.Running (view_of self.old) }
         ensures same { IsSameSeat (handle_of self.old) (handle_of self.new) }
         ensures view { view_of self.new ≡ after_break result.found (view_of self.old) }
-        ensures made { WasABreak (view_of self.old) (view_of self.new) }
+        ensures made { WasABreak (sight_of self.old) (sight_of self.new) }
         ensures due { result ≡ owed (handle_of self.new) }
     {
         let word = self.active_index();
@@ -91,7 +91,7 @@ impl CallerSeat {
         requires { IsIn phase_of.Broken (view_of self.old) }
         ensures same { IsSameSeat (handle_of self.old) (handle_of self.new) }
         ensures view { view_of self.new ≡ after_restore result (view_of self.old) }
-        ensures made { WasARestore (view_of self.old) (view_of self.new) }
+        ensures made { WasARestore (sight_of self.old) (sight_of self.new) }
     {
         let word = self.active_index();
         self.table
@@ -104,7 +104,7 @@ impl CallerSeat {
         requires { IsAtRest (view_of self.old) }
         ensures same { IsSameSeat (handle_of self.old) (handle_of self.new) }
         ensures view { view_of self.new ≡ after_look result (view_of self.old) }
-        ensures made { WasALook (view_of self.old) (view_of self.new) }
+        ensures made { WasALook (sight_of self.old) (sight_of self.new) }
     {
         let word = self.active_index();
         self.table.shared.load::<Looks>(&mut self.token, word)
@@ -115,7 +115,7 @@ impl CallerSeat {
         requires { IsAtRest (view_of self.old) }
         ensures same { IsSameSeat (handle_of self.old) (handle_of self.new) }
         ensures view { view_of self.new ≡ after_hide result (view_of self.old) }
-        ensures made { WasAHide (view_of self.old) (view_of self.new) }
+        ensures made { WasAHide (sight_of self.old) (sight_of self.new) }
     {
         let word = self.active_index();
         self.table
@@ -128,7 +128,7 @@ impl CallerSeat {
         requires { IsIn phase_of.Hiding (view_of self.old) }
         ensures same { IsSameSeat (handle_of self.old) (handle_of self.new) }
         ensures view { view_of self.new ≡ after_look_hidden result (view_of self.old) }
-        ensures made { WasALookHidden (view_of self.old) (view_of self.new) }
+        ensures made { WasALookHidden (sight_of self.old) (sight_of self.new) }
     {
         let word = self.active_index();
         self.table.shared.load::<LooksHidden>(&mut self.token, word)
@@ -139,7 +139,7 @@ impl CallerSeat {
         requires { IsIn phase_of.Hidden (view_of self.old) }
         ensures same { IsSameSeat (handle_of self.old) (handle_of self.new) }
         ensures view { view_of self.new ≡ after_show result (view_of self.old) }
-        ensures made { WasAShow (view_of self.old) (view_of self.new) }
+        ensures made { WasAShow (sight_of self.old) (sight_of self.new) }
         ensures set { has_hide result ≡ true }
     {
         let word = self.active_index();
@@ -161,7 +161,7 @@ impl CallerSeat {
         requires { IsIn phase_of.Drained (view_of self.old) }
         ensures same { IsSameSeat (handle_of self.old) (handle_of self.new) }
         ensures view { view_of self.new ≡ after_part result (view_of self.old) }
-        ensures made { WasAPart (view_of self.old) (view_of self.new) }
+        ensures made { WasAPart (sight_of self.old) (sight_of self.new) }
     {
         let word = self.hold_index();
         self.table.shared.load::<Parts>(&mut self.token, word)
@@ -175,7 +175,7 @@ pub fn release_seat(seat: &mut CallerSeat)
     requires settled { (handle_of seat.old).undo_due ≡ false }
     ensures same { IsSameSeat (handle_of seat.old) (handle_of seat.new) }
     ensures released { WasReleased (handle_of seat.old) (handle_of seat.new) }
-    ensures made { WasARelease (view_of seat.old) (view_of seat.new) }
+    ensures made { WasARelease (sight_of seat.old) (sight_of seat.new) }
 {
     let word = seat.hold_index();
     seat.table

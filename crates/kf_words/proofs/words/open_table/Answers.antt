@@ -1,17 +1,16 @@
 use Rattle.std.proofs.Common.{ℕ, ◌*◌, List, [], length, sym, ap, ◌∙◌, subst}
 use Rattle.kf_words.specs.Layout.{line_words}
-use Rattle.kf_words.specs.Rule.{Shown}
-use Rattle.kf_words.specs.Steps.{opened}
-use Rattle.kf_words.specs.declared.view.View.TheVariants as seat
+use Rattle.kf_words.specs.declared.sight.Opening.{Opening}
+use Rattle.kf_words.specs.History.{Kept, first_sight}
 use Rattle.atomic_table.specs.Table.{opening}
-use Rattle.kf_words.proofs.Opening.{length-words, opening_shown}
+use Rattle.kf_words.proofs.Opening.{length-words}
+use Rattle.kf_words.proofs.Histories.{opening_kept}
 use Rattle.kf_words.proofs.words.open_table.Goals as goal
 
 pub of_words-requires : goal.of_words-requires
 of_words-requires c =
-    let o = c.args.opening in
-    subst (λ (words : List ℕ). Shown o.slots o.holds (opening words [] (seat.Master (opened o.holds o.slots o.start)))) (sym c.requires.words)
-    (opening_shown o.slots o.holds o.start c.requires.some c.requires.few)
+    let o : Opening = c.args.opening in
+    subst (λ (words : List ℕ). Kept o (opening words [] (first_sight o))) (sym c.requires.words) (opening_kept o c.requires.some c.requires.few)
 
 pub invariant_of-steps-clause-lines : goal.invariant_of-steps-clause-lines
 invariant_of-steps-clause-lines c =

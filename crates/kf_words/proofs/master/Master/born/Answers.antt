@@ -7,7 +7,9 @@ use Rattle.kf_core.specs.declared.slot.SlotState.{SlotState}
 use Rattle.kf_core.specs.Marks.{fresh_marks}
 use Rattle.kf_words.specs.declared.view.MasterView.{MasterView}
 use Rattle.kf_words.specs.Steps.{with_birth, after_store}
-use Rattle.kf_words.specs.Nodes.{MasterState, IsVacant, master_view, slots_with}
+use Rattle.kf_words.specs.TableSteps.{stores_fresh}
+use Rattle.kf_words.specs.Made.{WasMadeByMaster}
+use Rattle.kf_words.specs.Nodes.{MasterSight, master_sight, sight_in, MasterState, IsVacant, master_view, slots_with}
 use Rattle.kf_words.proofs.Keys.{slots_born}
 use Rattle.kf_words.proofs.Searching.{marked_linked}
 use Rattle.kf_words.proofs.master.Master.born.Goals as goal
@@ -43,3 +45,11 @@ returns-clause-slots c =
     ∙ ap (λ (y : MasterView). (with_birth c.args.key.slot y).slots) c.store_fresh.ensures.view
     ∙ ap (λ (s : MasterState). (with_birth c.args.key.slot (after_store c.args.key.slot s.view)).slots) c.self.view_is
     ∙ slots_born c.args.self.now.view c.args.key c.requires.vacant
+
+pub returns-clause-made : goal.returns-clause-made
+returns-clause-made c =
+    let stored : MasterSight = master_sight c.store_fresh.new.self.token.me.0 in (
+      stored,
+      subst (λ (s : MasterState). WasMadeByMaster (stores_fresh c.args.key.slot) (sight_in s) stored) c.self.view_is c.store_fresh.ensures.made,
+      c.birth.ensures.made,
+    )

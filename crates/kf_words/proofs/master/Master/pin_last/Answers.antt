@@ -6,7 +6,9 @@ use Rattle.kf_core.specs.declared.slot.SlotState.{SlotState}
 use Rattle.kf_words.specs.declared.view.MasterView.{MasterView}
 use Rattle.kf_words.specs.Layout.{HasRoom, holds_in}
 use Rattle.kf_words.specs.Steps.{Seated, caller_of}
-use Rattle.kf_words.specs.Nodes.{MasterState, master_view, Found}
+use Rattle.kf_words.specs.TableSteps.{loads_hold}
+use Rattle.kf_words.specs.Made.{WasMadeByMaster}
+use Rattle.kf_words.specs.Nodes.{MasterSight, master_sight, sight_in, MasterState, master_view, Found}
 use Rattle.kf_words.proofs.MasterAllowed.{found_by}
 use Rattle.kf_words.proofs.Keys.{not_below, last_within, last_is, get_there}
 use Rattle.kf_words.proofs.master.Master.pin_last.Goals as goal
@@ -58,12 +60,12 @@ returns-clause-hold c =
     let within : c.args.key.slot < length c.self.inside.nodes.items = omega arith in
     record {
       table = ap (λ t. t.table_id) own ∙ c.give_hold-token.ensures.same_table ∙ c.pin_hold.ensures.table ∙ c.load_hold-found.ensures.table ∙ ap (λ (s : MasterState). s.table) c.self.view_is;
-      key_is = ap (λ t. (caller_of t.me.0).key) own ∙ ap (λ (y : Seated). (caller_of y.0).key) c.give_hold-token.ensures.hold
+      key_is = ap (λ t. (caller_of t.me.0.view).key) own ∙ ap (λ (y : Seated). (caller_of y.0).key) c.give_hold-token.ensures.hold
           ∙ last_is c.args.self.now.view (master_view c.pin_hold.new.self) c.args.key c.requires same;
       node = ap (λ (l : List Node). slice_get l c.args.key.slot) (sym (ap (λ (s : MasterState). s.nodes) c.self.view_is))
           ∙ get_there c.self.inside.nodes.items c.args.key.slot c.index-node.result.now within ∙ ap Some (sym c.index-node.ensures ∙ sym c.new.ensures.node);
-      still = ap (λ t. (caller_of t.me.0).phase) own ∙ ap (λ (y : Seated). (caller_of y.0).phase) c.give_hold-token.ensures.hold;
-      steps = ap (λ t. (caller_of t.me.0).steps) own ∙ ap (λ (y : Seated). (caller_of y.0).steps) c.give_hold-token.ensures.hold;
+      still = ap (λ t. (caller_of t.me.0.view).phase) own ∙ ap (λ (y : Seated). (caller_of y.0).phase) c.give_hold-token.ensures.hold;
+      steps = ap (λ t. (caller_of t.me.0.view).steps) own ∙ ap (λ (y : Seated). (caller_of y.0).steps) c.give_hold-token.ensures.hold;
     }
 
 pub pin_hold-requires-clause-slot : goal.pin_hold-requires-clause-slot
@@ -78,3 +80,15 @@ returns-then-not-has_room-clause-full c _ =
     subst (λ (n : ℕ). Found (λ (word : ℕ). n ≤ holds_in word) (master_view c.load_hold-found.new.self) c.args.key.slot)
     (sym (ap (λ (x : MasterView). x.limit) c.load_hold-found.ensures.view ∙ c.self.invariant.same_limit))
     (found_by (λ (word : ℕ). c.self.inside.holds ≤ holds_in word) m _ c.args.key.slot c.load_hold-found.result c.load_hold-found.ensures.view full)
+
+pub returns-clause-made : goal.returns-clause-made
+returns-clause-made c =
+    let loaded : MasterSight = master_sight c.load_hold-found.new.self.token.me.0 in
+    record {
+      loaded = loaded;
+      counted = master_sight c.pin_hold.new.self.token.me.0;
+      load = subst (λ (s : MasterState). WasMadeByMaster (loads_hold c.args.key.slot) (sight_in s) loaded) c.self.view_is c.load_hold-found.ensures.made;
+      pin = c.pin_hold.ensures.made;
+      told = ap (λ t. t.me.0.seen) c.new.ensures.token ∙ c.give_hold-token.ensures.told;
+      same = c.give_hold-token.ensures.seen;
+    }

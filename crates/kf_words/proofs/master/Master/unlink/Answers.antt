@@ -3,7 +3,9 @@ use Rattle.std.specs.Prelude.{slice_get, Some, None, is_some}
 use Rattle.kf_core.specs.declared.key.Key.{Key}
 use Rattle.kf_core.specs.declared.slot.SlotState.{SlotState}
 use Rattle.kf_words.specs.declared.view.MasterView.{MasterView}
-use Rattle.kf_words.specs.Nodes.{MasterState, master_view, marks_of, slots_with, IsLastKey}
+use Rattle.kf_words.specs.TableSteps.{looks_over}
+use Rattle.kf_words.specs.Made.{WasMadeByMaster, WasUnlinked}
+use Rattle.kf_words.specs.Nodes.{MasterSight, master_sight, sight_in, MasterState, master_view, marks_of, slots_with, IsLastKey}
 use Rattle.kf_words.specs.Searches.{AreMarked}
 use Rattle.kf_words.proofs.Keys.{linked_state, last_of_linked, last_within, slots_unlinked}
 use Rattle.kf_words.proofs.Searching.{marked_left}
@@ -59,3 +61,10 @@ returns-clause-slots c =
     let linked : is_some (marks_of m key) ≡ true = subst (λ (k : Key). is_some (marks_of m k) ≡ true) (sym c.key-key.ensures.value) c.requires.linked in
     let same : (master_view c.look_over.new.self).slots ≡ m.slots = ap (λ (y : MasterView). y.slots) c.look_over.ensures.view ∙ ap (λ (s : MasterState). s.view.slots) c.self.view_is in
     ap (λ (y : MasterView). y.slots) c.unlink.ensures.view ∙ slots_unlinked m (master_view c.look_over.new.self) key (last_of_linked m key linked) same ∙ ap (λ (k : Key). slots_with m.slots k None) c.key-key.ensures.value
+
+pub returns-clause-made : goal.returns-clause-made
+returns-clause-made c =
+    let looked : MasterSight = master_sight c.look_over.new.self.token.me.0 in
+    let after : MasterSight = master_sight c.unlink.new.self.token.me.0 in
+    subst (λ (k : Key). WasUnlinked k.slot true (sight_in c.args.self.now) after) c.key-key.ensures.value
+    (looked, subst (λ (s : MasterState). WasMadeByMaster (looks_over c.key-key.result.slot) (sight_in s) looked) c.self.view_is c.look_over.ensures.made, c.unlink.ensures.made)

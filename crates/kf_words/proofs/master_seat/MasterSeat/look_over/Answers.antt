@@ -1,9 +1,13 @@
-use Rattle.std.proofs.Common.{◌≡◌, length, rules, arith, sym, ap, ◌∙◌}
+use Rattle.std.proofs.Common.{◌≡◌, length, rules, arith, sym, ap, ◌∙◌, ℕ, subst}
 use Rattle.std.specs.Arc.{arc_value}
-use Rattle.kf_words.specs.Layout.{active_index}
-use Rattle.kf_words.specs.Steps.{Seated, master_of, with_look, MasterBecomes, On}
-use Rattle.kf_words.proofs.MasterAllowed.{active_slot, look_allowed, keeps_master}
-use Rattle.kf_words.proofs.Tokens.{asked, told_of}
+use Rattle.kf_words.specs.Layout.{active_index, slot_of}
+use Rattle.kf_words.specs.Steps.{Seated, master_of, with_look, MasterBecomes}
+use Rattle.kf_words.proofs.MasterAllowed.{active_slot, keeps_master}
+use Rattle.kf_words.specs.TableSteps.{looks_over}
+use Rattle.kf_words.specs.Nodes.{MasterSight, master_sight}
+use Rattle.kf_words.specs.Made.{MasterMakes, WasMadeByMaster}
+use Rattle.kf_words.proofs.MasterMade.{look_made}
+use Rattle.kf_words.proofs.Tokens.{asked, told_of, made_of}
 use Rattle.kf_words.proofs.master_seat.MasterSeat.look_over.Goals as goal
 
 pub load-requires : goal.load-requires
@@ -12,12 +16,12 @@ load-requires c =
     let words : c.deref.result.now.shared.table_id.words ≡ (arc_value self.table).shared.table_id.words = ap (λ t. t.shared.table_id.words) c.deref.ensures in
     let at = c.active_index-word.ensures.here in
     let within = c.active_index-word.ensures.within in
-    (search rules, omega arith, asked _ _ c.token.view_is _ _ c.active_index-word.result (λ n. n) (On active_index (MasterBecomes with_look)) (look_allowed c.deref.result.now.shared.key.slots _ _ _ self.token.me c.args.slot c.active_index-word.result self.a_master (omega arith)))
+    (search rules, omega arith, asked _ _ c.token.view_is _ _ c.active_index-word.result (λ n. n) (MasterMakes active_index looks_over (MasterBecomes with_look)) (look_made c.deref.result.now.shared.key _ _ self.token.me c.args.slot self.a_master c.active_index-word.result (omega arith) c.requires))
 
 pub invariant_of-self : goal.invariant_of-self
 invariant_of-self c =
     let self = c.args.self.now in
-    let now = told_of _ _ c.token.view_is c.load.new.seat.me c.args.slot c.active_index-word.result c.load.result (with_look) self.a_master (active_slot c.args.slot c.active_index-word.result (sym c.active_index-word.ensures.here)) c.load.ensures.2.1 in
+    let now = told_of _ _ c.token.view_is c.load.new.seat.me c.args.slot c.active_index-word.result c.load.result (with_look) self.a_master (active_slot c.args.slot c.active_index-word.result (sym c.active_index-word.ensures.here)) c.load.ensures.2.1.0 in
     record {
       of_table = c.load.ensures.0 ∙ ap (λ s. s.table_id) c.token.view_is ∙ self.of_table;
       a_master = keeps_master _ _ now;
@@ -28,5 +32,13 @@ invariant_of-self c =
 pub returns-clause-view : goal.returns-clause-view
 returns-clause-view c =
     let self = c.args.self.now in
-    let now = told_of _ _ c.token.view_is c.load.new.seat.me c.args.slot c.active_index-word.result c.load.result (with_look) self.a_master (active_slot c.args.slot c.active_index-word.result (sym c.active_index-word.ensures.here)) c.load.ensures.2.1 in
+    let now = told_of _ _ c.token.view_is c.load.new.seat.me c.args.slot c.active_index-word.result c.load.result (with_look) self.a_master (active_slot c.args.slot c.active_index-word.result (sym c.active_index-word.ensures.here)) c.load.ensures.2.1.0 in
     ap (λ (x : Seated). master_of x.0) now
+
+pub returns-clause-made : goal.returns-clause-made
+returns-clause-made c =
+    let self = c.args.self.now in
+    let after : MasterSight = master_sight c.load.new.seat.me.0 in
+    subst (λ (k : ℕ). WasMadeByMaster (looks_over k) (master_sight self.token.me.0) after)
+    (active_slot c.args.slot c.active_index-word.result (sym c.active_index-word.ensures.here))
+    (made_of _ _ c.token.view_is (λ (x : MasterSight). WasMadeByMaster (looks_over (slot_of c.active_index-word.result)) x after) c.load.ensures.2.1.1)

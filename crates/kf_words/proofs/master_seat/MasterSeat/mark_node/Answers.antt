@@ -1,18 +1,18 @@
 use Rattle.std.proofs.Common.{◌≡◌, length, length-set, rules, arith, sym, ap, ◌∙◌, ℕ, subst}
 use Rattle.std.proofs.lemmas.Option.{slice_get_within}
 use Rattle.std.specs.Arc.{arc_value}
-use Rattle.kf_words.specs.declared.view.MasterView.{MasterView}
 use Rattle.kf_words.specs.Layout.{active_index, slot_of}
-use Rattle.kf_words.specs.Steps.{Seated, master_of, unread, with_marks, doomed_marks}
+use Rattle.kf_words.specs.Steps.{Seated, master_of, MasterBecomes, unread, with_marks, doomed_marks}
 use Rattle.kf_words.specs.TableSteps.{marks_node, plus}
+use Rattle.kf_words.specs.Nodes.{MasterSight, master_sight}
 use Rattle.kf_words.specs.Made.{MasterMakes, WasMadeByMaster}
 use Rattle.kf_words.proofs.MasterAllowed.{active_slot, keeps_master}
 use Rattle.kf_words.proofs.MasterMade.{mark_made}
-use Rattle.kf_words.proofs.Tokens.{asked, told_of, of_master}
+use Rattle.kf_words.proofs.Tokens.{asked, told_of, made_of}
 use Rattle.kf_words.proofs.master_seat.MasterSeat.mark_node.Goals as goal
 
 pub active_index-word-requires : goal.active_index-word-requires
-active_index-word-requires c = let q = c.requires.marks in slice_get_within (master_of c.args.self.now.token.me.0).slots c.args.slot q.0 q.1
+active_index-word-requires c = let q = c.requires.marks in slice_get_within (master_of c.args.self.now.token.me.0.view).slots c.args.slot q.0 q.1
 
 pub fetch_add-requires : goal.fetch_add-requires
 fetch_add-requires c =
@@ -21,7 +21,7 @@ fetch_add-requires c =
     let at = c.active_index-word.ensures.here in
     let within = c.active_index-word.ensures.within in
     let q = c.requires.marks in
-    (search rules, omega arith, asked _ _ c.token.view_is _ _ c.active_index-word.result (plus c.mark_bits-bits.result) (MasterMakes active_index marks_node (unread (with_marks doomed_marks))) (mark_made c.deref.result.now.shared.key.slots _ _ _ self.token.me c.args.slot self.a_master c.active_index-word.result q.0 c.args.marks c.mark_bits-bits.result (omega arith) q.1 q.2 c.requires.undoomed c.mark_bits-bits.ensures))
+    (search rules, omega arith, asked _ _ c.token.view_is _ _ c.active_index-word.result (plus c.mark_bits-bits.result) (MasterMakes active_index marks_node (MasterBecomes (unread (with_marks doomed_marks)))) (mark_made c.deref.result.now.shared.key _ _ self.token.me c.args.slot self.a_master c.active_index-word.result (omega arith) c.args.marks c.mark_bits-bits.result q c.requires.undoomed c.mark_bits-bits.ensures))
 
 pub invariant_of-self : goal.invariant_of-self
 invariant_of-self c =
@@ -31,11 +31,13 @@ invariant_of-self c =
       of_table = c.fetch_add.ensures.0 ∙ ap (λ s. s.table_id) c.token.view_is ∙ self.of_table;
       a_master = keeps_master _ _ now;
       lines = self.lines;
-      all_slots = ap (λ (x : Seated). length (master_of x.0).slots) now ∙ length-set (master_of self.token.me.0).slots c.args.slot _ ∙ self.all_slots;
+      all_slots = ap (λ (x : Seated). length (master_of x.0).slots) now ∙ length-set (master_of self.token.me.0.view).slots c.args.slot _ ∙ self.all_slots;
     }
 
 pub returns-clause-made : goal.returns-clause-made
 returns-clause-made c =
     let self = c.args.self.now in
-    subst (λ (k : ℕ). WasMadeByMaster (marks_node k) (master_of self.token.me.0) (master_of c.fetch_add.new.seat.me.0))
-    (active_slot c.args.slot c.active_index-word.result (sym c.active_index-word.ensures.here)) (of_master _ _ c.token.view_is (λ (x : MasterView). WasMadeByMaster (marks_node (slot_of c.active_index-word.result)) x (master_of c.fetch_add.new.seat.me.0)) c.fetch_add.ensures.2.1.1)
+    let after : MasterSight = master_sight c.fetch_add.new.seat.me.0 in
+    subst (λ (k : ℕ). WasMadeByMaster (marks_node k) (master_sight self.token.me.0) after)
+    (active_slot c.args.slot c.active_index-word.result (sym c.active_index-word.ensures.here))
+    (made_of _ _ c.token.view_is (λ (x : MasterSight). WasMadeByMaster (marks_node (slot_of c.active_index-word.result)) x after) c.fetch_add.ensures.2.1.1)

@@ -1,26 +1,27 @@
-use Rattle.std.proofs.Common.{◌≡◌, ◌+◌, ◌%◌, ◌^◌, length, rules, arith, sym, ap, ◌∙◌}
+use Rattle.std.proofs.Common.{◌≡◌, ◌+◌, ◌%◌, ◌^◌, length, rules, arith, sym, ap, ◌∙◌, ℕ, subst}
 use Rattle.std.specs.Arc.{arc_value}
-use Rattle.kf_words.specs.declared.view.MasterView.{MasterView}
-use Rattle.kf_words.specs.Layout.{hold_index}
-use Rattle.kf_words.specs.Steps.{Seated, master_of, unread, with_pin, MasterBecomes, On}
-use Rattle.kf_words.proofs.MasterAllowed.{hold_slot, hold_allows, keeps_master, pin_owes, state_there}
-use Rattle.kf_words.proofs.Tokens.{asked, told_of}
+use Rattle.kf_words.specs.Layout.{hold_index, slot_of}
+use Rattle.kf_words.specs.Steps.{Seated, master_of, unread, with_pin, MasterBecomes}
+use Rattle.kf_words.proofs.MasterAllowed.{hold_slot, keeps_master}
+use Rattle.kf_words.specs.TableSteps.{pins_hold}
+use Rattle.kf_words.specs.Nodes.{MasterSight, master_sight}
+use Rattle.kf_words.specs.Made.{MasterMakes, WasMadeByMaster}
+use Rattle.kf_words.proofs.MasterMade.{pin_made}
+use Rattle.kf_words.proofs.Tokens.{asked, told_of, made_of}
 use Rattle.kf_words.proofs.master_seat.MasterSeat.pin_hold.Goals as goal
 
 pub fetch_add-requires : goal.fetch_add-requires
 fetch_add-requires c =
     let self = c.args.self.now in
-    let m : MasterView = master_of self.token.me.0 in
     let words : c.deref.result.now.shared.table_id.words ≡ (arc_value self.table).shared.table_id.words = ap (λ t. t.shared.table_id.words) c.deref.ensures in
     let at = c.hold_index-word.ensures.here in
     let within = c.hold_index-word.ensures.within in
-    let p = state_there m.slots c.args.slot c.requires.slot in
-    (search rules, omega arith, asked _ _ c.token.view_is _ _ c.hold_index-word.result (λ n. (n + 1) % 2 ^ 64) (On hold_index (MasterBecomes (unread with_pin))) (hold_allows c.deref.result.now.shared.key.slots _ _ _ self.token.me c.args.slot c.hold_index-word.result (λ n. (n + 1) % 2 ^ 64) (unread with_pin) self.a_master (omega arith) (pin_owes m c.args.slot p.0 p.1 c.requires.one c.requires.room)))
+    (search rules, omega arith, asked _ _ c.token.view_is _ _ c.hold_index-word.result (λ n. (n + 1) % 2 ^ 64) (MasterMakes hold_index pins_hold (MasterBecomes (unread with_pin))) (pin_made c.deref.result.now.shared.key _ _ self.token.me c.args.slot self.a_master c.hold_index-word.result (omega arith) c.requires.slot c.requires.one c.requires.room))
 
 pub invariant_of-self : goal.invariant_of-self
 invariant_of-self c =
     let self = c.args.self.now in
-    let now = told_of _ _ c.token.view_is c.fetch_add.new.seat.me c.args.slot c.hold_index-word.result c.fetch_add.result (unread with_pin) self.a_master (hold_slot c.args.slot c.hold_index-word.result (sym c.hold_index-word.ensures.here)) c.fetch_add.ensures.2.1 in
+    let now = told_of _ _ c.token.view_is c.fetch_add.new.seat.me c.args.slot c.hold_index-word.result c.fetch_add.result (unread with_pin) self.a_master (hold_slot c.args.slot c.hold_index-word.result (sym c.hold_index-word.ensures.here)) c.fetch_add.ensures.2.1.0 in
     record {
       of_table = c.fetch_add.ensures.0 ∙ ap (λ s. s.table_id) c.token.view_is ∙ self.of_table;
       a_master = keeps_master _ _ now;
@@ -31,4 +32,12 @@ invariant_of-self c =
 pub returns-clause-view : goal.returns-clause-view
 returns-clause-view c =
     let self = c.args.self.now in
-    ap (λ (x : Seated). master_of x.0) (told_of _ _ c.token.view_is c.fetch_add.new.seat.me c.args.slot c.hold_index-word.result c.fetch_add.result (unread with_pin) self.a_master (hold_slot c.args.slot c.hold_index-word.result (sym c.hold_index-word.ensures.here)) c.fetch_add.ensures.2.1)
+    ap (λ (x : Seated). master_of x.0) (told_of _ _ c.token.view_is c.fetch_add.new.seat.me c.args.slot c.hold_index-word.result c.fetch_add.result (unread with_pin) self.a_master (hold_slot c.args.slot c.hold_index-word.result (sym c.hold_index-word.ensures.here)) c.fetch_add.ensures.2.1.0)
+
+pub returns-clause-made : goal.returns-clause-made
+returns-clause-made c =
+    let self = c.args.self.now in
+    let after : MasterSight = master_sight c.fetch_add.new.seat.me.0 in
+    subst (λ (k : ℕ). WasMadeByMaster (pins_hold k) (master_sight self.token.me.0) after)
+    (hold_slot c.args.slot c.hold_index-word.result (sym c.hold_index-word.ensures.here))
+    (made_of _ _ c.token.view_is (λ (x : MasterSight). WasMadeByMaster (pins_hold (slot_of c.hold_index-word.result)) x after) c.fetch_add.ensures.2.1.1)

@@ -1,18 +1,18 @@
 use Rattle.std.proofs.Common.{◌≡◌, length, length-set, rules, arith, sym, ap, ◌∙◌, ℕ, subst}
 use Rattle.std.proofs.lemmas.Option.{slice_get_within}
 use Rattle.std.specs.Arc.{arc_value}
-use Rattle.kf_words.specs.declared.view.MasterView.{MasterView}
 use Rattle.kf_words.specs.Layout.{bias, active_index, slot_of}
-use Rattle.kf_words.specs.Steps.{Seated, master_of, unread, with_marks, activated_marks}
+use Rattle.kf_words.specs.Steps.{Seated, master_of, MasterBecomes, unread, with_marks, activated_marks}
 use Rattle.kf_words.specs.TableSteps.{minus, takes_bias}
+use Rattle.kf_words.specs.Nodes.{MasterSight, master_sight}
 use Rattle.kf_words.specs.Made.{MasterMakes, WasMadeByMaster}
 use Rattle.kf_words.proofs.MasterAllowed.{active_slot, keeps_master}
 use Rattle.kf_words.proofs.MasterMade.{rise_made}
-use Rattle.kf_words.proofs.Tokens.{asked, told_of, of_master}
+use Rattle.kf_words.proofs.Tokens.{asked, told_of, made_of}
 use Rattle.kf_words.proofs.master_seat.MasterSeat.take_bias.Goals as goal
 
 pub active_index-word-requires : goal.active_index-word-requires
-active_index-word-requires c = let q = c.requires in slice_get_within (master_of c.args.self.now.token.me.0).slots c.args.slot q.0 q.1
+active_index-word-requires c = let q = c.requires in slice_get_within (master_of c.args.self.now.token.me.0.view).slots c.args.slot q.0 q.1
 
 pub fetch_sub-requires : goal.fetch_sub-requires
 fetch_sub-requires c =
@@ -20,8 +20,7 @@ fetch_sub-requires c =
     let words : c.deref.result.now.shared.table_id.words ≡ (arc_value self.table).shared.table_id.words = ap (λ t. t.shared.table_id.words) c.deref.ensures in
     let at = c.active_index-word.ensures.here in
     let within = c.active_index-word.ensures.within in
-    let q = c.requires in
-    (search rules, omega arith, asked _ _ c.token.view_is _ _ c.active_index-word.result (minus bias) (MasterMakes active_index takes_bias (unread (with_marks activated_marks))) (rise_made c.deref.result.now.shared.key.slots _ _ _ self.token.me c.args.slot self.a_master c.active_index-word.result q.0 (omega arith) q.1 q.2))
+    (search rules, omega arith, asked _ _ c.token.view_is _ _ c.active_index-word.result (minus bias) (MasterMakes active_index takes_bias (MasterBecomes (unread (with_marks activated_marks)))) (rise_made c.deref.result.now.shared.key _ _ self.token.me c.args.slot self.a_master c.active_index-word.result (omega arith) c.requires))
 
 pub invariant_of-self : goal.invariant_of-self
 invariant_of-self c =
@@ -31,7 +30,7 @@ invariant_of-self c =
       of_table = c.fetch_sub.ensures.0 ∙ ap (λ s. s.table_id) c.token.view_is ∙ self.of_table;
       a_master = keeps_master _ _ now;
       lines = self.lines;
-      all_slots = ap (λ (x : Seated). length (master_of x.0).slots) now ∙ length-set (master_of self.token.me.0).slots c.args.slot _ ∙ self.all_slots;
+      all_slots = ap (λ (x : Seated). length (master_of x.0).slots) now ∙ length-set (master_of self.token.me.0.view).slots c.args.slot _ ∙ self.all_slots;
     }
 
 pub returns-clause-view : goal.returns-clause-view
@@ -43,5 +42,7 @@ returns-clause-view c =
 pub returns-clause-made : goal.returns-clause-made
 returns-clause-made c =
     let self = c.args.self.now in
-    subst (λ (k : ℕ). WasMadeByMaster (takes_bias k) (master_of self.token.me.0) (master_of c.fetch_sub.new.seat.me.0))
-    (active_slot c.args.slot c.active_index-word.result (sym c.active_index-word.ensures.here)) (of_master _ _ c.token.view_is (λ (x : MasterView). WasMadeByMaster (takes_bias (slot_of c.active_index-word.result)) x (master_of c.fetch_sub.new.seat.me.0)) c.fetch_sub.ensures.2.1.1)
+    let after : MasterSight = master_sight c.fetch_sub.new.seat.me.0 in
+    subst (λ (k : ℕ). WasMadeByMaster (takes_bias k) (master_sight self.token.me.0) after)
+    (active_slot c.args.slot c.active_index-word.result (sym c.active_index-word.ensures.here))
+    (made_of _ _ c.token.view_is (λ (x : MasterSight). WasMadeByMaster (takes_bias (slot_of c.active_index-word.result)) x after) c.fetch_sub.ensures.2.1.1)

@@ -1,26 +1,26 @@
 use Rattle.std.proofs.Common.{◌≡◌, ◌+◌, ◌-◌, ◌%◌, ◌^◌, length, rules, arith, sym, ap, ◌∙◌}
 use Rattle.std.specs.Arc.{arc_value}
-use Rattle.kf_words.specs.declared.view.MasterView.{MasterView}
 use Rattle.kf_words.specs.Layout.{hold_index}
-use Rattle.kf_words.specs.Steps.{Seated, master_of, unread, without_pin, MasterBecomes, On}
-use Rattle.kf_words.proofs.MasterAllowed.{hold_slot, hold_allows, keeps_master, unpin_owes, state_there}
+use Rattle.kf_words.specs.Steps.{Seated, master_of, unread, without_pin, MasterBecomes}
+use Rattle.kf_words.proofs.MasterAllowed.{hold_slot, keeps_master}
+use Rattle.kf_words.specs.TableSteps.{unpins_hold}
+use Rattle.kf_words.specs.Made.{MasterMakes}
+use Rattle.kf_words.proofs.MasterMade.{unpin_made}
 use Rattle.kf_words.proofs.Tokens.{asked, told_of}
 use Rattle.kf_words.proofs.master_seat.MasterSeat.unpin_hold.Goals as goal
 
 pub fetch_sub-requires : goal.fetch_sub-requires
 fetch_sub-requires c =
     let self = c.args.self.now in
-    let m : MasterView = master_of self.token.me.0 in
     let words : c.deref.result.now.shared.table_id.words ≡ (arc_value self.table).shared.table_id.words = ap (λ t. t.shared.table_id.words) c.deref.ensures in
     let at = c.hold_index-word.ensures.here in
     let within = c.hold_index-word.ensures.within in
-    let p = state_there m.slots c.args.slot c.requires.slot in
-    (search rules, omega arith, asked _ _ c.token.view_is _ _ c.hold_index-word.result (λ n. (n + (2 ^ 64 - 1)) % 2 ^ 64) (On hold_index (MasterBecomes (unread without_pin))) (hold_allows c.deref.result.now.shared.key.slots _ _ _ self.token.me c.args.slot c.hold_index-word.result (λ n. (n + (2 ^ 64 - 1)) % 2 ^ 64) (unread without_pin) self.a_master (omega arith) (unpin_owes m c.args.slot p.0 p.1 c.requires.one)))
+    (search rules, omega arith, asked _ _ c.token.view_is _ _ c.hold_index-word.result (λ n. (n + (2 ^ 64 - 1)) % 2 ^ 64) (MasterMakes hold_index unpins_hold (MasterBecomes (unread without_pin))) (unpin_made c.deref.result.now.shared.key _ _ self.token.me c.args.slot self.a_master c.hold_index-word.result (omega arith) c.requires.slot c.requires.one))
 
 pub invariant_of-self : goal.invariant_of-self
 invariant_of-self c =
     let self = c.args.self.now in
-    let now = told_of _ _ c.token.view_is c.fetch_sub.new.seat.me c.args.slot c.hold_index-word.result c.fetch_sub.result (unread without_pin) self.a_master (hold_slot c.args.slot c.hold_index-word.result (sym c.hold_index-word.ensures.here)) c.fetch_sub.ensures.2.1 in
+    let now = told_of _ _ c.token.view_is c.fetch_sub.new.seat.me c.args.slot c.hold_index-word.result c.fetch_sub.result (unread without_pin) self.a_master (hold_slot c.args.slot c.hold_index-word.result (sym c.hold_index-word.ensures.here)) c.fetch_sub.ensures.2.1.0 in
     record {
       of_table = c.fetch_sub.ensures.0 ∙ ap (λ s. s.table_id) c.token.view_is ∙ self.of_table;
       a_master = keeps_master _ _ now;
@@ -31,4 +31,4 @@ invariant_of-self c =
 pub returns-clause-view : goal.returns-clause-view
 returns-clause-view c =
     let self = c.args.self.now in
-    ap (λ (x : Seated). master_of x.0) (told_of _ _ c.token.view_is c.fetch_sub.new.seat.me c.args.slot c.hold_index-word.result c.fetch_sub.result (unread without_pin) self.a_master (hold_slot c.args.slot c.hold_index-word.result (sym c.hold_index-word.ensures.here)) c.fetch_sub.ensures.2.1)
+    ap (λ (x : Seated). master_of x.0) (told_of _ _ c.token.view_is c.fetch_sub.new.seat.me c.args.slot c.hold_index-word.result c.fetch_sub.result (unread without_pin) self.a_master (hold_slot c.args.slot c.hold_index-word.result (sym c.hold_index-word.ensures.here)) c.fetch_sub.ensures.2.1.0)

@@ -17,14 +17,14 @@ use denote.Triple.Entry.{alive}
 use denote.Triple.Walked.{Stays, walk_of, says, stay_dropped, Goes-dropped, ends_at}
 use Rattle.atomic_table.proofs.Fields.{token_val, token_told}
 use Rattle.atomic_table.specs.contracts.shared.Seat as seat
-use Rattle.kf_words.specs.contracts.view.View as view
+use Rattle.kf_words.specs.contracts.sight.Sight as sight
 use Rattle.kf_words.specs.contracts.master_token.MasterToken as token
 use Rattle.kf_words.specs.contracts.master_token.MasterToken.new as f
 use Rattle.kf_words.proofs.master_token.MasterToken.new.Statement.{statement}
 use Rattle.kf_words.proofs.master_token.MasterToken.new.Code as code
 
 abbrev row : RattleType
-row = seat.the_row unit view.the_row
+row = seat.the_row unit sight.the_row
 
 abbrev stayed : Stays f.ended.signature.params f.ended.kept
 stayed = (stay_dropped (plain (λ _. row)) yes, tt)
@@ -37,7 +37,7 @@ new_spec 𝓤 𝓛 𝓜 𝓡 wired =
     let c = f.clauses 𝓛 𝓜.mem 𝓡.returns in let W = walk_of 𝓛 f.ended stayed c in let 𝓣 = tables 𝓤 𝓛.H 𝓜 𝓡 𝓡.env in
     proved 𝓛 f.ended stayed c 𝓜 𝓡 (Goes-dropped 𝓛 0 (plain (λ _. row)) yes (λ κs x w. refl), tt)
     f.Key.name code.function (code.unfolded 𝓤 𝓛.H 𝓜 𝓡 wired)
-    (λ κs. ((λ _. token_val ∷ []), tt)) (λ κs. ((λ x vs so. token_told unit view.the_row vs so.0), tt)) (λ κs qs bounds a gh are.
+    (λ κs. ((λ _. token_val ∷ []), tt)) (λ κs. ((λ x vs so. token_told unit sight.the_row vs so.0), tt)) (λ κs qs bounds a gh are.
     let x : row.Denot = a.0 in let y : W.Ghost = ((κs, qs, bounds, a, (token_val ∷ [], tt)), tt) in
     qed 𝓛 ((raw (alive 𝓛 f.signature κs qs) ⊛ ‵ (owns (types_at f.signature.params κs) a y.0.4)) ∷ ‵ ftrue ∷ []) ∵
     split ! $ keep ! (1 ∷ []) $

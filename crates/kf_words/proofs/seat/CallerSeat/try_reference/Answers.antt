@@ -8,7 +8,7 @@ pub fetch_add-requires : goal.fetch_add-requires
 fetch_add-requires c =
     let seat = c.args.self.now in
     let words : c.deref.result.now.shared.table_id.words ≡ (arc_value seat.table).shared.table_id.words = ap (λ t. t.shared.table_id.words) c.deref.ensures in
-    let slot : (caller_of seat.token.me.0).key.slot ≡ seat.key.slot = ap (λ k. k.slot) seat.same_key in
+    let slot : (caller_of seat.token.me.0.view).key.slot ≡ seat.key.slot = ap (λ k. k.slot) seat.same_key in
     let at = c.active_index-word.ensures.here in
     let within = c.active_index-word.ensures.within in
-    (search rules, omega arith, try_made _ _ _ _ seat.token.me c.active_index-word.result seat.a_caller (omega arith) c.requires)
+    (search rules, omega arith, try_made _ _ _ seat.token.me c.active_index-word.result seat.a_caller (omega arith) c.requires)

@@ -1,6 +1,6 @@
 use Rattle.std.proofs.Common.{◌≡◌, ℕ, rules, arith, ap, subst, sym}
 use Rattle.std.specs.Arc.{arc_value}
-use Rattle.kf_words.specs.Callers.{view_of}
+use Rattle.kf_words.specs.Callers.{sight_of, caller_sight}
 use Rattle.kf_words.specs.Made.{WasUndone}
 use Rattle.kf_words.specs.Steps.{caller_of}
 use Rattle.kf_words.proofs.Made.{undo_made}
@@ -10,12 +10,12 @@ pub fetch_sub-found-requires : goal.fetch_sub-found-requires
 fetch_sub-found-requires c =
     let seat = c.args.self.now in
     let words : c.deref.result.now.shared.table_id.words ≡ (arc_value seat.table).shared.table_id.words = ap (λ t. t.shared.table_id.words) c.deref.ensures in
-    let slot : (caller_of seat.token.me.0).key.slot ≡ seat.key.slot = ap (λ k. k.slot) seat.same_key in
+    let slot : (caller_of seat.token.me.0.view).key.slot ≡ seat.key.slot = ap (λ k. k.slot) seat.same_key in
     let at = c.active_index-word.ensures.here in
     let within = c.active_index-word.ensures.within in
-    (search rules, omega arith, undo_made _ _ _ _ seat.token.me c.active_index-word.result seat.a_caller (omega arith) c.requires.turned c.requires.due)
+    (search rules, omega arith, undo_made _ _ _ seat.token.me c.active_index-word.result seat.a_caller (omega arith) c.requires.turned c.requires.due)
 
 pub returns-clause-made : goal.returns-clause-made
 returns-clause-made c =
-    subst (λ (n : ℕ). WasUndone (view_of c.args.self.now) (caller_of c.fetch_sub-found.new.seat.me.0) n) (sym c.new.ensures.found)
+    subst (λ (n : ℕ). WasUndone (sight_of c.args.self.now) (caller_sight c.fetch_sub-found.new.seat.me.0) n) (sym c.new.ensures.found)
     c.fetch_sub-found.ensures.2.1.1

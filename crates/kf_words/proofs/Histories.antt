@@ -1,0 +1,63 @@
+-- What the rule tells of the one run: each table that meets it is at the end of a run from the opening.
+use Rattle.std.proofs.Common.{◌≡◌, ◌⊎◌, inl, inr, ℕ, zero, suc, ◌≤◌, List, [], ◌∷◌, ◌++◌, refl, sym, ap, ◌∙◌, subst, ⊎_elim}
+use mathlib.Core.Option.{some, some-injective, some-ne-none}
+use mathlib.Core.List.{IsPrefix}
+use lib.ListN.{get_elem?}
+use Rattle.atomic_table.specs.Table.{opening}
+use Rattle.kf_words.specs.declared.sight.Opening.{Opening}
+use Rattle.kf_words.specs.declared.sight.Seen.{Seen}
+use Rattle.kf_words.specs.declared.sight.Sight.{Sight}
+use Rattle.kf_words.specs.Layout.{opening_words}
+use Rattle.kf_words.specs.TableSteps.{Kind, WordRun}
+use Rattle.kf_words.specs.History.{erased, opened_as, IsBeginning, Kept, first_sight, EndsARun, SeenLeadsHere, OneRunIsSeen}
+use Rattle.kf_words.proofs.Runs.{rule_kept}
+use Rattle.kf_words.proofs.Keeps.{run_parts}
+use Rattle.kf_words.proofs.Opening.{opening_shown}
+
+pub opening_kept : (o : Opening) → 1 ≤ o.slots → o.holds ≤ 65535 → Kept o (opening (opening_words o.slots o.start) [] (first_sight o))
+opening_kept o some_slot few = record {
+  begins = opening_shown o.slots o.holds o.start some_slot few;
+  log = [];
+  run = refl;
+  seen = first;
+  shown = opening_shown o.slots o.holds o.start some_slot few;
+}
+  where
+    first : (place : ℕ) (s : Sight) → get_elem? (first_sight o ∷ []) place ≡ some s → IsBeginning o s.seen []
+    first zero s e = subst (λ (x : Sight). IsBeginning o x.seen []) (some-injective (first_sight o) s e) (refl, ([], refl))
+    first (suc place) s e = absurd (some-ne-none s (sym e))
+
+pub ends_a_run : EndsARun
+ends_a_run o t kept = (kept.begins, kept.run, kept.shown)
+
+pub seen_leads_here : SeenLeadsHere
+seen_leads_here o t kept place s at =
+    let b = kept.seen place s at in
+    let later : List Kind = b.1.0 in
+    let p = run_parts s.seen.steps later (opened_as o) (erased t) (subst (λ (l : List Kind). WordRun (opened_as o) l (erased t)) (sym b.1.1) kept.run) in
+    (b.0, later, p.0, b.1.1, rule_kept o.slots o.holds (opened_as o) p.0 s.seen.steps kept.begins p.1, p.1, p.2)
+
+abbrev head_of : {A : Type 0} → A → List A → A
+head_of d [] = d
+head_of d (x ∷ xs) = x
+
+abbrev tail_of : {A : Type 0} → List A → List A
+tail_of [] = []
+tail_of (x ∷ xs) = xs
+
+-- of two beginnings of one list, one is a beginning of the other
+beginnings : {A : Type 0} (xs ys p q : List A) → xs ++ p ≡ ys ++ q → IsPrefix xs ys ⊎ IsPrefix ys xs
+beginnings [] ys p q e = inl (ys, refl)
+beginnings (x ∷ xs) [] p q e = inr (x ∷ xs, refl)
+beginnings (x ∷ xs) (y ∷ ys) p q e =
+    let head : x ≡ y = ap (head_of x) e in
+    ⊎_elim
+    (λ (a : IsPrefix xs ys). inl (a.0, ap (λ l. x ∷ l) a.1 ∙ ap (λ h. h ∷ ys) head))
+    (λ (a : IsPrefix ys xs). inr (a.0, ap (λ l. y ∷ l) a.1 ∙ ap (λ h. h ∷ xs) (sym head)))
+    (beginnings xs ys p q (ap tail_of e))
+
+pub one_run_is_seen : OneRunIsSeen
+one_run_is_seen o t kept i j a b at there =
+    let x = (kept.seen i a at).1 in
+    let y = (kept.seen j b there).1 in
+    beginnings a.seen.steps b.seen.steps x.0 y.0 (x.1 ∙ sym y.1)

@@ -1,0 +1,16 @@
+-- The clauses on the one run, each by the lemma of its name.
+use Rattle.kf_words.proofs.Histories.{ends_a_run, seen_leads_here, one_run_is_seen}
+use Rattle.kf_words.proofs.OneEnds.{one_end}
+use Rattle.kf_words.proofs.laws.words_kept.Goals as goal
+
+pub returns-clause-ends_a_run : goal.returns-clause-ends_a_run
+returns-clause-ends_a_run c = ends_a_run
+
+pub returns-clause-seen_leads_here : goal.returns-clause-seen_leads_here
+returns-clause-seen_leads_here c = seen_leads_here
+
+pub returns-clause-one_run_is_seen : goal.returns-clause-one_run_is_seen
+returns-clause-one_run_is_seen c = one_run_is_seen
+
+pub returns-clause-one_end : goal.returns-clause-one_end
+returns-clause-one_end c = one_end

@@ -1,0 +1,84 @@
+-- The one run: what the rule keeps of it between any two steps.
+use Rattle.std.specs.Prelude.{◌≡◌, ◌⊎◌, ℕ, List, [], ◌++◌, map}
+use mathlib.Core.Option.{some}
+use mathlib.Core.List.{IsPrefix}
+use lib.ListN.{get_elem?}
+use Rattle.atomic_table.specs.Table.{State}
+use Rattle.kf_words.specs.declared.sight.Opening.{Opening}
+use Rattle.kf_words.specs.declared.sight.Seen.{Seen}
+use Rattle.kf_words.specs.declared.sight.Sight.{Sight}
+use Rattle.kf_words.specs.declared.view.View.{View}
+use Rattle.kf_words.specs.declared.view.View.TheVariants as seat
+use Rattle.kf_words.specs.Rule.{Shown}
+use Rattle.kf_words.specs.Steps.{opened, master_of, after_split, hold_for}
+use Rattle.kf_words.specs.TableSteps.{Table, Kind, WordRun, opened_table}
+
+-- the words, and what each seat knows
+abbrev pub SeenTable : Type 0
+SeenTable = State (Unit {0}) Sight
+
+-- the table without what its seats have seen
+abbrev pub erased : SeenTable → Table
+erased t = record { words = t.words; homes = t.homes; views = map (λ (s : Sight). s.view) t.views }
+
+-- the table that opens so
+abbrev pub opened_as : Opening → Table
+opened_as o = opened_table o.holds o.slots o.start
+
+-- what the Master knows at the opening: nothing has been done
+abbrev pub first_sight : Opening → Sight
+first_sight o = record {
+  view = seat.Master (opened o.holds o.slots o.start);
+  seen = record { opening = o; steps = [] };
+}
+
+-- what the Master knows after it gave a hold its seat
+abbrev pub after_giving : Sight → Sight
+after_giving s = record { view = seat.Master (after_split (master_of s.view)); seen = s.seen }
+
+-- what the new seat of a pinned hold knows: as much of the run as the Master who gave it
+abbrev pub given : Sight → Sight
+given s = record {
+  view = seat.Caller (hold_for (master_of s.view) (master_of s.view).pinning);
+  seen = s.seen;
+}
+
+-- a beginning of the run of these steps, from this opening
+abbrev pub IsBeginning : Opening → Seen → List Kind → Type 0
+IsBeginning o seen log = (seen.opening ≡ o) × IsPrefix seen.steps log
+
+-- one run leads here from the opening, each seat has seen a beginning of it, and the words show the views of
+-- all seats
+pub record Kept (o : Opening) (t : SeenTable) : Type 0 where
+  pub begins : Shown o.slots o.holds (opened_as o)
+  pub log : List Kind
+  pub run : WordRun (opened_as o) log (erased t)
+  pub seen : (place : ℕ) (s : Sight) → get_elem? t.views place ≡ some s → IsBeginning o s.seen log
+  pub shown : Shown o.slots o.holds (erased t)
+
+-- in each table that meets the rule
+abbrev pub OfEachKept : ((o : Opening) (t : SeenTable) → List Kind → Type 0) → Type 0
+OfEachKept Law = (o : Opening) (t : SeenTable) (kept : Kept o t) → Law o t kept.log
+
+-- its words and views are at the end of a run from the opening, at which the rule was met
+abbrev pub EndsARun : Type 0
+EndsARun = OfEachKept (λ o t log. Shown o.slots o.holds (opened_as o) × WordRun (opened_as o) log (erased t)
+    × Shown o.slots o.holds (erased t))
+
+-- what a seat has seen leads from the opening to a table that met the rule, and from there the run went on to
+-- the table as it is
+abbrev pub SeenLeadsHere : Type 0
+SeenLeadsHere = OfEachKept
+    (λ o t log. (place : ℕ) (s : Sight) → get_elem? t.views place ≡ some s → (s.seen.opening ≡ o)
+    × (later : List Kind) × (mid : Table) × (s.seen.steps ++ later ≡ log) × Shown o.slots o.holds mid
+    × WordRun (opened_as o) s.seen.steps mid × WordRun mid later (erased t))
+
+-- of two seats, one has seen as much of the one run as the other, or more
+abbrev pub OneRunIsSeen : Type 0
+OneRunIsSeen = OfEachKept
+    (λ o t log. (i j : ℕ) (a b : Sight) → get_elem? t.views i ≡ some a → get_elem? t.views j ≡ some b
+    → IsPrefix a.seen.steps b.seen.steps ⊎ IsPrefix b.seen.steps a.seen.steps)
+
+-- a run of the same steps from the same table ends at the same table
+abbrev pub OneEnd : Type 0
+OneEnd = (t u v : Table) (kinds : List Kind) → WordRun t kinds u → WordRun t kinds v → u ≡ v

@@ -1,0 +1,52 @@
+//! The one run of all steps at a table of words, and what each seat has seen of it. The rule of the table
+//! speaks of these types, so they are types of the code, but no value of a `Sight` or a `Kind` is ever made.
+use crate::view::View;
+use std::collections::LinkedList;
+
+/// How the table begins: so many slots, each with at most so many holds, the last generation `start` and no
+/// node. The root's slot alone has a node, which is live and of the next generation.
+#[derive(Clone, Copy)]
+pub struct Opening {
+    pub holds: u32,
+    pub slots: u32,
+    pub start: u32,
+}
+
+/// What a step does: of a caller, by its number, or of the Master, on a slot.
+pub enum Kind {
+    Tries(u64),
+    Undoes(u64),
+    Leaves(u64),
+    Breaks(u64),
+    Restores(u64),
+    Looks(u64),
+    Parts(u64),
+    Hides(u64),
+    LooksHidden(u64),
+    Shows(u64),
+    Releases(u64),
+    Sleeps(u64),
+    Awakes(u64),
+    LoadsHold(u64),
+    PinsHold(u64),
+    UnpinsHold(u64),
+    Splits(u64),
+    StoresFresh(u64),
+    Births(u64),
+    TakesBias(u64),
+    MarksNode(u64),
+    LooksOver(u64),
+    Unlinks(u64),
+}
+
+/// A beginning of the one run: the steps of all seats from the opening on, in their order.
+pub struct Seen {
+    pub opening: Opening,
+    pub steps: LinkedList<Kind>,
+}
+
+/// What a seat knows: its view, and the beginning of the run that it has seen.
+pub struct Sight {
+    pub view: View,
+    pub seen: Seen,
+}
