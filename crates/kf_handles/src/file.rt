@@ -53,6 +53,7 @@ impl File {
         }
     }
 
+    /// What the file was opened for.
     pub fn want(&self) -> Want
         ensures { result ≡ self.now.state.want }
     {

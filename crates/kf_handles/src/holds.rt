@@ -11,12 +11,14 @@ pub struct Held {
 }
 
 impl Held {
+    /// Keeps a hold.
     pub fn new(hold: Hold) -> Held
         ensures { result.hold ≡ hold }
     {
         Held { hold }
     }
 
+    /// The hold, which is then its caller's to give back.
     pub fn into_hold(self) -> Hold
         ensures { result ≡ self.hold }
     {
@@ -37,12 +39,14 @@ pub struct Inside {
 }
 
 impl Inside {
+    /// Keeps a call.
     pub fn new(call: Call) -> Inside
         ensures { result.call ≡ call }
     {
         Inside { call }
     }
 
+    /// The call, which is then its caller's to end.
     pub fn into_call(self) -> Call
         ensures { result ≡ self.call }
     {
@@ -50,6 +54,7 @@ impl Inside {
         call
     }
 
+    /// Whether the call has its reference, and has not broken its protection.
     pub fn is_running(&self) -> bool
         ensures yes { IsTrue result → self.now.call.phase ≡ Running }
         ensures no { result ≡ false → self.now.call.phase ≢ Running }

@@ -33,6 +33,7 @@ pub fn post_of(object: Object, key: Key) -> (Object, Result<Post, Refusal>)
     }
 }
 
+/// Makes a post of the key's slot, where the handle has a tree. The tree comes back as it was.
 pub fn post_of_handle(handle: KtHandle, key: Key) -> (KtHandle, Result<Post, Refusal>)
     ensures made { IfOk result.1 (λ post. IsPostOf handle.place.object key post) }
     ensures tree { IsSameTree handle.place.object result.0.place.object }

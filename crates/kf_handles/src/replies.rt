@@ -44,6 +44,7 @@ pub struct KtStat {
     pub hidden: bool,
 }
 
+/// The key as the library has it.
 pub fn key_of(key: KtKey) -> Key
     ensures { result ≡ record { slot = key.slot; generation = key.generation } }
 {

@@ -8,6 +8,7 @@ ghost use Rattle.kf_script.specs.Requests.{request_words, IsInRange, reads_of};
 use super::request::Request;
 use super::words::Words;
 
+/// `mkdir PATH` or `mkdir PATH off`.
 #[inline(always)]
 pub fn make_directory(mut words: Words<'_>) -> Option<Request<'_>>
     ensures value { option_map request_words result ≡ reads_of (codes "mkdir") words.entry }
@@ -21,6 +22,7 @@ pub fn make_directory(mut words: Words<'_>) -> Option<Request<'_>>
     })
 }
 
+/// `file PATH MODE TEXT`.
 #[inline(always)]
 pub fn make_file(mut words: Words<'_>) -> Option<Request<'_>>
     ensures value { option_map request_words result ≡ reads_of (codes "file") words.entry }
@@ -32,6 +34,7 @@ pub fn make_file(mut words: Words<'_>) -> Option<Request<'_>>
     Some(Request::MakeFile { path, mode, text })
 }
 
+/// `link PATH TARGET`.
 #[inline(always)]
 pub fn make_link(mut words: Words<'_>) -> Option<Request<'_>>
     ensures value { option_map request_words result ≡ reads_of (codes "link") words.entry }
@@ -43,6 +46,7 @@ pub fn make_link(mut words: Words<'_>) -> Option<Request<'_>>
     Some(Request::MakeLink { path, target })
 }
 
+/// `activate PATH`.
 #[inline(always)]
 pub fn activate(mut words: Words<'_>) -> Option<Request<'_>>
     ensures value { option_map request_words result ≡ reads_of (codes "activate") words.entry }
@@ -53,6 +57,7 @@ pub fn activate(mut words: Words<'_>) -> Option<Request<'_>>
     Some(Request::Activate { path })
 }
 
+/// `ls PATH`.
 #[inline(always)]
 pub fn list_names(mut words: Words<'_>) -> Option<Request<'_>>
     ensures value { option_map request_words result ≡ reads_of (codes "ls") words.entry }
@@ -63,6 +68,7 @@ pub fn list_names(mut words: Words<'_>) -> Option<Request<'_>>
     Some(Request::ListNames { path })
 }
 
+/// `stat PATH`.
 #[inline(always)]
 pub fn stat(mut words: Words<'_>) -> Option<Request<'_>>
     ensures value { option_map request_words result ≡ reads_of (codes "stat") words.entry }
@@ -73,6 +79,7 @@ pub fn stat(mut words: Words<'_>) -> Option<Request<'_>>
     Some(Request::Stat { path })
 }
 
+/// `readlink PATH`.
 #[inline(always)]
 pub fn read_link(mut words: Words<'_>) -> Option<Request<'_>>
     ensures value { option_map request_words result ≡ reads_of (codes "readlink") words.entry }
@@ -83,6 +90,7 @@ pub fn read_link(mut words: Words<'_>) -> Option<Request<'_>>
     Some(Request::ReadLink { path })
 }
 
+/// `mv PATH DIR NAME`.
 #[inline(always)]
 pub fn move_node(mut words: Words<'_>) -> Option<Request<'_>>
     ensures value { option_map request_words result ≡ reads_of (codes "mv") words.entry }
@@ -95,6 +103,7 @@ pub fn move_node(mut words: Words<'_>) -> Option<Request<'_>>
     Some(Request::Move { path, dir, name })
 }
 
+/// `rm PATH`.
 #[inline(always)]
 pub fn remove(mut words: Words<'_>) -> Option<Request<'_>>
     ensures value { option_map request_words result ≡ reads_of (codes "rm") words.entry }
@@ -105,6 +114,7 @@ pub fn remove(mut words: Words<'_>) -> Option<Request<'_>>
     Some(Request::Remove { path })
 }
 
+/// `open H PATH r`, `w` or `rw`.
 #[inline(always)]
 pub fn open(mut words: Words<'_>) -> Option<Request<'_>>
     ensures value { option_map request_words result ≡ reads_of (codes "open") words.entry }
@@ -122,6 +132,7 @@ pub fn open(mut words: Words<'_>) -> Option<Request<'_>>
     })
 }
 
+/// `read H OFF LEN`.
 #[inline(always)]
 pub fn read(mut words: Words<'_>) -> Option<Request<'_>>
     ensures value { option_map request_words result ≡ reads_of (codes "read") words.entry }
@@ -134,6 +145,7 @@ pub fn read(mut words: Words<'_>) -> Option<Request<'_>>
     Some(Request::ReadFile { file, offset, most })
 }
 
+/// `write H TEXT`.
 #[inline(always)]
 pub fn write(mut words: Words<'_>) -> Option<Request<'_>>
     ensures value { option_map request_words result ≡ reads_of (codes "write") words.entry }
@@ -144,6 +156,7 @@ pub fn write(mut words: Words<'_>) -> Option<Request<'_>>
     Some(Request::WriteFile { file, text })
 }
 
+/// `poll H`.
 #[inline(always)]
 pub fn poll(mut words: Words<'_>) -> Option<Request<'_>>
     ensures value { option_map request_words result ≡ reads_of (codes "poll") words.entry }
@@ -154,6 +167,7 @@ pub fn poll(mut words: Words<'_>) -> Option<Request<'_>>
     Some(Request::PollFile { file })
 }
 
+/// `notify PATH`.
 #[inline(always)]
 pub fn notify(mut words: Words<'_>) -> Option<Request<'_>>
     ensures value { option_map request_words result ≡ reads_of (codes "notify") words.entry }
@@ -164,6 +178,7 @@ pub fn notify(mut words: Words<'_>) -> Option<Request<'_>>
     Some(Request::Notify { path })
 }
 
+/// `close H`.
 #[inline(always)]
 pub fn close(mut words: Words<'_>) -> Option<Request<'_>>
     ensures value { option_map request_words result ≡ reads_of (codes "close") words.entry }
@@ -174,6 +189,7 @@ pub fn close(mut words: Words<'_>) -> Option<Request<'_>>
     Some(Request::CloseFile { file })
 }
 
+/// `hide PATH`.
 #[inline(always)]
 pub fn hide(mut words: Words<'_>) -> Option<Request<'_>>
     ensures value { option_map request_words result ≡ reads_of (codes "hide") words.entry }
@@ -184,6 +200,7 @@ pub fn hide(mut words: Words<'_>) -> Option<Request<'_>>
     Some(Request::Hide { path })
 }
 
+/// `show PATH`.
 #[inline(always)]
 pub fn show(mut words: Words<'_>) -> Option<Request<'_>>
     ensures value { option_map request_words result ≡ reads_of (codes "show") words.entry }
@@ -194,6 +211,7 @@ pub fn show(mut words: Words<'_>) -> Option<Request<'_>>
     Some(Request::Show { path })
 }
 
+/// `commands`.
 #[inline(always)]
 pub fn count_commands(words: Words<'_>) -> Option<Request<'_>>
     ensures value { option_map request_words result ≡ reads_of (codes "commands") words.entry }
@@ -203,6 +221,7 @@ pub fn count_commands(words: Words<'_>) -> Option<Request<'_>>
     Some(Request::CountCommands)
 }
 
+/// `compact`.
 #[inline(always)]
 pub fn compact(words: Words<'_>) -> Option<Request<'_>>
     ensures value { option_map request_words result ≡ reads_of (codes "compact") words.entry }
@@ -212,6 +231,7 @@ pub fn compact(words: Words<'_>) -> Option<Request<'_>>
     Some(Request::Compact)
 }
 
+/// `plug NAME TEXT`.
 #[inline(always)]
 pub fn plug(mut words: Words<'_>) -> Option<Request<'_>>
     ensures value { option_map request_words result ≡ reads_of (codes "plug") words.entry }
@@ -222,6 +242,7 @@ pub fn plug(mut words: Words<'_>) -> Option<Request<'_>>
     Some(Request::Plug { name, text })
 }
 
+/// `unplug NAME`.
 #[inline(always)]
 pub fn unplug(mut words: Words<'_>) -> Option<Request<'_>>
     ensures value { option_map request_words result ≡ reads_of (codes "unplug") words.entry }
@@ -232,6 +253,7 @@ pub fn unplug(mut words: Words<'_>) -> Option<Request<'_>>
     Some(Request::Unplug { name })
 }
 
+/// `wait`.
 #[inline(always)]
 pub fn wait(words: Words<'_>) -> Option<Request<'_>>
     ensures value { option_map request_words result ≡ reads_of (codes "wait") words.entry }

@@ -1,5 +1,5 @@
 //! The guard of the tree lock.
-ghost use Rattle.std.specs.Prelude.{◌≡◌, ◌≤◌, ◌+◌, IfOk, IfErr, OnOk, OnErr, None, true, false, not, vec_capacity, vec_len, slice_set, length, List};
+ghost use Rattle.std.specs.Prelude.{◌≡◌, ◌+◌, IfOk, IfErr, OnOk, OnErr, None, true, false, not, slice_set, length, List};
 ghost use Rattle.kf_core.specs.declared.key.Key.{Key};
 ghost use Rattle.kf_core.specs.declared.command.Command.{Command};
 ghost use Rattle.kf_core.specs.declared.command.Command.TheVariants.{Activate, Rename, Hide};
@@ -20,11 +20,11 @@ ghost use Rattle.kf_shared.specs.Removal.{IsNew, AreHolds, DoomHolds, DoomDone, 
 
 use crate::locked::Locked;
 use crate::naming::Naming;
+use crate::removing::Removing;
 use crate::tree::SharedTree;
-use crate::under_way::Removing;
 use kf_core::{Key, Node, Refusal};
 use kf_tree::State;
-use kf_words::{Call, Drained, Hidden, Hiding, Hold, Parted};
+use kf_words::{Call, Drained, Hidden, Hiding, Hold};
 use std::marker::Model;
 use std::sync::RwLockWriteGuard;
 
@@ -247,60 +247,6 @@ impl<N: Naming> Editor<'_, N> {
         self.guard.compact()
     }
 
-    /// As `doom`, where room for as many receipts is made before anything is marked.
-    pub(crate) fn start_removal(
-        &mut self,
-        hold: Hold,
-        receipts: &mut Vec<Parted>,
-    ) -> Result<Vec<Hold>, (Hold, Refusal)>
-        requires table { hold.table ≡ N.table }
-        ensures order { IfOk result (λ holds. DoomHolds self.old.state.tree hold holds.items) }
-        ensures holds { IfOk result (λ holds. AreHolds self.old.master hold holds.items) }
-        ensures done { IfOk result (λ _. DoomDone self.old self.new hold.key) }
-        ensures whole { IsWhole N.table self.new }
-        ensures room { IfOk result
-            (λ holds. vec_len receipts.new + vec_len holds ≤ vec_capacity receipts.new) }
-        ensures receipts { receipts.new.items ≡ receipts.old.items }
-        ensures back { IfErr result (λ r. r.0 ≡ hold) }
-        ensures refused { IfErr result (λ r. DoomRefused self.old self.new hold.key r.1) }
-        ensures same { OnErr result (Unchanged self.old self.new) }
-        ensures claims { self.new.claims ≡ self.old.claims }
-    {
-        let started = self.guard.start_removal(hold, receipts);
-        let _ = self.state();
-        started
-    }
-
-    /// Starts the removal of a call's own node: pins, marks, claims, and breaks the call's protection.
-    pub(crate) fn start_self_removal(
-        &mut self,
-        call: &mut Call,
-        receipts: &mut Vec<Parted>,
-    ) -> Result<(bool, Vec<Hold>), Refusal>
-        requires table { call.old.table ≡ N.table }
-        requires running { call.old.phase ≡ phase_of.Running }
-        ensures seat { IsSameSeat call.old call.new }
-        ensures broken { OnOk result (call.new.phase ≡ phase_of.Broken) }
-        ensures kept { OnErr result (call.new ≡ call.old) }
-        ensures holds { IfOk result
-            (λ r. (hold : Handle) × (hold.key ≡ call.old.key) × IsNew self.old.master hold
-            × AreHolds self.old.master hold r.1.items × DoomHolds self.old.state.tree hold r.1.items) }
-        ensures first { IfOk result (λ r. r.0 ≡ not (is_claimed self.old.claims call.old.key)) }
-        ensures claimed { OnOk result
-            (self.new.claims ≡ slice_set self.old.claims call.old.key.slot call.old.key.generation) }
-        ensures done { IfOk result (λ _. DoomMarked self.old self.new call.old.key) }
-        ensures whole { IsWhole N.table self.new }
-        ensures room { IfOk result (λ r. vec_len receipts.new + vec_len r.1 ≤ vec_capacity receipts.new) }
-        ensures receipts { receipts.new.items ≡ receipts.old.items }
-        ensures refused { IfErr result
-            (λ refusal. SelfRemovalRefused self.old self.new call.old.key refusal) }
-        ensures same { OnErr result (Unchanged self.old self.new) }
-    {
-        let started = self.guard.start_self_removal(call, receipts);
-        let _ = self.state();
-        started
-    }
-
     /// As `doom`, with room for the receipts made before anything is marked: [`Removing::finish`] then waits,
     /// with the lock let go, and takes no memory.
     ///
@@ -321,7 +267,9 @@ impl<N: Naming> Editor<'_, N> {
     {
         let _ = self.state();
         let mut receipts = Vec::new(self.tree.alloc);
-        match self.start_removal(hold, &mut receipts) {
+        let started = self.guard.start_removal(hold, &mut receipts);
+        let _ = self.state();
+        match started {
             Ok(holds) => Ok(Removing::new(holds, receipts)),
             Err(refused) => {
                 receipts.destroy_empty();
@@ -359,7 +307,9 @@ impl<N: Naming> Editor<'_, N> {
     {
         let _ = self.state();
         let mut receipts = Vec::new(self.tree.alloc);
-        match self.start_self_removal(call, &mut receipts) {
+        let started = self.guard.start_self_removal(call, &mut receipts);
+        let _ = self.state();
+        match started {
             Ok((first, holds)) => Ok((first, Removing::new(holds, receipts))),
             Err(refusal) => {
                 receipts.destroy_empty();

@@ -12,7 +12,7 @@ ghost use Rattle.kf_shared.specs.Receipts.{AreOf, IsRemovalOf, KeyRefused, Named
 
 use crate::editor::Editor;
 use crate::naming::Naming;
-use crate::under_way::Removing;
+use crate::removing::Removing;
 use kf_core::{Key, Refusal};
 use kf_words::Parted;
 use std::sync::Wait;
