@@ -34,16 +34,10 @@ pub fn is_marked<N: Naming>(locked: &Locked<N>, key: Key) -> Option<bool>
     }
 }
 
-/// Whether the node of this slot, where it is below the top, has as many holds as there may be.
-fn is_full_below<N: Naming>(locked: &mut Locked<N>, top: Key, slot: u32) -> bool
+/// Whether a node has as many holds as there may be.
+fn is_full<N: Naming>(locked: &mut Locked<N>, key: Key) -> bool
     ensures { Unchanged locked.old locked.new }
 {
-    let Some(key) = locked.state().key_in(slot) else {
-        return false;
-    };
-    if key == top || !locked.state().is_below(top, key) {
-        return false;
-    }
     match locked.hold(key) {
         Ok(hold) => {
             hold.release();
@@ -53,17 +47,22 @@ fn is_full_below<N: Naming>(locked: &mut Locked<N>, top: Key, slot: u32) -> bool
     }
 }
 
-/// What is answered where a hold of the top is refused: want of memory only where no node below is full.
+/// What is answered where a hold of the top is refused: want of memory only where no node below is full. It
+/// looks at the nodes below alone.
 fn memory_last<N: Naming>(locked: &mut Locked<N>, top: Key, refusal: Refusal) -> Refusal
     ensures { Unchanged locked.old locked.new }
 {
     if refusal != Refusal::NoMemory {
         return refusal;
     }
-    for slot in 0..locked.state().slots() {
-        if is_full_below(locked, top, slot) {
+    let Some(mut tour) = locked.state().tour(top) else {
+        return refusal;
+    };
+    'below: while let Some(next) = locked.state().tour_on(tour) {
+        if is_full(locked, tour.key) {
             return Refusal::TooManyHolds;
         }
+        tour = next;
     }
     refusal
 }

@@ -45,6 +45,8 @@ pub(crate) fn make_room(commands: &mut Vec<Command>, later: usize) -> Result<(),
 pub(crate) fn fit_room(commands: &mut Vec<Command>, later: usize) -> Result<(), Refusal>
     ensures items { commands.new.items ≡ commands.old.items }
     ensures room { OnOk result (length commands.old.items + later ≤ vec_capacity commands.new) }
+    ensures fits { vec_capacity commands.new
+        ≤ max (vec_capacity commands.old) (length commands.old.items + later) }
     ensures refused { IfErr result (λ refusal. refusal ≡ Refusal.NoMemory) }
 {
     let Ok(()) = commands.reserve_exact(later) else {

@@ -1,6 +1,12 @@
+use Rattle.std.proofs.Common.{◌-◌, List, length}
+use Rattle.kf_core.specs.declared.key.Key.{Key}
+use Rattle.kf_tree.specs.Tours.{HasPassed}
 use Rattle.kf_shared.specs.Locked.{Unchanged}
 use Rattle.kf_handles.proofs.marking.memory_last.Given as goal
 
--- holds come and go
-abbrev pub invariant-loop-slot : goal.invariant-loop-slot
-invariant-loop-slot g l = Unchanged l.fn.locked l.locked
+-- holds come and go, and the tour is one of the tree that stays
+abbrev pub invariant-below : goal.invariant-below
+invariant-below g l = Unchanged l.fn.locked l.locked × ((keys : List Key) × HasPassed l.locked.state.tree l.tour keys)
+
+abbrev pub decreases-below : goal.decreases-below
+decreases-below g l = length l.locked.state.tree - l.tour.passed
