@@ -16,7 +16,7 @@ use Rattle.kf_core.specs.Steps.{BareStep, with_marks}
 use Rattle.kf_core.proofs.Climbs.{same_parts}
 use Rattle.kf_core.proofs.Lists.{slice_get-set_same, slice_get-set_other}
 use Rattle.kf_core.proofs.Passing.{HasCome, step_come}
-use Rattle.kf_words.specs.Runs.{Kind}
+use Rattle.kf_words.specs.declared.sight.Kind.{Kind}
 use Rattle.kf_words.proofs.WordSteps.{Alone, TakenOut, Came}
 use Rattle.kf_words.proofs.Runs.{alone_come}
 

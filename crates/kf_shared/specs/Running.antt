@@ -15,7 +15,9 @@ use Rattle.kf_core.specs.Commands.{replay, root_alone}
 use Rattle.kf_words.specs.Rule.{Shown}
 use Rattle.kf_words.specs.Steps.{opened}
 use Rattle.kf_words.specs.Callers.{TableId}
-use Rattle.kf_words.specs.Runs.{Table, Kind, tries, births, WordStep, WordRun, WasLetIn, TryIsRefused, OverRuns, world, master_in, opened_table}
+use Rattle.kf_words.specs.declared.sight.Kind.{Kind}
+use Rattle.kf_words.specs.declared.sight.Kind.TheVariants.{Tries as tries, Births as births}
+use Rattle.kf_words.specs.Runs.{Table, WordStep, WordRun, WasLetIn, TryIsRefused, OverRuns, world, master_in, opened_table}
 use Rattle.kf_shared.specs.Locked.{Locked, IsWhole}
 
 -- the lock is free: its value has all that it keeps, and its Master is the one of this table

@@ -1,17 +1,20 @@
 -- What the rule tells of the one run: each table that meets it is at the end of a run from the opening.
-use Rattle.std.proofs.Common.{◌≡◌, ◌⊎◌, inl, inr, ℕ, zero, suc, ◌≤◌, List, [], ◌∷◌, ◌++◌, refl, sym, ap, ◌∙◌, subst, ⊎_elim}
+use Rattle.std.proofs.Common.{◌≡◌, ◌⊎◌, inl, inr, ℕ, zero, suc, ◌≤◌, List, [], ◌∷◌, ◌++◌, refl, sym, ap, ◌∙◌, subst, ⊎_elim, arith}
 use mathlib.Core.Option.{some, some-injective, some-ne-none}
 use mathlib.Core.List.{IsPrefix}
 use lib.ListN.{get_elem?}
 use Rattle.atomic_table.specs.Table.{opening}
 use Rattle.kf_words.specs.declared.sight.Opening.{Opening}
-use Rattle.kf_words.specs.declared.sight.Seen.{Seen}
 use Rattle.kf_words.specs.declared.sight.Sight.{Sight}
 use Rattle.kf_words.specs.Layout.{opening_words}
 use Rattle.kf_words.specs.TableSteps.{Kind, WordRun}
 use Rattle.kf_words.specs.History.{erased, opened_as, IsBeginning, Kept, first_sight, EndsARun, SeenLeadsHere, OneRunIsSeen}
-use Rattle.kf_words.proofs.Runs.{rule_kept}
-use Rattle.kf_words.proofs.Keeps.{run_parts}
+use Rattle.kf_words.specs.Life.{life_opening, lived, word_life, saw_life, LifeIsKept}
+use Rattle.kf_words.specs.Rule.{Shown}
+use Rattle.kf_words.proofs.Seating.{map_at}
+use Rattle.kf_words.proofs.Life.{lives}
+use Rattle.kf_words.proofs.Runs.{rule_kept, run_is_run}
+use Rattle.kf_words.proofs.Keeps.{prefix_self, run_parts}
 use Rattle.kf_words.proofs.Opening.{opening_shown}
 
 pub opening_kept : (o : Opening) → 1 ≤ o.slots → o.holds ≤ 65535 → Kept o (opening (opening_words o.slots o.start) [] (first_sight o))
@@ -61,3 +64,19 @@ one_run_is_seen o t kept i j a b at there =
     let x = (kept.seen i a at).1 in
     let y = (kept.seen j b there).1 in
     beginnings a.seen.steps b.seen.steps x.0 y.0 (x.1 ∙ sym y.1)
+
+-- the rule is met at the end of a life, where each seat has seen the whole of it
+pub life_is_kept : LifeIsKept
+life_is_kept =
+    let o : Opening = life_opening in
+    let begins : Shown o.slots o.holds (opened_as o) = opening_shown 2 3 0 (omega arith) (omega arith) in
+    let run : WordRun (opened_as o) word_life lived = (run_is_run 2 3 (opened_as o) lived word_life begins lives).0 in
+    record {
+      begins = begins;
+      log = word_life;
+      run = run;
+      seen = λ place s e.
+          let a = map_at saw_life lived.views place s e in
+          subst (λ (x : Sight). IsBeginning o x.seen word_life) a.2 (refl, prefix_self word_life);
+      shown = rule_kept 2 3 (opened_as o) lived word_life begins run;
+    }

@@ -19,12 +19,12 @@ pub mod Tells
 pub mod Events
 pub mod WordSteps
 pub mod Keeps
-pub mod Histories
 pub mod OneEnds
 pub mod Runs
 pub mod Made
 pub mod MasterMade
 pub mod Waits
 pub mod Life
+pub mod Histories
 pub mod Tokens
 pub mod Crossing

@@ -1,11 +1,10 @@
 -- Each step of the Master is the next of the one run, and tells so beside its new view.
 use Rattle.std.proofs.Common.{◌≡◌, ℕ, ◌+◌, ◌<◌, false, List, [], ◌∷◌, ◌++◌, length, set, refl, sym, ap, ◌∙◌, subst}
-use Rattle.std.specs.Prelude.{slice_get, slice_index, Some, None}
+use Rattle.std.specs.Prelude.{slice_index, Some, None}
 use mathlib.Core.Option.{some, none}
 use lib.ListN.{get_elem?}
 use Rattle.atomic_table.specs.Table.{Allows, Splits, step, stepped, keeps}
 use Rattle.kf_core.specs.declared.slot.Marks.{Marks}
-use Rattle.kf_core.specs.declared.slot.SlotState.{SlotState}
 use Rattle.kf_core.specs.Marks.{fresh_marks}
 use Rattle.kf_words.specs.declared.sight.Opening.{Opening}
 use Rattle.kf_words.specs.declared.sight.Sight.{Sight}
@@ -15,9 +14,9 @@ use Rattle.kf_words.specs.declared.view.View.TheVariants as seat
 use Rattle.kf_words.specs.Layout.{bit, bias, doom, linked, one_generation, active_index, hold_index, slot_of}
 use Rattle.kf_words.specs.Rule.{Shown}
 use Rattle.kf_words.specs.Steps.{Seated, Sighted, plain, master_of, with_load, with_pin, without_pin, after_store, with_birth, with_look, without_node, with_marks, activated_marks, doomed_marks, after_split, hold_for, unread, LoadsHold, MasterBecomes}
-use Rattle.kf_words.specs.Nodes.{FoundRoom, FoundFree, HasMarks, HasLooked, MasterSight, master_sight}
+use Rattle.kf_words.specs.Nodes.{FoundRoom, FoundFree, HasMarks, HasLooked, master_sight}
 use Rattle.kf_words.specs.TableSteps.{Table, Kind, loads_hold, pins_hold, unpins_hold, splits, stores_fresh, births, takes_bias, marks_node, looks_over, unlinks, plus, minus, same, Plays, WordStep}
-use Rattle.kf_words.specs.History.{SeenTable, erased, Kept, after_giving, given}
+use Rattle.kf_words.specs.History.{erased, Kept, after_giving, given}
 use Rattle.kf_words.specs.Made.{WasMadeByMaster, MasterMakes}
 use Rattle.kf_words.proofs.Seating.{master_seat}
 use Rattle.kf_words.proofs.Keeps.{view_there, between, now_seen, is_now, step_kept, split_kept, led_here, shown_here}

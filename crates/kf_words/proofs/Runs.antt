@@ -24,7 +24,7 @@ use Rattle.kf_words.specs.declared.view.View.TheVariants as seat
 use Rattle.kf_words.specs.Layout.{active_index}
 use Rattle.kf_words.specs.Rule.{Shown, seats, bare}
 use Rattle.kf_words.specs.Steps.{after_try}
-use Rattle.kf_words.specs.TableSteps.{Table, Kind, tries, world, WordStep, AttendedRun}
+use Rattle.kf_words.specs.TableSteps.{Table, Kind, tries, world, WordStep}
 use Rattle.kf_words.specs.Runs.{WordRun, OpensWell, RuleKept, RunIsRun, RunIsSafe, DrainedForGood, MarkedKeepsOut, HiddenKeepsOut, PassedForGood, BornUnheld, LetInLive, WasLetIn, TakenLive}
 use Rattle.kf_words.proofs.Seating.{seats-set}
 use Rattle.kf_words.proofs.MasterAllowed.{state_there}

@@ -12,7 +12,7 @@ use Rattle.kf_words.specs.declared.view.View.TheVariants as seat
 use Rattle.kf_words.specs.Layout.{bit}
 use Rattle.kf_words.specs.Rule.{tally, caller, seats}
 
-map_at : {A B : Type 0} (f : A → B) (l : List A) (i : ℕ) (b : B) → get_elem? (map f l) i ≡ some b → (a : A) × (get_elem? l i ≡ some a) × (f a ≡ b)
+pub map_at : {A B : Type 0} (f : A → B) (l : List A) (i : ℕ) (b : B) → get_elem? (map f l) i ≡ some b → (a : A) × (get_elem? l i ≡ some a) × (f a ≡ b)
 map_at f [] i b e = absurd (some-ne-none b (sym e))
 map_at f (x ∷ xs) zero b e = (x, refl, some-injective (f x) b e)
 map_at f (x ∷ xs) (suc i) b e = map_at f xs i b e

@@ -429,12 +429,14 @@ pub pin_event : (slots limit : ℕ) (t : Table) (slot : ℕ) (t' : Table) → Sh
 pin_event slots limit t slot t' g s may =
     let m : MasterView = s.0 in
     let p = state_there m.slots slot s.2 in
-    let k = met slots limit t t' g m s.1 in
-    (Pin (length g.callers) (last_key slot p.0), split_pins slots limit t t' g m s.1 slot p.0 p.1 s.3
-    (⊎_elim
-    (λ (node : is_some (state_at (master_in t.views) slot).marks ≡ true). linked_pins slots limit t t' g m s.1 slot p.0 p.1 (ap (λ (l : List View). is_some (state_at (master_in l) slot).marks) (sym k.views) ∙ node))
-    (λ (held : (j : ℕ) × HoldsSlot t slot j). held_pins slots limit t t' g m s.1 slot p.0 p.1 held.0 held.1)
-    may) s.4)
+    let k = met slots limit t t' g m s.1 in (
+      Pin (length g.callers) (last_key slot p.0),
+      split_pins slots limit t t' g m s.1 slot p.0 p.1 s.3
+          (⊎_elim
+          (λ (node : is_some (state_at (master_in t.views) slot).marks ≡ true). linked_pins slots limit t t' g m s.1 slot p.0 p.1 (ap (λ (l : List View). is_some (state_at (master_in l) slot).marks) (sym k.views) ∙ node))
+          (λ (held : (j : ℕ) × HoldsSlot t slot j). held_pins slots limit t t' g m s.1 slot p.0 p.1 held.0 held.1)
+          may) s.4,
+    )
 
 -- an attended step is an event, or nothing
 pub attended_event : (slots limit : ℕ) (t : Table) (kind : Kind) (t' : Table) → Shown slots limit t → WordStep t kind t' → IsAttended t kind

@@ -8,7 +8,11 @@ use Rattle.kf_words.specs.declared.view.MasterView.{MasterView}
 use Rattle.kf_words.specs.declared.view.Load.{Load}
 use Rattle.kf_words.specs.declared.view.View.TheVariants as seat
 use Rattle.kf_words.specs.TableSteps.{Table, Kind, births, breaks, hides, leaves, loads_hold, looks, looks_hidden, looks_over, marks_node, parts, pins_hold, releases, restores, shows, sleeps, awakes, splits, stores_fresh, takes_bias, tries, undoes, unlinks, unpins_hold}
-use Rattle.kf_words.specs.Runs.{AttendedRun, opened_table}
+use Rattle.kf_words.specs.declared.view.View.{View}
+use Rattle.kf_words.specs.declared.sight.Opening.{Opening}
+use Rattle.kf_words.specs.declared.sight.Sight.{Sight}
+use Rattle.kf_words.specs.Runs.{AttendedRun}
+use Rattle.kf_words.specs.History.{Kept, opened_as}
 
 -- the marks of a node, by whether it is activated and whether it is doomed
 abbrev pub with_marks_of : Bool → Bool → Marks
@@ -61,10 +65,26 @@ word_life = loads_hold 1 ∷ stores_fresh 1 ∷ births 1 ∷ takes_bias 1 ∷ lo
     ∷ parts 1 ∷ looks_over 1 ∷ leaves 0 ∷ looks_over 1 ∷ unlinks 1 ∷ parts 1 ∷ releases 1 ∷ releases 0
     ∷ loads_hold 1 ∷ stores_fresh 1 ∷ births 1 ∷ loads_hold 1 ∷ pins_hold 1 ∷ unpins_hold 1 ∷ []
 
--- there is an attended run of all these steps from the opening of two slots
-abbrev pub WordLife : Type 0
-WordLife = AttendedRun (opened_table 3 2 0) word_life
-    (table_at 4294967296 10737418240
+-- how the table opens there
+abbrev pub life_opening : Opening
+life_opening = record { holds = 3; slots = 2; start = 0 }
+
+-- the table after all these steps
+abbrev pub lived : Table
+lived = table_at 4294967296 10737418240
     (master_at 2 (Some (with_marks_of false false)) 2 (None) (None) ([])
     (record { slot = 1; word = 4294967296 } ∷ []) (None))
-    ((caller_at Spent 9 3 4294967297 false) ∷ (caller_at Spent 10 1 4294967298 false) ∷ []))
+    ((caller_at Spent 9 3 4294967297 false) ∷ (caller_at Spent 10 1 4294967298 false) ∷ [])
+
+-- there is an attended run of all these steps from the opening of two slots
+abbrev pub WordLife : Type 0
+WordLife = AttendedRun (opened_as life_opening) word_life lived
+
+-- a seat that has seen the whole of it
+abbrev pub saw_life : View → Sight
+saw_life v = record { view = v; seen = record { opening = life_opening; steps = word_life } }
+
+-- the table at its end meets the rule, where each seat has seen the whole of it
+abbrev pub LifeIsKept : Type 0
+LifeIsKept =
+    Kept life_opening (record { words = lived.words; homes = lived.homes; views = map saw_life lived.views })

@@ -2,7 +2,7 @@
 ghost use Rattle.kf_words.specs.Laws.{AlwaysSafe, LetsInTheLive, DrainedIsUnused, FreeIsUnheld, TellsTheLinked, TellsTheHidden, HiddenIsRefused, ShownLetsIn};
 ghost use Rattle.kf_words.specs.Events.{TryIsEnter, UndoIsUndo, LookIsLook, PartIsPart, LeaveIsLeave, BreakIsBreak, RestoreIsRestore, ReleaseIsRelease, HideIsHide, LookHiddenIsLook, ShowIsShow, MissIsNothing, RiseIsRise, MarkIsMark, BirthIsBorn, UnlinkIsUnlink, SplitIsPin, HeldSplitIsPin, RestIsNothing};
 ghost use Rattle.kf_words.specs.History.{EndsARun, SeenLeadsHere, OneRunIsSeen, OneEnd};
-ghost use Rattle.kf_words.specs.Life.{WordLife};
+ghost use Rattle.kf_words.specs.Life.{WordLife, LifeIsKept};
 ghost use Rattle.kf_words.specs.Runs.{OpensWell, RuleKept, RunIsRun, RunIsSafe, MarkedKeepsOut, DrainedForGood, HiddenKeepsOut, PassedForGood, BornUnheld, LetInLive, TakenLive};
 
 /// What the words tell between any two steps of any number of seats, for as long as the table lives. It does
@@ -65,13 +65,14 @@ pub fn words_step()
 /// seat allows it.
 ///
 /// The table opens with the rule, as the opening world. Each step keeps the rule, so the world stays safe. A
-/// run is one of events, where the Master gives a seat to a hold of a node that is linked or held, and takes a
-/// node out while a caller is drained there: who calls `pin`, `pin_held` and `unlink` shows such a caller. Once a key was marked, each try there is refused, ever after.
-/// While a caller is drained or parted on a key, nobody is running on that key, nor ever after. While a
-/// caller hides a key, a try there is refused, and once it is hidden nobody is running there until it is
-/// shown. Once a slot was given again, only spent callers are on its earlier keys, ever after. A birth finds
-/// only spent callers on its slot, and a try lets a caller run only where its key is live. So whoever runs
-/// ran at the start, or was let in by a try of the run while its key was live.
+/// run is a run of events where the Master gives a seat to a hold of a node that is linked or held, and takes
+/// a node out while a caller is drained there: `pin` asks for the one, `pin_held` and `unlink` for the others.
+/// Once a key was marked, each try there is refused, ever after. While a caller is drained or parted on a key,
+/// nobody is running on that key, nor ever after. While a caller hides a key, a try there is refused, and once
+/// it is hidden nobody is running there until it is shown. Once a slot was given again, only spent callers are
+/// on its earlier keys, ever after. A birth finds only spent callers on its slot, and a try lets a caller run
+/// only where its key is live. So whoever runs ran at the start, or was let in by a try of the run while its
+/// key was live.
 pub fn words_run()
     ensures opens_well { OpensWell }
     ensures rule_kept { RuleKept }
@@ -101,7 +102,9 @@ pub fn words_kept()
 {}
 
 /// A run of words in which every kind of step stands: a call, a hiding, a removal seen through, and the next
-/// node of the slot. So the laws here speak of runs that there are. It does nothing.
+/// node of the slot. So the laws here speak of runs that there are, and the rule is met at the end of one. It
+/// does nothing.
 pub fn words_life()
     ensures lives { WordLife }
+    ensures kept { LifeIsKept }
 {}

@@ -10,8 +10,8 @@ mod parts;
 mod sleep;
 mod steps;
 
-use crate::table::WordTable;
 use crate::sight::Sight;
+use crate::table::WordTable;
 use atomic_table::Seat;
 use kf_core::Key;
 use std::sync::Arc;

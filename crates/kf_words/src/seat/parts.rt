@@ -8,8 +8,8 @@ ghost use Rattle.kf_words.specs.Steps.{caller_of, plain};
 ghost use Rattle.kf_words.specs.declared.view.View.TheVariants as seat_of;
 
 use crate::seat::{CallerSeat, Kind};
-use crate::table::WordTable;
 use crate::sight::Sight;
+use crate::table::WordTable;
 use atomic_table::Seat;
 use kf_core::{Key, Node};
 use std::sync::Arc;

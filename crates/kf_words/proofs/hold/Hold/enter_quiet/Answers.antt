@@ -1,8 +1,8 @@
-use Rattle.std.proofs.Common.{◌≡◌, ℕ, rules, sym, ap, ◌∙◌, subst}
+use Rattle.std.proofs.Common.{◌≡◌, rules, sym, ap, ◌∙◌, subst}
 use Rattle.kf_words.specs.Callers.{Handle, CallerSight, handle_of, sight_of, seat_view}
 use Rattle.kf_words.specs.Layout.{active_index}
 use Rattle.kf_words.specs.TableSteps.{undoes}
-use Rattle.kf_words.specs.Made.{WasATry, WasLetInLive, WasFound, FoundThere}
+use Rattle.kf_words.specs.Made.{WasATry, WasLetInLive, FoundThere}
 use Rattle.kf_words.specs.declared.seat.CallerSeat.{CallerSeat}
 use Rattle.kf_words.specs.declared.view.CallerView.{CallerView}
 use Rattle.kf_words.proofs.Made.{was_live, try_found, found_later}

@@ -3,8 +3,7 @@ use Rattle.std.specs.Arc.{arc_value}
 use Rattle.atomic_table.specs.declared.shared.Seat.{Seat}
 use Rattle.kf_words.specs.declared.sight.Sight.{Sight}
 use Rattle.kf_words.specs.declared.view.View.TheVariants as seat
-use Rattle.kf_words.specs.Steps.{Seated, Sighted, plain, master_of, after_split}
-use Rattle.kf_words.specs.History.{after_giving}
+use Rattle.kf_words.specs.Steps.{Seated, plain, master_of, after_split}
 use Rattle.kf_words.proofs.MasterAllowed.{keeps_master}
 use Rattle.kf_words.proofs.MasterMade.{splits_made}
 use Rattle.kf_words.proofs.Tokens.{parted}
