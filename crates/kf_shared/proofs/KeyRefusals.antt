@@ -8,14 +8,15 @@ use Rattle.kf_core.specs.declared.refusal.Refusal.{Refusal}
 use Rattle.kf_core.specs.declared.refusal.Refusal.TheVariants.{NoEntry, NoMemory, Access, Busy, Exists, NoDevice, NotDir, IsDir, Invalid, TooManyHolds, NoSpace, NameTooLong}
 use Rattle.kf_core.specs.Refusals.{unless, first_cause}
 use Rattle.kf_core.specs.Keys.{same_key}
+use Rattle.kf_core.specs.PostOrder.{IsPostOrder}
 use Rattle.kf_core.specs.Tree.{Tree, is_linked}
 use Rattle.kf_tree.specs.Causes.{doom_cause}
 use Rattle.kf_tree.specs.TreeLogs.{TreeLog, IsKept}
 use Rattle.kf_words.specs.declared.view.MasterView.{MasterView}
-use Rattle.kf_words.specs.Callers.{TableId}
+use Rattle.kf_words.specs.Callers.{TableId, Handle}
 use Rattle.kf_words.specs.Nodes.{KeepsNodes, PinRefused}
 use Rattle.kf_shared.specs.Locked.{Locked, IsTied, IsWhole, HoldRefused}
-use Rattle.kf_shared.specs.Removal.{DoomRefused}
+use Rattle.kf_shared.specs.Removal.{keys_of, DoomHolds, DoomRefused}
 use Rattle.kf_shared.specs.Receipts.{HasBelow, HoldsRefusal, KeyRefused}
 use Rattle.kf_shared.proofs.Ties.{locked, tied_master}
 use Rattle.kf_shared.proofs.Pins.{doom_cause_of_root}
@@ -63,6 +64,15 @@ doom_key_refused s old mid new held key why same none between is h =
     told false b e f none m = inr (MatchBool-at_false _ _ e m)
     told true true e f none m = absurd (none-some Invalid (sym none ∙ doom_cause_of_root old.state.tree old.state.root key e f))
     told true false e f none m = elim (MatchBool-at_false _ _ f (MatchBool-at_true _ _ e m)) [ inl full ↦ inl full.0 | inr memory ↦ inr memory ]
+
+-- the doom of the hold's node gave holds of the key's subtree, each after all that is below it
+pub doom_key_ordered : (s : TreeLog) (old mid : Locked) (hold : Handle) (holds : List Handle) (key : Key) → s ≡ old.state → doom_cause s.tree s.root key ≡ None → mid.state ≡ old.state → hold.key ≡ key → DoomHolds mid.state.tree hold holds
+    → IsPostOrder old.state.tree key (keys_of holds)
+doom_key_ordered s old mid hold holds key same none between is order =
+    let cause : doom_cause old.state.tree old.state.root key ≡ None = subst (λ (l : TreeLog). doom_cause l.tree l.root key ≡ None) same none in
+    let there : DoomHolds old.state.tree hold holds = subst (λ (l : TreeLog). DoomHolds l.tree hold holds) between order in
+    MatchBool-at_true _ _ (linked_to_doom old.state.tree old.state.root key cause)
+    (subst (λ (k : Key). MatchBool (is_linked old.state.tree k) (IsPostOrder old.state.tree k (keys_of holds)) (holds ≡ hold ∷ [])) is there)
 
 -- the lock keeps what it kept, where the tree and what the Master knows of nodes stayed
 pub whole_kept : (table : TableId) (old new : Locked) → IsWhole table old → new.state ≡ old.state → KeepsNodes old.master new.master → new.claims ≡ old.claims → IsWhole table new
