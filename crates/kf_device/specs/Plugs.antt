@@ -65,3 +65,7 @@ pub record Plugged (s s' : Locked) (name : List ℕ) (serial : ℕ) (nodes : Nod
   pub dir_made : Created based made devices name Dir false dir
   pub filled : Filled made s' links dir name serial nodes
   pub dir_known : nodes.dir ≡ Some dir
+
+-- the plug of some number was made so
+abbrev pub IsPlugged : Locked → Locked → List ℕ → Key → Type 0
+IsPlugged s s' name dir = (serial : ℕ) × (nodes : Nodes) × Plugged s s' name serial nodes dir

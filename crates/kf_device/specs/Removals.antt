@@ -1,5 +1,5 @@
 -- What a removal by name meets in the tree of a guard, and why an unplug is refused.
-use Rattle.std.specs.Prelude.{◌≡◌, ◌⊎◌, ℕ, Bool, true, false, List, Option, None, Some, Result, Ok, MatchResult, codes}
+use Rattle.std.specs.Prelude.{◌≡◌, ◌⊎◌, ℕ, Bool, true, false, List, Option, None, Some, Result, Ok, Err, MatchResult, codes}
 use Rattle.std.specs.Option.{option_map_or}
 use Rattle.kf_core.specs.declared.command.Command.TheVariants.{Doom}
 use Rattle.kf_core.specs.declared.key.Key.{Key}
@@ -76,6 +76,13 @@ abbrev pub BeginsBoth : Locked → Locked → List ℕ → Option Key → Option
 BeginsBoth s s' name dir link directory = (between : Locked)
     × Begins s between links_path name (link_wanted dir) link
     × BeginsOr between s' devices_path name (dir_wanted dir) directory
+
+-- what an unplug answers once it is finished: that there was one of both, or why the directory stays
+abbrev pub left : Option (List Handle) → Result (Option (List Handle)) Refusal → Result (Unit {0}) Refusal
+left link (Err refusal) = Err refusal
+left link (Ok (Some holds)) = Ok tt
+left (Some holds) (Ok None) = Ok tt
+left None (Ok None) = Err NoEntry
 
 -- why nothing is unplugged: neither was there, or a node that was could not be removed
 abbrev pub UnplugRefusal : Refusal → Type 0

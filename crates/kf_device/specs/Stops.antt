@@ -78,3 +78,8 @@ abbrev pub IsStopped : Locked → Locked → List ℕ → ℕ → Nodes → Opti
 IsStopped s s' name serial nodes begun =
     ((nodes.dir ≡ None) × (begun ≡ None) × FewBases s s')
     ⊎ ((dir : Key) × (nodes.dir ≡ Some dir) × HasTakenBack s s' name serial begun dir)
+
+-- what a refused plug leaves: nothing has changed, or one of some number was stopped so
+abbrev pub IsStoppedPlug : Locked → Locked → List ℕ → Option (List Handle) → Type 0
+IsStoppedPlug s s' name begun = ((begun ≡ None) × (s' ≡ s))
+    ⊎ ((serial : ℕ) × (nodes : Nodes) × IsStopped s s' name serial nodes begun)

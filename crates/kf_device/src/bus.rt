@@ -1,17 +1,20 @@
 //! The bus: how devices are plugged and unplugged.
-ghost use Rattle.std.specs.Prelude.{◌≡◌, ◌≤◌, ◌^◌, ◌⊎◌, IfOk, IfErr, None, Some, Err};
+ghost use Rattle.std.specs.Prelude.{◌≡◌, ◌≤◌, ◌^◌, ◌⊎◌, IfOk, IfErr, OnOk, OnErr, None, Some, Err};
 ghost use Rattle.kf_core.specs.declared.refusal.Refusal.{Refusal};
 ghost use Rattle.kf_core.specs.declared.refusal.Refusal.TheVariants.{NoMemory, NoSpace};
 ghost use Rattle.kf_core.specs.Names.{name_fault};
-ghost use Rattle.kf_device.specs.Removals.{UnplugRefusal};
-ghost use Rattle.kf_device.specs.Stops.{PlugRefusal};
+ghost use Rattle.kf_shared.specs.Locked.{Unchanged};
+ghost use Rattle.kf_shared.specs.Receipts.{HoldsRefusal};
+ghost use Rattle.kf_device.specs.Plugs.{IsPlugged};
+ghost use Rattle.kf_device.specs.Removals.{BeginsBoth, UnplugRefusal, left};
+ghost use Rattle.kf_device.specs.Stops.{IsStoppedPlug, PlugRefusal};
 
 use crate::devices::{Devices, Nodes};
 use crate::making::{Stopped, make};
-use crate::removal::{begin_both, finish, finish_both, plug_at};
+use crate::removal::{Leaving, begin_both, finish, finish_both, plug_at};
 use kf_core::{Key, Refusal};
 use kf_index::name_fault;
-use kf_shared::{Naming, SharedTree};
+use kf_shared::{Editor, Naming, SharedTree};
 use std::alloc::Global;
 use std::marker::PhantomData;
 use std::sync::{Mutex, Wait};
@@ -53,24 +56,76 @@ impl<N: Naming> Bus<N> {
         Ok(serial)
     }
 
-    /// Plugs a device (`device_add`). It makes those of `/devices`, `/bus` and `/bus/devices` that are not
-    /// there, in this order, live. Then it makes `/devices/NAME` with its files `value` (0o644), `serial`
-    /// (0o444) and `delete` (0o200), which are all activated together; then the live link
-    /// `/bus/devices/NAME`. All that is done in one turn of the tree lock. It answers the key of
-    /// `/devices/NAME`.
+    /// Plugs a device under this lock (`device_add`). It makes those of `/devices`, `/bus` and `/bus/devices`
+    /// that are not there, in this order, live. Then it makes `/devices/NAME` with its files `value` (0o644),
+    /// `serial` (0o444) and `delete` (0o200), which are all activated together; then the live link
+    /// `/bus/devices/NAME`. It answers the key of `/devices/NAME`. Under the same lock a driver may put its
+    /// own groups there.
     ///
     /// Of the value the first 4,096 bytes are kept, and a read shows at most 4,095.
     ///
     /// Refusals: NameTooLong (over 255 bytes) or Invalid (name), then NoSpace where 2^60 plugs have begun:
     /// they change nothing. Then, of each step in its order, NotDir (a base is a file or link), NoEntry (a
     /// base is marked), Exists (the directory, or the link, is there), NoSpace, and NoMemory: the base
-    /// directories that were made stay, and the device's directory is removed again. Only where that removal
-    /// is refused too does it stay, and `unplug` removes it.
+    /// directories that were made stay, and the removal of the device's directory has begun, which
+    /// [`Bus::take_back`] finishes. Only where that was refused too does it stay, and `unplug` removes it.
+    ///
+    /// Context: takes the lock of the bus.
+    pub fn plug_in<R: Wait>(
+        &self,
+        rt: &R,
+        editor: &mut Editor<'_, N>,
+        name: &[u8],
+        value: &[u8],
+    ) -> Result<Key, Stopped<N>>
+        ensures plugged { IfOk result (λ dir. IsPlugged editor.old editor.new name.now dir) }
+        ensures lawful { OnOk result (name_fault name.now ≡ None) }
+        ensures refused { IfErr result (λ stopped. PlugRefusal name.now stopped.refusal) }
+        ensures stopped { IfErr result (λ stopped.
+            IsStoppedPlug editor.old editor.new name.now stopped.begun) }
+    {
+        if let Some(fault) = name_fault(name) {
+            return Err(Stopped::before(fault, None));
+        }
+        let serial = match self.begin(rt, name, value) {
+            Ok(serial) => serial,
+            Err(refusal) => return Err(Stopped::before(refusal, None)),
+        };
+        let mut nodes = Nodes::new();
+        let made = make(editor, name, serial, &mut nodes);
+        self.devices.lock(rt).settle(serial, nodes);
+        made
+    }
+
+    /// Finishes what a refused plug has begun, and answers why it was refused.
     ///
     /// It may never return: it waits for the tree lock and the lock of the bus, which its caller must not
-    /// have, and where its link is refused for the callbacks that run on the new files.
+    /// have, and, where the link was refused, for the callbacks that run on the new files.
     ///
     /// Context: sleeps; takes the lock of the bus and the tree's, one at a time.
+    pub fn take_back<R: Wait>(&self, rt: &R, tree: &SharedTree<N>, stopped: Stopped<N>) -> Refusal
+        ensures told { result ≡ stopped.refusal }
+    {
+        let Stopped {
+            refusal,
+            begun,
+            plug,
+        } = stopped;
+        finish(rt, tree, begun);
+        if let Some(serial) = plug {
+            self.forget_gone(rt, tree, serial);
+        }
+        refusal
+    }
+
+    /// Plugs a device as [`Bus::plug_in`] does, in one turn of the tree lock, and takes it back where it is
+    /// refused.
+    ///
+    /// Refusals: those of [`Bus::plug_in`].
+    ///
+    /// It may never return: as [`Bus::take_back`].
+    ///
+    /// Context: sleeps; takes the tree's lock, and within it and without it that of the bus.
     pub fn plug<R: Wait>(
         &self,
         rt: &R,
@@ -81,25 +136,12 @@ impl<N: Naming> Bus<N> {
         ensures name { (fault : Refusal) → name_fault name.now ≡ Some fault → result ≡ Err fault }
         ensures refused { IfErr result (λ refusal. PlugRefusal name.now refusal) }
     {
-        if let Some(fault) = name_fault(name) {
-            return Err(fault);
-        }
         self.sweep(rt, tree);
-        let serial = self.begin(rt, name, value)?;
-        let mut nodes = Nodes::new();
-        let made = make(&mut tree.edit(rt), name, serial, &mut nodes);
-        let settled = match made {
+        let plugged = self.plug_in(rt, &mut tree.edit(rt), name, value);
+        match plugged {
             Ok(key) => Ok(key),
-            Err(Stopped { refusal, begun }) => {
-                finish(rt, tree, begun);
-                Err(refusal)
-            }
-        };
-        self.devices.lock(rt).settle(serial, nodes);
-        if settled.is_err() {
-            self.forget_gone(rt, tree, serial);
+            Err(stopped) => Err(self.take_back(rt, tree, stopped)),
         }
-        settled
     }
 
     /// How many devices the bus keeps texts of: those that are plugged, and those that were removed without
@@ -110,31 +152,61 @@ impl<N: Naming> Bus<N> {
         self.devices.lock(rt).len()
     }
 
-    /// Unplugs a device (`device_del`): removes the link `/bus/devices/NAME` and the directory
-    /// `/devices/NAME`, each where it is there. Both are looked for, held and marked in one turn of the tree
-    /// lock; then it waits for the link, and for the directory. Each is looked for by its whole name, so a
-    /// name that is not lawful finds nothing.
+    /// Begins to unplug a device under this lock (`device_del`): the removal of the link `/bus/devices/NAME`
+    /// and that of the directory `/devices/NAME`, each where it is there. Both are looked for, held and
+    /// marked. Each is looked for by its whole name, so a name that is not lawful finds nothing.
     ///
-    /// Refusals: NoEntry where neither is there; else TooManyHolds or NoMemory, as
-    /// `Editor::begin_removal_of` of the link or the directory has them: after that of the directory the link
-    /// is removed. After one of these it may be called again.
+    /// Refusals: TooManyHolds or NoMemory, as `Editor::begin_removal_of` of the link has them: then nothing
+    /// is marked. Those of the directory stand in the answer, beside the link's removal.
+    pub fn unplug_in(&self, editor: &mut Editor<'_, N>, name: &[u8]) -> Result<Leaving<N>, Refusal>
+        ensures begun { IfOk result (λ leaving.
+            BeginsBoth editor.old editor.new name.now None leaving.link leaving.dir) }
+        ensures refused { IfErr result (λ refusal. HoldsRefusal refusal) }
+        ensures same { OnErr result (Unchanged editor.old editor.new) }
+    {
+        let plug = plug_at(editor.state(), name);
+        begin_both(editor, name, None, plug)
+    }
+
+    /// Finishes what an unplug has begun: waits for the link, and for the directory, and forgets its texts.
+    ///
+    /// Refusals: why the directory's removal was refused: then the link alone is removed, and `unplug` may be
+    /// called again; else NoEntry where neither was there.
     ///
     /// It may never return: it waits for the tree lock and the lock of the bus, which its caller must not
     /// have, and for every callback that runs on the device's files, its caller's own among them.
+    ///
+    /// Context: sleeps; takes the lock of the bus and the tree's, one at a time.
+    pub fn finish<R: Wait>(
+        &self,
+        rt: &R,
+        tree: &SharedTree<N>,
+        leaving: Leaving<N>,
+    ) -> Result<(), Refusal>
+        ensures told { result ≡ left leaving.link leaving.dir }
+    {
+        let plug = leaving.plug;
+        let found = finish_both(rt, tree, leaving)?;
+        if let Some(serial) = plug {
+            self.forget_gone(rt, tree, serial);
+        }
+        if found { Ok(()) } else { Err(Refusal::NoEntry) }
+    }
+
+    /// Unplugs a device: [`Bus::unplug_in`] in one turn of the tree lock, and [`Bus::finish`].
+    ///
+    /// Refusals: NoEntry where neither its link nor its directory is there; else TooManyHolds or NoMemory, as
+    /// `Editor::begin_removal_of` of the link or the directory has them: after that of the directory the link
+    /// is removed. After one of these it may be called again.
+    ///
+    /// It may never return: as [`Bus::finish`].
     ///
     /// Context: sleeps; takes the lock of the bus and the tree's, one at a time.
     pub fn unplug<R: Wait>(&self, rt: &R, tree: &SharedTree<N>, name: &[u8]) -> Result<(), Refusal>
         ensures refused { IfErr result (λ refusal. UnplugRefusal refusal) }
     {
         self.sweep(rt, tree);
-        let mut editor = tree.edit(rt);
-        let plug = plug_at(editor.state(), name);
-        let begun = begin_both(&mut editor, name, None);
-        drop(editor);
-        let found = finish_both(rt, tree, begun?)?;
-        if let Some(serial) = plug {
-            self.forget_gone(rt, tree, serial);
-        }
-        if found { Ok(()) } else { Err(Refusal::NoEntry) }
+        let begun = self.unplug_in(&mut tree.edit(rt), name);
+        self.finish(rt, tree, begun?)
     }
 }

@@ -8,7 +8,7 @@ ghost use Rattle.kf_device.specs.Answers.{DeleteFault};
 use crate::bus::Bus;
 use crate::claim::{Claim, remove_file};
 use crate::faults::{fault_of, unknown};
-use crate::removal::{begin_both, finish_both};
+use crate::removal::begin_both;
 use kf_core::{Key, Refusal};
 use kf_files::Fault;
 use kf_index::Name;
@@ -68,12 +68,11 @@ impl<N: Naming> Bus<N> {
         let Some(dir) = dir else {
             return Ok(());
         };
-        let mut editor = tree.edit(rt);
-        let begun = begin_both(&mut editor, name.bytes(), Some(dir));
-        drop(editor);
-        finish_both(rt, tree, begun?)?;
-        self.forget_gone(rt, tree, serial);
-        Ok(())
+        let begun = begin_both(&mut tree.edit(rt), name.bytes(), Some(dir), Some(serial));
+        match self.finish(rt, tree, begun?) {
+            Err(Refusal::NoEntry) => Ok(()),
+            other => other,
+        }
     }
 
     /// Removes the `delete` that the call is on, from within its own callback, and then, for the first that

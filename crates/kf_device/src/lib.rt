@@ -13,3 +13,5 @@ mod sweeping;
 mod tags;
 
 pub use bus::Bus;
+pub use making::Stopped;
+pub use removal::Leaving;

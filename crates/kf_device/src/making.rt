@@ -10,21 +10,26 @@ use crate::tags::{DeviceFile, tag_of};
 use kf_core::{Key, Node, Refusal};
 use kf_shared::{Editor, Naming, Removing};
 
-/// Why a plug stopped, and the removal of the directory that it had made by then, where one could be begun.
-pub(crate) struct Stopped<N: Naming> {
-    pub(crate) refusal: Refusal,
-    pub(crate) begun: Option<Removing<N>>,
+/// A plug that was refused. It must be spent, by [`crate::Bus::take_back`], with the tree lock let go.
+pub struct Stopped<N: Naming> {
+    /// Why.
+    pub refusal: Refusal,
+    /// The removal of the directory that it had made by then, where one could be begun.
+    pub begun: Option<Removing<N>>,
+    // its number, where it had begun
+    pub(crate) plug: Option<u64>,
 }
 
 impl<N: Naming> Stopped<N> {
     /// Before the directory was made.
-    fn before(refusal: Refusal) -> Stopped<N>
+    pub(crate) fn before(refusal: Refusal, plug: Option<u64>) -> Stopped<N>
         ensures refusal { result.refusal ≡ refusal }
         ensures none { result.begun ≡ None }
     {
         Stopped {
             refusal,
             begun: None,
+            plug,
         }
     }
 }
@@ -121,11 +126,11 @@ pub(crate) fn make<N: Naming>(
 {
     let (devices, links) = match bases(editor) {
         Ok(found) => found,
-        Err(refusal) => return Err(Stopped::before(refusal)),
+        Err(refusal) => return Err(Stopped::before(refusal, Some(serial))),
     };
     let dir = match editor.create(devices, name, Node::Dir, false) {
         Ok(dir) => dir,
-        Err(refusal) => return Err(Stopped::before(refusal)),
+        Err(refusal) => return Err(Stopped::before(refusal, Some(serial))),
     };
     nodes.dir = Some(dir);
     match fill(editor, links, dir, name, serial, nodes) {
@@ -133,6 +138,7 @@ pub(crate) fn make<N: Naming>(
         Err(refusal) => Err(Stopped {
             refusal,
             begun: editor.begin_removal_of(dir).ok(),
+            plug: Some(serial),
         }),
     }
 }

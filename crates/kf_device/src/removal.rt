@@ -99,20 +99,26 @@ fn dir_wanted(dir: Option<Key>) -> Wanted
     }
 }
 
-/// What was begun of a device's removal: that of its link, and that of its directory or why it was refused.
-pub(crate) struct Leaving<N: Naming> {
-    link: Option<Removing<N>>,
-    dir: Result<Option<Removing<N>>, Refusal>,
+/// What was begun of a device's removal. It must be spent, by [`crate::Bus::finish`], with the tree lock let
+/// go.
+pub struct Leaving<N: Naming> {
+    /// The removal of its link, where there was one.
+    pub link: Option<Removing<N>>,
+    /// That of its directory, where there was one, or why it was refused.
+    pub dir: Result<Option<Removing<N>>, Refusal>,
+    // the plug whose texts are forgotten then
+    pub(crate) plug: Option<u64>,
 }
 
 /// Begins the removal of a device's link, and then of its directory, each by its name: of the device with
-/// this directory, or, where none is given, of whichever has the name.
+/// this directory, or, where none is given, of whichever has the name. Its plug is told by who knows it.
 ///
 /// Refusals: TooManyHolds or NoMemory, of the link; nothing is marked after one.
 pub(crate) fn begin_both<N: Naming>(
     editor: &mut Editor<'_, N>,
     name: &[u8],
     dir: Option<Key>,
+    plug: Option<u64>,
 ) -> Result<Leaving<N>, Refusal>
     ensures begun { IfOk result (λ leaving.
         BeginsBoth editor.old editor.new name.now dir leaving.link leaving.dir) }
@@ -121,7 +127,7 @@ pub(crate) fn begin_both<N: Naming>(
 {
     let link = begin_at(editor, LINKS, name, link_wanted(dir))?;
     let dir = begin_at(editor, DEVICES, name, dir_wanted(dir));
-    Ok(Leaving { link, dir })
+    Ok(Leaving { link, dir, plug })
 }
 
 /// Finishes both, with the lock let go. Whether there was something to remove, or why the directory was not.
@@ -135,7 +141,7 @@ pub(crate) fn finish_both<N: Naming, R: Wait>(
     ensures told { MatchResult leaving.dir
         (λ dir. result ≡ Ok (is_some leaving.link || is_some dir)) (λ refusal. result ≡ Err refusal) }
 {
-    let Leaving { link, dir } = leaving;
+    let Leaving { link, dir, plug: _ } = leaving;
     let was_linked = finish(rt, tree, link);
     let was_there = finish(rt, tree, dir?);
     Ok(was_linked || was_there)
