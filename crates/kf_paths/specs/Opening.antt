@@ -45,6 +45,11 @@ pub record OpenedAt (t : Tree) (root : Key) (numbers : Numbers) (path : List ℕ
   pub fresh : IsNewPost numbers key.slot file.post
   pub new : file.state ≡ new_file want
 
+-- the post is new, of these numbers and of the slot of the file at the place
+abbrev pub IsPostAt : Tree → Result Key Refusal → Numbers → PostState → Type 0
+IsPostAt t place numbers post =
+    (key : Key) × (file_at t place ≡ Ok key) × IsNewPost numbers key.slot post
+
 -- why there is no post of the slot: none of this many numbers is the slot's, or, where one is, no memory
 abbrev pub PostRefused : ℕ → ℕ → Refusal → Type 0
 PostRefused slots slot refusal =

@@ -4,7 +4,7 @@ ghost use Rattle.kf_core.specs.declared.key.Node.TheVariants.{File};
 ghost use Rattle.kf_files.specs.Files.{new_file, allows};
 ghost use Rattle.kf_notify.specs.PostStates.{IsNewPost};
 ghost use Rattle.kf_tree.specs.Paths.{found};
-ghost use Rattle.kf_paths.specs.Opening.{file_at, OpenedAt, OpenRefused, PostRefused, NotifyRefused, NotOpened, Told};
+ghost use Rattle.kf_paths.specs.Opening.{file_at, IsPostAt, OpenedAt, OpenRefused, PostRefused, NotifyRefused, NotOpened, Told};
 
 use kf_core::{Key, Node, Refusal};
 use kf_files::{WaitingFile, Want};
@@ -25,7 +25,7 @@ fn only_file(state: &State, key: Key) -> Result<Key, Refusal>
 }
 
 // A post of a slot.
-fn post_of(posts: &mut Posts, slot: u32) -> Result<Post, Refusal>
+fn slot_post(posts: &mut Posts, slot: u32) -> Result<Post, Refusal>
     ensures made { IfOk result (λ post. IsNewPost posts.old slot post) }
     ensures refused { IfErr result (λ refusal. PostRefused posts.old.slots slot refusal) }
     ensures same { posts.new ≡ posts.old }
@@ -53,7 +53,7 @@ fn open_held<N: Naming>(
     ensures posts { posts.new ≡ posts.old }
 {
     let node = hold.node();
-    let post = match post_of(posts, hold.key().slot) {
+    let post = match slot_post(posts, hold.key().slot) {
         Ok(post) => post,
         Err(refusal) => {
             hold.release();
@@ -94,11 +94,30 @@ pub fn open_path<N: Naming>(
     open_held(hold, posts, want)
 }
 
+/// A post of the file of this name in a directory, by which a driver tells who polls the file that it has
+/// changed ([`Post::notify`], without a look-up). No number is raised.
+///
+/// The post is of the slot: once the file is removed, it tells of what gets that slot next.
+///
+/// Refusals, in order: those of [`State::find`]; IsDir (a directory), Invalid (a link); NoSpace (the posts
+/// have no number for the slot), NoMemory.
+pub fn post_of(state: &State, posts: &mut Posts, dir: Key, name: &[u8]) -> Result<Post, Refusal>
+    ensures made { IfOk result
+        (λ post. IsPostAt state.now.tree (found state.now.tree dir name.now) posts.old post) }
+    ensures refused { IfErr result (λ refusal.
+        MatchResult (file_at state.now.tree (found state.now.tree dir name.now))
+        (λ key. PostRefused posts.old.slots key.slot refusal) (λ why. refusal ≡ why)) }
+    ensures posts { posts.new ≡ posts.old }
+{
+    let place = state.find(dir, name)?;
+    let file = only_file(state, place)?;
+    slot_post(posts, file.slot)
+}
+
 /// Tells who polls the file of this name in a directory that it has changed (`sysfs_notify`), and answers its
 /// slot's new event number and the post that made it.
 ///
-/// A driver that notifies often keeps the post and calls [`Post::notify`], with no look-up; else it lets the
-/// post go. The post is of the slot: once the file is removed, it tells of what gets that slot next.
+/// A driver that notifies often takes a post by [`post_of`], or keeps this one, and calls [`Post::notify`].
 ///
 /// Refusals, in order: those of [`State::find`]; IsDir (a directory), Invalid (a link); NoSpace (the posts
 /// have no number for the slot), NoMemory; NoSpace (its number is the last that there is). After a refusal no
@@ -118,7 +137,7 @@ pub fn notify(
 {
     let place = state.find(dir, name)?;
     let key = only_file(state, place)?;
-    let mut post = post_of(posts, key.slot)?;
+    let mut post = slot_post(posts, key.slot)?;
     let number = post.notify().ok().ok_or(Refusal::NoSpace)?;
     Ok((number, post))
 }

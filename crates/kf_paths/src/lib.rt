@@ -3,4 +3,4 @@
 
 mod files;
 
-pub use files::{notify, open_path};
+pub use files::{notify, open_path, post_of};
