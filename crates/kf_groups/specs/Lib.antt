@@ -1,3 +1,4 @@
+pub mod Modes
 pub mod Keeps
 pub mod Attributes
 pub mod Making

@@ -1,26 +1,57 @@
 //! Attributes and their groups, as a driver writes them down.
 ghost use Rattle.std.specs.Prelude.{◌≡◌};
+ghost use Rattle.kf_groups.specs.Modes.{IsMode};
 
 /// An attribute (`struct attribute`).
 #[derive(Clone, Copy)]
 pub struct Attribute<'a> {
     /// The name of its file.
     pub name: &'a [u8],
-    /// The mode of its file. An open looks at its read bits, 0o444, and its write bits, 0o222; any other bits
-    /// are kept, told by `stat`, and mean nothing. With 0 there is no file (what `is_visible` says by 0).
+    /// The mode of its file: its read bits, 0o444, and its write bits, 0o222. With 0 there is no file (what
+    /// `is_visible` says by 0).
     pub mode: u16,
     /// The tag of its file, by which a callback tells it from others.
     pub tag: u64,
 }
 
 impl<'a> Attribute<'a> {
-    /// The attribute of this name, mode and tag.
+    /// The attribute of this name, mode and tag (`__ATTR`).
+    ///
+    /// Condition: the mode has no bit but those of 0o666 (`VERIFY_OCTAL_PERMISSIONS`).
     pub const fn new(name: &'a [u8], mode: u16, tag: u64) -> Attribute<'a>
+        requires mode { IsMode mode }
         ensures name { result.name.now ≡ name.now }
         ensures mode { result.mode ≡ mode }
         ensures tag { result.tag ≡ tag }
     {
         Attribute { name, mode, tag }
+    }
+
+    /// An attribute that all may read, and nobody may write (`__ATTR_RO`).
+    pub const fn read_only(name: &'a [u8], tag: u64) -> Attribute<'a>
+        ensures name { result.name.now ≡ name.now }
+        ensures mode { result.mode ≡ 292 }
+        ensures tag { result.tag ≡ tag }
+    {
+        Attribute::new(name, 0o444, tag)
+    }
+
+    /// An attribute that all may read, and its owner may write (`__ATTR_RW`).
+    pub const fn read_write(name: &'a [u8], tag: u64) -> Attribute<'a>
+        ensures name { result.name.now ≡ name.now }
+        ensures mode { result.mode ≡ 420 }
+        ensures tag { result.tag ≡ tag }
+    {
+        Attribute::new(name, 0o644, tag)
+    }
+
+    /// An attribute that its owner may write, and nobody may read (`__ATTR_WO`).
+    pub const fn write_only(name: &'a [u8], tag: u64) -> Attribute<'a>
+        ensures name { result.name.now ≡ name.now }
+        ensures mode { result.mode ≡ 128 }
+        ensures tag { result.tag ≡ tag }
+    {
+        Attribute::new(name, 0o200, tag)
     }
 }
 
