@@ -3,8 +3,16 @@
 
 mod driver;
 mod fault;
+mod line_tags;
+mod lines;
+mod notifier;
+mod ready;
 mod table;
 
 pub use driver::Driver;
 pub use fault::fault_of;
+pub use line_tags::LineTags;
+pub use lines::Lines;
+pub use notifier::Notifier;
+pub use ready::{Number, ReadOnly, Signed, Switch, Text};
 pub use table::{Callbacks, End, Row, Table};

@@ -1,7 +1,7 @@
 //! Attributes with their callbacks, one row for each.
-ghost use Rattle.std.specs.Prelude.{◌≡◌, ◌==◌, ◌<◌, ◌≤◌, ℕ, List, [], length, Result, Err, MatchBool};
+ghost use Rattle.std.specs.Prelude.{◌≡◌, ◌==◌, ◌<◌, ◌≤◌, ℕ, Bool, true, List, [], length, Result, Err, MatchBool};
 ghost use Rattle.kf_files.specs.declared.ops.Fault.{Fault};
-ghost use Rattle.kf_files.specs.Files.{filled_by};
+ghost use Rattle.kf_files.specs.Files.{filled_by, is_writable};
 ghost use Rattle.kf_driver.specs.Tables.{TakesAll, unknown};
 
 use kf_files::{Fault, Page};
@@ -17,6 +17,9 @@ pub trait Callbacks {
     /// A store of these bytes may answer this. Where a driver does not say what, anything.
     ghost takes: { Self → List ℕ → Result (Unit {0}) Fault → Type 0 } = { λ _ _ _. Unit {0} };
 
+    /// Whether it takes stores at all.
+    ghost stores: { Self → Bool } = { λ _. true };
+
     /// Fills the empty page, or gives a fault, as 5 where the device does not answer (`EIO`). What it filled
     /// before a fault is not shown.
     fn show(&self, page: &mut Page) -> Result<(), Fault>
@@ -25,7 +28,7 @@ pub trait Callbacks {
 
     /// Takes all of the bytes, 1 to 4,096 of them, or gives a fault, as 5 where the device does not answer
     /// (`EIO`), or that of what they do not say ([`crate::fault_of`]). For a file that nobody may write it is
-    /// never called: give 22.
+    /// never called.
     fn store(&self, bytes: &[u8]) -> Result<(), Fault>
         requires some { 0 < length bytes.now }
         requires fits { length bytes.now ≤ 4096 }
@@ -64,9 +67,13 @@ pub struct Row<A, B> {
 #[derive(Clone, Copy)]
 pub struct End;
 
-impl<A, B> Row<A, B> {
+impl<A: Callbacks, B> Row<A, B> {
     /// The row of this attribute, before the others.
+    ///
+    /// Condition: its mode lets somebody write exactly where the callbacks take stores. What is only read is
+    /// a [`crate::ReadOnly`], or says so by the ghost `stores`.
     pub fn new(attribute: Attribute, callbacks: A, others: B) -> Row<A, B>
+        requires mode { is_writable attribute.mode ≡ A.stores callbacks }
         ensures tag { result.tag ≡ attribute.entry.tag }
         ensures callbacks { result.callbacks ≡ callbacks }
         ensures others { result.others ≡ others }

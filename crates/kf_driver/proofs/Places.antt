@@ -1,0 +1,14 @@
+-- The tag of a file of a line is of that file and of that line.
+use Rattle.std.proofs.Common.{◌≡◌, ℕ, true, ◌+◌, ◌-◌, ◌*◌, ◌<◌, arith, refl}
+use Rattle.std.specs.Prelude.{Some, nat_le}
+use Rattle.std.proofs.lemmas.Nat.{div-mul-add, mod-mul-add}
+use Rattle.std.proofs.lemmas.Bool.{le-leb}
+use Rattle.kf_driver.specs.declared.line_tags.LineTags.{LineTags}
+use Rattle.kf_driver.specs.Places.{place_of}
+
+pub placed : (tags : LineTags) (line file tag : ℕ) → file < tags.files → tag ≡ line * tags.files + file + tags.first
+    → place_of tags tag ≡ Some (line, file)
+placed tags line file tag within is =
+    let low : nat_le tags.first tag ≡ true = le-leb tags.first tag (omega (arith, is)) in
+    let rest : tag - tags.first ≡ line * tags.files + file = omega (arith, is) in
+    rw (low, rest, div-mul-add line tags.files file within, mod-mul-add line tags.files file within) refl

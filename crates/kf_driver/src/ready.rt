@@ -1,0 +1,225 @@
+//! Attributes that are ready to use: a number, a signed number, a switch, a text, and what is only read.
+ghost use Rattle.std.specs.Prelude.{◌≡◌, [], Ok, Err, false};
+ghost use Rattle.kf_driver.specs.Ready.{ShowsLine, TakesFlag, TakesNumber, TakesSigned, shown_line};
+ghost use Rattle.kf_driver.specs.Tables.{unknown};
+ghost use Rattle.kf_text.specs.declared.part.Part.TheVariants as part;
+
+use crate::fault::fault_of;
+use crate::table::Callbacks;
+use kf_files::{Fault, Page};
+use kf_text::{Part, emit, read_flag, read_signed, read_unsigned};
+use std::sync::atomic::{AtomicBool, AtomicI64, AtomicU64, Ordering};
+
+// Puts one line on the page.
+fn emit_line(page: &mut Page, part: Part<'_>)
+    requires empty { page.old.items ≡ [] }
+    ensures line { page.new.items ≡ shown_line part.entry }
+{
+    emit(page, &[part, Part::Newline]);
+}
+
+/// A number that is shown in decimal, and stored where it is at most `most` (`DEVICE_ULONG_ATTR`).
+#[derive(Drop)]
+pub struct Number {
+    value: AtomicU64,
+    most: u64,
+}
+
+impl Number {
+    /// A number, which a store leaves at `most` or below.
+    pub fn new(value: u64, most: u64) -> Number
+        ensures most { result.most ≡ most }
+    {
+        Number {
+            value: AtomicU64::new(value),
+            most,
+        }
+    }
+
+    /// The number by now.
+    pub fn get(&self) -> u64 {
+        self.value.load(Ordering::SeqCst)
+    }
+
+    /// Puts another number there, be it above `most`.
+    pub fn set(&self, value: u64) {
+        self.value.store(value, Ordering::SeqCst);
+    }
+}
+
+impl Callbacks for Number {
+    ghost shows = { λ _ filled. ShowsLine part.Number filled };
+
+    ghost takes = { λ number bytes answer. TakesNumber number.most bytes answer };
+
+    fn show(&self, page: &mut Page) -> Result<(), Fault> {
+        emit_line(page, Part::Number(self.get()));
+        Ok(())
+    }
+
+    fn store(&self, bytes: &[u8]) -> Result<(), Fault> {
+        match read_unsigned(bytes, self.most) {
+            Ok(value) => {
+                self.set(value);
+                Ok(())
+            }
+            Err(why) => Err(fault_of(why)),
+        }
+    }
+}
+
+/// A number that may be below zero, stored where it is from `least` to `most` (`DEVICE_INT_ATTR`).
+#[derive(Drop)]
+pub struct Signed {
+    value: AtomicI64,
+    least: i64,
+    most: i64,
+}
+
+impl Signed {
+    /// A number, which a store leaves from `least` to `most`.
+    pub fn new(value: i64, least: i64, most: i64) -> Signed
+        ensures least { result.least ≡ least }
+        ensures most { result.most ≡ most }
+    {
+        Signed {
+            value: AtomicI64::new(value),
+            least,
+            most,
+        }
+    }
+
+    /// The number by now.
+    pub fn get(&self) -> i64 {
+        self.value.load(Ordering::SeqCst)
+    }
+
+    /// Puts another number there, be it beyond these bounds.
+    pub fn set(&self, value: i64) {
+        self.value.store(value, Ordering::SeqCst);
+    }
+}
+
+impl Callbacks for Signed {
+    ghost shows = { λ _ filled. ShowsLine part.Signed filled };
+
+    ghost takes = { λ number bytes answer. TakesSigned number.least number.most bytes answer };
+
+    fn show(&self, page: &mut Page) -> Result<(), Fault> {
+        emit_line(page, Part::Signed(self.get()));
+        Ok(())
+    }
+
+    fn store(&self, bytes: &[u8]) -> Result<(), Fault> {
+        match read_signed(bytes, self.least, self.most) {
+            Ok(value) => {
+                self.set(value);
+                Ok(())
+            }
+            Err(why) => Err(fault_of(why)),
+        }
+    }
+}
+
+/// A switch: `1` or `0`, stored by what `read_flag` takes (`DEVICE_BOOL_ATTR`).
+#[derive(Drop)]
+pub struct Switch {
+    value: AtomicBool,
+}
+
+impl Switch {
+    /// A switch that is on or off.
+    pub fn new(value: bool) -> Switch {
+        Switch {
+            value: AtomicBool::new(value),
+        }
+    }
+
+    /// Whether it is on by now.
+    pub fn get(&self) -> bool {
+        self.value.load(Ordering::SeqCst)
+    }
+
+    /// Turns it on or off.
+    pub fn set(&self, value: bool) {
+        self.value.store(value, Ordering::SeqCst);
+    }
+}
+
+impl Callbacks for Switch {
+    ghost shows = { λ _ filled. ShowsLine part.Flag filled };
+
+    ghost takes = { λ _ bytes answer. TakesFlag bytes answer };
+
+    fn show(&self, page: &mut Page) -> Result<(), Fault> {
+        emit_line(page, Part::Flag(self.get()));
+        Ok(())
+    }
+
+    fn store(&self, bytes: &[u8]) -> Result<(), Fault> {
+        match read_flag(bytes) {
+            Ok(value) => {
+                self.set(value);
+                Ok(())
+            }
+            Err(why) => Err(fault_of(why)),
+        }
+    }
+}
+
+/// A text that is only read, with a newline behind it (`DEVICE_STRING_ATTR_RO`).
+#[derive(Clone, Copy)]
+pub struct Text<'a>(pub &'a [u8]);
+
+impl Callbacks for Text<'_> {
+    ghost shows = { λ text filled. filled ≡ Ok (shown_line (part.Text text.0)) };
+
+    ghost takes = { λ _ _ answer. answer ≡ Err unknown };
+
+    ghost stores = { λ _. false };
+
+    fn show(&self, page: &mut Page) -> Result<(), Fault> {
+        emit_line(page, Part::Text(self.0));
+        Ok(())
+    }
+
+    fn store(&self, _bytes: &[u8]) -> Result<(), Fault> {
+        Err(Fault { number: 22 })
+    }
+}
+
+/// An attribute that is only read: each store is Fault 22.
+#[derive(Drop)]
+pub struct ReadOnly<A>(pub A);
+
+impl<A: Callbacks> Callbacks for ReadOnly<A> {
+    ghost shows = { λ only filled. A.shows only.0 filled };
+
+    ghost takes = { λ _ _ answer. answer ≡ Err unknown };
+
+    ghost stores = { λ _. false };
+
+    fn show(&self, page: &mut Page) -> Result<(), Fault> {
+        self.0.show(page)
+    }
+
+    fn store(&self, _bytes: &[u8]) -> Result<(), Fault> {
+        Err(Fault { number: 22 })
+    }
+}
+
+impl<A: Callbacks> Callbacks for &A {
+    ghost shows = { λ lent filled. A.shows lent.now filled };
+
+    ghost takes = { λ lent bytes answer. A.takes lent.now bytes answer };
+
+    ghost stores = { λ lent. A.stores lent.now };
+
+    fn show(&self, page: &mut Page) -> Result<(), Fault> {
+        (**self).show(page)
+    }
+
+    fn store(&self, bytes: &[u8]) -> Result<(), Fault> {
+        (**self).store(bytes)
+    }
+}
