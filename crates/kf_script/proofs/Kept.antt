@@ -4,7 +4,7 @@ use Rattle.std.specs.Io.KnownBytes.{Appends, Consumes, IsAtEnd, Keeps, append_kn
 use Rattle.std.proofs.KnownBytes.{Appends-kept, Appends-trans, Appends-nil}
 use Rattle.kf_script.specs.Lines.{lines_of, has_bytes}
 use Rattle.kf_script.specs.Answers.{Step, text}
-use Rattle.kf_script.specs.Progress.{Answered, CutShort, Grows, Writes}
+use Rattle.kf_script.specs.Progress.{Answered, CutShort, GivesOut, Grows, Writes}
 use Rattle.kf_script.specs.Running.{Running}
 use Rattle.kf_script.proofs.Running.{lines-here}
 
@@ -25,6 +25,17 @@ grows-trans a b c (x, p) (y, q) = (x ++ y, Appends-trans a b c x y p q)
 pub writes-grow : {T E : Type 0} (a b : Option (List ℕ)) (result : Result T E) (bytes : List ℕ) → Writes a b result bytes → Grows a b
 writes-grow a b (Ok x) bytes written = (bytes, written)
 writes-grow a b (Err x) bytes (part, prefix, written) = (part, written)
+
+-- of what is kept the front was written: the bytes known stay the same
+pub same-given : (a b : Option (List ℕ)) (kept left : List ℕ) → GivesOut a b kept left → Keeps (append_known a kept) (append_known b left)
+same-given None b kept left p = tt
+same-given (Some x) None kept left p = absurd p.written
+same-given (Some x) (Some y) kept left p =
+    ap (λ l. l ++ left) p.written ∙ append_assoc x p.given left ∙ ap (λ l. x ++ l) (sym p.front)
+
+-- and the writer has more than before
+pub grown-given : (a b : Option (List ℕ)) (kept left : List ℕ) → GivesOut a b kept left → Grows a b
+grown-given a b kept left p = (p.given, p.written)
 
 pub keeps-none : (a b : Option (List ℕ)) → Keeps a b → Appends a b []
 keeps-none None b e = tt

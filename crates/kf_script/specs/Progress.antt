@@ -1,5 +1,5 @@
 -- How far a run of a script has come.
-use Rattle.std.specs.Prelude.{ℕ, List, ◌++◌, ◌≡◌, map, Option, Result, MatchResult}
+use Rattle.std.specs.Prelude.{ℕ, List, [], ◌+◌, ◌++◌, ◌≡◌, length, map, nat_le, Option, Result, MatchResult, if◌then◌else◌}
 use Rattle.std.specs.Io.KnownBytes.{Appends}
 use Rattle.kf_script.specs.Answers.{Step, Turn, line_of, Answers, text}
 
@@ -16,6 +16,23 @@ Writes old new result bytes =
 -- bytes were written, or none
 abbrev pub Grows : Option (List ℕ) → Option (List ℕ) → Type 0
 Grows old new = (part : List ℕ) × Appends old new part
+
+-- Of what was kept so many bytes from the front were written, and the rest is kept.
+pub record GivesOut (old new : Option (List ℕ)) (kept left : List ℕ) : Type 0 where
+  pub given : List ℕ
+  pub front : kept ≡ given ++ left
+  pub written : Appends old new given
+
+-- the most bytes that are kept
+abbrev pub kept_limit : ℕ
+kept_limit = 4096
+
+-- What is kept once such bytes have come: they follow what was kept, or are alone where they find no room behind
+-- it, and where they are more than are ever kept, nothing is.
+abbrev pub kept_with : List ℕ → List ℕ → List ℕ
+kept_with kept bytes =
+    if nat_le (length kept + length bytes) kept_limit then kept ++ bytes
+    else (if nat_le (length bytes) kept_limit then bytes else [])
 
 -- The lines were answered, and what was written is their replies.
 pub record Answered {Board : Type 0} (step : Step Board) (first now : Board) (lines : List (List ℕ))

@@ -7,13 +7,13 @@ mod grammar;
 mod kinds;
 mod line;
 mod output;
-mod reads;
 mod reply;
 mod request;
 mod rows;
 mod script;
 mod search;
 mod spelling;
+mod streams;
 mod words;
 
 pub use board::Board;

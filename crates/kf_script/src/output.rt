@@ -1,9 +1,9 @@
 //! The script's output: the one way to the writer, and none after a fault. Replies are kept until more of the
 //! script is to be read, or until no other would find room.
 
-ghost use Rattle.std.specs.Prelude.{◌≡◌, ◌≤◌, ◌-◌, [], true, false, length, take, drop, OnOk, OnErr, IfErr, IsErrOf, vec_len, vec_capacity};
-ghost use Rattle.std.specs.Io.KnownBytes.{Appends, Keeps, append_known};
-ghost use Rattle.kf_script.specs.Progress.{Writes, Grows};
+ghost use Rattle.std.specs.Prelude.{◌≡◌, ◌≤◌, ◌+◌, ◌-◌, ◌<◌, ◌⊎◌, [], true, false, length, take, drop, OnOk, OnErr, IfErr, IsErrOf, vec_len, vec_capacity};
+ghost use Rattle.std.specs.Io.KnownBytes.{Appends, append_known};
+ghost use Rattle.kf_script.specs.Progress.{GivesOut, Writes, Grows, kept_limit, kept_with};
 
 use super::fault::RunFault;
 use std::io::Write;
@@ -52,9 +52,7 @@ fn remove_front(kept: &mut Vec<u8>, count: usize)
 
 /// Writes what is kept. What a fault leaves unwritten is kept.
 fn write_kept<W: Write>(writer: &mut W, kept: &mut Vec<u8>) -> Result<(), RunFault>
-    ensures same { Keeps (append_known (W.contents writer.old) kept.old.items)
-        (append_known (W.contents writer.new) kept.new.items) }
-    ensures grew { Grows (W.contents writer.old) (W.contents writer.new) }
+    ensures given { GivesOut (W.contents writer.old) (W.contents writer.new) kept.old.items kept.new.items }
     ensures empty { OnOk result (kept.new.items ≡ []) }
     ensures len { vec_len kept.new ≤ vec_len kept.old }
     ensures capacity { vec_capacity kept.new ≡ vec_capacity kept.old }
@@ -84,7 +82,6 @@ impl<'a, W: Write> Output<'a, W> {
     /// Takes the writer for one run, and memory for what is kept.
     pub fn new(writer: &'a mut W, kept: &'a mut Vec<u8>) -> Output<'a, W>
         requires none { kept.old.items ≡ [] }
-        requires empty { vec_len kept.old ≡ 0 }
         requires room { 4096 ≤ vec_capacity kept.old }
         ensures lent { result.writer.ghost_name ≡ writer.entry.ghost_name }
         ensures writer { result.writer.now ≡ writer.old }
@@ -102,9 +99,8 @@ impl<'a, W: Write> Output<'a, W> {
     /// more.
     pub fn flush(&mut self) -> Result<(), RunFault>
         ensures lent { self.new.writer.ghost_name ≡ self.old.writer.ghost_name }
-        ensures same { Keeps (append_known (W.contents self.old.writer.now) self.old.kept.now.items)
-            (append_known (W.contents self.new.writer.now) self.new.kept.now.items) }
-        ensures grew { Grows (W.contents self.old.writer.now) (W.contents self.new.writer.now) }
+        ensures given { GivesOut (W.contents self.old.writer.now) (W.contents self.new.writer.now)
+            self.old.kept.now.items self.new.kept.now.items }
         ensures empty { OnOk result (self.new.kept.now.items ≡ []) }
         ensures fault { IfErr result (λ fault. fault ≡ RunFault.Write) }
         ensures failed { OnErr result (self.new.has_failed ≡ true) }
@@ -121,8 +117,10 @@ impl<'a, W: Write> Output<'a, W> {
 
     /// Whether so many bytes more are kept: there is room for them, and no write has failed.
     fn has_room(&self, count: usize) -> bool
-        ensures fits { result ≡ true → count ≤ 4096 - vec_len self.now.kept.now }
+        ensures fits { result ≡ true → vec_len self.now.kept.now + count ≤ kept_limit }
         ensures works { result ≡ true → self.now.has_failed ≡ false }
+        ensures full { result ≡ false → (self.now.has_failed ≡ true)
+            ⊎ (kept_limit < vec_len self.now.kept.now + count) }
     {
         !self.has_failed && count <= KEPT_LIMIT - self.kept.len()
     }
@@ -133,6 +131,8 @@ impl<'a, W: Write> Output<'a, W> {
         ensures lent { self.new.writer.ghost_name ≡ self.old.writer.ghost_name }
         ensures written { Writes (append_known (W.contents self.old.writer.now) self.old.kept.now.items)
             (append_known (W.contents self.new.writer.now) self.new.kept.now.items) result bytes.now }
+        ensures whole { OnOk result
+            (self.new.kept.now.items ≡ kept_with self.old.kept.now.items bytes.now) }
         ensures grew { Grows (W.contents self.old.writer.now) (W.contents self.new.writer.now) }
         ensures fault { IfErr result (λ fault. fault ≡ RunFault.Write) }
         ensures failed { OnErr result (self.new.has_failed ≡ true) }

@@ -3,7 +3,7 @@
 ghost use Rattle.std.specs.Prelude.{◌≡◌, ◌≤◌, ◌<◌, ◌+◌, ◌++◌, ◌∷◌, ℕ, List, [], length, decimal, vec_len, vec_capacity, IfOk, IfErr, IsOk, OnOk};
 ghost use Rattle.kf_core.specs.Refusals.{name_of};
 ghost use Rattle.std.specs.Io.KnownBytes.{append_known};
-ghost use Rattle.kf_script.specs.Progress.{Writes, Grows};
+ghost use Rattle.kf_script.specs.Progress.{Writes, Grows, kept_with};
 ghost use Rattle.kf_script.specs.ReplyText.{done_text, bad_line_text, refusal_text, fault_text, key_text, poll_text, stat_text, octal as octal_text, node_text, state_text};
 
 use super::fault::RunFault;
@@ -164,6 +164,8 @@ impl Reply {
         ensures written { Writes (append_known (W.contents output.old.writer.now) output.old.kept.now.items)
             (append_known (W.contents output.new.writer.now) output.new.kept.now.items) result
             (self.old ++ 10 ∷ []) }
+        ensures whole { OnOk result
+            (output.new.kept.now.items ≡ kept_with output.old.kept.now.items (self.old ++ 10 ∷ [])) }
         ensures grew { Grows (W.contents output.old.writer.now) (W.contents output.new.writer.now) }
         ensures lent { output.new.writer.ghost_name ≡ output.old.writer.ghost_name }
         ensures fault { IfErr result (λ fault. fault ≡ RunFault.Write) }

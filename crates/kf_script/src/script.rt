@@ -14,9 +14,9 @@ use super::fault::RunFault;
 use super::grammar::parse_into;
 use super::line::{LINE_LIMIT, LineBuffer};
 use super::output::{KEPT_LIMIT, Output};
-use super::reads::{Input, READ_LIMIT};
 use super::reply::Reply;
 use super::search::place_of;
+use super::streams::{READ_LIMIT, Streams};
 use std::alloc::Global;
 use std::io::{Read, Write};
 
@@ -128,40 +128,40 @@ fn read_lines<B: Board, R: Read, W: Write>(
     board: &mut B,
     reply: &mut Reply,
     line: &mut LineBuffer,
-    input: &mut Input<'_, R>,
-    output: &mut Output<'_, W>,
+    streams: &mut Streams<'_, R, W>,
 ) -> Result<(), RunFault>
     requires unread { line.old ≡ Some [] }
-    requires unkept { output.old.kept.now.items ≡ [] }
+    requires unkept { streams.old.output.kept.now.items ≡ [] }
     ensures ok { OnOk result
-        ((read : List ℕ) × Consumes (R.remaining input.old.reader.now) (R.remaining input.new.reader.now) read
-        × IsAtEnd (R.remaining input.new.reader.now)
-        × Answered B.step board.old board.new (lines_of read) (W.contents output.old.writer.now)
-        (W.contents output.new.writer.now)) }
+        ((read : List ℕ)
+        × Consumes (R.remaining streams.old.reader.now) (R.remaining streams.new.reader.now) read
+        × IsAtEnd (R.remaining streams.new.reader.now)
+        × Answered B.step board.old board.new (lines_of read) (W.contents streams.old.output.writer.now)
+        (W.contents streams.new.output.writer.now)) }
     ensures read { IsErrOf result RunFault.Read → (read : List ℕ)
-        × Consumes (R.remaining input.old.reader.now) (R.remaining input.new.reader.now) read
-        × Answered B.step board.old board.new (ended_lines_of read) (W.contents output.old.writer.now)
-        (W.contents output.new.writer.now) }
+        × Consumes (R.remaining streams.old.reader.now) (R.remaining streams.new.reader.now) read
+        × Answered B.step board.old board.new (ended_lines_of read) (W.contents streams.old.output.writer.now)
+        (W.contents streams.new.output.writer.now) }
     ensures write { IsErrOf result RunFault.Write → (read : List ℕ)
-        × Consumes (R.remaining input.old.reader.now) (R.remaining input.new.reader.now) read
-        × CutShort B.step board.old board.new (lines_of read) (W.contents output.old.writer.now)
-        (W.contents output.new.writer.now) }
-    ensures lent { (input.new.reader.ghost_name ≡ input.old.reader.ghost_name)
-        × (output.new.writer.ghost_name ≡ output.old.writer.ghost_name) }
+        × Consumes (R.remaining streams.old.reader.now) (R.remaining streams.new.reader.now) read
+        × CutShort B.step board.old board.new (lines_of read) (W.contents streams.old.output.writer.now)
+        (W.contents streams.new.output.writer.now) }
+    ensures lent { (streams.new.reader.ghost_name ≡ streams.old.reader.ghost_name)
+        × (streams.new.output.writer.ghost_name ≡ streams.old.output.writer.ghost_name) }
     ensures fault { ¬ IsErrOf result RunFault.Memory }
 {
     let mut chunk = [0u8; CHUNK];
     'reads: loop {
-        output.flush()?;
-        let count = match input.read(&mut chunk, output) {
+        streams.output.flush()?;
+        let count = match streams.read(&mut chunk) {
             Ok(0) => {
-                end_line(board, reply, line.get(), output)?;
-                return output.flush();
+                end_line(board, reply, line.get(), &mut streams.output)?;
+                return streams.output.flush();
             }
             Ok(count) => count,
             Err(_) => return Err(RunFault::Read),
         };
-        take_bytes(board, reply, line, output, &chunk[..count])?;
+        take_bytes(board, reply, line, &mut streams.output, &chunk[..count])?;
     }
 }
 
@@ -206,7 +206,7 @@ pub fn run_script<B: Board, R: Read, W: Write>(
     let Ok(mut kept) = Vec::with_capacity(alloc, KEPT_LIMIT) else {
         return Err(RunFault::Memory);
     };
-    let mut input = Input::new(reader, READ_LIMIT);
-    let mut output = Output::new(writer, &mut kept);
-    read_lines(board, &mut reply, &mut line, &mut input, &mut output)
+    let output = Output::new(writer, &mut kept);
+    let mut streams = Streams::new(reader, READ_LIMIT, output);
+    read_lines(board, &mut reply, &mut line, &mut streams)
 }

@@ -7,12 +7,12 @@ use Rattle.kf_script.proofs.script.read_lines.Given as goal
 -- the run has come as far as the bytes that were read, by the same reader and writer
 abbrev pub invariant-reads : goal.invariant-reads
 invariant-reads g l = (read : List ℕ)
-    × Consumes (g.R.Read.remaining l.fn.input.reader.now) (g.R.Read.remaining l.input.reader.now) read
-    × Running g.B.Board.step l.fn.board l.board read l.line (g.W.Write.contents l.fn.output.writer.now) (append_known (g.W.Write.contents l.output.writer.now) l.output.kept.now.items)
-    × (l.input.reader.ghost_name ≡ l.fn.input.reader.ghost_name)
-    × (l.output.writer.ghost_name ≡ l.fn.output.writer.ghost_name)
-    × Grows (g.W.Write.contents l.fn.output.writer.now) (g.W.Write.contents l.output.writer.now)
+    × Consumes (g.R.Read.remaining l.fn.streams.reader.now) (g.R.Read.remaining l.streams.reader.now) read
+    × Running g.B.Board.step l.fn.board l.board read l.line (g.W.Write.contents l.fn.streams.output.writer.now) (append_known (g.W.Write.contents l.streams.output.writer.now) l.streams.output.kept.now.items)
+    × (l.streams.reader.ghost_name ≡ l.fn.streams.reader.ghost_name)
+    × (l.streams.output.writer.ghost_name ≡ l.fn.streams.output.writer.ghost_name)
+    × Grows (g.W.Write.contents l.fn.streams.output.writer.now) (g.W.Write.contents l.streams.output.writer.now)
 
 -- the calls of read that are left
 abbrev pub decreases-reads : goal.decreases-reads
-decreases-reads g l = l.input.left
+decreases-reads g l = l.streams.left

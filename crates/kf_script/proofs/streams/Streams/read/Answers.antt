@@ -1,6 +1,6 @@
 -- Short searches: where such a goal fails, they end at once.
 use Rattle.std.proofs.Common.{rules}
-use Rattle.kf_script.proofs.reads.Input.read.Goals as goal
+use Rattle.kf_script.proofs.streams.Streams.read.Goals as goal
 
 pub returns-in-Ok-clause-counted : goal.returns-in-Ok-clause-counted
 returns-in-Ok-clause-counted g c = search rules
