@@ -18,6 +18,7 @@ pub mod Opening
 pub mod Tells
 pub mod Events
 pub mod WordSteps
+pub mod Attended
 pub mod Keeps
 pub mod OneEnds
 pub mod Runs

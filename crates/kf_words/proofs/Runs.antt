@@ -30,7 +30,8 @@ use Rattle.kf_words.proofs.Seating.{seats-set}
 use Rattle.kf_words.proofs.MasterAllowed.{state_there}
 use Rattle.kf_words.proofs.Opening.{opening_shown}
 use Rattle.kf_words.proofs.Events.{try_is_enter, birth_is_born}
-use Rattle.kf_words.proofs.WordSteps.{Led, IsEvent, Alone, TakenOut, Came, at, met, world_is, word_step, attended_event}
+use Rattle.kf_words.proofs.WordSteps.{Led, IsEvent, Alone, TakenOut, Came, at, met, world_is, word_step}
+use Rattle.kf_words.proofs.Attended.{attended_event}
 
 -- a run keeps the rule
 word_run : (slots limit : ℕ) (kinds : List Kind) (t u : Table) → Shown slots limit t → WordRun t kinds u → Shown slots limit u

@@ -14,7 +14,7 @@ use Rattle.kf_words.specs.Nodes.{MasterSight, master_sight}
 use Rattle.kf_words.specs.TableSteps.{Table, world, Kind, IsSeated, WordStep, WordRun, tries, undoes, leaves, breaks, restores, looks, parts, hides, looks_hidden, shows, releases, loads_hold, pins_hold, stores_fresh, births, looks_over, unlinks}
 use Rattle.kf_words.specs.History.{opened_as}
 
--- the run that was seen before went on by the steps between, and then by this one, and so far it is seen after
+-- the run that was seen before went on by the steps between, then by this one, and so far it is seen after
 abbrev pub SawNext : Seen → List Kind → Kind → Seen → Type 0
 SawNext before between kind after =
     after ≡ record { opening = before.opening; steps = (before.steps ++ between) ++ kind ∷ [] }
@@ -23,8 +23,8 @@ SawNext before between kind after =
 abbrev pub LeadsTo : Seen → List Kind → Table → Type 0
 LeadsTo seen between t = WordRun (opened_as seen.opening) (seen.steps ++ between) t
 
--- the caller's step was the next of the one run, which had gone on from all that the caller had seen before to
--- the table that it found. That met the rule, and had the caller's view before it
+-- the caller's step was the next of the one run, which had gone on from all that the caller had seen before
+-- to the table that it found. That met the rule, and had the caller's view before it
 pub record WasMade (kind : ℕ → Kind) (before after : CallerSight) : Type 0 where
   pub between : List Kind
   pub found : Table
@@ -176,8 +176,8 @@ pub record WasLetInLive (before after : CallerSight) : Type 0 where
   pub try : WasATry before after
   pub live : is_live (world try.found) after.view.key ≡ true
 
--- the one run had gone on, from all that the caller had seen before, to a table where the word was as found and
--- the caller's view as it was; and it went on from there to what the caller has seen after
+-- the one run had gone on, from all that the caller had seen before, to a table where the word was as found
+-- and the caller's view as it was; and it went on from there to what the caller has seen after
 pub record WasFound (before after : CallerSight) (word found : ℕ) : Type 0 where
   pub between : List Kind
   pub later : List Kind
@@ -201,8 +201,8 @@ abbrev pub FoundInHold : Handle → Handle → Type 0
 FoundInHold before after =
     WasFound (seat_view before) (seat_view after) (hold_index before.key.slot) after.found
 
--- the Master's step was the next of the one run, which had gone on from all that the Master had seen before to
--- the table that it found. That met the rule, and had the Master's view before it
+-- the Master's step was the next of the one run, which had gone on from all that the Master had seen before
+-- to the table that it found. That met the rule, and had the Master's view before it
 pub record WasMadeByMaster (kind : Kind) (before after : MasterSight) : Type 0 where
   pub between : List Kind
   pub found : Table
@@ -225,8 +225,8 @@ WasUnlinked slot true before after = (looked : MasterSight) × WasMadeByMaster (
     × WasMadeByMaster (unlinks slot) looked after
 WasUnlinked slot false before after = WasMadeByMaster (looks_over slot) before after
 
--- a hold word was loaded, and one hold more counted there. The new seat has seen as much of the one run as the
--- Master then had, and the Master has seen no more since
+-- a hold word was loaded, and one hold more counted there. The new seat has seen as much of the one run as
+-- the Master then had, and the Master has seen no more since
 pub record WasCounted (slot : ℕ) (before : MasterSight) (seat after : Seen) : Type 0 where
   pub loaded : MasterSight
   pub counted : MasterSight

@@ -66,13 +66,13 @@ pub fn words_step()
 ///
 /// The table opens with the rule, as the opening world. Each step keeps the rule, so the world stays safe. A
 /// run is a run of events where the Master gives a seat to a hold of a node that is linked or held, and takes
-/// a node out while a caller is drained there: `pin` asks for the one, `pin_held` and `unlink` for the others.
-/// Once a key was marked, each try there is refused, ever after. While a caller is drained or parted on a key,
-/// nobody is running on that key, nor ever after. While a caller hides a key, a try there is refused, and once
-/// it is hidden nobody is running there until it is shown. Once a slot was given again, only spent callers are
-/// on its earlier keys, ever after. A birth finds only spent callers on its slot, and a try lets a caller run
-/// only where its key is live. So whoever runs ran at the start, or was let in by a try of the run while its
-/// key was live.
+/// a node out while a caller is drained there: `pin` asks for the first, `pin_held` and `unlink` for such a
+/// caller. Once a key was marked, each try there is refused, ever after. While a caller is drained or parted
+/// on a key, nobody is running on that key, nor ever after. While a caller hides a key, a try there is
+/// refused, and once it is hidden nobody is running there until it is shown. Once a slot was given again,
+/// only spent callers are on its earlier keys, ever after. A birth finds only spent callers on its slot, and
+/// a try lets a caller run only where its key is live. So whoever runs ran at the start, or was let in by a
+/// try of the run while its key was live.
 pub fn words_run()
     ensures opens_well { OpensWell }
     ensures rule_kept { RuleKept }

@@ -139,7 +139,8 @@ impl MasterSeat {
         requires { HasMarks (master_view self.old) slot fresh_marks }
         ensures table { self.new.token.table_id ≡ self.old.token.table_id }
         ensures view { master_view self.new ≡ with_marks activated_marks slot (master_view self.old) }
-        ensures made { WasMadeByMaster (takes_bias slot) (master_sight self.old.token.me.0) (master_sight self.new.token.me.0) }
+        ensures made { WasMadeByMaster (takes_bias slot) (master_sight self.old.token.me.0)
+            (master_sight self.new.token.me.0) }
     {
         let word = self.active_index(slot);
         let token = &mut self.token;

@@ -188,7 +188,8 @@ impl Play<(), Sight> for TakesBias {
     ghost use Rattle.kf_words.specs.TableSteps.{takes_bias};
     ghost use Rattle.kf_words.specs.Made.{MasterMakes};
 
-    ghost then = { MasterMakes active_index takes_bias (MasterBecomes (unread (with_marks activated_marks))) };
+    ghost then = { MasterMakes active_index takes_bias
+        (MasterBecomes (unread (with_marks activated_marks))) };
 }
 
 /// The Master marks a node as doomed.

@@ -7,7 +7,7 @@ use crate::layout::ends_a_wait;
 use crate::seat::CallerSeat;
 use std::marker::Model;
 
-/// Whether those who sleep at a slot are to be woken. It is spent by a `match`, and a value that is let go does
+/// Whether those who sleep at a slot are to be woken. It is spent by a `match`: a step that lets it go does
 /// not compile.
 pub enum Wake {
     /// One of them may wait for what the step left.
@@ -58,8 +58,8 @@ impl WakeDue {
         let WakeDue { slot: _, found: _ } = self;
     }
 
-    /// Tells what it owes, for a caller that wakes its sleepers by its own means. The answer has to be matched
-    /// in turn.
+    /// Tells what it owes, for a caller that wakes its sleepers by its own means. The answer has to be
+    /// matched.
     pub fn told(self) -> Wake
         ensures { is_wanted result ≡ wants_wake (self.found - 1) }
     {

@@ -1,0 +1,69 @@
+-- A step of the Master that was shown such a caller is an event: a node is taken out by a drained caller, and a hold
+-- of a linked or held node gets its seat.
+use Rattle.std.proofs.Common.{◌≡◌, ◌⊎◌, inl, inr, ℕ, true, List, length, set, sym, ap, ◌∙◌, subst, ⊎_elim}
+use Rattle.std.specs.Prelude.{is_some}
+use Rattle.atomic_table.specs.Table.{step}
+use Rattle.kf_core.specs.declared.event.Event.{Event}
+use Rattle.kf_core.specs.declared.event.Event.TheVariants.{Pin, Unlink}
+use Rattle.kf_core.specs.Bare.{BareWorld}
+use Rattle.kf_core.specs.Steps.{BareStep}
+use Rattle.kf_words.specs.declared.view.CallerView.{CallerView}
+use Rattle.kf_words.specs.declared.view.MasterView.{MasterView}
+use Rattle.kf_words.specs.declared.view.View.{View}
+use Rattle.kf_words.specs.declared.view.View.TheVariants as seat
+use Rattle.kf_words.specs.Layout.{linked}
+use Rattle.kf_words.specs.Rule.{Shown, seats, bare, caller, last_key}
+use Rattle.kf_words.specs.Steps.{state_at, without_node}
+use Rattle.kf_words.specs.Nodes.{marks_of}
+use Rattle.kf_words.specs.TableSteps.{Table, Kind, splits, unlinks, same, master_in, world, HoldsSlot, IsDrainedOn, IsPinnable, IsAttended, WordStep}
+use Rattle.kf_words.proofs.MasterAllowed.{state_there}
+use Rattle.kf_words.proofs.Events.{unlink_is_unlink}
+use Rattle.kf_words.proofs.WordSteps.{IsEvent, Alone, TakenOut, Came, at, met, world_is, split_pins, linked_pins, held_pins, word_step}
+
+-- a node taken out while a caller is drained on it is an Unlink by that caller
+pub unlink_event : (slots limit : ℕ) (t : Table) (slot : ℕ) (t' : Table) → Shown slots limit t → WordStep t (unlinks slot) t' → (j : ℕ) → IsDrainedOn t slot j → BareStep (world t) (Unlink j) (world t')
+unlink_event slots limit t slot t' g s j lent =
+    let m : MasterView = s.0 in
+    let c : CallerView = lent.0 in
+    let k = met slots limit t t' g m s.2.there in
+    let its = at slots limit t t' g j c lent.1 in
+    let there : is_some (marks_of m c.key) ≡ true = ap (λ (l : List View). is_some (marks_of (master_in l) c.key)) (sym k.views) ∙ lent.4 in
+    let m' : MasterView = without_node slot m in
+    let views : t'.views ≡ seats m' g.callers = ap (λ (x : Table). x.views) s.2.becomes ∙ ap (λ (l : List View). set l 0 (seat.Master m')) k.views in
+    let is = world_is t m g.callers k.views in
+    let is' = world_is t' m' g.callers views in
+    subst (λ (w : BareWorld). BareStep w (Unlink j) (world t')) (sym is)
+    (subst (λ (w : BareWorld). BareStep (bare m g.callers) (Unlink j) w) (sym is')
+    (subst (λ (i : ℕ). BareStep (bare m g.callers) (Unlink j) (bare (without_node i m) g.callers)) lent.2
+    (unlink_is_unlink slots limit t k j c its lent.3 there)))
+
+-- a hold that gets its seat while its slot has a linked node, or another who holds it, is a Pin
+pub pin_event : (slots limit : ℕ) (t : Table) (slot : ℕ) (t' : Table) → Shown slots limit t → WordStep t (splits slot) t' → IsPinnable t slot → (e : Event) × BareStep (world t) e (world t')
+pin_event slots limit t slot t' g s may =
+    let m : MasterView = s.0 in
+    let p = state_there m.slots slot s.2 in
+    let k = met slots limit t t' g m s.1 in (
+      Pin (length g.callers) (last_key slot p.0),
+      split_pins slots limit t t' g m s.1 slot p.0 p.1 s.3
+          (⊎_elim
+          (λ (node : is_some (state_at (master_in t.views) slot).marks ≡ true). linked_pins slots limit t t' g m s.1 slot p.0 p.1 (ap (λ (l : List View). is_some (state_at (master_in l) slot).marks) (sym k.views) ∙ node))
+          (λ (held : (j : ℕ) × HoldsSlot t slot j). held_pins slots limit t t' g m s.1 slot p.0 p.1 held.0 held.1)
+          may) s.4,
+    )
+
+-- an attended step is an event, or nothing
+pub attended_event : (slots limit : ℕ) (t : Table) (kind : Kind) (t' : Table) → Shown slots limit t → WordStep t kind t' → IsAttended t kind
+    → (world t' ≡ world t) ⊎ ((e : Event) × BareStep (world t) e (world t'))
+attended_event slots limit t kind t' h s may = ⊎_elim
+    (λ (same : world t' ≡ world t). inl same)
+    (λ (more : IsEvent kind (world t) (world t') ⊎ Alone kind (world t) (world t')). ⊎_elim
+    (λ (e : IsEvent kind (world t) (world t')). inr (e.event, e.step))
+    (λ (alone : Alone kind (world t) (world t')). ⊎_elim
+    (λ (o : TakenOut kind (world t) (world t')).
+    let drained : (j : ℕ) × IsDrainedOn t o.slot j = subst (λ (k : Kind). IsAttended t k) o.kind_is may in
+    inr (Unlink drained.0, unlink_event slots limit t o.slot t' h (subst (λ (k : Kind). WordStep t k t') o.kind_is s) drained.0 drained.1))
+    (λ (c : Came kind (world t) (world t')).
+    inr (pin_event slots limit t c.slot t' h (subst (λ (k : Kind). WordStep t k t') c.kind_is s) (subst (λ (k : Kind). IsAttended t k) c.kind_is may)))
+    alone)
+    more)
+    (word_step slots limit t kind t' h s).1
