@@ -1,8 +1,9 @@
 //! A plain program that answers the scripts of `kernfs_run` with the same bytes, to measure that one by:
-//! `rustc -O bench/plain.rs`, std alone, nothing proved. A directory is a `BTreeMap` of its names.
+//! `bench/run` builds it, std alone, nothing proved. A directory is a `BTreeMap` of its names.
 //!
-//! `plain [--slots N] [--line-writes] [--keep-commands] [--tuned] < SCRIPT`. Replies are gathered and written
-//! before each read; after `--line-writes` each is written by itself. Commands are counted; after
+//! `plain [--slots N] [--line-writes] [--keep-commands] [--tuned] < SCRIPT`. A line is answered where it lies, in what
+//! was read. Replies are gathered, some 4,096 bytes, and written before each read; after `--line-writes` each is
+//! written by itself. Commands are counted; after
 //! `--keep-commands` they are kept too, as `kernfs_run` keeps them. It is written as one writes it with std; after
 //! `--tuned` it does what a profile of it suggests: numbers without `fmt`, a path walked before it is searched for
 //! an empty name, and standard output as a file, without std's lock and buffer of lines.
@@ -10,12 +11,16 @@
 use std::cmp::Reverse;
 use std::collections::{BTreeMap, BinaryHeap};
 use std::fs::File;
-use std::io::{self, BufRead, BufReader, Read, StdoutLock, Write};
+use std::io::{self, BufRead, Read, StdoutLock, Write};
 use std::os::fd::AsFd;
 use std::process::ExitCode;
 
 /// The longest line that is a command, without its newline.
 const LINE_LIMIT: usize = 8192;
+/// The bytes that one read may give.
+const CHUNK: usize = 1 << 16;
+/// The bytes of replies that are gathered.
+const KEPT: usize = 4096;
 /// The bytes of a page: a store is handed no more, and a show one byte less.
 const PAGE: usize = 4096;
 /// The most holds that a slot may have.
@@ -902,7 +907,7 @@ enum Output {
 /// The script on its way to replies, and the replies that are not written yet.
 struct Script {
     board: Board,
-    input: BufReader<File>,
+    input: File,
     output: Output,
     replies: Replies,
     line_writes: bool,
@@ -914,7 +919,7 @@ impl Script {
         let input = File::from(io::stdin().as_fd().try_clone_to_owned()?);
         Ok(Script {
             board,
-            input: BufReader::with_capacity(1 << 16, input),
+            input,
             output: if tuned {
                 Output::File(File::from(io::stdout().as_fd().try_clone_to_owned()?))
             } else {
@@ -943,7 +948,7 @@ impl Script {
             self.replies.put(refusal.text().as_bytes());
         }
         self.replies.bytes.push(b'\n');
-        if self.line_writes || self.replies.bytes.len() >= 1 << 16 {
+        if self.line_writes || self.replies.bytes.len() >= KEPT {
             self.write_replies()?;
         }
         Ok(())
@@ -958,30 +963,48 @@ impl Script {
         Ok(())
     }
 
-    /// Reads the next line, without its newline, and tells whether there was one. Of a line that is too long it
-    /// keeps one byte more than a command may have.
-    fn next_line(&mut self, line: &mut Vec<u8>) -> io::Result<bool> {
-        if !self.replies.bytes.is_empty() && !self.input.buffer().contains(&b'\n') {
+    /// Reads once, and answers how many bytes came. Nothing is kept back meanwhile.
+    fn read(&mut self, chunk: &mut [u8]) -> io::Result<usize> {
+        if !self.replies.bytes.is_empty() {
             self.write_replies()?;
         }
-        line.clear();
-        let most = LINE_LIMIT as u64 + 1;
-        let is_there = self.input.by_ref().take(most).read_until(b'\n', line)? > 0;
-        if line.last() == Some(&b'\n') {
-            line.pop();
-        } else if line.len() > LINE_LIMIT {
-            self.input.skip_until(b'\n')?;
-        }
-        Ok(is_there)
+        self.input.read(chunk)
     }
 
     fn run(&mut self) -> io::Result<()> {
-        let mut line = Vec::new();
-        while self.next_line(&mut line)? {
-            self.end_line(&line)?;
+        let mut chunk = vec![0; CHUNK];
+        // the line that a read has cut: of one that is too long, one byte more than a command may have
+        let mut part: Vec<u8> = Vec::new();
+        loop {
+            let count = self.read(&mut chunk)?;
+            let mut rest = &chunk[..count];
+            if rest.is_empty() {
+                self.end_line(&part)?;
+                return self.write_replies();
+            }
+            while !rest.is_empty() {
+                let from = rest;
+                let line = &from[..rest.skip_until(b'\n')?];
+                let Some(line) = line.strip_suffix(b"\n") else {
+                    keep(&mut part, line);
+                    break;
+                };
+                if part.is_empty() {
+                    self.end_line(line)?;
+                } else {
+                    keep(&mut part, line);
+                    self.end_line(&part)?;
+                    part.clear();
+                }
+            }
         }
-        self.write_replies()
     }
+}
+
+/// Puts more of a line behind what there is of it.
+fn keep(part: &mut Vec<u8>, more: &[u8]) {
+    let room = LINE_LIMIT + 1 - part.len();
+    part.extend_from_slice(&more[..room.min(more.len())]);
 }
 
 fn main() -> ExitCode {
