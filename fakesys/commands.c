@@ -22,7 +22,7 @@ static int run_file(struct line *line)
     struct kt_key made;
     int error = changed(make_node(line->keys[0], line->name, S_IFREG | mode, nothing, true, &made));
     if (!error && set_line(node_of(number_of(made)), text, strlen(text))) {
-        kt_remove(&tree, made); /* under the lock: nobody has seen it */
+        (void)!kt_remove(&tree, made); /* under the lock: nobody has seen it */
         return -ENOMEM;
     }
     return error;
@@ -87,7 +87,7 @@ static int run_set(struct line *line)
     bool is_whole;
     size_t length = unescape_text(text, &is_whole);
     struct node *node = node_of(number_of(line->keys[0]));
-    if (length > TEXT_MAX)
+    if (length > TEXT_MAX && (is_whole || node->is_uevent))
         return -EFBIG;
     return is_whole ? set_line(node, text, length) : set_text(node, text, length);
 }

@@ -53,6 +53,7 @@ struct node {
     atomic_int fault;  /* the error number that each show and store fails with, else 0 */
     size_t length;
     char *text;
+    atomic_bool is_binary; /* of a text longer than TEXT_MAX: read and written at any offset (bin_attribute) */
 };
 
 /* Makes the tree, of the root alone. 0, or an error number below 0, as all that follow answer. */
@@ -80,9 +81,20 @@ int describe(fuse_ino_t number, struct stat *out);
 kt_show show;
 kt_store store;
 
+/* What a read or a write of a binary file asks for. */
+struct part {
+    struct open *it;
+    size_t offset, room;
+    char *page;
+};
+
+/* Those of a binary file: each read and each write is one of its own. Their data is the `struct part`. */
+kt_callback show_part;
+kt_store store_part;
+
 /* Gives a file a text. 0, -ENOMEM. Under the lock. */
 int set_text(struct node *node, const char *bytes, size_t length);
-/* The same, cut to TEXT_MAX bytes, with a newline after it where it is not empty. */
+/* The same, cut to TEXT_MAX bytes, with a newline after it where it is not empty and there is room. */
 int set_line(struct node *node, const char *bytes, size_t length);
 void wait_milliseconds(unsigned count);
 

@@ -33,7 +33,7 @@ static int find_entry(struct listing *it, fuse_ino_t dir, size_t at, char *name,
     if (at < 2) {
         strcpy(name, at ? ".." : ".");
         if (at)
-            kt_parent(&tree, key, &key);
+            (void)!kt_parent(&tree, key, &key); /* the root is above itself, and so is what is gone */
         return describe(number_of(key), stat);
     }
     int64_t length = kt_next(&tree, key, last, strlen(last), name, KT_NAME_MAX);

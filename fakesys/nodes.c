@@ -47,12 +47,13 @@ int make_tree(uint32_t slots)
     int error = kt_new(&tree.at);
     if (!error)
         error = kt_create_root(&tree, slots, KT_HOLDS_MAX);
+    if (!error)
+        error = kt_root(&tree, &root);
     if (error)
         return error;
     nodes = calloc(slots, sizeof *nodes);
     if (!nodes)
         return -ENOMEM;
-    kt_root(&tree, &root);
     keep(root, S_IFDIR | 0755, root);
     inodes = control_inode;
     return 0;
@@ -129,7 +130,7 @@ int describe(fuse_ino_t number, struct stat *out)
     *out = (struct stat){
         .st_ino = node->inode, .st_mode = node->mode, .st_nlink = node->links,
         .st_uid = node->owner, .st_gid = node->group, .st_blksize = KT_PAGE_SIZE,
-        .st_size = S_ISREG(node->mode) ? KT_PAGE_SIZE : 0,
+        .st_size = S_ISREG(node->mode) ? (off_t)MAX(node->length, (size_t)KT_PAGE_SIZE) : 0,
         .st_atim = node->accessed, .st_mtim = node->changed, .st_ctim = node->changed,
     };
     return 0;

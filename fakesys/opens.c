@@ -167,19 +167,37 @@ static int64_t read_on(struct open *it, size_t offset, char *page, size_t room)
 
 /* As seq_file reads: on in the text of the last show where the last read ended, also when the file has
  * gone; at any other place it is shown anew. */
-static int64_t read_file(struct open *it, size_t offset, char *page, size_t room)
+static int64_t read_text(struct open *it, size_t offset, char *page, size_t room)
 {
-    pthread_mutex_lock(&it->mutex);
     int64_t answer = offset && offset == it->next ? read_on(it, offset, page, room)
                                                   : read_anew(it, offset, page, room);
     it->next = answer < 0 ? 0 : offset + (size_t)answer;
+    return answer;
+}
+
+/* Of a binary file nothing is kept: each read asks for its own part. */
+static int64_t read_part(struct open *it, size_t offset, char *page, size_t room)
+{
+    struct part part = {.it = it, .offset = offset, .room = room, .page = page};
+    it->next = 0;
+    be_late(it);
+    return kt_run(&it->handle, &lock, show_part, &part);
+}
+
+static int64_t read_file(struct open *it, size_t offset, char *page, size_t room)
+{
+    pthread_mutex_lock(&it->mutex);
+    int64_t answer = (node_of(it->number)->is_binary ? read_part : read_text)(it, offset, page, room);
     pthread_mutex_unlock(&it->mutex);
     return answer;
 }
 
-static int64_t write_file(struct open *it, const char *bytes, size_t size)
+static int64_t write_file(struct open *it, size_t offset, const char *bytes, size_t size)
 {
+    struct part part = {.it = it, .offset = offset};
     be_late(it);
+    if (node_of(it->number)->is_binary)
+        return kt_write(&it->handle, &lock, bytes, size, store_part, &part);
     return kt_write(&it->handle, &lock, bytes, size, store, it);
 }
 
@@ -199,10 +217,9 @@ void fs_write(fuse_req_t req, fuse_ino_t number, const char *bytes, size_t size,
               struct fuse_file_info *info)
 {
     struct open *it = open_of(info);
-    (void)offset;
     pthread_mutex_lock(&it->mutex);
     int64_t answer = is_control(number) ? write_control(&it->control, bytes, size)
-                                        : write_file(it, bytes, size);
+                                        : write_file(it, (size_t)offset, bytes, size);
     pthread_mutex_unlock(&it->mutex);
     if (answer < 0)
         refuse(req, answer);

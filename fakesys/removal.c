@@ -19,7 +19,7 @@ int remove_node(struct kt_key key)
     wake_pollers(number_of(key)); /* also where it waits: what is marked reads no more */
     if (error == -EAGAIN)
         error = wait_without_lock(kt_remove_wait, key);
-    return error;
+    return error < 0 ? error : 0;
 }
 
 /* Marks the links outside a node that lead to it or below it. */
@@ -36,7 +36,7 @@ static void remove_marked_links(void)
     struct node *node;
     for (uint32_t slot = 0; (node = next_node(&slot, S_IFLNK));)
         if (node->leads_in)
-            kt_remove(&tree, key_of(node->number));
+            (void)!kt_remove(&tree, key_of(node->number));
 }
 
 /* The links go under the same lock as the node is marked, so that nobody sees one without the other. */
@@ -44,7 +44,7 @@ int unplug_node(struct kt_key key)
 {
     mark_links(key);
     int error = kt_remove(&tree, key);
-    if (error && error != -EAGAIN)
+    if (error < 0 && error != -EAGAIN)
         return error;
     remove_marked_links();
     return remove_node(key);

@@ -136,7 +136,7 @@ static void come(struct storm *storm)
     for (at = 1; at < storm->count && storm->saved[at].part != LINK_OUTSIDE; at++)
         make_again(&storm->saved[at]);
     if (!find_node(storm->path, &top))
-        kt_activate(&tree, top);
+        (void)!kt_activate(&tree, top);
     for (; at < storm->count; at++)
         make_again(&storm->saved[at]);
     count_change();

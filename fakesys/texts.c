@@ -11,6 +11,7 @@ int set_text(struct node *node, const char *bytes, size_t length)
     free(node->text);
     node->text = text;
     node->length = length;
+    node->is_binary = length > TEXT_MAX;
     return 0;
 }
 
@@ -19,7 +20,7 @@ int set_line(struct node *node, const char *bytes, size_t length)
     char text[KT_PAGE_SIZE];
     length = MIN(length, TEXT_MAX);
     memcpy(text, bytes, length);
-    if (length)
+    if (length && length < TEXT_MAX)
         text[length++] = '\n';
     return set_text(node, text, length);
 }
@@ -45,21 +46,33 @@ static struct node *begin_callback(struct open *it)
     return node;
 }
 
-int64_t show(struct kt_handle *file, void *data, char *page)
+/* Copies so many bytes of a node's text at most, from an offset on. Its fault, or how many. */
+static int64_t copy_text(struct open *it, size_t offset, char *page, size_t room)
 {
-    struct open *it = data;
-    uint64_t event = 0;
-    (void)file;
-    kt_event(&it->post, &event); /* before the text, so that no notify is missed */
-    it->seen = event;
     struct node *node = begin_callback(it);
+    uint64_t event = 0;
+    if (!kt_event(&it->post, &event)) /* under the lock, as fs_poll() asks it too; before the text */
+        it->seen = event;
     int64_t answer = -node->fault;
-    if (!answer) {
-        answer = (int64_t)node->length;
-        memcpy(page, node->length ? node->text : "", node->length);
+    if (!answer && offset < node->length) {
+        answer = (int64_t)MIN(room, node->length - offset);
+        memcpy(page, node->text + offset, (size_t)answer);
     }
     unlock_tree();
     return answer;
+}
+
+int64_t show(struct kt_handle *file, void *data, char *page)
+{
+    (void)file;
+    return copy_text(data, 0, page, TEXT_MAX);
+}
+
+int64_t show_part(struct kt_handle *file, void *data)
+{
+    struct part *part = data;
+    (void)file;
+    return copy_text(part->it, part->offset, part->page, part->room);
 }
 
 int64_t store(struct kt_handle *file, void *data, const char *bytes, size_t length)
@@ -71,4 +84,21 @@ int64_t store(struct kt_handle *file, void *data, const char *bytes, size_t leng
         answer = set_line(node, bytes, length - (bytes[length - 1] == '\n'));
     unlock_tree();
     return answer ? answer : (int64_t)length;
+}
+
+/* A binary file neither grows nor shrinks by a write. */
+int64_t store_part(struct kt_handle *file, void *data, const char *bytes, size_t length)
+{
+    struct part *part = data;
+    (void)file;
+    struct node *node = begin_callback(part->it);
+    int64_t answer = -node->fault;
+    if (!answer && part->offset >= node->length)
+        answer = -EFBIG;
+    if (!answer) {
+        answer = (int64_t)MIN(length, node->length - part->offset);
+        memcpy(node->text + part->offset, bytes, (size_t)answer);
+    }
+    unlock_tree();
+    return answer;
 }

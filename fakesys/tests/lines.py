@@ -64,6 +64,36 @@ def texts(mount):
         must(os.pread(file, 99, 0) == b"MAJOR=1\nMINOR=2\n", "and the text stays")
 
 
+def binary_files(mount):
+    """A text of a page and more is a binary file's: read and written in parts, at any offset, until it is short again."""
+    path, data = mount.path("/config"), bytearray(bytes(range(256)) * 62)
+    mount.done("file /config 644", "set /config " + "".join(f"\\x{byte:02x}" for byte in data) + "\\c")
+    must(os.stat(path).st_size == len(data), "its size")
+    with mount.opened("/config", os.O_RDWR) as file:
+        must(Path(path).read_bytes() == bytes(data), "it is read whole")
+        for offset, room in ((0, 64), (4095, 2), (4096, 4096), (5000, 9999), (len(data) - 3, 99), (0, 4096)):
+            part = bytes(data[offset : offset + min(room, 4096)])
+            must(os.pread(file, room, offset) == part, f"{room} bytes at {offset}")
+        must(os.pread(file, 9, len(data)) == b"" == os.pread(file, 9, 1 << 40), "nothing behind its end")
+        must(os.pwrite(file, b"new", 5000) == 3 and os.pread(file, 5, 4999) == b"\x87new\x8b", "a part is written")
+        must(os.pwrite(file, b"x" * 9, len(data) - 2) == 2 and os.stat(path).st_size == len(data), "it does not grow")
+        must(error_of(os.pwrite, file, b"x", len(data)) == errno.EFBIG, "behind its end")
+        mount.done("fail /config EIO")
+        must(error_of(os.pread, file, 9, 4096) == error_of(os.pwrite, file, b"x", 9) == errno.EIO, "it fails")
+        mount.done("fail /config 0", "set /config short")
+        must(os.pread(file, 99, 0) == b"short\n" == read_path(path), "a text again")
+        must(os.stat(path).st_size == 4096, "with a text's size")
+        mount.done("set /config " + "a" * 5000 + "\\c", "slow /config 300")
+        reader = Beside(os.pread, file, 9999, 4000)
+        time.sleep(0.1)
+        begun = time.monotonic()
+        mount.done("rm /config")
+        must(time.monotonic() - begun > 0.1 and reader.given() == b"a" * 1000, "a removal waits for a part")
+        must(error_of(os.pread, file, 9, 0) == errno.ENODEV == error_of(os.pwrite, file, b"x", 0), "gone is gone")
+    mount.done("file /uevent2 644")
+    must(mount.ask("set /uevent2 " + "a" * 5000) == ["err File too large"], "with a newline behind it it is a text")
+
+
 def faults(mount):
     """Reads and writes fail as the line tells, until it ends; what was written meanwhile is not taken;
     opens go on."""
