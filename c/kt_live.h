@@ -66,14 +66,6 @@ struct kt_attribute {
     int64_t which; /* the program's own: so one callback serves several attributes */
 };
 
-/* What kt_live_list() tells of a node. */
-struct kt_live_node {
-    char name[KT_NAME_MAX + 1];
-    struct kt_key key;
-    uint32_t kind; /* enum kt_kind */
-    uint16_t mode; /* of a file */
-};
-
 /* What was published. Nothing of it is the program's. */
 struct kt_live_device {
     struct kt_live_device *next; /* of those whose directories had the same slot */
@@ -161,6 +153,20 @@ KT_MUST_USE KT_LIVE_CALL int32_t kt_live_publish(struct kt_live *live, const cha
  * that waits for a thread that unpublishes its device, wait for ever, as in the kernel. */
 KT_MUST_USE KT_LIVE_CALL int32_t kt_live_unpublish(struct kt_live *live, struct kt_key key);
 
+/* The same of the device whose directory is at a path; with 1 `device` gets what kt_live_publish() was given, so a
+ * program needs no list of its devices. -EINVAL (the form of the path), -ENOENT, -ENOTDIR too; but for 1 `device` is as
+ * it was. */
+KT_MUST_USE KT_LIVE_CALL int32_t kt_live_unpublish_at(struct kt_live *live, const char *path, void **device);
+
+/* Runs a function of the program's on the device whose directory is at a path, as its callbacks are run: the device is
+ * there until it returns. So what a program does with each of its devices needs no lock of its own: kt_live_list()
+ * names them, and those that have gone meanwhile are left out by this.
+ *
+ * What the function answered; or it did not run: -EINVAL, -ENOTDIR (the path), -ENOENT (no device is there, or it is
+ * being removed), -ENODEV, -EMFILE, -ENOMEM. */
+typedef int64_t kt_live_function(void *device, void *data);
+KT_LIVE_CALL int64_t kt_live_run(struct kt_live *live, const char *path, kt_live_function *function, void *data);
+
 /* In a callback: the key of its device, the inner one's where callbacks of this thread run in another; so
  * kt_live_unpublish(live, kt_live_self(live)) unpublishes it. Elsewhere, and once it is unpublished, 0, 0. */
 KT_LIVE_CALL struct kt_key kt_live_self(struct kt_live *live);
@@ -198,12 +204,12 @@ KT_LIVE_CALL int32_t kt_live_unwatch(struct kt_live *live, int fd);
  * its name is empty at first, then the last one told; what is published or unpublished meanwhile makes no other name
  * come twice or be missed.
  *
- *     struct kt_live_node at = {.name = ""};
+ *     struct kt_child at = {.name = ""};
  *     while (kt_live_list(live, "/", &at) == 1)
  *         puts(at.name);
  *
  * 1, 0 (no more), and then `at` is as it was; -EINVAL (the path), -ENOENT, -ENOTDIR, -ENOMEM. */
-KT_LIVE_CALL int32_t kt_live_list(struct kt_live *live, const char *path, struct kt_live_node *at);
+KT_LIVE_CALL int32_t kt_live_list(struct kt_live *live, const char *path, struct kt_child *at);
 
 /* ---- what these are made of; under the lock, where nothing else is said ---- */
 
@@ -260,14 +266,17 @@ KT_LIVE_CALL int32_t kt_live_new(struct kt_live **out, uint32_t slots)
         return -ENOMEM;
     live->slots = slots;
     live->devices = (struct kt_live_device **)calloc(slots, sizeof *live->devices);
-    answer = live->devices ? kt_live_start(live) : -ENOMEM;
+    answer = live->devices ? kt_lock_init(&live->lock) : -ENOMEM;
+    if (!answer) {
+        answer = kt_live_start(live);
+        if (answer)
+            kt_lock_destroy(&live->lock);
+    }
     if (answer) {
         free(live->devices);
         free(live);
         return answer;
     }
-    pthread_mutex_init(&live->lock.mutex, NULL);
-    pthread_cond_init(&live->lock.left, NULL);
     *out = live;
     return 0;
 }
@@ -288,8 +297,7 @@ KT_LIVE_CALL int32_t kt_live_delete(struct kt_live *live)
     }
     kt_delete(live->tree);
     kt_delete(live->post);
-    pthread_cond_destroy(&live->lock.left);
-    pthread_mutex_destroy(&live->lock.mutex);
+    kt_lock_destroy(&live->lock);
     free(live->devices);
     free(live);
     return 0;
@@ -412,7 +420,7 @@ static inline int32_t kt_live_sweep(struct kt_live *live)
 {
     while (live->remnants) {
         struct kt_live_device *it = live->remnants;
-        if (kt_remove(&live->tree, it->key))
+        if (kt_remove(&live->tree, it->key) < 0)
             return -ENOMEM;
         live->remnants = it->next;
         free(it);
@@ -500,7 +508,7 @@ KT_LIVE_CALL int32_t kt_live_publish(struct kt_live *live, const char *path, con
 
 /* ---- callbacks ---- */
 
-/* Opens the file at a path and begins a callback there; where it is refused nothing was opened. */
+/* Opens the file at a path and begins a callback there; where it is refused it is open at most. */
 static inline int32_t kt_live_enter(struct kt_live *live, const char *path, bool to_write, struct kt_live_call *call)
 {
     struct kt_key dir;
@@ -516,32 +524,48 @@ static inline int32_t kt_live_enter(struct kt_live *live, const char *path, bool
         answer = -EIO;
     else
         answer = to_write ? kt_begin_write(&call->file) : kt_begin_read(&call->file, 0);
-    if (answer < 0) {
-        kt_clear(&call->file);
-        pthread_cond_broadcast(&live->lock.left);
-        return answer;
-    }
-    call->attribute = &call->device->attributes[stat.tag];
-    call->data = call->device->device;
-    call->thread = pthread_self();
-    call->is_aside = false;
-    call->next = live->calls;
-    live->calls = call;
-    return 0;
+    if (answer >= 0)
+        call->attribute = &call->device->attributes[stat.tag];
+    return answer;
 }
 
-/* The same, without the lock. */
-static inline int32_t kt_live_begin(struct kt_live *live, const char *path, bool to_write, struct kt_live_call *call)
+/* Begins a callback at a device's directory; where it is refused there is a hold at most. */
+static inline int32_t kt_live_enter_device(struct kt_live *live, const char *path, struct kt_live_call *call)
+{
+    int32_t answer = kt_live_walk(live, path, &call->key);
+    if (answer)
+        return answer;
+    call->device = kt_live_find(live, call->key);
+    answer = call->device ? kt_hold(&live->tree, call->key, &call->file) : -ENOENT;
+    return answer ? answer : kt_enter(&call->file);
+}
+
+enum kt_live_way { KT_LIVE_READ, KT_LIVE_WRITE, KT_LIVE_RUN };
+
+/* Begins a callback at what is at a path. Without the lock. */
+static inline int32_t kt_live_begin(struct kt_live *live, const char *path, enum kt_live_way way,
+                                    struct kt_live_call *call)
 {
     int32_t answer = kt_new(&call->file.at);
     if (answer)
         return answer;
     kt_live_lock(live);
-    answer = kt_live_enter(live, path, to_write, call);
+    answer = way == KT_LIVE_RUN ? kt_live_enter_device(live, path, call)
+                                : kt_live_enter(live, path, way == KT_LIVE_WRITE, call);
+    if (answer >= 0) {
+        call->data = call->device->device;
+        call->thread = pthread_self();
+        call->is_aside = false;
+        call->next = live->calls;
+        live->calls = call;
+    } else {
+        kt_clear(&call->file);
+        pthread_cond_broadcast(&live->lock.left);
+    }
     kt_live_unlock(live);
-    if (answer)
+    if (answer < 0)
         kt_delete(call->file);
-    return answer;
+    return answer < 0 ? answer : 0;
 }
 
 /* Ends a callback, and wakes who waits for that. */
@@ -555,11 +579,21 @@ static inline void kt_live_leave(struct kt_live *live, struct kt_live_call *call
     pthread_cond_broadcast(&live->lock.left);
 }
 
+/* The same, with what it was run by. Without the lock. */
+static inline void kt_live_end(struct kt_live *live, struct kt_live_call *call)
+{
+    kt_live_lock(live);
+    kt_live_leave(live, call);
+    kt_clear(&call->file);
+    kt_live_unlock(live);
+    kt_delete(call->file);
+}
+
 KT_LIVE_CALL int64_t kt_live_read(struct kt_live *live, const char *path, void *out, size_t room)
 {
     struct kt_live_call call;
     char page[KT_PAGE_SIZE];
-    int64_t length = kt_live_begin(live, path, false, &call);
+    int64_t length = kt_live_begin(live, path, KT_LIVE_READ, &call);
     if (length)
         return length;
     memset(page, 0, sizeof page);
@@ -582,7 +616,7 @@ KT_LIVE_CALL int64_t kt_live_write(struct kt_live *live, const char *path, const
 {
     struct kt_live_call call;
     char copy[KT_PAGE_SIZE + 1];
-    int64_t answer = kt_live_begin(live, path, true, &call);
+    int64_t answer = kt_live_begin(live, path, KT_LIVE_WRITE, &call);
     if (answer)
         return answer;
     if (length > KT_PAGE_SIZE)
@@ -592,11 +626,18 @@ KT_LIVE_CALL int64_t kt_live_write(struct kt_live *live, const char *path, const
         copy[length] = 0;
         answer = call.attribute->store(call.data, call.attribute, copy, length);
     }
-    kt_live_lock(live);
-    kt_live_leave(live, &call);
-    kt_clear(&call.file);
-    kt_live_unlock(live);
-    kt_delete(call.file);
+    kt_live_end(live, &call);
+    return answer;
+}
+
+KT_LIVE_CALL int64_t kt_live_run(struct kt_live *live, const char *path, kt_live_function *function, void *data)
+{
+    struct kt_live_call call;
+    int64_t answer = kt_live_begin(live, path, KT_LIVE_RUN, &call);
+    if (answer)
+        return answer;
+    answer = function(call.data, data);
+    kt_live_end(live, &call);
     return answer;
 }
 
@@ -637,22 +678,6 @@ static inline bool kt_live_is_used(struct kt_live *live, struct kt_live_device *
     return false;
 }
 
-/* Takes out what is marked, and sleeps as long as somebody is inside. Memory that is wanted is asked for again: what is
- * marked cannot stay. */
-static inline void kt_live_drain(struct kt_live *live, struct kt_key key)
-{
-    int32_t answer;
-    while ((answer = kt_remove(&live->tree, key)) < 0) {
-        if (answer == -EAGAIN) {
-            pthread_cond_wait(&live->lock.left, &live->lock.mutex);
-            continue;
-        }
-        kt_live_unlock(live);
-        poll(NULL, 0, 10);
-        kt_live_lock(live);
-    }
-}
-
 /* The device is unpublished: of this thread's callbacks none is its any more. */
 static inline void kt_live_forget(struct kt_live *live, struct kt_live_device *device)
 {
@@ -681,62 +706,62 @@ KT_LIVE_CALL struct kt_key kt_live_self(struct kt_live *live)
     return key;
 }
 
+/* Unpublishes a device. It sleeps, and lets the lock go meanwhile. */
+static inline int32_t kt_live_take_out(struct kt_live *live, struct kt_key key, void **data)
+{
+    struct kt_live_device *device = kt_live_find(live, key);
+    int32_t answer = device ? kt_claim(&live->tree, key) : -ENOENT; /* marks it */
+    bool is_first;
+    if (!device || (answer < 0 && answer != -ENOENT)) /* (-ENOENT of a device: it went with one above it) */
+        return answer;
+    is_first = !device->is_claimed;
+    device->is_claimed = true;
+    kt_live_raise_changed(live);
+    kt_live_step_aside(live, key);
+    kt_remove_claimed(&live->tree, key, &live->lock);
+    while (is_first && kt_live_is_used(live, device))
+        pthread_cond_wait(&live->lock.left, &live->lock.mutex);
+    if (is_first) {
+        *data = device->device;
+        kt_live_forget(live, device);
+    }
+    kt_live_step_back(live);
+    (void)!kt_live_sweep(live);
+    return is_first;
+}
+
 KT_LIVE_CALL int32_t kt_live_unpublish(struct kt_live *live, struct kt_key key)
 {
-    struct kt_live_device *device;
-    int32_t answer = -ENOENT;
-    bool is_first = false;
+    void *data;
+    int32_t answer;
     kt_live_lock(live);
-    device = kt_live_find(live, key);
-    if (device) {
-        answer = kt_claim(&live->tree, key); /* marks it; -ENOENT: it went with one above it */
-        if (answer == 1 || answer == -ENOENT)
-            answer = 0;
-    }
-    if (!answer) {
-        is_first = !device->is_claimed;
-        device->is_claimed = true;
-        kt_live_raise_changed(live);
-        kt_live_step_aside(live, key);
-        kt_live_drain(live, key);
-        while (is_first && kt_live_is_used(live, device))
-            pthread_cond_wait(&live->lock.left, &live->lock.mutex);
-        if (is_first)
-            kt_live_forget(live, device);
-        kt_live_step_back(live);
-        (void)!kt_live_sweep(live);
-    }
+    answer = kt_live_take_out(live, key, &data);
     kt_live_unlock(live);
-    return answer ? answer : is_first;
+    return answer;
+}
+
+KT_LIVE_CALL int32_t kt_live_unpublish_at(struct kt_live *live, const char *path, void **device)
+{
+    struct kt_key key;
+    int32_t answer;
+    kt_live_lock(live);
+    answer = kt_live_walk(live, path, &key);
+    if (!answer)
+        answer = kt_live_take_out(live, key, device);
+    kt_live_unlock(live);
+    return answer;
 }
 
 /* ---- names ---- */
 
-KT_LIVE_CALL int32_t kt_live_list(struct kt_live *live, const char *path, struct kt_live_node *at)
+KT_LIVE_CALL int32_t kt_live_list(struct kt_live *live, const char *path, struct kt_child *at)
 {
-    struct kt_key dir, key;
-    struct kt_stat stat;
-    char name[KT_NAME_MAX];
-    int64_t length;
+    struct kt_key dir;
     int32_t answer;
     kt_live_lock(live);
     answer = kt_live_walk(live, path, &dir);
-    length = answer ? answer : kt_next(&live->tree, dir, at->name, strlen(at->name), name, sizeof name);
-    if (length > 0) {
-        answer = kt_find(&live->tree, dir, name, (size_t)length, &key);
-        if (!answer)
-            answer = kt_stat(&live->tree, key, &stat);
-        if (!answer) {
-            memcpy(at->name, name, (size_t)length);
-            at->name[length] = 0;
-            at->key = key;
-            at->kind = stat.kind;
-            at->mode = stat.mode;
-            answer = 1;
-        }
-    } else if (!answer && length != -ENOENT) {
-        answer = (int32_t)length;
-    }
+    if (!answer)
+        answer = kt_list(&live->tree, dir, at);
     kt_live_unlock(live);
     return answer;
 }

@@ -54,7 +54,7 @@ static int64_t store_fails(void *device, const struct kt_attribute *attribute, c
 /* Shows what the other calls answer from inside a callback. */
 static int64_t show_calls(void *device, const struct kt_attribute *attribute, char *page)
 {
-    struct kt_live_node at = {.name = ""};
+    struct kt_child at = {.name = ""};
     int64_t answers[] = {
         kt_live_read(live, "/fan0/speed", page, 16), kt_live_write(live, "/fan0/speed", "5", 1),
         kt_live_notify(live, fan.key, "speed"), kt_live_list(live, "/fan0", &at), kt_live_delete(live),
@@ -308,7 +308,7 @@ static void watches(void)
 static void lists(void)
 {
     const char *wanted[] = {"calls", "delete", "delete_outer", "fails", "input", "odd", "round", "speed", "target"};
-    struct kt_live_node at = {.name = ""};
+    struct kt_child at = {.name = ""};
     TRY(kt_live_list(live, "/", &at), 0);
     TRY(PUBLISH("/fan0", fan), 0);
     for (int i = 0; i < FILES; i++) {
@@ -510,7 +510,7 @@ static void together(void)
         usleep(1000);
     usleep(20000);
     TRY(kt_live_delete(live), -EBUSY);
-    struct kt_live_node at = {.name = ""};
+    struct kt_child at = {.name = ""};
     TRY(kt_live_list(live, "/", &at), 0); /* what is being removed is not listed */
     TRY(kt_live_publish(live, "/slow", NULL, 0, NULL, &fan.key), -EEXIST); /* until it has gone */
     __atomic_store_n(&gate, 2, __ATOMIC_SEQ_CST);
@@ -530,7 +530,7 @@ static void many(uint32_t slots, uint32_t files)
 {
     struct kt_attribute table[8];
     struct kt_key keys[64], last = unchanged;
-    struct kt_live_node at = {.name = ""};
+    struct kt_child at = {.name = ""};
     char path[32], names[8][2];
     uint32_t fit = (slots - 1) / (files + 1), told = 0;
     for (uint32_t i = 0; i < files; i++) {

@@ -117,7 +117,7 @@ static void *poller(void *data)
     char text[16];
     struct pollfd watched = {.fd = *(int *)data, .events = POLLIN};
     while (!atomic_load(&is_over)) {
-        struct kt_live_node at = {.name = ""};
+        struct kt_child at = {.name = ""};
         if (poll(&watched, 1, 100) != 1)
             continue;
         must(read(watched.fd, &times, sizeof times), "read");

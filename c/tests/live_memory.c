@@ -49,7 +49,7 @@ static const struct kt_attribute twice[] = {
 
 static int told(const char *path)
 {
-    struct kt_live_node at = {.name = ""};
+    struct kt_child at = {.name = ""};
     int32_t answer;
     int count = 0;
     while ((answer = kt_live_list(live, path, &at)) == 1 || answer == -ENOMEM)

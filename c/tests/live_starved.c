@@ -46,7 +46,7 @@ static int remnants; /* how often what could not be removed stayed for a later c
 
 static int told(const char *path)
 {
-    struct kt_live_node at = {.name = ""};
+    struct kt_child at = {.name = ""};
     int32_t answer;
     int count = 0;
     while ((answer = kt_live_list(live, path, &at)) == 1)

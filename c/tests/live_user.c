@@ -67,7 +67,7 @@ static void *client(void *data)
     char path[KT_NAME_MAX + 32], text[64];
     unsigned seed = (unsigned)(uintptr_t)data;
     while (!is_over) {
-        struct kt_live_node at = {.name = ""};
+        struct kt_child at = {.name = ""};
         while (kt_live_list(live, "/sensors", &at) == 1) {
             snprintf(path, sizeof path, "/sensors/%s/temp1_input", at.name);
             if (kt_live_read(live, path, text, sizeof text) > 0)

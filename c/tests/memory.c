@@ -6,6 +6,7 @@
 static struct kt_handle tree, hold, post, open, small, all;
 static struct kt_key root, dir, file, key;
 static struct kt_stat stat;
+static struct kt_lock lock = KT_LOCK_INIT;
 static char text[300], long_name[201];
 
 /* The call, again where memory was refused. */
@@ -76,6 +77,29 @@ static void list(struct kt_key at)
     }
 }
 
+/* Removes its own directory; where memory was refused nothing has changed, or it went on to the end. */
+static int64_t remove_self(struct kt_handle *call, void *data)
+{
+    int32_t answer = kt_remove_self_wait(&tree, call, dir, &lock);
+    (void)data;
+    if (answer == -ENOMEM) {
+        if (kt_stat(&tree, dir, &stat) || stat.doomed)
+            printf("it is being removed where memory was refused\n");
+        answer = kt_remove_self_wait(&tree, call, dir, &lock);
+    }
+    return answer;
+}
+
+static void own(void)
+{
+    AGAIN(kt_create_dir(&tree, root, "own", 3, true, &dir));
+    AGAIN(kt_create_file(&tree, dir, "delete", 6, 0200, 0, true, &file));
+    AGAIN(kt_hold(&tree, file, &hold));
+    AGAIN(kt_run(&hold, &lock, remove_self, NULL));
+    REFUSED(kt_stat(&tree, dir, &stat));
+    AGAIN(kt_clear(&hold));
+}
+
 int main(void)
 {
     memset(long_name, 'n', 200);
@@ -120,6 +144,7 @@ int main(void)
     AGAIN(kt_leave(&hold));
     AGAIN(kt_remove(&tree, file));
     AGAIN(kt_clear(&hold));
+    own();
     list(root);
     AGAIN(kt_copy(&open, 0, text, sizeof text));
     kt_clear(&open);

@@ -1,0 +1,156 @@
+"""What is installed, and the ways in which programs find it: pkg-config, CMake, manual pages, dlopen, Python."""
+
+import os
+import re
+import sys
+
+# Functions of the headers that are no program's to call.
+INNER = {"kt_dump_line"}
+PROTOTYPE = re.compile(
+    r"^(?:KT_\w+(?:\([\d, ]*\))?\s+)*(?:static inline )?((?:const char|struct kt_key|\w+) \*?(kt_\w+)\([^)]*\))\s*[;{]", re.M
+)
+CMAKE = """cmake_minimum_required(VERSION 3.13)
+project(example C)
+find_package(kernfs_tree {version} REQUIRED)
+add_executable(shared example.c)
+target_link_libraries(shared kernfs_tree::kernfs_tree)
+add_executable(static example.c)
+target_link_libraries(static kernfs_tree::static)
+find_package(kernfs_tree 0.1 QUIET)
+if(kernfs_tree_FOUND)
+    message(FATAL_ERROR "another minor version is taken for this one")
+endif()
+"""
+PLUGIN = """#include <kt_live.h>
+int plugin(void);
+int plugin(void)
+{
+    struct kt_live *live;
+    struct kt_key key;
+    int32_t answer = kt_live_new(&live, 8);
+    if (!answer)
+        answer = kt_live_publish(live, "/d", NULL, 0, NULL, &key);
+    if (!answer && kt_live_unpublish(live, key) != 1)
+        answer = -EIO;
+    return answer ? answer : kt_live_delete(live);
+}
+"""
+LOADER = """#include <dlfcn.h>
+int main(int count, char **names)
+{
+    for (int turn = 0; turn < 3; turn++) {
+        void *each[2] = {0};
+        for (int i = 1; i < count; i++) {
+            int (*plugin)(void);
+            each[i - 1] = dlopen(names[i], RTLD_NOW | RTLD_LOCAL);
+            if (!each[i - 1])
+                return 2;
+            *(void **)&plugin = dlsym(each[i - 1], "plugin");
+            if (!plugin || plugin())
+                return 3;
+        }
+        for (int i = 1; i < count; i++)
+            if (dlclose(each[i - 1]))
+                return 4;
+    }
+    return 0;
+}
+"""
+
+
+def install(run, here, prefix):
+    """What make said where it did not install."""
+    made = run(["make", "-C", here, "install", f"PREFIX={prefix}"])
+    return made.returncode and made.stdout[-600:] + made.stderr[-600:]
+
+
+def version(here):
+    numbers = re.findall(r"^#define KT_VERSION_M(?:AJOR|INOR) (\d+)", (here / "kernfs_tree.h").read_text(), re.M)
+    return ".".join(numbers)
+
+
+def found_by_pkg_config(run, here, room):
+    """What is installed suffices: the example is built by what pkg-config tells, without this folder."""
+    prefix = room / "at"
+    wrong = install(run, here, prefix)
+    if wrong:
+        return wrong
+    env = {**os.environ, "PKG_CONFIG_PATH": f"{prefix}/lib/pkgconfig"}
+    for name, path in (("kernfs_tree-static", ""), ("kernfs_tree", f"{prefix}/lib")):
+        told = run(["pkg-config", "--cflags", "--libs", name], env=env)
+        made = run(["cc", "-o", "installed", here / "example.c", *told.stdout.split()])
+        if told.returncode or made.returncode:
+            return told.stderr + made.stderr
+        if run([room / "installed"], env={**os.environ, "LD_LIBRARY_PATH": path}).returncode:
+            return f"the example fails, linked by {name}"
+    return None
+
+
+def found_by_cmake(run, here, room):
+    """CMake's find_package() finds both libraries, also where what was installed was moved; another minor version not."""
+    wrong = install(run, here, room / "before")
+    if wrong:
+        return wrong
+    (room / "before").rename(room / "moved")
+    project = room / "project"
+    project.mkdir()
+    (project / "CMakeLists.txt").write_text(CMAKE.format(version=version(here)))
+    (project / "example.c").write_bytes((here / "example.c").read_bytes())
+    for words in (["-S", project, "-B", project / "out", f"-DCMAKE_PREFIX_PATH={room}/moved"], ["--build", project / "out"]):
+        made = run(["cmake", *words])
+        if made.returncode:
+            return made.stdout[-600:] + made.stderr[-1200:]
+    for name in ("shared", "static"):
+        if run([project / "out" / name]).returncode:
+            return f"the example fails, linked with the {name} library"
+    return None
+
+
+def has_pages(run, here, room):
+    """Each function has a manual page by its name, with its declaration as the header has it."""
+    wrong = install(run, here, room / "pages")
+    if wrong:
+        return wrong
+    manual, missing = room / "pages/share/man/man3", []
+    for header, page in (
+        ("kernfs_tree.h", "kernfs_tree.3"),
+        ("kt_tell.h", "kernfs_tree.3"),
+        ("kt_wait.h", "kernfs_tree.3"),
+        ("kt_live.h", "kt_live.3"),
+    ):
+        text = re.sub(r"/\*.*?\*/", "", (here / header).read_text().split("/* ---- what these are made of")[0], flags=re.S)
+        shown = re.sub(r"^\.BI?|[\s\"\\]", "", (manual / page).read_text().split(".SH DESCRIPTION")[0], flags=re.M)
+        for prototype, name in PROTOTYPE.findall(text):
+            link = manual / f"{name}.3"
+            if name in INNER:
+                continue
+            if not link.exists() or link.read_text() != f".so man3/{page}\n":
+                missing.append(f"no page {name}.3")
+            if re.sub(r"\s", "", prototype) not in shown:
+                missing.append(f"{page} declares {name} otherwise than {header}")
+    links = [it for it in manual.iterdir() if it.read_text().startswith(".so")]
+    return ", ".join(missing) or (None if len(links) > 60 else f"{len(links)} functions have a page")
+
+
+def works_as_plugin(run, here, room, archive):
+    """Two plugins with the archive in each, opened and closed again and again in a program without it."""
+    (room / "plugin.c").write_text(PLUGIN)
+    (room / "loader.c").write_text(LOADER)
+    flags = ["-O2", "-Wall", "-Wextra", "-Werror"]
+    for name in ("one.so", "two.so"):
+        made = run(["cc", *flags, "-shared", "-fPIC", "-I", here, "-o", name, "plugin.c", archive, "-pthread"])
+        if made.returncode:
+            return made.stderr
+    made = run(["cc", *flags, "-o", "loader", "loader.c", "-ldl"])
+    if made.returncode:
+        return made.stderr
+    ran = run([room / "loader", room / "one.so", room / "two.so"])
+    return f"status {ran.returncode}" if ran.returncode else None
+
+
+def works_in_python(run, here, archive):
+    """The Python module's own test, with the shared library beside the archive."""
+    env = {**os.environ, "PYTHONPATH": f"{here}:{here}/tests", "PYTHONDONTWRITEBYTECODE": "1"}
+    env["KERNFS_TREE"] = str(archive.parent / f"libkernfs_tree.so.{version(here)}")
+    ran = run([sys.executable, "-m", "unittest", "test_kernfs_tree"], env=env)
+    return None if ran.returncode == 0 and "\nOK" in ran.stderr else ran.stderr[-1500:]

@@ -1,0 +1,172 @@
+"""Tries the Python module:  KERNFS_TREE=.. python3 -m unittest test_kernfs_tree  (the shared library's path)."""
+
+import errno
+import threading
+import unittest
+
+from kernfs_tree import DIR, FILE, LINK, Key, KtError, Tree
+
+
+class Calls(unittest.TestCase):
+    def setUp(self):
+        self.tree = Tree(slots=16, holds=8)
+        self.fan = self.tree.create_dir(self.tree.root, "fan0")
+        self.speed = self.tree.create_file(self.fan, "speed", 0o644, tag=77)
+
+    def tearDown(self):
+        self.tree.close()
+
+    def refused(self, number):
+        outer = self
+
+        class Refused:
+            def __enter__(self):
+                return self
+
+            def __exit__(self, kind, error, _):
+                outer.assertIsNotNone(error)
+                outer.assertIsInstance(error, KtError)
+                outer.assertEqual(errno.errorcode[error.errno], errno.errorcode[number])
+                return True
+
+        return Refused()
+
+    def test_looks(self):
+        tree = self.tree
+        told = tree.stat(self.speed)
+        self.assertEqual((told.kind, told.mode, told.tag, told.links), (FILE, 0o644, 77, 1))
+        self.assertTrue(told.activated and not told.doomed and not told.hidden)
+        self.assertEqual(tree.stat(self.fan).kind, DIR)
+        self.assertEqual(tree.root, Key(0, 1))
+        self.assertEqual(tree.walk("/fan0/speed"), self.speed)
+        self.assertEqual(tree.find(self.fan, b"speed"), self.speed)
+        self.assertEqual(tree.parent(self.speed), self.fan)
+        self.assertEqual((tree.name(self.speed), tree.path(self.speed)), ("speed", "/fan0/speed"))
+        link = tree.create_link(tree.root, "link", self.speed)
+        self.assertEqual((tree.stat(link).kind, tree.stat(link).target), (LINK, self.speed))
+        self.assertEqual(tree.readlink(link), "fan0/speed")
+        self.assertEqual(list(tree.list(tree.root)), ["fan0", "link"])
+        with self.refused(errno.ENOTDIR):
+            list(tree.list(self.speed))
+        with self.refused(errno.ENOENT):
+            tree.walk("/fan1")
+
+    def test_changes(self):
+        tree = self.tree
+        other = tree.create_dir(tree.root, "other", live=False)
+        self.assertEqual(list(tree.list(tree.root)), ["fan0"])
+        tree.activate(other)
+        tree.rename(self.speed, other, "moved")
+        self.assertEqual(tree.path(self.speed), "/other/moved")
+        with self.refused(errno.EEXIST):
+            tree.create_dir(tree.root, "fan0")
+        with self.refused(errno.ENAMETOOLONG):
+            tree.create_dir(tree.root, "n" * 256)
+        with self.refused(errno.EINVAL):
+            Tree(slots=0)
+        tree.compact()
+        names = []
+        deep = tree.root
+        for _ in range(10):
+            names.append("d" * 255)
+            deep = tree.create_dir(deep, names[-1])
+        self.assertEqual(tree.path(deep), "/" + "/".join(names))
+
+    def test_removal(self):
+        tree, hold = self.tree, self.tree.hold(self.speed)
+        with hold:
+            with self.refused(errno.EAGAIN):
+                tree.remove(self.fan)
+            with self.refused(errno.ETIMEDOUT):
+                tree.remove_wait(self.fan, seconds=0.05)
+            self.assertTrue(tree.stat(self.fan).doomed)
+            self.assertTrue(tree.claim(self.fan))
+            self.assertFalse(tree.claim(self.fan))
+        tree.remove_wait(self.fan)
+        with self.refused(errno.ENODEV):
+            hold.enter()
+        with self.refused(errno.ENOENT):
+            tree.stat(self.fan)
+        hold.close()
+        with self.refused(errno.EBADF):
+            hold.enter()
+
+    def test_broken_protection(self):
+        hold = self.tree.hold(self.speed)
+        hold.enter()
+        hold.break_protection()
+        self.tree.remove_wait(self.fan)
+        hold.restore()
+        with self.refused(errno.EINVAL):
+            hold.enter()
+        hold.close()
+
+    def test_hiding(self):
+        tree, hold = self.tree, self.tree.hold(self.speed)
+        hold.enter()
+        with self.refused(errno.EAGAIN):
+            tree.hide(self.speed)
+        with self.refused(errno.EBUSY):
+            tree.close()
+        hold.leave()
+        tree.hide_wait(self.speed)
+        self.assertTrue(tree.stat(self.speed).hidden)
+        self.assertEqual(list(tree.list(self.fan)), [])
+        tree.unhide_wait(self.speed)
+        self.assertEqual(list(tree.list(self.fan)), ["speed"])
+        hold.close()
+
+    def test_files(self):
+        tree, stored = self.tree, []
+        post = tree.post(self.speed)
+        with tree.open(self.speed, "rw") as file:
+            self.assertTrue(file.poll())
+            self.assertEqual(file.read(lambda: b"1200\n"), b"1200\n")
+            self.assertEqual(file.read(lambda: b"other", offset=2), b"00\n")
+            self.assertFalse(file.poll())
+            before = post.event
+            post.notify()
+            self.assertEqual(post.event, before + 1)
+            self.assertTrue(file.poll())
+            self.assertEqual(file.write(b"7", lambda data: stored.append(data) or len(data)), 1)
+            self.assertEqual(file.write(b"", stored.append), 0)
+            self.assertEqual(stored, [b"7"])
+            with self.assertRaises(ZeroDivisionError):
+                file.read(lambda: 1 // 0)
+            self.assertEqual(len(file.read(lambda: b"x" * 5000)), 4095)
+            tree.remove_wait(self.fan)
+            with self.refused(errno.ENODEV):
+                file.read(lambda: b"")
+            self.assertTrue(file.poll())
+        with self.refused(errno.EACCES):
+            tree.open(tree.create_file(tree.root, "w", 0o200), "r")
+
+    def test_no_callback_after_removal(self):
+        """Four threads run callbacks at 50 files that are removed: none runs once the removal is over."""
+        tree, gone, late = self.tree, threading.Event(), []
+
+        def use(hold):
+            while True:
+                try:
+                    with hold:
+                        if gone.is_set():
+                            late.append(1)
+                except KtError:
+                    return hold.close()
+
+        for _ in range(50):
+            gone.clear()
+            file = tree.create_file(self.fan, "f")
+            threads = [threading.Thread(target=use, args=(tree.hold(file),)) for _ in range(4)]
+            for it in threads:
+                it.start()
+            tree.remove_wait(file)
+            gone.set()
+            for it in threads:
+                it.join(60)
+                self.assertFalse(it.is_alive())
+        self.assertEqual(late, [])
+
+
+if __name__ == "__main__":
+    unittest.main()
