@@ -1,11 +1,11 @@
 -- What the calls on event numbers make of what lies behind a handle.
-use Rattle.std.specs.Prelude.{◌≡◌, ◌+◌, ◌-◌, ◌^◌, ℕ, Some}
+use Rattle.std.specs.Prelude.{◌≡◌, ◌≤◌, ◌+◌, ◌-◌, ◌^◌, ℕ, Some}
 use Rattle.std.specs.Option.{option_map}
 use Rattle.kf_core.specs.declared.key.Key.{Key}
 use Rattle.kf_core.specs.Tree.{record_at}
 use Rattle.kf_tree.specs.declared.stat.Stat.{Stat}
 use Rattle.kf_tree.specs.Stat.{stat_of}
-use Rattle.kf_notify.specs.PostStates.{PostState, IsNewPost, IsSamePost, Found, Made, FoundThere}
+use Rattle.kf_notify.specs.PostStates.{PostState, IsNewPost, IsSamePost, Found, Made}
 use Rattle.kf_handles.specs.declared.object.Object.{Object}
 use Rattle.kf_handles.specs.declared.object.Object.TheVariants as behind
 
@@ -32,7 +32,7 @@ HasPostOf tree key other = ⊥
 -- the slot's number was raised to one more than this post found there
 abbrev pub WasNotified : Object → Object → Type 0
 WasNotified (behind.Post old) (behind.Post new) =
-    IsSamePost old new × Made old (new.found + 1) new × FoundThere old new.found
+    IsSamePost old new × Made old (new.found + 1) new × (old.numbers.start ≤ new.found)
 WasNotified old new = ⊥
 
 -- the slot's number was found to be the last that there is; where there was no post nothing was done
@@ -43,5 +43,5 @@ WasFull old new = new ≡ old
 -- this was the slot's number, as the post found it
 abbrev pub TookNumber : Object → ℕ → Object → Type 0
 TookNumber (behind.Post old) number (behind.Post new) =
-    IsSamePost old new × Found old number new × FoundThere old number
+    IsSamePost old new × Found old number new × (old.numbers.start ≤ number)
 TookNumber old number new = ⊥

@@ -130,15 +130,6 @@ load_allowed slots start homes id me i near stays t h _ at small =
         refl,
         (let a = h.least i near in omega arith),
         λ own. subst (λ (k : ℕ). me.0.known ≤ get_or t.words k 0) own (h.known id me.0 at),
-        record {
-          slots = slots;
-          table = t;
-          shown = subst (λ (x : ℕ). Shown slots x t) (sym begun) h;
-          seat = id;
-          there = at;
-          within = near;
-          as_found = refl;
-        },
       ),
     )
 

@@ -1,9 +1,9 @@
 -- What contracts see of posts and of their handles.
-use Rattle.std.specs.Prelude.{◌≡◌, ℕ, ◌+◌, ◌≤◌}
+use Rattle.std.specs.Prelude.{◌≡◌, ℕ, ◌+◌, ◌≤◌, ◌<◌}
 pub use Rattle.atomic_table.specs.Seated.{TableId}
 use Rattle.kf_notify.specs.declared.seat.PostSeat.{PostSeat}
 use Rattle.kf_notify.specs.declared.view.View.{View}
-use Rattle.kf_notify.specs.Steps.{WasFound}
+use Rattle.kf_notify.specs.Rule.{KnowsNext}
 
 -- which table of numbers, of how many slots, and the number that each slot had at first
 pub record Numbers : Type 0 where
@@ -51,6 +51,14 @@ pub record IsIdle (s : PostSeat) : Type 0 where
   pub no_step : s.token.me.0.steps ≡ 0
   pub none_made : s.token.me.0.made ≡ 0
 
+-- a post of this slot, which has a number. The greatest that it knows is not below the first, and is what its
+-- last load found, or the next, which it made
+pub record KnowsSlot (post : PostState) (slot : ℕ) : Type 0 where
+  pub own : post.slot ≡ slot
+  pub within : slot < post.numbers.slots
+  pub first : post.numbers.start ≤ post.known
+  pub next : KnowsNext (seat_view post)
+
 -- still a post of the same slot of the same numbers
 pub record IsSamePost (old new : PostState) : Type 0 where
   pub numbers : new.numbers ≡ old.numbers
@@ -73,6 +81,14 @@ pub record Found (old : PostState) (number : ℕ) (new : PostState) : Type 0 whe
   pub no_less : old.known ≤ number
   pub one_step : new.steps ≡ old.steps + 1
 
+-- loads alone, the last of which found this number, which is not below any that the post had seen or made
+pub record FoundAtLast (old : PostState) (number : ℕ) (new : PostState) : Type 0 where
+  pub found : new.found ≡ number
+  pub known : new.known ≡ number
+  pub none_made : new.made ≡ old.made
+  pub no_less : old.known ≤ number
+  pub some_steps : old.steps < new.steps
+
 -- one load found a number not below any that the post had seen or made; a second step made the next of it
 pub record Made (old : PostState) (number : ℕ) (new : PostState) : Type 0 where
   pub one_more : number ≡ new.found + 1
@@ -85,7 +101,3 @@ pub record Made (old : PostState) (number : ℕ) (new : PostState) : Type 0 wher
 pub record Took (old : PostState) (number : ℕ) (new : PostState) : Type 0 where
   pub same : IsSamePost old new
   pub found : Found old number new
-
--- once, while the rule held and this post's seat was as told, the number of its slot was as found
-abbrev pub FoundThere : PostState → ℕ → Type 0
-FoundThere p found = WasFound (seat_view p) p.slot found

@@ -1,8 +1,7 @@
 -- What each step makes of the view of its own seat.
-use Rattle.std.specs.Prelude.{◌≡◌, ℕ, ◌+◌, ◌≤◌, ◌<◌}
+use Rattle.std.specs.Prelude.{◌≡◌, ℕ, ◌+◌, ◌≤◌}
 use Rattle.atomic_table.specs.Table.{Me, Step}
 use Rattle.kf_notify.specs.declared.view.View.{View}
-use Rattle.kf_notify.specs.Rule.{Table, Shown, IsSeated, number_at}
 
 -- a seat at the table of numbers, with what it knows
 abbrev pub Seated : Type 0
@@ -21,20 +20,10 @@ raised number v = record v { known = number; made = number; steps = v.steps + 1 
 abbrev pub doubled : View → View
 doubled v = record v { made = 0; steps = 0 }
 
--- once, while the rule held and a seat had this view, the number of the slot was as found
-pub record WasFound (v : View) (slot found : ℕ) : Type 0 where
-  pub slots : ℕ
-  pub table : Table
-  pub shown : Shown slots v.start table
-  pub seat : ℕ
-  pub there : IsSeated table seat v
-  pub within : slot < slots
-  pub as_found : number_at table slot ≡ found
-
 -- what a load tells: it found no less than what the seat knows of that slot
 abbrev pub MakesLoad : Step (Unit {0}) → Seated → ℕ → Seated → Type 0
 MakesLoad st me found me' = (me' ≡ (loaded st.word found me.0, me.1)) × (me.0.start ≤ found)
-    × (me.0.slot ≡ st.word → me.0.known ≤ found) × WasFound me.0 st.word found
+    × (me.0.slot ≡ st.word → me.0.known ≤ found)
 
 -- what a raise tells: that it is on the seat's own slot, and what the seat knows after it
 abbrev pub MakesRaise : Step (Unit {0}) → Seated → ℕ → Seated → Type 0

@@ -1,13 +1,25 @@
-//! A post: it reads and raises the event number of one slot.
-ghost use Rattle.std.specs.Prelude.{◌≡◌, ◌-◌, ◌^◌, ◌<◌, IfOk, IfErr};
-ghost use Rattle.kf_notify.specs.PostStates.{post_of, IsSamePost, Found, Made, FoundThere};
+//! A post: it reads and raises the event number of one slot, and waits for it to change.
+ghost use Rattle.std.specs.Prelude.{◌≡◌, ◌≢◌, ◌-◌, ◌^◌, ◌<◌, ◌≤◌, IfOk, IfErr, MatchOption};
+ghost use Rattle.kf_notify.specs.PostStates.{post_of, IsSamePost, Found, FoundAtLast, Made, KnowsSlot};
 
+use crate::deadline::Deadline;
 use crate::seat::PostSeat;
 use std::marker::Model;
+use std::sync::Wait;
+use std::time::{Clock, Duration};
 
-/// The event number is at its last, 2^64 - 1.
+/// The event number is at its last, 2^64 - 1. Only a notify that found it so makes this value.
 #[derive(Clone, Copy, Debug, PartialEq, Eq)]
-pub struct Full;
+pub struct Full {
+    last: (),
+}
+
+impl Full {
+    /// For a notify that has just found the last number.
+    pub(crate) fn found() -> Full {
+        Full { last: () }
+    }
+}
 
 /// Reads and raises the event number of one slot (`kernfs_open_node.event`).
 #[derive(Drop)]
@@ -17,20 +29,18 @@ pub struct Post {
 }
 
 impl Model for Post {
-    ghost use Rattle.std.specs.Prelude.{◌≡◌, ◌<◌};
-    ghost use Rattle.kf_notify.specs.PostStates.{PostState, post_of};
+    ghost use Rattle.kf_notify.specs.PostStates.{PostState, post_of, KnowsSlot};
 
     ghost Value = { PostState };
 
     ghost view = { λ p. post_of p.seat };
 
-    ghost invariant = { λ p. ((post_of p.seat).slot ≡ p.slot) × (p.slot < (post_of p.seat).numbers.slots) };
+    ghost invariant = { λ p. KnowsSlot (post_of p.seat) p.slot };
 }
 
 impl Post {
     pub(crate) fn new(seat: PostSeat, slot: u32) -> Post
-        requires slot { (post_of seat).slot ≡ slot }
-        requires within { slot < (post_of seat).numbers.slots }
+        requires knows { KnowsSlot (post_of seat) slot }
         ensures made { result ≡ post_of seat }
     {
         Post { seat, slot }
@@ -40,25 +50,84 @@ impl Post {
     pub fn now(&mut self) -> u64
         ensures same { IsSamePost self.old self.new }
         ensures found { Found self.old result self.new }
-        ensures there { FoundThere self.old result }
+        ensures start { self.old.numbers.start ≤ result }
     {
         self.seat.load(self.slot)
     }
 
     /// Raises the slot's event number to one more than a load found, which is above all that this post had
-    /// seen or made, and answers it (`kernfs_notify`). `Full` where the number found is 2^64 - 1, and then
-    /// nothing changes.
+    /// seen or made, and answers it (`kernfs_notify`). Who waits for it to change is woken; where nobody
+    /// sleeps that makes no system call. `Full` where the number found is 2^64 - 1, and then nothing changes.
     pub fn notify(&mut self) -> Result<u64, Full>
         ensures same { IsSamePost self.old self.new }
         ensures made { IfOk result (λ number. Made self.old number self.new) }
         ensures full { IfErr result (λ _. Found self.old (2 ^ 64 - 1) self.new) }
-        ensures there { FoundThere self.old self.new.found }
+        ensures start { self.old.numbers.start ≤ self.new.found }
     {
         let found = self.now();
         if found == u64::MAX {
-            return Err(Full);
+            return Err(Full::found());
         }
         self.seat.raise(self.slot, found + 1);
+        self.seat.wake_all(self.slot);
         Ok(found + 1)
+    }
+
+    /// Waits until the slot's number is not `seen`, and answers it. It may never return.
+    ///
+    /// Context: sleeps; takes no lock.
+    pub fn wait_past<R: Wait>(&mut self, rt: &R, seen: u64) -> u64
+        ensures same { IsSamePost self.old self.new }
+        ensures other { result ≢ seen }
+        ensures found { FoundAtLast self.old result self.new }
+    {
+        for _ in rt.forever() {
+            let found = self.now();
+            if found != seen {
+                return found;
+            }
+            self.rest(rt, seen);
+        }
+        unreachable!()
+    }
+
+    /// As [`Post::wait_past`], for so long at most: None where the number that was found last is `seen`.
+    ///
+    /// Context: sleeps; takes no lock.
+    pub fn wait_past_for<R: Wait + Clock>(
+        &mut self,
+        rt: &R,
+        seen: u64,
+        limit: Duration,
+    ) -> Option<u64>
+        ensures same { IsSamePost self.old self.new }
+        ensures answered { MatchOption result (self.new.found ≡ seen)
+            (λ number. (number ≢ seen) × (number ≡ self.new.found)) }
+        ensures found { FoundAtLast self.old self.new.found self.new }
+    {
+        let deadline = Deadline::new(rt, limit);
+        for _ in rt.forever() {
+            let found = self.now();
+            if found != seen {
+                return Some(found);
+            }
+            let left = deadline.left(rt)?;
+            self.rest_for(rt, seen, left);
+        }
+        unreachable!()
+    }
+
+    /// Sleeps while the slot's number is `seen`, until a notify of the slot, and may return for no reason.
+    ///
+    /// Context: sleeps; takes no lock.
+    pub fn rest<R: Wait>(&self, rt: &R, seen: u64) {
+        self.seat.park(rt, self.slot, seen);
+    }
+
+    /// As [`Post::rest`], for so long at most.
+    ///
+    /// Context: sleeps; takes no lock.
+    pub fn rest_for<R: Wait>(&self, rt: &R, seen: u64, limit: Duration) {
+        self.seat.park_for(rt, self.slot, seen, limit);
     }
 }

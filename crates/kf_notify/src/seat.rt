@@ -1,27 +1,29 @@
 //! A seat at the table of numbers, and its steps, one by one.
-ghost use Rattle.std.specs.Prelude.{◌≡◌, ◌+◌, ◌<◌, ◌≤◌, [], IfOk, IfErr};
+ghost use Rattle.std.specs.Prelude.{◌≡◌, ◌+◌, ◌<◌, ◌≤◌, [], IfOk, IfErr, vec_len};
 ghost use Rattle.std.specs.Arc.{arc_value};
 ghost use Rattle.kf_core.specs.declared.refusal.Refusal.TheVariants.{NoMemory};
-ghost use Rattle.kf_notify.specs.Steps.{loaded, raised, doubled, WasFound};
+ghost use Rattle.kf_notify.specs.Steps.{loaded, raised, doubled};
 
 use crate::plays::{Doubles, Loads, Raises};
-use crate::table::NumberTable;
+use crate::table::SlotTable;
 use crate::view::View;
 use atomic_table::Seat;
 use kf_core::Refusal;
+use std::mem::replace;
 use std::sync::Arc;
 
 /// A seat at the table of numbers. The table has at least one word, and one for each slot.
 #[derive(Drop)]
 pub struct PostSeat {
-    pub(crate) table: Arc<NumberTable>,
+    pub(crate) table: Arc<SlotTable>,
     pub(crate) token: Seat<(), View>,
     pub(crate) slots: u32,
-    ghost of_table: { token.table_id ≡ (arc_value table).shared.table_id },
+    ghost of_table: { token.table_id ≡ (arc_value table).numbers.shared.table_id },
     ghost bare: { token.me ≡ (token.me.0, []) },
-    ghost same_slots: { (arc_value table).shared.key.slots ≡ slots },
+    ghost same_slots: { (arc_value table).numbers.shared.key.slots ≡ slots },
     ghost all_slots: { slots ≤ token.table_id.words },
     ghost some: { 0 < token.table_id.words },
+    ghost counted: { vec_len (arc_value table).sleepers ≡ slots },
 }
 
 impl PostSeat {
@@ -36,9 +38,9 @@ impl PostSeat {
         ensures view { self.new.token.me.0 ≡ loaded slot result self.old.token.me.0 }
         ensures start { self.old.token.me.0.start ≤ result }
         ensures known { self.old.token.me.0.slot ≡ slot → self.old.token.me.0.known ≤ result }
-        ensures found { WasFound self.old.token.me.0 slot result }
     {
         self.table
+            .numbers
             .shared
             .load::<Loads>(&mut self.token, slot as usize)
     }
@@ -55,8 +57,25 @@ impl PostSeat {
         ensures view { self.new.token.me.0 ≡ raised number self.old.token.me.0 }
     {
         self.table
+            .numbers
             .shared
             .fetch_max::<Raises>(&mut self.token, slot as usize, number);
+    }
+
+    /// Takes a new token, which knows what its own knows and has made no number, and answers its own. Whoever
+    /// puts that back has made no step on a slot's word with it.
+    pub(crate) fn step_aside(&mut self) -> Seat<(), View>
+        ensures same { self.new.slots ≡ self.old.slots }
+        ensures table { self.new.token.table_id ≡ self.old.token.table_id }
+        ensures view { self.new.token.me.0 ≡ doubled self.old.token.me.0 }
+        ensures own { (result.table_id ≡ self.old.token.table_id) × (result.me ≡ self.old.token.me) }
+    {
+        let token = self
+            .table
+            .numbers
+            .shared
+            .split_seat::<Doubles>(&mut self.token);
+        replace(&mut self.token, token)
     }
 
     /// A new seat, which knows what this one knows, and has made no number.
@@ -72,7 +91,11 @@ impl PostSeat {
         ensures refused { IfErr result (λ why. why ≡ NoMemory) }
     {
         let table = Arc::try_clone(&self.table)?;
-        let token = self.table.shared.split_seat::<Doubles>(&mut self.token);
+        let token = self
+            .table
+            .numbers
+            .shared
+            .split_seat::<Doubles>(&mut self.token);
         Ok(PostSeat {
             table,
             token,

@@ -1,7 +1,12 @@
-//! The table of numbers and its rule.
+//! The table of numbers and its rule, and the counts of those who sleep.
+ghost use Rattle.std.specs.Prelude.{◌≡◌, IfOk, IfErr, vec_len};
+ghost use Rattle.kf_core.specs.declared.refusal.Refusal.TheVariants.{NoMemory};
+
 use crate::view::View;
 use atomic_table::{Table, TableRule};
+use kf_core::Refusal;
 use std::alloc::Global;
+use std::sync::atomic::AtomicU64;
 
 /// How the table begins: so many slots, each with this number.
 #[derive(Clone, Copy)]
@@ -23,3 +28,25 @@ impl TableRule<(), View, Opening> for Rule {
 }
 
 pub(crate) type NumberTable = Table<(), View, Opening, Rule, Global>;
+
+/// The numbers of all slots, and beside them for each how many threads sleep on it. No clause speaks of these
+/// counts: who sleeps and who wakes read them, and nobody else.
+#[derive(Drop)]
+pub struct SlotTable {
+    pub(crate) numbers: NumberTable,
+    pub(crate) sleepers: Vec<AtomicU64>,
+}
+
+/// For so many slots a count of sleepers, each 0.
+///
+/// Refusal: `NoMemory`.
+pub(crate) fn nobody_asleep(alloc: Global, slots: u32) -> Result<Vec<AtomicU64>, Refusal>
+    ensures counts { IfOk result (λ sleepers. vec_len sleepers ≡ slots) }
+    ensures refused { IfErr result (λ why. why ≡ NoMemory) }
+{
+    let mut sleepers = Vec::with_capacity(alloc, slots as usize)?;
+    for _slot in 0..slots {
+        sleepers.push(AtomicU64::new(0))?;
+    }
+    Ok(sleepers)
+}
