@@ -44,7 +44,7 @@ impl<'a, N: Naming> Model for Editor<'a, N> {
     ghost view = { λ s. write_guard_value s.guard };
 }
 
-impl<N: Naming> Editor<'_, N> {
+impl<'a, N: Naming> Editor<'a, N> {
     /// The tree with its stored commands. What holds whenever the lock is got is told here: the tree is
     /// lawful and the replay of its commands, and the words name the same linked, activated and doomed keys.
     pub fn state(&self) -> &State
@@ -245,6 +245,13 @@ impl<N: Naming> Editor<'_, N> {
         ensures claims { self.new.claims ≡ self.old.claims }
     {
         self.guard.compact()
+    }
+
+    /// Lets the lock go, and gives the tree back, on which a removal that was begun is then finished.
+    pub fn let_go(self) -> &'a SharedTree<N> {
+        let tree = self.tree;
+        drop(self);
+        tree
     }
 
     /// As `doom`, with room for the receipts made before anything is marked: [`Removing::finish`] then waits,

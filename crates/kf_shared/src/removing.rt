@@ -1,6 +1,7 @@
 //! A removal that has marked its nodes, and has yet to wait for them; and its receipts given back.
 ghost use Rattle.std.specs.Prelude.{◌≡◌, ◌+◌, ◌≤◌, [], vec_capacity, vec_len};
 ghost use Rattle.kf_shared.specs.Receipts.{AreOf, owners_of};
+ghost use Rattle.kf_shared.specs.Removal.{keys_of};
 
 use crate::naming::Naming;
 use crate::tree::SharedTree;
@@ -47,6 +48,14 @@ impl<N: Naming> Removing<N> {
         }
     }
 
+    /// The holds of the nodes that it has marked, each after all that is below it: who tells others of the
+    /// removal reads their keys here.
+    pub fn holds(&self) -> &[Hold]
+        ensures known { result.now ≡ self.now }
+    {
+        self.holds.as_slice()
+    }
+
     /// Waits, with the lock let go, until each node is drained, and takes it out of the tree. The receipts
     /// stand in the order of the holds, each of its hold's own seat. It takes no memory, and may never
     /// return: it waits for every callback that runs on the nodes, its caller's own among them, and for the
@@ -56,6 +65,7 @@ impl<N: Naming> Removing<N> {
     pub fn finish<R: Wait>(self, rt: &R, tree: &SharedTree<N>) -> Vec<Parted>
         ensures tables { AreOf N.table result.items }
         ensures owners { owners_of result.items ≡ owners_of self }
+        ensures keys { keys_of result.items ≡ keys_of self }
     {
         let Removing {
             holds,
