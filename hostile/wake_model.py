@@ -1,12 +1,15 @@
 #!/usr/bin/env python3
-"""Tries the waking of those who sleep at an active word, in every order of its steps:  hostile/wake_model.py
+"""Tries the waking of those who sleep at an active word, and of those who sleep at an event number, in every order of
+their steps:  hostile/wake_model.py
 
 No clause speaks of wakes, so this searches all states of a few threads at one word. It is the algorithm of
 crates/kf_words/src/seat/sleep.rt, step by step: who sleeps counts itself, lets the kernel compare and queue it, and is
-counted no more when it is awake; who takes a user off changes the word, loads the count, and wakes all. A state is
-stuck where nobody need move any more, and one sleeps without limit for what is true already. There must be none. Each
-of the VARIANTS has one of the steps taken out or turned round: there must be stuck states then, or the search sees
-nothing. Its last line is 'N passed, M failed'."""
+counted no more when it is awake; who takes a user off changes the word, loads the count, and wakes all. At an event
+number (crates/kf_notify/src/sleep.rt, crates/kf_files/src/telling.rt) who waits for a change tries, loads the number
+and sleeps on it; a notify raises it, loads the count, and wakes all; a removal and a hiding mark first, and then do as
+a notify does. A state is stuck where nobody need move any more, and one sleeps without limit for what is true already.
+There must be none. Each of the VARIANTS has one of the steps taken out or turned round: there must be stuck states
+then, or the search sees nothing. Its last line is 'N passed, M failed'."""
 
 import sys
 from collections import namedtuple
@@ -20,9 +23,9 @@ Thread = namedtuple("Thread", "kind at seen again")
 AT_WILL = {("call", "runs"), ("call", "breaks"), ("call", "broken"), ("mark", "begin"), ("try", "begin"),
            ("try", "runs"), ("hider", "begin"), ("hider", "hidden")}
 
-VARIANTS = ["a leave wakes nobody", "a break wakes nobody", "an undo wakes nobody", "one is woken, not all",
-            "the count is loaded before the word is changed", "who sleeps counts itself when it is queued",
-            "the kernel compares nothing", "a wait before the mark has no limit"]
+WORD_VARIANTS = ["a leave wakes nobody", "a break wakes nobody", "an undo wakes nobody", "one is woken, not all",
+                       "the count is loaded before the word is changed", "who sleeps counts itself when it is queued",
+                 "the kernel compares nothing", "a wait before the mark has no limit"]
 
 
 def drained(word):
@@ -131,27 +134,11 @@ def is_stuck(word, threads):
     return any(it.at == "asleep" and what_it_waits_for(it.kind, word) for it in threads)
 
 
-def search(case, variant=None):
-    """How many states there are, and a stuck one, where it meets one: there it ends."""
-    word, names = case
-    start = (word, tuple(Thread(kind, at, 0, again) for kind, at, again in names))
-    seen, todo = {start}, [start]
-    while todo:
-        word, threads = todo.pop()
-        if is_stuck(word, threads):
-            return len(seen), (word, threads)
-        for state in next_states(word, threads, variant):
-            if state not in seen:
-                seen.add(state)
-                todo.append(state)
-    return len(seen), None
-
-
 MARK, CALL, BREAK = ("mark", "begin", 0), ("call", "runs", 0), ("call", "breaks", 0)
 WAIT, REST, HIDE = ("wait", "look", 0), ("rest", "look", 0), ("hider", "begin", 0)
 TRY, TRIES, HIDES = ("try", "begin", 1), ("try", "begin", 2), ("hider", "begin", 1)
 
-CASES = {
+WORD_CASES = {
     "a mark, a call, two waiters, two tries": (Word(1, False, False, 0), [MARK, CALL, WAIT, WAIT, TRIES]),
     "a call that breaks, two waiters, a try": (Word(1, True, False, 0), [BREAK, WAIT, WAIT, TRY]),
     "a mark, a call, two hidings, a waiter, a try": (Word(1, False, False, 0), [MARK, CALL, HIDES, WAIT, TRY]),
@@ -162,16 +149,147 @@ CASES = {
 }
 
 
+# ---- the event number of a slot
+
+# The number of a slot, whether its node is doomed and its key hidden, and the count of those who sleep at the number.
+Number = namedtuple("Number", "number doom hide sleepers")
+
+NUMBER_VARIANTS = ["a removal wakes and raises nothing", "a removal raises before its mark", "a removal wakes nobody",
+                   "a hiding wakes and raises nothing", "a hiding raises before its mark", "a notify wakes nobody",
+                   "one is woken, not all", "the count is loaded before the number is raised",
+                   "who waits counts itself when it is queued"]
+
+MARKS = {"removal": {"doom": True}, "hiding": {"hide": True}}
+
+
+def waiter_steps(thread, word, variant):
+    """Who waits for a change of its file: it tries, loads the number, and sleeps on it. Once there is one it reads the
+    file again, and may wait again."""
+    at, is_out = thread.at, word.doom or word.hide
+    late = variant == "who waits counts itself when it is queued"
+    if at in ("try", "read") and is_out:
+        return [(thread._replace(at="done"), word)]
+    if at == "read":
+        return [(thread._replace(at="try", seen=word.number), word)]
+    if at == "try":
+        return [(thread._replace(at="load"), word)]
+    if at == "load" and word.number != thread.seen:
+        return [(thread._replace(at="read" if thread.again else "done", again=max(thread.again - 1, 0)), word)]
+    if at == "load":
+        return [(thread._replace(at="compare"), word if late else word._replace(sleepers=word.sleepers + 1))]
+    if at == "compare" and word.number == thread.seen:
+        return [(thread._replace(at="queued" if late else "asleep"), word)]
+    if at == "compare":
+        return [(thread._replace(at="try" if late else "out"), word)]
+    if at == "queued":
+        return [(thread._replace(at="asleep"), word._replace(sleepers=word.sleepers + 1))]
+    if at == "out":
+        return [(thread._replace(at="try"), word._replace(sleepers=word.sleepers - 1))]
+    return []
+
+
+def order_of(kind, variant):
+    """The steps of a notify, and of a removal or a hiding that tells."""
+    steps = ["load", "raise", "count", "wake"]
+    if variant == "the count is loaded before the number is raised":
+        steps = ["load", "count", "raise", "wake"]
+    if variant == f"a {kind} wakes nobody":
+        steps = ["load", "raise"]
+    if kind == "notify":
+        return steps
+    if variant == f"a {kind} wakes and raises nothing":
+        return ["mark", "count", "wake"]
+    if variant == f"a {kind} raises before its mark":
+        return steps + ["mark"]
+    return ["mark"] + steps
+
+
+def teller_steps(i, word, threads, variant):
+    """The next step of a notify, a removal or a hiding. What it loaded is in `seen`; `again` is 1 where it found nobody
+    asleep."""
+    thread = threads[i]
+    order = order_of(thread.kind, variant)
+    if thread.at == "done":
+        return
+    step, moved = order[thread.at], thread._replace(at=thread.at + 1 if thread.at + 1 < len(order) else "done")
+    if step == "mark":
+        word = word._replace(**MARKS[thread.kind])
+    elif step == "load":
+        moved = moved._replace(seen=word.number)
+    elif step == "raise":
+        word = word._replace(number=max(word.number, thread.seen + 1))
+    elif step == "count":
+        moved = moved._replace(again=0 if word.sleepers else 1)
+    after = threads[:i] + (moved,) + threads[i + 1:]
+    wakes = step == "wake" and not thread.again
+    yield from ((word, it) for it in (woken(after, variant) if wakes else [after]))
+
+
+def next_of_number(word, threads, variant):
+    for i, thread in enumerate(threads):
+        if thread.kind != "waiter":
+            yield from teller_steps(i, word, threads, variant)
+            continue
+        for moved, left in waiter_steps(thread, word, variant):
+            yield left, threads[:i] + (moved,) + threads[i + 1:]
+
+
+def is_asleep_for_ever(word, threads):
+    """A notify, a removal or a hiding need not begin; one that has begun goes on."""
+    for it in threads:
+        if it.at not in ("asleep", "done", 0):
+            return False
+    return any(it.at == "asleep" and (word.doom or word.hide or word.number != it.seen) for it in threads)
+
+
+WAITER, WAITS = Thread("waiter", "try", 1, 0), Thread("waiter", "try", 1, 1)
+NOTIFY, REMOVAL, HIDING = (Thread(kind, 0, 0, 0) for kind in ("notify", "removal", "hiding"))
+
+NUMBER_CASES = {
+    "two who wait again, a notify, a removal": [WAITS, WAITS, NOTIFY, REMOVAL],
+    "one who waits again, one who waits, two notifies, a removal": [WAITS, WAITER, NOTIFY, NOTIFY, REMOVAL],
+    "three who wait, a notify, a removal": [WAITER, WAITER, WAITER, NOTIFY, REMOVAL],
+    "two who wait again, a notify, a hiding": [WAITS, WAITS, NOTIFY, HIDING],
+    "one who waits again, a notify, a removal, a hiding": [WAITS, NOTIFY, REMOVAL, HIDING],
+}
+
+# ---- the search
+
+def search(start, variant, next_of, stuck_in):
+    """How many states there are, and a stuck one, where it meets one: there it ends."""
+    seen, todo = {start}, [start]
+    while todo:
+        word, threads = todo.pop()
+        if stuck_in(word, threads):
+            return len(seen), (word, threads)
+        for state in next_of(word, threads, variant):
+            if state not in seen:
+                seen.add(state)
+                todo.append(state)
+    return len(seen), None
+
+
+def begun(case):
+    word, names = case
+    return word, tuple(Thread(kind, at, 0, again) for kind, at, again in names)
+
+
+WORDS = ({name: begun(case) for name, case in WORD_CASES.items()}, WORD_VARIANTS, next_states, is_stuck)
+NUMBERS = ({name: (Number(1, False, False, 0), tuple(case)) for name, case in NUMBER_CASES.items()}, NUMBER_VARIANTS,
+           next_of_number, is_asleep_for_ever)
+
+
 def main():
     passed = failed = 0
-    for name, case in CASES.items():
-        states, stuck = search(case)
-        print(f"{name}: {states} states, {'STUCK: ' + str(stuck) if stuck else 'nobody is stuck'}")
-        passed, failed = passed + (not stuck), failed + bool(stuck)
-    for variant in VARIANTS:
-        where = next((name for name, case in CASES.items() if search(case, variant)[1]), None)
-        print(f"where {variant}: {'somebody is stuck, in ' + where if where else 'NOT SEEN'}")
-        passed, failed = passed + bool(where), failed + (not where)
+    for cases, variants, next_of, stuck_in in (WORDS, NUMBERS):
+        for name, start in cases.items():
+            states, stuck = search(start, None, next_of, stuck_in)
+            print(f"{name}: {states} states, {'STUCK: ' + str(stuck) if stuck else 'nobody is stuck'}")
+            passed, failed = passed + (not stuck), failed + bool(stuck)
+        for variant in variants:
+            where = next((name for name, start in cases.items() if search(start, variant, next_of, stuck_in)[1]), None)
+            print(f"where {variant}: {'somebody is stuck, in ' + where if where else 'NOT SEEN'}")
+            passed, failed = passed + bool(where), failed + (not where)
     print(f"{passed} passed, {failed} failed")
     sys.exit(1 if failed else 0)
 

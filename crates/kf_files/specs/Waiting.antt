@@ -1,9 +1,11 @@
 -- Visits to a node of a shared tree by one hold. Of callbacks only their answers are told.
-use Rattle.std.specs.Prelude.{◌≡◌, ℕ, List, [], ◌∷◌, take, Result, Ok}
+use Rattle.std.specs.Prelude.{◌≡◌, ◌≢◌, ◌⊎◌, ℕ, true, List, [], ◌∷◌, take, Result, Ok}
 use Rattle.kf_core.specs.Calls.{CallView, Visit, Visits}
 use Rattle.kf_words.specs.Callers.{Handle, SeatId, id_of, seat_view, IsSameSeat, Entered, WasTurned, WasLeft}
+use Rattle.kf_words.specs.Layout.{keeps_out}
 use Rattle.kf_words.specs.Runs.{WasLetInLive, WasATryUndone, WasALeave}
 use Rattle.kf_files.specs.declared.ops.Fault.{Fault}
+use Rattle.kf_files.specs.Opened.{Opened}
 
 module _ {G : Type 0} where
   -- one try, which found the key live, gave the call of this hold's seat
@@ -34,3 +36,7 @@ WaitVisits idle does hold hold' =
 abbrev pub MayStore : (ℕ → List ℕ → Result ℕ Fault → Type 0) → ℕ → List ℕ → Result ℕ Fault → Type 0
 MayStore stores tag [] answer = answer ≡ Ok 0
 MayStore stores tag (byte ∷ bytes) answer = stores tag (take 4096 (byte ∷ bytes)) answer
+
+-- its last load found another event number than this, or its last try a word that keeps it out
+abbrev pub HasChanged : ℕ → Opened Handle → Type 0
+HasChanged number file = (file.post.found ≢ number) ⊎ (keeps_out file.hold.found ≡ true)

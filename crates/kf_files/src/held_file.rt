@@ -292,6 +292,13 @@ impl<G: Guard, P: PageHolder> HeldFile<G, P> {
         }
     }
 
+    /// The event number that was taken for its last show; 0 before the first.
+    pub(crate) fn number(&self) -> u64
+        ensures known { result ≡ self.now.state.number }
+    {
+        self.contents.number()
+    }
+
     /// Gives the hold and the page back (`kernfs_fop_release`).
     pub fn close(self) -> (G::Hold, P)
         ensures hold { result.0 ≡ self.hold }

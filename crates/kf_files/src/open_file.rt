@@ -13,6 +13,8 @@ use crate::page_holder::PageHolder;
 use kf_core::{Guard, Node, Refusal};
 use kf_notify::Post;
 use std::marker::Model;
+use std::sync::Wait;
+use std::time::Duration;
 
 /// A file opened by a hold on its node (`struct kernfs_open_file`). It keeps the hold and a post of its slot
 /// until it is closed, and its page: of its own, or one that it was given.
@@ -178,6 +180,21 @@ impl<G: Guard, P: PageHolder> OpenFile<G, P> {
         ensures may_enter { G.may_enter guard.new self.new.hold }
     {
         self.file.poll(guard, &mut self.post)
+    }
+
+    /// Sleeps while the slot's event number is that of the last show, until a notify of the slot, and may
+    /// return for no reason. It makes no try: nobody waits for who sleeps here.
+    ///
+    /// Context: sleeps; takes no lock.
+    pub fn rest<R: Wait>(&self, rt: &R) {
+        self.post.rest(rt, self.file.number());
+    }
+
+    /// As [`OpenFile::rest`], for so long at most.
+    ///
+    /// Context: sleeps; takes no lock.
+    pub fn rest_for<R: Wait>(&self, rt: &R, limit: Duration) {
+        self.post.rest_for(rt, self.file.number(), limit);
     }
 
     /// Gives the hold, the post and the page back (`kernfs_fop_release`).

@@ -1,10 +1,11 @@
 //! A file of a shared tree, whose callbacks may wait.
 
-ghost use Rattle.std.specs.Prelude.{◌≡◌, ◌≤◌, length, IfOk, IfErr, MatchResult};
-ghost use Rattle.kf_notify.specs.PostStates.{Took};
+ghost use Rattle.std.specs.Prelude.{◌≡◌, ◌≤◌, length, IfOk, IfErr, IsTrue, IsFalse, MatchResult};
+ghost use Rattle.kf_notify.specs.PostStates.{Took, IsSamePost};
+ghost use Rattle.kf_words.specs.Callers.{IsSameSeat};
 ghost use Rattle.kf_files.specs.Files.{Opens, Reads, Writes, Polls, Gives, new_file, tag_of};
 ghost use Rattle.kf_files.specs.Opened.{hold_after, paged_after, paged_refusal, refusal_of};
-ghost use Rattle.kf_files.specs.Waiting.{WaitVisits, MayStore};
+ghost use Rattle.kf_files.specs.Waiting.{WaitVisits, MayStore, HasChanged};
 
 use crate::contents::Want;
 use crate::open_file::OpenFile;
@@ -13,11 +14,12 @@ use crate::page_holder::{PageApart, PageHolder};
 use crate::tree_seats::{TreeCall, TreeHold, TreeSeats};
 use crate::wait_ops::WaitOps;
 use kf_core::{Node, Refusal};
-use kf_notify::Post;
+use kf_notify::{Deadline, Post};
 use kf_shared::{Naming, SharedTree};
 use kf_words::Hold;
 use std::marker::Model;
 use std::sync::Wait;
+use std::time::{Clock, Duration};
 
 /// Waiting callbacks, with the tree and the runtime that they are lent.
 #[derive(Drop)]
@@ -214,6 +216,51 @@ impl<N: Naming, P: PageHolder> WaitingFile<N, P> {
         ensures same { self.new ≡ record self.old { hold = self.new.hold; post = self.new.post } }
     {
         self.file.poll(&mut TreeSeats::new())
+    }
+
+    /// Waits until the file has changed since its last show, or its node is not live: until a `poll` says so.
+    /// It has no reference to the node while it sleeps, so no removal waits for it. A notify wakes it, and so
+    /// does a removal or a hiding that tells ([`crate::remove_and_tell`], [`crate::tell_removed`],
+    /// [`crate::tell_hidden`]). It may never return.
+    ///
+    /// Context: sleeps; takes no lock.
+    pub fn wait_changed<R: Wait>(&mut self, rt: &R)
+        ensures changed { HasChanged self.old.state.number self.new }
+        ensures post { IsSamePost self.old.post self.new.post }
+        ensures hold { IsSameSeat self.old.hold self.new.hold }
+        ensures same { self.new ≡ record self.old { hold = self.new.hold; post = self.new.post } }
+    {
+        for _ in rt.forever() {
+            if self.poll() {
+                return;
+            }
+            self.file.rest(rt);
+        }
+        unreachable!()
+    }
+
+    /// As [`WaitingFile::wait_changed`], for so long at most. False where its last poll told no change: the
+    /// limit is over, or the clock could not be read.
+    ///
+    /// Context: sleeps; takes no lock.
+    pub fn wait_changed_for<R: Wait + Clock>(&mut self, rt: &R, limit: Duration) -> bool
+        ensures changed { IsTrue result → HasChanged self.old.state.number self.new }
+        ensures not_yet { IsFalse result → self.new.post.found ≡ self.old.state.number }
+        ensures post { IsSamePost self.old.post self.new.post }
+        ensures hold { IsSameSeat self.old.hold self.new.hold }
+        ensures same { self.new ≡ record self.old { hold = self.new.hold; post = self.new.post } }
+    {
+        let deadline = Deadline::new(rt, limit);
+        for _ in rt.forever() {
+            if self.poll() {
+                return true;
+            }
+            match deadline.left(rt) {
+                Some(left) => self.file.rest_for(rt, left),
+                None => return false,
+            }
+        }
+        unreachable!()
     }
 
     /// Gives the hold, the post and the page back (`kernfs_fop_release`).

@@ -1,0 +1,105 @@
+//! Removals and hidings that wake who waits for a file to change.
+//!
+//! Who waits has tried, found no change, and sleeps on its slot's event number. A removal marks its nodes,
+//! and then raises the number of each, which wakes the sleepers. A bare wake would not do: who had tried
+//! and was not yet asleep would sleep over it. Nor would a raise before the mark: who it wakes may try
+//! before the mark, and sleep again. The same holds of a hiding.
+ghost use Rattle.std.specs.Prelude.{◌≡◌, true, None, IfErr, IfOk, OnOk};
+ghost use Rattle.kf_core.specs.declared.caller.Phase.TheVariants as phase_of;
+ghost use Rattle.kf_words.specs.Callers.{IsSameSeat, seat_view};
+ghost use Rattle.kf_words.specs.Layout.{is_unused};
+ghost use Rattle.kf_shared.specs.Hiding.{HidAndLooked, HideRefused, hold_cause};
+ghost use Rattle.kf_shared.specs.Receipts.{AreOf, IsRemovalOf, KeyRefused};
+ghost use Rattle.kf_shared.specs.Removal.{keys_of};
+
+use kf_core::{Key, Refusal};
+use kf_notify::Posts;
+use kf_shared::{Editor, Naming, Removing};
+use kf_words::{Hidden, Hiding, Hold, Parted, wait_hidden};
+use std::sync::Wait;
+
+/// Raises the event number of a slot, if the posts have one for it.
+fn tell(posts: &mut Posts, slot: u32)
+    ensures posts { posts.new ≡ posts.old }
+{
+    if slot < posts.slots() {
+        let _ = posts.notify(slot);
+    }
+}
+
+/// Raises the event number of each slot whose node the removal has marked, and so wakes who waits for a file
+/// there to change: each finds its node gone. Call it between the begin of a removal and its end, whoever's
+/// call began it (`begin_removal`, `begin_removal_of`, `begin_self_removal`). It takes no memory.
+pub fn tell_removed<N: Naming>(posts: &mut Posts, removing: &Removing<N>)
+    ensures posts { posts.new ≡ posts.old }
+{
+    for hold in removing.holds() {
+        tell(posts, hold.key().slot);
+    }
+}
+
+/// Raises the event number of the file that is being hidden, and so wakes who waits for it to change: each
+/// finds that it is not live. It takes no memory.
+pub fn tell_hidden(posts: &mut Posts, hiding: &Hiding)
+    ensures posts { posts.new ≡ posts.old }
+{
+    tell(posts, hiding.key().slot);
+}
+
+/// Removes the node of a key with all below it, as [`Editor::remove_key`] does, and wakes who waits for a
+/// change of a file there: once all are marked, and before it waits for their callers. The receipts are in
+/// post-order, the node's own last.
+///
+/// Refusals: those of [`Editor::begin_removal_of`]. After a refusal nothing is marked, and the lock is let
+/// go.
+///
+/// Context: sleeps, once it has let the lock go, and takes it for each unlink.
+pub fn remove_and_tell<N: Naming, R: Wait>(
+    editor: Editor<'_, N>,
+    rt: &R,
+    posts: &mut Posts,
+    key: Key,
+) -> Result<Vec<Parted>, Refusal>
+    ensures tables { IfOk result (λ receipts. AreOf N.table receipts.items) }
+    ensures listed { IfOk result (λ receipts. IsRemovalOf editor.entry.state key (keys_of receipts.items)) }
+    ensures refused { IfErr result (λ refusal. KeyRefused editor.entry.state key refusal) }
+    ensures posts { posts.new ≡ posts.old }
+{
+    let mut editor = editor;
+    let begun = editor.begin_removal_of(key);
+    let tree = editor.let_go();
+    let removing = begun?;
+    tell_removed(posts, &removing);
+    Ok(removing.finish(rt, tree))
+}
+
+/// Hides a file, as [`Editor::hide_and_wait`] does, and wakes who waits for it to change: once it is hidden,
+/// and before it waits for its callers.
+///
+/// Condition: the hold is of this table.
+///
+/// Refusals: those of [`Editor::hide`]. After a refusal the tree is as before, and the lock is let go.
+///
+/// Context: sleeps, once it has let the lock go.
+pub fn hide_and_tell<N: Naming, R: Wait>(
+    editor: Editor<'_, N>,
+    rt: &R,
+    posts: &mut Posts,
+    hold: Hold,
+) -> Result<Hidden, (Hold, Refusal)>
+    requires table { hold.table ≡ N.table }
+    ensures same { IfOk result (λ hidden. IsSameSeat hold hidden) }
+    ensures hidden { IfOk result (λ hidden. hidden.phase ≡ phase_of.Hidden) }
+    ensures unused { IfOk result (λ hidden. is_unused hidden.found ≡ true) }
+    ensures looked { IfOk result (λ hidden. HidAndLooked (seat_view hold) (seat_view hidden)) }
+    ensures no_cause { OnOk result (hold_cause editor.entry.state.tree hold ≡ None) }
+    ensures refused { IfErr result (λ r. HideRefused editor.entry.state.tree hold r.0 r.1) }
+    ensures posts { posts.new ≡ posts.old }
+{
+    let mut editor = editor;
+    let started = editor.hide(hold);
+    drop(editor);
+    let hiding = started?;
+    tell_hidden(posts, &hiding);
+    Ok(wait_hidden(rt, hiding))
+}
