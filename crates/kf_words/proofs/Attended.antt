@@ -2,7 +2,6 @@
 -- of a linked or held node gets its seat.
 use Rattle.std.proofs.Common.{◌≡◌, ◌⊎◌, inl, inr, ℕ, true, List, length, set, sym, ap, ◌∙◌, subst, ⊎_elim}
 use Rattle.std.specs.Prelude.{is_some}
-use Rattle.atomic_table.specs.Table.{step}
 use Rattle.kf_core.specs.declared.event.Event.{Event}
 use Rattle.kf_core.specs.declared.event.Event.TheVariants.{Pin, Unlink}
 use Rattle.kf_core.specs.Bare.{BareWorld}
@@ -11,11 +10,10 @@ use Rattle.kf_words.specs.declared.view.CallerView.{CallerView}
 use Rattle.kf_words.specs.declared.view.MasterView.{MasterView}
 use Rattle.kf_words.specs.declared.view.View.{View}
 use Rattle.kf_words.specs.declared.view.View.TheVariants as seat
-use Rattle.kf_words.specs.Layout.{linked}
-use Rattle.kf_words.specs.Rule.{Shown, seats, bare, caller, last_key}
+use Rattle.kf_words.specs.Rule.{Shown, seats, bare, last_key}
 use Rattle.kf_words.specs.Steps.{state_at, without_node}
 use Rattle.kf_words.specs.Nodes.{marks_of}
-use Rattle.kf_words.specs.TableSteps.{Table, Kind, splits, unlinks, same, master_in, world, HoldsSlot, IsDrainedOn, IsPinnable, IsAttended, WordStep}
+use Rattle.kf_words.specs.TableSteps.{Table, Kind, splits, unlinks, master_in, world, HoldsSlot, IsDrainedOn, IsPinnable, IsAttended, WordStep}
 use Rattle.kf_words.proofs.MasterAllowed.{state_there}
 use Rattle.kf_words.proofs.Events.{unlink_is_unlink}
 use Rattle.kf_words.proofs.WordSteps.{IsEvent, Alone, TakenOut, Came, at, met, world_is, split_pins, linked_pins, held_pins, word_step}

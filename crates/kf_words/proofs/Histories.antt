@@ -7,13 +7,15 @@ use Rattle.atomic_table.specs.Table.{opening}
 use Rattle.kf_words.specs.declared.sight.Opening.{Opening}
 use Rattle.kf_words.specs.declared.sight.Sight.{Sight}
 use Rattle.kf_words.specs.Layout.{opening_words}
-use Rattle.kf_words.specs.TableSteps.{Kind, WordRun}
-use Rattle.kf_words.specs.History.{erased, opened_as, IsBeginning, Kept, first_sight, EndsARun, SeenLeadsHere, OneRunIsSeen}
+use Rattle.kf_words.specs.TableSteps.{Table, Kind, world, WordRun}
+use Rattle.kf_core.specs.Bare.{IsCaller}
+use Rattle.kf_words.specs.History.{erased, opened_as, IsBeginning, Kept, first_sight, EndsARun, SeenLeadsHere, DrainedEverAfter, OneRunIsSeen}
 use Rattle.kf_words.specs.Life.{life_opening, lived, word_life, saw_life, LifeIsKept}
 use Rattle.kf_words.specs.Rule.{Shown}
 use Rattle.kf_words.proofs.Seating.{map_at}
 use Rattle.kf_words.proofs.Life.{lives}
-use Rattle.kf_words.proofs.Runs.{rule_kept, run_is_run}
+use Rattle.kf_words.proofs.Runs.{rule_kept, run_is_run, drained_for_good}
+use Rattle.kf_words.proofs.OneEnds.{one_end}
 use Rattle.kf_words.proofs.Keeps.{prefix_self, run_parts}
 use Rattle.kf_words.proofs.Opening.{opening_shown}
 
@@ -64,6 +66,13 @@ one_run_is_seen o t kept i j a b at there =
     let x = (kept.seen i a at).1 in
     let y = (kept.seen j b there).1 in
     beginnings a.seen.steps b.seen.steps x.0 y.0 (x.1 ∙ sym y.1)
+
+pub drained_ever_after : DrainedEverAfter
+drained_ever_after o t kept first mid p r c key phase there past =
+    let x = run_parts first p.0 (opened_as o) (erased t) (subst (λ (l : List Kind). WordRun (opened_as o) l (erased t)) (sym p.1) kept.run) in
+    let one : mid ≡ x.0 = one_end (opened_as o) mid x.0 first r x.1 in
+    drained_for_good o.slots o.holds x.0 (erased t) p.0 (rule_kept o.slots o.holds (opened_as o) x.0 first kept.begins x.1) x.2 c key phase
+    (subst (λ (y : Table). IsCaller (world y) c key phase) one there) past
 
 -- the rule is met at the end of a life, where each seat has seen the whole of it
 pub life_is_kept : LifeIsKept

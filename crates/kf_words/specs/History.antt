@@ -1,16 +1,21 @@
 -- The one run: what the rule keeps of it between any two steps.
-use Rattle.std.specs.Prelude.{◌≡◌, ◌⊎◌, ℕ, List, [], ◌++◌, map}
+use Rattle.std.specs.Prelude.{◌≡◌, ◌⊎◌, ℕ, List, [], ◌++◌, map, IsTrue}
 use mathlib.Core.Option.{some}
 use mathlib.Core.List.{IsPrefix}
 use lib.ListN.{get_elem?}
 use Rattle.atomic_table.specs.Table.{State}
+use Rattle.kf_core.specs.declared.key.Key.{Key}
+use Rattle.kf_core.specs.declared.caller.Phase.{Phase}
+use Rattle.kf_core.specs.Bare.{IsCaller}
+use Rattle.kf_core.specs.Phases.{saw_drain}
+use Rattle.kf_core.specs.Safe.{NoneRunning}
 use Rattle.kf_words.specs.declared.sight.Opening.{Opening}
 use Rattle.kf_words.specs.declared.sight.Seen.{Seen}
 use Rattle.kf_words.specs.declared.sight.Sight.{Sight}
 use Rattle.kf_words.specs.declared.view.View.TheVariants as seat
 use Rattle.kf_words.specs.Rule.{Shown}
 use Rattle.kf_words.specs.Steps.{opened, master_of, after_split, hold_for}
-use Rattle.kf_words.specs.TableSteps.{Table, Kind, WordRun, opened_table}
+use Rattle.kf_words.specs.TableSteps.{Table, Kind, world, WordRun, opened_table}
 
 -- the words, and what each seat knows
 abbrev pub SeenTable : Type 0
@@ -71,6 +76,14 @@ SeenLeadsHere = OfEachKept
     (λ o t log. (place : ℕ) (s : Sight) → get_elem? t.views place ≡ some s → (s.seen.opening ≡ o)
     × (later : List Kind) × (mid : Table) × (s.seen.steps ++ later ≡ log) × Shown o.slots o.holds mid
     × WordRun (opened_as o) s.seen.steps mid × WordRun mid later (erased t))
+
+-- where a caller was drained or parted on a key at any moment of the one run so far, nobody is running on
+-- that key in the table as it is
+abbrev pub DrainedEverAfter : Type 0
+DrainedEverAfter = OfEachKept
+    (λ o t log. (first : List Kind) (mid : Table) → IsPrefix first log → WordRun (opened_as o) first mid
+    → (c : ℕ) (key : Key) (phase : Phase) → IsCaller (world mid) c key phase → IsTrue (saw_drain phase)
+    → NoneRunning (world (erased t)) key)
 
 -- of two seats, one has seen as much of the one run as the other, or more
 abbrev pub OneRunIsSeen : Type 0

@@ -1,7 +1,7 @@
 //! What the words tell at every moment, and which event each step is.
 ghost use Rattle.kf_words.specs.Laws.{AlwaysSafe, LetsInTheLive, DrainedIsUnused, FreeIsUnheld, TellsTheLinked, TellsTheHidden, HiddenIsRefused, ShownLetsIn};
 ghost use Rattle.kf_words.specs.Events.{TryIsEnter, UndoIsUndo, LookIsLook, PartIsPart, LeaveIsLeave, BreakIsBreak, RestoreIsRestore, ReleaseIsRelease, HideIsHide, LookHiddenIsLook, ShowIsShow, MissIsNothing, RiseIsRise, MarkIsMark, BirthIsBorn, UnlinkIsUnlink, SplitIsPin, HeldSplitIsPin, RestIsNothing};
-ghost use Rattle.kf_words.specs.History.{EndsARun, SeenLeadsHere, OneRunIsSeen, OneEnd};
+ghost use Rattle.kf_words.specs.History.{EndsARun, SeenLeadsHere, DrainedEverAfter, OneRunIsSeen, OneEnd};
 ghost use Rattle.kf_words.specs.Life.{WordLife, LifeIsKept};
 ghost use Rattle.kf_words.specs.Runs.{OpensWell, RuleKept, RunIsRun, RunIsSafe, MarkedKeepsOut, DrainedForGood, HiddenKeepsOut, PassedForGood, BornUnheld, LetInLive, TakenLive};
 
@@ -92,11 +92,13 @@ pub fn words_run()
 ///
 /// The table is always at the end of a run of `words_run` from its opening. What a seat has seen is a
 /// beginning of that run: it leads to a table that met the rule, and from there the run went on to the table
-/// as it is. Of two seats, one has seen as much as the other or more. Steps of one list lead to one table, so
-/// what a seat has seen names that table.
+/// as it is. Where a caller was drained or parted on a key at any moment of the run so far, nobody is running
+/// on that key now. Of two seats, one has seen as much as the other or more. Steps of one list lead to one
+/// table, so what a seat has seen names that table.
 pub fn words_kept()
     ensures ends_a_run { EndsARun }
     ensures seen_leads_here { SeenLeadsHere }
+    ensures drained_ever_after { DrainedEverAfter }
     ensures one_run_is_seen { OneRunIsSeen }
     ensures one_end { OneEnd }
 {}

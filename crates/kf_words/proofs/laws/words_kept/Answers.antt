@@ -1,5 +1,5 @@
 -- The clauses on the one run, each by the lemma of its name.
-use Rattle.kf_words.proofs.Histories.{ends_a_run, seen_leads_here, one_run_is_seen}
+use Rattle.kf_words.proofs.Histories.{ends_a_run, seen_leads_here, drained_ever_after, one_run_is_seen}
 use Rattle.kf_words.proofs.OneEnds.{one_end}
 use Rattle.kf_words.proofs.laws.words_kept.Goals as goal
 
@@ -14,3 +14,6 @@ returns-clause-one_run_is_seen c = one_run_is_seen
 
 pub returns-clause-one_end : goal.returns-clause-one_end
 returns-clause-one_end c = one_end
+
+pub returns-clause-drained_ever_after : goal.returns-clause-drained_ever_after
+returns-clause-drained_ever_after c = drained_ever_after
