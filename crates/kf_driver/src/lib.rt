@@ -14,5 +14,5 @@ pub use fault::fault_of;
 pub use line_tags::LineTags;
 pub use lines::Lines;
 pub use notifier::Notifier;
-pub use ready::{Number, ReadOnly, Signed, Switch, Text};
+pub use ready::{Number, ReadOnly, Signed, Switch, Text, emit_line};
 pub use table::{Callbacks, End, Row, Table};

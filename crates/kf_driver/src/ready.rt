@@ -10,8 +10,10 @@ use kf_files::{Fault, Page};
 use kf_text::{Part, emit, read_flag, read_signed, read_unsigned};
 use std::sync::atomic::{AtomicBool, AtomicI64, AtomicU64, Ordering};
 
-// Puts one line on the page.
-fn emit_line(page: &mut Page, part: Part<'_>)
+/// Puts a part and a newline on an empty page, as most shows do.
+///
+/// Condition: the page is empty.
+pub fn emit_line(page: &mut Page, part: Part<'_>)
     requires empty { page.old.items ≡ [] }
     ensures line { page.new.items ≡ shown_line part.entry }
 {
