@@ -7,40 +7,17 @@ ghost use Rattle.std.specs.Prelude.{◌≡◌};
 use anyhow::Context;
 use arrayvec::ArrayVec;
 use kf_core::{Limits, Node, Refusal};
-use kf_driver::{Callbacks, Driver, End, Row, Table, fault_of};
+use kf_driver::{Callbacks, Driver, End, ReadOnly, Row, Signed, Table, emit_line, fault_of};
 use kf_files::{Fault, FileError, Page, WaitingFile, Want};
 use kf_groups::{Attribute, Group, create_group};
 use kf_notify::Posts;
 use kf_paths::{notify, open_path};
 use kf_shared::{Naming, NewTree, SharedTree, release_all};
-use kf_text::{NotRead, Part, emit, line_of, read_signed};
+use kf_text::{NotRead, Part, line_of, read_signed};
 use std::alloc::Global;
 use std::marker::Brand;
-use std::sync::atomic::{AtomicI64, Ordering};
 use std::sync::{Mutex, Wait};
 use std::thread::{Threads, join};
-
-/// Puts one line on the page.
-fn emit_line(page: &mut Page, part: Part<'_>) -> Result<(), Fault> {
-    emit(page, &[part, Part::Newline]);
-    Ok(())
-}
-
-/// A temperature, in thousandths of a degree.
-#[derive(Drop)]
-struct Temperature(AtomicI64);
-
-impl Callbacks for Temperature {
-    fn show(&self, page: &mut Page) -> Result<(), Fault> {
-        emit_line(page, Part::Signed(self.0.load(Ordering::SeqCst)))
-    }
-
-    fn store(&self, bytes: &[u8]) -> Result<(), Fault> {
-        let degrees = read_signed(bytes, -50_000, 150_000).map_err(|why| fault_of(why))?;
-        self.0.store(degrees, Ordering::SeqCst);
-        Ok(())
-    }
-}
 
 /// A text of at most 16 bytes, which a lock keeps whole.
 #[derive(Drop)]
@@ -52,7 +29,8 @@ struct Label<'a, R> {
 impl<R: Wait> Callbacks for Label<'_, R> {
     fn show(&self, page: &mut Page) -> Result<(), Fault> {
         let text = self.text.lock(self.rt);
-        emit_line(page, Part::Text(text.as_slice()))
+        emit_line(page, Part::Text(text.as_slice()));
+        Ok(())
     }
 
     fn store(&self, bytes: &[u8]) -> Result<(), Fault> {
@@ -106,13 +84,13 @@ fn run<N: Naming + Send + Sync, R: Threads + Wait + Print + Sync>(
     requires { new.master.table ≡ N.table }
 {
     let tree = new.named::<N>();
-    let input = Attribute::new(b"temp1_input", 0o444, 1);
-    let max = Attribute::new(b"temp1_max", 0o644, 2);
-    let label = Attribute::new(b"label", 0o644, 3);
+    let input = Attribute::read_only(b"temp1_input", 1);
+    let max = Attribute::read_write(b"temp1_max", 2);
+    let label = Attribute::read_write(b"label", 3);
     let text = Mutex::new(ArrayVec::new());
     let rows = Row::new(label, Label { rt, text }, End);
-    let rows = Row::new(max, Temperature(AtomicI64::new(90_000)), rows);
-    let table = Row::new(input, Temperature(AtomicI64::new(41_000)), rows);
+    let rows = Row::new(max, Signed::new(90_000, -50_000, 150_000), rows);
+    let table = Row::new(input, ReadOnly(Signed::new(41_000, -50_000, 150_000)), rows);
     let driver = Driver { table };
     let mut posts = Posts::new(alloc, 8)?;
     let mut editor = tree.edit(rt);
