@@ -4,3 +4,5 @@ pub mod TextAnswers
 pub mod Serving
 pub mod Replied
 pub mod RanWhole
+pub mod TagRanges
+pub mod OwnTags

@@ -4,6 +4,7 @@ ghost use Rattle.std.specs.Prelude.{◌≡◌, vec_len, IfOk};
 
 use crate::common::Common;
 use crate::script_ops::ScriptOps;
+use crate::tags::Tags;
 use crate::token::Token;
 use kf_core::{Limits, Refusal};
 use kf_files::{BoxedFile, PageApart};
@@ -24,7 +25,7 @@ mod removing;
 const FILES: usize = 26;
 
 /// The board of one who runs lines on a shared tree: its open files by letter, its tokens of hidden files by
-/// slot, and a handle of its own of the event numbers. What a file gives is read into a page of its own.
+/// slot, the tags of the files that it may make, and a handle of its own of the event numbers. What a file gives is read into a page of its own.
 /// There is room for a token of each slot, and no memory is written before one is kept; the pages of files
 /// that were closed are kept for the next ones.
 ///
@@ -33,6 +34,7 @@ pub struct WorkerBoard<'x, W: ScriptOps, N: Naming, R: Wait> {
     rt: &'x R,
     common: &'x Common<'x, W, N>,
     posts: Posts,
+    tags: Tags,
     files: Vec<Option<BoxedFile<N>>>,
     pages: Vec<Box<PageApart>>,
     tokens: Vec<Option<Token<N>>>,
@@ -60,8 +62,11 @@ impl<'x, W: ScriptOps, N: Naming, R: Wait> WorkerBoard<'x, W, N, R> {
         alloc: Global,
         common: &'x Common<'x, W, N>,
         posts: Posts,
+        tags: Tags,
         limits: Limits,
-    ) -> Result<WorkerBoard<'x, W, N, R>, Refusal> {
+    ) -> Result<WorkerBoard<'x, W, N, R>, Refusal>
+        ensures tags { IfOk result (λ board. board.tags ≡ tags) }
+    {
         let page = vec![in alloc; 0; 4096]?;
         let files = no_files(alloc)?;
         match Vec::with_capacity(alloc, limits.slots() as usize) {
@@ -69,6 +74,7 @@ impl<'x, W: ScriptOps, N: Naming, R: Wait> WorkerBoard<'x, W, N, R> {
                 rt,
                 common,
                 posts,
+                tags,
                 files,
                 pages: Vec::new(alloc),
                 tokens,

@@ -1,12 +1,11 @@
 //! What all seats of a run share.
 
 use crate::script_ops::ScriptOps;
-use crate::serving::{FIRST_DEVICE_TAG, Serving};
+use crate::serving::Serving;
 use kf_core::{Key, Limits, Refusal};
 use kf_device::Bus;
 use kf_shared::{Naming, SharedTree};
 use std::alloc::Global;
-use std::sync::atomic::{AtomicU64, Ordering};
 use std::sync::{Mutex, Wait};
 
 /// The last file of a slot that a script made: its generation and its tag. Generation 0 is that of no node.
@@ -16,8 +15,7 @@ struct LastFile {
     tag: u64,
 }
 
-/// What all seats of a run share: the tree, the bus, and the callbacks and tags of the files that scripts
-/// make.
+/// What all seats of a run share: the tree, the bus, and the callbacks of the files that scripts make.
 ///
 /// No two of its locks are ever held at once: each is let go before another lock, a callback or a wait.
 #[derive(Drop)]
@@ -25,12 +23,11 @@ pub struct Common<'x, W, N: Naming> {
     pub tree: SharedTree<N>,
     pub bus: Bus<N>,
     texts: &'x W,
-    next_tag: AtomicU64,
     last_files: Mutex<Vec<LastFile>>,
 }
 
 impl<'x, W: ScriptOps, N: Naming> Common<'x, W, N> {
-    /// A run's tree with no device and no tag given. `NoMemory` where it could not be had.
+    /// A run's tree with no device. `NoMemory` where it could not be had.
     pub fn new(
         alloc: Global,
         tree: SharedTree<N>,
@@ -47,7 +44,6 @@ impl<'x, W: ScriptOps, N: Naming> Common<'x, W, N> {
             tree,
             bus,
             texts,
-            next_tag: AtomicU64::new(0),
             last_files: Mutex::new(last_files),
         })
     }
@@ -57,16 +53,6 @@ impl<'x, W: ScriptOps, N: Naming> Common<'x, W, N> {
         Serving {
             texts: self.texts,
             devices: &self.bus,
-        }
-    }
-
-    /// A tag that no file has had. `NoSpace` where all below those of devices were given.
-    pub fn new_tag(&self) -> Result<u64, Refusal> {
-        let tag = self.next_tag.fetch_add(1, Ordering::SeqCst);
-        if tag < FIRST_DEVICE_TAG {
-            Ok(tag)
-        } else {
-            Err(Refusal::NoSpace)
         }
     }
 

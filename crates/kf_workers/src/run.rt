@@ -3,10 +3,12 @@
 ghost use Rattle.std.specs.Prelude.{◌≡◌, ◌≤◌, ◌+◌, OnOk, IfOk, IfErr, vec_len};
 ghost use Rattle.kf_script.specs.Lines.{lines_of};
 ghost use Rattle.kf_workers.specs.Replied.{Replied};
+ghost use Rattle.kf_workers.specs.OwnTags.{AddsOwn};
 
 use crate::board::WorkerBoard;
 use crate::common::Common;
 use crate::script_ops::ScriptOps;
+use crate::tags::Tags;
 use kf_core::{Limits, Refusal};
 use kf_notify::Posts;
 use kf_rounds::{Seat, run_rounds};
@@ -17,7 +19,7 @@ use std::marker::Brand;
 use std::sync::Wait;
 use std::thread::Threads;
 
-/// Adds a seat with a new board.
+/// Adds a seat with a new board, which has the tags of its number.
 fn add_seat<'x, W: ScriptOps, N: Naming, R: Wait>(
     seats: &mut Vec<Seat<WorkerBoard<'x, W, N, R>>>,
     rt: &'x R,
@@ -26,10 +28,14 @@ fn add_seat<'x, W: ScriptOps, N: Naming, R: Wait>(
     posts: &mut Posts,
     limits: Limits,
 ) -> Result<(), Refusal>
-    ensures { OnOk result (vec_len seats.new ≡ vec_len seats.old + 1) }
+    requires few { vec_len seats.old ≤ 16 }
+    ensures len { OnOk result (vec_len seats.new ≡ vec_len seats.old + 1) }
+    ensures own { OnOk result (AddsOwn seats.old.items seats.new.items (vec_len seats.old)
+        (λ board. board.tags)) }
 {
     let reply = Reply::new(alloc)?;
-    let board = WorkerBoard::new(rt, alloc, common, posts.another()?, limits)?;
+    let tags = Tags::of_seat(seats.len() as u64);
+    let board = WorkerBoard::new(rt, alloc, common, posts.another()?, tags, limits)?;
     match seats.push(Seat::new(alloc, board, reply)) {
         Ok(()) => Ok(()),
         Err(refused) => {

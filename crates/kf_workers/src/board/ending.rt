@@ -24,6 +24,7 @@ impl<W: ScriptOps, N: Naming, R: Wait> WorkerBoard<'_, W, N, R> {
             rt,
             common,
             posts: _,
+            tags: _,
             files,
             pages: _,
             mut tokens,

@@ -1,5 +1,7 @@
 //! The requests that make, activate and move nodes.
 
+ghost use Rattle.std.specs.Prelude.{◌≡◌, ◌+◌, OnOk};
+
 use super::WorkerBoard;
 use crate::script_ops::ScriptOps;
 use kf_core::{Key, Node, Refusal};
@@ -36,9 +38,17 @@ impl<W: ScriptOps, N: Naming, R: Wait> WorkerBoard<'_, W, N, R> {
 
     /// A live file of this mode and text at a path: what is wrong with the path is told first, then the text
     /// is kept under a new tag, then the file is made. Where that is refused its text goes again.
-    pub(super) fn make_file(&self, path: &[u8], mode: u16, text: &[u8]) -> Result<Key, FileError> {
+    pub(super) fn make_file(
+        &mut self,
+        path: &[u8],
+        mode: u16,
+        text: &[u8],
+    ) -> Result<Key, FileError>
+        ensures spent { OnOk result (self.new.tags.next ≡ self.old.tags.next + 1) }
+        ensures same { self.new.tags.end ≡ self.old.tags.end }
+    {
         let (dir, name) = self.parent_of(path).map_err(FileError::Refused)?;
-        let tag = self.common.new_tag().map_err(FileError::Refused)?;
+        let tag = self.tags.give().map_err(FileError::Refused)?;
         self.common
             .serving()
             .texts

@@ -1,0 +1,10 @@
+-- The tags of the files that scripts make: each seat has a range of its own.
+use Rattle.std.specs.Prelude.{ℕ, ◌+◌, ◌*◌, ◌^◌, ◌≤◌, ◌<◌}
+
+-- the lowest tag of a seat
+abbrev pub first_tag : ℕ → ℕ
+first_tag seat = seat * 2 ^ 58
+
+-- a tag of this seat
+abbrev pub IsTagOf : ℕ → ℕ → Type 0
+IsTagOf seat tag = (first_tag seat ≤ tag) × (tag < first_tag (seat + 1))
