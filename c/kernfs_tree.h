@@ -190,10 +190,12 @@ KT_CALL(1) int32_t kt_create_root(struct kt_handle *tree, uint32_t slots, uint32
 KT_CALL(1, 2) int32_t kt_root(struct kt_handle *tree, struct kt_key *out);
 
 /* A new node in a directory: kernfs_create_dir_ns, __kernfs_create_file, kernfs_create_link. One that is not `live` is
- * not there for kt_enter() before kt_activate(): so a group of nodes appears at once. In this order: -ENOENT (no such
- * parent), -ENAMETOOLONG, -EINVAL (the name has no byte, a slash or a zero byte, or is . or ..), -ENOTDIR, -ENOENT (the
- * parent is being removed, or a link's target is not there), -EINVAL (the target is the root), -EEXIST, -ENOSPC,
- * -ENOMEM. */
+ * not there for kt_enter() before kt_activate(): so a group of nodes appears at once; a live one below it can be
+ * entered, and is not listed from above. A name is taken until its node is out of the tree, and kt_find() finds it till
+ * then, also while it is being removed. A link keeps neither its target nor that one's slot, and stays when it is gone.
+ * In this order: -ENOENT (no such parent), -ENAMETOOLONG, -EINVAL (the name has no byte, a slash or a zero byte, or is
+ * . or ..), -ENOTDIR, -ENOENT (the parent is being removed, or a link's target is not there), -EINVAL (the target is
+ * the root), -EEXIST, -ENOSPC, -ENOMEM. */
 KT_CALL(1, 6) KT_TEXT(3, 4)
 int32_t kt_create_dir(struct kt_handle *tree, struct kt_key parent, const void *name, size_t length, bool live,
                       struct kt_key *out);

@@ -1,10 +1,9 @@
 /* kt_wait.h: a lock for a tree, and calls that take it and may sleep, for programs over kernfs_tree.h, which includes
  * this but where KT_NO_PTHREAD is defined. It is C over the calls there, tried and not proved.
  *
- * None of these is called with the lock held by the same thread, a callback that holds it included. Nothing sees that
- * one is: kt_remove_wait() and its kind then wait for ever, and so do the others, kt_run(), kt_read() and kt_poll()
- * too, once their node is gone. A program takes the lock, for the calls on a tree, by
- * pthread_mutex_lock(&lock.mutex). */
+ * A program takes the lock, for the calls on a tree, by pthread_mutex_lock(&lock.mutex). None of these but
+ * kt_remove_claimed() is called by a thread that has it. Nothing sees that one is: kt_remove_wait() and its kind then
+ * wait for ever, and so do the others, kt_run(), kt_read() and kt_poll() too, once their node is gone. */
 #ifndef KT_WAIT_H
 #define KT_WAIT_H
 
@@ -192,7 +191,7 @@ static inline int32_t kt_remove_self_wait(struct kt_handle *tree, struct kt_hand
     if (answer == 1)
         pthread_cond_broadcast(&lock->left);
     if (answer >= 0) {
-        kt_remove_claimed(tree, key, lock);
+        answer = kt_remove_claimed(tree, key, lock);
         kt_restore(call);
     }
     pthread_mutex_unlock(&lock->mutex);

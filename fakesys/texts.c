@@ -46,13 +46,21 @@ static struct node *begin_callback(struct open *it)
     return node;
 }
 
+/* Before the text and what delays it, so that no notify is missed. (The lock: fs_poll() asks the post too.) */
+static void see_event(struct open *it)
+{
+    uint64_t event;
+    lock_tree();
+    if (!kt_event(&it->post, &event))
+        it->seen = event;
+    unlock_tree();
+}
+
 /* Copies so many bytes of a node's text at most, from an offset on. Its fault, or how many. */
 static int64_t copy_text(struct open *it, size_t offset, char *page, size_t room)
 {
+    see_event(it);
     struct node *node = begin_callback(it);
-    uint64_t event = 0;
-    if (!kt_event(&it->post, &event)) /* under the lock, as fs_poll() asks it too; before the text */
-        it->seen = event;
     int64_t answer = -node->fault;
     if (!answer && offset < node->length) {
         answer = (int64_t)MIN(room, node->length - offset);

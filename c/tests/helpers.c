@@ -215,6 +215,24 @@ static void clears_inside(void)
     TRY(kt_remove(&tree, file) < 0, 0);
 }
 
+/* Of a call that is broken already, and of what is no call: the claim is spent, and who calls removes by other calls. */
+static void removes_itself_too_late(void)
+{
+    TRY(kt_create_file(&tree, root, "s", 1, 0644, 0, true, &file), 0);
+    TRY(kt_hold(&tree, file, &hold), 0);
+    TRY(kt_enter(&hold), 0);
+    TRY(kt_break(&hold), 0);
+    TRY(kt_remove_self_wait(&tree, &hold, file, &lock), -EINVAL);
+    TRY(kt_stat(&tree, file, &stat), 0);
+    TRY(stat.doomed, 1);
+    TRY(kt_claim(&tree, file), 1);
+    TRY(kt_remove_wait(&tree, file, &lock) < 0, 0);
+    TRY(kt_remove_self_wait(&tree, &hold, root, &lock), -EINVAL);
+    TRY(kt_restore(&hold), 0);
+    TRY(kt_leave(&hold) < 0, 0);
+    TRY(kt_clear(&hold) < 0, 0);
+}
+
 int main(void)
 {
     TRY(kt_new(&tree.at), 0);
@@ -236,6 +254,7 @@ int main(void)
     live_below_what_is_not();
     paths();
     clears_inside();
+    removes_itself_too_late();
     TRY(kt_delete(other), 0);
     TRY(kt_delete(hold), 0);
     TRY(kt_delete(tree), 0);

@@ -77,6 +77,25 @@ static int64_t delete_it(struct kt_handle *call, void *data)
 }
 static void deleted_inside(void) { must(kt_run(&hold, &lock, delete_it, NULL)); }
 
+/* ---- texts that are shorter than they are said to be ---- */
+
+static volatile size_t beyond = 200; /* (what the compiler knows to be wrong it tells) */
+
+static char *short_text(void)
+{
+    char *made = (char *)malloc(2);
+    memcpy(made, "/g", 2);
+    return made;
+}
+static void long_path(void) { must(kt_walk(&tree, short_text(), beyond, &other)); }
+static void long_name(void) { must(kt_find(&tree, root, short_text() + 1, beyond, &other)); }
+static void long_new_name(void) { must(kt_create_dir(&tree, root, short_text() + 1, beyond, true, &other)); }
+static void long_shown(void)
+{
+    must(kt_begin_read(&file, 0));
+    kt_shown(&file, short_text(), beyond);
+}
+
 /* A handle that kt_new() has not made. */
 static void zeroed(void)
 {
@@ -281,11 +300,13 @@ static const struct use {
     const char *name;
     void (*run)(void);
 } uses[] = {
-    {"entered", entered}, {"left", left}, {"cleared", cleared}, {"deleted", deleted}, {"walked", walked}, {"held", held},
-    {"copied", copied}, {"deleted_inside", deleted_inside}, {"zeroed", zeroed}, {"one_hold", one_hold},
-    {"one_file", one_file}, {"no_lock", no_lock}, {"half_locked", half_locked}, {"right_lock", right_lock},
-    {"deleted_meanwhile", deleted_meanwhile}, {"one_node", one_node}, {"two_nodes", two_nodes},
-    {"freed_early", freed_early}, {"right_removal", right_removal}, {"right_removal_above", right_removal_above},
+    {"entered", entered}, {"left", left}, {"cleared", cleared}, {"deleted", deleted}, {"walked", walked},
+    {"held", held}, {"copied", copied}, {"deleted_inside", deleted_inside}, {"zeroed", zeroed},
+    {"long_path", long_path}, {"long_name", long_name}, {"long_new_name", long_new_name},
+    {"long_shown", long_shown}, {"one_hold", one_hold}, {"one_file", one_file}, {"no_lock", no_lock},
+    {"half_locked", half_locked}, {"right_lock", right_lock}, {"deleted_meanwhile", deleted_meanwhile},
+    {"one_node", one_node}, {"two_nodes", two_nodes}, {"freed_early", freed_early},
+    {"right_removal", right_removal}, {"right_removal_above", right_removal_above},
     {"right_removal_moved", right_removal_moved}, {"right_hiding", right_hiding},
     {"right_activation", right_activation}, {"right_handles", right_handles},
 };

@@ -32,6 +32,7 @@ REPORTED = {
         **dict.fromkeys(
             ("entered", "left", "cleared", "deleted", "walked", "held", "copied", "deleted_inside"), FREED
         ),
+        **dict.fromkeys(("long_path", "long_name", "long_new_name", "long_shown"), "heap-buffer-overflow"),
         "zeroed": NO_HANDLE,
     },
     "thread": {
