@@ -1,0 +1,10 @@
+pub mod Allowed
+pub mod Entering
+pub mod Changed
+pub mod Following
+pub mod Gone
+pub mod Leading
+pub mod Naming
+pub mod Parts
+pub mod Seats
+pub mod Unpacked

@@ -1,0 +1,11 @@
+pub mod ShortNames
+pub mod Packed
+pub mod Links
+pub mod Lines
+pub mod Paths
+pub mod Rule
+pub mod Steps
+pub mod Reading
+pub mod Lookers
+pub mod Writing
+pub mod Laws

@@ -1,0 +1,21 @@
+-- Keys and nodes as words.
+use Rattle.std.specs.Prelude.{ℕ, ◌-◌, ◌/◌, ◌%◌, ◌==◌, Option, None, Some, if◌then◌else◌}
+use Rattle.kf_core.specs.declared.key.Key.{Key}
+use Rattle.kf_core.specs.declared.key.Node.{Node}
+use Rattle.kf_core.specs.declared.key.Node.TheVariants.{Dir, File, Link}
+use Rattle.kf_looks.specs.declared.found.Found.{Found}
+
+-- a key's word: the slot is the lower half
+abbrev pub key_of : ℕ → Key
+key_of word = record { slot = word % 4294967296; generation = word / 4294967296 }
+
+-- what a shape says a node is: 1 a directory, 2 a link, from 3 up a file, whose mode is that much above 3.
+-- The other word is the target or the tag
+abbrev pub node_of : ℕ → ℕ → Node
+node_of shape more = if shape == 1 then Dir else
+    (if shape == 2 then Link (key_of more) else File ((shape - 3) % 65536) more)
+
+-- the child that three words tell; none where the shape is 0
+abbrev pub child_by : ℕ → ℕ → ℕ → Option Found
+child_by key more shape =
+    if shape == 0 then None else Some (record { key = key_of key; node = node_of shape more })

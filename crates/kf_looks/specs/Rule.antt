@@ -1,0 +1,66 @@
+-- The rule of the table: what its words show of the views of all seats.
+use Rattle.std.specs.Prelude.{◌≡◌, ℕ, ◌+◌, ◌%◌, ◌≤◌, ◌<◌, List, [], ◌∷◌, length, slice_index, replicate}
+use mathlib.Core.Option.{some}
+use lib.ListN.{get_elem?}
+use Rattle.atomic_table.specs.Table.{State}
+use Rattle.kf_looks.specs.declared.view.Link.{Link}
+use Rattle.kf_looks.specs.declared.view.Read.{Read}
+use Rattle.kf_looks.specs.declared.view.Plan.{Plan}
+use Rattle.kf_looks.specs.declared.view.Role.{Role}
+use Rattle.kf_looks.specs.declared.view.Role.TheVariants.{Idle, Reading, Writing}
+use Rattle.kf_looks.specs.declared.view.View.{View}
+use Rattle.kf_looks.specs.Links.{IsLater}
+use Rattle.kf_looks.specs.Lines.{SaysTrue, words_for}
+
+abbrev pub Table : Type 0
+Table = State (Unit {0}) View
+
+abbrev pub no_plan : Plan
+no_plan = record { version = 0; draft = []; links = [] }
+
+-- what a writer plans
+abbrev pub plan_of : Role → Plan
+plan_of Idle = no_plan
+plan_of (Reading at reads) = no_plan
+plan_of (Writing plan) = plan
+
+-- all that was read stands in the content
+abbrev pub AllIn : List ℕ → List Read → Type 0
+AllIn content [] = Unit {0}
+AllIn content (read ∷ reads) = (slice_index content read.word ≡ read.found) × AllIn content reads
+
+-- the plan is of this version, draft and links
+pub record IsPlan (version : ℕ) (draft : List ℕ) (links : List Link) (plan : Plan) : Type 0 where
+  pub version_is : plan.version ≡ version
+  pub draft_is : plan.draft ≡ draft
+  pub links_are : plan.links ≡ links
+
+-- a reader's reads stand in the words while the version is the even one that it found first. The first seat
+-- alone writes
+abbrev pub Knows : ℕ → List ℕ → List Link → ℕ → Role → Type 0
+Knows version draft links seat Idle = Unit {0}
+Knows version draft links seat (Reading at reads) =
+    (at % 2 ≡ 0) × (at ≤ version) × (at ≡ version → AllIn draft reads)
+Knows version draft links seat (Writing plan) = IsPlan version draft links plan × (seat ≡ 0)
+
+-- the words are the version and the draft. While the version is even, the draft is true of all links
+pub record Kept (slots : ℕ) (t : Table) : Type 0 where
+  pub version : ℕ
+  pub draft : List ℕ
+  pub links : List Link
+  pub wide : length t.words ≡ words_for slots + 1
+  pub long : length draft ≡ words_for slots
+  pub version_is : slice_index t.words 0 ≡ version
+  pub draft_is : (i : ℕ) → i < words_for slots → slice_index t.words (i + 1) ≡ slice_index draft i
+  pub says : version % 2 ≡ 0 → SaysTrue slots draft links
+  pub seats : (seat : ℕ) (v : View) → get_elem? t.views seat ≡ some v
+      → (v.slots ≡ slots) × Knows version draft links seat v.role × IsLater links v.seen
+
+-- the plan of the first seat, the writer's
+abbrev pub first_plan : ℕ → ℕ → Plan
+first_plan slots version =
+    record { version = version; draft = replicate (words_for slots) 0; links = [] }
+
+-- the view of the first seat
+abbrev pub opened : ℕ → ℕ → View
+opened slots version = record { slots = slots; role = Writing (first_plan slots version); seen = [] }

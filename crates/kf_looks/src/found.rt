@@ -1,0 +1,17 @@
+//! What a look-up finds.
+use kf_core::{Key, Node};
+
+/// A node that a name led to: its key, and what it is. What `stat`, `readlink` and an `open` ask of a node
+/// that is found stands here: its kind, a file's mode and tag, a link's target.
+#[derive(Clone, Copy, Debug, PartialEq, Eq)]
+pub struct Found {
+    pub key: Key,
+    pub node: Node,
+}
+
+/// What was found, and at which version of the words it stands.
+#[derive(Clone, Copy, Debug)]
+pub struct Sight {
+    pub found: Found,
+    pub(crate) version: u64,
+}

@@ -1,0 +1,66 @@
+//! Where a name is looked for: in which line it may stand. Nobody believes a hint: what the line itself says
+//! is compared.
+ghost use Rattle.std.specs.Prelude.{◌≡◌, ◌+◌, ◌*◌, ◌<◌, ◌≤◌, ⊤, IfSome};
+ghost use Rattle.kf_looks.specs.Lines.{words_for};
+ghost use Rattle.kf_looks.specs.Reading.{IsSameSeat, Follows};
+
+use crate::looks::Looks;
+use crate::short_name::ShortName;
+use crate::table::LookSeat;
+
+/// How many hints one after another may be those of a name.
+pub(crate) const WAYS: usize = 16;
+
+const HALF: u64 = 4294967296;
+
+const BY_DIR: u64 = 11400714819323198485;
+
+const BY_WORD: u64 = 7046029254386353131;
+
+/// The hints of a name: the first word that may have it, behind all lines, and its tag, by which it is known
+/// there. A hint is its tag and, in the lower half, its line; 0 is none.
+#[derive(Clone, Copy)]
+pub(crate) struct Place {
+    pub(crate) first: usize,
+    pub(crate) tag: u64,
+}
+
+fn mixed(hash: u64, word: u64) -> u64 {
+    let all = hash.wrapping_add(word).wrapping_mul(BY_WORD);
+    all ^ (all / HALF)
+}
+
+impl Looks {
+    /// Where the hints of a name are.
+    pub(crate) fn place(&self, dir: u64, name: &ShortName) -> Place
+        ensures first { 8 * self.now.slots + 8 ≤ result.first }
+        ensures inside { result.first + 16 ≤ words_for self.now.slots }
+        ensures few { result.tag < 4294967296 }
+    {
+        let hash = mixed(
+            mixed(mixed(dir.wrapping_mul(BY_DIR), name.first), name.second),
+            name.third,
+        );
+        let share = hash / HALF * (3 * self.slots + 1) / HALF;
+        Place {
+            first: 8 * self.slots as usize + 8 + share as usize,
+            tag: hash % (HALF - 1) + 1,
+        }
+    }
+
+    /// The line of the first hint with the tag.
+    pub(crate) fn hinted(&self, seat: &mut LookSeat, place: Place) -> Option<usize>
+        requires table { seat.old.table_id ≡ self.now.table.shared.table_id }
+        requires inside { place.first + 16 ≤ words_for self.now.slots }
+        ensures same { IsSameSeat seat.old seat.new }
+        ensures read { Follows seat.old.me.0.role seat.new.me.0.role (λ content. ⊤) }
+    {
+        for way in 0..WAYS {
+            let hint = self.word(seat, place.first + way);
+            if hint / HALF == place.tag {
+                return Some((hint % HALF) as usize);
+            }
+        }
+        None
+    }
+}

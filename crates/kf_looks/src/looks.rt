@@ -1,0 +1,80 @@
+//! The words that hold names, and who sits at them.
+ghost use Rattle.std.specs.Prelude.{◌≡◌, ◌+◌, ◌≤◌, [], IfOk};
+ghost use Rattle.kf_core.specs.Limits.{most_slots};
+ghost use Rattle.kf_looks.specs.Lines.{words_for};
+ghost use Rattle.kf_looks.specs.Lookers.{seen};
+ghost use Rattle.kf_looks.specs.Writing.{links_of};
+
+use crate::plays::{Copies, Sits, Tells};
+use crate::reader::Looker;
+use crate::table::{LookTable, Opening};
+use crate::writer::Writer;
+use std::alloc::{AllocError, Global};
+
+/// The words. Any number of threads look names up there, and none of them writes.
+///
+/// They take 88 bytes for each slot and 200 more. Without a slot no look-up answers.
+#[derive(Drop)]
+pub struct Looks {
+    pub table: LookTable,
+    pub slots: u64,
+    ghost few: { slots ≤ most_slots },
+    ghost wide: { table.shared.table_id.words ≡ words_for slots + 1 },
+    ghost keyed: { table.shared.key.slots ≡ slots },
+}
+
+impl Looks {
+    /// Words for the nodes of so many slots, with no name. With no slot the version is odd for ever.
+    ///
+    /// Condition: there are at most [`kf_core::MOST_SLOTS`] slots.
+    pub fn new(alloc: Global, slots: u32) -> Result<(Looks, Writer), AllocError>
+        requires { slots ≤ most_slots }
+        ensures table { IfOk result (λ r. r.1.seat.table_id ≡ r.0.table.shared.table_id) }
+        ensures empty { IfOk result (λ r. links_of r.1.seat ≡ []) }
+    {
+        let version = if slots == 0 { u64::MAX } else { 0 };
+        let slots = slots as u64;
+        let mut words = vec![in alloc; 0u64; slots as usize * 11 + 25]?;
+        words[0] = version;
+        let opening = Opening { slots, version };
+        let (table, seat) = LookTable::of_words(alloc, words.as_slice(), &opening)?;
+        Ok((Looks { table, slots }, Writer { seat, version }))
+    }
+
+    /// A reader that has seen nothing yet.
+    pub fn looker(&self) -> Looker
+        ensures table { result.seat.table_id ≡ self.now.table.shared.table_id }
+        ensures fresh { seen result ≡ [] }
+    {
+        Looker {
+            seat: self.table.shared.load_new_seat::<Sits>(0).1,
+        }
+    }
+
+    /// A reader that was told of all links: none of its look-ups goes back behind them.
+    pub fn looker_after(&self, writer: &mut Writer) -> Looker
+        requires table { writer.old.seat.table_id ≡ self.now.table.shared.table_id }
+        ensures table { result.seat.table_id ≡ self.now.table.shared.table_id }
+        ensures told { seen result ≡ links_of writer.old.seat }
+        ensures same { links_of writer.new.seat ≡ links_of writer.old.seat }
+        ensures kept { writer.new.seat.table_id ≡ writer.old.seat.table_id }
+    {
+        Looker {
+            seat: self.table.shared.split_seat::<Tells>(&mut writer.seat),
+        }
+    }
+
+    /// A reader that was told of what another has seen, as the one in a receipt: none of its look-ups goes
+    /// back behind that.
+    pub fn looker_like(&self, other: &mut Looker) -> Looker
+        requires table { other.old.seat.table_id ≡ self.now.table.shared.table_id }
+        ensures table { result.seat.table_id ≡ self.now.table.shared.table_id }
+        ensures told { seen result ≡ seen other.old }
+        ensures same { other.new.seat.me ≡ other.old.seat.me }
+        ensures kept { other.new.seat.table_id ≡ other.old.seat.table_id }
+    {
+        Looker {
+            seat: self.table.shared.split_seat::<Copies>(&mut other.seat),
+        }
+    }
+}

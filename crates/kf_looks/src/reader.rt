@@ -1,0 +1,62 @@
+//! A reader's single steps on the words.
+ghost use Rattle.std.specs.Prelude.{◌≡◌, ◌+◌, ◌<◌, ◌*◌, ℕ, length, slice_index};
+ghost use Rattle.kf_looks.specs.Lines.{words_for, word_at};
+ghost use Rattle.kf_looks.specs.Reading.{IsSameSeat, Follows};
+ghost use Rattle.kf_looks.specs.Steps.{Begun, Passed, grown, view};
+
+use crate::looks::Looks;
+use crate::plays::{Begins, Checks, Peeks};
+use crate::table::LookSeat;
+
+/// A reader: it has no bytes. Contracts see the links that it has seen.
+#[derive(Drop)]
+pub struct Looker {
+    pub seat: LookSeat,
+    ghost sized: { seat.table_id.words ≡ words_for seat.me.0.slots + 1 },
+}
+
+impl Looks {
+    /// Loads the version first.
+    pub(crate) fn begin(&self, seat: &mut LookSeat) -> u64
+        requires table { seat.old.table_id ≡ self.now.table.shared.table_id }
+        ensures table { seat.new.table_id ≡ seat.old.table_id }
+        ensures begun { Begun result seat.old.me.0 seat.new.me.0 }
+    {
+        self.table.shared.load::<Begins>(seat, 0)
+    }
+
+    /// Loads a word behind the version.
+    pub(crate) fn word(&self, seat: &mut LookSeat, index: usize) -> u64
+        requires table { seat.old.table_id ≡ self.now.table.shared.table_id }
+        requires inside { index < words_for self.now.slots }
+        ensures same { IsSameSeat seat.old seat.new }
+        ensures read { seat.new.me.0.role ≡ grown index result seat.old.me.0.role }
+    {
+        self.table.shared.load::<Peeks>(seat, index + 1)
+    }
+
+    /// Loads the version again. Where it is the one found first, all that was read stood there at once.
+    pub(crate) fn check(&self, seat: &mut LookSeat) -> u64
+        requires table { seat.old.table_id ≡ self.now.table.shared.table_id }
+        ensures table { seat.new.table_id ≡ seat.old.table_id }
+        ensures passed { Passed result seat.old.me.0 seat.new.me.0 }
+    {
+        self.table.shared.load::<Checks>(seat, 0)
+    }
+
+    /// The eight words of a line.
+    pub(crate) fn line(&self, seat: &mut LookSeat, line: usize) -> [u64; 8]
+        requires table { seat.old.table_id ≡ self.now.table.shared.table_id }
+        requires inside { line < self.now.slots }
+        ensures same { IsSameSeat seat.old seat.new }
+        ensures long { length result ≡ 8 }
+        ensures read { Follows seat.old.me.0.role seat.new.me.0.role
+            (λ content. (k : ℕ) → k < 8 → word_at content line k ≡ slice_index result k) }
+    {
+        let mut words = [0u64; 8];
+        for k in 0..8 {
+            words[k] = self.word(seat, 8 * line + k);
+        }
+        words
+    }
+}

@@ -1,0 +1,27 @@
+//! The table of words and its rule. Word 0 is the version, which is odd while the writer changes the others:
+//! a line of eight words for each slot and one that nobody reads, and then the hints.
+use crate::view::View;
+use atomic_table::{Seat, Table, TableRule};
+use std::alloc::Global;
+
+/// How the table begins: with lines for so many slots, at this version.
+#[derive(Clone, Copy)]
+pub struct Opening {
+    pub slots: u64,
+    pub version: u64,
+}
+
+/// The rule of the table: what the words show of all views, between any two steps.
+pub struct Rule;
+
+impl TableRule<(), View, Opening> for Rule {
+    ghost use Rattle.kf_looks.specs.Rule.{Kept, opened};
+
+    ghost holds = { λ o. Kept o.slots };
+
+    ghost first = { λ o. opened o.slots o.version };
+}
+
+pub(crate) type LookTable = Table<(), View, Opening, Rule, Global>;
+
+pub(crate) type LookSeat = Seat<(), View>;

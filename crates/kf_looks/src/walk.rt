@@ -1,0 +1,146 @@
+//! Look-ups: where a path leads, without the lock.
+ghost use Rattle.std.specs.Prelude.{◌≡◌, ◌<◌, true, false, List, ℕ, Some, IfSome, slice_index};
+ghost use Rattle.std.specs.List.{list_any, slice_split};
+ghost use Rattle.kf_looks.specs.Lines.{bytes_in, link_by, words_for};
+ghost use Rattle.kf_looks.specs.Links.{top, walked, child_of, IsLater};
+ghost use Rattle.kf_looks.specs.Lookers.{seen};
+ghost use Rattle.kf_looks.specs.Paths.{is_slash, is_empty, led};
+ghost use Rattle.kf_looks.specs.Reading.{IsSameSeat, Follows, Tells, Stands};
+
+use crate::found::{Found, Sight};
+use crate::looks::Looks;
+use crate::packed::{child_in, key_in, key_word};
+use crate::path::first_part;
+use crate::reader::Looker;
+use crate::short_name::ShortName;
+use crate::table::LookSeat;
+use kf_core::{Key, Node};
+
+/// The child that a line gives this name in this directory.
+fn child_there(line: &[u64; 8], dir: u64, name: &ShortName) -> Option<Found>
+    ensures dir { IfSome result (λ child. slice_index line.now 0 ≡ dir) }
+    ensures name { IfSome result (λ child. (link_by (slice_index line.now)).name ≡ bytes_in name.now) }
+    ensures child { IfSome result (λ child. (link_by (slice_index line.now)).child ≡ Some child) }
+{
+    if line[0] != dir
+        || line[1] != name.count
+        || line[2] != name.first
+        || line[3] != name.second
+        || line[4] != name.third
+    {
+        return None;
+    }
+    child_in(line[5], line[6], line[7])
+}
+
+impl Looks {
+    /// The child of a name in a directory, as the words read say.
+    fn step(&self, seat: &mut LookSeat, dir: Key, name: &ShortName) -> Option<Found>
+        requires table { seat.old.table_id ≡ self.now.table.shared.table_id }
+        requires slots { seat.old.me.0.slots ≡ self.now.slots }
+        ensures same { IsSameSeat seat.old seat.new }
+        ensures found { IfSome result (λ child. Follows seat.old.me.0.role seat.new.me.0.role
+            (Tells self.now.slots (λ links. child_of links dir (bytes_in name.now) ≡ Some child))) }
+    {
+        let dir_word = key_word(dir);
+        let at = self.hinted(seat, self.place(dir_word, name))?;
+        if at as u64 >= self.slots {
+            return None;
+        }
+        let line = self.line(seat, at);
+        let child = child_there(&line, dir_word, name)?;
+        Some(child)
+    }
+
+    /// Where the parts of a text lead one after another, as the words read say.
+    fn follow(&self, seat: &mut LookSeat, from: Key, parts: &[u8]) -> Option<Found>
+        requires table { seat.old.table_id ≡ self.now.table.shared.table_id }
+        requires slots { seat.old.me.0.slots ≡ self.now.slots }
+        ensures same { IsSameSeat seat.old seat.new }
+        ensures named { IfSome result (λ last. list_any is_empty (slice_split is_slash parts.now) ≡ false) }
+        ensures found { IfSome result (λ last. Follows seat.old.me.0.role seat.new.me.0.role
+            (Tells self.now.slots
+            (λ links. walked links (top from) (slice_split is_slash parts.now) ≡ Some last))) }
+    {
+        let mut here = Found {
+            key: from,
+            node: Node::Dir,
+        };
+        let mut rest = Some(parts);
+        while let Some(text) = rest {
+            let (part, more) = first_part(text);
+            let name = ShortName::of(part)?;
+            here = self.step(seat, here.key, &name)?;
+            rest = more;
+        }
+        Some(here)
+    }
+
+    /// Where a path leads, as the words read say.
+    fn lead(&self, seat: &mut LookSeat, root: Key, path: &[u8]) -> Option<Found>
+        requires table { seat.old.table_id ≡ self.now.table.shared.table_id }
+        requires slots { seat.old.me.0.slots ≡ self.now.slots }
+        ensures same { IsSameSeat seat.old seat.new }
+        ensures found { IfSome result (λ last. Follows seat.old.me.0.role seat.new.me.0.role
+            (Tells self.now.slots (λ links. led links root path.now ≡ Some last))) }
+    {
+        let [b'/', parts @ ..] = path else {
+            return None;
+        };
+        if parts.is_empty() {
+            return Some(Found {
+                key: root,
+                node: Node::Dir,
+            });
+        }
+        let last = self.follow(seat, root, parts)?;
+        Some(last)
+    }
+
+    /// Where a path leads from a directory on, and what stands there, after the links that are then seen:
+    /// all that this reader had seen, and maybe later ones. It takes no lock, writes nothing and waits for
+    /// nobody: it loads the version twice, and for each name its hint and eight words.
+    ///
+    /// None is no refusal: ask under the lock. A name is longer than 24 bytes, is not there or has no line,
+    /// the path has another form, or a change came between.
+    pub fn look(&self, looker: &mut Looker, root: Key, path: &[u8]) -> Option<Sight>
+        requires table { looker.old.seat.table_id ≡ self.now.table.shared.table_id }
+        ensures table { looker.new.seat.table_id ≡ looker.old.seat.table_id }
+        ensures later { IsLater (seen looker.new) (seen looker.old) }
+        ensures found { IfSome result
+            (λ sight. led (seen looker.new) root path.now ≡ Some sight.found) }
+        ensures stands { IfSome result (λ sight. Stands looker.new.seat.me.0 sight.version
+            (λ links. led links root path.now ≡ Some sight.found)) }
+    {
+        let version = self.begin(&mut looker.seat);
+        if version % 2 != 0 {
+            return None;
+        }
+        let found = self.lead(&mut looker.seat, root, path)?;
+        if self.check(&mut looker.seat) != version {
+            return None;
+        }
+        Some(Sight { found, version })
+    }
+
+    /// Whether what this reader found still stands, in one load. Then it is true of the links that are now
+    /// seen: all that had been seen, and maybe later ones.
+    ///
+    /// Condition: it is the last sight of this reader's `look`, maybe after calls of `again`.
+    pub fn again(&self, looker: &mut Looker, sight: &Sight, root: Key, path: &[u8]) -> bool
+        requires table { looker.old.seat.table_id ≡ self.now.table.shared.table_id }
+        requires stands { Stands looker.old.seat.me.0 sight.now.version
+            (λ links. led links root path.now ≡ Some sight.now.found) }
+        ensures table { looker.new.seat.table_id ≡ looker.old.seat.table_id }
+        ensures later { IsLater (seen looker.new) (seen looker.old) }
+        ensures kept { Stands looker.new.seat.me.0 sight.now.version
+            (λ links. led links root path.now ≡ Some sight.now.found) }
+        ensures found { result ≡ true
+            → led (seen looker.new) root path.now ≡ Some sight.now.found }
+    {
+        // The contract alone names these.
+        let _ = root;
+        let _ = path.len();
+        self.check(&mut looker.seat) == sight.version
+    }
+}
