@@ -1,12 +1,14 @@
 //! The calls of a program. Each answers 0 or more, or a Linux error number below 0, and then nothing changed.
-ghost use Rattle.std.specs.Prelude.{◌≡◌, ◌≢◌, ◌⊎◌, pos, negsuc, false};
+ghost use Rattle.std.specs.Prelude.{◌≡◌, ◌≢◌, ◌⊎◌, pos, negsuc, true, false};
 ghost use Rattle.kf_core.specs.declared.key.Node.TheVariants as kind;
 ghost use Rattle.kf_handles.specs.declared.object.Object.TheVariants as behind;
 ghost use Rattle.kf_handles.specs.Tasks.{HasHidingIn, HasNoHidingIn};
-ghost use Rattle.kf_handles.specs.Answers.{IsAsBefore, Wrote};
-ghost use Rattle.kf_handles.specs.Calls.{key_in, CreatedIn, FoundIn, WalkedIn, IsNewTree, HoldsNode, RootIn, ActivatedIn, MovedIn, CompactedIn, IsNothing, is_nothing, ToldIn, NextIn, LinkTextIn, ParentIn, NameIn, PathIn};
-ghost use Rattle.kf_handles.specs.Numbers.{HasPostOf, IsSameTree, WasNotified, WasFull, TookNumber};
-ghost use Rattle.kf_handles.specs.Steps.{WasEntered, WasRefused, WasLeft, WasBroken, WasRestored, HasNoReference, IsNotRunning, IsNotBroken, enter_error, wake_of};
+ghost use Rattle.kf_handles.specs.declared.questions.Question.TheVariants as asks;
+ghost use Rattle.kf_handles.specs.Answers.{IsAsBefore, ToldWhy};
+ghost use Rattle.kf_handles.specs.Calls.{key_in, CreatedIn, IsNewTree, HoldsNode, ActivatedIn, MovedIn, CompactedIn, IsNothing, is_nothing};
+ghost use Rattle.kf_handles.specs.LookUps.{find_behind, parent_behind, root_behind, stat_behind, walk_behind, IsRefusal, LinkTextIn, LinkTextRefused, NameIn, NameRefused, NextIn, NextRefusedIn, PathIn, PathRefused, TellsKey, TellsStat, TellsText};
+ghost use Rattle.kf_handles.specs.Numbers.{HasPostOf, IsSameTree, PostRefused, WasNotified, WasFull, TookNumber, IsNoPost, notify_error};
+ghost use Rattle.kf_handles.specs.Steps.{WasEntered, WasRefused, WasLeft, WasBroken, WasRestored, HasNoReference, IsNotRunning, IsNotBroken, WakeOwed, enter_error, wake_of};
 
 use kf_core::{Key, Node};
 use kf_handles::{KtHandle, KtKey, KtStat, Question, key_of};
@@ -22,6 +24,7 @@ pub extern "C" fn kt_new(alloc: Global, out: &mut *mut u8) -> i32 {
 #[unsafe(no_mangle)]
 pub extern "C" fn kt_delete(handle: KtHandle) -> i32
     ensures gone { (result ≡ pos 0) ⊎ (result ≡ pos 1) → HasNoHidingIn handle.place.object }
+    ensures owed { (result ≡ pos 0) ⊎ (result ≡ pos 1) → WakeOwed handle.place.seat result }
     ensures busy { result ≢ pos 0 → result ≢ pos 1 →
         (result ≡ negsuc 15) × HasHidingIn handle.place.object }
 {
@@ -34,6 +37,7 @@ pub extern "C" fn kt_delete(handle: KtHandle) -> i32
 pub extern "C" fn kt_clear(handle: &mut KtHandle) -> i32
     ensures empty { (result ≡ pos 0) ⊎ (result ≡ pos 1) →
         IsNothing handle.new.place × HasNoHidingIn handle.old.place.object }
+    ensures owed { (result ≡ pos 0) ⊎ (result ≡ pos 1) → WakeOwed handle.old.place.seat result }
     ensures busy { result ≢ pos 0 → result ≢ pos 1 → (result ≡ negsuc 15)
         × HasHidingIn handle.old.place.object × (handle.new.place ≡ handle.old.place) }
 {
@@ -59,11 +63,10 @@ pub extern "C" fn kt_create_root(
 /// The key of the root.
 #[unsafe(no_mangle)]
 pub extern "C" fn kt_root(tree: &mut KtHandle, out: &mut KtKey) -> i32
-    ensures root { result ≡ pos 0 → RootIn tree.old.place.object tree.new.place.object out.new }
-    ensures kept { result ≢ pos 0 →
-        IsAsBefore tree.old.place.object tree.new.place.object × (out.new ≡ out.old) }
+    ensures same { tree.new.place ≡ tree.old.place }
+    ensures told { TellsKey (root_behind tree.old.place.object) result out.old out.new }
 {
-    kf_handles::name(tree, Question::Root, out)
+    kf_handles::root(tree, out)
 }
 
 /// A new directory (`kernfs_create_dir_ns`).
@@ -79,19 +82,12 @@ pub extern "C" fn kt_create_dir(
         CreatedIn tree.old.place.object tree.new.place.object parent name.now kind.Dir live out.new }
     ensures kept { result ≢ pos 0 →
         IsAsBefore tree.old.place.object tree.new.place.object × (out.new ≡ out.old) }
+    ensures beside { tree.new.place.seat ≡ tree.old.place.seat }
+    ensures why { result ≢ pos 0 → ToldWhy
+        (asks.Create (key_in parent) name.entry kind.Dir live)
+        tree.old.place.object tree.new.place.object result }
 {
-    let node = Node::Dir;
-    let parent = Key {
-        slot: parent.slot,
-        generation: parent.generation,
-    };
-    let question = Question::Create {
-        parent,
-        name,
-        node,
-        live,
-    };
-    kf_handles::name(tree, question, out)
+    kf_handles::create(tree, parent, name, Node::Dir, live, out)
 }
 
 /// A new attribute file (`__kernfs_create_file`).
@@ -110,19 +106,12 @@ pub extern "C" fn kt_create_file(
         out.new }
     ensures kept { result ≢ pos 0 →
         IsAsBefore tree.old.place.object tree.new.place.object × (out.new ≡ out.old) }
+    ensures beside { tree.new.place.seat ≡ tree.old.place.seat }
+    ensures why { result ≢ pos 0 → ToldWhy
+        (asks.Create (key_in parent) name.entry (kind.File mode tag) live)
+        tree.old.place.object tree.new.place.object result }
 {
-    let node = Node::File { mode, tag };
-    let parent = Key {
-        slot: parent.slot,
-        generation: parent.generation,
-    };
-    let question = Question::Create {
-        parent,
-        name,
-        node,
-        live,
-    };
-    kf_handles::name(tree, question, out)
+    kf_handles::create(tree, parent, name, Node::File { mode, tag }, live, out)
 }
 
 /// A new link to a node (`kernfs_create_link`).
@@ -140,23 +129,17 @@ pub extern "C" fn kt_create_link(
         out.new }
     ensures kept { result ≢ pos 0 →
         IsAsBefore tree.old.place.object tree.new.place.object × (out.new ≡ out.old) }
+    ensures beside { tree.new.place.seat ≡ tree.old.place.seat }
+    ensures why { result ≢ pos 0 → ToldWhy
+        (asks.Create (key_in parent) name.entry (kind.Link (key_in target)) live)
+        tree.old.place.object tree.new.place.object result }
 {
     let target = Key {
         slot: target.slot,
         generation: target.generation,
     };
     let node = Node::Link { target };
-    let parent = Key {
-        slot: parent.slot,
-        generation: parent.generation,
-    };
-    let question = Question::Create {
-        parent,
-        name,
-        node,
-        live,
-    };
-    kf_handles::name(tree, question, out)
+    kf_handles::create(tree, parent, name, node, live, out)
 }
 
 /// Makes the nodes of a subtree live (`kernfs_activate`).
@@ -164,6 +147,9 @@ pub extern "C" fn kt_create_link(
 pub extern "C" fn kt_activate(tree: &mut KtHandle, key: KtKey) -> i32
     ensures activated { result ≡ pos 0 → ActivatedIn tree.old.place.object tree.new.place.object key }
     ensures kept { result ≢ pos 0 → IsAsBefore tree.old.place.object tree.new.place.object }
+    ensures beside { tree.new.place.seat ≡ tree.old.place.seat }
+    ensures why { result ≢ pos 0 →
+        ToldWhy (asks.Activate (key_in key)) tree.old.place.object tree.new.place.object result }
 {
     kf_handles::change(tree, Question::Activate(key_of(key)))
 }
@@ -173,6 +159,10 @@ pub extern "C" fn kt_activate(tree: &mut KtHandle, key: KtKey) -> i32
 pub extern "C" fn kt_rename(tree: &mut KtHandle, key: KtKey, dir: KtKey, name: &[u8]) -> i32
     ensures moved { result ≡ pos 0 → MovedIn tree.old.place.object tree.new.place.object key dir name.now }
     ensures kept { result ≢ pos 0 → IsAsBefore tree.old.place.object tree.new.place.object }
+    ensures beside { tree.new.place.seat ≡ tree.old.place.seat }
+    ensures why { result ≢ pos 0 → ToldWhy
+        (asks.Rename (key_in key) (key_in dir) name.entry)
+        tree.old.place.object tree.new.place.object result }
 {
     let key = Key {
         slot: key.slot,
@@ -189,35 +179,27 @@ pub extern "C" fn kt_rename(tree: &mut KtHandle, key: KtKey, dir: KtKey, name: &
 /// The child of this name, live or not (`kernfs_find_ns`).
 #[unsafe(no_mangle)]
 pub extern "C" fn kt_find(tree: &mut KtHandle, dir: KtKey, name: &[u8], out: &mut KtKey) -> i32
-    ensures found { result ≡ pos 0 →
-        FoundIn tree.old.place.object tree.new.place.object dir name.now out.new }
-    ensures kept { result ≢ pos 0 →
-        IsAsBefore tree.old.place.object tree.new.place.object × (out.new ≡ out.old) }
+    ensures same { tree.new.place ≡ tree.old.place }
+    ensures told { TellsKey (find_behind tree.old.place.object (key_in dir) name.now) result out.old out.new }
 {
-    let dir = Key {
-        slot: dir.slot,
-        generation: dir.generation,
-    };
-    kf_handles::name(tree, Question::Find { dir, name }, out)
+    kf_handles::find(tree, dir, name, out)
 }
 
 /// The node that a path names, live or not (`kernfs_walk_ns`).
 #[unsafe(no_mangle)]
 pub extern "C" fn kt_walk(tree: &mut KtHandle, path: &[u8], out: &mut KtKey) -> i32
-    ensures walked { result ≡ pos 0 →
-        WalkedIn tree.old.place.object tree.new.place.object path.now out.new }
-    ensures kept { result ≢ pos 0 →
-        IsAsBefore tree.old.place.object tree.new.place.object × (out.new ≡ out.old) }
+    ensures same { tree.new.place ≡ tree.old.place }
+    ensures told { TellsKey (walk_behind tree.old.place.object path.now) result out.old out.new }
 {
-    kf_handles::name(tree, Question::Walk(path), out)
+    kf_handles::walk(tree, path, out)
 }
 
 /// The name of the first live child above a name, in byte order; of the first of all where it is empty.
 #[unsafe(no_mangle)]
 pub extern "C" fn kt_next(tree: &mut KtHandle, dir: KtKey, after: &[u8], out: &mut [u8]) -> i64
-    ensures tree { IsAsBefore tree.old.place.object tree.new.place.object }
-    ensures told { Wrote (NextIn tree.old.place.object tree.new.place.object dir after.now)
-        result out.old out.new }
+    ensures same { tree.new.place ≡ tree.old.place }
+    ensures told { TellsText (NextIn tree.old.place.object (key_in dir) after.now)
+        (NextRefusedIn tree.old.place.object (key_in dir) after.now) result out.old out.new }
 {
     kf_handles::next(tree, dir, after, out)
 }
@@ -225,9 +207,8 @@ pub extern "C" fn kt_next(tree: &mut KtHandle, dir: KtKey, after: &[u8], out: &m
 /// What is told of a node.
 #[unsafe(no_mangle)]
 pub extern "C" fn kt_stat(tree: &mut KtHandle, key: KtKey, out: &mut KtStat) -> i32
-    ensures told { result ≡ pos 0 → ToldIn tree.old.place.object tree.new.place.object key out.new }
-    ensures tree { IsAsBefore tree.old.place.object tree.new.place.object }
-    ensures kept { result ≢ pos 0 → out.new ≡ out.old }
+    ensures same { tree.new.place ≡ tree.old.place }
+    ensures told { TellsStat (stat_behind tree.old.place.object (key_in key)) result out.old out.new }
 {
     kf_handles::tell(tree, key, out)
 }
@@ -235,42 +216,40 @@ pub extern "C" fn kt_stat(tree: &mut KtHandle, key: KtKey, out: &mut KtStat) -> 
 /// The text of a link (`kernfs_get_target_path`).
 #[unsafe(no_mangle)]
 pub extern "C" fn kt_readlink(tree: &mut KtHandle, key: KtKey, out: &mut [u8]) -> i64
-    ensures tree { IsAsBefore tree.old.place.object tree.new.place.object }
-    ensures told { Wrote (LinkTextIn tree.old.place.object tree.new.place.object key)
-        result out.old out.new }
+    ensures same { tree.new.place ≡ tree.old.place }
+    ensures told { TellsText (LinkTextIn tree.old.place.object (key_in key))
+        (LinkTextRefused tree.old.place.object (key_in key)) result out.old out.new }
 {
-    kf_handles::text(tree, Question::ReadLink(key_of(key)), out)
+    kf_handles::link_text(tree, key, out)
 }
 
 /// The directory of a node (`kernfs_get_parent`).
 #[unsafe(no_mangle)]
 pub extern "C" fn kt_parent(tree: &mut KtHandle, key: KtKey, out: &mut KtKey) -> i32
-    ensures told { result ≡ pos 0 → ParentIn tree.old.place.object tree.new.place.object key out.new }
-    ensures kept { result ≢ pos 0 →
-        IsAsBefore tree.old.place.object tree.new.place.object × (out.new ≡ out.old) }
+    ensures same { tree.new.place ≡ tree.old.place }
+    ensures told { TellsKey (parent_behind tree.old.place.object (key_in key)) result out.old out.new }
 {
-    kf_handles::name(tree, Question::Parent(key_of(key)), out)
+    kf_handles::parent(tree, key, out)
 }
 
 /// The name of a node (`kernfs_name`).
 #[unsafe(no_mangle)]
 pub extern "C" fn kt_name(alloc: Global, tree: &mut KtHandle, key: KtKey, out: &mut [u8]) -> i64
-    ensures tree { IsAsBefore tree.old.place.object tree.new.place.object }
-    ensures told { Wrote (NameIn tree.old.place.object tree.new.place.object key)
-        result out.old out.new }
+    ensures same { tree.new.place ≡ tree.old.place }
+    ensures told { TellsText (NameIn tree.old.place.object (key_in key))
+        (NameRefused tree.old.place.object (key_in key)) result out.old out.new }
 {
-    let key = key_of(key);
-    kf_handles::text(tree, Question::Name { key, alloc }, out)
+    kf_handles::name(alloc, tree, key, out)
 }
 
 /// The path of a node (`kernfs_path_from_node` from the root).
 #[unsafe(no_mangle)]
 pub extern "C" fn kt_path(tree: &mut KtHandle, key: KtKey, out: &mut [u8]) -> i64
-    ensures tree { IsAsBefore tree.old.place.object tree.new.place.object }
-    ensures told { Wrote (PathIn tree.old.place.object tree.new.place.object key)
-        result out.old out.new }
+    ensures same { tree.new.place ≡ tree.old.place }
+    ensures told { TellsText (PathIn tree.old.place.object (key_in key))
+        (PathRefused tree.old.place.object (key_in key)) result out.old out.new }
 {
-    kf_handles::text(tree, Question::Path(key_of(key)), out)
+    kf_handles::path(tree, key, out)
 }
 
 /// Makes the list of the stored commands as short as may be.
@@ -278,6 +257,10 @@ pub extern "C" fn kt_path(tree: &mut KtHandle, key: KtKey, out: &mut [u8]) -> i6
 pub extern "C" fn kt_compact(tree: &mut KtHandle) -> i32
     ensures compacted { result ≡ pos 0 → CompactedIn tree.old.place.object tree.new.place.object }
     ensures kept { result ≢ pos 0 → IsAsBefore tree.old.place.object tree.new.place.object }
+    ensures beside { tree.new.place.seat ≡ tree.old.place.seat }
+    ensures why { result ≢ pos 0 → ToldWhy
+        asks.Compact
+        tree.old.place.object tree.new.place.object result }
 {
     kf_handles::change(tree, Question::Compact)
 }
@@ -291,6 +274,9 @@ pub extern "C" fn kt_hold(tree: &mut KtHandle, key: KtKey, out: &mut KtHandle) -
     ensures taken { is_nothing out.old.place ≡ false → result ≡ negsuc 21 }
     ensures was { result ≡ pos 0 → IsNothing out.old.place }
     ensures same { result ≢ pos 0 → out.new.place ≡ out.old.place }
+    ensures beside { tree.new.place.seat ≡ tree.old.place.seat }
+    ensures why { is_nothing out.old.place ≡ true → result ≢ pos 0 →
+        ToldWhy (asks.Hold (key_in key)) tree.old.place.object tree.new.place.object result }
 {
     kf_handles::hold(tree, key, out)
 }
@@ -304,6 +290,9 @@ pub extern "C" fn kt_post(tree: &mut KtHandle, key: KtKey, out: &mut KtHandle) -
     ensures taken { is_nothing out.old.place ≡ false → result ≡ negsuc 21 }
     ensures was { result ≡ pos 0 → IsNothing out.old.place }
     ensures same { result ≢ pos 0 → out.new.place ≡ out.old.place }
+    ensures beside { tree.new.place.seat ≡ tree.old.place.seat }
+    ensures why { is_nothing out.old.place ≡ true → result ≢ pos 0 →
+        IsRefusal (PostRefused tree.old.place.object (key_in key)) result }
 {
     kf_handles::post(tree, key, out)
 }
@@ -313,6 +302,8 @@ pub extern "C" fn kt_post(tree: &mut KtHandle, key: KtKey, out: &mut KtHandle) -
 pub extern "C" fn kt_notify(post: &mut KtHandle) -> i32
     ensures notified { result ≡ pos 0 → WasNotified post.old.place.object post.new.place.object }
     ensures full { result ≢ pos 0 → WasFull post.old.place.object post.new.place.object }
+    ensures beside { post.new.place.seat ≡ post.old.place.seat }
+    ensures why { result ≢ pos 0 → result ≡ notify_error post.old.place.object }
 {
     kf_handles::notify(post)
 }
@@ -323,6 +314,8 @@ pub extern "C" fn kt_event(post: &mut KtHandle, out: &mut u64) -> i32
     ensures took { result ≡ pos 0 → TookNumber post.old.place.object out.new post.new.place.object }
     ensures same { result ≢ pos 0 →
         (post.new.place.object ≡ post.old.place.object) × (out.new ≡ out.old) }
+    ensures beside { post.new.place.seat ≡ post.old.place.seat }
+    ensures why { result ≢ pos 0 → (result ≡ negsuc 21) × IsNoPost post.old.place.object }
 {
     kf_handles::number(post, out)
 }

@@ -1,8 +1,9 @@
 //! The calls of a program on open files. Each answers 0 or more, or a Linux error number below 0.
 ghost use Rattle.std.specs.Prelude.{◌≡◌, ◌≢◌, pos, negsuc, true, false, length};
-ghost use Rattle.kf_handles.specs.Answers.{IsAsBefore, Wrote};
+ghost use Rattle.kf_handles.specs.Answers.{IsAsBefore};
 ghost use Rattle.kf_handles.specs.Calls.{IsNothing, is_nothing};
-ghost use Rattle.kf_handles.specs.Files.{OpenedIn, Serves, BeganRead, HasShown, TextFrom, MayWrite, WasPolled, ReadRefused, WriteRefused, IsSamePlace, IsNotAsked, read_error, write_error};
+ghost use Rattle.kf_handles.specs.Files.{OpenedIn, Serves, BeganRead, HasShown, TextFrom, MayWrite, WasPolled, ReadRefused, WriteRefused, IsSamePlace, IsNotAsked, IsNotShowing, HasNoText, read_error, write_error};
+ghost use Rattle.kf_handles.specs.LookUps.{TellsText};
 ghost use Rattle.kf_handles.specs.Steps.{WasEntered};
 
 use kf_files::Want;
@@ -25,6 +26,7 @@ pub extern "C" fn kt_open(
     ensures was { result ≡ pos 0 → IsNothing out.old.place }
     ensures tree { IsAsBefore tree.old.place.object tree.new.place.object }
     ensures same { result ≢ pos 0 → out.new.place ≡ out.old.place }
+    ensures beside { tree.new.place.seat ≡ tree.old.place.seat }
 {
     kf_handles::open(alloc, tree, key, Want { read, write }, out)
 }
@@ -48,6 +50,8 @@ pub extern "C" fn kt_begin_read(file: &mut KtHandle, offset: u64) -> i32
 pub extern "C" fn kt_shown(file: &mut KtHandle, text: &[u8]) -> i32
     ensures kept { result ≡ pos 0 → HasShown text.now file.old.place file.new.place }
     ensures same { result ≢ pos 0 → IsSamePlace file.old.place file.new.place }
+    ensures why { result ≢ pos 0 →
+        (result ≡ negsuc 21) × IsNotShowing file.old.place.seat file.old.place.object }
 {
     kf_handles::shown(file, text)
 }
@@ -55,8 +59,8 @@ pub extern "C" fn kt_shown(file: &mut KtHandle, text: &[u8]) -> i32
 /// Copies the text from the offset on, as much as there is room for.
 #[unsafe(no_mangle)]
 pub extern "C" fn kt_copy(file: &mut KtHandle, offset: u64, out: &mut [u8]) -> i64
-    ensures told { Wrote (TextFrom file.old.place.object offset (length out.old))
-        result out.old out.new }
+    ensures told { TellsText (TextFrom file.old.place.object offset (length out.old))
+        (HasNoText file.old.place.object) result out.old out.new }
     ensures same { IsSamePlace file.old.place file.new.place }
 {
     kf_handles::copy(file, offset, out)

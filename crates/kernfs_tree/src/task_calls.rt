@@ -15,6 +15,7 @@ pub extern "C" fn kt_claim(tree: &mut KtHandle, key: KtKey) -> i32
     ensures first { result ≡ pos 0 → ClaimedIn tree.old.place.object tree.new.place.object key false }
     ensures again { result ≡ pos 1 → ClaimedIn tree.old.place.object tree.new.place.object key true }
     ensures kept { result ≢ pos 0 → result ≢ pos 1 → IsAsBefore tree.old.place.object tree.new.place.object }
+    ensures beside { tree.new.place.seat ≡ tree.old.place.seat }
 {
     kf_handles::claim(tree, key)
 }
@@ -29,6 +30,7 @@ pub extern "C" fn kt_remove(tree: &mut KtHandle, key: KtKey) -> i32
         IsRemovingIn tree.old.place.object tree.new.place.object key true }
     ensures kept { result ≢ pos 0 → result ≢ negsuc 10 →
         IsAsBefore tree.old.place.object tree.new.place.object }
+    ensures beside { tree.new.place.seat ≡ tree.old.place.seat }
 {
     kf_handles::remove(tree, key)
 }
@@ -42,6 +44,7 @@ pub extern "C" fn kt_hide(tree: &mut KtHandle, key: KtKey) -> i32
         IsHiddenIn SawSomebody tree.old.place.object tree.new.place.object key }
     ensures kept { result ≢ pos 0 → result ≢ negsuc 10 →
         IsAsBefore tree.old.place.object tree.new.place.object }
+    ensures beside { tree.new.place.seat ≡ tree.old.place.seat }
 {
     kf_handles::hide(tree, key)
 }
@@ -55,6 +58,7 @@ pub extern "C" fn kt_unhide(tree: &mut KtHandle, key: KtKey) -> i32
         IsHiddenStillIn tree.old.place.object tree.new.place.object key }
     ensures kept { result ≢ pos 0 → result ≢ negsuc 10 →
         IsAsBefore tree.old.place.object tree.new.place.object }
+    ensures beside { tree.new.place.seat ≡ tree.old.place.seat }
 {
     kf_handles::unhide(tree, key)
 }

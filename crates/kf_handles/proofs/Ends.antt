@@ -148,9 +148,6 @@ shown_or_not old new tokens tokens' key told.Done shown =
 shown_or_not old new tokens tokens' key told.Not still = no_end_same (key ∷ []) old new still.4.0
 shown_or_not old new tokens tokens' key (told.Refused why) same = no_end_same (key ∷ []) old new same.0
 shown_or_not old new tokens tokens' key (told.Named k) never = absurd never
-shown_or_not old new tokens tokens' key (told.Listed n) never = absurd never
-shown_or_not old new tokens tokens' key (told.Told s) never = absurd never
-shown_or_not old new tokens tokens' key (told.Text t) never = absurd never
 shown_or_not old new tokens tokens' key (told.Held h) never = absurd never
 shown_or_not old new tokens tokens' key told.Wrong never = absurd never
 

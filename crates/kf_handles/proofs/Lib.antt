@@ -3,4 +3,3 @@ pub mod BySlot
 pub mod Ends
 pub mod Listed
 pub mod Looks
-pub mod Written

@@ -1,20 +1,13 @@
 -- What the calls of a program say in the words of the tree.
-use Rattle.std.specs.Prelude.{◌≡◌, ℕ, List, [], ◌∷◌, Bool, true, false, Option, None, Some, Ok, replicate}
-use Rattle.std.specs.Option.{option_map}
+use Rattle.std.specs.Prelude.{◌≡◌, ℕ, List, Bool, true, false, Option, None, Some, replicate}
 use Rattle.kf_core.specs.declared.key.Key.{Key}
 use Rattle.kf_core.specs.declared.key.Node.{Node}
 use Rattle.kf_core.specs.declared.command.Command.TheVariants.{Activate}
 use Rattle.kf_core.specs.declared.key.Node.TheVariants.{Dir, File, Link}
-use Rattle.kf_core.specs.Tree.{record_at}
 use Rattle.kf_tree.specs.declared.stat.Stat.{Stat}
 use Rattle.kf_tree.specs.Causes.{linked_cause, target_of}
-use Rattle.kf_tree.specs.Links.{HasLinkText}
-use Rattle.kf_tree.specs.Listing.{IsListing}
-use Rattle.kf_tree.specs.Stat.{stat_of}
-use Rattle.kf_tree.specs.Ways.{IsPathOf}
 use Rattle.kf_tree.specs.TreeLogs.{IsNew, IsAccepted, IsCompacted}
 use Rattle.kf_words.specs.Steps.{opened}
-use Rattle.kf_tree.specs.Paths.{found, walked}
 use Rattle.kf_shared.specs.Locked.{Created, IsHoldOfNode, is_claimed}
 use Rattle.kf_handles.specs.declared.object.Object.{Object}
 use Rattle.kf_handles.specs.declared.object.Place.{Place}
@@ -24,7 +17,7 @@ use Rattle.kf_handles.specs.declared.replies.KtKey.{KtKey}
 use Rattle.kf_handles.specs.declared.replies.KtStat.{KtStat}
 use Rattle.kf_handles.specs.declared.object.Object.TheVariants as behind
 use Rattle.kf_handles.specs.Removing.{IsMarked}
-use Rattle.kf_handles.specs.Answers.{ClaimedTo, Moved, OfTrees, bound_of}
+use Rattle.kf_handles.specs.Answers.{ClaimedTo, Moved, OfTrees}
 
 -- the key that a program has of a node
 abbrev pub key_in : KtKey → Key
@@ -34,45 +27,6 @@ key_in key = record { slot = key.slot; generation = key.generation }
 abbrev pub CreatedIn : Object → Object → KtKey → List ℕ → Node → Bool → KtKey → Type 0
 CreatedIn old new parent name node live key =
     OfTrees (λ before after. Created before after (key_in parent) name node live (key_in key)) old new
-
--- the name leads to this key from the directory, and the tree is as it was
-abbrev pub FoundIn : Object → Object → KtKey → List ℕ → KtKey → Type 0
-FoundIn old new dir name key =
-    OfTrees (λ before after. (found before.state.tree (key_in dir) name ≡ Ok (key_in key))
-    × (after ≡ before)) old new
-
--- the path leads to this key, and the tree is as it was
-abbrev pub WalkedIn : Object → Object → List ℕ → KtKey → Type 0
-WalkedIn old new path key =
-    OfTrees (λ before after. (walked before.state.tree before.state.root path ≡ Ok (key_in key))
-    × (after ≡ before)) old new
-
--- it is the key of the directory that the node is in, and the tree is as it was
-abbrev pub ParentIn : Object → Object → KtKey → KtKey → Type 0
-ParentIn old new key parent = OfTrees (λ before after.
-    (option_map (λ r. r.parent) (record_at before.state.tree (key_in key)) ≡ Some (Some (key_in parent)))
-    × (after ≡ before)) old new
-
--- it is the node's name, and the tree is as it was
-abbrev pub NameIn : Object → Object → KtKey → List ℕ → Type 0
-NameIn old new key name = OfTrees (λ before after.
-    (option_map (λ r. r.name) (record_at before.state.tree (key_in key)) ≡ Some name)
-    × (after ≡ before)) old new
-
--- it is the path that leads to the node, and the tree is as it was
-abbrev pub PathIn : Object → Object → KtKey → List ℕ → Type 0
-PathIn old new key path = OfTrees (λ before after.
-    IsPathOf before.state.tree before.state.root (key_in key) path × (after ≡ before)) old new
-
--- it is the text of the link, and the tree is as it was
-abbrev pub LinkTextIn : Object → Object → KtKey → List ℕ → Type 0
-LinkTextIn old new key text = OfTrees (λ before after.
-    HasLinkText before.state.tree before.state.root (key_in key) text × (after ≡ before)) old new
-
--- it is the first name of a live child above this one, and the tree is as it was
-abbrev pub NextIn : Object → Object → KtKey → List ℕ → List ℕ → Type 0
-NextIn old new dir after_this name = OfTrees (λ before after.
-    IsListing before.state.tree (key_in dir) (bound_of after_this) 1 (name ∷ []) × (after ≡ before)) old new
 
 -- a key as a program has it; where there is none the key 0, 0
 abbrev pub key_in_c : Option Key → KtKey
@@ -110,12 +64,6 @@ stat_in_c stat = record {
   hidden = stat.hidden;
 }
 
--- it is what the tree tells of the node, and the tree is as it was
-abbrev pub ToldIn : Object → Object → KtKey → KtStat → Type 0
-ToldIn old new key out = OfTrees (λ before after. (stat : Stat)
-    × (option_map (stat_of before.state.tree) (record_at before.state.tree (key_in key)) ≡ Some stat)
-    × (out ≡ stat_in_c stat) × (after ≡ before)) old new
-
 -- it is a new tree of the root alone, of so many slots and holds of each; the event number of each slot
 -- is 1, and nothing is hidden
 abbrev pub IsNewTree : ℕ → ℕ → Object → Type 0
@@ -131,10 +79,6 @@ abbrev pub HoldsNode : Object → KtKey → Seat → Type 0
 HoldsNode (behind.Tree tree) key (seat.Hold held) =
     IsHoldOfNode tree.value.nodes.master.table tree.value.nodes.state.tree (key_in key) held.hold
 HoldsNode tree key other = ⊥
-
--- it is the root's key, and the tree is as it was
-abbrev pub RootIn : Object → Object → KtKey → Type 0
-RootIn old new key = OfTrees (λ before after. (key_in key ≡ before.state.root) × (after ≡ before)) old new
 
 -- each node of the subtree that is not being removed is activated, and that is stored
 abbrev pub ActivatedIn : Object → Object → KtKey → Type 0

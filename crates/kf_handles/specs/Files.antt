@@ -127,6 +127,11 @@ abbrev pub IsNotAsked : Seat → Object → Type 0
 IsNotAsked at (behind.File file) = IsNotRunning at
 IsNotAsked at other = Unit {0}
 
+-- it is no file, or no call that began a show
+abbrev pub IsNotShowing : Seat → Object → Type 0
+IsNotShowing (seat.Show inside) (behind.File file) = ⊥
+IsNotShowing at object = Unit {0}
+
 -- the text of these bytes is the file's now
 abbrev pub Keeps : List ℕ → Object → Object → Type 0
 Keeps shown (behind.File old) (behind.File new) = (new.value.post ≡ old.value.post)
@@ -142,6 +147,11 @@ abbrev pub TextFrom : Object → ℕ → ℕ → List ℕ → Type 0
 TextFrom (behind.File file) offset most bytes = IsSome file.value.state.text
     × (bytes ≡ slice (text_in_file file.value.state) offset most)
 TextFrom other offset most bytes = ⊥
+
+-- why no text is copied, which is that there is none
+abbrev pub HasNoText : Object → Refusal → Type 0
+HasNoText (behind.File file) why = (why ≡ Invalid) × (file.value.state.text ≡ None)
+HasNoText other why = why ≡ Invalid
 
 -- the file was opened for writing
 abbrev pub MayWrite : Object → Type 0

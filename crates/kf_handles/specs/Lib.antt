@@ -6,6 +6,7 @@ pub mod Removing
 pub mod Steps
 pub mod Answers
 pub mod Calls
+pub mod LookUps
 pub mod Tasks
 pub mod Numbers
 pub mod Files

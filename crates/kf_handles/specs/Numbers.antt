@@ -1,7 +1,9 @@
 -- What the calls on event numbers make of what lies behind a handle.
-use Rattle.std.specs.Prelude.{◌≡◌, ◌≤◌, ◌+◌, ◌-◌, ◌^◌, ℕ, Some}
+use Rattle.std.specs.Prelude.{◌≡◌, ◌≤◌, ◌⊎◌, ◌+◌, ◌-◌, ◌^◌, ℕ, ℤ, negsuc, None, Some}
 use Rattle.std.specs.Option.{option_map}
 use Rattle.kf_core.specs.declared.key.Key.{Key}
+use Rattle.kf_core.specs.declared.refusal.Refusal.{Refusal}
+use Rattle.kf_core.specs.declared.refusal.Refusal.TheVariants.{Invalid, NoEntry, NoMemory}
 use Rattle.kf_core.specs.Tree.{record_at}
 use Rattle.kf_tree.specs.declared.stat.Stat.{Stat}
 use Rattle.kf_tree.specs.Stat.{stat_of}
@@ -24,6 +26,13 @@ IsSameTree (behind.Tree old) (behind.Tree new) =
     × (new.value.hidden ≡ old.value.hidden)
 IsSameTree old new = new ≡ old
 
+-- why no post is made: the node is not linked, or there was no memory; or it is no tree
+abbrev pub PostRefused : Object → Key → Refusal → Type 0
+PostRefused (behind.Tree tree) key why =
+    ((record_at tree.value.nodes.state.tree key ≡ None) × (why ≡ NoEntry))
+    ⊎ (((tree.value.posts.slots ≤ key.slot) × (why ≡ NoEntry)) ⊎ (why ≡ NoMemory))
+PostRefused other key why = why ≡ Invalid
+
 -- such a post lies there
 abbrev pub HasPostOf : Object → Key → Object → Type 0
 HasPostOf tree key (behind.Post post) = IsPostOf tree key post
@@ -45,3 +54,13 @@ abbrev pub TookNumber : Object → ℕ → Object → Type 0
 TookNumber (behind.Post old) number (behind.Post new) =
     IsSamePost old new × Found old number new × (old.numbers.start ≤ number)
 TookNumber old number new = ⊥
+
+-- the number of a notify that is refused: -EOVERFLOW of a post, and -EINVAL where there is none
+abbrev pub notify_error : Object → ℤ
+notify_error (behind.Post post) = negsuc 74
+notify_error other = negsuc 21
+
+-- it is no post
+abbrev pub IsNoPost : Object → Type 0
+IsNoPost (behind.Post post) = ⊥
+IsNoPost other = Unit {0}

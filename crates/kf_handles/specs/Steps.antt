@@ -1,5 +1,5 @@
 -- What the steps of a hold and a call make of what lies behind a handle.
-use Rattle.std.specs.Prelude.{◌≡◌, ◌≢◌, ◌-◌, ℕ, ℤ, pos, negsuc, if◌then◌else◌}
+use Rattle.std.specs.Prelude.{◌≡◌, ◌≢◌, ◌⊎◌, ◌-◌, ℕ, ℤ, pos, negsuc, Bool, false, if◌then◌else◌}
 use Rattle.kf_core.specs.declared.caller.Phase.TheVariants.{Running, Broken}
 use Rattle.kf_words.specs.Layout.{wants_wake}
 use Rattle.kf_words.specs.Callers.{Handle, IsSameSeat, Entered, WasTurned, seat_view}
@@ -98,3 +98,19 @@ found_by seat.None = 0
 -- the same of what its last step found
 abbrev pub wake_of : Seat → ℤ
 wake_of at = wake_after (found_by at)
+
+-- one step ended a call, which first took its reference again where it had given that up; and one who sleeps
+-- may wait for that step, or not
+abbrev pub HasEnded : Handle → Bool → Type 0
+HasEnded call wanted = (running : Handle) × ((running ≡ call) ⊎ HasRestored call running)
+    × (hold : Handle) × HasLeft running hold × (wanted ≡ wants_wake (hold.found - 1))
+
+-- so it is of a call that was let go; of all else nobody waits
+abbrev pub EndOwed : Seat → Bool → Type 0
+EndOwed (seat.Call inside) wanted = HasEnded inside.call wanted
+EndOwed (seat.Show inside) wanted = HasEnded inside.call wanted
+EndOwed other wanted = wanted ≡ false
+
+-- 1 where a wake is owed to those who sleep, and else 0
+abbrev pub WakeOwed : Seat → ℤ → Type 0
+WakeOwed at answer = (wanted : Bool) × EndOwed at wanted × (answer ≡ pos (if wanted then 1 else 0))

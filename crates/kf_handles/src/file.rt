@@ -89,7 +89,8 @@ impl File {
 
     /// Whether there is a text.
     pub fn has_text(&self) -> bool
-        ensures { IsTrue result → IsSome self.now.state.text }
+        ensures yes { IsTrue result → IsSome self.now.state.text }
+        ensures no { result ≡ false → self.now.state.text ≡ None }
     {
         self.has_text
     }

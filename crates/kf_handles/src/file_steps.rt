@@ -1,8 +1,9 @@
 //! Open files in halves, round the program's own show and store.
-ghost use Rattle.std.specs.Prelude.{◌≡◌, ◌≢◌, pos, negsuc, true, false, length};
-ghost use Rattle.kf_handles.specs.Answers.{IsAsBefore, Wrote};
+ghost use Rattle.std.specs.Prelude.{◌≡◌, ◌≢◌, pos, negsuc, true, false, length, IfErr, IfOk};
+ghost use Rattle.kf_handles.specs.Answers.{IsAsBefore};
 ghost use Rattle.kf_handles.specs.Calls.{IsNothing, is_nothing};
-ghost use Rattle.kf_handles.specs.Files.{OpenedIn, Serves, BeganRead, HasShown, TextFrom, MayWrite, WasPolled, ReadRefused, WriteRefused, IsSamePlace, IsNotAsked, open_fault, read_error, write_error};
+ghost use Rattle.kf_handles.specs.Files.{OpenedIn, Serves, BeganRead, HasShown, TextFrom, MayWrite, WasPolled, ReadRefused, WriteRefused, IsSamePlace, IsNotAsked, IsNotShowing, HasNoText, open_fault, read_error, write_error};
+ghost use Rattle.kf_handles.specs.LookUps.{TellsText};
 ghost use Rattle.kf_handles.specs.Steps.{WasEntered};
 ghost use Rattle.kf_files.specs.Files.{allows};
 
@@ -12,8 +13,9 @@ use crate::handle::KtHandle;
 use crate::numbers::post_of_handle;
 use crate::object::{Object, Place, Seat};
 use crate::questions::{Question, Reply};
-use crate::replies::{KtKey, ask_handle, copied, is_nothing, key_of, put_handle};
+use crate::replies::{KtKey, ask_handle, key_of, put_handle};
 use crate::steps;
+use crate::telling::{copied, is_nothing, stat_of};
 use core::mem::{replace, replace_with};
 use kf_core::{Node, Refusal};
 use kf_files::Want;
@@ -53,15 +55,15 @@ pub fn open(alloc: Global, handle: &mut KtHandle, key: KtKey, want: Want, out: &
     ensures was { result ≡ pos 0 → IsNothing out.old.place }
     ensures tree { IsAsBefore handle.old.place.object handle.new.place.object }
     ensures same { result ≢ pos 0 → out.new.place ≡ out.old.place }
+    ensures beside { handle.new.place.seat ≡ handle.old.place.seat }
 {
     if !is_nothing(out) {
         return INVALID;
     }
     let key = key_of(key);
-    let stat = match replace_with(handle, Question::Tell(key), ask_handle) {
-        Reply::Told(stat) => stat,
-        Reply::Refused(refusal) => return error_of(refusal),
-        _ => return INVALID,
+    let stat = match replace_with(handle, key, stat_of) {
+        Ok(stat) => stat,
+        Err(refusal) => return error_of(refusal),
     };
     if let Some(refusal) = open_fault(stat, want) {
         return error_of(refusal);
@@ -85,29 +87,28 @@ pub fn open(alloc: Global, handle: &mut KtHandle, key: KtKey, want: Want, out: &
 }
 
 /// Begins a read: 0 where the text serves it, and 1 where the node was entered for a show.
-fn begin_read_at(place: Place, offset: u64) -> (Place, i32)
-    ensures served { result.1 ≡ pos 0 → Serves offset place.object × IsSamePlace place result.0 }
-    ensures begun { result.1 ≡ pos 1 → BeganRead offset place result.0 }
-    ensures refused { result.1 ≢ pos 0 → result.1 ≢ pos 1 → ReadRefused offset place result.0 }
-    ensures why { result.1 ≢ pos 0 → result.1 ≢ pos 1 → result.1 ≡ read_error place.object place.seat }
+fn begin_read_at(place: &mut Place, offset: u64) -> i32
+    ensures served { result ≡ pos 0 → Serves offset place.old.object × IsSamePlace place.old place.new }
+    ensures begun { result ≡ pos 1 → BeganRead offset place.old place.new }
+    ensures refused { result ≢ pos 0 → result ≢ pos 1 → ReadRefused offset place.old place.new }
+    ensures why { result ≢ pos 0 → result ≢ pos 1 → result ≡ read_error place.old.object place.old.seat }
 {
-    let (seat, object) = place.into_parts();
-    match object {
-        Object::File(mut file) => {
+    match &mut place.object {
+        Object::File(file) => {
             if !file.want().read {
-                return (Place::of(seat, Object::File(file)), ACCESS);
+                return ACCESS;
             }
             if file.serves(offset) {
-                return (Place::of(seat, Object::File(file)), 0);
+                return 0;
             }
-            let (seat, answer) = steps::enter_to_show(seat);
+            let answer = replace_with(&mut place.seat, (), steps::enter_to_show);
             if answer != 0 {
-                return (Place::of(seat, Object::File(file)), answer);
+                return answer;
             }
             file.as_mut().begin_show();
-            (Place::of(seat, Object::File(file)), 1)
+            1
         }
-        other => (Place::of(seat, other), INVALID),
+        _ => INVALID,
     }
 }
 
@@ -121,7 +122,7 @@ fn begin_read_handle(handle: KtHandle, offset: u64) -> (KtHandle, i32)
         result.1 ≡ read_error handle.place.object handle.place.seat }
 {
     let mut boxed = handle.into_box();
-    let answer = replace_with(boxed.as_mut(), offset, begin_read_at);
+    let answer = begin_read_at(boxed.as_mut(), offset);
     (KtHandle::of(boxed), answer)
 }
 
@@ -138,29 +139,31 @@ pub fn begin_read(file: &mut KtHandle, offset: u64) -> i32
 }
 
 /// Keeps the text that a show made, in the call that began it.
-fn shown_at(place: Place, shown: &[u8]) -> (Place, i32)
-    ensures kept { result.1 ≡ pos 0 → HasShown shown.now place result.0 }
-    ensures same { result.1 ≢ pos 0 → IsSamePlace place result.0 }
+fn shown_at(place: &mut Place, shown: &[u8]) -> i32
+    ensures kept { result ≡ pos 0 → HasShown shown.now place.old place.new }
+    ensures same { result ≢ pos 0 → IsSamePlace place.old place.new }
+    ensures why { result ≢ pos 0 → (result ≡ negsuc 21) × IsNotShowing place.old.seat place.old.object }
 {
-    let (seat, object) = place.into_parts();
-    match object {
-        Object::File(mut file) => match seat {
-            Seat::Show(inside) => {
+    match &mut place.object {
+        Object::File(file) => match &place.seat {
+            Seat::Show(_) => {
                 file.as_mut().end_show(shown);
-                (Place::of(Seat::Show(inside), Object::File(file)), 0)
+                0
             }
-            other => (Place::of(other, Object::File(file)), INVALID),
+            _ => INVALID,
         },
-        other => (Place::of(seat, other), INVALID),
+        _ => INVALID,
     }
 }
 
 fn shown_handle(handle: KtHandle, shown: &[u8]) -> (KtHandle, i32)
     ensures kept { result.1 ≡ pos 0 → HasShown shown.now handle.place result.0.place }
     ensures same { result.1 ≢ pos 0 → IsSamePlace handle.place result.0.place }
+    ensures why { result.1 ≢ pos 0 →
+        (result.1 ≡ negsuc 21) × IsNotShowing handle.place.seat handle.place.object }
 {
     let mut boxed = handle.into_box();
-    let answer = replace_with(boxed.as_mut(), shown, shown_at);
+    let answer = shown_at(boxed.as_mut(), shown);
     (KtHandle::of(boxed), answer)
 }
 
@@ -168,8 +171,39 @@ fn shown_handle(handle: KtHandle, shown: &[u8]) -> (KtHandle, i32)
 pub fn shown(file: &mut KtHandle, shown: &[u8]) -> i32
     ensures kept { result ≡ pos 0 → HasShown shown.now file.old.place file.new.place }
     ensures same { result ≢ pos 0 → IsSamePlace file.old.place file.new.place }
+    ensures why { result ≢ pos 0 →
+        (result ≡ negsuc 21) × IsNotShowing file.old.place.seat file.old.place.object }
 {
     replace_with(file, shown, shown_handle)
+}
+
+/// The text from the offset on, at most so many bytes, of what is a file that has one.
+fn text_in(object: &Object, offset: u64, most: usize) -> Result<&[u8], Refusal>
+    ensures text { IfOk result (λ text. TextFrom object.now offset most text.now) }
+    ensures refused { IfErr result (λ why. HasNoText object.now why) }
+{
+    match object {
+        Object::File(file) => {
+            if file.has_text() {
+                Ok(file.text_from(offset, most))
+            } else {
+                Err(Refusal::Invalid)
+            }
+        }
+        _ => Err(Refusal::Invalid),
+    }
+}
+
+/// Copies the text from the offset on, of what is a file that has one.
+fn copy_text(object: &Object, offset: u64, out: &mut [u8]) -> i64
+    ensures told { TellsText (TextFrom object.now offset (length out.old)) (HasNoText object.now)
+        result out.old out.new }
+{
+    let most = out.len();
+    match text_in(object, offset, most) {
+        Ok(text) => copied(text, out),
+        Err(refusal) => i64::from(error_of(refusal)),
+    }
 }
 
 /// Takes what is beside a seat.
@@ -192,25 +226,10 @@ fn give(handle: KtHandle, object: Object) -> (KtHandle, ())
     (KtHandle::of(boxed), ())
 }
 
-/// Copies the text from the offset on, of what is a file that has one.
-fn copy_text(object: &Object, offset: u64, out: &mut [u8]) -> i64
-    ensures { Wrote (TextFrom object.now offset (length out.old)) result out.old out.new }
-{
-    match object {
-        Object::File(file) => {
-            if !file.has_text() {
-                return i64::from(INVALID);
-            }
-            copied(file.text_from(offset, out.len()), out)
-        }
-        _ => i64::from(INVALID),
-    }
-}
-
 /// Copies the text of a file from the offset on, as much as there is room for.
 pub fn copy(file: &mut KtHandle, offset: u64, out: &mut [u8]) -> i64
-    ensures told { Wrote (TextFrom file.old.place.object offset (length out.old))
-        result out.old out.new }
+    ensures told { TellsText (TextFrom file.old.place.object offset (length out.old))
+        (HasNoText file.old.place.object) result out.old out.new }
     ensures same { IsSamePlace file.old.place file.new.place }
 {
     let object = replace_with(file, (), take);
@@ -220,26 +239,24 @@ pub fn copy(file: &mut KtHandle, offset: u64, out: &mut [u8]) -> i64
 }
 
 /// Begins a write: the node was entered for a store.
-fn begin_write_at(place: Place, _nothing: ()) -> (Place, i32)
-    ensures entered { result.1 ≡ pos 0 → MayWrite place.object
-        × WasEntered place.seat result.0.seat × (result.0.object ≡ place.object) }
-    ensures refused { result.1 ≢ pos 0 → WriteRefused place result.0 }
-    ensures why { result.1 ≢ pos 0 → result.1 ≡ write_error place.object place.seat }
+fn begin_write_at(place: &mut Place) -> i32
+    ensures entered { result ≡ pos 0 → MayWrite place.old.object
+        × WasEntered place.old.seat place.new.seat × (place.new.object ≡ place.old.object) }
+    ensures refused { result ≢ pos 0 → WriteRefused place.old place.new }
+    ensures why { result ≢ pos 0 → result ≡ write_error place.old.object place.old.seat }
 {
-    let (seat, object) = place.into_parts();
-    match object {
+    match &place.object {
         Object::File(file) => {
             if !file.want().write {
-                return (Place::of(seat, Object::File(file)), ACCESS);
+                return ACCESS;
             }
-            let (seat, answer) = steps::enter(seat, ());
-            (Place::of(seat, Object::File(file)), answer)
+            replace_with(&mut place.seat, (), steps::enter)
         }
-        other => (Place::of(seat, other), INVALID),
+        _ => INVALID,
     }
 }
 
-fn begin_write_handle(handle: KtHandle, nothing: ()) -> (KtHandle, i32)
+fn begin_write_handle(handle: KtHandle, _nothing: ()) -> (KtHandle, i32)
     ensures entered { result.1 ≡ pos 0 → MayWrite handle.place.object
         × WasEntered handle.place.seat result.0.place.seat
         × (result.0.place.object ≡ handle.place.object) }
@@ -247,7 +264,7 @@ fn begin_write_handle(handle: KtHandle, nothing: ()) -> (KtHandle, i32)
     ensures why { result.1 ≢ pos 0 → result.1 ≡ write_error handle.place.object handle.place.seat }
 {
     let mut boxed = handle.into_box();
-    let answer = replace_with(boxed.as_mut(), nothing, begin_write_at);
+    let answer = begin_write_at(boxed.as_mut());
     (KtHandle::of(boxed), answer)
 }
 
@@ -263,39 +280,23 @@ pub fn begin_write(file: &mut KtHandle) -> i32
 }
 
 /// Whether a file has changed since its last show, in a call that runs.
-fn changed_at(place: Place, _nothing: ()) -> (Place, i32)
-    ensures same { result.1 ≡ pos 0 → WasPolled false place result.0 }
-    ensures changed { result.1 ≡ pos 1 → WasPolled true place result.0 }
-    ensures kept { result.1 ≢ pos 0 → result.1 ≢ pos 1 → IsSamePlace place result.0 }
-    ensures why { result.1 ≢ pos 0 → result.1 ≢ pos 1 →
-        (result.1 ≡ negsuc 21) × IsNotAsked place.seat place.object }
+fn changed_at(place: &mut Place) -> i32
+    ensures same { result ≡ pos 0 → WasPolled false place.old place.new }
+    ensures changed { result ≡ pos 1 → WasPolled true place.old place.new }
+    ensures kept { result ≢ pos 0 → result ≢ pos 1 → IsSamePlace place.old place.new }
+    ensures why { result ≢ pos 0 → result ≢ pos 1 →
+        (result ≡ negsuc 21) × IsNotAsked place.old.seat place.old.object }
 {
-    let (seat, object) = place.into_parts();
-    match object {
-        Object::File(mut file) => match seat {
-            Seat::Call(inside) => {
-                if !inside.is_running() {
-                    return (Place::of(Seat::Call(inside), Object::File(file)), INVALID);
-                }
-                let changed = file.as_mut().is_changed();
-                let place = Place::of(Seat::Call(inside), Object::File(file));
-                (place, if changed { 1 } else { 0 })
-            }
-            Seat::Show(inside) => {
-                if !inside.is_running() {
-                    return (Place::of(Seat::Show(inside), Object::File(file)), INVALID);
-                }
-                let changed = file.as_mut().is_changed();
-                let place = Place::of(Seat::Show(inside), Object::File(file));
-                (place, if changed { 1 } else { 0 })
-            }
-            other => (Place::of(other, Object::File(file)), INVALID),
-        },
-        other => (Place::of(seat, other), INVALID),
+    if !place.seat.is_running() {
+        return INVALID;
+    }
+    match &mut place.object {
+        Object::File(file) => { if file.as_mut().is_changed() { 1 } else { 0 } }
+        _ => INVALID,
     }
 }
 
-fn changed_handle(handle: KtHandle, nothing: ()) -> (KtHandle, i32)
+fn changed_handle(handle: KtHandle, _nothing: ()) -> (KtHandle, i32)
     ensures same { result.1 ≡ pos 0 → WasPolled false handle.place result.0.place }
     ensures changed { result.1 ≡ pos 1 → WasPolled true handle.place result.0.place }
     ensures kept { result.1 ≢ pos 0 → result.1 ≢ pos 1 → IsSamePlace handle.place result.0.place }
@@ -303,7 +304,7 @@ fn changed_handle(handle: KtHandle, nothing: ()) -> (KtHandle, i32)
         (result.1 ≡ negsuc 21) × IsNotAsked handle.place.seat handle.place.object }
 {
     let mut boxed = handle.into_box();
-    let answer = replace_with(boxed.as_mut(), nothing, changed_at);
+    let answer = changed_at(boxed.as_mut());
     (KtHandle::of(boxed), answer)
 }
 

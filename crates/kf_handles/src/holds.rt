@@ -1,6 +1,7 @@
 //! Holds and calls that are given back where they are let go.
 ghost use Rattle.std.specs.Prelude.{◌≡◌, ◌≢◌, false, IsTrue};
 ghost use Rattle.kf_core.specs.declared.caller.Phase.TheVariants.{Running};
+ghost use Rattle.kf_handles.specs.Steps.{HasEnded};
 
 use kf_core::Phase;
 use kf_words::{Call, Hold, Wake};
@@ -35,7 +36,7 @@ impl Drop for Held {
 
 /// A call, ended and released where it is let go.
 pub struct Inside {
-    call: Call,
+    pub(crate) call: Call,
 }
 
 impl Inside {
@@ -64,7 +65,9 @@ impl Inside {
 
     /// Ends the call, whatever its phase is, and gives its hold of the slot back. True where one who sleeps
     /// at the node may wait for that.
-    pub fn end(self) -> bool {
+    pub fn end(self) -> bool
+        ensures { HasEnded self.call result }
+    {
         let mut call = self.into_call();
         if call.phase() == Phase::Broken {
             call.restore();

@@ -18,6 +18,7 @@ mod replies;
 mod stepping;
 mod steps;
 mod tasks;
+mod telling;
 mod token;
 mod tokens;
 mod tree;
@@ -27,8 +28,8 @@ pub use handle::KtHandle;
 pub use numbers::{notify, number, post};
 pub use questions::Question;
 pub use replies::{
-    KtKey, KtStat, change, claim, clear, delete, hold, key_of, make, make_tree, name, next, tell,
-    text,
+    KtKey, KtStat, change, claim, clear, create, delete, hold, key_of, make, make_tree,
 };
 pub use stepping::{break_off, enter, leave, restore};
 pub use tasks::{hide, remove, unhide};
+pub use telling::{find, link_text, name, next, parent, path, root, tell, walk};

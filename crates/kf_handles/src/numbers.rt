@@ -1,45 +1,44 @@
 //! Event numbers: the posts of a tree's slots, and their steps.
-ghost use Rattle.std.specs.Prelude.{◌≡◌, ◌≢◌, pos, negsuc, false, IfOk, IfSome, None};
+ghost use Rattle.std.specs.Prelude.{◌≡◌, ◌≢◌, pos, negsuc, true, false, IfErr, IfOk, IfSome, None};
 ghost use Rattle.kf_handles.specs.Calls.{IsNothing, is_nothing};
-ghost use Rattle.kf_handles.specs.Numbers.{IsPostOf, IsSameTree, HasPostOf, WasNotified, WasFull, TookNumber};
+ghost use Rattle.kf_handles.specs.LookUps.{IsRefusal};
+ghost use Rattle.kf_handles.specs.Numbers.{IsPostOf, IsSameTree, HasPostOf, PostRefused, WasNotified, WasFull, TookNumber, IsNoPost, notify_error};
 
-use crate::answers::ask_object;
 use crate::errors::{INVALID, OVERFLOW, error_of};
 use crate::handle::KtHandle;
 use crate::object::{Object, Place, Seat};
-use crate::questions::{Question, Reply};
-use crate::replies::{KtKey, is_nothing, key_of, put_handle};
+use crate::replies::{KtKey, key_of, put_handle};
+use crate::telling::is_nothing;
 use core::mem::replace_with;
 use kf_core::{Key, Refusal};
 use kf_notify::Post;
 
 /// A post of the slot of a node that the tree has.
-pub fn post_of(object: Object, key: Key) -> (Object, Result<Post, Refusal>)
-    ensures made { IfOk result.1 (λ post. IsPostOf object key post) }
-    ensures tree { IsSameTree object result.0 }
+pub fn post_of(object: &mut Object, key: Key) -> Result<Post, Refusal>
+    ensures made { IfOk result (λ post. IsPostOf object.old key post) }
+    ensures refused { IfErr result (λ why. PostRefused object.old key why) }
+    ensures tree { IsSameTree object.old object.new }
 {
-    let (object, reply) = ask_object(object, Question::Tell(key));
-    match reply {
-        Reply::Told(_) => {}
-        Reply::Refused(refusal) => return (object, Err(refusal)),
-        _ => return (object, Err(Refusal::Invalid)),
-    }
     match object {
-        Object::Tree(mut tree) => {
-            let made = tree.as_mut().post(key.slot);
-            (Object::Tree(tree), made)
+        Object::Tree(tree) => {
+            if let Err(refusal) = tree.state().stat(key) {
+                return Err(refusal);
+            }
+            tree.as_mut().post(key.slot)
         }
-        other => (other, Err(Refusal::Invalid)),
+        _ => Err(Refusal::Invalid),
     }
 }
 
 /// Makes a post of the key's slot, where the handle has a tree. The tree comes back as it was.
 pub fn post_of_handle(handle: KtHandle, key: Key) -> (KtHandle, Result<Post, Refusal>)
     ensures made { IfOk result.1 (λ post. IsPostOf handle.place.object key post) }
+    ensures refused { IfErr result.1 (λ why. PostRefused handle.place.object key why) }
     ensures tree { IsSameTree handle.place.object result.0.place.object }
+    ensures beside { result.0.place.seat ≡ handle.place.seat }
 {
     let mut boxed = handle.into_box();
-    let made = replace_with(&mut boxed.as_mut().object, key, post_of);
+    let made = post_of(&mut boxed.as_mut().object, key);
     (KtHandle::of(boxed), made)
 }
 
@@ -52,6 +51,9 @@ pub fn post(handle: &mut KtHandle, key: KtKey, out: &mut KtHandle) -> i32
     ensures taken { is_nothing out.old.place ≡ false → result ≡ negsuc 21 }
     ensures was { result ≡ pos 0 → IsNothing out.old.place }
     ensures same { result ≢ pos 0 → out.new.place ≡ out.old.place }
+    ensures beside { handle.new.place.seat ≡ handle.old.place.seat }
+    ensures why { is_nothing out.old.place ≡ true → result ≢ pos 0 → IsRefusal
+        (PostRefused handle.old.place.object (record { slot = key.slot; generation = key.generation })) result }
 {
     if !is_nothing(out) {
         return INVALID;
@@ -65,28 +67,28 @@ pub fn post(handle: &mut KtHandle, key: KtKey, out: &mut KtHandle) -> i32
     }
 }
 
-fn notify_object(object: Object, _nothing: ()) -> (Object, i32)
-    ensures notified { result.1 ≡ pos 0 → WasNotified object result.0 }
-    ensures full { result.1 ≢ pos 0 → WasFull object result.0 }
+fn notify_at(object: &mut Object) -> i32
+    ensures notified { result ≡ pos 0 → WasNotified object.old object.new }
+    ensures full { result ≢ pos 0 → WasFull object.old object.new }
+    ensures why { result ≢ pos 0 → result ≡ notify_error object.old }
 {
     match object {
-        Object::Post(mut post) => {
-            let answer = match post.notify() {
-                Ok(_) => 0,
-                Err(_) => OVERFLOW,
-            };
-            (Object::Post(post), answer)
-        }
-        other => (other, INVALID),
+        Object::Post(post) => match post.notify() {
+            Ok(_) => 0,
+            Err(_) => OVERFLOW,
+        },
+        _ => INVALID,
     }
 }
 
-fn notify_handle(handle: KtHandle, nothing: ()) -> (KtHandle, i32)
+fn notify_handle(handle: KtHandle, _nothing: ()) -> (KtHandle, i32)
     ensures notified { result.1 ≡ pos 0 → WasNotified handle.place.object result.0.place.object }
     ensures full { result.1 ≢ pos 0 → WasFull handle.place.object result.0.place.object }
+    ensures why { result.1 ≢ pos 0 → result.1 ≡ notify_error handle.place.object }
+    ensures beside { result.0.place.seat ≡ handle.place.seat }
 {
     let mut boxed = handle.into_box();
-    let answer = replace_with(&mut boxed.as_mut().object, nothing, notify_object);
+    let answer = notify_at(&mut boxed.as_mut().object);
     (KtHandle::of(boxed), answer)
 }
 
@@ -94,30 +96,31 @@ fn notify_handle(handle: KtHandle, nothing: ()) -> (KtHandle, i32)
 pub fn notify(post: &mut KtHandle) -> i32
     ensures notified { result ≡ pos 0 → WasNotified post.old.place.object post.new.place.object }
     ensures full { result ≢ pos 0 → WasFull post.old.place.object post.new.place.object }
+    ensures why { result ≢ pos 0 → result ≡ notify_error post.old.place.object }
+    ensures beside { post.new.place.seat ≡ post.old.place.seat }
 {
     replace_with(post, (), notify_handle)
 }
 
-fn number_of_object(object: Object, _nothing: ()) -> (Object, Option<u64>)
-    ensures took { IfSome result.1 (λ number. TookNumber object number result.0) }
-    ensures none { result.1 ≡ None → result.0 ≡ object }
+fn number_at(object: &mut Object) -> Option<u64>
+    ensures took { IfSome result (λ number. TookNumber object.old number object.new) }
+    ensures none { result ≡ None → (object.new ≡ object.old) × IsNoPost object.old }
 {
     match object {
-        Object::Post(mut post) => {
-            let number = post.now();
-            (Object::Post(post), Some(number))
-        }
-        other => (other, None),
+        Object::Post(post) => Some(post.now()),
+        _ => None,
     }
 }
 
-fn number_of_handle(handle: KtHandle, nothing: ()) -> (KtHandle, Option<u64>)
+fn number_of_handle(handle: KtHandle, _nothing: ()) -> (KtHandle, Option<u64>)
     ensures took { IfSome result.1 (λ number.
         TookNumber handle.place.object number result.0.place.object) }
-    ensures none { result.1 ≡ None → result.0.place.object ≡ handle.place.object }
+    ensures none { result.1 ≡ None →
+        (result.0.place.object ≡ handle.place.object) × IsNoPost handle.place.object }
+    ensures beside { result.0.place.seat ≡ handle.place.seat }
 {
     let mut boxed = handle.into_box();
-    let number = replace_with(&mut boxed.as_mut().object, nothing, number_of_object);
+    let number = number_at(&mut boxed.as_mut().object);
     (KtHandle::of(boxed), number)
 }
 
@@ -126,6 +129,8 @@ pub fn number(post: &mut KtHandle, out: &mut u64) -> i32
     ensures took { result ≡ pos 0 → TookNumber post.old.place.object out.new post.new.place.object }
     ensures same { result ≢ pos 0 →
         (post.new.place.object ≡ post.old.place.object) × (out.new ≡ out.old) }
+    ensures why { result ≢ pos 0 → (result ≡ negsuc 21) × IsNoPost post.old.place.object }
+    ensures beside { post.new.place.seat ≡ post.old.place.seat }
 {
     match replace_with(post, (), number_of_handle) {
         Some(number) => {

@@ -1,6 +1,8 @@
 //! What lies behind a handle: a hold or a call, and what is beside it.
 ghost use Rattle.std.specs.Prelude.{◌≡◌, true, false};
 ghost use Rattle.kf_handles.specs.Calls.{IsNothing, is_nothing};
+ghost use Rattle.kf_handles.specs.Files.{IsRunning};
+ghost use Rattle.kf_handles.specs.Steps.{EndOwed, IsNotRunning};
 ghost use Rattle.kf_handles.specs.Tasks.{HasHidingIn, HasNoHidingIn};
 
 use crate::file::File;
@@ -16,6 +18,20 @@ pub enum Seat {
     Hold(Held),
     Call(Inside),
     Show(Inside),
+}
+
+impl Seat {
+    /// Whether it is a call that has the reference that it entered with.
+    pub fn is_running(&self) -> bool
+        ensures yes { result ≡ true → IsRunning self.now }
+        ensures no { result ≡ false → IsNotRunning self.now }
+    {
+        match self {
+            Seat::Call(inside) => inside.is_running(),
+            Seat::Show(inside) => inside.is_running(),
+            _ => false,
+        }
+    }
 }
 
 /// What is beside a seat.
@@ -49,19 +65,6 @@ impl Place {
         }
     }
 
-    /// The seat, and what is beside it.
-    pub fn into_parts(self) -> (Seat, Object)
-        ensures seat { result.0 ≡ self.seat }
-        ensures object { result.1 ≡ self.object }
-    {
-        let Place {
-            seat,
-            object,
-            apart: _,
-        } = self;
-        (seat, object)
-    }
-
     /// Whether nothing lies there.
     pub fn is_empty(&self) -> bool
         ensures nothing { result ≡ true → IsNothing self.now }
@@ -86,7 +89,9 @@ impl Place {
 
     /// Lets go of what lies there: a hold is released, and a call ended first. True where one who sleeps at
     /// the node of a call may wait for that.
-    pub fn end(self) -> bool {
+    pub fn end(self) -> bool
+        ensures { EndOwed self.seat result }
+    {
         let Place {
             seat,
             object,

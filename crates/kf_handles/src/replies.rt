@@ -1,18 +1,21 @@
 //! What the calls of a program do to what lies behind its handles, and the numbers that they answer.
 ghost use Rattle.std.specs.Prelude.{◌≡◌, ◌≢◌, ◌⊎◌, true, false, pos, negsuc};
 ghost use Rattle.kf_handles.specs.Tasks.{HasHidingIn, HasNoHidingIn};
-ghost use Rattle.kf_handles.specs.Answers.{Answered, AnsweredBehind, OfTrees, IsAsBefore, IsTextOf, Wrote, is_change, is_naming, is_reading};
-ghost use Rattle.kf_handles.specs.Calls.{IsNewTree, HoldsNode, ClaimedIn, IsNothing, is_nothing, ToldIn, NextIn, stat_in_c};
+ghost use Rattle.kf_handles.specs.Answers.{Answered, AnsweredBehind, OfTrees, IsAsBefore, ToldWhy, is_change, is_naming};
+ghost use Rattle.kf_handles.specs.Calls.{IsNewTree, CreatedIn, HoldsNode, ClaimedIn, IsNothing, is_nothing, key_in, stat_in_c};
+ghost use Rattle.kf_handles.specs.Steps.{WakeOwed};
+ghost use Rattle.kf_handles.specs.declared.questions.Question.TheVariants as asks;
 ghost use Rattle.kf_handles.specs.declared.object.Object.TheVariants as behind;
 ghost use Rattle.kf_handles.specs.declared.questions.Reply.TheVariants as told;
 
 use crate::answers::ask_object;
-use crate::errors::{BUSY, INVALID, NO_MEMORY, RANGE, error_of};
+use crate::errors::{BUSY, INVALID, NO_MEMORY, error_of};
 use crate::handle::KtHandle;
 use crate::object::{Object, Place, Seat};
 use crate::questions::{Question, Reply};
+use crate::telling::is_nothing;
 use crate::tree::Tree;
-use core::mem::replace_with;
+use core::mem::{replace, replace_with};
 use kf_core::{Key, Limits, Node};
 use kf_tree::Stat;
 use std::alloc::Global;
@@ -55,7 +58,7 @@ pub fn key_of(key: KtKey) -> Key
 }
 
 /// A node's key, as C sees it.
-fn told_key(key: Key) -> KtKey
+pub fn told_key(key: Key) -> KtKey
     ensures { result ≡ record { slot = key.slot; generation = key.generation } }
 {
     KtKey {
@@ -66,7 +69,8 @@ fn told_key(key: Key) -> KtKey
 
 /// Asks what lies behind a handle.
 pub fn ask_handle(handle: KtHandle, question: Question<'_>) -> (KtHandle, Reply)
-    ensures { AnsweredBehind question.entry handle.place.object result.0.place.object result.1 }
+    ensures told { AnsweredBehind question.entry handle.place.object result.0.place.object result.1 }
+    ensures beside { result.0.place.seat ≡ handle.place.seat }
 {
     let mut boxed = handle.into_box();
     let reply = replace_with(&mut boxed.as_mut().object, question, ask_object);
@@ -74,13 +78,16 @@ pub fn ask_handle(handle: KtHandle, question: Question<'_>) -> (KtHandle, Reply)
 }
 
 /// Asks for a key, and writes it.
-pub fn name(handle: &mut KtHandle, question: Question<'_>, out: &mut KtKey) -> i32
+fn named(handle: &mut KtHandle, question: Question<'_>, out: &mut KtKey) -> i32
     requires { is_naming question ≡ true }
     ensures done { result ≡ pos 0 → OfTrees (λ old new. Answered old.master.table question.entry old new
         (told.Named (record { slot = out.new.slot; generation = out.new.generation })))
         handle.old.place.object handle.new.place.object }
     ensures kept { result ≢ pos 0 → IsAsBefore handle.old.place.object handle.new.place.object
         × (out.new ≡ out.old) }
+    ensures beside { handle.new.place.seat ≡ handle.old.place.seat }
+    ensures why { result ≢ pos 0 →
+        ToldWhy question.entry handle.old.place.object handle.new.place.object result }
 {
     match replace_with(handle, question, ask_handle) {
         Reply::Named(key) => {
@@ -92,6 +99,36 @@ pub fn name(handle: &mut KtHandle, question: Question<'_>, out: &mut KtKey) -> i
     }
 }
 
+/// Links a new node in a directory, and writes its key.
+pub fn create(
+    handle: &mut KtHandle,
+    parent: KtKey,
+    name: &[u8],
+    node: Node,
+    live: bool,
+    out: &mut KtKey,
+) -> i32
+    ensures created { result ≡ pos 0 →
+        CreatedIn handle.old.place.object handle.new.place.object parent name.now node live out.new }
+    ensures kept { result ≢ pos 0 → IsAsBefore handle.old.place.object handle.new.place.object
+        × (out.new ≡ out.old) }
+    ensures beside { handle.new.place.seat ≡ handle.old.place.seat }
+    ensures why { result ≢ pos 0 → ToldWhy (asks.Create (key_in parent) name.entry node live)
+        handle.old.place.object handle.new.place.object result }
+{
+    let parent = Key {
+        slot: parent.slot,
+        generation: parent.generation,
+    };
+    let question = Question::Create {
+        parent,
+        name,
+        node,
+        live,
+    };
+    named(handle, question, out)
+}
+
 /// Asks for a change that is made at once or refused.
 pub fn change(handle: &mut KtHandle, question: Question<'_>) -> i32
     requires { is_change question ≡ true }
@@ -99,6 +136,8 @@ pub fn change(handle: &mut KtHandle, question: Question<'_>) -> i32
         OfTrees (λ old new. Answered old.master.table question.entry old new told.Done)
         handle.old.place.object handle.new.place.object }
     ensures kept { result ≢ pos 0 → IsAsBefore handle.old.place.object handle.new.place.object }
+    ensures beside { handle.new.place.seat ≡ handle.old.place.seat }
+    ensures why { result ≢ pos 0 → ToldWhy question.entry handle.old.place.object handle.new.place.object result }
 {
     match replace_with(handle, question, ask_handle) {
         Reply::Done => 0,
@@ -107,25 +146,8 @@ pub fn change(handle: &mut KtHandle, question: Question<'_>) -> i32
     }
 }
 
-/// Asks what is told of a node, and writes it.
-pub fn tell(handle: &mut KtHandle, key: KtKey, out: &mut KtStat) -> i32
-    ensures told { result ≡ pos 0 → ToldIn handle.old.place.object handle.new.place.object key out.new }
-    ensures tree { IsAsBefore handle.old.place.object handle.new.place.object }
-    ensures kept { result ≢ pos 0 → out.new ≡ out.old }
-{
-    let question = Question::Tell(key_of(key));
-    match replace_with(handle, question, ask_handle) {
-        Reply::Told(stat) => {
-            *out = told_of(stat);
-            0
-        }
-        Reply::Refused(refusal) => error_of(refusal),
-        _ => INVALID,
-    }
-}
-
 /// What is told of a node, as C sees it.
-fn told_of(stat: Stat) -> KtStat
+pub fn told_of(stat: Stat) -> KtStat
     ensures { result ≡ stat_in_c stat }
 {
     let nowhere = KtKey {
@@ -149,49 +171,6 @@ fn told_of(stat: Stat) -> KtStat
     }
 }
 
-/// The number of bytes, copied to the front of `out`; -ERANGE where they do not fit there.
-pub fn copied(bytes: &[u8], out: &mut [u8]) -> i64
-    ensures { Wrote (λ text. text ≡ bytes.now) result out.old out.new }
-{
-    let Ok(count) = i64::try_from(bytes.len()) else {
-        return i64::from(RANGE);
-    };
-    if bytes.len() > out.len() {
-        return i64::from(RANGE);
-    }
-    out[..bytes.len()].copy_from_slice(bytes);
-    count
-}
-
-/// Asks for a text, and copies it.
-pub fn text(handle: &mut KtHandle, question: Question<'_>, out: &mut [u8]) -> i64
-    requires { is_reading question ≡ true }
-    ensures tree { IsAsBefore handle.old.place.object handle.new.place.object }
-    ensures told { Wrote
-        (IsTextOf question.entry handle.old.place.object handle.new.place.object)
-        result out.old out.new }
-{
-    match replace_with(handle, question, ask_handle) {
-        Reply::Text(text) => copied(text.as_slice(), out),
-        Reply::Refused(refusal) => i64::from(error_of(refusal)),
-        _ => i64::from(INVALID),
-    }
-}
-
-/// Asks for the name of the next child, and copies it.
-pub fn next(handle: &mut KtHandle, dir: KtKey, after: &[u8], out: &mut [u8]) -> i64
-    ensures tree { IsAsBefore handle.old.place.object handle.new.place.object }
-    ensures told { Wrote
-        (NextIn handle.old.place.object handle.new.place.object dir after.now) result out.old out.new }
-{
-    let dir = key_of(dir);
-    match replace_with(handle, Question::Next { dir, after }, ask_handle) {
-        Reply::Listed(name) => copied(name.bytes(), out),
-        Reply::Refused(refusal) => i64::from(error_of(refusal)),
-        _ => i64::from(INVALID),
-    }
-}
-
 /// Claims the removal of a node by itself: 0, or 1 where it was claimed before.
 pub fn claim(handle: &mut KtHandle, key: KtKey) -> i32
     ensures first { result ≡ pos 0 →
@@ -200,6 +179,7 @@ pub fn claim(handle: &mut KtHandle, key: KtKey) -> i32
         ClaimedIn handle.old.place.object handle.new.place.object key true }
     ensures kept { result ≢ pos 0 → result ≢ pos 1 →
         IsAsBefore handle.old.place.object handle.new.place.object }
+    ensures beside { handle.new.place.seat ≡ handle.old.place.seat }
 {
     let question = Question::Claim(key_of(key));
     match replace_with(handle, question, ask_handle) {
@@ -211,16 +191,17 @@ pub fn claim(handle: &mut KtHandle, key: KtKey) -> i32
 }
 
 /// Puts this where there is nothing.
-fn put(place: Place, new: Place) -> (Place, i32)
-    ensures put { result.1 ≡ pos 0 → IsNothing place × (result.0 ≡ new) }
-    ensures same { result.1 ≢ pos 0 → result.0 ≡ place }
+fn put(place: &mut Place, new: Place) -> i32
+    ensures put { result ≡ pos 0 → IsNothing place.old × (place.new ≡ new) }
+    ensures same { result ≢ pos 0 → place.new ≡ place.old }
+    ensures room { is_nothing place.old ≡ true → result ≡ pos 0 }
 {
     if place.is_empty() {
-        place.end();
-        (new, 0)
+        replace(place, new).end();
+        0
     } else {
         new.end();
-        (place, INVALID)
+        INVALID
     }
 }
 
@@ -228,36 +209,11 @@ fn put(place: Place, new: Place) -> (Place, i32)
 pub fn put_handle(handle: KtHandle, new: Place) -> (KtHandle, i32)
     ensures put { result.1 ≡ pos 0 → IsNothing handle.place × (result.0.place ≡ new) }
     ensures same { result.1 ≢ pos 0 → result.0.place ≡ handle.place }
+    ensures room { is_nothing handle.place ≡ true → result.1 ≡ pos 0 }
 {
     let mut boxed = handle.into_box();
-    let answer = replace_with(boxed.as_mut(), new, put);
+    let answer = put(boxed.as_mut(), new);
     (KtHandle::of(boxed), answer)
-}
-
-/// Whether nothing lies there.
-fn look(place: Place, _nothing: ()) -> (Place, bool)
-    ensures same { result.0 ≡ place }
-    ensures known { result.1 ≡ is_nothing place }
-{
-    let empty = place.is_empty();
-    (place, empty)
-}
-
-fn look_handle(handle: KtHandle, nothing: ()) -> (KtHandle, bool)
-    ensures same { result.0.place ≡ handle.place }
-    ensures known { result.1 ≡ is_nothing handle.place }
-{
-    let mut boxed = handle.into_box();
-    let empty = replace_with(boxed.as_mut(), nothing, look);
-    (KtHandle::of(boxed), empty)
-}
-
-/// Whether nothing lies behind a handle.
-pub fn is_nothing(handle: &mut KtHandle) -> bool
-    ensures same { handle.new.place ≡ handle.old.place }
-    ensures known { result ≡ is_nothing handle.old.place }
-{
-    replace_with(handle, (), look_handle)
 }
 
 /// Takes a hold of a node, and puts it behind a handle with nothing behind it.
@@ -268,6 +224,9 @@ pub fn hold(handle: &mut KtHandle, key: KtKey, out: &mut KtHandle) -> i32
     ensures was { result ≡ pos 0 → IsNothing out.old.place }
     ensures tree { IsAsBefore handle.old.place.object handle.new.place.object }
     ensures same { result ≢ pos 0 → out.new.place ≡ out.old.place }
+    ensures beside { handle.new.place.seat ≡ handle.old.place.seat }
+    ensures why { is_nothing out.old.place ≡ true → result ≢ pos 0 →
+        ToldWhy (asks.Hold (key_in key)) handle.old.place.object handle.new.place.object result }
 {
     if !is_nothing(out) {
         return INVALID;
@@ -320,30 +279,31 @@ pub fn make_tree(alloc: Global, handle: &mut KtHandle, slots: u32, holds: u32) -
     }
 }
 
-fn end(place: Place, _nothing: ()) -> (Place, i32)
-    ensures empty { (result.1 ≡ pos 0) ⊎ (result.1 ≡ pos 1) →
-        IsNothing result.0 × HasNoHidingIn place.object }
-    ensures busy { result.1 ≢ pos 0 → result.1 ≢ pos 1 →
-        (result.1 ≡ negsuc 15) × HasHidingIn place.object × (result.0 ≡ place) }
+fn end(place: &mut Place) -> i32
+    ensures empty { (result ≡ pos 0) ⊎ (result ≡ pos 1) → IsNothing place.new × HasNoHidingIn place.old.object }
+    ensures owed { (result ≡ pos 0) ⊎ (result ≡ pos 1) → WakeOwed place.old.seat result }
+    ensures busy { result ≢ pos 0 → result ≢ pos 1 →
+        (result ≡ negsuc 15) × HasHidingIn place.old.object × (place.new ≡ place.old) }
 {
     if place.is_hiding() {
-        return (place, BUSY);
+        return BUSY;
     }
-    let wanted = place.end();
-    (
-        Place::of(Seat::None, Object::Empty),
-        if wanted { 1 } else { 0 },
-    )
+    if replace(place, Place::of(Seat::None, Object::Empty)).end() {
+        1
+    } else {
+        0
+    }
 }
 
-fn end_handle(handle: KtHandle, nothing: ()) -> (KtHandle, i32)
+fn end_handle(handle: KtHandle, _nothing: ()) -> (KtHandle, i32)
     ensures empty { (result.1 ≡ pos 0) ⊎ (result.1 ≡ pos 1) →
         IsNothing result.0.place × HasNoHidingIn handle.place.object }
+    ensures owed { (result.1 ≡ pos 0) ⊎ (result.1 ≡ pos 1) → WakeOwed handle.place.seat result.1 }
     ensures busy { result.1 ≢ pos 0 → result.1 ≢ pos 1 →
         (result.1 ≡ negsuc 15) × HasHidingIn handle.place.object × (result.0.place ≡ handle.place) }
 {
     let mut boxed = handle.into_box();
-    let answer = replace_with(boxed.as_mut(), nothing, end);
+    let answer = end(boxed.as_mut());
     (KtHandle::of(boxed), answer)
 }
 
@@ -352,6 +312,7 @@ fn end_handle(handle: KtHandle, nothing: ()) -> (KtHandle, i32)
 pub fn clear(handle: &mut KtHandle) -> i32
     ensures empty { (result ≡ pos 0) ⊎ (result ≡ pos 1) →
         IsNothing handle.new.place × HasNoHidingIn handle.old.place.object }
+    ensures owed { (result ≡ pos 0) ⊎ (result ≡ pos 1) → WakeOwed handle.old.place.seat result }
     ensures busy { result ≢ pos 0 → result ≢ pos 1 → (result ≡ negsuc 15)
         × HasHidingIn handle.old.place.object × (handle.new.place ≡ handle.old.place) }
 {
@@ -362,11 +323,12 @@ pub fn clear(handle: &mut KtHandle) -> i32
 /// the program's.
 pub fn delete(handle: KtHandle) -> i32
     ensures gone { (result ≡ pos 0) ⊎ (result ≡ pos 1) → HasNoHidingIn handle.place.object }
+    ensures owed { (result ≡ pos 0) ⊎ (result ≡ pos 1) → WakeOwed handle.place.seat result }
     ensures busy { result ≢ pos 0 → result ≢ pos 1 →
         (result ≡ negsuc 15) × HasHidingIn handle.place.object }
 {
     let mut boxed = handle.into_box();
-    let answer = replace_with(boxed.as_mut(), (), end);
+    let answer = end(boxed.as_mut());
     if answer < 0 {
         let _ = KtHandle::of(boxed).into_pointer();
         return answer;

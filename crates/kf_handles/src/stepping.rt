@@ -34,7 +34,8 @@ fn leave_handle(handle: KtHandle, nothing: ()) -> (KtHandle, i32)
     (KtHandle::of(boxed), answer)
 }
 
-fn break_handle(handle: KtHandle, nothing: ()) -> (KtHandle, i32)
+#[inline(always)]
+fn break_handle(handle: KtHandle, _nothing: ()) -> (KtHandle, i32)
     ensures broken { (result.1 ≡ pos 0) ⊎ (result.1 ≡ pos 1) →
         WasBroken handle.place.seat result.0.place.seat }
     ensures owed { (result.1 ≡ pos 0) ⊎ (result.1 ≡ pos 1) →
@@ -45,11 +46,12 @@ fn break_handle(handle: KtHandle, nothing: ()) -> (KtHandle, i32)
     ensures beside { result.0.place.object ≡ handle.place.object }
 {
     let mut boxed = handle.into_box();
-    let answer = replace_with(&mut boxed.as_mut().seat, nothing, steps::break_off);
+    let answer = steps::break_off(&mut boxed.as_mut().seat);
     (KtHandle::of(boxed), answer)
 }
 
-fn restore_handle(handle: KtHandle, nothing: ()) -> (KtHandle, i32)
+#[inline(always)]
+fn restore_handle(handle: KtHandle, _nothing: ()) -> (KtHandle, i32)
     ensures restored { result.1 ≡ pos 0 → WasRestored handle.place.seat result.0.place.seat }
     ensures same { result.1 ≢ pos 0 → result.0.place.seat ≡ handle.place.seat }
     ensures why { result.1 ≢ pos 0 →
@@ -57,7 +59,7 @@ fn restore_handle(handle: KtHandle, nothing: ()) -> (KtHandle, i32)
     ensures beside { result.0.place.object ≡ handle.place.object }
 {
     let mut boxed = handle.into_box();
-    let answer = replace_with(&mut boxed.as_mut().seat, nothing, steps::restore);
+    let answer = steps::restore(&mut boxed.as_mut().seat);
     (KtHandle::of(boxed), answer)
 }
 

@@ -48,7 +48,8 @@ pub fn enter(seat: Seat, _nothing: ()) -> (Seat, i32)
 }
 
 /// Tries for a reference for a show.
-pub fn enter_to_show(seat: Seat) -> (Seat, i32)
+#[inline(always)]
+pub fn enter_to_show(seat: Seat, _nothing: ()) -> (Seat, i32)
     ensures entered { result.1 ≡ pos 0 → WasEnteredToShow seat result.0 }
     ensures refused { result.1 ≢ pos 0 → WasRefused seat result.0 }
     ensures why { result.1 ≢ pos 0 → result.1 ≡ enter_error seat }
@@ -93,70 +94,59 @@ pub fn leave(seat: Seat, _nothing: ()) -> (Seat, i32)
 }
 
 /// Gives the reference of a call up, where that has the one that it entered with.
-fn break_inside(inside: Inside) -> (Inside, i32)
-    ensures broken { (result.1 ≡ pos 0) ⊎ (result.1 ≡ pos 1) → HasBroken inside.call result.0.call }
-    ensures owed { (result.1 ≡ pos 0) ⊎ (result.1 ≡ pos 1) → result.1 ≡ wake_after result.0.call.found }
-    ensures same { result.1 ≢ pos 0 → result.1 ≢ pos 1 → result.0 ≡ inside }
-    ensures why { result.1 ≢ pos 0 → result.1 ≢ pos 1 →
-        (result.1 ≡ negsuc 21) × (inside.call.phase ≢ Running) }
+#[inline(always)]
+fn break_inside(inside: &mut Inside) -> i32
+    ensures broken { (result ≡ pos 0) ⊎ (result ≡ pos 1) → HasBroken inside.old.call inside.new.call }
+    ensures owed { (result ≡ pos 0) ⊎ (result ≡ pos 1) → result ≡ wake_after inside.new.call.found }
+    ensures same { result ≢ pos 0 → result ≢ pos 1 → inside.new ≡ inside.old }
+    ensures why { result ≢ pos 0 → result ≢ pos 1 →
+        (result ≡ negsuc 21) × (inside.old.call.phase ≢ Running) }
 {
-    let mut call = inside.into_call();
-    if call.phase() != Phase::Running {
-        return (Inside::new(call), INVALID);
+    if !inside.is_running() {
+        return INVALID;
     }
-    let due = call.break_quiet();
-    (Inside::new(call), told(due.told()))
+    told(inside.call.break_quiet().told())
 }
 
 /// Gives the reference up inside the callback, where the call has the one that it entered with.
-pub fn break_off(seat: Seat, _nothing: ()) -> (Seat, i32)
-    ensures broken { (result.1 ≡ pos 0) ⊎ (result.1 ≡ pos 1) → WasBroken seat result.0 }
-    ensures owed { (result.1 ≡ pos 0) ⊎ (result.1 ≡ pos 1) → result.1 ≡ wake_of result.0 }
-    ensures same { result.1 ≢ pos 0 → result.1 ≢ pos 1 → result.0 ≡ seat }
-    ensures why { result.1 ≢ pos 0 → result.1 ≢ pos 1 → (result.1 ≡ negsuc 21) × IsNotRunning seat }
+#[inline(always)]
+pub fn break_off(seat: &mut Seat) -> i32
+    ensures broken { (result ≡ pos 0) ⊎ (result ≡ pos 1) → WasBroken seat.old seat.new }
+    ensures owed { (result ≡ pos 0) ⊎ (result ≡ pos 1) → result ≡ wake_of seat.new }
+    ensures same { result ≢ pos 0 → result ≢ pos 1 → seat.new ≡ seat.old }
+    ensures why { result ≢ pos 0 → result ≢ pos 1 → (result ≡ negsuc 21) × IsNotRunning seat.old }
 {
     match seat {
-        Seat::Call(inside) => {
-            let (inside, answer) = break_inside(inside);
-            (Seat::Call(inside), answer)
-        }
-        Seat::Show(inside) => {
-            let (inside, answer) = break_inside(inside);
-            (Seat::Show(inside), answer)
-        }
-        other => (other, INVALID),
+        Seat::Call(inside) => break_inside(inside),
+        Seat::Show(inside) => break_inside(inside),
+        _ => INVALID,
     }
 }
 
 /// Takes a reference again, where the call gave its own up.
-fn restore_inside(inside: Inside) -> (Inside, i32)
-    ensures restored { result.1 ≡ pos 0 → HasRestored inside.call result.0.call }
-    ensures same { result.1 ≢ pos 0 → result.0 ≡ inside }
-    ensures why { result.1 ≢ pos 0 → (result.1 ≡ negsuc 21) × (inside.call.phase ≢ Broken) }
+#[inline(always)]
+fn restore_inside(inside: &mut Inside) -> i32
+    ensures restored { result ≡ pos 0 → HasRestored inside.old.call inside.new.call }
+    ensures same { result ≢ pos 0 → inside.new ≡ inside.old }
+    ensures why { result ≢ pos 0 → (result ≡ negsuc 21) × (inside.old.call.phase ≢ Broken) }
 {
-    let mut call = inside.into_call();
-    if call.phase() != Phase::Broken {
-        return (Inside::new(call), INVALID);
+    if inside.call.phase() != Phase::Broken {
+        return INVALID;
     }
-    call.restore();
-    (Inside::new(call), 0)
+    inside.call.restore();
+    0
 }
 
 /// Takes a reference again, where the call gave its own up.
-pub fn restore(seat: Seat, _nothing: ()) -> (Seat, i32)
-    ensures restored { result.1 ≡ pos 0 → WasRestored seat result.0 }
-    ensures same { result.1 ≢ pos 0 → result.0 ≡ seat }
-    ensures why { result.1 ≢ pos 0 → (result.1 ≡ negsuc 21) × IsNotBroken seat }
+#[inline(always)]
+pub fn restore(seat: &mut Seat) -> i32
+    ensures restored { result ≡ pos 0 → WasRestored seat.old seat.new }
+    ensures same { result ≢ pos 0 → seat.new ≡ seat.old }
+    ensures why { result ≢ pos 0 → (result ≡ negsuc 21) × IsNotBroken seat.old }
 {
     match seat {
-        Seat::Call(inside) => {
-            let (inside, answer) = restore_inside(inside);
-            (Seat::Call(inside), answer)
-        }
-        Seat::Show(inside) => {
-            let (inside, answer) = restore_inside(inside);
-            (Seat::Show(inside), answer)
-        }
-        other => (other, INVALID),
+        Seat::Call(inside) => restore_inside(inside),
+        Seat::Show(inside) => restore_inside(inside),
+        _ => INVALID,
     }
 }

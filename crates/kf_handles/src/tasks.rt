@@ -27,7 +27,8 @@ fn step_object(object: Object, task: Task) -> (Object, Reply)
 }
 
 fn step_handle(handle: KtHandle, task: Task) -> (KtHandle, Reply)
-    ensures { SteppedBehind task handle.place.object result.0.place.object result.1 }
+    ensures told { SteppedBehind task handle.place.object result.0.place.object result.1 }
+    ensures beside { result.0.place.seat ≡ handle.place.seat }
 {
     let mut boxed = handle.into_box();
     let reply = replace_with(&mut boxed.as_mut().object, task, step_object);
@@ -42,6 +43,7 @@ pub fn remove(handle: &mut KtHandle, key: KtKey) -> i32
         IsRemovingIn handle.old.place.object handle.new.place.object key true }
     ensures kept { result ≢ pos 0 → result ≢ negsuc 10 →
         IsAsBefore handle.old.place.object handle.new.place.object }
+    ensures beside { handle.new.place.seat ≡ handle.old.place.seat }
 {
     let task = Task::Remove(key_of(key));
     match replace_with(handle, task, step_handle) {
@@ -60,6 +62,7 @@ pub fn hide(handle: &mut KtHandle, key: KtKey) -> i32
         IsHiddenIn SawSomebody handle.old.place.object handle.new.place.object key }
     ensures kept { result ≢ pos 0 → result ≢ negsuc 10 →
         IsAsBefore handle.old.place.object handle.new.place.object }
+    ensures beside { handle.new.place.seat ≡ handle.old.place.seat }
 {
     let task = Task::Hide(key_of(key));
     match replace_with(handle, task, step_handle) {
@@ -78,6 +81,7 @@ pub fn unhide(handle: &mut KtHandle, key: KtKey) -> i32
         IsHiddenStillIn handle.old.place.object handle.new.place.object key }
     ensures kept { result ≢ pos 0 → result ≢ negsuc 10 →
         IsAsBefore handle.old.place.object handle.new.place.object }
+    ensures beside { handle.new.place.seat ≡ handle.old.place.seat }
 {
     let task = Task::Unhide(key_of(key));
     match replace_with(handle, task, step_handle) {

@@ -1,5 +1,6 @@
 //! A tree with the event numbers of its slots and the tokens of its hidden files.
-ghost use Rattle.std.specs.Prelude.{◌≡◌, None, true, false, IfOk, replicate};
+ghost use Rattle.std.specs.Prelude.{◌≡◌, ◌≤◌, ◌⊎◌, None, true, false, IfErr, IfOk, replicate};
+ghost use Rattle.kf_core.specs.declared.refusal.Refusal.TheVariants as refusal_of;
 ghost use Rattle.kf_notify.specs.PostStates.{IsNewPost};
 ghost use Rattle.kf_tree.specs.TreeLogs.{IsNew};
 ghost use Rattle.kf_words.specs.Steps.{opened};
@@ -17,6 +18,7 @@ use crate::tokens::{has_hiding, no_tokens};
 use kf_core::{Limits, Refusal};
 use kf_notify::{Post, Posts};
 use kf_shared::{Locked, Naming, NewTree, SharedTree};
+use kf_tree::State;
 use std::alloc::Global;
 use std::marker::{Brand, Model};
 
@@ -57,10 +59,19 @@ impl Tree {
         })
     }
 
+    /// The tree with its stored commands.
+    pub fn state(&self) -> &State
+        ensures { result.now ≡ self.now.nodes.state }
+    {
+        self.nodes.state()
+    }
+
     /// A post of a slot.
     pub fn post(&mut self, slot: u32) -> Result<Post, Refusal>
         ensures same { self.new ≡ self.old }
         ensures made { IfOk result (λ post. IsNewPost self.old.posts slot post) }
+        ensures refused { IfErr result (λ why.
+            ((self.old.posts.slots ≤ slot) × (why ≡ refusal_of.NoEntry)) ⊎ (why ≡ refusal_of.NoMemory)) }
     {
         if slot >= self.posts.slots() {
             return Err(Refusal::NoEntry);

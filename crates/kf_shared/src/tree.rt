@@ -44,6 +44,13 @@ fn no_claims(alloc: Global, slots: u32) -> Result<Vec<u32>, AllocError>
 }
 
 impl NewTree {
+    /// The tree with its stored commands.
+    pub fn state(&self) -> &State
+        ensures same { result.now ≡ self.now.state }
+    {
+        &self.state
+    }
+
     /// The tree without a lock, under the name of its table, for one owner or for a lock of the caller's own.
     /// It takes no memory.
     ///

@@ -1,0 +1,144 @@
+-- What look-ups answer of the tree behind a handle, and what of that a program has.
+use Rattle.std.specs.Prelude.{◌≡◌, ◌<◌, ◌≤◌, ◌⊎◌, ◌^◌, ℕ, ℤ, pos, negsuc, neg_ℤ, List, [], ◌∷◌, ◌++◌, length, drop, false, Option, None, Some, Result, Ok, Err}
+use Rattle.std.specs.Option.{option_map, ok_or}
+use Rattle.kf_core.specs.declared.key.Key.{Key}
+use Rattle.kf_core.specs.declared.refusal.Refusal.{Refusal}
+use Rattle.kf_core.specs.declared.refusal.Refusal.TheVariants.{NoEntry, NoMemory, Invalid}
+use Rattle.kf_core.specs.Refusals.{number_of}
+use Rattle.kf_core.specs.Tree.{record_at, is_linked}
+use Rattle.kf_tree.specs.declared.stat.Stat.{Stat}
+use Rattle.kf_tree.specs.Causes.{Refuses, linked_cause, list_cause, text_cause}
+use Rattle.kf_tree.specs.Links.{HasLinkText}
+use Rattle.kf_tree.specs.Listing.{IsListing}
+use Rattle.kf_tree.specs.Paths.{found, walked}
+use Rattle.kf_tree.specs.Stat.{stat_of}
+use Rattle.kf_tree.specs.TreeLogs.{TreeLog}
+use Rattle.kf_tree.specs.Ways.{IsPathOf}
+use Rattle.kf_handles.specs.declared.object.Object.{Object}
+use Rattle.kf_handles.specs.declared.object.Object.TheVariants as behind
+use Rattle.kf_handles.specs.declared.replies.KtKey.{KtKey}
+use Rattle.kf_handles.specs.declared.replies.KtStat.{KtStat}
+use Rattle.kf_handles.specs.Calls.{stat_in_c}
+
+-- ---- what is answered; what is no tree is asked nothing
+
+-- the root's key
+abbrev pub root_behind : Object → Result Key Refusal
+root_behind (behind.Tree tree) = Ok tree.value.nodes.state.root
+root_behind other = Err Invalid
+
+-- the child of this name, live or not
+abbrev pub find_behind : Object → Key → List ℕ → Result Key Refusal
+find_behind (behind.Tree tree) dir name = found tree.value.nodes.state.tree dir name
+find_behind other dir name = Err Invalid
+
+-- the node at a path, live or not
+abbrev pub walk_behind : Object → List ℕ → Result Key Refusal
+walk_behind (behind.Tree tree) path = walked tree.value.nodes.state.tree tree.value.nodes.state.root path
+walk_behind other path = Err Invalid
+
+-- the directory of a record that was found, where there is one; the root has none
+abbrev pub parent_told : Option (Option Key) → Result Key Refusal
+parent_told None = Err NoEntry
+parent_told (Some None) = Err Invalid
+parent_told (Some (Some dir)) = Ok dir
+
+-- the directory of a node
+abbrev pub parent_behind : Object → Key → Result Key Refusal
+parent_behind (behind.Tree tree) key =
+    parent_told (option_map (λ r. r.parent) (record_at tree.value.nodes.state.tree key))
+parent_behind other key = Err Invalid
+
+-- what is told of a node
+abbrev pub stat_behind : Object → Key → Result Stat Refusal
+stat_behind (behind.Tree tree) key =
+    ok_or (option_map (stat_of tree.value.nodes.state.tree) (record_at tree.value.nodes.state.tree key)) NoEntry
+stat_behind other key = Err Invalid
+
+-- it is the node's name
+abbrev pub NameIn : Object → Key → List ℕ → Type 0
+NameIn (behind.Tree tree) key name =
+    option_map (λ r. r.name) (record_at tree.value.nodes.state.tree key) ≡ Some name
+NameIn other key name = ⊥
+
+-- why there is no name: the node is not linked, or there was no memory
+abbrev pub NameRefused : Object → Key → Refusal → Type 0
+NameRefused (behind.Tree tree) key why =
+    ((why ≡ NoEntry) × (is_linked tree.value.nodes.state.tree key ≡ false)) ⊎ (why ≡ NoMemory)
+NameRefused other key why = why ≡ Invalid
+
+-- it is the path that leads to the node
+abbrev pub PathIn : Object → Key → List ℕ → Type 0
+PathIn (behind.Tree tree) key path =
+    IsPathOf tree.value.nodes.state.tree tree.value.nodes.state.root key path
+PathIn other key path = ⊥
+
+-- why there is no path
+abbrev pub PathRefused : Object → Key → Refusal → Type 0
+PathRefused (behind.Tree tree) key why = Refuses (linked_cause tree.value.nodes.state.tree key) why
+PathRefused other key why = why ≡ Invalid
+
+-- it is the text of the link
+abbrev pub LinkTextIn : Object → Key → List ℕ → Type 0
+LinkTextIn (behind.Tree tree) key text =
+    HasLinkText tree.value.nodes.state.tree tree.value.nodes.state.root key text
+LinkTextIn other key text = ⊥
+
+-- why there is no text
+abbrev pub LinkTextRefused : Object → Key → Refusal → Type 0
+LinkTextRefused (behind.Tree tree) key why = Refuses (text_cause tree.value.nodes.state.tree key) why
+LinkTextRefused other key why = why ≡ Invalid
+
+-- the bound of a listing: none where the name is empty
+abbrev pub bound_of : List ℕ → Option (List ℕ)
+bound_of [] = None
+bound_of (byte ∷ bytes) = Some (byte ∷ bytes)
+
+-- it is the first name of a live child above this one
+abbrev pub NextIn : Object → Key → List ℕ → List ℕ → Type 0
+NextIn (behind.Tree tree) dir after_this name =
+    IsListing tree.value.nodes.state.tree dir (bound_of after_this) 1 (name ∷ [])
+NextIn other dir after_this name = ⊥
+
+-- the directory cannot be listed, or has no live child above the bound, or there was no memory
+abbrev pub NextRefused : TreeLog → Key → List ℕ → Refusal → Type 0
+NextRefused s dir after_this why = Refuses (list_cause s.tree dir) why
+    ⊎ ((why ≡ NoEntry) × IsListing s.tree dir (bound_of after_this) 1 [])
+
+-- why there is no next name
+abbrev pub NextRefusedIn : Object → Key → List ℕ → Refusal → Type 0
+NextRefusedIn (behind.Tree tree) dir after_this why = NextRefused tree.value.nodes.state dir after_this why
+NextRefusedIn other dir after_this why = why ≡ Invalid
+
+-- ---- what a program has of it
+
+-- the number of a refusal, below 0
+abbrev pub error_in_c : Refusal → ℤ
+error_in_c why = neg_ℤ (pos (number_of why))
+
+-- it is the number of a refusal of which this holds
+abbrev pub IsRefusal : (Refusal → Type 0) → ℤ → Type 0
+IsRefusal Why answer = (why : Refusal) × Why why × (answer ≡ error_in_c why)
+
+-- 0, and the key is written; or the number of the refusal, and nothing is
+abbrev pub TellsKey : Result Key Refusal → ℤ → KtKey → KtKey → Type 0
+TellsKey (Ok key) answer out out' =
+    (answer ≡ pos 0) × (out' ≡ record { slot = key.slot; generation = key.generation })
+TellsKey (Err why) answer out out' = (answer ≡ error_in_c why) × (out' ≡ out)
+
+-- 0, and what is told of a node is written; or the number of the refusal, and nothing is
+abbrev pub TellsStat : Result Stat Refusal → ℤ → KtStat → KtStat → Type 0
+TellsStat (Ok stat) answer out out' = (answer ≡ pos 0) × (out' ≡ stat_in_c stat)
+TellsStat (Err why) answer out out' = (answer ≡ error_in_c why) × (out' ≡ out)
+
+-- the length of the text, which stands at the front of the buffer, and the rest of that stays; or -ERANGE,
+-- where it does not fit there, and all of it stays
+abbrev pub WritesText : List ℕ → ℤ → List ℕ → List ℕ → Type 0
+WritesText text (pos count) out out' = (count ≡ length text) × (out' ≡ text ++ drop count out)
+WritesText text (negsuc why) out out' =
+    (why ≡ 33) × (out' ≡ out) × ((length out < length text) ⊎ (2 ^ 63 ≤ length text))
+
+-- so it is of a text of which this holds; or the number of such a refusal is answered, and nothing written
+abbrev pub TellsText : (List ℕ → Type 0) → (Refusal → Type 0) → ℤ → List ℕ → List ℕ → Type 0
+TellsText Such Why answer out out' = ((text : List ℕ) × Such text × WritesText text answer out out')
+    ⊎ (IsRefusal Why answer × (out' ≡ out))
