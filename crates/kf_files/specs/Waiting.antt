@@ -1,10 +1,11 @@
 -- Visits to a node of a shared tree by one hold. Of callbacks only their answers are told.
-use Rattle.std.specs.Prelude.{◌≡◌, ◌≢◌, ◌⊎◌, ℕ, true, List, [], ◌∷◌, take, Result, Ok}
+use Rattle.std.specs.Prelude.{◌≡◌, ◌≢◌, ◌⊎◌, ℕ, true, List, [], ◌∷◌, length, take, Result, Ok}
 use Rattle.kf_core.specs.Calls.{CallView, Visit, Visits}
 use Rattle.kf_words.specs.Callers.{Handle, SeatId, id_of, seat_view, IsSameSeat, Entered, WasTurned, WasLeft}
 use Rattle.kf_words.specs.Layout.{keeps_out}
 use Rattle.kf_words.specs.Runs.{WasLetInLive, WasATryUndone, WasALeave}
 use Rattle.kf_files.specs.declared.ops.Fault.{Fault}
+use Rattle.kf_files.specs.Binary.{front_of}
 use Rattle.kf_files.specs.Opened.{Opened}
 
 module _ {G : Type 0} where
@@ -36,6 +37,19 @@ WaitVisits idle does hold hold' =
 abbrev pub MayStore : (ℕ → List ℕ → Result ℕ Fault → Type 0) → ℕ → List ℕ → Result ℕ Fault → Type 0
 MayStore stores tag [] answer = answer ≡ Ok 0
 MayStore stores tag (byte ∷ bytes) answer = stores tag (take 4096 (byte ∷ bytes)) answer
+
+-- what a read at an offset may answer, which made this of the buffer; into no room there is none
+abbrev pub MayReadAt : (ℕ → ℕ → ℕ → Result (List ℕ) Fault → Type 0) → ℕ → ℕ → List ℕ → List ℕ
+    → Result ℕ Fault → Type 0
+MayReadAt reads_at tag offset [] out' answer = answer ≡ Ok 0
+MayReadAt reads_at tag offset (byte ∷ out) out' answer =
+    reads_at tag offset (length (byte ∷ out)) (front_of answer out')
+
+-- what a write of these bytes at an offset may answer; of no bytes there is none
+abbrev pub MayWriteAt : (ℕ → ℕ → List ℕ → Result ℕ Fault → Type 0) → ℕ → ℕ → List ℕ
+    → Result ℕ Fault → Type 0
+MayWriteAt writes_at tag offset [] answer = answer ≡ Ok 0
+MayWriteAt writes_at tag offset (byte ∷ bytes) answer = writes_at tag offset (byte ∷ bytes) answer
 
 -- its last load found another event number than this, or its last try a word that keeps it out
 abbrev pub HasChanged : ℕ → Opened Handle → Type 0

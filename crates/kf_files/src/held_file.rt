@@ -20,9 +20,9 @@ use std::marker::Model;
 #[derive(Drop)]
 pub struct HeldFile<G: Guard, P: PageHolder> {
     // Empty only while a call has the hold.
-    hold: Option<G::Hold>,
-    tag: u64,
-    contents: Contents<P>,
+    pub(crate) hold: Option<G::Hold>,
+    pub(crate) tag: u64,
+    pub(crate) contents: Contents<P>,
     ghost held: { IsSome hold },
 }
 

@@ -1,8 +1,10 @@
 //! Open files of attributes: pages, the callbacks that show and store, and when a file has changed.
 #![tactic(auto)]
 
+mod binary_ops;
 mod contents;
 mod event_numbers;
+mod held_binary;
 mod held_file;
 mod hold;
 mod open_file;
@@ -13,6 +15,7 @@ mod tree_seats;
 mod wait_ops;
 mod waiting_file;
 
+pub use binary_ops::{BinaryOps, WaitBinaryOps};
 pub use contents::Want;
 pub use event_numbers::EventNumbers;
 pub use held_file::HeldFile;

@@ -4,8 +4,10 @@ ghost use Rattle.std.specs.Prelude.{◌≡◌, ◌≤◌, length, IfOk, MatchRes
 ghost use Rattle.kf_core.specs.Calls.{Visits};
 ghost use Rattle.kf_notify.specs.PostStates.{Took};
 ghost use Rattle.kf_files.specs.Files.{Opens, Reads, Writes, Polls, Gives, Stored, new_file, tag_of};
+ghost use Rattle.kf_files.specs.Binary.{ReadAt, ReadsAt, WrittenAt};
 ghost use Rattle.kf_files.specs.Opened.{hold_after, paged_after, paged_refusal, refusal_of};
 
+use crate::binary_ops::BinaryOps;
 use crate::contents::Want;
 use crate::held_file::HeldFile;
 use crate::ops::{FileError, Ops, Page};
@@ -162,6 +164,61 @@ impl<G: Guard, P: PageHolder> OpenFile<G, P> {
         ensures may_enter { G.may_enter guard.new self.new.hold }
     {
         self.file.write(guard, ops, bytes)
+    }
+
+    /// Reads bytes of a binary attribute from the offset on, as [`HeldFile::read_at`] does.
+    ///
+    /// Condition: the file's hold may try, as it may after `open` and after each call here.
+    ///
+    /// Refusals, in order: `Access` where the file was not opened for reading, `NoDevice` where the node is
+    /// not live; both change nothing.
+    pub fn read_at<B: BinaryOps<G::Call>>(
+        &mut self,
+        guard: &mut G,
+        ops: &mut B,
+        offset: u64,
+        out: &mut [u8],
+    ) -> Result<usize, FileError>
+        requires may_enter { G.may_enter guard.old self.old.hold }
+        ensures reads { ReadsAt
+            (Visits G.enters G.refuses G.leaves G.Call.view_of
+            ((ops.new ≡ ops.old) × (self.new.post ≡ self.old.post) × (out.new ≡ out.old))
+            (λ read. Took self.old.post read.number self.new.post
+            × ReadAt B.reads_at ops.old self.old.tag offset out.old out.new ops.new read.answer)
+            guard.old self.old.hold guard.new self.new.hold)
+            self.old.state result self.new.state }
+        ensures fits { IfOk result (λ count. count ≤ length out.new) }
+        ensures same { self.new ≡
+            record self.old { hold = self.new.hold; post = self.new.post; state = self.new.state } }
+        ensures may_enter { G.may_enter guard.new self.new.hold }
+    {
+        self.file.read_at(guard, ops, &mut self.post, offset, out)
+    }
+
+    /// Writes all the bytes of a binary attribute at the offset, as [`HeldFile::write_at`] does.
+    ///
+    /// Condition: the file's hold may try, as it may after `open` and after each call here.
+    ///
+    /// Refusals, in order: `Access` where the file was not opened for writing, `NoDevice` where the node is
+    /// not live.
+    pub fn write_at<B: BinaryOps<G::Call>>(
+        &mut self,
+        guard: &mut G,
+        ops: &mut B,
+        offset: u64,
+        bytes: &[u8],
+    ) -> Result<usize, FileError>
+        requires may_enter { G.may_enter guard.old self.old.hold }
+        ensures writes { Writes
+            (Visits G.enters G.refuses G.leaves G.Call.view_of (ops.new ≡ ops.old)
+            (WrittenAt B.writes_at ops.old self.old.tag offset bytes.now ops.new)
+            guard.old self.old.hold guard.new self.new.hold)
+            self.old.state result }
+        ensures fits { IfOk result (λ count. count ≤ length bytes.now) }
+        ensures same { self.new ≡ record self.old { hold = self.new.hold } }
+        ensures may_enter { G.may_enter guard.new self.new.hold }
+    {
+        self.file.write_at(guard, ops, offset, bytes)
     }
 
     /// Whether the file has changed since its last show (`kernfs_fop_poll`): the slot's event number, taken

@@ -4,9 +4,11 @@ ghost use Rattle.std.specs.Prelude.{◌≡◌, ◌≤◌, length, IfOk, IfErr, I
 ghost use Rattle.kf_notify.specs.PostStates.{Took, IsSamePost};
 ghost use Rattle.kf_words.specs.Callers.{IsSameSeat};
 ghost use Rattle.kf_files.specs.Files.{Opens, Reads, Writes, Polls, Gives, new_file, tag_of};
+ghost use Rattle.kf_files.specs.Binary.{ReadsAt};
 ghost use Rattle.kf_files.specs.Opened.{hold_after, paged_after, paged_refusal, refusal_of};
-ghost use Rattle.kf_files.specs.Waiting.{WaitVisits, MayStore, HasChanged};
+ghost use Rattle.kf_files.specs.Waiting.{WaitVisits, MayStore, MayReadAt, MayWriteAt, HasChanged};
 
+use crate::binary_ops::{BinaryOps, WaitBinaryOps};
 use crate::contents::Want;
 use crate::open_file::OpenFile;
 use crate::ops::{Fault, FileError, Ops, Page};
@@ -44,6 +46,38 @@ impl<'a, W: WaitOps<N>, N: Naming, R: Wait> Ops<TreeCall<N>> for Lent<'a, W, N, 
     fn store(&mut self, call: &mut TreeCall<N>, tag: u64, bytes: &[u8]) -> Result<usize, Fault> {
         self.ops
             .store(self.rt, self.tree, &mut call.call, tag, bytes)
+    }
+}
+
+impl<'a, W: WaitBinaryOps<N>, N: Naming, R: Wait> BinaryOps<TreeCall<N>> for Lent<'a, W, N, R> {
+    ghost use Rattle.std.specs.Prelude.{◌≡◌};
+
+    ghost reads_at = { λ lent tag offset room answer lent'.
+        W.may_read_at lent.ops.now tag offset room answer × (lent' ≡ lent) };
+
+    ghost writes_at = { λ lent tag offset bytes answer lent'.
+        W.may_write_at lent.ops.now tag offset bytes answer × (lent' ≡ lent) };
+
+    fn read_at(
+        &mut self,
+        call: &mut TreeCall<N>,
+        tag: u64,
+        offset: u64,
+        out: &mut [u8],
+    ) -> Result<usize, Fault> {
+        self.ops
+            .read_at(self.rt, self.tree, &mut call.call, tag, offset, out)
+    }
+
+    fn write_at(
+        &mut self,
+        call: &mut TreeCall<N>,
+        tag: u64,
+        offset: u64,
+        bytes: &[u8],
+    ) -> Result<usize, Fault> {
+        self.ops
+            .write_at(self.rt, self.tree, &mut call.call, tag, offset, bytes)
     }
 }
 
@@ -203,6 +237,67 @@ impl<N: Naming, P: PageHolder> WaitingFile<N, P> {
     {
         let mut stores = Lent { ops, tree, rt };
         self.file.write(&mut TreeSeats::new(), &mut stores, bytes)
+    }
+
+    /// Reads bytes of a binary attribute from the offset on into the front of `out`, by one read under a call,
+    /// after its event number was taken, and answers how many it says they are, a fault as `Callback`
+    /// (`sysfs_kf_bin_read`). A read into no room answers 0 and calls nothing, but it needs a live node too.
+    /// No text is kept.
+    ///
+    /// Refusals, in order: `Access` where the file was not opened for reading, `NoDevice` where the node is
+    /// not live; both change nothing. It may never return, as its callback may not.
+    ///
+    /// Context: no lock, and no sleep but its callback's.
+    pub fn read_at<W: WaitBinaryOps<N>, R: Wait>(
+        &mut self,
+        rt: &R,
+        tree: &SharedTree<N>,
+        ops: &W,
+        offset: u64,
+        out: &mut [u8],
+    ) -> Result<usize, FileError>
+        ensures reads { ReadsAt
+            (WaitVisits ((self.new.post ≡ self.old.post) × (out.new ≡ out.old))
+            (λ read. Took self.old.post read.number self.new.post
+            × MayReadAt (W.may_read_at ops.now) self.old.tag offset out.old out.new read.answer)
+            self.old.hold self.new.hold)
+            self.old.state result self.new.state }
+        ensures fits { IfOk result (λ count. count ≤ length out.new) }
+        ensures same { self.new ≡
+            record self.old { hold = self.new.hold; post = self.new.post; state = self.new.state } }
+    {
+        let mut reads = Lent { ops, tree, rt };
+        self.file
+            .read_at(&mut TreeSeats::new(), &mut reads, offset, out)
+    }
+
+    /// Hands all the bytes to one write of a binary attribute at the offset under a call, and answers what it
+    /// answers, a fault as `Callback` (`sysfs_kf_bin_write`). A write of no bytes answers 0 and calls nothing,
+    /// but it needs a live node too.
+    ///
+    /// Refusals, in order: `Access` where the file was not opened for writing, `NoDevice` where the node is
+    /// not live. The file stays as it was. It may never return, as its callback may not.
+    ///
+    /// Context: no lock, and no sleep but its callback's.
+    pub fn write_at<W: WaitBinaryOps<N>, R: Wait>(
+        &mut self,
+        rt: &R,
+        tree: &SharedTree<N>,
+        ops: &W,
+        offset: u64,
+        bytes: &[u8],
+    ) -> Result<usize, FileError>
+        ensures writes { Writes
+            (WaitVisits (Unit {0})
+            (MayWriteAt (W.may_write_at ops.now) self.old.tag offset bytes.now)
+            self.old.hold self.new.hold)
+            self.old.state result }
+        ensures fits { IfOk result (λ count. count ≤ length bytes.now) }
+        ensures same { self.new ≡ record self.old { hold = self.new.hold } }
+    {
+        let mut writes = Lent { ops, tree, rt };
+        self.file
+            .write_at(&mut TreeSeats::new(), &mut writes, offset, bytes)
     }
 
     /// Whether the file has changed since its last show (`kernfs_fop_poll`): the slot's event number is

@@ -1,0 +1,41 @@
+-- Reads and writes at an offset, told from what a callback answered and from a visit.
+use Rattle.std.proofs.Common.{◌≡◌, ◌≢◌, ℕ, true, List, [], ◌∷◌, length, Option, Result, refl}
+use Rattle.kf_core.specs.Calls.{Visit, unvisited, tried}
+use Rattle.kf_files.specs.declared.ops.Fault.{Fault}
+use Rattle.kf_files.specs.declared.ops.FileError.{FileError}
+use Rattle.kf_files.specs.Files.{FileState, told_of}
+use Rattle.kf_files.specs.Binary.{front_of, ReadAt, WrittenAt, ReadsAt, NumberedRead, answer_in, after_read}
+use Rattle.kf_files.specs.Waiting.{MayReadAt, MayWriteAt}
+
+-- where there is room there was a read
+pub read-some : {Ops : Type 0} (reads_at : Ops → ℕ → ℕ → ℕ → Result (List ℕ) Fault → Ops → Type 0) (ops : Ops) (tag offset : ℕ) (out out' : List ℕ) (ops' : Ops) (answer : Result ℕ Fault)
+    → length out ≢ 0 → reads_at ops tag offset (length out) (front_of answer out') ops' → ReadAt reads_at ops tag offset out out' ops' answer
+read-some reads_at ops tag offset [] out' ops' answer some done = absurd (some refl)
+read-some reads_at ops tag offset (byte ∷ out) out' ops' answer some done = done
+
+-- where there are bytes there was a write
+pub written-some : {Ops : Type 0} (writes_at : Ops → ℕ → ℕ → List ℕ → Result ℕ Fault → Ops → Type 0) (ops : Ops) (tag offset : ℕ) (bytes : List ℕ) (ops' : Ops) (answer : Result ℕ Fault)
+    → length bytes ≢ 0 → writes_at ops tag offset bytes answer ops' → WrittenAt writes_at ops tag offset bytes ops' answer
+written-some writes_at ops tag offset [] ops' answer some done = absurd (some refl)
+written-some writes_at ops tag offset (byte ∷ bytes) ops' answer some done = done
+
+-- a read that may read says what came of its visit
+pub reads-visit : (Visits : Visit NumberedRead → Type 0) (state : FileState) (told : Result ℕ FileError) (state' : FileState) (came : Option NumberedRead)
+    → state.want.read ≡ true → Visits (tried came) → told ≡ told_of (λ count. count) (answer_in came) → state' ≡ after_read state came → ReadsAt Visits state told state'
+reads-visit Visits state told state' came can visit answer keeps = record {
+  denied = λ no. absurd cc;
+  read = λ _. (came, visit, answer, keeps);
+}
+
+-- what is said of a read's visit may be less
+pub reads_at_told : {V V' : Visit NumberedRead → Type 0} {state state' : FileState} {told : Result ℕ FileError} → ((v : Visit NumberedRead) → V v → V' v) → ReadsAt V state told state' → ReadsAt V' state told state'
+reads_at_told f r = record {
+  denied = λ no. let d = r.denied no in (f unvisited d.0, d.1, d.2);
+  read = λ yes. let s = r.read yes in (s.0, f (tried s.0) s.1, s.2, s.3);
+}
+
+-- of callbacks that stay as they are only the answer is told
+pub may_read : {Lent : Type 0} (reads_at : ℕ → ℕ → ℕ → Result (List ℕ) Fault → Type 0) (lent lent' : Lent) (tag offset : ℕ) (out out' : List ℕ) (answer : Result ℕ Fault)
+    → ReadAt (λ l t o r a l'. reads_at t o r a × (l' ≡ l)) lent tag offset out out' lent' answer → MayReadAt reads_at tag offset out out' answer
+may_read reads_at lent lent' tag offset [] out' answer h = h.0
+may_read reads_at lent lent' tag offset (byte ∷ out) out' answer h = h.0
