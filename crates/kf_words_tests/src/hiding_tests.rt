@@ -109,7 +109,10 @@ fn told_quietly<R: Abort>(
         Err(hider)
     };
     if !uses {
-        assert!(rt; !is_wanted(other.break_quiet().told()), "there is a call yet");
+        assert!(rt;
+            !is_wanted(other.break_quiet().told()),
+            "there is a call yet"
+        );
     }
     let (hold, due) = call.leave_quiet();
     assert_eq!(rt; is_wanted(due.told()), wanted);
