@@ -57,10 +57,10 @@ pub(crate) fn new_bus<N: Naming, R: Abort>(rt: &R, alloc: Global) -> Bus<N> {
 pub(crate) fn posted<R: Abort>(rt: &R, alloc: Global, slot: u32) -> Post
     ensures { result.slot ≡ slot }
 {
-    let Ok(mut posts) = Posts::new(alloc, 64) else {
+    let Ok(mut posts) = Posts::new(alloc, 256) else {
         panic!(rt; "no memory")
     };
-    assert!(rt; slot < 64);
+    assert!(rt; slot < 256);
     match posts.post(slot) {
         Ok(post) => post,
         Err(_) => panic!(rt; "no memory"),

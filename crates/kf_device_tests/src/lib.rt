@@ -6,6 +6,8 @@ mod fixtures;
 #[cfg(test)]
 mod hostile_tests;
 #[cfg(test)]
+mod many_tests;
+#[cfg(test)]
 mod one_name_tests;
 #[cfg(test)]
 mod replug_tests;
