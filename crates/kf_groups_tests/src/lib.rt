@@ -4,6 +4,8 @@
 #[cfg(test)]
 mod fixtures;
 #[cfg(test)]
+mod full_tests;
+#[cfg(test)]
 mod removal_tests;
 #[cfg(test)]
 mod tests;

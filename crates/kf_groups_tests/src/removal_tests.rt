@@ -37,6 +37,7 @@ fn below_the_root<N: Naming, R: Abort + Wait>(rt: &R, new: NewTree)
         both_made(rt, &tree, dir, &own, &bare),
         remove_group(rt, &tree, dir, &own) == Ok(()),
         is_free(rt, &tree, b"/d/g"),
+        slot(rt, &tree, b"/d/a").is_some(),
         slot(rt, &tree, b"/g/b") == Some(4),
         remove_group(rt, &tree, dir, &own) == Err(Refusal::NoEntry),
         remove_group(rt, &tree, dir, &bare) == Ok(()),
