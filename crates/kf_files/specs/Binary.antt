@@ -46,5 +46,5 @@ pub record ReadsAt (Visits : Visit NumberedRead → Type 0)
     (state : FileState) (told : Result ℕ FileError) (state' : FileState) : Type 0 where
   pub denied : IsFalse state.want.read → Visits unvisited × (told ≡ Err (Refused Access)) × (state' ≡ state)
   pub read : IsTrue state.want.read
-      → (came : Option NumberedRead) × Visits (tried came) × (told ≡ told_of (λ count. count) (answer_in came))
-      × (state' ≡ after_read state came)
+      → (came : Option NumberedRead) × Visits (tried came)
+      × (told ≡ told_of (λ count. count) (answer_in came)) × (state' ≡ after_read state came)

@@ -58,9 +58,9 @@ pub trait BinaryOps<C: ActiveCall> {
         ensures call { GivenBack (C.view_of call.old) (C.view_of call.new) };
 }
 
-/// The callbacks of binary attributes of the shared tree of this name, beside [`crate::WaitOps`]: any number of
-/// threads may call them at once, with no lock held, and they may wait. A read or a write is made only under a
-/// running call, which it is lent, and which it gives back with a reference.
+/// The callbacks of binary attributes of the shared tree of this name, beside [`crate::WaitOps`]: any
+/// number of threads may call them at once, with no lock held, and they may wait. A read or a write is made
+/// only under a running call, which it is lent, and which it gives back with a reference.
 ///
 /// Conditions of each: the call is Running, and of the table of the tree.
 pub trait WaitBinaryOps<N: Naming> {

@@ -34,10 +34,10 @@ fn write_some<C: ActiveCall, B: BinaryOps<C>>(
 }
 
 impl<G: Guard, P: PageHolder> HeldFile<G, P> {
-    /// Reads bytes from the offset on into the front of `out`, by one read of a binary attribute under a call,
-    /// after its event number was taken, and answers how many it says they are, a fault as `Callback`
-    /// (`sysfs_kf_bin_read`). A read into no room answers 0 and calls nothing, but it needs a live node too.
-    /// No text is kept, and what is buffered stays.
+    /// Reads bytes from the offset on into the front of `out`, by one read of a binary attribute under a
+    /// call, after its event number was taken, and answers how many it says they are, a fault as `Callback`
+    /// (`sysfs_kf_bin_read`). A read into no room answers 0 and calls nothing, but it needs a live node
+    /// too. No text is kept, and what is buffered stays.
     ///
     /// Condition: the file's hold may try, as it may after `open` and after each call here.
     ///
@@ -85,9 +85,9 @@ impl<G: Guard, P: PageHolder> HeldFile<G, P> {
         }
     }
 
-    /// Hands all the bytes to one write of a binary attribute at the offset under a call, and answers what it
-    /// answers, a fault as `Callback` (`sysfs_kf_bin_write`). A write of no bytes answers 0 and calls nothing,
-    /// but it needs a live node too. The file stays as it was.
+    /// Hands all the bytes to one write of a binary attribute at the offset under a call, and answers what
+    /// it answers, a fault as `Callback` (`sysfs_kf_bin_write`). A write of no bytes answers 0 and calls
+    /// nothing, but it needs a live node too. The file stays as it was.
     ///
     /// Condition: the file's hold may try, as it may after `open` and after each call here.
     ///

@@ -239,10 +239,10 @@ impl<N: Naming, P: PageHolder> WaitingFile<N, P> {
         self.file.write(&mut TreeSeats::new(), &mut stores, bytes)
     }
 
-    /// Reads bytes of a binary attribute from the offset on into the front of `out`, by one read under a call,
-    /// after its event number was taken, and answers how many it says they are, a fault as `Callback`
-    /// (`sysfs_kf_bin_read`). A read into no room answers 0 and calls nothing, but it needs a live node too.
-    /// No text is kept.
+    /// Reads bytes of a binary attribute from the offset on into the front of `out`, by one read under a
+    /// call, after its event number was taken, and answers how many it says they are, a fault as `Callback`
+    /// (`sysfs_kf_bin_read`). A read into no room answers 0 and calls nothing, but it needs a live node
+    /// too. No text is kept.
     ///
     /// Refusals, in order: `Access` where the file was not opened for reading, `NoDevice` where the node is
     /// not live; both change nothing. It may never return, as its callback may not.
@@ -271,9 +271,9 @@ impl<N: Naming, P: PageHolder> WaitingFile<N, P> {
             .read_at(&mut TreeSeats::new(), &mut reads, offset, out)
     }
 
-    /// Hands all the bytes to one write of a binary attribute at the offset under a call, and answers what it
-    /// answers, a fault as `Callback` (`sysfs_kf_bin_write`). A write of no bytes answers 0 and calls nothing,
-    /// but it needs a live node too.
+    /// Hands all the bytes to one write of a binary attribute at the offset under a call, and answers what
+    /// it answers, a fault as `Callback` (`sysfs_kf_bin_write`). A write of no bytes answers 0 and calls
+    /// nothing, but it needs a live node too.
     ///
     /// Refusals, in order: `Access` where the file was not opened for writing, `NoDevice` where the node is
     /// not live. The file stays as it was. It may never return, as its callback may not.

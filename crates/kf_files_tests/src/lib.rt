@@ -10,6 +10,8 @@ mod tests;
 #[cfg(test)]
 mod tree_hold;
 #[cfg(test)]
+mod wait_tests;
+#[cfg(test)]
 mod waiting_fixtures;
 #[cfg(test)]
 mod waiting_tests;

@@ -1,6 +1,6 @@
 //! Numbers from outside, one after another and in threads.
 use kf_core::Refusal;
-use kf_notify::{Full, Post, Posts};
+use kf_notify::{Post, Posts};
 use std::process::Abort;
 use std::thread::join;
 
@@ -17,7 +17,8 @@ fn numbers_end_at_the_last(rt: HostRuntime) -> Result<(), Refusal> {
     let answers = [
         post.now() == 18446744073709551614,
         post.notify() == Ok(18446744073709551615),
-        post.notify() == Err(Full),
+        post.notify().is_err(),
+        posts.notify(0).is_err(),
         post.now() == 18446744073709551615,
     ];
     assert_eq!(&rt; first_wrong(&answers), None);
@@ -40,6 +41,10 @@ fn a_notify_through_one_post_is_seen_by_another(rt: HostRuntime) -> Result<(), R
         beside.now() == 1,
         beside.notify() == Ok(2),
         one.now() == 3,
+        posts.notify(2) == Ok(4),
+        posts.notify(1) == Ok(3),
+        other.notify() == Ok(5),
+        beside.now() == 3,
     ];
     assert_eq!(&rt; first_wrong(&answers), None);
     Ok(())
