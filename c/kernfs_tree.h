@@ -44,9 +44,10 @@
  *
  * What is proved, for all inputs, stands beside each call in crates/kernfs_tree/src, in calls.rt, task_calls.rt and
  * file_calls.rt:
- * - 0 only where the thing was done, as the tree defines it: the node linked, found, moved, held, activated, out of the
- *   tree; the hold let in while its node was live, the call left, broken, restored; the event number raised. kt_leave()
- *   and kt_break() answer 1 exactly where a removal or a hiding may be waiting for that step.
+ * - 0 only where the thing was done, as the tree defines it: the node linked, found, moved, held, activated, out of
+ *   the tree; the hold let in while its node was live, the call left, broken, restored; the event number raised.
+ *   kt_leave() and kt_break() answer 1 exactly where a removal or a hiding may be waiting for that step; kt_clear()
+ *   and kt_delete() too, and 0 of all but a call.
  * - What is written to `out` is what the tree, the post or the text has; a length is that of what is written.
  * - A file is hidden, by one step of a hold of its own, and kt_hide() answers 0 where a look after that step saw nobody
  *   inside, and -EAGAIN where this look saw somebody. Of the calls on a tree kt_unhide() and kt_remove() alone show it.
@@ -55,20 +56,24 @@
  * - kt_unhide() answers 0 where it saw nobody inside, and then one step took what hides the file off.
  * - kt_remove() and kt_claim() mark, where that was not done before; but for marks they store only of kt_remove() that
  *   nodes of that subtree were shown and taken out.
+ * - Which number each look-up, kt_create_dir(), kt_create_file(), kt_create_link(), kt_activate(), kt_rename(),
+ *   kt_compact(), kt_hold(), kt_post(), kt_notify(), kt_event() and kt_copy() refuse with, and its cause (-ENOMEM has
+ *   none that a contract can name).
  * - Which number kt_enter(), kt_begin_read() and kt_begin_write() refuse with, and that a hold was tried where it is
- *   -ENODEV; that kt_leave(), kt_break(), kt_restore() and kt_changed() refuse with -EINVAL, and only what is not in
- *   such a call; that kt_clear() and kt_delete() refuse a tree with a file in which a hiding has yet to see nobody,
- *   with -EBUSY, and nothing else.
+ *   -ENODEV; that kt_leave(), kt_break(), kt_restore(), kt_changed() and kt_shown() refuse with -EINVAL, and only
+ *   what is not in such a call; that kt_clear() and kt_delete() refuse a tree with a file in which a hiding has yet
+ *   to see nobody, with -EBUSY, and nothing else.
  * - What was behind a handle that is given something new was nothing; where something was, it is -EINVAL.
  * - After an answer below 0, but for -EAGAIN of kt_remove() and kt_hide(), and those of kt_new() and kt_delete(), the
  *   tree, the handle and `out` are as they were (a refused try to enter was counted for a moment).
  * - No function reads or writes out of bounds or after a free, and each ends.
  *
  * On a node that is not in the tree nobody runs, and a key that has left it never comes again: these are laws over
- * every run of these functions' steps. Not proved: which error number comes of other calls; that somebody is inside
- * where kt_remove() answers -EAGAIN, and that it lets no hiding of another file go; that kt_clear() and kt_delete() let
- * go, and which of 0 and 1 they answer; that kt_new() gives a handle; that a call that can be done is not refused; and
- * everything that is C, the helpers too. `make -C c test` tries these.
+ * every run of these functions' steps. Not proved: which error number comes of kt_create_root(), kt_open(),
+ * kt_claim(), kt_remove(), kt_hide() and kt_unhide(); that somebody is inside where kt_remove() answers -EAGAIN, and
+ * that it lets no hiding of another file go; that kt_clear() and kt_delete() let go; that kt_new() gives a handle;
+ * that a call that can be done is not refused; and everything that is C, the helpers too. `make -C c test` tries
+ * these.
  *
  * What a program has to keep to, which the library cannot see:
  * - A handle comes from kt_new(), is used by one function at a time, and not after kt_delete(). It may pass to another
