@@ -1,7 +1,7 @@
 use Rattle.std.proofs.Common.{◌≡◌, refl, ◌∙◌, subst}
 use Rattle.kf_core.specs.declared.key.Key.{Key}
 use Rattle.kf_shared.specs.Hiding.{ShowDone}
-use Rattle.kf_handles.proofs.BySlot.{put_back}
+use Rattle.kf_handles.proofs.BySlot.{put_back, put_of_table, taken_of_table, table_of}
 use Rattle.kf_handles.proofs.hiding.unhide.Goals as goal
 
 -- the token looked, saw nobody, and its step shows the file
@@ -32,3 +32,13 @@ returns-in-Err-into_hidden-clause-told g c =
       put_back c.args.tokens.now.items c.take.new.tokens.items c.put.new.tokens.items c.args.key token.key _ found.2 same c.put.ensures,
       (refl, c.in-Some.token, found.0, c.in-Err-into_hidden.ensures.looked),
     )
+
+-- it is of the table as the tokens were
+pub returns-in-Err-into_hidden-clause-tokens : goal.returns-in-Err-into_hidden-clause-tokens
+returns-in-Err-into_hidden-clause-tokens g c =
+    let found = c.in-Some.ensures.found in
+    let token = c.in-Err-into_hidden.token in
+    let own : c.in-Some.token.table ≡ g.N.Naming.table = table_of g.N.Naming.table c.args.tokens.now.items c.args.key.slot c.in-Some.token c.requires found.0.1 in
+    put_of_table g.N.Naming.table c.take.new.tokens.items c.put.new.tokens.items token.key.slot token
+    (taken_of_table g.N.Naming.table c.args.tokens.now.items c.take.new.tokens.items c.args.key.slot c.requires found.2)
+    (c.in-Err-into_hidden.ensures.same.table ∙ own) c.put.ensures
