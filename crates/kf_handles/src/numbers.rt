@@ -73,7 +73,7 @@ fn notify_at(object: &mut Object) -> i32
     ensures why { result ≢ pos 0 → result ≡ notify_error object.old }
 {
     match object {
-        Object::Post(post) => match post.notify() {
+        Object::Post(post) => match post.notify_quiet() {
             Ok(_) => 0,
             Err(_) => OVERFLOW,
         },

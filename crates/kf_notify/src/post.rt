@@ -64,12 +64,24 @@ impl Post {
         ensures full { IfErr result (λ _. Found self.old (2 ^ 64 - 1) self.new) }
         ensures start { self.old.numbers.start ≤ self.new.found }
     {
+        let number = self.notify_quiet()?;
+        self.seat.wake_all(self.slot);
+        Ok(number)
+    }
+
+    /// As [`Post::notify`], but it wakes nobody: for who has sleepers of its own, and none in
+    /// [`Post::wait_past`].
+    pub fn notify_quiet(&mut self) -> Result<u64, Full>
+        ensures same { IsSamePost self.old self.new }
+        ensures made { IfOk result (λ number. Made self.old number self.new) }
+        ensures full { IfErr result (λ _. Found self.old (2 ^ 64 - 1) self.new) }
+        ensures start { self.old.numbers.start ≤ self.new.found }
+    {
         let found = self.now();
         if found == u64::MAX {
             return Err(Full::found());
         }
         self.seat.raise(self.slot, found + 1);
-        self.seat.wake_all(self.slot);
         Ok(found + 1)
     }
 
