@@ -2,9 +2,9 @@
  *
  * Link with -lkernfs_tree, or by pkg-config. Every function is declared here with what it needs and may answer.
  *
- * The promise: once kt_remove() has answered 0, no callback runs under a call of that node or of one that was below it,
- * and none ever starts; once kt_hide() has answered 0, none does so of that file until kt_unhide(), or until the tree
- * is let go. A callback that has broken its protection (kt_break()) is not waited for, as in the kernel.
+ * The promise: once kt_remove() has answered 0 or 1, no callback runs under a call of that node or of one that was
+ * below it, and none ever starts; once kt_hide() has answered 0, none does so of that file until kt_unhide(), or until
+ * the tree is let go. A callback that has broken its protection (kt_break()) is not waited for, as in the kernel.
  *
  * What lies behind a handle:
  *
@@ -53,12 +53,14 @@
  *   inside, and -EAGAIN where this look saw somebody. Of the calls on a tree kt_unhide() and kt_remove() alone show it.
  * - A file is opened where its node is live and its mode allows it. A show begins where the node was entered and the
  *   event number taken, at offset 0 or where there is no text. Text is kept in a call alone that began a show.
+ * - kt_remove() answers 1 only where the node was in the tree before the call and is out after it, and 0 only where it
+ *   was out before, and then nothing is done.
  * - kt_unhide() answers 0 where it saw nobody inside, and then one step took what hides the file off.
  * - kt_remove() and kt_claim() mark, where that was not done before; but for marks they store only of kt_remove() that
  *   nodes of that subtree were shown and taken out.
- * - Which number each look-up, kt_create_dir(), kt_create_file(), kt_create_link(), kt_activate(), kt_rename(),
- *   kt_compact(), kt_hold(), kt_post(), kt_notify(), kt_event() and kt_copy() refuse with, and its cause (-ENOMEM has
- *   none that a contract can name).
+ * - Which number each look-up, kt_commands(), kt_create_root(), kt_create_dir(), kt_create_file(), kt_create_link(),
+ *   kt_activate(), kt_rename(), kt_compact(), kt_hold(), kt_post(), kt_notify(), kt_event() and kt_copy() refuse with,
+ *   and its cause (-ENOMEM has none that a contract can name).
  * - Which number kt_enter(), kt_begin_read() and kt_begin_write() refuse with, and that a hold was tried where it is
  *   -ENODEV; that kt_leave(), kt_break(), kt_restore(), kt_changed() and kt_shown() refuse with -EINVAL, and only
  *   what is not in such a call; that kt_clear() and kt_delete() refuse a tree with a file in which a hiding has yet
@@ -69,8 +71,8 @@
  * - No function reads or writes out of bounds or after a free, and each ends.
  *
  * On a node that is not in the tree nobody runs, and a key that has left it never comes again: these are laws over
- * every run of these functions' steps. Not proved: which error number comes of kt_create_root(), kt_open(),
- * kt_claim(), kt_remove(), kt_hide() and kt_unhide(); that somebody is inside where kt_remove() answers -EAGAIN, and
+ * every run of these functions' steps. Not proved: which error number comes of kt_open(), kt_claim(),
+ * kt_remove(), kt_hide() and kt_unhide(); that somebody is inside where kt_remove() answers -EAGAIN, and
  * that it lets no hiding of another file go; that kt_clear() and kt_delete() let go; that kt_new() gives a handle;
  * that a call that can be done is not refused; and everything that is C, the helpers too. `make -C c test` tries
  * these.
@@ -167,6 +169,15 @@ struct kt_stat {
     bool activated, doomed, hidden; /* doomed: marked for removal; hidden: by kt_hide() */
 };
 
+/* What a tree keeps of its changes. */
+struct kt_commands {
+    uint64_t stored;    /* the commands that it keeps, 88 bytes each */
+    uint64_t compacted; /* how many there would be after kt_compact(), at most */
+};
+
+/* The library's own version, as KT_VERSION_MAJOR * 1000 + KT_VERSION_MINOR of the header that is of it. */
+int32_t kt_version(void);
+
 /* ---- handles ---- */
 
 /* kt_new(&handle.at): a new handle with nothing behind it. 0, -ENOMEM. */
@@ -198,9 +209,9 @@ KT_CALL(1, 2) int32_t kt_root(struct kt_handle *tree, struct kt_key *out);
  * not there for kt_enter() before kt_activate(): so a group of nodes appears at once; a live one below it can be
  * entered, and is not listed from above. A name is taken until its node is out of the tree, and kt_find() finds it till
  * then, also while it is being removed. A link keeps neither its target nor that one's slot, and stays when it is gone.
- * In this order: -ENOENT (no such parent), -ENAMETOOLONG, -EINVAL (the name has no byte, a slash or a zero byte, or is
- * . or ..), -ENOTDIR, -ENOENT (the parent is being removed, or a link's target is not there), -EINVAL (the target is
- * the root), -EEXIST, -ENOSPC, -ENOMEM. */
+ * In this order: -EINVAL (a mode beyond 0777), -ENOENT (no such parent), -ENAMETOOLONG, -EINVAL (the name has no byte,
+ * a slash or a zero byte, or is . or ..), -ENOTDIR, -ENOENT (the parent is being removed, or a link's target is not
+ * there), -EINVAL (the target is the root), -EEXIST, -ENOSPC, -ENOMEM. */
 KT_CALL(1, 6) KT_TEXT(3, 4)
 int32_t kt_create_dir(struct kt_handle *tree, struct kt_key parent, const void *name, size_t length, bool live,
                       struct kt_key *out);
@@ -257,12 +268,12 @@ KT_CALL(1) KT_ROOM(3, 4) int64_t kt_readlink(struct kt_handle *tree, struct kt_k
 KT_CALL(1, 3) int32_t kt_hold(struct kt_handle *tree, struct kt_key key, struct kt_handle *hold);
 
 /* Removes a node and all below it (kernfs_remove), as far as it can without waiting: marks them all, so that no
- * kt_enter() there succeeds any more, and takes each out of the tree that nobody is inside. 0: the node is out, now or
- * before; its holds stay valid, and never enter again. -EAGAIN: somebody is inside; call again when a callback has left
- * (kt_remove_wait() does). Before anything is marked, in this order: -EINVAL (the root), -EMFILE (a node has as many
- * holds as there may be), -ENOMEM. It takes a hold of each node for a moment: once marked, a node with the most holds
- * there may be gives -EAGAIN until one is let go. A call that goes on with what an earlier one has marked may answer
- * -ENOMEM too: all stays marked; call it again. */
+ * kt_enter() there succeeds any more, and takes each out of the tree that nobody is inside. 1: the node is out, by this
+ * call; 0: it was out before, or no node of this tree ever had the key. Its holds stay valid, and never enter again.
+ * -EAGAIN: somebody is inside; call again when a callback has left (kt_remove_wait() does). Before anything is marked,
+ * in this order: -EINVAL (the root), -EMFILE (a node has as many holds as there may be), -ENOMEM. It takes a hold of
+ * each node for a moment: once marked, a node with the most holds there may be gives -EAGAIN until one is let go. A
+ * call that goes on with what an earlier one has marked may answer -ENOMEM too: all stays marked; call it again. */
 KT_CALL(1) int32_t kt_remove(struct kt_handle *tree, struct kt_key key);
 
 /* Hides a file (kernfs_show() with false), as far as it can without waiting: at once no kt_enter() there succeeds, and
@@ -282,10 +293,13 @@ KT_CALL(1) int32_t kt_unhide(struct kt_handle *tree, struct kt_key key);
  * marked or claimed, in this order: -ENOENT, -EINVAL (the root), -EMFILE, -ENOMEM. */
 KT_CALL(1) int32_t kt_claim(struct kt_handle *tree, struct kt_key key);
 
-/* The tree keeps each command that changed it, 88 bytes each. This puts the canonical list of the tree in its place,
- * one for each node, in a time that grows with the nodes. So a program that goes on changing a tree calls it: after
- * as many changes as there are nodes, and 1,000 more, say (kt_live.h does). 0, -ENOMEM. */
+/* The tree keeps each command that changed it. This puts the canonical list of the tree in its place, one for each
+ * node, in a time that grows with the nodes. So a program that goes on changing a tree calls it: where twice as many
+ * are kept as that list has, and 1,000 more, say (kt_live.h does). 0, -ENOMEM. */
 KT_STEP(1) int32_t kt_compact(struct kt_handle *tree);
+
+/* How many commands the tree keeps, and would after kt_compact(), in constant time. 0. */
+KT_CALL(1, 2) int32_t kt_commands(struct kt_handle *tree, struct kt_commands *out);
 
 /* A post of a node's slot, behind a handle with nothing behind it. A node's number is its slot's: it never goes back,
  * also where the slot is given again. An open file is none: kt_notify() and kt_event() of it are -EINVAL. 0, and in

@@ -56,6 +56,12 @@ class Stat(ctypes.Structure):
     ]
 
 
+class Commands(ctypes.Structure):
+    """How many commands a tree keeps, and would after a compaction."""
+
+    _fields_ = [("stored", ctypes.c_uint64), ("compacted", ctypes.c_uint64)]
+
+
 class _Handle(ctypes.Structure):
     _fields_ = [("at", ctypes.c_void_p)]
 
@@ -80,6 +86,8 @@ def _load():
         ("walk", i32, handle, text, size, key),
         ("next", i64, *new, text, size),
         ("stat", i32, handle, Key, ctypes.POINTER(Stat)),
+        ("commands", i32, handle, ctypes.POINTER(Commands)),
+        ("version", i32),
         ("parent", i32, handle, Key, key),
         ("name", i64, *new),
         ("path", i64, *new),
@@ -261,7 +269,7 @@ class Tree(_Owner):
                 self._left.wait(left)
 
     def remove(self, key):
-        """One step of a removal: KtError of EAGAIN while somebody is inside."""
+        """One step of a removal: 1 (out by this), 0 (it was before), KtError of EAGAIN while somebody is inside."""
         return self._call("remove", key)
 
     def remove_wait(self, key, seconds=None):
@@ -283,6 +291,12 @@ class Tree(_Owner):
 
     def compact(self):
         self._call("compact")
+
+    def commands(self):
+        """How many commands the tree keeps, and how many it would after `compact`, at most."""
+        found = Commands()
+        self._call("commands", ctypes.byref(found))
+        return found
 
     def close(self):
         if hasattr(self, "_left"):

@@ -247,6 +247,7 @@ static inline int32_t kt_begin_read_told(struct kt_handle *file, uint64_t offset
 #define kt_readlink(tree, ...) kt_readlink(kt_used(tree), __VA_ARGS__)
 #define kt_claim(tree, ...) kt_claim(kt_used(tree), __VA_ARGS__)
 #define kt_compact(...) kt_compact(kt_used(__VA_ARGS__))
+#define kt_commands(tree, ...) kt_commands(kt_used(tree), __VA_ARGS__)
 #define kt_restore(...) kt_restore(kt_used(__VA_ARGS__))
 #define kt_notify(...) kt_notify(kt_used(__VA_ARGS__))
 #define kt_changed(...) kt_changed(kt_used(__VA_ARGS__))

@@ -98,7 +98,7 @@ struct kt_live_watcher {
 };
 
 /* The program may use `tree` and `lock` by the calls of kernfs_tree.h: look at nodes, hold and open them, hide them,
- * make links, directories and files of its own (and kt_compact() where these are many). What was published it
+ * make links, directories and files of its own. What was published it
  * removes, renames and activates by the calls below alone. The rest is not the program's. */
 struct kt_live {
     struct kt_handle tree;
@@ -109,7 +109,7 @@ struct kt_live {
     struct kt_live_call *calls;
     struct kt_live_watcher *watches;
     uint32_t slots;
-    uint64_t nodes, stored; /* of what is published; commands that the tree keeps, or more */
+    uint64_t nodes; /* of what is published */
 };
 
 /* A new tree of the root alone, of 1 to KT_SLOTS_MAX nodes: the root, and for each device its directory and its
@@ -216,13 +216,13 @@ KT_LIVE_CALL int32_t kt_live_list(struct kt_live *live, const char *path, struct
 static inline void kt_live_lock(struct kt_live *live) { pthread_mutex_lock(&live->lock.mutex); }
 static inline void kt_live_unlock(struct kt_live *live) { pthread_mutex_unlock(&live->lock.mutex); }
 
-/* The commands that the tree keeps are made few again: it needs one for each node. Without memory the next change tries
- * it again. */
-static inline void kt_live_tidy(struct kt_live *live, uint64_t more)
+/* The commands that the tree keeps are made few again, where there are twice as many as it needs and 1,000 more.
+ * Without memory the next change tries it again. */
+static inline void kt_live_tidy(struct kt_live *live)
 {
-    live->stored += more;
-    if (live->stored >= 2 * live->nodes + 1000 && !kt_compact(&live->tree))
-        live->stored = live->nodes;
+    struct kt_commands commands;
+    if (!kt_commands(&live->tree, &commands) && commands.stored >= 2 * commands.compacted + 1000)
+        kt_compact(&live->tree);
 }
 
 static inline struct kt_live_device *kt_live_find(struct kt_live *live, struct kt_key key)
@@ -476,11 +476,11 @@ static inline int32_t kt_live_add(struct kt_live *live, const char *path, struct
         it->next = live->devices[it->key.slot];
         live->devices[it->key.slot] = it;
         live->nodes += it->nodes;
-        kt_live_tidy(live, it->nodes + 1);
+        kt_live_tidy(live);
         kt_live_raise_changed(live);
         return 0;
     }
-    kt_live_tidy(live, 3 * it->nodes + 1);
+    kt_live_tidy(live);
     it->next = live->remnants;
     live->remnants = it;
     (void)!kt_live_sweep(live);
@@ -689,7 +689,7 @@ static inline void kt_live_forget(struct kt_live *live, struct kt_live_device *d
         at = &(*at)->next;
     *at = device->next;
     live->nodes -= device->nodes;
-    kt_live_tidy(live, 2 * device->nodes + 1);
+    kt_live_tidy(live);
     free(device);
 }
 

@@ -87,8 +87,8 @@ static inline int32_t kt_clear_wake(struct kt_handle *handle, struct kt_lock *lo
 }
 
 /* Removes a node and all below it, and waits until no callback runs there (kernfs_remove). For its own node or one
- * above a callback calls kt_remove_self_wait(). As kt_remove() answers, and never -EAGAIN. After -ENOMEM, which may
- * come when all is marked, call it again. */
+ * above a callback calls kt_remove_self_wait(). As kt_remove() answers, and never -EAGAIN: of those who wait for one
+ * node one is answered 1, each other 0. After -ENOMEM, which may come when all is marked, call it again. */
 KT_CALL(1, 3)
 static inline int32_t kt_remove_wait(struct kt_handle *tree, struct kt_key key, struct kt_lock *lock)
 {

@@ -70,17 +70,11 @@ int show_node(struct kt_key key)
     return error;
 }
 
-/* A tree of few nodes that changed often would keep many commands. Each node costs two at most, and each
- * other change one, so that this bounds them by the nodes. */
+/* A tree of few nodes that changed often would keep many commands. */
 int count_change(void)
 {
-    static uint32_t changes, most = 1000;
-    struct node *node;
-    if (++changes < most || kt_compact(&tree)) /* without memory the next change tries it again */
-        return 0;
-    most = 1000;
-    for (uint32_t slot = 0; (node = next_node(&slot, 0));)
-        most += 2;
-    changes = 0;
+    struct kt_commands commands;
+    if (!kt_commands(&tree, &commands) && commands.stored >= 2 * commands.compacted + 1000)
+        kt_compact(&tree); /* without memory the next change tries it again */
     return 0;
 }

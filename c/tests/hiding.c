@@ -97,7 +97,7 @@ static void hidden_in_use(struct kt_key shy)
 static void hidden_and_removed(struct kt_key top, struct kt_key folder, struct kt_key shy)
 {
     TRY(kt_hide(&own, shy), 0);
-    TRY(kt_remove(&own, folder), 0);
+    TRY(kt_remove(&own, folder), 1);
     TRY(kt_hide(&own, shy), -ENOENT);
     TRY(kt_unhide(&own, shy), -ENOENT);
     TRY(kt_enter(&hold), -ENODEV);
@@ -109,7 +109,7 @@ static void hidden_and_removed(struct kt_key top, struct kt_key folder, struct k
     TRY(kt_remove(&own, shy), -EAGAIN);
     TRY(kt_hide(&own, shy), -EAGAIN);
     TRY(kt_leave(&hold), 1);
-    TRY(kt_remove(&own, shy), 0);
+    TRY(kt_remove(&own, shy), 1);
     TRY(kt_unhide(&own, shy), -ENOENT);
     TRY(kt_clear(&hold), 0);
     for (int i = 0; i < 6; i++)

@@ -433,8 +433,8 @@ static void beside(void)
     TRY(kt_hide(&live->tree, mine), 0);
     kt_clear_wake(&call, &live->lock);
     TRY(kt_delete(call), 0);
-    TRY(kt_remove_wait(&live->tree, mine, &live->lock), 0);
-    TRY(kt_remove_wait(&live->tree, link, &live->lock), 0);
+    TRY(kt_remove_wait(&live->tree, mine, &live->lock), 1);
+    TRY(kt_remove_wait(&live->tree, link, &live->lock), 1);
 }
 
 /* A file with as many holds as there may be is read by nobody more, and its device stays. */
@@ -589,7 +589,8 @@ static void tidy(void)
     for (int i = 0; i < 50000; i++) {
         wrong += PUBLISH("/fan0", fan) != 0;
         wrong += kt_live_unpublish(live, fan.key) != 1;
-        wrong += live->stored > 1000 + 4 * COUNT;
+        struct kt_commands commands;
+        wrong += kt_commands(&live->tree, &commands) || commands.stored > 1000 + 4 * COUNT;
     }
     TRY(wrong, 0);
     TRY(kt_live_delete(live), 0);

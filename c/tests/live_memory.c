@@ -74,13 +74,29 @@ static void round_of_it(void)
     printf("unwatched: %d\n", kt_live_unwatch(live, fd));
 }
 
+/* So many changes that the next one makes the commands few again. */
+static void change_often(void)
+{
+    struct kt_key root = {0, 1}, key;
+    while (kt_create_file(&live->tree, root, "own", 3, 0444, 0, true, &key))
+        ;
+    for (int i = 0; i < 600; i++) {
+        while (kt_hide(&live->tree, key))
+            ;
+        while (kt_unhide(&live->tree, key))
+            ;
+    }
+    while (kt_remove(&live->tree, key) < 0)
+        ;
+}
+
 int main(void)
 {
     setvbuf(stdout, NULL, _IONBF, 0);
     AGAIN(kt_live_new(&live, 32), live == NULL);
     for (int i = 0; i < 3; i++)
         round_of_it();
-    live->stored += 1000; /* the next change makes the commands few again */
+    change_often();
     round_of_it();
     printf("deleted: %d\n", kt_live_delete(live));
     return 0;

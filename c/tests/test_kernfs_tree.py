@@ -64,7 +64,11 @@ class Calls(unittest.TestCase):
             tree.create_dir(tree.root, "n" * 256)
         with self.refused(errno.EINVAL):
             Tree(slots=0)
+        with self.refused(errno.EINVAL):
+            tree.create_file(tree.root, "odd", 0o1000)
+        self.assertGreater(tree.commands().stored, tree.commands().compacted)
         tree.compact()
+        self.assertEqual(tree.commands().stored, tree.commands().compacted)
         names = []
         deep = tree.root
         for _ in range(10):
@@ -82,7 +86,8 @@ class Calls(unittest.TestCase):
             self.assertTrue(tree.stat(self.fan).doomed)
             self.assertTrue(tree.claim(self.fan))
             self.assertFalse(tree.claim(self.fan))
-        tree.remove_wait(self.fan)
+        self.assertEqual(tree.remove_wait(self.fan), 1)
+        self.assertEqual(tree.remove(self.fan), 0)
         with self.refused(errno.ENODEV):
             hold.enter()
         with self.refused(errno.ENOENT):

@@ -8,12 +8,14 @@
 static struct kt_handle tree, hold, other, nothing;
 static struct kt_key root, dir, file, link_key, key, stale;
 static struct kt_stat stat;
+static struct kt_commands commands;
 static char text[64], longest[300];
 
 static int same(struct kt_key a, struct kt_key b) { return a.slot == b.slot && a.generation == b.generation; }
 
 static void trees(void)
 {
+    TRY(kt_version(), KT_VERSION_MAJOR * 1000 + KT_VERSION_MINOR);
     TRY(kt_create_root(&tree, 0, 16), -EINVAL);
     TRY(kt_create_root(&tree, 1048577, 16), -EINVAL);
     TRY(kt_create_root(&tree, 16, 0), -EINVAL);
@@ -44,9 +46,13 @@ static void names(void)
     TRY(kt_create_dir(&tree, stale, "x", 1, true, &key), -ENOENT);
     TRY(kt_create_link(&tree, root, "r", 1, root, true, &key), -EINVAL);
     TRY(kt_create_link(&tree, root, "s", 1, stale, true, &key), -ENOENT);
+    TRY(kt_create_file(&tree, root, "m", 1, 01000, 0, true, &key), -EINVAL);
+    TRY(kt_create_file(&tree, stale, "m", 1, 0177777, 0, true, &key), -EINVAL); /* the mode comes first */
     TRY(same(key, file), 1); /* what is refused writes nothing */
+    TRY(kt_create_file(&tree, root, "m", 1, 0777, 0, true, &key), 0);
+    TRY(kt_remove(&tree, key), 1);
     TRY(kt_create_dir(&tree, root, longest, 255, true, &key), 0);
-    TRY(kt_remove(&tree, key), 0);
+    TRY(kt_remove(&tree, key), 1);
 }
 
 static void looks(void)
@@ -120,8 +126,12 @@ static void changes(void)
     TRY(kt_rename(&tree, key, root, "d", 1), -EEXIST);
     TRY(kt_rename(&tree, dir, dir, "d", 1), -EINVAL);
     TRY(kt_rename(&tree, root, dir, "d", 1), -EINVAL);
+    TRY(kt_commands(&tree, &commands), 0);
+    TRY(commands.stored > commands.compacted, 1);
     TRY(kt_compact(&tree), 0);
-    TRY(kt_remove(&tree, key), 0);
+    TRY(kt_commands(&tree, &commands), 0);
+    TRY(commands.stored == commands.compacted, 1);
+    TRY(kt_remove(&tree, key), 1);
     TRY(kt_remove(&tree, key), 0); /* it is out of the tree */
     TRY(kt_remove(&tree, root), -EINVAL);
     TRY(kt_stat(&tree, key, &stat), -ENOENT);
@@ -129,7 +139,7 @@ static void changes(void)
     for (int i = 0; i < 4; i++)
         TRY(kt_create_dir(&tree, root, (char[]){(char)('0' + i)}, 1, true, &stale), 0);
     TRY(kt_create_dir(&tree, root, "4", 1, true, &key), -ENOSPC);
-    TRY(kt_remove(&tree, stale), 0);
+    TRY(kt_remove(&tree, stale), 1);
     TRY(kt_create_dir(&tree, root, "4", 1, true, &key), 0);
     TRY(key.slot == stale.slot && key.generation == stale.generation + 1, 1);
     TRY(kt_find(&tree, stale, "x", 1, &key), -ENOENT); /* the old key names nothing */
@@ -147,6 +157,7 @@ static void holds(void)
     TRY(kt_create_dir(&hold, root, "x", 1, true, &key), -EINVAL);
     TRY(kt_remove(&hold, file), -EINVAL);
     TRY(kt_compact(&hold), -EINVAL);
+    TRY(kt_commands(&hold, &commands), -EINVAL);
     TRY(kt_stat(&hold, file, &stat), -EINVAL);
     TRY(kt_next(&hold, root, "", 0, text, sizeof text), -EINVAL);
     TRY(kt_claim(&hold, file), -EINVAL);
@@ -196,7 +207,7 @@ static void removal(void)
     TRY(kt_hold(&tree, file, &other), 0);
     TRY(kt_remove(&tree, dir), -EAGAIN); /* it needs a hold for a moment */
     TRY(kt_clear(&other), 0);
-    TRY(kt_remove(&tree, dir), 0);
+    TRY(kt_remove(&tree, dir), 1);
     TRY(kt_enter(&hold), -ENODEV);
     TRY(kt_stat(&tree, file, &stat), -ENOENT);
     TRY(kt_readlink(&tree, link_key, text, sizeof text), -ENOENT);
@@ -212,7 +223,7 @@ static void self_removal(void)
     TRY(kt_claim(&tree, file), 0);
     TRY(kt_claim(&tree, file), 1);
     TRY(kt_claim(&tree, root), -EINVAL);
-    TRY(kt_remove(&tree, file), 0);
+    TRY(kt_remove(&tree, file), 1);
     TRY(kt_claim(&tree, file), -ENOENT);
     TRY(kt_restore(&hold), 0);
     TRY(kt_enter(&hold), -EINVAL);
@@ -301,7 +312,7 @@ static void open_files(void)
     TRY(kt_shown(&hold, "abc", 3), 0);
     TRY(kt_remove(&tree, file), -EAGAIN);
     TRY(kt_leave(&hold), 1);
-    TRY(kt_remove(&tree, file), 0);
+    TRY(kt_remove(&tree, file), 1);
     TRY(kt_begin_read(&hold, 0), -ENODEV);
     TRY(kt_begin_write(&hold), -ENODEV);
     TRY(kt_begin_read(&hold, 1), 0);
@@ -316,14 +327,14 @@ static void open_files(void)
     TRY(kt_open(&tree, file, true, false, &hold), 0);
     TRY(kt_begin_write(&hold), -EACCES);
     TRY(kt_clear(&hold), 0);
-    TRY(kt_remove(&tree, file), 0);
+    TRY(kt_remove(&tree, file), 1);
     TRY(kt_create_file(&tree, root, "w", 1, 0200, 0, true, &file), 0);
     TRY(kt_open(&tree, file, true, false, &hold), -EACCES);
     TRY(kt_open(&tree, file, false, true, &hold), 0);
     TRY(kt_begin_read(&hold, 0), -EACCES);
     TRY(kt_begin_write(&hold), 0);
     TRY(kt_clear(&hold), 0); /* ends the call too */
-    TRY(kt_remove(&tree, file), 0);
+    TRY(kt_remove(&tree, file), 1);
 }
 
 int main(void)

@@ -1,18 +1,26 @@
 //! The calls of a program. Each answers 0 or more, or a Linux error number below 0, and then nothing changed.
-ghost use Rattle.std.specs.Prelude.{◌≡◌, ◌≢◌, ◌⊎◌, pos, negsuc, true, false};
+ghost use Rattle.std.specs.Prelude.{◌≡◌, ◌≢◌, ◌⊎◌, ◌<◌, ◌≤◌, pos, negsuc, true, false};
 ghost use Rattle.kf_core.specs.declared.key.Node.TheVariants as kind;
 ghost use Rattle.kf_handles.specs.declared.object.Object.TheVariants as behind;
 ghost use Rattle.kf_handles.specs.Tasks.{HasHidingIn, HasNoHidingIn};
 ghost use Rattle.kf_handles.specs.declared.questions.Question.TheVariants as asks;
 ghost use Rattle.kf_handles.specs.Answers.{IsAsBefore, ToldWhy};
-ghost use Rattle.kf_handles.specs.Calls.{key_in, CreatedIn, IsNewTree, HoldsNode, ActivatedIn, MovedIn, CompactedIn, IsNothing, is_nothing};
-ghost use Rattle.kf_handles.specs.LookUps.{find_behind, parent_behind, root_behind, stat_behind, walk_behind, IsRefusal, LinkTextIn, LinkTextRefused, NameIn, NameRefused, NextIn, NextRefusedIn, PathIn, PathRefused, TellsKey, TellsStat, TellsText};
+ghost use Rattle.kf_handles.specs.Calls.{AreLimits, key_in, CreatedIn, IsNewTree, HoldsNode, ActivatedIn, MovedIn, CompactedIn, IsNothing, is_nothing};
+ghost use Rattle.kf_handles.specs.LookUps.{find_behind, parent_behind, root_behind, stat_behind, walk_behind, IsRefusal, LinkTextIn, LinkTextRefused, NameIn, NameRefused, NextIn, NextRefusedIn, PathIn, PathRefused, TellsCommands, TellsKey, TellsStat, TellsText};
 ghost use Rattle.kf_handles.specs.Numbers.{HasPostOf, IsSameTree, PostRefused, WasNotified, WasFull, TookNumber, IsNoPost, notify_error};
 ghost use Rattle.kf_handles.specs.Steps.{WasEntered, WasRefused, WasLeft, WasBroken, WasRestored, HasNoReference, IsNotRunning, IsNotBroken, WakeOwed, enter_error, wake_of};
 
 use kf_core::{Key, Node};
-use kf_handles::{KtHandle, KtKey, KtStat, Question, key_of};
+use kf_handles::{KtCommands, KtHandle, KtKey, KtStat, Question, key_of};
 use std::alloc::Global;
+
+/// The version of the library: its major number times 1,000, and its minor number.
+#[unsafe(no_mangle)]
+pub extern "C" fn kt_version() -> i32
+    ensures { result ≡ pos 2 }
+{
+    2
+}
 
 /// A new handle with nothing behind it.
 #[unsafe(no_mangle)]
@@ -56,6 +64,9 @@ pub extern "C" fn kt_create_root(
     ensures taken { is_nothing handle.old.place ≡ false → result ≡ negsuc 21 }
     ensures was { result ≡ pos 0 → IsNothing handle.old.place }
     ensures same { result ≢ pos 0 → handle.new.place ≡ handle.old.place }
+    ensures unlawful { (¬ AreLimits slots holds) → result ≡ negsuc 21 }
+    ensures why { is_nothing handle.old.place ≡ true → AreLimits slots holds → result ≢ pos 0 →
+        result ≡ negsuc 11 }
 {
     kf_handles::make_tree(alloc, handle, slots, holds)
 }
@@ -90,7 +101,7 @@ pub extern "C" fn kt_create_dir(
     kf_handles::create(tree, parent, name, Node::Dir, live, out)
 }
 
-/// A new attribute file (`__kernfs_create_file`).
+/// A new attribute file (`__kernfs_create_file`), whose mode has permission bits alone.
 #[unsafe(no_mangle)]
 pub extern "C" fn kt_create_file(
     tree: &mut KtHandle,
@@ -107,11 +118,12 @@ pub extern "C" fn kt_create_file(
     ensures kept { result ≢ pos 0 →
         IsAsBefore tree.old.place.object tree.new.place.object × (out.new ≡ out.old) }
     ensures beside { tree.new.place.seat ≡ tree.old.place.seat }
-    ensures why { result ≢ pos 0 → ToldWhy
+    ensures unfit { 511 < mode → result ≡ negsuc 21 }
+    ensures why { mode ≤ 511 → result ≢ pos 0 → ToldWhy
         (asks.Create (key_in parent) name.entry (kind.File mode tag) live)
         tree.old.place.object tree.new.place.object result }
 {
-    kf_handles::create(tree, parent, name, Node::File { mode, tag }, live, out)
+    kf_handles::create_file(tree, parent, name, mode, tag, live, out)
 }
 
 /// A new link to a node (`kernfs_create_link`).
@@ -263,6 +275,15 @@ pub extern "C" fn kt_compact(tree: &mut KtHandle) -> i32
         tree.old.place.object tree.new.place.object result }
 {
     kf_handles::change(tree, Question::Compact)
+}
+
+/// How many commands the tree stores, and how many it would at most after a compaction, in constant time.
+#[unsafe(no_mangle)]
+pub extern "C" fn kt_commands(tree: &mut KtHandle, out: &mut KtCommands) -> i32
+    ensures same { tree.new.place ≡ tree.old.place }
+    ensures told { TellsCommands tree.old.place.object result out.old out.new }
+{
+    kf_handles::commands(tree, out)
 }
 
 /// A hold of a node, behind a handle with nothing behind it (`kernfs_get`).

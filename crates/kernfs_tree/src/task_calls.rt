@@ -1,7 +1,7 @@
 //! The calls of a program that remove a node, and that hide a file and show it again. Each answers -EAGAIN
 //! where somebody is inside: it has begun then, and is made again.
 ghost use Rattle.std.specs.Prelude.{◌≡◌, ◌≢◌, pos, negsuc, false, true};
-ghost use Rattle.kf_handles.specs.Tasks.{IsRemovingIn, IsHiddenIn, IsUnhiddenIn, IsHiddenStillIn};
+ghost use Rattle.kf_handles.specs.Tasks.{IsRemovingIn, WasGoneIn, IsHiddenIn, IsUnhiddenIn, IsHiddenStillIn};
 ghost use Rattle.kf_handles.specs.Answers.{IsAsBefore};
 ghost use Rattle.kf_handles.specs.Calls.{ClaimedIn};
 ghost use Rattle.kf_handles.specs.Hiding.{SawNobody, SawSomebody};
@@ -21,14 +21,16 @@ pub extern "C" fn kt_claim(tree: &mut KtHandle, key: KtKey) -> i32
 }
 
 /// Marks a node and all below it, and takes each of them out of the tree that nobody uses (`kernfs_remove`).
-/// 0 where the node is out, -EAGAIN where it is not, since somebody is inside.
+/// 1 where the node is out by this, 0 where it was out before, -EAGAIN where it is not, since somebody is
+/// inside.
 #[unsafe(no_mangle)]
 pub extern "C" fn kt_remove(tree: &mut KtHandle, key: KtKey) -> i32
-    ensures gone { result ≡ pos 0 →
+    ensures out { result ≡ pos 1 →
         IsRemovingIn tree.old.place.object tree.new.place.object key false }
+    ensures gone { result ≡ pos 0 → WasGoneIn tree.old.place.object tree.new.place.object key }
     ensures not_yet { result ≡ negsuc 10 →
         IsRemovingIn tree.old.place.object tree.new.place.object key true }
-    ensures kept { result ≢ pos 0 → result ≢ negsuc 10 →
+    ensures kept { result ≢ pos 0 → result ≢ pos 1 → result ≢ negsuc 10 →
         IsAsBefore tree.old.place.object tree.new.place.object }
     ensures beside { tree.new.place.seat ≡ tree.old.place.seat }
 {

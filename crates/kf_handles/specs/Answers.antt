@@ -39,6 +39,14 @@ DoneOr Done Not Why told.Not = Not
 DoneOr Done Not Why (told.Refused refusal) = Why refusal
 DoneOr Done Not Why other = ⊥
 
+-- it says of a removal that the node is out by this step, or was before, or is there still
+abbrev pub OutOr : Type 0 → Type 0 → Type 0 → (Refusal → Type 0) → Reply → Type 0
+OutOr Out Before Not Why told.Done = Out
+OutOr Out Before Not Why told.Gone = Before
+OutOr Out Before Not Why told.Not = Not
+OutOr Out Before Not Why (told.Refused refusal) = Why refusal
+OutOr Out Before Not Why other = ⊥
+
 -- ---- what the questions come to
 
 -- it moved, and that is stored; where it was there already nothing is

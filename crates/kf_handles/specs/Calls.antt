@@ -1,5 +1,6 @@
 -- What the calls of a program say in the words of the tree.
-use Rattle.std.specs.Prelude.{◌≡◌, ℕ, List, Bool, true, false, Option, None, Some, replicate}
+use Rattle.std.specs.Prelude.{◌≡◌, ◌≤◌, ℕ, List, Bool, true, false, Option, None, Some, replicate}
+use Rattle.kf_core.specs.Limits.{most_slots}
 use Rattle.kf_core.specs.declared.key.Key.{Key}
 use Rattle.kf_core.specs.declared.key.Node.{Node}
 use Rattle.kf_core.specs.declared.command.Command.TheVariants.{Activate}
@@ -63,6 +64,10 @@ stat_in_c stat = record {
   doomed = stat.doomed;
   hidden = stat.hidden;
 }
+
+-- a tree may have so many slots, and so many holds of each
+abbrev pub AreLimits : ℕ → ℕ → Type 0
+AreLimits slots holds = (1 ≤ slots) × (slots ≤ most_slots) × (1 ≤ holds) × (holds ≤ 65535)
 
 -- it is a new tree of the root alone, of so many slots and holds of each; the event number of each slot
 -- is 1, and nothing is hidden

@@ -1,5 +1,5 @@
 -- What look-ups answer of the tree behind a handle, and what of that a program has.
-use Rattle.std.specs.Prelude.{◌≡◌, ◌<◌, ◌≤◌, ◌⊎◌, ◌^◌, ℕ, ℤ, pos, negsuc, neg_ℤ, List, [], ◌∷◌, ◌++◌, length, drop, false, Option, None, Some, Result, Ok, Err}
+use Rattle.std.specs.Prelude.{◌≡◌, ◌<◌, ◌≤◌, ◌⊎◌, ◌^◌, ◌+◌, ℕ, ℤ, pos, negsuc, neg_ℤ, List, [], ◌∷◌, ◌++◌, length, drop, false, Option, None, Some, Result, Ok, Err}
 use Rattle.std.specs.Option.{option_map, ok_or}
 use Rattle.kf_core.specs.declared.key.Key.{Key}
 use Rattle.kf_core.specs.declared.refusal.Refusal.{Refusal}
@@ -12,10 +12,12 @@ use Rattle.kf_tree.specs.Links.{HasLinkText}
 use Rattle.kf_tree.specs.Listing.{IsListing}
 use Rattle.kf_tree.specs.Paths.{found, walked}
 use Rattle.kf_tree.specs.Stat.{stat_of}
+use Rattle.kf_tree.specs.Subtrees.{linked_count, owed_count}
 use Rattle.kf_tree.specs.TreeLogs.{TreeLog}
 use Rattle.kf_tree.specs.Ways.{IsPathOf}
 use Rattle.kf_handles.specs.declared.object.Object.{Object}
 use Rattle.kf_handles.specs.declared.object.Object.TheVariants as behind
+use Rattle.kf_handles.specs.declared.replies.KtCommands.{KtCommands}
 use Rattle.kf_handles.specs.declared.replies.KtKey.{KtKey}
 use Rattle.kf_handles.specs.declared.replies.KtStat.{KtStat}
 use Rattle.kf_handles.specs.Calls.{stat_in_c}
@@ -26,6 +28,18 @@ use Rattle.kf_handles.specs.Calls.{stat_in_c}
 abbrev pub root_behind : Object → Result Key Refusal
 root_behind (behind.Tree tree) = Ok tree.value.nodes.state.root
 root_behind other = Err Invalid
+
+-- so many commands are stored, and at most so many after a compaction: one for each linked node but the root,
+-- one for each that is marked, and one for each that is hidden
+abbrev pub CountsCommands : TreeLog → KtCommands → Type 0
+CountsCommands s told = (told.stored ≡ length s.commands)
+    × (told.compacted + 1 ≡ linked_count s.tree + owed_count s.tree)
+
+-- the tree's commands are counted so
+abbrev pub CommandsIn : Object → Result KtCommands Refusal → Type 0
+CommandsIn (behind.Tree tree) (Ok told) = CountsCommands tree.value.nodes.state told
+CommandsIn (behind.Tree tree) (Err why) = ⊥
+CommandsIn other told = told ≡ Err Invalid
 
 -- the child of this name, live or not
 abbrev pub find_behind : Object → Key → List ℕ → Result Key Refusal
@@ -142,3 +156,9 @@ WritesText text (negsuc why) out out' =
 abbrev pub TellsText : (List ℕ → Type 0) → (Refusal → Type 0) → ℤ → List ℕ → List ℕ → Type 0
 TellsText Such Why answer out out' = ((text : List ℕ) × Such text × WritesText text answer out out')
     ⊎ (IsRefusal Why answer × (out' ≡ out))
+
+-- 0, and the counts are written; or -EINVAL of what is no tree, and nothing is
+abbrev pub TellsCommands : Object → ℤ → KtCommands → KtCommands → Type 0
+TellsCommands (behind.Tree tree) answer out out' =
+    (answer ≡ pos 0) × CountsCommands tree.value.nodes.state out'
+TellsCommands other answer out out' = (answer ≡ negsuc 21) × (out' ≡ out)

@@ -1,5 +1,5 @@
 -- What a removal in steps stores.
-use Rattle.std.specs.Prelude.{◌≡◌, true, Bool, List, [], ◌∷◌, ◌++◌, Contains, All, MatchBool, if◌then◌else◌}
+use Rattle.std.specs.Prelude.{◌≡◌, true, false, Bool, List, [], ◌∷◌, ◌++◌, Contains, All, if◌then◌else◌}
 use Rattle.kf_core.specs.declared.key.Key.{Key}
 use Rattle.kf_core.specs.declared.command.Command.{Command}
 use Rattle.kf_core.specs.declared.command.Command.TheVariants.{Doom, Unlink, Show}
@@ -31,10 +31,14 @@ Removes marked old new key = (keys : List Key) × (more : List Command)
     × IsPostOrder old.state.tree key keys × All (IsEndOf keys) more
     × Stores old.state new.state (mark_of marked key ++ more) × (new.claims ≡ old.claims)
 
--- so it is of a linked node; one that is not linked leaves the tree as it was
-abbrev pub IsRemoving : Locked → Locked → Key → Type 0
-IsRemoving old new key = MatchBool (is_linked old.state.tree key)
-    (Removes (doomed_in old.state.tree key) old new key) (new ≡ old)
+-- so it is of a node that was linked, and its key is linked afterwards, or not
+abbrev pub IsRemoving : Locked → Locked → Key → Bool → Type 0
+IsRemoving old new key linked = (is_linked old.state.tree key ≡ true)
+    × (is_linked new.state.tree key ≡ linked) × Removes (doomed_in old.state.tree key) old new key
+
+-- its key was not linked, and nothing was done
+abbrev pub WasGone : Locked → Locked → Key → Type 0
+WasGone old new key = (is_linked old.state.tree key ≡ false) × (new ≡ old)
 
 -- the node and all below it are marked, and that is all that is stored
 abbrev pub IsMarked : Locked → Locked → Key → Type 0

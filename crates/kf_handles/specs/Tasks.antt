@@ -1,6 +1,5 @@
 -- What may have to be asked of a tree again, since somebody is inside, and what that makes of it.
 use Rattle.std.specs.Prelude.{◌≡◌, Bool, true, false, List, Option}
-use Rattle.kf_core.specs.Tree.{is_linked}
 use Rattle.kf_words.specs.Callers.{TableId, Handle}
 use Rattle.kf_shared.specs.Locked.{Locked, Unchanged}
 use Rattle.kf_handles.specs.declared.object.Object.{Object}
@@ -10,17 +9,16 @@ use Rattle.kf_handles.specs.declared.questions.Task.TheVariants as task
 use Rattle.kf_handles.specs.declared.questions.Reply.{Reply}
 use Rattle.kf_handles.specs.declared.questions.Reply.TheVariants as told
 use Rattle.kf_handles.specs.declared.replies.KtKey.{KtKey}
-use Rattle.kf_handles.specs.Answers.{DoneOr}
+use Rattle.kf_handles.specs.Answers.{DoneOr, OutOr}
 use Rattle.kf_handles.specs.Calls.{key_in}
-use Rattle.kf_handles.specs.Removing.{IsRemoving}
+use Rattle.kf_handles.specs.Removing.{IsRemoving, WasGone}
 use Rattle.kf_handles.specs.Hiding.{SawNobody, SawSomebody, HasHiding, HasNoHiding, IsHidden, IsUnhidden, IsHiddenStill}
 
 -- what becomes of a tree, of this table, and of its tokens, where it answers this
 abbrev pub Stepped : TableId → Task → Locked → List (Option Handle) → Locked → List (Option Handle)
     → Reply → Type 0
 Stepped table (task.Remove key) old tokens new tokens' reply =
-    DoneOr ((is_linked new.state.tree key ≡ false) × IsRemoving old new key)
-    ((is_linked new.state.tree key ≡ true) × IsRemoving old new key)
+    OutOr (IsRemoving old new key false) (WasGone old new key × (tokens' ≡ tokens)) (IsRemoving old new key true)
     (λ why. Unchanged old new × (tokens' ≡ tokens)) reply
 Stepped table (task.Hide key) old tokens new tokens' reply =
     DoneOr (IsHidden SawNobody table old tokens new tokens' key)
@@ -57,8 +55,13 @@ HasNoHidingIn other = Unit {0}
 
 -- the node is being removed, and its key is linked in the tree afterwards, or not
 abbrev pub IsRemovingIn : Object → Object → KtKey → Bool → Type 0
-IsRemovingIn old new key linked = OfSteps (λ before tokens after tokens'.
-    (is_linked after.state.tree (key_in key) ≡ linked) × IsRemoving before after (key_in key)) old new
+IsRemovingIn old new key linked =
+    OfSteps (λ before tokens after tokens'. IsRemoving before after (key_in key) linked) old new
+
+-- the tree had no node of this key, and nothing was done
+abbrev pub WasGoneIn : Object → Object → KtKey → Type 0
+WasGoneIn old new key = OfSteps (λ before tokens after tokens'.
+    WasGone before after (key_in key) × (tokens' ≡ tokens)) old new
 
 -- the file is hidden, and its token saw this
 abbrev pub IsHiddenIn : (Handle → Type 0) → Object → Object → KtKey → Type 0

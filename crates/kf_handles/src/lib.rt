@@ -28,8 +28,9 @@ pub use handle::KtHandle;
 pub use numbers::{notify, number, post};
 pub use questions::Question;
 pub use replies::{
-    KtKey, KtStat, change, claim, clear, create, delete, hold, key_of, make, make_tree,
+    KtCommands, KtKey, KtStat, change, claim, clear, create, create_file, delete, hold, key_of,
+    make, make_tree,
 };
 pub use stepping::{break_off, enter, leave, restore};
 pub use tasks::{hide, remove, unhide};
-pub use telling::{find, link_text, name, next, parent, path, root, tell, walk};
+pub use telling::{commands, find, link_text, name, next, parent, path, root, tell, walk};

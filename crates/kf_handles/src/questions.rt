@@ -47,6 +47,8 @@ pub enum Reply {
     Held(Held),
     /// It is done.
     Done,
+    /// The node was out of the tree before.
+    Gone,
     /// It was done before, or somebody is inside.
     Not,
     Refused(Refusal),

@@ -4,9 +4,9 @@ ghost use Rattle.kf_core.specs.Tree.{is_linked};
 ghost use Rattle.kf_shared.specs.Locked.{Unchanged, is_claimed};
 ghost use Rattle.kf_shared.specs.Receipts.{AreOf};
 ghost use Rattle.kf_shared.specs.Removal.{keys_of};
-ghost use Rattle.kf_handles.specs.Answers.{ClaimedTo, DoneOr};
+ghost use Rattle.kf_handles.specs.Answers.{ClaimedTo, DoneOr, OutOr};
 ghost use Rattle.kf_handles.specs.Kept.{AreTokensOf};
-ghost use Rattle.kf_handles.specs.Removing.{Ends, IsMarked, IsRemoving, Removes};
+ghost use Rattle.kf_handles.specs.Removing.{Ends, IsMarked, IsRemoving, Removes, WasGone};
 
 use crate::hiding::unhide;
 use crate::marking::{is_marked, mark, mark_once};
@@ -151,18 +151,19 @@ fn is_linked<N: Naming>(locked: &Locked<N>, key: Key) -> bool
 }
 
 /// Marks a node and all below it, where it is not marked yet, and takes out each of them that nobody uses.
-/// Done where it is out of the tree, and Not where it is still there. A refusal comes before anything is
-/// marked or taken out.
+/// Done where it is out of the tree by this, Gone where it was out before, and Not where it is still there. A
+/// refusal comes before anything is marked or taken out.
 pub fn remove<N: Naming>(locked: &mut Locked<N>, tokens: &mut Vec<Option<Token>>, key: Key) -> Reply
     requires { AreTokensOf N.table tokens.old.items }
     ensures tokens { AreTokensOf N.table tokens.new.items }
-    ensures told { DoneOr
-        ((is_linked locked.new.state.tree key ≡ false) × IsRemoving locked.old locked.new key)
-        ((is_linked locked.new.state.tree key ≡ true) × IsRemoving locked.old locked.new key)
+    ensures told { OutOr
+        (IsRemoving locked.old locked.new key false)
+        (WasGone locked.old locked.new key × (tokens.new.items ≡ tokens.old.items))
+        (IsRemoving locked.old locked.new key true)
         (λ why. Unchanged locked.old locked.new × (tokens.new.items ≡ tokens.old.items)) result }
 {
     let Some(marked) = is_marked(locked, key) else {
-        return Reply::Done;
+        return Reply::Gone;
     };
     if let Err(refusal) = take_up(locked, tokens, key, marked) {
         return Reply::Refused(refusal);

@@ -1,10 +1,11 @@
 //! What the calls of a program do to what lies behind its handles, and the numbers that they answer.
-ghost use Rattle.std.specs.Prelude.{◌≡◌, ◌≢◌, ◌⊎◌, true, false, pos, negsuc};
+ghost use Rattle.std.specs.Prelude.{◌≡◌, ◌≢◌, ◌⊎◌, ◌<◌, ◌≤◌, true, false, pos, negsuc};
 ghost use Rattle.kf_handles.specs.Tasks.{HasHidingIn, HasNoHidingIn};
 ghost use Rattle.kf_handles.specs.Answers.{Answered, AnsweredBehind, OfTrees, IsAsBefore, ToldWhy, is_change, is_naming};
-ghost use Rattle.kf_handles.specs.Calls.{IsNewTree, CreatedIn, HoldsNode, ClaimedIn, IsNothing, is_nothing, key_in, stat_in_c};
+ghost use Rattle.kf_handles.specs.Calls.{AreLimits, IsNewTree, CreatedIn, HoldsNode, ClaimedIn, IsNothing, is_nothing, key_in, stat_in_c};
 ghost use Rattle.kf_handles.specs.Steps.{WakeOwed};
 ghost use Rattle.kf_handles.specs.declared.questions.Question.TheVariants as asks;
+ghost use Rattle.kf_core.specs.declared.key.Node.TheVariants as kind;
 ghost use Rattle.kf_handles.specs.declared.object.Object.TheVariants as behind;
 ghost use Rattle.kf_handles.specs.declared.questions.Reply.TheVariants as told;
 
@@ -45,6 +46,15 @@ pub struct KtStat {
     pub activated: bool,
     pub doomed: bool,
     pub hidden: bool,
+}
+
+/// How many commands a tree stores.
+#[repr(C)]
+#[derive(Clone, Copy)]
+pub struct KtCommands {
+    pub stored: u64,
+    /// How many it would store after a compaction, at most.
+    pub compacted: u64,
 }
 
 /// The key as the library has it.
@@ -127,6 +137,32 @@ pub fn create(
         live,
     };
     named(handle, question, out)
+}
+
+/// Links a new file in a directory, and writes its key. Its mode has permission bits alone.
+pub fn create_file(
+    handle: &mut KtHandle,
+    parent: KtKey,
+    name: &[u8],
+    mode: u16,
+    tag: u64,
+    live: bool,
+    out: &mut KtKey,
+) -> i32
+    ensures created { result ≡ pos 0 → CreatedIn handle.old.place.object handle.new.place.object parent
+        name.now (kind.File mode tag) live out.new }
+    ensures kept { result ≢ pos 0 → IsAsBefore handle.old.place.object handle.new.place.object
+        × (out.new ≡ out.old) }
+    ensures beside { handle.new.place.seat ≡ handle.old.place.seat }
+    ensures unfit { 511 < mode → result ≡ negsuc 21 }
+    ensures why { mode ≤ 511 → result ≢ pos 0 →
+        ToldWhy (asks.Create (key_in parent) name.entry (kind.File mode tag) live)
+        handle.old.place.object handle.new.place.object result }
+{
+    if mode > 0o777 {
+        return INVALID;
+    }
+    create(handle, parent, name, Node::File { mode, tag }, live, out)
 }
 
 /// Asks for a change that is made at once or refused.
@@ -259,6 +295,9 @@ pub fn make_tree(alloc: Global, handle: &mut KtHandle, slots: u32, holds: u32) -
     ensures taken { is_nothing handle.old.place ≡ false → result ≡ negsuc 21 }
     ensures was { result ≡ pos 0 → IsNothing handle.old.place }
     ensures same { result ≢ pos 0 → handle.new.place ≡ handle.old.place }
+    ensures unlawful { (¬ AreLimits slots holds) → result ≡ negsuc 21 }
+    ensures why { is_nothing handle.old.place ≡ true → AreLimits slots holds → result ≢ pos 0 →
+        result ≡ negsuc 11 }
 {
     if !is_nothing(handle) {
         return INVALID;

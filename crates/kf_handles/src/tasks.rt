@@ -1,7 +1,7 @@
 //! What may have to be asked of a tree again, asked of what lies behind a handle, and the numbers that are
 //! answered.
 ghost use Rattle.std.specs.Prelude.{◌≡◌, ◌≢◌, true, false, pos, negsuc};
-ghost use Rattle.kf_handles.specs.Tasks.{SteppedBehind, IsRemovingIn, IsHiddenIn, IsUnhiddenIn, IsHiddenStillIn};
+ghost use Rattle.kf_handles.specs.Tasks.{SteppedBehind, IsRemovingIn, WasGoneIn, IsHiddenIn, IsUnhiddenIn, IsHiddenStillIn};
 ghost use Rattle.kf_handles.specs.Answers.{IsAsBefore};
 ghost use Rattle.kf_handles.specs.Hiding.{SawNobody, SawSomebody};
 
@@ -35,19 +35,22 @@ fn step_handle(handle: KtHandle, task: Task) -> (KtHandle, Reply)
     (KtHandle::of(boxed), reply)
 }
 
-/// Removes a subtree as far as it can be without waiting.
+/// Removes a subtree as far as it can be without waiting: 1 where the node is out by this, and 0 where it was
+/// out before.
 pub fn remove(handle: &mut KtHandle, key: KtKey) -> i32
-    ensures gone { result ≡ pos 0 →
+    ensures out { result ≡ pos 1 →
         IsRemovingIn handle.old.place.object handle.new.place.object key false }
+    ensures gone { result ≡ pos 0 → WasGoneIn handle.old.place.object handle.new.place.object key }
     ensures not_yet { result ≡ negsuc 10 →
         IsRemovingIn handle.old.place.object handle.new.place.object key true }
-    ensures kept { result ≢ pos 0 → result ≢ negsuc 10 →
+    ensures kept { result ≢ pos 0 → result ≢ pos 1 → result ≢ negsuc 10 →
         IsAsBefore handle.old.place.object handle.new.place.object }
     ensures beside { handle.new.place.seat ≡ handle.old.place.seat }
 {
     let task = Task::Remove(key_of(key));
     match replace_with(handle, task, step_handle) {
-        Reply::Done => 0,
+        Reply::Done => 1,
+        Reply::Gone => 0,
         Reply::Not => AGAIN,
         Reply::Refused(refusal) => error_of(refusal),
         _ => INVALID,

@@ -2,13 +2,13 @@
 ghost use Rattle.std.specs.Prelude.{◌≡◌, ◌∷◌, [], IfErr, IfOk};
 ghost use Rattle.std.specs.Option.{option_copied};
 ghost use Rattle.kf_handles.specs.Calls.{is_nothing, key_in};
-ghost use Rattle.kf_handles.specs.LookUps.{bound_of, find_behind, parent_behind, root_behind, stat_behind, walk_behind, LinkTextIn, LinkTextRefused, NameIn, NameRefused, NextIn, NextRefused, NextRefusedIn, PathIn, PathRefused, TellsKey, TellsStat, TellsText, WritesText};
+ghost use Rattle.kf_handles.specs.LookUps.{CommandsIn, TellsCommands, bound_of, find_behind, parent_behind, root_behind, stat_behind, walk_behind, LinkTextIn, LinkTextRefused, NameIn, NameRefused, NextIn, NextRefused, NextRefusedIn, PathIn, PathRefused, TellsKey, TellsStat, TellsText, WritesText};
 ghost use Rattle.kf_tree.specs.Listing.{IsListing};
 
 use crate::errors::{RANGE, error_of};
 use crate::handle::KtHandle;
 use crate::object::Object;
-use crate::replies::{KtKey, KtStat, key_of, told_key, told_of};
+use crate::replies::{KtCommands, KtKey, KtStat, key_of, told_key, told_of};
 use core::mem::replace_with;
 use kf_core::{Key, Refusal};
 use kf_index::Name;
@@ -70,6 +70,42 @@ pub fn root(handle: &mut KtHandle, out: &mut KtKey) -> i32
     ensures told { TellsKey (root_behind handle.old.place.object) result out.old out.new }
 {
     tell_key(replace_with(handle, (), root_of), out)
+}
+
+/// How many commands a tree stores, and would after a compaction.
+fn commands_in(object: &Object) -> Result<KtCommands, Refusal>
+    ensures told { CommandsIn object.now result }
+{
+    match object {
+        Object::Tree(tree) => Ok(KtCommands {
+            stored: tree.state().stored() as u64,
+            compacted: tree.state().compacted() as u64,
+        }),
+        _ => Err(Refusal::Invalid),
+    }
+}
+
+fn commands_of(handle: KtHandle, _nothing: ()) -> (KtHandle, Result<KtCommands, Refusal>)
+    ensures same { result.0.place ≡ handle.place }
+    ensures told { CommandsIn handle.place.object result.1 }
+{
+    let boxed = handle.into_box();
+    let told = commands_in(&boxed.as_ref().object);
+    (KtHandle::of(boxed), told)
+}
+
+/// How many commands a tree stores, and would after a compaction, in constant time.
+pub fn commands(handle: &mut KtHandle, out: &mut KtCommands) -> i32
+    ensures same { handle.new.place ≡ handle.old.place }
+    ensures told { TellsCommands handle.old.place.object result out.old out.new }
+{
+    match replace_with(handle, (), commands_of) {
+        Ok(told) => {
+            *out = told;
+            0
+        }
+        Err(refusal) => error_of(refusal),
+    }
 }
 
 /// The child of this name, live or not.

@@ -1,6 +1,6 @@
 //! The tokens of a tree's hidden files, each in its file's slot. While one lies there the slot is not given
 //! again, so it is the slot's only one.
-ghost use Rattle.std.specs.Prelude.{◌≡◌, ◌<◌, IfOk, IfSome, None, Some, true, false, length, slice_set, replicate};
+ghost use Rattle.std.specs.Prelude.{◌≡◌, ◌<◌, IfErr, IfOk, IfSome, None, Some, true, false, length, slice_set, replicate};
 ghost use Rattle.kf_handles.specs.Hiding.{IsTokenOf, IsSeen, HasHiding, HasNoHiding, SawNobody, SawSomebody};
 
 use crate::token::Token;
@@ -9,7 +9,8 @@ use std::alloc::Global;
 
 /// No token, of so many slots.
 pub fn no_tokens(alloc: Global, slots: u32) -> Result<Vec<Option<Token>>, Refusal>
-    ensures { IfOk result (λ tokens. tokens.items ≡ replicate slots None) }
+    ensures none { IfOk result (λ tokens. tokens.items ≡ replicate slots None) }
+    ensures refused { IfErr result (λ why. why ≡ Refusal.NoMemory) }
 {
     let Ok(mut tokens) = Vec::with_capacity(alloc, slots as usize) else {
         return Err(Refusal::NoMemory);

@@ -48,6 +48,7 @@ impl Tree {
         ensures words { IfOk result (λ tree. tree.nodes.master.view ≡ opened limits.holds limits.slots 0) }
         ensures posts { IfOk result (λ tree. (tree.posts.slots ≡ limits.slots) × (tree.posts.start ≡ 1)) }
         ensures hidden { IfOk result (λ tree. tree.hidden ≡ replicate limits.slots None) }
+        ensures refused { IfErr result (λ why. why ≡ refusal_of.NoMemory) }
     {
         let nodes = SharedTree::<Brand>::new(alloc, limits)?;
         let posts = Posts::new(alloc, limits.slots())?;
