@@ -1,5 +1,5 @@
 -- What the tree lock keeps, and what the calls on one node make of it.
-use Rattle.std.specs.Prelude.{◌≡◌, ◌⊎◌, ℕ, Bool, false, ◌==◌, slice_get, List, length, Option, None, Some, MatchBool, IfSome}
+use Rattle.std.specs.Prelude.{◌≡◌, ◌⊎◌, ℕ, Bool, false, ◌==◌, ◌&&◌, nat_lt, nat_le, slice_get, List, length, Option, None, Some, MatchBool, IfSome}
 use Rattle.std.specs.Option.{option_map}
 use Rattle.kf_core.specs.declared.key.Key.{Key}
 use Rattle.kf_core.specs.declared.key.Node.{Node}
@@ -12,7 +12,7 @@ use Rattle.kf_tree.specs.Causes.{create_fault, create_cause, rename_cause, unlin
 use Rattle.kf_tree.specs.TreeLogs.{TreeLog, IsKept, IsAccepted, IsRefused}
 use Rattle.kf_words.specs.declared.view.MasterView.{MasterView}
 use Rattle.kf_words.specs.Callers.{TableId, Handle}
-use Rattle.kf_words.specs.Nodes.{MasterState, KeepsNodes, IsVacant, Searched, FoundFirst, PinRefused, UnlinkAnswer}
+use Rattle.kf_words.specs.Nodes.{MasterState, last_of, KeepsNodes, IsVacant, Searched, FoundFirst, PinRefused, UnlinkAnswer}
 use Rattle.kf_tree.specs.SlotMarks.{SameMarks}
 use Rattle.kf_shared.specs.Agreement.{HasNodes}
 
@@ -111,6 +111,15 @@ UnlinkRefused old new key refusal =
 abbrev pub is_some_of : Option ℕ → ℕ → Bool
 is_some_of None n = false
 is_some_of (Some m) n = m == n
+
+-- the generation is not 0, and no later one than that
+abbrev pub is_up_to : Option ℕ → ℕ → Bool
+is_up_to None n = false
+is_up_to (Some last) n = nat_lt 0 n && nat_le n last
+
+-- the key was given in this tree: a slot gives its generations in turn, from 1 on
+abbrev pub was_given : MasterView → Key → Bool
+was_given m key = is_up_to (last_of m key.slot) key.generation
 
 -- the generation of the key was claimed last
 abbrev pub is_claimed : List ℕ → Key → Bool

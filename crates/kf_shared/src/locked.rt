@@ -8,7 +8,7 @@ ghost use Rattle.kf_tree.specs.Causes.{linked_cause};
 ghost use Rattle.kf_table.specs.Children.{is_there_already};
 ghost use Rattle.kf_tree.specs.TreeLogs.{IsAccepted, IsRefused};
 ghost use Rattle.kf_words.specs.Nodes.{KeepsNodes, IsVacant, UnlinkAnswer, WasPinned};
-ghost use Rattle.kf_shared.specs.Locked.{IsWhole, Created, CreateRefused, BornLowest, move_cause, IsHoldOfNode, HoldRefused, Unchanged, UnlinkDone, UnlinkRefused, is_claimed};
+ghost use Rattle.kf_shared.specs.Locked.{IsWhole, Created, CreateRefused, BornLowest, move_cause, IsHoldOfNode, HoldRefused, Unchanged, UnlinkDone, UnlinkRefused, is_claimed, was_given};
 
 use crate::marking::rise_each;
 use crate::naming::Naming;
@@ -172,6 +172,17 @@ impl<N: Naming> Locked<N> {
                 first
             }
             None => true,
+        }
+    }
+
+    /// Whether a key was given in this tree, so that it names a node that is linked, or was. It makes no word
+    /// step.
+    pub fn was_given(&self, key: Key) -> bool
+        ensures { result ≡ was_given self.now.master.view key }
+    {
+        match self.master.last(key.slot) {
+            Some(last) => 0 < key.generation && key.generation <= last,
+            None => false,
         }
     }
 

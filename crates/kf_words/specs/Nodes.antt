@@ -46,6 +46,10 @@ master_view s = master_of s.token.me.0.view
 abbrev pub marks_of : MasterView → Key → Option Marks
 marks_of m key = marks_in (slice_get m.slots key.slot) key.generation
 
+-- the generation that a slot was given last, or 0
+abbrev pub last_of : MasterView → ℕ → Option ℕ
+last_of m slot = option_map (λ (state : SlotState). state.generation) (slice_get m.slots slot)
+
 -- the slots, where that of the key has its generation and these marks
 abbrev pub slots_with : List SlotState → Key → Option Marks → List SlotState
 slots_with slots key marks = slice_set slots key.slot (record { generation = key.generation; marks = marks })
@@ -175,8 +179,7 @@ PinRefused m slot NameTooLong m' = ⊥
 
 -- the key has the last generation of its slot
 abbrev pub IsLastKey : MasterView → Key → Type 0
-IsLastKey m key =
-    option_map (λ (state : SlotState). state.generation) (slice_get m.slots key.slot) ≡ Some key.generation
+IsLastKey m key = last_of m key.slot ≡ Some key.generation
 
 -- a pin of a held key is refused before any step where the key is not the last of its slot, and else as a pin
 -- is

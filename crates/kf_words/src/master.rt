@@ -2,7 +2,7 @@
 //! tree's commands.
 ghost use Rattle.std.specs.Prelude.{◌≡◌, ◌<◌, ◌≤◌, true, false, length, is_some, IfOk, IfErr, OnOk};
 ghost use Rattle.kf_core.specs.declared.refusal.Refusal.TheVariants as refusal_of;
-ghost use Rattle.kf_words.specs.Nodes.{KeepsNodes, KeepsRooms, IsNewHold, IsLastKey, WasPinned, PinRefused, HeldPinRefused, RoomFound, FoundRoom, FoundFull, marks_of, sight_in};
+ghost use Rattle.kf_words.specs.Nodes.{KeepsNodes, KeepsRooms, IsNewHold, IsLastKey, WasPinned, PinRefused, HeldPinRefused, RoomFound, FoundRoom, FoundFull, last_of, marks_of, sight_in};
 ghost use Rattle.kf_words.specs.Made.{WasCounted};
 
 use crate::call::Call;
@@ -52,6 +52,17 @@ impl Master {
         match self.slots.get(key.slot as usize) {
             Some(state) if state.generation == key.generation => state.marks,
             _ => None,
+        }
+    }
+
+    /// The generation that a slot was given last: that of the node there, or of the last that is gone, or 0.
+    /// None where the table has no such slot. It makes no word step.
+    pub fn last(&self, slot: u32) -> Option<u32>
+        ensures { result ≡ last_of self.now.view slot }
+    {
+        match self.slots.get(slot as usize) {
+            Some(state) => Some(state.generation),
+            None => None,
         }
     }
 
