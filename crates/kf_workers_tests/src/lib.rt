@@ -10,6 +10,8 @@ mod meeting_tests;
 #[cfg(test)]
 mod reading_tests;
 #[cfg(test)]
+mod removal_tests;
+#[cfg(test)]
 mod test_fixtures;
 #[cfg(test)]
 mod text_tests;
