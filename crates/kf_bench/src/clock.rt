@@ -1,12 +1,15 @@
-//! What a turn takes each of several threads at once, at best.
+//! What a turn takes each of several threads that run at once, at best.
 
 use std::io;
 use std::sync::atomic::{AtomicU64, Ordering};
 use std::thread::{Threads, for_each_mut};
 use std::time::{Clock, Duration, Instant};
 
-/// Each thread's time is the best of so many rounds, of which the first warm up. A figure is their mean.
+/// A figure is the best of so many rounds, of which the first warm up. A round is the mean of its threads' times.
 const ROUNDS: u32 = 25;
+
+/// How often a thread looks whether the others have come too, before it begins without them.
+const LOOKS: u32 = 10_000_000;
 
 /// The most threads that measure at once.
 pub(crate) const THREADS: usize = 4;
@@ -17,11 +20,21 @@ pub(crate) trait Work {
     fn turns(&self, place: u32, turns: u32) -> u32;
 }
 
-/// A thread: its place, and how long its turns took, at best.
+/// A thread: its place, and how long its turns took in the last round.
 #[derive(Clone, Copy)]
 struct Seat {
     place: u32,
-    best: Duration,
+    took: Duration,
+}
+
+/// Comes, and waits until so many have.
+fn meet(come: &AtomicU64, threads: u64) {
+    come.fetch_add(1, Ordering::SeqCst);
+    for _ in 0..LOOKS {
+        if come.load(Ordering::SeqCst) >= threads {
+            return;
+        }
+    }
 }
 
 /// Makes the turns at a place, counts those that fail, and tells how long they took.
@@ -37,27 +50,60 @@ fn time_at<W: Work, R: Clock>(
     start.elapsed(rt)
 }
 
-/// Measures one thread at each of these places, all at once.
-fn measure<W: Work + Sync, R: Threads + Clock + Sync>(
+/// Makes one round: a thread at each of these places, which all begin at once.
+fn run_round<W: Work + Sync, R: Threads + Clock + Sync>(
     rt: &R,
     work: &W,
     turns: u32,
     seats: &mut [Seat],
     failed: &AtomicU64,
 ) {
-    for _ in 0..ROUNDS {
-        for_each_mut(
-            rt,
-            seats,
-            THREADS,
-            &|_, seat| match time_at(rt, work, turns, seat.place, failed) {
-                Ok(time) => seat.best = seat.best.min(time),
-                Err(_) => {
-                    failed.fetch_add(turns as u64, Ordering::SeqCst);
-                }
-            },
-        );
+    let come = AtomicU64::new(0);
+    let threads = seats.len() as u64;
+    for_each_mut(rt, seats, THREADS, &|_, seat| {
+        meet(&come, threads);
+        match time_at(rt, work, turns, seat.place, failed) {
+            Ok(time) => seat.took = time,
+            Err(_) => {
+                failed.fetch_add(turns as u64, Ordering::SeqCst);
+            }
+        }
+    });
+}
+
+/// The mean of the threads' times in nanoseconds. None where one had ended when another still had a quarter of its
+/// time to go: then they did not run at once.
+fn mean(seats: &[Seat]) -> Option<u128> {
+    let (mut all, mut least, mut most) = (0u128, u128::MAX, 0u128);
+    for seat in seats {
+        let took = seat.took.as_nanos();
+        all = all.saturating_add(took);
+        least = least.min(took);
+        most = most.max(took);
     }
+    if least.saturating_mul(4) < most.saturating_mul(3) {
+        return None;
+    }
+    Some(all / seats.len().max(1) as u128)
+}
+
+/// Measures one thread at each of these places, all at once. None where they never ran at once.
+fn measure<W: Work + Sync, R: Threads + Clock + Sync>(
+    rt: &R,
+    work: &W,
+    turns: u32,
+    seats: &mut [Seat],
+    failed: &AtomicU64,
+) -> Option<u128> {
+    let mut best = None;
+    for _ in 0..ROUNDS {
+        run_round(rt, work, turns, seats, failed);
+        best = match (best, mean(seats)) {
+            (Some(best), Some(time)) => Some(time.min(best)),
+            (before, time) => time.or(before),
+        };
+    }
+    best
 }
 
 /// Measures so many threads, each at its place, and prints the nanoseconds that a turn took each of them.
@@ -71,19 +117,19 @@ pub(crate) fn column<W: Work + Sync, R: Threads + Clock + Print + Sync>(
     let failed = AtomicU64::new(0);
     let mut seats = [Seat {
         place: 0,
-        best: Duration::MAX,
+        took: Duration::MAX,
     }; THREADS];
     for (seat, place) in seats.iter_mut().zip(places) {
         seat.place = *place;
     }
     let end = places.len().min(threads).min(THREADS);
-    measure(rt, work, turns, &mut seats[..end], &failed);
-    let mut all = 0u128;
-    for seat in &seats[..end] {
-        all = all.saturating_add(seat.best.as_nanos());
+    match measure(rt, work, turns, &mut seats[..end], &failed) {
+        Some(time) => {
+            let tenths = time.saturating_mul(10) / turns.max(1) as u128;
+            print!(rt; "{:>10}.{}", tenths / 10, tenths % 10)?;
+        }
+        None => print!(rt; "           -")?,
     }
-    let tenths = all.saturating_mul(10) / (end.max(1) as u128) / turns.max(1) as u128;
-    print!(rt; "{:>10}.{}", tenths / 10, tenths % 10)?;
     match failed.load(Ordering::SeqCst) {
         0 => Ok(()),
         count => print!(rt; " ({count} turns failed)"),
