@@ -16,3 +16,4 @@ pub mod Refusals
 pub mod Fresh
 pub mod Several
 pub mod Removing
+pub mod Leavings

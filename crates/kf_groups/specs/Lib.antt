@@ -5,3 +5,4 @@ pub mod Making
 pub mod TakenBack
 pub mod Groups
 pub mod Removals
+pub mod Leavings

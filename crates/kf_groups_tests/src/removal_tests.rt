@@ -3,7 +3,7 @@ ghost use Rattle.std.specs.Prelude.{◌≡◌};
 
 use crate::fixtures::{attribute, directory, first_wrong, is_free, is_made, made, slot};
 use kf_core::{Key, Refusal};
-use kf_groups::{Group, remove_group, remove_groups};
+use kf_groups::{Group, remove_group, remove_group_in, remove_groups};
 use kf_shared::{Naming, NewTree, SharedTree};
 use kf_words::Hold;
 use std::alloc::Global;
@@ -23,7 +23,7 @@ fn both_made<N: Naming, R: Wait>(
 }
 
 /// Both groups are removed from a directory, and made again in a tree that has no other slot for them.
-fn below_the_root<N: Naming, R: Abort + Wait>(rt: &R, new: NewTree)
+fn below_the_root<N: Naming, R: Abort + Wait>(rt: &R, alloc: Global, new: NewTree)
     requires { new.master.table ≡ N.table }
 {
     let tree = new.named::<N>();
@@ -35,12 +35,12 @@ fn below_the_root<N: Naming, R: Abort + Wait>(rt: &R, new: NewTree)
     let answers = [
         both_made(rt, &tree, root, &own, &bare),
         both_made(rt, &tree, dir, &own, &bare),
-        remove_group(rt, &tree, dir, &own) == Ok(()),
+        remove_group(rt, &tree, alloc, dir, &own) == Ok(()),
         is_free(rt, &tree, b"/d/g"),
         slot(rt, &tree, b"/d/a").is_some(),
         slot(rt, &tree, b"/g/b") == Some(4),
-        remove_group(rt, &tree, dir, &own) == Err(Refusal::NoEntry),
-        remove_group(rt, &tree, dir, &bare) == Ok(()),
+        remove_group(rt, &tree, alloc, dir, &own) == Err(Refusal::NoEntry),
+        remove_group(rt, &tree, alloc, dir, &bare) == Ok(()),
         is_free(rt, &tree, b"/d/b"),
         slot(rt, &tree, b"/b") == Some(6),
         both_made(rt, &tree, dir, &own, &bare),
@@ -49,7 +49,7 @@ fn below_the_root<N: Naming, R: Abort + Wait>(rt: &R, new: NewTree)
 }
 
 /// Of a group without a name one file is gone already, and the other's mode is 0 by now.
-fn files_away<N: Naming, R: Abort + Wait>(rt: &R, new: NewTree)
+fn files_away<N: Naming, R: Abort + Wait>(rt: &R, alloc: Global, new: NewTree)
     requires { new.master.table ≡ N.table }
 {
     let tree = new.named::<N>();
@@ -59,10 +59,10 @@ fn files_away<N: Naming, R: Abort + Wait>(rt: &R, new: NewTree)
     let hidden = [attribute(b"a", 0o444, 1), attribute(b"b", 0, 2)];
     let answers = [
         is_made(rt, &tree, dir, &Group::new(None, &both)),
-        remove_group(rt, &tree, dir, &Group::new(None, &first)) == Ok(()),
+        remove_group(rt, &tree, alloc, dir, &Group::new(None, &first)) == Ok(()),
         is_free(rt, &tree, b"/d/a"),
         slot(rt, &tree, b"/d/b") == Some(3),
-        remove_group(rt, &tree, dir, &Group::new(None, &hidden)) == Ok(()),
+        remove_group(rt, &tree, alloc, dir, &Group::new(None, &hidden)) == Ok(()),
         is_free(rt, &tree, b"/d/b"),
     ];
     assert_eq!(rt; first_wrong(&answers), None);
@@ -71,16 +71,17 @@ fn files_away<N: Naming, R: Abort + Wait>(rt: &R, new: NewTree)
 /// Removes a group from what the path names.
 fn remove_at<N: Naming, R: Wait>(
     rt: &R,
+    alloc: Global,
     tree: &SharedTree<N>,
     path: &[u8],
     group: &Group,
 ) -> Result<(), Refusal> {
     let dir = tree.read(rt).state().lookup(path)?;
-    remove_group(rt, tree, dir, group)
+    remove_group(rt, tree, alloc, dir, group)
 }
 
 /// A directory that is gone has nothing of a group without a name, and a file is no directory.
-fn no_directory<N: Naming, R: Abort + Wait>(rt: &R, new: NewTree)
+fn no_directory<N: Naming, R: Abort + Wait>(rt: &R, alloc: Global, new: NewTree)
     requires { new.master.table ≡ N.table }
 {
     let tree = new.named::<N>();
@@ -91,20 +92,62 @@ fn no_directory<N: Naming, R: Abort + Wait>(rt: &R, new: NewTree)
     let bare = Group::new(None, &files);
     let answers = [
         is_made(rt, &tree, root, &bare),
-        remove_at(rt, &tree, b"/a", &own) == Err(Refusal::NotDir),
-        remove_at(rt, &tree, b"/a", &bare) == Err(Refusal::NotDir),
-        remove_group(rt, &tree, root, &own) == Ok(()),
-        remove_group(rt, &tree, dir, &own) == Err(Refusal::NoEntry),
-        remove_group(rt, &tree, dir, &bare) == Ok(()),
+        remove_at(rt, alloc, &tree, b"/a", &own) == Err(Refusal::NotDir),
+        remove_at(rt, alloc, &tree, b"/a", &bare) == Err(Refusal::NotDir),
+        remove_group(rt, &tree, alloc, root, &own) == Ok(()),
+        remove_group(rt, &tree, alloc, dir, &own) == Err(Refusal::NoEntry),
+        remove_group(rt, &tree, alloc, dir, &bare) == Ok(()),
+    ];
+    assert_eq!(rt; first_wrong(&answers), None);
+}
+
+/// How many files of a group are marked at once, beside a file that is not.
+fn begun_files<N: Naming, R: Wait>(
+    rt: &R,
+    alloc: Global,
+    tree: &SharedTree<N>,
+    dir: Key,
+    group: &Group,
+) -> Option<usize> {
+    let begun = remove_group_in(&mut tree.edit(rt), alloc, dir, group);
+    let leaving = begun.ok()?;
+    let count = leaving.files.len();
+    let is_marked = slot(rt, tree, b"/d/a").is_none() && !is_free(rt, tree, b"/d/a");
+    let finished = leaving.finish(rt, tree);
+    (is_marked && finished == Ok(())).then_some(count)
+}
+
+/// Both files of a group are marked under one lock, then waited for; a third beside them stays.
+fn begun_at_once<N: Naming, R: Abort + Wait>(rt: &R, alloc: Global, new: NewTree)
+    requires { new.master.table ≡ N.table }
+{
+    let tree = new.named::<N>();
+    let dir = directory(rt, &tree);
+    let files = [
+        attribute(b"a", 0o444, 1),
+        attribute(b"b", 0o644, 2),
+        attribute(b"c", 0o644, 3),
+    ];
+    let two = [
+        attribute(b"a", 0o444, 1),
+        attribute(b"gone", 0o444, 4),
+        attribute(b"b", 0o644, 2),
+    ];
+    let answers = [
+        is_made(rt, &tree, dir, &Group::new(None, &files)),
+        begun_files(rt, alloc, &tree, dir, &Group::new(None, &two)) == Some(2),
+        is_free(rt, &tree, b"/d/a") && is_free(rt, &tree, b"/d/b"),
+        slot(rt, &tree, b"/d/c") == Some(4),
     ];
     assert_eq!(rt; first_wrong(&answers), None);
 }
 
 #[test]
 fn groups_are_removed(rt: HostRuntime) {
-    below_the_root::<Brand, _>(&rt, made(&rt, rt.alloc(), 12));
-    files_away::<Brand, _>(&rt, made(&rt, rt.alloc(), 4));
-    no_directory::<Brand, _>(&rt, made(&rt, rt.alloc(), 3));
+    below_the_root::<Brand, _>(&rt, rt.alloc(), made(&rt, rt.alloc(), 12));
+    files_away::<Brand, _>(&rt, rt.alloc(), made(&rt, rt.alloc(), 4));
+    no_directory::<Brand, _>(&rt, rt.alloc(), made(&rt, rt.alloc(), 3));
+    begun_at_once::<Brand, _>(&rt, rt.alloc(), made(&rt, rt.alloc(), 5));
 }
 
 // ---- a removal that is refused, and several groups
@@ -151,8 +194,8 @@ fn is_refused<N: Naming, R: Abort + Wait>(
     paths: [&[u8]; 2],
 ) -> bool {
     let holds = all_holds(rt, alloc, tree, paths[0]);
-    let one = remove_group(rt, tree, dir, &groups[0]);
-    let both = remove_groups(rt, tree, dir, &groups);
+    let one = remove_group(rt, tree, alloc, dir, &groups[0]);
+    let both = remove_groups(rt, tree, alloc, dir, &groups);
     release_holds(holds);
     one == Err(Refusal::TooManyHolds)
         && both == Err(Refusal::TooManyHolds)
@@ -177,11 +220,11 @@ fn several<N: Naming, R: Abort + Wait>(rt: &R, alloc: Global, new: NewTree)
         both_made(rt, &tree, dir, &own, &bare),
         is_refused(rt, alloc, &tree, dir, [own, bare], [b"/d/g/a", b"/d/a"]),
         is_refused(rt, alloc, &tree, dir, [bare, own], [b"/d/a", b"/d/g/b"]),
-        remove_groups(rt, &tree, dir, &[gone, bare, own]) == Ok(()),
+        remove_groups(rt, &tree, alloc, dir, &[gone, bare, own]) == Ok(()),
         is_free(rt, &tree, b"/d/b"),
         is_free(rt, &tree, b"/d/g"),
         slot(rt, &tree, b"/b") == Some(6),
-        remove_groups(rt, &tree, dir, &[own, gone]) == Ok(()),
+        remove_groups(rt, &tree, alloc, dir, &[own, gone]) == Ok(()),
         both_made(rt, &tree, dir, &own, &bare),
     ];
     assert_eq!(rt; first_wrong(&answers), None);

@@ -5,6 +5,7 @@ use crate::fixtures::{attribute, directory, is_free, is_made, made};
 use kf_core::{Key, Refusal};
 use kf_groups::{Group, remove_group};
 use kf_shared::{Naming, NewTree, SharedTree};
+use std::alloc::Global;
 use std::marker::Brand;
 use std::process::Abort;
 use std::sync::Wait;
@@ -76,6 +77,7 @@ fn calls<N: Naming, R: Wait>(
 /// Removes the group once the call runs, and counts itself.
 fn removes<N: Naming, R: Wait>(
     rt: &R,
+    alloc: Global,
     tree: &SharedTree<N>,
     dir: Key,
     group: &Group,
@@ -83,7 +85,7 @@ fn removes<N: Naming, R: Wait>(
     answered: &AtomicU64,
 ) -> Result<(), Refusal> {
     wait_for(inside);
-    let told = remove_group(rt, tree, dir, group);
+    let told = remove_group(rt, tree, alloc, dir, group);
     answered.fetch_add(1, Ordering::SeqCst);
     told
 }
@@ -91,6 +93,7 @@ fn removes<N: Naming, R: Wait>(
 /// The removal of a group answers once the call on the file of this path has ended, and the file is gone.
 fn waits<N: Naming + Send + Sync, R: Abort + Threads + Wait + Sync>(
     rt: &R,
+    alloc: Global,
     tree: &SharedTree<N>,
     dir: Key,
     group: Group,
@@ -104,7 +107,7 @@ fn waits<N: Naming + Send + Sync, R: Abort + Threads + Wait + Sync>(
     let answered = AtomicU64::new(0);
     let (told, late) = join(
         rt,
-        || removes(rt, tree, dir, &group, &inside, &answered),
+        || removes(rt, alloc, tree, dir, &group, &inside, &answered),
         || calls(rt, tree, key, &inside, &answered),
     );
     assert_eq!(rt; told, Ok(()));
@@ -112,19 +115,23 @@ fn waits<N: Naming + Send + Sync, R: Abort + Threads + Wait + Sync>(
     assert!(rt; is_free(rt, tree, path));
 }
 
-fn both_wait<N: Naming + Send + Sync, R: Abort + Threads + Wait + Sync>(rt: &R, new: NewTree)
+fn both_wait<N: Naming + Send + Sync, R: Abort + Threads + Wait + Sync>(
+    rt: &R,
+    alloc: Global,
+    new: NewTree,
+)
     requires { new.master.table ≡ N.table }
 {
     let tree = new.named::<N>();
     let dir = directory(rt, &tree);
     let files = [attribute(b"a", 0o444, 1)];
     let own = Group::new(Some(b"g".as_slice()), &files);
-    waits(rt, &tree, dir, own, b"/d/g/a");
-    waits(rt, &tree, dir, Group::new(None, &files), b"/d/a");
+    waits(rt, alloc, &tree, dir, own, b"/d/g/a");
+    waits(rt, alloc, &tree, dir, Group::new(None, &files), b"/d/a");
     assert!(rt; is_made(rt, &tree, dir, &own), "the slots are free");
 }
 
 #[test]
 fn a_removal_of_a_group_waits_for_a_call(rt: HostRuntime) {
-    both_wait::<Brand, _>(&rt, made(&rt, rt.alloc(), 4));
+    both_wait::<Brand, _>(&rt, rt.alloc(), made(&rt, rt.alloc(), 4));
 }

@@ -9,3 +9,6 @@ ghosts-files_away g a = record { table = a.new.master.table }
 
 abbrev pub ghosts-no_directory : goal.ghosts-no_directory
 ghosts-no_directory g a = record { table = a.new.master.table }
+
+abbrev pub ghosts-begun_at_once : goal.ghosts-begun_at_once
+ghosts-begun_at_once g a = record { table = a.new.master.table }

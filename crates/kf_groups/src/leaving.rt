@@ -1,0 +1,139 @@
+//! The removal of a group begins under a lock, and is finished with the lock let go.
+ghost use Rattle.std.specs.Prelude.{◌≡◌, ◌+◌, ◌≤◌, ◌++◌, List, length, vec_capacity, IfOk, IfErr, IfSome, OnErr};
+ghost use Rattle.kf_tree.specs.Paths.{found};
+ghost use Rattle.kf_words.specs.Callers.{Handle};
+ghost use Rattle.kf_shared.specs.Locked.{Unchanged};
+ghost use Rattle.kf_shared.specs.Receipts.{NamedRefused};
+ghost use Rattle.kf_groups.specs.Leavings.{FilesBegun, GroupBegun, GroupStopped, NameBegun, ended, why_ended};
+ghost use Rattle.kf_groups.specs.Removals.{EntryRefusal, NameRefusal, RemoveRefusal};
+
+use crate::attribute::{Attribute, Group};
+use kf_core::{Key, Refusal};
+use kf_shared::{Editor, Naming, Removing, SharedTree, release_all};
+use std::alloc::Global;
+use std::sync::Wait;
+
+/// What the removal of a group has begun. It must be spent, by [`Leaving::finish`], with the lock let go.
+pub struct Leaving<N: Naming> {
+    /// The removal of the group's own directory, where it has a name.
+    pub directory: Option<Removing<N>>,
+    /// Those of the files of a group without a name, in the order of its attributes.
+    pub files: Vec<Removing<N>>,
+    /// Why the next file is not removed, and those after it stay.
+    pub refused: Option<Refusal>,
+}
+
+// Begins the removal of what has this name in a directory.
+fn begin_name<N: Naming>(
+    editor: &mut Editor<'_, N>,
+    dir: Key,
+    name: &[u8],
+) -> Result<Removing<N>, Refusal>
+    ensures begun { IfOk result
+        (λ holds. NameBegun editor.old.state editor.new.state dir name.now holds) }
+    ensures refused { IfErr result (λ refusal.
+        NamedRefused editor.old.state (found editor.old.state.tree dir name.now) refusal) }
+    ensures why { IfErr result (λ refusal. NameRefusal refusal) }
+    ensures same { OnErr result (Unchanged editor.old editor.new) }
+{
+    let key = editor.state().find(dir, name)?;
+    editor.begin_removal_of(key)
+}
+
+// Begins the removal of the file of each attribute that has one in the directory, one after another.
+fn begin_files<N: Naming>(
+    editor: &mut Editor<'_, N>,
+    dir: Key,
+    attributes: &[Attribute],
+    files: &mut Vec<Removing<N>>,
+) -> Result<(), Refusal>
+    requires room { length files.old.items + length attributes.now ≤ vec_capacity files.old }
+    ensures begun { (begun : List (List Handle)) × (files.new.items ≡ files.old.items ++ begun)
+        × FilesBegun editor.old editor.new dir attributes.now begun (why_ended result) }
+    ensures why { IfErr result (λ refusal. EntryRefusal refusal) }
+{
+    let [first, rest @ ..] = attributes else {
+        return Ok(());
+    };
+    match begin_name(editor, dir, first.name) {
+        Ok(removing) => {
+            files.push_reserved(removing);
+            begin_files(editor, dir, rest, files)
+        }
+        Err(Refusal::NoEntry) => begin_files(editor, dir, rest, files),
+        Err(refusal) => Err(refusal),
+    }
+}
+
+/// Begins the removal of what has a group's names in a directory, under this lock: of its own directory with
+/// all in it, or of each of its files that is there. All of that is marked at once, and nothing else.
+///
+/// Refusals, in order: of a group with a name NoEntry (`dir` is not linked), NotDir, NoEntry (its directory is
+/// not there), then TooManyHolds or NoMemory, whichever is met first; of one without a name NoMemory. Then
+/// nothing has changed. Why a file is refused stands in the answer, beside what was begun before it.
+pub fn remove_group_in<N: Naming>(
+    editor: &mut Editor<'_, N>,
+    alloc: Global,
+    dir: Key,
+    group: &Group,
+) -> Result<Leaving<N>, Refusal>
+    ensures begun { IfOk result (λ leaving. GroupBegun editor.old editor.new dir group.now
+        leaving.directory leaving.files.items leaving.refused) }
+    ensures why { IfOk result (λ leaving.
+        IfSome leaving.refused (λ refusal. RemoveRefusal group.now refusal)) }
+    ensures refused { IfErr result (λ refusal. GroupStopped editor.old.state dir group.now refusal) }
+    ensures same { OnErr result (Unchanged editor.old editor.new) }
+{
+    match group.name {
+        Some(name) => {
+            let directory = begin_name(editor, dir, name)?;
+            Ok(Leaving {
+                directory: Some(directory),
+                files: Vec::new(alloc),
+                refused: None,
+            })
+        }
+        None => {
+            let mut files = Vec::new(alloc);
+            if files.reserve_exact(group.attributes.len()).is_err() {
+                files.destroy_empty();
+                return Err(Refusal::NoMemory);
+            }
+            let refused = begin_files(editor, dir, group.attributes, &mut files).err();
+            Ok(Leaving {
+                directory: None,
+                files,
+                refused,
+            })
+        }
+    }
+}
+
+impl<N: Naming> Leaving<N> {
+    /// Waits until no callback runs on what was begun, and takes it out of the tree.
+    ///
+    /// Refusal: why a file's removal was not begun.
+    ///
+    /// Context: sleeps; takes the tree's lock, which its caller must not have.
+    pub fn finish<R: Wait>(self, rt: &R, tree: &SharedTree<N>) -> Result<(), Refusal>
+        ensures told { result ≡ ended self.refused }
+    {
+        let Leaving {
+            directory,
+            files,
+            refused,
+        } = self;
+        if let Some(removing) = directory {
+            release_all(removing.finish(rt, tree));
+        }
+        let mut rest = files.into_iter();
+        while let Some(removing) = rest.next() {
+            release_all(removing.finish(rt, tree));
+        }
+        rest.destroy_empty();
+        match refused {
+            Some(refusal) => Err(refusal),
+            None => Ok(()),
+        }
+    }
+}
