@@ -50,6 +50,8 @@ fn told<N: Naming, T: Table, R: Wait>(
         is_shown(rt, tree, driver, other),
         !one.poll(),
         tell(rt, tree, posts, b"a") == Ok(2),
+        tell(rt, tree, posts, b"a") == Ok(3),
+        tell(rt, tree, posts, b"a") == Ok(4),
         one.poll(),
         !other.poll(),
         is_shown(rt, tree, driver, one),

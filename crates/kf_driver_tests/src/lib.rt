@@ -10,4 +10,8 @@ mod event_tests;
 #[cfg(test)]
 mod fixtures;
 #[cfg(test)]
+mod full_tests;
+#[cfg(test)]
 mod open_tests;
+#[cfg(test)]
+mod ready_tests;

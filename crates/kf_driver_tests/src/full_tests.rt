@@ -1,0 +1,69 @@
+//! Files in the last slots of a tree of 4,096.
+ghost use Rattle.std.specs.Prelude.{◌≡◌};
+
+use crate::fixtures::{BOTH, first_wrong, open};
+use kf_core::{Limits, Node, Refusal};
+use kf_notify::Posts;
+use kf_paths::{notify, open_path};
+use kf_shared::{Editor, Naming, NewTree, SharedTree};
+use std::alloc::Global;
+use std::marker::Brand;
+use std::process::Abort;
+use std::sync::Wait;
+
+/// Files in the root's directory take all slots but the last, which that of `/last` gets.
+fn takes_slots<N: Naming>(editor: &mut Editor<'_, N>) -> bool {
+    let root = editor.state().root();
+    let file = Node::File {
+        mode: 0o666,
+        tag: 1,
+    };
+    for number in 0..4094u32 {
+        let name = [b'0' + (number / 64) as u8, b'0' + (number % 64) as u8];
+        let _ = editor.create(root, &name, file, true);
+    }
+    matches!(editor.create(root, b"last", file, true), Ok(key) if key.slot == 4095)
+}
+
+/// A file opens as often as it is opened.
+fn opens<N: Naming>(editor: &mut Editor<'_, N>, posts: &mut Posts, path: &[u8]) -> bool {
+    for _ in 0..3u32 {
+        if open_path(editor, posts, path, BOTH).is_err() {
+            return false;
+        }
+    }
+    true
+}
+
+fn last_slots<N: Naming, R: Wait>(
+    rt: &R,
+    alloc: Global,
+    new: NewTree,
+) -> Result<Option<usize>, Refusal>
+    requires { new.master.table ≡ N.table }
+{
+    let tree = new.named::<N>();
+    let mut posts = Posts::new(alloc, 4096)?;
+    let mut editor = tree.edit(rt);
+    let root = editor.state().root();
+    Ok(first_wrong(&[
+        takes_slots(&mut editor),
+        opens(&mut editor, &mut posts, b"/last"),
+        opens(&mut editor, &mut posts, b"/00"),
+        opens(&mut editor, &mut posts, b"/oZ"),
+        notify(editor.state(), &mut posts, root, b"last").is_ok(),
+        notify(editor.state(), &mut posts, root, b"last").is_ok(),
+        notify(editor.state(), &mut posts, root, b"last").is_ok(),
+    ]))
+}
+
+#[test]
+fn a_file_in_a_last_slot_opens(rt: HostRuntime) {
+    let Some(limits) = Limits::new(4096, 9) else {
+        panic!(rt; "no such limits")
+    };
+    let Ok(new) = SharedTree::<Brand>::new(rt.alloc(), limits) else {
+        panic!(rt; "no memory")
+    };
+    assert_eq!(rt; last_slots::<Brand, _>(&rt, rt.alloc(), new), Ok(None));
+}
