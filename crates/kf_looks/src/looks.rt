@@ -30,6 +30,7 @@ impl Looks {
     pub fn new(alloc: Global, slots: u32) -> Result<(Looks, Writer), AllocError>
         requires { slots ≤ most_slots }
         ensures table { IfOk result (λ r. r.1.seat.table_id ≡ r.0.table.shared.table_id) }
+        ensures room { IfOk result (λ r. r.0.slots ≡ slots) }
         ensures empty { IfOk result (λ r. links_of r.1.seat ≡ []) }
     {
         let version = if slots == 0 { u64::MAX } else { 0 };
