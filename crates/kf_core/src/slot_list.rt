@@ -30,6 +30,7 @@ impl<T: Copy> Model for SlotList<T> {
 }
 
 /// Writes the items up to a slot. There is room for each.
+#[inline(always)]
 fn reach<T: Copy>(items: &mut Vec<T>, slots: usize, rest: T, slot: usize)
     requires within { slot < slots }
     requires few { length items.old.items ≤ slots }
@@ -97,6 +98,7 @@ impl<T: Copy> SlotList<T> {
     }
 
     /// Puts an item in place of a slot's.
+    #[inline(always)]
     pub fn set(&mut self, slot: usize, item: T)
         requires within { slot < length self.old }
         ensures set { self.new ≡ slice_set self.old slot item }

@@ -1,14 +1,15 @@
 //! The script as it was opened, or could not be, and its run.
 
-ghost use Rattle.std.specs.Prelude.{◌≡◌, ◌≤◌, IsErr};
-ghost use Rattle.std.specs.Result.{IsOkAnd};
+ghost use Rattle.std.specs.Prelude.{◌≡◌, ◌≢◌, ◌≤◌, ◌⊎◌, IsOkAnd, IsErrAnd};
+ghost use Rattle.std.specs.IoError.{error_kind};
 ghost use Rattle.std.specs.Io.KnownBytes.{Keeps};
+ghost use Rattle.std.specs.declared.io.ErrorKind.{ErrorKind};
 ghost use Rattle.kf_script.specs.declared.fault.RunFault.{RunFault};
 ghost use Rattle.kf_run.specs.Programs.{Named, RanBy, StoppedBy};
 
 use crate::arguments::Asked;
-use crate::program::run_asked;
-use kf_script::write_whole;
+use crate::program::{run_asked, tell};
+use kf_script::{RunFault, write_whole};
 use std::alloc::Global;
 use std::io::{self, ErrorKind, Read, Write};
 use std::sync::Wait;
@@ -37,7 +38,8 @@ fn refuse<F: Write>(fault: &mut F, name: &str, kind: ErrorKind) {
 }
 
 /// Runs the script that was opened, whatever it is, as it was asked for, and answers the program's status:
-/// that of [`run_asked`], or 2 where it could not be opened, with nothing run.
+/// that of [`run_asked`]. Where it could not be opened nothing is run, and the status is 2, or that of a fault of
+/// memory where this was refused.
 pub(crate) fn run_opened<H: Threads + Wait + Sync, R: Read, W: Write, F: Write>(
     rt: &H,
     alloc: Global,
@@ -53,16 +55,22 @@ pub(crate) fn run_opened<H: Threads + Wait + Sync, R: Read, W: Write, F: Write>(
     ensures quiet { result ≡ 0 → Keeps (F.contents fault.old) (F.contents fault.new) }
     ensures fault { result ≡ 1 → (reason : RunFault)
         × Named reason (F.contents fault.old) (F.contents fault.new)
-        × IsOkAnd opened.old (λ reader. IsOkAnd opened.new (λ left.
+        × (IsOkAnd opened.old (λ reader. IsOkAnd opened.new (λ left.
         StoppedBy reason asked.now.workers asked.now.limits.slots (R.remaining reader) (R.remaining left)
-        (W.contents out.old) (W.contents out.new))) }
-    ensures refused { result ≡ 2 → IsErr opened.old × Keeps (W.contents out.old) (W.contents out.new) }
+        (W.contents out.old) (W.contents out.new)))
+        ⊎ ((reason ≡ RunFault.Memory) × IsErrAnd opened.old (λ error. error_kind error ≡ ErrorKind.OutOfMemory)
+        × Keeps (W.contents out.old) (W.contents out.new))) }
+    ensures refused { result ≡ 2 → IsErrAnd opened.old (λ error. error_kind error ≢ ErrorKind.OutOfMemory)
+        × Keeps (W.contents out.old) (W.contents out.new) }
 {
     match opened {
         Ok(reader) => run_asked(rt, alloc, asked, reader, out, fault),
-        Err(error) => {
-            refuse(fault, asked.script.unwrap_or("-"), error.kind());
-            2
-        }
+        Err(error) => match error.kind() {
+            ErrorKind::OutOfMemory => tell(RunFault::Memory, fault),
+            kind => {
+                refuse(fault, asked.script.unwrap_or("-"), kind);
+                2
+            }
+        },
     }
 }

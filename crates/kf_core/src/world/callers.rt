@@ -22,6 +22,7 @@ use std::alloc::AllocError;
 
 impl World {
     /// The caller's phase becomes this one.
+    #[inline(always)]
     fn put_phase(&mut self, id: usize, caller: Caller, phase: Phase)
         requires there { IsCaller self.old.world id caller.key caller.phase }
         requires holds { caller.phase ≢ Spent }
