@@ -1,4 +1,16 @@
 //! The tree behind one lock, and removal that waits for its callers.
+//!
+//! - `SharedTree::new` gives a `NewTree`, and `named` its name `N: Naming`, by which the checker knows which
+//!   tree a hold belongs to. `edit` locks it for one `Editor`, `read` shares it among `Reader`s.
+//! - `Editor` has the commands of `kf_tree`, `hold` for a node's holds, and removals: `remove`,
+//!   `remove_key`, `remove_path` mark, unlock, wait and unlink, and return a receipt (`Parted`) for each
+//!   node; `begin_removal` leaves the waiting to `Removing::finish`. A callback removes its own node by
+//!   `remove_self`.
+//! - `Locked` is the same tree for who has a lock of another kind.
+//!
+//! A caller shows that what it hands in is of this tree (`table`: kept by the types where one name `N` is
+//! used), and that a call that removes itself runs. `running_tree` is the law of words, tree and lock
+//! together.
 #![tactic(auto)]
 
 mod doom;

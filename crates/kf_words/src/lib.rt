@@ -1,5 +1,16 @@
-//! Two words for each slot, which any number of threads change in single atomic steps: the active word counts
-//! active references and tries not yet undone, the hold word counts the holds that keep the slot.
+//! Two words for each slot, which any number of threads change in single atomic steps: the active word
+//! counts active references and tries not yet undone, the hold word counts the holds that keep the slot.
+//!
+//! - `Words::new` gives the words and their one `Master`, who bears, activates, dooms and unlinks nodes and
+//!   gives holds (`pin`). It belongs behind a lock; `kf_shared` keeps it there, and most programs begin with
+//!   that crate.
+//! - `Hold` keeps a slot; `enter` makes a `Call` of it, which has an active reference, and `leave` the hold
+//!   again. After the mark `wait_drained` makes `Drained`, and the unlink leads to `Parted`, the receipt.
+//!   None can be dropped or copied, so what a thread may do next is what it has in hand.
+//! - `Hiding` and `Hidden` do the same for a file that is shown again.
+//!
+//! Who leaves shows that the call has its reference, who unlinks that the node drained is of this table.
+//! `words_kept` and `words_run` are the laws of every program over these words.
 #![tactic(auto)]
 
 mod blocks;
