@@ -60,19 +60,24 @@ fn run_round<W: Work + Sync, R: Threads + Clock + Sync>(
 ) {
     let come = AtomicU64::new(0);
     let threads = seats.len() as u64;
-    for_each_mut(rt, seats, THREADS, &|_, seat| {
-        meet(&come, threads);
-        match time_at(rt, work, turns, seat.place, failed) {
-            Ok(time) => seat.took = time,
-            Err(_) => {
-                failed.fetch_add(turns as u64, Ordering::SeqCst);
+    for_each_mut(
+        rt,
+        seats,
+        THREADS,
+        &|_, seat| {
+            meet(&come, threads);
+            match time_at(rt, work, turns, seat.place, failed) {
+                Ok(time) => seat.took = time,
+                Err(_) => {
+                    failed.fetch_add(turns as u64, Ordering::SeqCst);
+                }
             }
-        }
-    });
+        },
+    );
 }
 
-/// The mean of the threads' times in nanoseconds. None where one had ended when another still had a quarter of its
-/// time to go: then they did not run at once.
+/// The mean of the threads' times in nanoseconds. None where one had ended when another still had a quarter
+/// of its time to go: then they did not run at once.
 fn mean(seats: &[Seat]) -> Option<u128> {
     let (mut all, mut least, mut most) = (0u128, u128::MAX, 0u128);
     for seat in seats {
