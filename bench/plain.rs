@@ -2,11 +2,14 @@
 //! `bench/run` builds it, std alone, nothing proved. A directory is a `BTreeMap` of its names.
 //!
 //! `plain [--slots N] [--line-writes] [--keep-commands] [--tuned] < SCRIPT`. A line is answered where it lies, in what
-//! was read. Replies are gathered, some 4,096 bytes, and written before each read; after `--line-writes` each is
-//! written by itself. Commands are counted; after
-//! `--keep-commands` they are kept too, as `kernfs_run` keeps them. It is written as one writes it with std; after
-//! `--tuned` it does what a profile of it suggests: numbers without `fmt`, a path walked before it is searched for
-//! an empty name, and standard output as a file, without std's lock and buffer of lines.
+//! was read. Replies are gathered as `kernfs_run` does it, whole lines of at most 4,096 bytes, and written before each
+//! read; after `--line-writes` each is written by itself. Commands are counted; after `--keep-commands` they are kept
+//! too, as `kernfs_run` keeps them. It is written as one writes it with std; after `--tuned` it does what a profile of
+//! it suggests: numbers without `fmt`, a path walked before it is searched for an empty name, and standard output as a
+//! file, without std's lock and buffer of lines.
+//!
+//! Two duties of `kernfs_run` it never has: it ends where memory is wanting, and has no refusal for that; and it counts
+//! no reference to a node while that shows or stores.
 
 use std::cmp::Reverse;
 use std::collections::{BTreeMap, BinaryHeap};
@@ -19,7 +22,7 @@ use std::process::ExitCode;
 const LINE_LIMIT: usize = 8192;
 /// The bytes that one read may give.
 const CHUNK: usize = 1 << 16;
-/// The bytes of replies that are gathered.
+/// The most bytes of replies that are gathered: as many as a pipe takes whole.
 const KEPT: usize = 4096;
 /// The bytes of a page: a store is handed no more, and a show one byte less.
 const PAGE: usize = 4096;
@@ -948,26 +951,39 @@ impl Script {
             self.replies.put(refusal.text().as_bytes());
         }
         self.replies.bytes.push(b'\n');
-        if self.line_writes || self.replies.bytes.len() >= KEPT {
-            self.write_replies()?;
+        if self.line_writes {
+            return self.write_all_replies();
+        }
+        if self.replies.bytes.len() > KEPT {
+            self.write_replies(start)?;
+        }
+        if self.replies.bytes.len() > KEPT {
+            self.write_all_replies()?;
         }
         Ok(())
     }
 
-    fn write_replies(&mut self) -> io::Result<()> {
-        match &mut self.output {
-            Output::Std(output) => output.write_all(&self.replies.bytes)?,
-            Output::File(output) => output.write_all(&self.replies.bytes)?,
+    /// Writes so many of the bytes that are gathered, from the first on.
+    fn write_replies(&mut self, count: usize) -> io::Result<()> {
+        let bytes = &self.replies.bytes[..count];
+        if bytes.is_empty() {
+            return Ok(());
         }
-        self.replies.bytes.clear();
+        match &mut self.output {
+            Output::Std(output) => output.write_all(bytes)?,
+            Output::File(output) => output.write_all(bytes)?,
+        }
+        self.replies.bytes.drain(..count);
         Ok(())
+    }
+
+    fn write_all_replies(&mut self) -> io::Result<()> {
+        self.write_replies(self.replies.bytes.len())
     }
 
     /// Reads once, and answers how many bytes came. Nothing is kept back meanwhile.
     fn read(&mut self, chunk: &mut [u8]) -> io::Result<usize> {
-        if !self.replies.bytes.is_empty() {
-            self.write_replies()?;
-        }
+        self.write_all_replies()?;
         self.input.read(chunk)
     }
 
@@ -980,7 +996,7 @@ impl Script {
             let mut rest = &chunk[..count];
             if rest.is_empty() {
                 self.end_line(&part)?;
-                return self.write_replies();
+                return self.write_all_replies();
             }
             while !rest.is_empty() {
                 let from = rest;
