@@ -168,6 +168,61 @@ fn is_shown<N: Naming, T: Table, R: Wait>(
     file.read(rt, tree, driver, 0, &mut [0; 4]) == Ok(2) && !file.poll()
 }
 
+/// Reads and stores by a table of these lines, and tells the first answer that is wrong.
+fn wrong_of<N: Naming, A: Table, R: Wait>(
+    rt: &R,
+    tree: &SharedTree<N>,
+    posts: &mut Posts,
+    table: (LineTags, &[A]),
+    mut files: (WaitingFile<N>, WaitingFile<N>),
+) -> Option<usize> {
+    let (tags, rows) = table;
+    let driver = Driver {
+        table: Lines::new(tags, rows, End),
+    };
+    first_wrong(&[
+        is_shown(rt, tree, &driver, &mut files.0),
+        is_shown(rt, tree, &driver, &mut files.1),
+        stores(rt, tree, &driver, posts, (b"/v1", b"1")) == Some(Ok(1)),
+        files.1.poll(),
+        !files.0.poll(),
+        shows(rt, tree, &driver, posts, (b"/v1", b"1\n")),
+        shows(rt, tree, &driver, posts, (b"/v0", b"0\n")),
+        shows(rt, tree, &driver, posts, (b"/n0", b"3\n")),
+        shows(rt, tree, &driver, posts, (b"/n1", b"4\n")),
+        !shows(rt, tree, &driver, posts, (b"/none", b"0\n")),
+    ])
+}
+
+/// The same by a table of two lines, each with its switch and its post.
+fn wrong_of_two<'a, N: Naming, R: Wait>(
+    rt: &'a R,
+    tree: &SharedTree<N>,
+    posts: &mut Posts,
+    tags: LineTags,
+    switches: (&'a Switch, &'a Switch),
+    notifiers: (Notifier<'a, R>, Notifier<'a, R>),
+    files: (WaitingFile<N>, WaitingFile<N>),
+) -> Option<usize> {
+    let rows = [
+        line(
+            Told {
+                switch: switches.0,
+                notifier: notifiers.0,
+            },
+            3,
+        ),
+        line(
+            Told {
+                switch: switches.1,
+                notifier: notifiers.1,
+            },
+            4,
+        ),
+    ];
+    wrong_of(rt, tree, posts, (tags, &rows), files)
+}
+
 fn lines<N: Naming, R: Wait>(rt: &R, alloc: Global, new: NewTree) -> Result<Option<usize>, Refusal>
     requires { new.master.table ≡ N.table }
 {
@@ -179,43 +234,21 @@ fn lines<N: Naming, R: Wait>(rt: &R, alloc: Global, new: NewTree) -> Result<Opti
     plant(&mut editor, &of_lines(tags))?;
     let one = post_of(editor.state(), &mut posts, root, b"v0")?;
     let other = post_of(editor.state(), &mut posts, root, b"v1")?;
-    let mut first = open_path(&mut editor, &mut posts, b"/v0", READ)?;
-    let mut second = open_path(&mut editor, &mut posts, b"/v1", READ)?;
+    let first = open_path(&mut editor, &mut posts, b"/v0", READ)?;
+    let second = open_path(&mut editor, &mut posts, b"/v1", READ)?;
     drop(editor);
     let (left, right) = (Switch::new(false), Switch::new(false));
-    let rows = [
-        line(
-            Told {
-                switch: &left,
-                notifier: Notifier::new(rt, one),
-            },
-            3,
-        ),
-        line(
-            Told {
-                switch: &right,
-                notifier: Notifier::new(rt, other),
-            },
-            4,
-        ),
-    ];
-    let driver = Driver {
-        table: Lines::new(tags, &rows, End),
-    };
-    let posts = &mut posts;
-    Ok(first_wrong(&[
-        is_shown(rt, &tree, &driver, &mut first),
-        is_shown(rt, &tree, &driver, &mut second),
-        stores(rt, &tree, &driver, posts, (b"/v1", b"1")) == Some(Ok(1)),
-        second.poll(),
-        !first.poll(),
-        right.get() && !left.get(),
-        shows(rt, &tree, &driver, posts, (b"/v1", b"1\n")),
-        shows(rt, &tree, &driver, posts, (b"/v0", b"0\n")),
-        shows(rt, &tree, &driver, posts, (b"/n0", b"3\n")),
-        shows(rt, &tree, &driver, posts, (b"/n1", b"4\n")),
-        !shows(rt, &tree, &driver, posts, (b"/none", b"0\n")),
-    ]))
+    let notifiers = (Notifier::new(rt, one), Notifier::new(rt, other));
+    let wrong = wrong_of_two(
+        rt,
+        &tree,
+        &mut posts,
+        tags,
+        (&left, &right),
+        notifiers,
+        (first, second),
+    );
+    Ok(wrong.or((!right.get() || left.get()).then_some(99)))
 }
 
 #[test]
