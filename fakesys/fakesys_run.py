@@ -287,15 +287,18 @@ def wait_for(process):
         os.waitpid(ended, 0)
 
 
-def play(tree, lines, name):
-    """Gives lines at their times from now on, and tells which are refused."""
+def play(tree, lines, name, is_over):
+    """Gives lines at their times from now on, until all is over, and tells which are refused."""
     start = time.monotonic()
     for seconds, line in lines:
-        time.sleep(max(0, start + seconds - time.monotonic()))
+        if is_over.wait(max(0, start + seconds - time.monotonic())):
+            return
         try:
             tree.give(line)
         except OSError as error:
-            print(f"fakesys: {name}: {error.strerror}", file=sys.stderr)
+            # (no line reaches a tree that is being taken away)
+            if not is_over.is_set():
+                print(f"fakesys: {name}: {error.strerror}", file=sys.stderr)
 
 
 def run_command(options, lines, place):
@@ -305,8 +308,10 @@ def run_command(options, lines, place):
     if process:
         os.setsid()  # from here on each signal that comes was sent on purpose
         hand_signals_on(process)
-        threading.Thread(target=play, args=(tree, lines, options.timeline), daemon=True).start()
+        is_over = threading.Event()
+        threading.Thread(target=play, args=(tree, lines, options.timeline, is_over), daemon=True).start()
         status = wait_for(process)
+        is_over.set()
     close_tree(daemon)
     return status
 
