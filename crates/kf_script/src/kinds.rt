@@ -5,6 +5,8 @@ ghost use Rattle.std.specs.Option.{option_map};
 ghost use Rattle.std.specs.List.{list_all};
 ghost use Rattle.kf_script.specs.Requests.{is_octal, is_digit, path_of, mode_of, number_of, decimal_of, offset_of, length_of, file_of, want_of};
 
+use super::spelling::spells;
+
 /// A path or a name, which is any word that is not empty.
 pub fn path_in(word: &[u8]) -> Option<&[u8]>
     ensures { option_map (λ path. path.now) result ≡ path_of word.now }
@@ -106,11 +108,11 @@ pub fn file_in(word: &[u8]) -> Option<usize>
 pub fn want_in(word: &[u8]) -> Option<(bool, bool)>
     ensures { result ≡ want_of word.now }
 {
-    if word == b"r".as_slice() {
+    if spells(word, b"r") {
         Some((true, false))
-    } else if word == b"w".as_slice() {
+    } else if spells(word, b"w") {
         Some((false, true))
-    } else if word == b"rw".as_slice() {
+    } else if spells(word, b"rw") {
         Some((true, true))
     } else {
         None

@@ -6,6 +6,7 @@ ghost use Rattle.kf_script.specs.Requests.{next_word, behind_next, is_over, last
 
 use super::kinds::{file_in, length_in, mode_in, offset_in, path_in, want_in};
 use super::search::place_of;
+use super::spelling::spells;
 use std::marker::Model;
 
 /// What stands behind a word of a line: nothing, or what follows its space.
@@ -124,7 +125,7 @@ impl<'a> Words<'a> {
     {
         match self.later {
             None => Some(false),
-            Some(word) if word == last => Some(true),
+            Some(word) if spells(word, last) => Some(true),
             Some(_) => None,
         }
     }
