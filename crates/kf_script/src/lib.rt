@@ -1,6 +1,7 @@
 //! Scripts: lines in, replies out, over any board that answers requests.
 #![tactic(auto)]
 
+mod behind;
 mod board;
 mod fault;
 mod grammar;

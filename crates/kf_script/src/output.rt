@@ -5,6 +5,7 @@ ghost use Rattle.std.specs.Prelude.{◌≡◌, ◌≤◌, ◌+◌, ◌-◌, ◌<
 ghost use Rattle.std.specs.Io.KnownBytes.{Appends, append_known};
 ghost use Rattle.kf_script.specs.Progress.{GivesOut, Writes, Grows, kept_limit, kept_with};
 
+use super::behind::push_all;
 use super::fault::RunFault;
 use std::io::Write;
 
@@ -116,6 +117,7 @@ impl<'a, W: Write> Output<'a, W> {
     }
 
     /// Whether so many bytes more are kept: there is room for them, and no write has failed.
+    #[inline(always)]
     fn has_room(&self, count: usize) -> bool
         ensures fits { result ≡ true → vec_len self.now.kept.now + count ≤ kept_limit }
         ensures works { result ≡ true → self.now.has_failed ≡ false }
@@ -127,6 +129,7 @@ impl<'a, W: Write> Output<'a, W> {
 
     /// Keeps the bytes behind what is kept, which is written first where they find no room. More than are
     /// ever kept are written then too.
+    #[inline(always)]
     pub fn write(&mut self, bytes: &[u8]) -> Result<(), RunFault>
         ensures lent { self.new.writer.ghost_name ≡ self.old.writer.ghost_name }
         ensures written { Writes (append_known (W.contents self.old.writer.now) self.old.kept.now.items)
@@ -147,7 +150,7 @@ impl<'a, W: Write> Output<'a, W> {
                 return result;
             }
         }
-        let _ = self.kept.extend_from_slice(bytes);
+        push_all(self.kept, bytes);
         Ok(())
     }
 }

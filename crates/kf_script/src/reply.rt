@@ -6,6 +6,7 @@ ghost use Rattle.std.specs.Io.KnownBytes.{append_known};
 ghost use Rattle.kf_script.specs.Progress.{Writes, Grows, kept_with};
 ghost use Rattle.kf_script.specs.ReplyText.{done_text, bad_line_text, refusal_text, fault_text, key_text, poll_text, stat_text, octal as octal_text, node_text, state_text};
 
+use super::behind::{push_all, push_each};
 use super::fault::RunFault;
 use super::output::Output;
 use itoa::Buffer;
@@ -67,7 +68,7 @@ impl Reply {
         ensures { self.new ≡ done_text }
     {
         self.clear();
-        self.push(b"ok");
+        self.push_known(b"ok");
     }
 
     /// `err Line 22`: the line is too long, or makes no request.
@@ -75,7 +76,7 @@ impl Reply {
         ensures { self.new ≡ bad_line_text }
     {
         self.clear();
-        self.push(b"err Line 22");
+        self.push_known(b"err Line 22");
     }
 
     /// `err NAME NUMBER`, the name and the number of a refusal.
@@ -83,9 +84,9 @@ impl Reply {
         ensures { self.new ≡ refusal_text refusal }
     {
         self.clear();
-        self.push(b"err ");
+        self.push_known(b"err ");
         self.push(name_bytes(refusal));
-        self.push(b" ");
+        self.push_known(b" ");
         self.push_number(usize::from(refusal.number()));
     }
 
@@ -94,7 +95,7 @@ impl Reply {
         ensures { self.new ≡ fault_text number }
     {
         self.clear();
-        self.push(b"err Callback ");
+        self.push_known(b"err Callback ");
         self.push_number(usize::from(number));
     }
 
@@ -103,9 +104,9 @@ impl Reply {
         ensures { self.new ≡ key_text key }
     {
         self.clear();
-        self.push(b"ok ");
+        self.push_known(b"ok ");
         self.push_number(key.slot as usize);
-        self.push(b".");
+        self.push_known(b".");
         self.push_number(key.generation as usize);
     }
 
@@ -133,9 +134,9 @@ impl Reply {
     {
         self.clear();
         if changed {
-            self.push(b"changed");
+            self.push_known(b"changed");
         } else {
-            self.push(b"same");
+            self.push_known(b"same");
         }
     }
 
@@ -160,6 +161,7 @@ impl Reply {
     }
 
     /// Writes the text and a newline, and forgets the text.
+    #[inline(always)]
     pub fn write_line<W: Write>(&mut self, output: &mut Output<'_, W>) -> Result<(), RunFault>
         ensures written { Writes (append_known (W.contents output.old.writer.now) output.old.kept.now.items)
             (append_known (W.contents output.new.writer.now) output.new.kept.now.items) result
@@ -170,17 +172,28 @@ impl Reply {
         ensures lent { output.new.writer.ghost_name ≡ output.old.writer.ghost_name }
         ensures fault { IfErr result (λ fault. fault ≡ RunFault.Write) }
     {
-        let _ = self.text.push(b'\n');
+        self.text.push_reserved(b'\n');
         let result = output.write(self.text.as_slice());
         self.text.clear();
         result
     }
 
     /// No text.
+    #[inline(always)]
     pub fn clear(&mut self)
         ensures { self.new ≡ [] }
     {
         self.text.clear();
+    }
+
+    /// Appends a text that is known where this is called, for which there is room.
+    #[inline(always)]
+    fn push_known(&mut self, text: &[u8])
+        requires { length self.old + length text.now ≤ 4096 }
+        ensures text { self.new ≡ self.old ++ text.now }
+        ensures len { length self.new ≡ length self.old + length text.now }
+    {
+        push_each(&mut self.text, text);
     }
 
     /// Appends bytes for which there is room.
@@ -189,7 +202,7 @@ impl Reply {
         ensures text { self.new ≡ self.old ++ bytes.now }
         ensures len { length self.new ≡ length self.old + length bytes.now }
     {
-        let _ = self.text.extend_from_slice(bytes);
+        push_all(&mut self.text, bytes);
     }
 
     /// Appends any number of bytes as they are. Refuses `NoMemory` alone, and nothing that makes a reply of
@@ -225,18 +238,18 @@ impl Reply {
     {
         match node {
             Node::Dir => {
-                self.push(b"dir subdirs=");
+                self.push_known(b"dir subdirs=");
                 self.push_number(subdirs as usize);
-                self.push(b" nlink=");
+                self.push_known(b" nlink=");
                 self.push_number(links as usize);
-                self.push(b" ");
+                self.push_known(b" ");
             }
             Node::File { mode, .. } => {
-                self.push(b"file mode=");
+                self.push_known(b"file mode=");
                 self.push(octal(mode).as_slice());
-                self.push(b" ");
+                self.push_known(b" ");
             }
-            Node::Link { .. } => self.push(b"link "),
+            Node::Link { .. } => self.push_known(b"link "),
         }
     }
 }
