@@ -7,4 +7,4 @@ use Rattle.kf_rounds.specs.declared.kind.LineKind.TheVariants.{Bad, EndsRound, C
 abbrev pub kind_view : LineKind → Kind
 kind_view Bad = bad
 kind_view EndsRound = ends_round
-kind_view (Command command) = of_seat command.seat command.text.now
+kind_view (Command seat text) = of_seat seat text.bytes.now

@@ -1,12 +1,11 @@
-//! A command of one seat.
+//! The text of a command.
 
 ghost use Rattle.std.specs.Prelude.{◌≤◌, length};
 ghost use Rattle.kf_script.specs.Lines.{line_limit};
 
-/// A command of the owner, 0, or of a worker, from 1. It is no longer than a line may be.
+/// The text of a command, which is no longer than a line may be.
 #[derive(Clone, Copy)]
-pub struct SeatCommand<'a> {
-    pub seat: usize,
-    pub text: &'a [u8],
-    ghost short: { length text.now ≤ line_limit },
+pub struct CommandText<'a> {
+    pub bytes: &'a [u8],
+    ghost short: { length bytes.now ≤ line_limit },
 }

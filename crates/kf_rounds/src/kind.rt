@@ -2,37 +2,42 @@
 
 ghost use Rattle.std.specs.Prelude.{◌≡◌, ◌≤◌, IfSome, length, position};
 ghost use Rattle.kf_script.specs.Requests.{is_space, first_word as word_of, rest as rest_of};
-ghost use Rattle.kf_rounds.specs.Kinds.{kind_by, worker_of, seat_in};
+ghost use Rattle.kf_rounds.specs.Kinds.{kind_by, of_seat, worker_of, seat_in};
+ghost use Rattle.kf_script.specs.Lines.{line_limit};
 ghost use Rattle.kf_rounds.specs.KindViews.{kind_view};
 
-use crate::command::SeatCommand;
+use crate::command::CommandText;
 use kf_script::LINE_LIMIT;
 
-/// What a line is for.
+/// What a line is for. A script has one for each of its lines, so it is kept small: 24 bytes.
 #[derive(Clone, Copy)]
 pub enum LineKind<'a> {
     /// It is too long, or no worker's.
     Bad,
     /// `wait`: it ends a round.
     EndsRound,
-    /// A command.
-    Command(SeatCommand<'a>),
+    /// A command of the owner, 0, or of a worker, from 1.
+    Command { seat: u8, text: CommandText<'a> },
 }
 
 /// A worker's number, 1 to `most`, in decimal without leading zeros.
-fn worker(word: &[u8], most: usize) -> Option<usize>
+fn worker(word: &[u8], most: usize) -> Option<u8>
     requires { most ≤ 16 }
     ensures value { result ≡ worker_of most word.now }
     ensures range { IfSome result (λ worker. worker ≤ most) }
 {
     let number = match word {
-        [a] if (b'1'..=b'9').contains(a) => usize::from(*a - b'0'),
+        [a] if (b'1'..=b'9').contains(a) => *a - b'0',
         [a, b] if (b'1'..=b'9').contains(a) && b.is_ascii_digit() => {
-            10 * usize::from(*a - b'0') + usize::from(*b - b'0')
+            10 * (*a - b'0') + (*b - b'0')
         }
         _ => return None,
     };
-    if number <= most { Some(number) } else { None }
+    if usize::from(number) <= most {
+        Some(number)
+    } else {
+        None
+    }
 }
 
 /// Where the first space stands.
@@ -54,6 +59,17 @@ fn first_word(line: &[u8]) -> (&[u8], &[u8])
     }
 }
 
+/// A command of this seat.
+fn command_of(seat: u8, bytes: &[u8]) -> LineKind<'_>
+    requires { length bytes.now ≤ line_limit }
+    ensures { kind_view result ≡ of_seat seat bytes.now }
+{
+    LineKind::Command {
+        seat,
+        text: CommandText { bytes },
+    }
+}
+
 /// What a line is for, with so many workers.
 pub fn kind_of(line: &[u8], workers: usize) -> LineKind<'_>
     requires { workers ≤ 16 }
@@ -69,17 +85,12 @@ pub fn kind_of(line: &[u8], workers: usize) -> LineKind<'_>
     if *first == b'@' {
         let (word, text) = first_word(rest);
         return match worker(word, workers) {
-            Some(seat) if text != b"wait".as_slice() => {
-                LineKind::Command(SeatCommand { seat, text })
-            }
+            Some(seat) if text != b"wait".as_slice() => command_of(seat, text),
             _ => LineKind::Bad,
         };
     }
     if line == b"wait".as_slice() {
         return LineKind::EndsRound;
     }
-    LineKind::Command(SeatCommand {
-        seat: 0,
-        text: line,
-    })
+    command_of(0, line)
 }

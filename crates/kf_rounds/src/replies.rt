@@ -122,8 +122,8 @@ fn put_reply<B: Board>(
     match *kind {
         LineKind::Bad => put_line(out, b"err Line 22"),
         LineKind::EndsRound => put_line(out, b"ok"),
-        LineKind::Command(command) => {
-            let at = command.seat;
+        LineKind::Command { seat, .. } => {
+            let at = usize::from(seat);
             if at >= seats.len() {
                 return Err(AllocError);
             }

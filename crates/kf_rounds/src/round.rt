@@ -56,11 +56,11 @@ pub fn round_at<'b, 'a>(kinds: &'b [LineKind<'a>], from: usize) -> &'b [LineKind
 fn is_for_one(kinds: &[LineKind<'_>]) -> bool {
     let mut runner = None;
     for kind in kinds {
-        if let LineKind::Command(command) = *kind {
-            if runner.is_some_and(|first| first != command.seat) {
+        if let LineKind::Command { seat, .. } = *kind {
+            if runner.is_some_and(|first| first != seat) {
                 return false;
             }
-            runner = Some(command.seat);
+            runner = Some(seat);
         }
     }
     true

@@ -46,8 +46,8 @@ impl<B: Board> Seat<B> {
             × (own_command who (kind_view kind.now) ≡ command_in (kind_view kind.now) ∷ [])) }
     {
         match *kind {
-            LineKind::Command(command) if command.seat == who => {
-                answer_line(&mut self.board, &mut self.reply, command.text);
+            LineKind::Command { seat, text } if usize::from(seat) == who => {
+                answer_line(&mut self.board, &mut self.reply, text.bytes);
                 self.replies.add(self.reply.text())
             }
             _ => Ok(()),
