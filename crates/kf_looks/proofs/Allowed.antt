@@ -17,7 +17,7 @@ use Rattle.kf_looks.specs.declared.view.View.{View}
 use Rattle.kf_looks.specs.Links.{IsLater}
 use Rattle.kf_looks.specs.Lines.{SaysTrue, words_for, link_at, word_at}
 use Rattle.kf_looks.specs.Rule.{Table, Knows, IsPlan, Kept, opened, plan_of, AllIn}
-use Rattle.kf_looks.specs.Steps.{Seated, view, grown, MakesSeat, MakesBegin, MakesPeek, MakesCheck, MakesMove, MakesPut, MakesEntry, moved, put, entered, told, like}
+use Rattle.kf_looks.specs.Steps.{Seated, view, grown, MakesSeat, MakesBegin, MakesPeek, MakesCheck, MakesRecall, MakesMove, MakesPut, MakesEntry, moved, put, entered, told, like}
 use Rattle.kf_looks.specs.Writing.{IsWriter}
 
 -- what is kept of each seat
@@ -133,6 +133,17 @@ check_allowed slots count id me t r _ at _ = let mine = r.seats id me.0 at in le
 -- the plan of a writer's seat
 plan_kept : (v : ℕ) (d : List ℕ) (l : List Link) (id : ℕ) (role : Role) → role ≡ Writing (plan_of role) → Knows v d l id role → IsPlan v d l (plan_of role) × (id ≡ 0)
 plan_kept v d l id role writes k = subst (Knows v d l id) writes k
+
+-- the writer finds the words of its plan
+pub recall_allowed : (slots count id : ℕ) (me : Seated) (i : ℕ) → i < words_for slots → IsWriter me.0 → Allows (Kept slots) count id me (i + 1) (λ n. n) (MakesRecall (step count (i + 1) 0 0 none) me)
+recall_allowed slots count id me i inside writes t r _ at _ = let mine = r.seats id me.0 at in let k = plan_kept r.version r.draft r.links id me.0.role writes mine.1 in
+    let back : i ≡ (i + 1) - 1 = omega arith in (
+      me.0,
+      keeps,
+      tt,
+      unmoved slots t r (i + 1) id me.1 me.0 mine,
+      (refl, r.draft_is i inside ∙ (ap (λ (d : List ℕ). get_or d i 0) (sym k.0.draft_is) ∙ ap (λ (z : ℕ). get_or (plan_of me.0.role).draft z 0) back)),
+    )
 
 -- the writer makes the next version
 pub move_allowed : (slots count id : ℕ) (me : Seated) (v : ℕ) → IsWriter me.0 → v ≡ (plan_of me.0.role).version + 1

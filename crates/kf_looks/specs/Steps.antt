@@ -1,5 +1,5 @@
 -- What each step makes of the view of its own seat.
-use Rattle.std.specs.Prelude.{◌≡◌, ℕ, ◌+◌, ◌-◌, ◌/◌, ◌%◌, List, [], ◌∷◌, slice_set}
+use Rattle.std.specs.Prelude.{◌≡◌, ℕ, ◌+◌, ◌-◌, ◌/◌, ◌%◌, List, [], ◌∷◌, slice_index, slice_set}
 use Rattle.atomic_table.specs.Table.{Me, Step}
 use Rattle.kf_looks.specs.declared.view.Link.{Link}
 use Rattle.kf_looks.specs.declared.view.Read.{Read}
@@ -69,6 +69,11 @@ entered word value plan = record plan {
   draft = slice_set plan.draft word value;
   links = link_at (slice_set plan.draft word value) (word / 8) ∷ plan.links;
 }
+
+-- a word behind the version is the one that the writer planned
+abbrev pub MakesRecall : Step (Unit {0}) → Seated → ℕ → Seated → Type 0
+MakesRecall st me found me' =
+    (me' ≡ me) × (found ≡ slice_index (plan_of me.0.role).draft (st.word - 1))
 
 -- what the writer's step makes of its plan
 abbrev pub Becomes : Plan → Seated → Seated → Type 0

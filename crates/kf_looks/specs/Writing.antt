@@ -35,6 +35,11 @@ pub record Plans (old new : Seat (Unit {0}) View) (next : Plan) : Type 0 where
   pub slots : new.me.0.slots ≡ old.me.0.slots
   pub role_is : new.me.0.role ≡ Writing next
 
+-- the seat is still that of the same table, and knows the same
+pub record IsSameWriter (old new : Seat (Unit {0}) View) : Type 0 where
+  pub table : new.table_id ≡ old.table_id
+  pub me : new.me ≡ old.me
+
 -- the seat is still the writer's of the same table, of so many slots, at the same version and with the same
 -- links
 pub record Keeps (old new : Seat (Unit {0}) View) : Type 0 where

@@ -19,6 +19,7 @@ mod packed;
 mod path;
 mod plays;
 mod reader;
+mod recall;
 mod short_name;
 mod table;
 mod view;

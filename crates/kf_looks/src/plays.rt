@@ -38,6 +38,15 @@ impl Play<(), View> for Checks {
     ghost then = { MakesCheck };
 }
 
+/// The writer loads a word behind the version: it finds what it planned.
+pub(crate) struct Recalls;
+
+impl Play<(), View> for Recalls {
+    ghost use Rattle.kf_looks.specs.Steps.{MakesRecall};
+
+    ghost then = { MakesRecall };
+}
+
 /// The writer makes the next version.
 pub(crate) struct Moves;
 

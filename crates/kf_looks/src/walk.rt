@@ -17,7 +17,7 @@ use crate::table::LookSeat;
 use kf_core::{Key, Node};
 
 /// The child that a line gives this name in this directory.
-fn child_there(line: &[u64; 8], dir: u64, name: &ShortName) -> Option<Found>
+pub(crate) fn child_there(line: &[u64; 8], dir: u64, name: &ShortName) -> Option<Found>
     ensures dir { IfSome result (λ child. slice_index line.now 0 ≡ dir) }
     ensures name { IfSome result (λ child. (link_by (slice_index line.now)).name ≡ bytes_in name.now) }
     ensures child { IfSome result (λ child. (link_by (slice_index line.now)).child ≡ Some child) }

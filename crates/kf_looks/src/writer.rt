@@ -30,7 +30,7 @@ pub struct Writer {
 #[derive(Drop)]
 pub struct Section {
     pub seat: LookSeat,
-    version: u64,
+    pub(crate) version: u64,
     ghost sized: { seat.table_id.words ≡ words_for seat.me.0.slots + 1 },
     ghost knows: { WritesTrue seat.me.0 version },
     ghost odd: { version % 2 ≡ 1 },
