@@ -1,0 +1,6 @@
+pub mod Said
+pub mod Frames
+pub mod Single
+pub mod Writers
+pub mod Alike
+pub mod Alone

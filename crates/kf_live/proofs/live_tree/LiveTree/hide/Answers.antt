@@ -1,0 +1,15 @@
+use Rattle.std.proofs.Common.{true, sym, subst, List, [], ◌∷◌}
+use Rattle.std.specs.Arc.{arc_value}
+use Rattle.kf_looks.specs.declared.view.Link.{Link}
+use Rattle.kf_live.specs.Live.{SayBut, Say}
+use Rattle.kf_live.proofs.Writers.{writes_on}
+use Rattle.kf_live.proofs.Frames.{said_hidden}
+use Rattle.kf_live.proofs.live_tree.LiveTree.hide.Goals as goal
+
+pub publish_one-requires : goal.publish_one-requires
+publish_one-requires c = record {
+  says = writes_on (arc_value c.self.inside.looks) c.deref.result.now (λ (links : List Link). Say links c.self.inside.state.tree) (λ (links : List Link). SayBut (c.args.key ∷ []) links c.hide.new.self.tree)
+      c.self.inside.writer c.take.result c.take.ensures.value c.deref.ensures c.self.invariant
+      (λ links says. subst (SayBut (c.args.key ∷ []) links) (sym c.hide.ensures.accepted.changed)
+      (said_hidden c.self.inside.state.tree c.args.key true links says));
+}

@@ -1,0 +1,14 @@
+-- Who looks names up beside the tree's owner, and what such a one has seen.
+use Rattle.std.specs.Prelude.{List}
+use Rattle.kf_core.specs.declared.key.Key.{Key}
+use Rattle.kf_looks.specs.declared.view.Link.{Link}
+use Rattle.kf_looks.specs.declared.view.View.{View}
+
+-- the directory from which paths are followed, and what is known of the words
+pub record Onlooker : Type 0 where
+  pub root : Key
+  pub view : View
+
+-- the links that were seen, the last first
+abbrev pub links_seen : Onlooker → List Link
+links_seen looker = looker.view.seen

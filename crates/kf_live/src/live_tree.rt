@@ -1,0 +1,220 @@
+//! The tree that look-ups are told of.
+ghost use Rattle.std.specs.Prelude.{◌≡◌, ◌<◌, ◌≤◌, IfOk, IfErr, MatchBool, Some, None, true, false, slice_get};
+ghost use Rattle.kf_core.specs.declared.command.Command.TheVariants.{Create, Activate, Doom, Unlink, Rename, Hide, Show};
+ghost use Rattle.kf_core.specs.Tree.{is_linked};
+ghost use Rattle.kf_core.specs.declared.refusal.Refusal.TheVariants as refusal_of;
+ghost use Rattle.kf_core.specs.PostOrder.{IsPostOrder};
+ghost use Rattle.kf_tree.specs.Causes.{create_fault, create_cause, linked_cause, doom_cause, unlink_cause, hide_cause, hidden_in, rename_cause};
+ghost use Rattle.kf_table.specs.Children.{is_there_already};
+ghost use Rattle.kf_tree.specs.TreeLogs.{IsNew, IsAccepted, IsRefused, IsReadied, IsCompacted};
+ghost use Rattle.kf_core.specs.Limits.{most_slots};
+ghost use Rattle.kf_live.specs.Live.{Say};
+ghost use Rattle.kf_live.specs.Lookers.{links_seen};
+
+use crate::looker::Looker;
+use crate::publishing::{publish, publish_move, publish_one};
+use crate::telling::place_of;
+use kf_core::{Key, Limits, Node, Refusal};
+use kf_looks::{Looks, Writer};
+use kf_tree::State;
+use std::alloc::Global;
+use std::marker::Model;
+use std::sync::Arc;
+
+/// The tree with its stored commands, and the words that look-ups read: they say what it says of its live
+/// nodes, after each command. Contracts see what they see of a [`State`].
+#[derive(Drop)]
+pub struct LiveTree {
+    pub(crate) state: State,
+    pub(crate) looks: Arc<Looks>,
+    pub(crate) writer: Option<Writer>,
+}
+
+impl Model for LiveTree {
+    ghost use Rattle.std.specs.Prelude.{◌≡◌, IsSomeAnd};
+    ghost use Rattle.std.specs.Arc.{arc_value};
+    ghost use Rattle.kf_tree.specs.TreeLogs.{TreeLog};
+    ghost use Rattle.kf_looks.specs.Writing.{links_of};
+    ghost use Rattle.kf_live.specs.Live.{Say};
+
+    ghost Value = { TreeLog };
+
+    ghost view = { λ s. s.state };
+
+    ghost invariant = { λ s. IsSomeAnd s.writer
+        (λ w. (w.seat.table_id ≡ (arc_value s.looks).table.shared.table_id)
+        × Say (links_of w.seat) s.state.tree) };
+}
+
+impl LiveTree {
+    /// The tree of the root alone, as [`State::new`] makes it, and words for the look-ups of so many slots.
+    /// With none, each look-up is sent to the tree itself.
+    ///
+    /// Conditions: the root's slot is in the table; there are at most [`kf_core::MOST_SLOTS`] slots of words.
+    ///
+    /// Refusal: NoMemory.
+    pub fn new(alloc: Global, limits: Limits, root: Key, slots: u32) -> Result<LiveTree, Refusal>
+        requires in_table { root.slot < limits.slots }
+        requires few { slots ≤ most_slots }
+        ensures made { IfOk result (λ tree. IsNew limits.slots root tree) }
+        ensures refused { IfErr result (λ refusal. refusal ≡ refusal_of.NoMemory) }
+    {
+        let (looks, writer) = Looks::new(alloc, slots)?;
+        let looks = Arc::new(alloc, looks)?;
+        let state = State::new(alloc, limits, root)?;
+        Ok(LiveTree {
+            state,
+            looks,
+            writer: Some(writer),
+        })
+    }
+
+    /// A looker that was told of all that the tree says now: none of its look-ups goes back behind that.
+    ///
+    /// Refusal: NoMemory, where the words may have no owner more.
+    pub fn looker(&mut self) -> Result<Looker, Refusal>
+        ensures told { IfOk result (λ looker. Say (links_seen looker) self.old.tree) }
+        ensures root { IfOk result (λ looker. looker.root ≡ self.old.root) }
+        ensures same { self.new ≡ self.old }
+        ensures refused { IfErr result (λ refusal. refusal ≡ refusal_of.NoMemory) }
+    {
+        let looks = Arc::try_clone(&self.looks)?;
+        let root = self.state.root();
+        let Some(writer) = &mut self.writer else {
+            return Err(Refusal::NoMemory);
+        };
+        let eye = looks.looker_after(writer);
+        Ok(Looker { looks, root, eye })
+    }
+
+    /// The tree with its stored commands.
+    pub fn state(&self) -> &State
+        ensures same { result.now ≡ self.now }
+    {
+        &self.state
+    }
+
+    /// As [`State::activate_in_order`].
+    pub fn activate_in_order(&mut self, key: Key, order: &[Key]) -> Result<(), Refusal>
+        requires in_order { IsPostOrder self.old.tree key order.now }
+        ensures accepted { IfOk result (λ _.
+            IsAccepted self.old self.new (linked_cause self.old.tree key) (Activate key)) }
+        ensures refused { IfErr result (λ refusal.
+            IsRefused self.old self.new (linked_cause self.old.tree key) refusal) }
+    {
+        self.state.activate_in_order(key, order)?;
+        self.writer = publish(&self.looks, self.writer.take(), &self.state, order);
+        Ok(())
+    }
+
+    /// As [`State::doom_in_order`].
+    pub fn doom_in_order(&mut self, key: Key, order: &[Key]) -> Result<(), Refusal>
+        requires in_order { IsPostOrder self.old.tree key order.now }
+        ensures accepted { IfOk result (λ _.
+            IsAccepted self.old self.new (doom_cause self.old.tree self.old.root key) (Doom key)) }
+        ensures refused { IfErr result (λ refusal.
+            IsRefused self.old self.new (doom_cause self.old.tree self.old.root key) refusal) }
+    {
+        self.state.doom_in_order(key, order)?;
+        self.writer = publish(&self.looks, self.writer.take(), &self.state, order);
+        Ok(())
+    }
+
+    /// As [`State::create_at`].
+    pub fn create_at(
+        &mut self,
+        key: Key,
+        parent: Key,
+        name: &[u8],
+        node: Node,
+        live: bool,
+    ) -> Result<(), Refusal>
+        requires no_fault { create_fault self.old.tree self.old.root parent name.now node ≡ None }
+        requires vacant { slice_get self.old.tree key.slot ≡ Some None }
+        ensures accepted { IfOk result (λ _. IsAccepted self.old self.new
+            (create_cause self.old.tree self.old.root parent name.now node (Some key))
+            (Create key parent name.now node live)) }
+        ensures refused { IfErr result (λ refusal. (refusal ≡ refusal_of.NoMemory) × (self.new ≡ self.old)) }
+    {
+        self.state.create_at(key, parent, name, node, live)?;
+        if live {
+            self.writer = publish_one(&self.looks, self.writer.take(), &self.state, key);
+        }
+        Ok(())
+    }
+
+    /// As [`State::rename`].
+    pub fn rename(&mut self, key: Key, dir: Key, name: &[u8]) -> Result<(), Refusal>
+        ensures no_cause { IfOk result
+            (λ _. rename_cause self.old.tree self.old.root key dir name.now ≡ None) }
+        ensures stays { IfOk result (λ _.
+            is_there_already self.old.tree key dir name.now ≡ true → self.new ≡ self.old) }
+        ensures accepted { IfOk result (λ _. is_there_already self.old.tree key dir name.now ≡ false →
+            IsAccepted self.old self.new (rename_cause self.old.tree self.old.root key dir name.now)
+            (Rename key dir name.now)) }
+        ensures refused { IfErr result (λ refusal.
+            IsRefused self.old self.new (rename_cause self.old.tree self.old.root key dir name.now) refusal) }
+        ensures same_place { IfErr result (λ refusal.
+            refusal ≡ refusal_of.NoMemory → is_there_already self.old.tree key dir name.now ≡ false) }
+    {
+        let _ = self.state.root();
+        let was = place_of(&self.state, key);
+        self.state.rename(key, dir, name)?;
+        self.writer = publish_move(&self.looks, self.writer.take(), was, &self.state, key);
+        Ok(())
+    }
+
+    /// As [`State::unlink`].
+    pub fn unlink(&mut self, key: Key) -> Result<bool, Refusal>
+        ensures linked { IfOk result (λ unlinked. is_linked self.old.tree key ≡ unlinked) }
+        ensures accepted { IfOk result (λ unlinked. MatchBool unlinked
+            (IsAccepted self.old self.new (unlink_cause self.old.tree key) (Unlink key))
+            (self.new ≡ self.old)) }
+        ensures refused { IfErr result (λ refusal.
+            (is_linked self.old.tree key ≡ true) × (unlink_cause self.old.tree key ≡ Some refusal)
+            × (self.new ≡ self.old)) }
+    {
+        self.state.unlink(key)
+    }
+
+    /// As [`State::may_hide`].
+    pub fn may_hide(&mut self, key: Key) -> Result<(), Refusal>
+        ensures readied { IfOk result (λ _.
+            IsReadied self.old self.new (hide_cause self.old.tree key) key) }
+        ensures refused { IfErr result (λ refusal.
+            IsRefused self.old self.new (hide_cause self.old.tree key) refusal) }
+    {
+        self.state.may_hide(key)
+    }
+
+    /// As [`State::hide`].
+    pub fn hide(&mut self, key: Key)
+        requires ready { self.old.ready ≡ Some key }
+        ensures accepted { IsAccepted self.old self.new (hide_cause self.old.tree key) (Hide key) }
+    {
+        self.state.hide(key);
+        self.writer = publish_one(&self.looks, self.writer.take(), &self.state, key);
+    }
+
+    /// As [`State::show`].
+    pub fn show(&mut self, key: Key) -> bool
+        ensures told { result ≡ hidden_in self.old.tree key }
+        ensures accepted { MatchBool result
+            (IsAccepted self.old self.new None (Show key))
+            (self.new ≡ self.old) }
+    {
+        let shown = self.state.show(key);
+        if shown {
+            self.writer = publish_one(&self.looks, self.writer.take(), &self.state, key);
+        }
+        shown
+    }
+
+    /// As [`State::compact`].
+    pub fn compact(&mut self) -> Result<(), Refusal>
+        ensures compacted { IfOk result (λ _. IsCompacted self.old self.new) }
+        ensures refused { IfErr result (λ refusal. (refusal ≡ refusal_of.NoMemory) × (self.new ≡ self.old)) }
+    {
+        self.state.compact()
+    }
+}
