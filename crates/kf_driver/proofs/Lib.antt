@@ -1,1 +1,3 @@
+pub mod Openings
 pub mod Places
+pub mod Telling

@@ -1,8 +1,10 @@
-//! A table of attributes with their callbacks: what a driver writes in place of a `match` on tags.
+//! What a driver writes: tables of attributes with their callbacks in place of a `match` on tags, files that
+//! are opened by their paths, and events that are told by a file's name.
 #![tactic(auto)]
 
 mod driver;
 mod fault;
+mod files;
 mod line_tags;
 mod lines;
 mod notifier;
@@ -11,6 +13,7 @@ mod table;
 
 pub use driver::Driver;
 pub use fault::fault_of;
+pub use files::{notify, open_path, post_of};
 pub use line_tags::LineTags;
 pub use lines::Lines;
 pub use notifier::Notifier;

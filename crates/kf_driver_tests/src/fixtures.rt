@@ -2,10 +2,10 @@
 ghost use Rattle.std.specs.Prelude.{◌≡◌};
 
 use kf_core::{Limits, Node, Refusal};
+use kf_driver::open_path;
 use kf_files::{WaitingFile, Want};
 use kf_groups::{Attribute, Group, create_group};
 use kf_notify::Posts;
-use kf_paths::open_path;
 use kf_shared::{Editor, Naming, NewTree, SharedTree};
 use std::alloc::Global;
 use std::marker::Brand;

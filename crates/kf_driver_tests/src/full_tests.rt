@@ -3,8 +3,8 @@ ghost use Rattle.std.specs.Prelude.{◌≡◌};
 
 use crate::fixtures::{BOTH, first_wrong, open};
 use kf_core::{Limits, Node, Refusal};
+use kf_driver::{notify, open_path};
 use kf_notify::Posts;
-use kf_paths::{notify, open_path};
 use kf_shared::{Editor, Naming, NewTree, SharedTree};
 use std::alloc::Global;
 use std::marker::Brand;

@@ -1,4 +1,4 @@
-//! The tests of `kf_driver` and `kf_paths`, over their public calls: proved over both, and not with them.
+//! The tests of `kf_driver`, over its public calls: proved over it, and not with it.
 #![tactic(auto)]
 
 #[cfg(test)]

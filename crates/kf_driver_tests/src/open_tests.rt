@@ -3,10 +3,10 @@ ghost use Rattle.std.specs.Prelude.{◌≡◌};
 
 use crate::fixtures::{BOTH, made, open, planted};
 use kf_core::{Node, Refusal};
+use kf_driver::open_path;
 use kf_files::Want;
 use kf_groups::Attribute;
 use kf_notify::Posts;
-use kf_paths::open_path;
 use kf_shared::{Editor, Naming, NewTree};
 use std::alloc::Global;
 use std::marker::Brand;

@@ -5,12 +5,11 @@ use crate::fixtures::{BOTH, first_wrong};
 use kf_core::{Limits, Refusal};
 use kf_driver::{
     Callbacks, Driver, End, LineTags, Lines, Notifier, Number, ReadOnly, Row, Signed, Switch,
-    Table, Text,
+    Table, Text, open_path, post_of,
 };
 use kf_files::{Fault, FileError, Page, WaitingFile, Want};
 use kf_groups::{Attribute, Group, create_group};
 use kf_notify::Posts;
-use kf_paths::{open_path, post_of};
 use kf_shared::{Editor, Naming, NewTree, SharedTree};
 use std::alloc::Global;
 use std::marker::Brand;

@@ -7,11 +7,12 @@ ghost use Rattle.std.specs.Prelude.{◌≡◌};
 use anyhow::Context;
 use arrayvec::ArrayVec;
 use kf_core::{Limits, Node, Refusal};
-use kf_driver::{Callbacks, Driver, End, ReadOnly, Row, Signed, Table, emit_line, fault_of};
+use kf_driver::{
+    Callbacks, Driver, End, ReadOnly, Row, Signed, Table, emit_line, fault_of, notify, open_path,
+};
 use kf_files::{Fault, FileError, Page, WaitingFile, Want};
 use kf_groups::{Attribute, Group, create_group};
 use kf_notify::Posts;
-use kf_paths::{notify, open_path};
 use kf_shared::{Naming, NewTree, SharedTree, release_all};
 use kf_text::{NotRead, Part, line_of, read_signed};
 use std::alloc::Global;

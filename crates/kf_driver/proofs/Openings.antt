@@ -18,7 +18,7 @@ use Rattle.kf_files.specs.Waiting.{WaitVisits}
 use Rattle.kf_files.specs.Opened.{Opened}
 use Rattle.kf_tree.specs.Paths.{seen}
 use Rattle.kf_shared.specs.Locked.{Locked}
-use Rattle.kf_paths.specs.Opening.{node_at, only_file, file_at, FileRefused, NotOpened, OpenRefused, OpenedAt, PostRefused}
+use Rattle.kf_driver.specs.Opening.{node_at, only_file, file_at, FileRefused, NotOpened, OpenRefused, OpenedAt, PostRefused}
 
 abbrev pub Visited : Handle → Handle → Node → Want → Option Refusal → Type 0
 Visited hold hold' node want why = Opens (WaitVisits (Unit {0}) (λ _. Unit {0}) hold hold') node want why

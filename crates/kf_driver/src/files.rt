@@ -4,7 +4,7 @@ ghost use Rattle.kf_core.specs.declared.key.Node.TheVariants.{File};
 ghost use Rattle.kf_files.specs.Files.{new_file, allows};
 ghost use Rattle.kf_notify.specs.PostStates.{IsNewPost};
 ghost use Rattle.kf_tree.specs.Paths.{found};
-ghost use Rattle.kf_paths.specs.Opening.{file_at, IsPostAt, OpenedAt, OpenRefused, PostRefused, NotifyRefused, NotOpened, Told};
+ghost use Rattle.kf_driver.specs.Opening.{file_at, IsPostAt, OpenedAt, OpenRefused, PostRefused, NotifyRefused, NotOpened, Told};
 
 use kf_core::{Key, Node, Refusal};
 use kf_files::{WaitingFile, Want};

@@ -1,6 +1,6 @@
 use Rattle.std.proofs.Common.{rules, inr}
-use Rattle.kf_paths.proofs.Openings.{refused}
-use Rattle.kf_paths.proofs.files.open_held.Goals as goal
+use Rattle.kf_driver.proofs.Openings.{refused}
+use Rattle.kf_driver.proofs.files.open_held.Goals as goal
 
 pub returns-clause-refused : goal.returns-clause-refused
 returns-clause-refused g c =

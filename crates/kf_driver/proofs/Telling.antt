@@ -5,7 +5,7 @@ use Rattle.kf_core.specs.declared.key.Key.{Key}
 use Rattle.kf_core.specs.declared.refusal.Refusal.{Refusal}
 use Rattle.kf_core.specs.Tree.{Tree}
 use Rattle.kf_notify.specs.PostStates.{PostState, Numbers, IsNewPost, IsSamePost, Made}
-use Rattle.kf_paths.specs.Opening.{file_at, Told}
+use Rattle.kf_driver.specs.Opening.{file_at, Told}
 
 -- the second load found no less than the first, which found no less than the first number
 not_below : (first found known again : ℕ) → first ≤ found → known ≡ found → known ≤ again → first ≤ again

@@ -1,6 +1,6 @@
 use Rattle.std.proofs.Common.{rules}
-use Rattle.kf_paths.proofs.Telling.{told}
-use Rattle.kf_paths.proofs.files.notify.Goals as goal
+use Rattle.kf_driver.proofs.Telling.{told}
+use Rattle.kf_driver.proofs.files.notify.Goals as goal
 
 pub returns-clause-told : goal.returns-clause-told
 returns-clause-told c =
