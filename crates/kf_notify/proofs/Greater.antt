@@ -9,7 +9,8 @@ use Rattle.atomic_table.proofs.Lists.{at_longer, set_again, set_else, set_here}
 use Rattle.kf_notify.specs.declared.view.View.{View}
 use Rattle.kf_notify.specs.Rule.{Table, Shown, IsSeated, number_at}
 use Rattle.kf_notify.specs.Steps.{loaded, raised, doubled}
-use Rattle.kf_notify.specs.Laws.{Kind, loads, raises, doubles, NumberStep, NumberRun, StaysRaised, LaterIsGreater}
+use Rattle.kf_notify.specs.TableSteps.{Kind, loads, raises, doubles, NumberStep, NumberRun}
+use Rattle.kf_notify.specs.Laws.{StaysRaised, LaterIsGreater}
 use Rattle.kf_notify.proofs.Allowed.{seat_within}
 use Rattle.kf_notify.proofs.Runs.{step_keeps, never_goes_back}
 
@@ -45,7 +46,7 @@ still_seen : (slots : ℕ) (t : Table) (kind : Kind) (t' : Table) (other slot nu
 still_seen slots t (loads seat place) t' other slot number s enough seen =
     let n : ℕ = get_or t.words place 0 in
     let w : View = loaded place n s.0 in
-    subst (λ (u : Table). HasSeen u other slot number) (sym s.4)
+    subst (λ (u : Table). HasSeen u other slot number) (sym s.3)
     (stays_seen t seat other slot number s.0 w s.1 seen (λ same here. subst (λ (i : ℕ). number ≤ get_or t.words i 0) (sym here) enough))
 still_seen slots t (raises seat place made) t' other slot number s enough seen =
     subst (λ (u : Table). HasSeen u other slot number) (sym s.5)
@@ -80,7 +81,7 @@ before_load slots start t other slot number later [] more t' h enough run =
     let w : View = loaded slot n s.0 in
     let kept = step_keeps slots start t (loads other slot) run.0 h s in
     let risen : number_at t slot ≤ number_at run.0 slot = never_goes_back slots start t (loads other slot ∷ []) run.0 h (run.0, s, refl) slot in
-    let seen : HasSeen run.0 other slot number = subst (λ (u : Table). HasSeen u other slot number) (sym s.4)
+    let seen : HasSeen run.0 other slot number = subst (λ (u : Table). HasSeen u other slot number) (sym s.3)
     (w, set_here t.views other w (seat_within t.views other s.0 s.1), λ here. enough) in
     after_load slots start run.0 other slot number later more t' kept (omega arith) seen run.2
 before_load slots start t other slot number later (kind ∷ kinds) more t' h enough run =

@@ -7,28 +7,27 @@ use native.Mathlib.Decide.{ℕ_discrete, dec_le}
 use Rattle.atomic_table.specs.Table.{stepped, keeps}
 use Rattle.kf_notify.specs.Rule.{Table, Shown, number_at}
 use Rattle.kf_notify.specs.Steps.{raised}
-use Rattle.kf_notify.specs.Laws.{Kind, loads, raises, doubles, NumberStep, NeverBelow, FirstOrMade, OpensWell, RuleKept, NeverGoesBack, NoneSkipped}
-use Rattle.kf_notify.proofs.Allowed.{load_keeps, raise_keeps, split_allowed, opening_shown}
+use Rattle.kf_notify.specs.TableSteps.{Kind, loads, raises, doubles, NumberStep}
+use Rattle.kf_notify.specs.Laws.{NeverBelow, NeverBelowTheFirst, OpensWell, RuleKept, NeverGoesBack, NoneSkipped}
+use Rattle.kf_notify.proofs.Allowed.{load_keeps, raise_keeps, double_keeps, opening_shown}
 
 pub never_below : NeverBelow
 never_below slots start t shown seat v at = shown.known seat v at
 
-pub first_or_made : FirstOrMade
-first_or_made slots start t shown slot near = dite (dec_le (number_at t slot) start)
-    (λ under. let a = shown.least slot near in inl (omega arith))
-    (λ over. inr (shown.made slot near (omega arith)))
+pub never_below_the_first : NeverBelowTheFirst
+never_below_the_first slots start t shown = shown.least
 
 pub opens_well : OpensWell
 opens_well slots start = opening_shown slots (max slots 1) start (omega arith)
 
 pub step_keeps : (slots start : ℕ) (t : Table) (kind : Kind) (t' : Table) → Shown slots start t → NumberStep slots t kind t' → Shown slots start t'
-step_keeps slots start t (loads seat slot) t' h s = subst (λ (u : Table). Shown slots start u) (sym s.4) (load_keeps slots start t seat s.0 slot h s.1 s.2 s.3)
+step_keeps slots start t (loads seat slot) t' h s = subst (λ (u : Table). Shown slots start u) (sym s.3) (load_keeps slots start t seat s.0 slot h s.1 s.2)
 step_keeps slots start t (raises seat slot number) t' h s =
     let kept : Shown slots start (stepped t s.0.slot (max (number_at t s.0.slot) number) seat [] (raised number s.0) keeps) =
     raise_keeps slots start t seat s.0 number h s.1 (subst (λ (k : ℕ). k < slots) (sym s.3) s.2) s.4 in
     subst (λ (u : Table). Shown slots start u) (sym s.5)
     (subst (λ (k : ℕ). Shown slots start (stepped t k (max (number_at t k) number) seat [] (raised number s.0) keeps)) s.3 kept)
-step_keeps slots start t (doubles seat) t' h s = subst (λ (u : Table). Shown slots start u) (sym s.2) (split_allowed slots start seat s.0 t h s.1)
+step_keeps slots start t (doubles seat) t' h s = subst (λ (u : Table). Shown slots start u) (sym s.2) (double_keeps slots start seat s.0 t h s.1)
 
 pub rule_kept : RuleKept
 rule_kept slots start t [] t' h run = subst (λ (u : Table). Shown slots start u) (sym run) h
@@ -62,7 +61,7 @@ raise_stays_or_rises slots start t seat slot number t' h s k =
     (λ other. inl (moved ∙ get_or-set_other t.words slot k (max n number) 0 other))
 
 stays_or_rises : (slots start : ℕ) (t : Table) (kind : Kind) (t' : Table) → Shown slots start t → NumberStep slots t kind t' → (k : ℕ) → StaysOrRises t kind t' k
-stays_or_rises slots start t (loads seat slot) t' h s k = inl (ap (λ (u : Table). number_at u k) s.4 ∙ ap (λ (l : List ℕ). get_or l k 0) (set-get_or t.words slot 0))
+stays_or_rises slots start t (loads seat slot) t' h s k = inl (ap (λ (u : Table). number_at u k) s.3 ∙ ap (λ (l : List ℕ). get_or l k 0) (set-get_or t.words slot 0))
 stays_or_rises slots start t (raises seat slot number) t' h s k = raise_stays_or_rises slots start t seat slot number t' h s k
 stays_or_rises slots start t (doubles seat) t' h s k = inl (ap (λ (u : Table). number_at u k) s.2)
 

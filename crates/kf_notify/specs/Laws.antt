@@ -1,50 +1,22 @@
 -- What the numbers tell at every moment, and over every run of steps.
-use Rattle.std.specs.Prelude.{◌≡◌, ◌⊎◌, ℕ, ◌+◌, ◌≤◌, ◌<◌, max}
-use Rattle.std.specs.Prelude.{List, [], ◌∷◌, ◌++◌, replicate, slice_set, Contains}
-use Rattle.atomic_table.specs.Table.{stepped, keeps, opening}
+use Rattle.std.specs.Prelude.{ℕ, ◌≤◌, ◌<◌, List, [], ◌∷◌, ◌++◌, Contains}
 use Rattle.kf_notify.specs.declared.view.View.{View}
-use Rattle.kf_notify.specs.Rule.{Table, Shown, IsSeated, WasMade, number_at, opened}
-use Rattle.kf_notify.specs.Steps.{loaded, raised, doubled}
+use Rattle.kf_notify.specs.Rule.{Table, Shown, IsSeated, number_at}
+pub use Rattle.kf_notify.specs.TableSteps.{Kind, loads, raises, NumberStep, NumberRun, opened_table}
 
 -- a slot's number is never below one that any seat has seen or made there
 abbrev pub NeverBelow : Type 0
 NeverBelow = (slots start : ℕ) (t : Table) → Shown slots start t
     → (seat : ℕ) (v : View) → IsSeated t seat v → v.known ≤ number_at t v.slot
 
--- a slot's number is the first, or a seat of the slot has made it
-abbrev pub FirstOrMade : Type 0
-FirstOrMade = (slots start : ℕ) (t : Table) → Shown slots start t → (slot : ℕ) → slot < slots
-    → (number_at t slot ≡ start) ⊎ WasMade t slot (number_at t slot)
-
--- what a seat, told by its number, does: it loads the number of this slot, raises that of this slot to this
--- number, or gets a new seat beside it
-pub data Kind : Type 0 where
-  loads : (seat slot : ℕ) → Kind
-  raises : (seat slot number : ℕ) → Kind
-  doubles : (seat : ℕ) → Kind
-
--- One step of the table as a whole. A seat that has made a number stays with its slot, and it raises its
--- slot's number to the next of what its last load found.
-abbrev pub NumberStep : ℕ → Table → Kind → Table → Type 0
-NumberStep slots t (loads seat slot) t' = (v : View) × IsSeated t seat v × (slot < slots)
-    × (0 < v.made → v.slot ≡ slot)
-    × (t' ≡ stepped t slot (number_at t slot) seat [] (loaded slot (number_at t slot) v) keeps)
-NumberStep slots t (raises seat slot number) t' = (v : View) × IsSeated t seat v × (slot < slots)
-    × (v.slot ≡ slot) × (number ≡ v.found + 1)
-    × (t' ≡ stepped t slot (max (number_at t slot) number) seat [] (raised number v) keeps)
-NumberStep slots t (doubles seat) t' = (v : View) × IsSeated t seat v
-    × (t' ≡ record { words = t.words; homes = t.homes; views = slice_set t.views seat v ++ doubled v ∷ [] })
-
--- steps one after another
-abbrev pub NumberRun : ℕ → Table → List Kind → Table → Type 0
-NumberRun slots t [] t' = t' ≡ t
-NumberRun slots t (kind ∷ kinds) t' =
-    (between : Table) × NumberStep slots t kind between × NumberRun slots between kinds t'
+-- no slot's number is below the first
+abbrev pub NeverBelowTheFirst : Type 0
+NeverBelowTheFirst = (slots start : ℕ) (t : Table) → Shown slots start t
+    → (slot : ℕ) → slot < slots → start ≤ number_at t slot
 
 -- the table opens with the rule
 abbrev pub OpensWell : Type 0
-OpensWell = (slots start : ℕ)
-    → Shown slots start (opening (replicate (max slots 1) start) [] (opened start))
+OpensWell = (slots start : ℕ) → Shown slots start (opened_table slots start)
 
 -- each run of steps keeps the rule
 abbrev pub RuleKept : Type 0

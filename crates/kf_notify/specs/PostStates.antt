@@ -2,76 +2,108 @@
 use Rattle.std.specs.Prelude.{◌≡◌, ℕ, ◌+◌, ◌≤◌, ◌<◌}
 pub use Rattle.atomic_table.specs.Seated.{TableId}
 use Rattle.kf_notify.specs.declared.seat.PostSeat.{PostSeat}
-use Rattle.kf_notify.specs.declared.view.View.{View}
+use Rattle.kf_notify.specs.declared.sight.Seen.{Seen}
+use Rattle.kf_notify.specs.declared.sight.Sight.{Sight}
 use Rattle.kf_notify.specs.Rule.{KnowsNext}
+use Rattle.kf_notify.specs.Next.{WasLoad, WasNotify, OnlyLoads}
 
 -- which table of numbers, of how many slots, and the number that each slot had at first
-pub record Numbers : Type 0 where
+pub record NumbersId : Type 0 where
   pub table : TableId
   pub slots : ℕ
   pub start : ℕ
 
+-- what a contract sees of a handle: which numbers they are, and what it has seen
+pub record Numbers : Type 0 where
+  pub table : TableId
+  pub slots : ℕ
+  pub start : ℕ
+  pub seen : Seen  -- the beginning of the one run of all steps at the table that it has seen
+
 -- what a contract sees of a post
 pub record PostState : Type 0 where
-  pub numbers : Numbers
+  pub numbers : NumbersId
   pub slot : ℕ
   pub known : ℕ  -- the greatest number that it has seen or made
   pub found : ℕ  -- what its last load found
   pub made : ℕ  -- the last number that it has made; 0: none
   pub steps : ℕ  -- how many steps it has made on its slot's word
+  pub seen : Seen  -- the beginning of the one run of all steps at the table that it has seen
 
--- which numbers a seat is of: the table, how many slots, the first number
+-- which numbers a handle is of
+abbrev pub id_of : Numbers → NumbersId
+id_of n = record { table = n.table; slots = n.slots; start = n.start }
+
+-- the handle that a seat is
 abbrev pub numbers_of : PostSeat → Numbers
-numbers_of s = record { table = s.token.table_id; slots = s.slots; start = s.token.me.0.start }
+numbers_of s = record {
+  table = s.token.table_id;
+  slots = s.slots;
+  start = s.token.me.0.view.start;
+  seen = s.token.me.0.seen;
+}
 
 -- the post that a seat is
 abbrev pub post_of : PostSeat → PostState
 post_of s = record {
-  numbers = numbers_of s;
-  slot = s.token.me.0.slot;
-  known = s.token.me.0.known;
-  found = s.token.me.0.found;
-  made = s.token.me.0.made;
-  steps = s.token.me.0.steps;
+  numbers = id_of (numbers_of s);
+  slot = s.token.me.0.view.slot;
+  known = s.token.me.0.view.known;
+  found = s.token.me.0.view.found;
+  made = s.token.me.0.view.made;
+  steps = s.token.me.0.view.steps;
+  seen = s.token.me.0.seen;
 }
 
--- the view of the seat
-abbrev pub seat_view : PostState → View
+-- what the seat knows
+abbrev pub seat_view : PostState → Sight
 seat_view p = record {
-  slot = p.slot;
-  known = p.known;
-  start = p.numbers.start;
-  found = p.found;
-  made = p.made;
-  steps = p.steps;
+  view = record {
+    slot = p.slot;
+    known = p.known;
+    start = p.numbers.start;
+    found = p.found;
+    made = p.made;
+    steps = p.steps;
+  };
+  seen = p.seen;
 }
 
--- the seat has made no step on a slot's word, and so no number
-pub record IsIdle (s : PostSeat) : Type 0 where
-  pub no_step : s.token.me.0.steps ≡ 0
-  pub none_made : s.token.me.0.made ≡ 0
+-- the run that was seen is one of these numbers, from their opening on
+abbrev pub HasItsRun : NumbersId → Seen → Type 0
+HasItsRun numbers seen = seen.opening ≡ record { slots = numbers.slots; start = numbers.start }
 
--- a post of this slot, which has a number. The greatest that it knows is not below the first, and is what its
--- last load found, or the next, which it made
+-- a post of this slot, which has a number. The greatest that it knows is not below the first nor below the
+-- last that it has made, and is what its last load found, or the next, which it made
 pub record KnowsSlot (post : PostState) (slot : ℕ) : Type 0 where
   pub own : post.slot ≡ slot
   pub within : slot < post.numbers.slots
   pub first : post.numbers.start ≤ post.known
-  pub next : KnowsNext (seat_view post)
+  pub next : KnowsNext (seat_view post).view
+  pub made : post.made ≤ post.known
+  pub run : HasItsRun post.numbers post.seen
 
 -- still a post of the same slot of the same numbers
 pub record IsSamePost (old new : PostState) : Type 0 where
   pub numbers : new.numbers ≡ old.numbers
   pub slot : new.slot ≡ old.slot
 
--- a post of this slot, which has made no number, and whose one load found a number not below the first
+-- a load of this slot, which found this number, was the next step of the one run after all that a seat had
+-- seen that knew as much as this handle
+abbrev pub WasFirstLoad : Numbers → ℕ → ℕ → Sight → Type 0
+WasFirstLoad numbers slot number after =
+    (before : Sight) × (before.seen ≡ numbers.seen) × WasLoad slot number before after
+
+-- a post of this slot, which has made no number, and whose one load found a number not below the first. It
+-- had seen before what its handle has
 pub record IsNewPost (numbers : Numbers) (slot : ℕ) (post : PostState) : Type 0 where
-  pub numbers_are : post.numbers ≡ numbers
+  pub numbers_are : post.numbers ≡ id_of numbers
   pub slot_is : post.slot ≡ slot
   pub seen : post.known ≡ post.found
   pub none_made : post.made ≡ 0
   pub no_less : numbers.start ≤ post.found
   pub one_step : post.steps ≡ 1
+  pub next : WasFirstLoad numbers slot post.found (seat_view post)
 
 -- one load found this number, which is not below any that the post had seen or made; the post made none
 pub record Found (old : PostState) (number : ℕ) (new : PostState) : Type 0 where
@@ -89,6 +121,11 @@ pub record FoundAtLast (old : PostState) (number : ℕ) (new : PostState) : Type
   pub no_less : old.known ≤ number
   pub some_steps : old.steps < new.steps
 
+-- these loads were steps of the one run, each the next after all that the post had seen: some, or none, that
+-- found the number `seen`, and a last one, which found this number
+abbrev pub WaitedPast : PostState → ℕ → ℕ → PostState → Type 0
+WaitedPast old seen number new = OnlyLoads old.slot seen number (seat_view old) (seat_view new)
+
 -- one load found a number not below any that the post had seen or made; a second step made the next of it
 pub record Made (old : PostState) (number : ℕ) (new : PostState) : Type 0 where
   pub one_more : number ≡ new.found + 1
@@ -97,7 +134,25 @@ pub record Made (old : PostState) (number : ℕ) (new : PostState) : Type 0 wher
   pub no_less : old.known ≤ new.found
   pub two_steps : new.steps ≡ old.steps + 2
 
--- the post took this event number, by one load
+-- the post took this event number, by one load, which was the next step of the one run
 pub record Took (old : PostState) (number : ℕ) (new : PostState) : Type 0 where
   pub same : IsSamePost old new
   pub found : Found old number new
+  pub next : WasLoad old.slot number (seat_view old) (seat_view new)
+
+-- the handle's next two steps of the one run were a load of this slot, and a raise of its number to this,
+-- which is the next of what the load found
+pub record HandleRaised (old : Numbers) (slot number : ℕ) (new : Numbers) : Type 0 where
+  pub before : Sight
+  pub after : Sight
+  pub had : before.seen ≡ old.seen
+  pub raised : WasNotify slot number before after
+  pub has : after.seen ≡ new.seen
+
+-- the handle's next step of the one run was a load of this slot, which found this number
+pub record HandleFound (old : Numbers) (slot number : ℕ) (new : Numbers) : Type 0 where
+  pub before : Sight
+  pub after : Sight
+  pub had : before.seen ≡ old.seen
+  pub load : WasLoad slot number before after
+  pub has : after.seen ≡ new.seen

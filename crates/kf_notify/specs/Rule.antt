@@ -25,15 +25,8 @@ opened start = record { slot = 0; known = 0; start = start; found = 0; made = 0;
 pub record KnowsNext (v : View) : Type 0 where
   pub found : v.found ≤ v.known
   pub next : v.known ≤ v.found + 1
-  pub made : v.made ≤ v.known
 
--- a seat of this slot made this number
-abbrev pub WasMade : Table → ℕ → ℕ → Type 0
-WasMade t slot number =
-    (seat : ℕ) × (v : View) × IsSeated t seat v × (v.slot ≡ slot) × (v.made ≡ number)
-
--- A slot's number is never below one that any seat has seen or made there; none is below the first, and each
--- above the first was made by a seat of its slot.
+-- a slot's number is never below one that any seat has seen or made there, and none is below the first
 pub record Shown (slots start : ℕ) (t : Table) : Type 0 where
   -- for each slot a word
   pub wide : slots ≤ length t.words
@@ -41,4 +34,3 @@ pub record Shown (slots start : ℕ) (t : Table) : Type 0 where
   pub knows : (seat : ℕ) (v : View) → IsSeated t seat v → KnowsNext v
   pub known : (seat : ℕ) (v : View) → IsSeated t seat v → v.known ≤ number_at t v.slot
   pub least : (slot : ℕ) → slot < slots → start ≤ number_at t slot
-  pub made : (slot : ℕ) → slot < slots → start < number_at t slot → WasMade t slot (number_at t slot)

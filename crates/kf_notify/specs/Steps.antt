@@ -1,11 +1,20 @@
 -- What each step makes of the view of its own seat.
 use Rattle.std.specs.Prelude.{◌≡◌, ℕ, ◌+◌, ◌≤◌}
 use Rattle.atomic_table.specs.Table.{Me, Step}
+use Rattle.kf_notify.specs.declared.sight.Sight.{Sight}
 use Rattle.kf_notify.specs.declared.view.View.{View}
 
--- a seat at the table of numbers, with what it knows
+-- a seat at the table of numbers: its view, and the homes that it has taken, of which this table has none
 abbrev pub Seated : Type 0
 Seated = Me (Unit {0}) View
+
+-- a seat that has seen something of the run of all steps
+abbrev pub Sighted : Type 0
+Sighted = Me (Unit {0}) Sight
+
+-- the seat without what it has seen
+abbrev pub plain : Sighted → Seated
+plain me = (me.0.view, me.1)
 
 -- a load found this number of the slot
 abbrev pub loaded : ℕ → ℕ → View → View
@@ -20,11 +29,11 @@ raised number v = record v { known = number; made = number; steps = v.steps + 1 
 abbrev pub doubled : View → View
 doubled v = record v { made = 0; steps = 0 }
 
--- what a load tells: it found no less than what the seat knows of that slot
-abbrev pub MakesLoad : Step (Unit {0}) → Seated → ℕ → Seated → Type 0
-MakesLoad st me found me' = (me' ≡ (loaded st.word found me.0, me.1)) × (me.0.start ≤ found)
+-- what a load tells of the view after it: it found no less than what the seat knows of that slot
+abbrev pub Loads : Step (Unit {0}) → Seated → ℕ → Seated → Type 0
+Loads st me found me' = (me' ≡ (loaded st.word found me.0, me.1)) × (me.0.start ≤ found)
     × (me.0.slot ≡ st.word → me.0.known ≤ found)
 
--- what a raise tells: that it is on the seat's own slot, and what the seat knows after it
-abbrev pub MakesRaise : Step (Unit {0}) → Seated → ℕ → Seated → Type 0
-MakesRaise st me found me' = (st.word ≡ me.0.slot) × (me' ≡ (raised st.first me.0, me.1))
+-- what a raise tells: that it is on the seat's own slot, and the view after it
+abbrev pub Raises : Step (Unit {0}) → Seated → ℕ → Seated → Type 0
+Raises st me found me' = (st.word ≡ me.0.slot) × (me' ≡ (raised st.first me.0, me.1))

@@ -1,12 +1,12 @@
 //! The kinds of step on the table of numbers: what each makes of the view of the seat that steps.
-use crate::view::View;
+use crate::sight::Sight;
 use atomic_table::{Play, Split};
 
 /// A seat loads the number of a slot.
 pub(crate) struct Loads;
 
-impl Play<(), View> for Loads {
-    ghost use Rattle.kf_notify.specs.Steps.{MakesLoad};
+impl Play<(), Sight> for Loads {
+    ghost use Rattle.kf_notify.specs.Next.{MakesLoad};
 
     ghost then = { MakesLoad };
 }
@@ -14,8 +14,8 @@ impl Play<(), View> for Loads {
 /// A seat raises the number of its slot to at least the one that it makes.
 pub(crate) struct Raises;
 
-impl Play<(), View> for Raises {
-    ghost use Rattle.kf_notify.specs.Steps.{MakesRaise};
+impl Play<(), Sight> for Raises {
+    ghost use Rattle.kf_notify.specs.Next.{MakesRaise};
 
     ghost then = { MakesRaise };
 }
@@ -23,10 +23,10 @@ impl Play<(), View> for Raises {
 /// A new seat knows what the old one knows, which stays as it was.
 pub(crate) struct Doubles;
 
-impl Split<View> for Doubles {
-    ghost use Rattle.kf_notify.specs.Steps.{doubled};
+impl Split<Sight> for Doubles {
+    ghost use Rattle.kf_notify.specs.History.{given};
 
-    ghost left = { λ v. v };
+    ghost left = { λ s. s };
 
-    ghost right = { doubled };
+    ghost right = { given };
 }

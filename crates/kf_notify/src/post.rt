@@ -1,6 +1,7 @@
 //! A post: it reads and raises the event number of one slot, and waits for it to change.
 ghost use Rattle.std.specs.Prelude.{◌≡◌, ◌≢◌, ◌-◌, ◌^◌, ◌<◌, ◌≤◌, IfOk, IfErr, MatchOption};
-ghost use Rattle.kf_notify.specs.PostStates.{post_of, IsSamePost, Found, FoundAtLast, Made, KnowsSlot};
+ghost use Rattle.kf_notify.specs.PostStates.{post_of, seat_view, IsSamePost, Found, FoundAtLast, WaitedPast, Made, KnowsSlot};
+ghost use Rattle.kf_notify.specs.Next.{WasLoad, WasNotify};
 
 use crate::deadline::Deadline;
 use crate::seat::PostSeat;
@@ -50,6 +51,7 @@ impl Post {
     pub fn now(&mut self) -> u64
         ensures same { IsSamePost self.old self.new }
         ensures found { Found self.old result self.new }
+        ensures next { WasLoad self.old.slot result (seat_view self.old) (seat_view self.new) }
         ensures start { self.old.numbers.start ≤ result }
     {
         self.seat.load(self.slot)
@@ -61,7 +63,11 @@ impl Post {
     pub fn notify(&mut self) -> Result<u64, Full>
         ensures same { IsSamePost self.old self.new }
         ensures made { IfOk result (λ number. Made self.old number self.new) }
+        ensures raised { IfOk result
+            (λ number. WasNotify self.old.slot number (seat_view self.old) (seat_view self.new)) }
         ensures full { IfErr result (λ _. Found self.old (2 ^ 64 - 1) self.new) }
+        ensures kept { IfErr result
+            (λ _. WasLoad self.old.slot (2 ^ 64 - 1) (seat_view self.old) (seat_view self.new)) }
         ensures start { self.old.numbers.start ≤ self.new.found }
     {
         let number = self.notify_quiet()?;
@@ -74,7 +80,11 @@ impl Post {
     pub fn notify_quiet(&mut self) -> Result<u64, Full>
         ensures same { IsSamePost self.old self.new }
         ensures made { IfOk result (λ number. Made self.old number self.new) }
+        ensures raised { IfOk result
+            (λ number. WasNotify self.old.slot number (seat_view self.old) (seat_view self.new)) }
         ensures full { IfErr result (λ _. Found self.old (2 ^ 64 - 1) self.new) }
+        ensures kept { IfErr result
+            (λ _. WasLoad self.old.slot (2 ^ 64 - 1) (seat_view self.old) (seat_view self.new)) }
         ensures start { self.old.numbers.start ≤ self.new.found }
     {
         let found = self.now();
@@ -92,6 +102,7 @@ impl Post {
         ensures same { IsSamePost self.old self.new }
         ensures other { result ≢ seen }
         ensures found { FoundAtLast self.old result self.new }
+        ensures loads { WaitedPast self.old seen result self.new }
     {
         for _ in rt.forever() {
             let found = self.now();
@@ -116,6 +127,7 @@ impl Post {
         ensures answered { MatchOption result (self.new.found ≡ seen)
             (λ number. (number ≢ seen) × (number ≡ self.new.found)) }
         ensures found { FoundAtLast self.old self.new.found self.new }
+        ensures loads { WaitedPast self.old seen self.new.found self.new }
     {
         let deadline = Deadline::new(rt, limit);
         for _ in rt.forever() {

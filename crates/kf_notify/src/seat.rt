@@ -2,21 +2,22 @@
 ghost use Rattle.std.specs.Prelude.{◌≡◌, ◌+◌, ◌<◌, ◌≤◌, [], IfOk, IfErr, vec_len};
 ghost use Rattle.std.specs.Arc.{arc_value};
 ghost use Rattle.kf_core.specs.declared.refusal.Refusal.TheVariants.{NoMemory};
-ghost use Rattle.kf_notify.specs.Steps.{loaded, raised, doubled};
+ghost use Rattle.kf_notify.specs.Steps.{loaded, raised};
+ghost use Rattle.kf_notify.specs.History.{given};
+ghost use Rattle.kf_notify.specs.Next.{WasLoad, WasRaise};
 
 use crate::plays::{Doubles, Loads, Raises};
+use crate::sight::Sight;
 use crate::table::SlotTable;
-use crate::view::View;
 use atomic_table::Seat;
 use kf_core::Refusal;
-use std::mem::replace;
 use std::sync::Arc;
 
 /// A seat at the table of numbers. The table has at least one word, and one for each slot.
 #[derive(Drop)]
 pub struct PostSeat {
     pub(crate) table: Arc<SlotTable>,
-    pub(crate) token: Seat<(), View>,
+    pub(crate) token: Seat<(), Sight>,
     pub(crate) slots: u32,
     ghost of_table: { token.table_id ≡ (arc_value table).numbers.shared.table_id },
     ghost bare: { token.me ≡ (token.me.0, []) },
@@ -28,16 +29,14 @@ pub struct PostSeat {
 
 impl PostSeat {
     /// Loads the number of a slot.
-    ///
-    /// Condition: a seat that has made a number stays with its slot.
     pub(crate) fn load(&mut self, slot: u32) -> u64
         requires slot { slot < self.old.slots }
-        requires stays { 0 < self.old.token.me.0.made → self.old.token.me.0.slot ≡ slot }
         ensures same { self.new.slots ≡ self.old.slots }
         ensures table { self.new.token.table_id ≡ self.old.token.table_id }
-        ensures view { self.new.token.me.0 ≡ loaded slot result self.old.token.me.0 }
-        ensures start { self.old.token.me.0.start ≤ result }
-        ensures known { self.old.token.me.0.slot ≡ slot → self.old.token.me.0.known ≤ result }
+        ensures view { self.new.token.me.0.view ≡ loaded slot result self.old.token.me.0.view }
+        ensures start { self.old.token.me.0.view.start ≤ result }
+        ensures known { self.old.token.me.0.view.slot ≡ slot → self.old.token.me.0.view.known ≤ result }
+        ensures next { WasLoad slot result self.old.token.me.0 self.new.token.me.0 }
     {
         self.table
             .numbers
@@ -50,11 +49,12 @@ impl PostSeat {
     /// Condition: it is the next of what the seat's last load found there. So no number is skipped.
     pub(crate) fn raise(&mut self, slot: u32, number: u64)
         requires slot { slot < self.old.slots }
-        requires own { self.old.token.me.0.slot ≡ slot }
-        requires next { number ≡ self.old.token.me.0.found + 1 }
+        requires own { self.old.token.me.0.view.slot ≡ slot }
+        requires next { number ≡ self.old.token.me.0.view.found + 1 }
         ensures same { self.new.slots ≡ self.old.slots }
         ensures table { self.new.token.table_id ≡ self.old.token.table_id }
-        ensures view { self.new.token.me.0 ≡ raised number self.old.token.me.0 }
+        ensures view { self.new.token.me.0.view ≡ raised number self.old.token.me.0.view }
+        ensures next { WasRaise slot number self.old.token.me.0 self.new.token.me.0 }
     {
         self.table
             .numbers
@@ -62,23 +62,7 @@ impl PostSeat {
             .fetch_max::<Raises>(&mut self.token, slot as usize, number);
     }
 
-    /// Takes a new token, which knows what its own knows and has made no number, and answers its own. Whoever
-    /// puts that back has made no step on a slot's word with it.
-    pub(crate) fn step_aside(&mut self) -> Seat<(), View>
-        ensures same { self.new.slots ≡ self.old.slots }
-        ensures table { self.new.token.table_id ≡ self.old.token.table_id }
-        ensures view { self.new.token.me.0 ≡ doubled self.old.token.me.0 }
-        ensures own { (result.table_id ≡ self.old.token.table_id) × (result.me ≡ self.old.token.me) }
-    {
-        let token = self
-            .table
-            .numbers
-            .shared
-            .split_seat::<Doubles>(&mut self.token);
-        replace(&mut self.token, token)
-    }
-
-    /// A new seat, which knows what this one knows, and has made no number.
+    /// A new seat, which knows what this one knows and has seen as much, and has made no number.
     ///
     /// Refusal: `NoMemory` where sharing the table was refused, and then nothing changes.
     pub(crate) fn another(&mut self) -> Result<PostSeat, Refusal>
@@ -87,7 +71,7 @@ impl PostSeat {
         ensures kept { self.new.token.me.0 ≡ self.old.token.me.0 }
         ensures slots { IfOk result (λ seat. seat.slots ≡ self.old.slots) }
         ensures shared { IfOk result (λ seat. seat.token.table_id ≡ self.old.token.table_id) }
-        ensures view { IfOk result (λ seat. seat.token.me.0 ≡ doubled self.old.token.me.0) }
+        ensures view { IfOk result (λ seat. seat.token.me.0 ≡ given self.old.token.me.0) }
         ensures refused { IfErr result (λ why. why ≡ NoMemory) }
     {
         let table = Arc::try_clone(&self.table)?;

@@ -2,32 +2,26 @@
 ghost use Rattle.std.specs.Prelude.{◌≡◌, IfOk, IfErr, vec_len};
 ghost use Rattle.kf_core.specs.declared.refusal.Refusal.TheVariants.{NoMemory};
 
-use crate::view::View;
+use crate::sight::{Opening, Sight};
 use atomic_table::{Table, TableRule};
 use kf_core::Refusal;
 use std::alloc::Global;
 use std::sync::atomic::AtomicU64;
 
-/// How the table begins: so many slots, each with this number.
-#[derive(Clone, Copy)]
-pub struct Opening {
-    pub slots: u32,
-    pub start: u64,
-}
-
-/// The rule of the table: between any two steps, no slot's number is below one that a seat has seen or made
-/// there, and each above the first was made by a seat of its slot.
+/// The rule of the table, between any two steps: a run of the steps of its seats leads here from the opening,
+/// each seat has seen a beginning of it, and no slot's number is below one that a seat has seen or made
+/// there.
 pub struct Rule;
 
-impl TableRule<(), View, Opening> for Rule {
-    ghost use Rattle.kf_notify.specs.Rule.{Shown, opened};
+impl TableRule<(), Sight, Opening> for Rule {
+    ghost use Rattle.kf_notify.specs.History.{Kept, first_sight};
 
-    ghost holds = { λ o. Shown o.slots o.start };
+    ghost holds = { Kept };
 
-    ghost first = { λ o. opened o.start };
+    ghost first = { first_sight };
 }
 
-pub(crate) type NumberTable = Table<(), View, Opening, Rule, Global>;
+pub(crate) type NumberTable = Table<(), Sight, Opening, Rule, Global>;
 
 /// The numbers of all slots, and beside them for each how many threads sleep on it. No clause speaks of these
 /// counts: who sleeps and who wakes read them, and nobody else.

@@ -1,13 +1,13 @@
-use Rattle.std.proofs.Common.{rules, subst, sym, ◌∙◌, ◌≡◌, ℕ, List, [], replicate, arith}
+use Rattle.std.proofs.Common.{rules, subst, sym, ◌∙◌, ◌≡◌, ℕ, List, [], replicate}
 use Rattle.std.specs.Prelude.{max}
-use Rattle.kf_notify.specs.Rule.{Shown, opened}
+use Rattle.kf_notify.specs.declared.sight.Opening.{Opening}
+use Rattle.kf_notify.specs.History.{Kept, first_sight}
 use Rattle.atomic_table.specs.Table.{opening}
-use Rattle.kf_notify.proofs.Allowed.{opening_shown}
+use Rattle.kf_notify.proofs.Histories.{opens_kept}
 use Rattle.kf_notify.proofs.posts.Posts.new_at.Goals as goal
 
 pub of_words-requires : goal.of_words-requires
 of_words-requires c =
-    let count : ℕ = max c.args.slots 1 in
-    let items : c.in_ok-words.words.items ≡ replicate count c.args.start = search rules in
-    subst (λ (words : List ℕ). Shown c.args.slots c.args.start (opening words [] (opened c.args.start))) (sym (c.as_slice.ensures.value ∙ items))
-    (opening_shown c.args.slots count c.args.start (omega arith))
+    let o : Opening = record { slots = c.args.slots; start = c.args.start } in
+    let items : c.in_ok-words.words.items ≡ replicate (max c.args.slots 1) c.args.start = search rules in
+    subst (λ (words : List ℕ). Kept o (opening words [] (first_sight o))) (sym (c.as_slice.ensures.value ∙ items)) (opens_kept o)

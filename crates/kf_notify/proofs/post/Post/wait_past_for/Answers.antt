@@ -1,0 +1,18 @@
+use Rattle.std.proofs.Common.{rules}
+use Rattle.kf_notify.proofs.Waits.{one_more, at_last}
+use Rattle.kf_notify.proofs.post.Post.wait_past_for.Goals as goal
+
+pub returns-then-found-seen-clause-loads : goal.returns-then-found-seen-clause-loads
+returns-then-found-seen-clause-loads g c = at_last _ _ _ _ _ _ _ _ c.loop.invariant.same.slot (search rules) c.loop.invariant.loads c.now-found.ensures.next
+
+pub returns-in_err-left-clause-loads : goal.returns-in_err-left-clause-loads
+returns-in_err-left-clause-loads g c = at_last _ _ _ _ _ _ _ _ c.loop.invariant.same.slot (search rules) c.loop.invariant.loads c.now-found.ensures.next
+
+pub loop-preserved : goal.loop-preserved
+loop-preserved g c = record {
+  same = search rules;
+  seen = search rules;
+  made = search rules;
+  steps = search rules;
+  loads = one_more _ _ _ _ _ _ _ c.loop.invariant.same.slot (search rules) c.loop.invariant.loads c.now-found.ensures.next;
+}

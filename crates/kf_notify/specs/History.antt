@@ -1,0 +1,87 @@
+-- The one run: what the rule keeps of it between any two steps.
+use Rattle.std.specs.Prelude.{◌≡◌, ◌⊎◌, ℕ, ◌<◌, ◌≤◌, max, List, [], ◌++◌, map, replicate, Contains}
+use mathlib.Core.Option.{some}
+use mathlib.Core.List.{IsPrefix}
+use lib.ListN.{get_elem?}
+use Rattle.atomic_table.specs.Table.{State, opening}
+use Rattle.kf_notify.specs.declared.sight.Opening.{Opening}
+use Rattle.kf_notify.specs.declared.sight.Seen.{Seen}
+use Rattle.kf_notify.specs.declared.sight.Sight.{Sight}
+use Rattle.kf_notify.specs.Rule.{Table, Shown, number_at, opened}
+use Rattle.kf_notify.specs.Steps.{doubled}
+use Rattle.kf_notify.specs.TableSteps.{Kind, raises, NumberRun, opened_table}
+
+-- the words, and what each seat knows
+abbrev pub SeenTable : Type 0
+SeenTable = State (Unit {0}) Sight
+
+-- the table without what its seats have seen
+abbrev pub erased : SeenTable → Table
+erased t = record { words = t.words; homes = t.homes; views = map (λ (s : Sight). s.view) t.views }
+
+-- the table that opens so
+abbrev pub opened_as : Opening → Table
+opened_as o = opened_table o.slots o.start
+
+-- what the first seat knows at the opening: nothing has been done
+abbrev pub first_sight : Opening → Sight
+first_sight o = record { view = opened o.start; seen = record { opening = o; steps = [] } }
+
+-- what a new seat knows: as much of the run as the seat that it was made of, and no step of its own
+abbrev pub given : Sight → Sight
+given s = record { view = doubled s.view; seen = s.seen }
+
+-- a beginning of the run of these steps, from this opening
+abbrev pub IsBeginning : Opening → Seen → List Kind → Type 0
+IsBeginning o seen log = (seen.opening ≡ o) × IsPrefix seen.steps log
+
+-- one run leads here from the opening, each seat has seen a beginning of it, and the words show the views of
+-- all seats
+pub record Kept (o : Opening) (t : SeenTable) : Type 0 where
+  pub log : List Kind
+  pub run : NumberRun o.slots (opened_as o) log (erased t)
+  pub seen : (place : ℕ) (s : Sight) → get_elem? t.views place ≡ some s → IsBeginning o s.seen log
+  pub shown : Shown o.slots o.start (erased t)
+
+-- in each table that meets the rule
+abbrev pub OfEachKept : ((o : Opening) (t : SeenTable) → List Kind → Type 0) → Type 0
+OfEachKept Law = (o : Opening) (t : SeenTable) (kept : Kept o t) → Law o t kept.log
+
+-- the rule holds at each opening
+abbrev pub OpensKept : Type 0
+OpensKept = (o : Opening) → Kept o (opening (replicate (max o.slots 1) o.start) [] (first_sight o))
+
+-- its words and views are at the end of a run from the opening
+abbrev pub EndsARun : Type 0
+EndsARun = OfEachKept (λ o t log. NumberRun o.slots (opened_as o) log (erased t)
+    × Shown o.slots o.start (erased t))
+
+-- what a seat has seen leads from the opening to a table that met the rule, and from there the run went on to
+-- the table as it is, in which no number has gone back since
+abbrev pub SeenLeadsHere : Type 0
+SeenLeadsHere = OfEachKept
+    (λ o t log. (place : ℕ) (s : Sight) → get_elem? t.views place ≡ some s → (s.seen.opening ≡ o)
+    × (later : List Kind) × (mid : Table) × (s.seen.steps ++ later ≡ log) × Shown o.slots o.start mid
+    × NumberRun o.slots (opened_as o) s.seen.steps mid × NumberRun o.slots mid later (erased t)
+    × ((slot : ℕ) → number_at mid slot ≤ number_at (erased t) slot))
+
+-- a number to which a slot's was raised, at any moment of the one run so far, is not above it as it is
+abbrev pub RaisedEverAfter : Type 0
+RaisedEverAfter = OfEachKept (λ o t log. (seat slot number : ℕ) → Contains log (raises seat slot number)
+    → number ≤ number_at (erased t) slot)
+
+-- a slot's number is the first, or the one run has raised it to this
+abbrev pub FirstOrRaised : Type 0
+FirstOrRaised = OfEachKept (λ o t log. (slot : ℕ) → slot < o.slots → (number_at (erased t) slot ≡ o.start)
+    ⊎ ((seat : ℕ) × Contains log (raises seat slot (number_at (erased t) slot))))
+
+-- of two seats, one has seen as much of the one run as the other, or more
+abbrev pub OneRunIsSeen : Type 0
+OneRunIsSeen = OfEachKept
+    (λ o t log. (i j : ℕ) (a b : Sight) → get_elem? t.views i ≡ some a → get_elem? t.views j ≡ some b
+    → IsPrefix a.seen.steps b.seen.steps ⊎ IsPrefix b.seen.steps a.seen.steps)
+
+-- a run of the same steps from the same table ends at the same table
+abbrev pub OneEnd : Type 0
+OneEnd = (slots : ℕ) (t u v : Table) (kinds : List Kind) → NumberRun slots t kinds u
+    → NumberRun slots t kinds v → u ≡ v

@@ -1,0 +1,75 @@
+-- What a step of a seat tells: that it was the next of the one run, and what that had come to.
+use Rattle.std.specs.Prelude.{◌≡◌, ℕ, zero, suc, ◌+◌, List, [], ◌∷◌, ◌++◌}
+use Rattle.atomic_table.specs.Table.{Step}
+use Rattle.kf_notify.specs.declared.sight.Seen.{Seen}
+use Rattle.kf_notify.specs.declared.sight.Sight.{Sight}
+use Rattle.kf_notify.specs.Rule.{Table, Shown, IsSeated, number_at}
+use Rattle.kf_notify.specs.Steps.{Sighted, plain, Loads, Raises}
+use Rattle.kf_notify.specs.TableSteps.{Kind, loads, raises, NumberStep, NumberRun}
+use Rattle.kf_notify.specs.History.{opened_as}
+
+-- the run that was seen before went on by the steps between, then by this one, and so far it is seen after
+abbrev pub SawNext : Seen → List Kind → Kind → Seen → Type 0
+SawNext before between kind after =
+    after ≡ record { opening = before.opening; steps = (before.steps ++ between) ++ kind ∷ [] }
+
+-- the run that was seen, and then these steps, lead to this table
+abbrev pub LeadsTo : Seen → List Kind → Table → Type 0
+LeadsTo seen between t =
+    NumberRun seen.opening.slots (opened_as seen.opening) (seen.steps ++ between) t
+
+-- the seat's step was the next of the one run, which had gone on from all that the seat had seen before to
+-- the table that it found. That met the rule, and had the seat's view before it
+pub record WasMade (kind : ℕ → Kind) (before after : Sight) : Type 0 where
+  pub between : List Kind
+  pub found : Table
+  pub left : Table
+  pub seat : ℕ
+  pub run : LeadsTo before.seen between found
+  pub shown : Shown before.seen.opening.slots before.seen.opening.start found
+  pub step : NumberStep before.seen.opening.slots found (kind seat) left
+  pub was : IsSeated found seat before.view
+  pub is : IsSeated left seat after.view
+  pub seen : SawNext before.seen between (kind seat) after.seen
+
+-- as WasMade: this seat loaded the number of this slot between these two sights of it, and found this number
+-- there
+abbrev pub WasLoad : ℕ → ℕ → Sight → Sight → Type 0
+WasLoad slot number before after = (made : WasMade (λ seat. loads seat slot) before after)
+    × (number_at made.found slot ≡ number)
+
+-- as WasMade: this seat raised the number of this slot to this one between these two sights of it
+abbrev pub WasRaise : ℕ → ℕ → Sight → Sight → Type 0
+WasRaise slot number = WasMade (λ seat. raises seat slot number)
+
+-- this seat loaded the number of this slot, and then raised that to the next of what it found, which is this
+pub record WasNotify (slot number : ℕ) (before after : Sight) : Type 0 where
+  pub found : ℕ
+  pub loaded : Sight
+  pub load : WasLoad slot found before loaded
+  pub one_more : number ≡ found + 1
+  pub raise : WasRaise slot number loaded after
+
+-- so many loads of this slot, one after another and no other step of this seat between them, each of which
+-- found this number
+abbrev pub WereLoads : ℕ → ℕ → ℕ → Sight → Sight → Type 0
+WereLoads slot number zero before after = after ≡ before
+WereLoads slot number (suc count) before after =
+    (between : Sight) × WereLoads slot number count before between × WasLoad slot number between after
+
+-- all that a wait past the number `seen` does: loads of this slot that found that, if any, and a last one,
+-- which found this number
+pub record OnlyLoads (slot seen number : ℕ) (before after : Sight) : Type 0 where
+  pub count : ℕ
+  pub last : Sight
+  pub others : WereLoads slot seen count before last
+  pub load : WasLoad slot number last after
+
+-- what a load tells: the view after it, and that it was the next of the one run
+abbrev pub MakesLoad : Step (Unit {0}) → Sighted → ℕ → Sighted → Type 0
+MakesLoad st me found me' = Loads st (plain me) found (plain me') × WasLoad st.word found me.0 me'.0
+
+-- what a raise tells: the view after it, and that it was the next of the one run
+abbrev pub MakesRaise : Step (Unit {0}) → Sighted → ℕ → Sighted → Type 0
+MakesRaise st me found me' =
+    Raises st (plain me) found (plain me') × WasRaise st.word st.first me.0 me'.0
