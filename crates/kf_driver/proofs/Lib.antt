@@ -1,3 +1,4 @@
+pub mod Fronts
 pub mod Openings
 pub mod Places
 pub mod Telling

@@ -1,3 +1,4 @@
+pub mod Buffers
 pub mod Opening
 pub mod Places
 pub mod Ready

@@ -1,7 +1,8 @@
 //! The callbacks of the files of a table's attributes.
+ghost use Rattle.std.specs.Prelude.{◌≡◌};
 
 use crate::table::Table;
-use kf_files::{Fault, Page, WaitOps};
+use kf_files::{Fault, Page, WaitBinaryOps, WaitOps};
 use kf_shared::{Naming, SharedTree};
 use kf_words::Call;
 use std::sync::Wait;
@@ -11,6 +12,15 @@ use std::sync::Wait;
 pub struct Driver<T> {
     /// The attributes.
     pub table: T,
+}
+
+impl<T> Driver<T> {
+    /// The callbacks of this table.
+    pub fn new(table: T) -> Driver<T>
+        ensures table { result.table ≡ table }
+    {
+        Driver { table }
+    }
 }
 
 impl<T: Table, N: Naming> WaitOps<N> for Driver<T> {
@@ -38,5 +48,35 @@ impl<T: Table, N: Naming> WaitOps<N> for Driver<T> {
         bytes: &[u8],
     ) -> Result<usize, Fault> {
         self.table.store(tag, bytes)
+    }
+}
+
+impl<T: Table, N: Naming> WaitBinaryOps<N> for Driver<T> {
+    ghost may_read_at = { λ driver. T.may_read_at driver.table };
+
+    ghost may_write_at = { λ driver. T.may_write_at driver.table };
+
+    fn read_at<R: Wait>(
+        &self,
+        _rt: &R,
+        _tree: &SharedTree<N>,
+        _call: &mut Call,
+        tag: u64,
+        offset: u64,
+        out: &mut [u8],
+    ) -> Result<usize, Fault> {
+        self.table.read_at(tag, offset, out)
+    }
+
+    fn write_at<R: Wait>(
+        &self,
+        _rt: &R,
+        _tree: &SharedTree<N>,
+        _call: &mut Call,
+        tag: u64,
+        offset: u64,
+        bytes: &[u8],
+    ) -> Result<usize, Fault> {
+        self.table.write_at(tag, offset, bytes)
     }
 }

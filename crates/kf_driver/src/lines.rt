@@ -5,6 +5,7 @@ ghost use Rattle.kf_driver.specs.Places.{place_of, row_of};
 use crate::line_tags::LineTags;
 use crate::table::Table;
 use kf_files::{Fault, Page};
+use kf_groups::Attribute;
 
 impl LineTags {
     /// The tag of a file of a line, both counted from 0. No other file of any line has it.
@@ -15,7 +16,32 @@ impl LineTags {
         ensures tag { result ≡ line * self.now.files + file + self.now.first }
         ensures placed { place_of self.now result ≡ Some (line, file) }
     {
-        u64::from(line) * u64::from(self.files) + u64::from(file) + u64::from(self.first)
+        self.tag_of(line, u64::from(file))
+    }
+
+    /// The attribute of a line: that of this name and mode whose tag among those of one line is its own.
+    ///
+    /// Condition: a line has a file of that tag.
+    pub fn attribute<'a>(&self, line: u32, attribute: Attribute<'a>) -> Attribute<'a>
+        requires within { attribute.tag < self.now.files }
+        ensures name { result.name.now ≡ attribute.entry.name.now }
+        ensures mode { result.mode ≡ attribute.entry.mode }
+        ensures placed { place_of self.now result.tag ≡ Some (line, attribute.entry.tag) }
+    {
+        Attribute {
+            name: attribute.name,
+            mode: attribute.mode,
+            tag: self.tag_of(line, attribute.tag),
+        }
+    }
+
+    // The tag of a file of a line.
+    fn tag_of(&self, line: u32, file: u64) -> u64
+        requires within { file < self.now.files }
+        ensures tag { result ≡ line * self.now.files + file + self.now.first }
+        ensures placed { place_of self.now result ≡ Some (line, file) }
+    {
+        u64::from(line) * u64::from(self.files) + file + u64::from(self.first)
     }
 
     // Which file of which line has the tag. None where it is below all of them.
@@ -69,6 +95,14 @@ impl<A: Table, B: Table> Table for Lines<'_, A, B> {
     ghost may_store = { λ rows tag bytes answer. MatchOption (row_of rows.tags rows.lines.now tag)
         (B.may_store rows.others tag bytes answer) (λ row. A.may_store row.0 row.1 bytes answer) };
 
+    ghost may_read_at = { λ rows tag offset room answer. MatchOption (row_of rows.tags rows.lines.now tag)
+        (B.may_read_at rows.others tag offset room answer)
+        (λ row. A.may_read_at row.0 row.1 offset room answer) };
+
+    ghost may_write_at = { λ rows tag offset bytes answer. MatchOption (row_of rows.tags rows.lines.now tag)
+        (B.may_write_at rows.others tag offset bytes answer)
+        (λ row. A.may_write_at row.0 row.1 offset bytes answer) };
+
     fn show(&self, tag: u64, page: &mut Page) -> Result<(), Fault> {
         match self.row_of(tag) {
             Some((line, file)) => line.show(file, page),
@@ -80,6 +114,20 @@ impl<A: Table, B: Table> Table for Lines<'_, A, B> {
         match self.row_of(tag) {
             Some((line, file)) => line.store(file, bytes),
             None => self.others.store(tag, bytes),
+        }
+    }
+
+    fn read_at(&self, tag: u64, offset: u64, out: &mut [u8]) -> Result<usize, Fault> {
+        match self.row_of(tag) {
+            Some((line, file)) => line.read_at(file, offset, out),
+            None => self.others.read_at(tag, offset, out),
+        }
+    }
+
+    fn write_at(&self, tag: u64, offset: u64, bytes: &[u8]) -> Result<usize, Fault> {
+        match self.row_of(tag) {
+            Some((line, file)) => line.write_at(file, offset, bytes),
+            None => self.others.write_at(tag, offset, bytes),
         }
     }
 }

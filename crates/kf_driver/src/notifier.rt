@@ -1,6 +1,8 @@
 //! A post that callbacks may raise.
 ghost use Rattle.std.specs.Prelude.{◌≡◌};
 
+use crate::table::Callbacks;
+use kf_files::{Fault, Page};
 use kf_notify::{Full, Post};
 use std::sync::{Mutex, Wait};
 
@@ -26,5 +28,44 @@ impl<'a, R: Wait> Notifier<'a, R> {
     /// Context: takes the lock of the post.
     pub fn notify(&self) -> Result<u64, Full> {
         self.post.lock(self.rt).notify()
+    }
+}
+
+/// An attribute that tells who polls its file when it was stored.
+#[derive(Drop)]
+pub struct Notifying<'a, A, R> {
+    /// What is shown and stored.
+    pub callbacks: A,
+    /// The notifier of its file's slot.
+    pub notifier: Notifier<'a, R>,
+}
+
+impl<'a, A, R> Notifying<'a, A, R> {
+    /// The attribute of these callbacks, which tells by the notifier.
+    pub fn new(callbacks: A, notifier: Notifier<'a, R>) -> Notifying<'a, A, R>
+        ensures callbacks { result.callbacks ≡ callbacks }
+    {
+        Notifying {
+            callbacks,
+            notifier,
+        }
+    }
+}
+
+impl<A: Callbacks, R: Wait> Callbacks for Notifying<'_, A, R> {
+    ghost shows = { λ told filled. A.shows told.callbacks filled };
+
+    ghost takes = { λ told bytes answer. A.takes told.callbacks bytes answer };
+
+    ghost stores = { λ told. A.stores told.callbacks };
+
+    fn show(&self, page: &mut Page) -> Result<(), Fault> {
+        self.callbacks.show(page)
+    }
+
+    fn store(&self, bytes: &[u8]) -> Result<(), Fault> {
+        self.callbacks.store(bytes)?;
+        let _ = self.notifier.notify();
+        Ok(())
     }
 }

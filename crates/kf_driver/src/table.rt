@@ -1,6 +1,7 @@
 //! Attributes with their callbacks, one row for each.
-ghost use Rattle.std.specs.Prelude.{◌≡◌, ◌==◌, ◌<◌, ◌≤◌, ℕ, Bool, true, List, [], length, Result, Err, MatchBool};
+ghost use Rattle.std.specs.Prelude.{◌≡◌, ◌==◌, ◌<◌, ◌≤◌, ℕ, Bool, true, List, [], length, Result, Err, IfOk, MatchBool};
 ghost use Rattle.kf_files.specs.declared.ops.Fault.{Fault};
+ghost use Rattle.kf_files.specs.Binary.{front_of};
 ghost use Rattle.kf_files.specs.Files.{filled_by, is_writable};
 ghost use Rattle.kf_driver.specs.Tables.{TakesAll, unknown};
 
@@ -43,6 +44,12 @@ pub trait Table {
     /// A store of these bytes for this tag may answer this.
     ghost may_store: { Self → ℕ → List ℕ → Result ℕ Fault → Type 0 };
 
+    /// A read for this tag from this offset on, into this much room, may give these bytes, or this fault.
+    ghost may_read_at: { Self → ℕ → ℕ → ℕ → Result (List ℕ) Fault → Type 0 };
+
+    /// A write for this tag at this offset of these bytes may answer this.
+    ghost may_write_at: { Self → ℕ → ℕ → List ℕ → Result ℕ Fault → Type 0 };
+
     /// Shows the attribute of this tag on the empty page.
     fn show(&self, tag: u64, page: &mut Page) -> Result<(), Fault>
         requires empty { page.old.items ≡ [] }
@@ -53,6 +60,20 @@ pub trait Table {
         requires some { 0 < length bytes.now }
         requires fits { length bytes.now ≤ 4096 }
         ensures stored { may_store self.now tag bytes.now result };
+
+    /// Reads the binary attribute of this tag from the offset on into the front of `out`, which has room for
+    /// a byte or more, and answers how many bytes those are.
+    fn read_at(&self, tag: u64, offset: u64, out: &mut [u8]) -> Result<usize, Fault>
+        requires some { 0 < length out.old }
+        ensures fits { IfOk result (λ count. count ≤ length out.new) }
+        ensures read { may_read_at self.now tag offset (length out.old) (front_of result out.new) };
+
+    /// Writes the bytes, one or more, into the binary attribute of this tag at the offset, and answers how
+    /// many of them it took.
+    fn write_at(&self, tag: u64, offset: u64, bytes: &[u8]) -> Result<usize, Fault>
+        requires some { 0 < length bytes.now }
+        ensures fits { IfOk result (λ count. count ≤ length bytes.now) }
+        ensures written { may_write_at self.now tag offset bytes.now result };
 }
 
 /// An attribute with its callbacks, and the rows after it. Of two rows of one tag the first counts.
@@ -93,6 +114,12 @@ impl<A: Callbacks, B: Table> Table for Row<A, B> {
     ghost may_store = { λ row tag bytes answer. MatchBool (tag == row.tag)
         (TakesAll (A.takes row.callbacks bytes) bytes answer) (B.may_store row.others tag bytes answer) };
 
+    ghost may_read_at = { λ row tag offset room answer. MatchBool (tag == row.tag)
+        (answer ≡ Err unknown) (B.may_read_at row.others tag offset room answer) };
+
+    ghost may_write_at = { λ row tag offset bytes answer. MatchBool (tag == row.tag)
+        (answer ≡ Err unknown) (B.may_write_at row.others tag offset bytes answer) };
+
     fn show(&self, tag: u64, page: &mut Page) -> Result<(), Fault> {
         if tag == self.tag {
             return self.callbacks.show(page);
@@ -107,6 +134,20 @@ impl<A: Callbacks, B: Table> Table for Row<A, B> {
         }
         self.others.store(tag, bytes)
     }
+
+    fn read_at(&self, tag: u64, offset: u64, out: &mut [u8]) -> Result<usize, Fault> {
+        if tag == self.tag {
+            return Err(Fault { number: 22 });
+        }
+        self.others.read_at(tag, offset, out)
+    }
+
+    fn write_at(&self, tag: u64, offset: u64, bytes: &[u8]) -> Result<usize, Fault> {
+        if tag == self.tag {
+            return Err(Fault { number: 22 });
+        }
+        self.others.write_at(tag, offset, bytes)
+    }
 }
 
 impl Table for End {
@@ -114,11 +155,23 @@ impl Table for End {
 
     ghost may_store = { λ _ _ _ answer. answer ≡ Err unknown };
 
+    ghost may_read_at = { λ _ _ _ _ answer. answer ≡ Err unknown };
+
+    ghost may_write_at = { λ _ _ _ _ answer. answer ≡ Err unknown };
+
     fn show(&self, _tag: u64, _page: &mut Page) -> Result<(), Fault> {
         Err(Fault { number: 22 })
     }
 
     fn store(&self, _tag: u64, _bytes: &[u8]) -> Result<usize, Fault> {
+        Err(Fault { number: 22 })
+    }
+
+    fn read_at(&self, _tag: u64, _offset: u64, _out: &mut [u8]) -> Result<usize, Fault> {
+        Err(Fault { number: 22 })
+    }
+
+    fn write_at(&self, _tag: u64, _offset: u64, _bytes: &[u8]) -> Result<usize, Fault> {
         Err(Fault { number: 22 })
     }
 }

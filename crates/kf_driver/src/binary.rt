@@ -1,0 +1,143 @@
+//! Binary attributes with their callbacks, one row for each.
+ghost use Rattle.std.specs.Prelude.{◌≡◌, ◌==◌, ◌<◌, ◌≤◌, ℕ, Bool, true, false, List, length, Ok, Err, Result, IfOk, MatchBool};
+ghost use Rattle.kf_files.specs.declared.ops.Fault.{Fault};
+ghost use Rattle.kf_files.specs.Binary.{front_of};
+ghost use Rattle.kf_files.specs.Files.{is_writable, slice};
+ghost use Rattle.kf_driver.specs.Buffers.{GivesWithin, TakesWithin};
+ghost use Rattle.kf_driver.specs.Tables.{unknown};
+
+use crate::buffers::read_from_buffer;
+use crate::table::Table;
+use kf_files::{Fault, Page};
+use kf_groups::Attribute;
+
+/// What a binary attribute reads and writes, bytes at an offset with no page (`read` and `write` of `struct
+/// bin_attribute`). Any number of threads may call both at once.
+pub trait BinaryCallbacks {
+    /// A read from this offset on, into this much room, may give these bytes, or this fault. Where a driver
+    /// does not say, any.
+    ghost gives: { Self → ℕ → ℕ → Result (List ℕ) Fault → Type 0 } = { λ _ _ _ _. Unit {0} };
+
+    /// A write at this offset of these bytes may answer this. Where a driver does not say what, anything.
+    ghost takes: { Self → ℕ → List ℕ → Result ℕ Fault → Type 0 } = { λ _ _ _ _. Unit {0} };
+
+    /// Whether it takes writes at all.
+    ghost writes: { Self → Bool } = { λ _. true };
+
+    /// Puts the bytes from the offset on into the front of `out`, in which there is room for one or more, and
+    /// answers how many those are, 0 past the end; or gives a fault.
+    fn read_at(&self, offset: u64, out: &mut [u8]) -> Result<usize, Fault>
+        requires some { 0 < length out.old }
+        ensures fits { IfOk result (λ count. count ≤ length out.new) }
+        ensures read { gives self.now offset (length out.old) (front_of result out.new) };
+
+    /// Takes the bytes at the offset, one or more, and answers how many it took from their front, or gives a
+    /// fault. For a file that nobody may write it is never called.
+    fn write_at(&self, offset: u64, bytes: &[u8]) -> Result<usize, Fault>
+        requires some { 0 < length bytes.now }
+        ensures fits { IfOk result (λ count. count ≤ length bytes.now) }
+        ensures written { takes self.now offset bytes.now result };
+}
+
+/// A binary attribute of so many bytes with its callbacks, and the rows after it. Of two rows of one tag the
+/// first counts.
+#[derive(Drop)]
+pub struct BinaryRow<A, B> {
+    tag: u64,
+    size: u64,
+    callbacks: A,
+    others: B,
+}
+
+impl<A: BinaryCallbacks, B> BinaryRow<A, B> {
+    /// The row of this attribute, before the others. Its callbacks see no byte beyond the size: a read past it
+    /// gives none, a write past it is Fault 6 (`ENXIO`). Where there is no such end, it is `u64::MAX`.
+    ///
+    /// Condition: its mode lets somebody write exactly where the callbacks take writes.
+    pub fn new(attribute: Attribute, size: u64, callbacks: A, others: B) -> BinaryRow<A, B>
+        requires mode { is_writable attribute.mode ≡ A.writes callbacks }
+        ensures tag { result.tag ≡ attribute.entry.tag }
+        ensures size { result.size ≡ size }
+        ensures callbacks { result.callbacks ≡ callbacks }
+        ensures others { result.others ≡ others }
+    {
+        BinaryRow {
+            tag: attribute.tag,
+            size,
+            callbacks,
+            others,
+        }
+    }
+}
+
+impl<A: BinaryCallbacks, B: Table> Table for BinaryRow<A, B> {
+    ghost may_show = { λ row tag filled. MatchBool (tag == row.tag)
+        (filled ≡ Err unknown) (B.may_show row.others tag filled) };
+
+    ghost may_store = { λ row tag bytes answer. MatchBool (tag == row.tag)
+        (answer ≡ Err unknown) (B.may_store row.others tag bytes answer) };
+
+    ghost may_read_at = { λ row tag offset room answer. MatchBool (tag == row.tag)
+        (GivesWithin (A.gives row.callbacks offset) row.size offset room answer)
+        (B.may_read_at row.others tag offset room answer) };
+
+    ghost may_write_at = { λ row tag offset bytes answer. MatchBool (tag == row.tag)
+        (TakesWithin (A.takes row.callbacks offset) row.size offset bytes answer)
+        (B.may_write_at row.others tag offset bytes answer) };
+
+    fn show(&self, tag: u64, page: &mut Page) -> Result<(), Fault> {
+        if tag == self.tag {
+            return Err(Fault { number: 22 });
+        }
+        self.others.show(tag, page)
+    }
+
+    fn store(&self, tag: u64, bytes: &[u8]) -> Result<usize, Fault> {
+        if tag == self.tag {
+            return Err(Fault { number: 22 });
+        }
+        self.others.store(tag, bytes)
+    }
+
+    fn read_at(&self, tag: u64, offset: u64, out: &mut [u8]) -> Result<usize, Fault> {
+        if tag != self.tag {
+            return self.others.read_at(tag, offset, out);
+        }
+        if offset >= self.size {
+            return Ok(0);
+        }
+        let room = out.len().min((self.size - offset) as usize);
+        self.callbacks.read_at(offset, &mut out[..room])
+    }
+
+    fn write_at(&self, tag: u64, offset: u64, bytes: &[u8]) -> Result<usize, Fault> {
+        if tag != self.tag {
+            return self.others.write_at(tag, offset, bytes);
+        }
+        if offset >= self.size {
+            return Err(Fault { number: 6 });
+        }
+        let count = bytes.len().min((self.size - offset) as usize);
+        self.callbacks.write_at(offset, &bytes[..count])
+    }
+}
+
+/// Bytes that are only read (`BIN_ATTR_SIMPLE_RO`).
+#[derive(Clone, Copy)]
+pub struct Bytes<'a>(pub &'a [u8]);
+
+impl BinaryCallbacks for Bytes<'_> {
+    ghost gives = { λ bytes offset room answer. answer ≡ Ok (slice bytes.0.now offset room) };
+
+    ghost takes = { λ _ _ _ answer. answer ≡ Err unknown };
+
+    ghost writes = { λ _. false };
+
+    fn read_at(&self, offset: u64, out: &mut [u8]) -> Result<usize, Fault> {
+        Ok(read_from_buffer(self.0, offset, out))
+    }
+
+    fn write_at(&self, _offset: u64, _bytes: &[u8]) -> Result<usize, Fault> {
+        Err(Fault { number: 22 })
+    }
+}
