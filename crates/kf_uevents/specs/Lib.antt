@@ -1,0 +1,4 @@
+pub mod Logs
+pub mod News
+pub mod Moves
+pub mod Removals

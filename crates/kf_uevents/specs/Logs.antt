@@ -1,0 +1,53 @@
+-- The list of all events, and what is kept of it.
+use Rattle.std.specs.Prelude.{◌≡◌, ℕ, ◌+◌, ◌-◌, ◌^◌, ◌<◌, ◌≤◌, List, ◌++◌, drop, length, slice_get, Some}
+use Rattle.kf_uevents.specs.declared.log.Reading.{Reading}
+use Rattle.kf_uevents.specs.declared.log.Reading.TheVariants.{Next, Lost, NoneYet}
+use Rattle.kf_uevents.specs.declared.uevent.Uevent.{Uevent}
+
+-- what contracts see of a list of events: for how many it has room, the number of the first that is kept, and
+-- those that are kept
+pub record LogState : Type 0 where
+  pub room : ℕ
+  pub first : ℕ
+  pub kept : List Uevent
+
+-- these are all events that were ever told, the number of each its place among them; the last of them are
+-- kept, as many as there is room for
+pub record IsLogOf (all : List Uevent) (s : LogState) : Type 0 where
+  pub begins : s.first ≡ length all - s.room
+  pub ends : s.kept ≡ drop s.first all
+
+-- how many events there were
+abbrev pub told_count : LogState → ℕ
+told_count s = s.first + length s.kept
+
+-- what holds of each list of events: some events are all of it, numbers are left, and there is a place for
+-- each that is to be kept
+pub record IsKeptLog (s : LogState) (capacity : ℕ) : Type 0 where
+  pub some : (all : List Uevent) × IsLogOf all s
+  pub numbered : told_count s < 2 ^ 64
+  pub places : s.room ≤ capacity
+
+-- these events were told after all that were told before, in this order
+pub record Told (old new : LogState) (events : List Uevent) : Type 0 where
+  pub room : new.room ≡ old.room
+  pub told : (all : List Uevent) → IsLogOf all old → IsLogOf (all ++ events) new
+
+-- 2^63 events were told
+abbrev pub IsUsedUp : LogState → Type 0
+IsUsedUp s = 2 ^ 63 ≤ told_count s
+
+-- what stands at a number, where there is room for so many: the event of this number, and the next number is
+-- told; or it is lost, and the last ones, as many as there is room for, begin at the number that is told; or
+-- there are not so many events
+abbrev pub IsReading : List Uevent → ℕ → ℕ → Reading → Type 0
+IsReading all room number (Next event then) =
+    (slice_get all number ≡ Some event.now) × (then ≡ number + 1)
+IsReading all room number (Lost from) = (number < from) × (from ≡ length all - room)
+IsReading all room number NoneYet = length all ≤ number
+
+-- the number at which who read at this number goes on
+abbrev pub next_after : ℕ → Reading → ℕ
+next_after number (Next event then) = then
+next_after number (Lost from) = from
+next_after number NoneYet = number

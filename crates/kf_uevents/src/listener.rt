@@ -1,0 +1,74 @@
+//! Who reads events from where it was, and sleeps until there are more.
+ghost use Rattle.std.specs.Prelude.{◌≡◌, List};
+ghost use Rattle.kf_uevents.specs.declared.uevent.Uevent.{Uevent};
+ghost use Rattle.kf_uevents.specs.Logs.{IsLogOf, IsReading, next_after};
+
+use crate::log::{Reading, UeventLog};
+use kf_notify::Post;
+use std::marker::Model;
+use std::sync::{RwLock, Wait};
+
+/// Who reads the events of a list, each once. To a contract it is the number of the event that it reads next.
+///
+/// It sleeps on the event number of its post's slot. Whoever tells events raises that afterwards, by
+/// `Posts::notify` of the slot: a slot of its own, or that of the tree's root, which no file has.
+#[derive(Drop)]
+pub struct Listener {
+    post: Post,
+    next: u64,
+}
+
+impl Model for Listener {
+    ghost use Rattle.std.specs.Prelude.{ℕ};
+
+    ghost Value = { ℕ };
+
+    ghost view = { λ s. s.next };
+}
+
+// Sleeps until an event has the number.
+fn wait_for<R: Wait>(rt: &R, log: &RwLock<UeventLog>, post: &mut Post, number: u64) {
+    for _ in rt.forever() {
+        // The slot's number first: whoever tells an event after the look raises it, and so ends the rest.
+        let seen = post.now();
+        let count = log.read(rt).count();
+        if number < count {
+            return;
+        }
+        post.rest(rt, seen);
+    }
+    unreachable!()
+}
+
+impl Listener {
+    /// A listener that reads the event of this number first: [`UeventLog::count`] is that of the next event.
+    pub fn new(post: Post, next: u64) -> Listener
+        ensures next { result ≡ next }
+    {
+        Listener { post, next }
+    }
+
+    /// What comes next, once. After a loss it goes on at the first event that is kept.
+    pub fn read<'a>(&mut self, log: &'a UeventLog) -> Reading<'a>
+        ensures read { (all : List Uevent) → IsLogOf all log.now →
+            IsReading all log.now.room self.old result }
+        ensures moved { self.new ≡ next_after self.old result }
+    {
+        let reading = log.read_from(self.next);
+        self.next = match &reading {
+            Reading::Next { event: _, then } => *then,
+            Reading::Lost { from } => *from,
+            Reading::NoneYet => self.next,
+        };
+        reading
+    }
+
+    /// Sleeps until there is something to read, an event or a loss. It may never return.
+    ///
+    /// Context: sleeps; takes the list's lock, which its caller must not have.
+    pub fn wait<R: Wait>(&mut self, rt: &R, log: &RwLock<UeventLog>)
+        ensures same { self.new ≡ self.old }
+    {
+        wait_for(rt, log, &mut self.post, self.next);
+    }
+}
