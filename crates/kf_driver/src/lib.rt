@@ -1,5 +1,14 @@
-//! What a driver writes: tables of attributes with their callbacks in place of a `match` on tags, files that
-//! are opened by their paths, and events that are told by a file's name.
+//! A table of attributes with their callbacks: what a driver writes in place of a `match` on tags.
+//!
+//! - A `Row` is an `Attribute` with its `Callbacks`, a table is rows down to `End`, and `Driver` makes of it
+//!   the callbacks that a file is opened with. `Lines` is a table for each of several lines, with tags by
+//!   `LineTags`.
+//! - `Number`, `Signed`, `Switch` and `Text` are callbacks ready to use; `ReadOnly(..)` takes the store off
+//!   any.
+//! - `Notifier` is a post that callbacks may raise by `&`; `fault_of` makes the fault of a store that was
+//!   not read.
+//!
+//! Who makes a row shows that its mode lets somebody write exactly where the callbacks take stores.
 #![tactic(auto)]
 
 mod binary;
