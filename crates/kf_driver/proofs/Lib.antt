@@ -1,4 +1,3 @@
-pub mod Fronts
 pub mod Openings
 pub mod Places
 pub mod Telling

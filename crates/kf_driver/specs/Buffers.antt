@@ -1,6 +1,5 @@
 -- Bytes at an offset of a buffer, or of an attribute of so many bytes.
-use Rattle.std.specs.Prelude.{◌≡◌, ◌+◌, ◌-◌, ◌++◌, ℕ, nat_lt, List, [], length, take, drop, Result, Ok, Err, MatchBool}
-use Rattle.std.proofs.Common.{min}
+use Rattle.std.specs.Prelude.{◌≡◌, ◌+◌, ◌-◌, ◌++◌, ℕ, nat_lt, List, [], length, take, drop, Result, Ok, Err, MatchBool, min}
 use Rattle.kf_files.specs.declared.ops.Fault.{Fault}
 
 -- those of the bytes at an offset that are within this size
