@@ -12,7 +12,7 @@ use Rattle.kf_words.specs.Callers.{Handle}
 use Rattle.kf_words.specs.Nodes.{WasFull}
 use Rattle.kf_words.specs.declared.view.MasterView.{MasterView}
 use Rattle.kf_shared.specs.Locked.{Locked}
-use Rattle.kf_notify.specs.PostStates.{PostState, Numbers, IsNewPost}
+use Rattle.kf_notify.specs.PostStates.{PostState, Numbers, id_of, IsNewPost}
 use Rattle.kf_files.specs.declared.contents.Want.{Want}
 use Rattle.kf_files.specs.Files.{new_file, allows}
 use Rattle.kf_files.specs.Opened.{Opened}
@@ -86,7 +86,7 @@ pub record Told (t : Tree) (place : Result Key Refusal) (numbers : Numbers) (num
     (post : PostState) : Type 0 where
   pub key : Key
   pub named : file_at t place ≡ Ok key
-  pub numbers_are : post.numbers ≡ numbers
+  pub numbers_are : post.numbers ≡ id_of numbers
   pub slot_is : post.slot ≡ key.slot
   pub no_less : numbers.start ≤ post.found
   pub one_more : number ≡ post.found + 1

@@ -4,8 +4,13 @@
 //! and then raises the number of each, which wakes the sleepers. A bare wake would not do: who had tried
 //! and was not yet asleep would sleep over it. Nor would a raise before the mark: who it wakes may try
 //! before the mark, and sleep again. The same holds of a hiding.
-ghost use Rattle.std.specs.Prelude.{◌≡◌, true, None, IfErr, IfOk, OnOk};
+//!
+//! Each raise is a step of the one run of the event numbers, after all that the handle had seen: so clauses
+//! tell which numbers were raised. That they were raised after the marks no clause tells.
+ghost use Rattle.std.specs.Prelude.{◌≡◌, true, None, IfErr, IfOk, OnErr, OnOk};
 ghost use Rattle.kf_core.specs.declared.caller.Phase.TheVariants as phase_of;
+ghost use Rattle.kf_files.specs.Telling.{WasTold, WereTold};
+ghost use Rattle.kf_notify.specs.PostStates.{id_of};
 ghost use Rattle.kf_words.specs.Callers.{IsSameSeat, seat_view};
 ghost use Rattle.kf_words.specs.Layout.{is_unused};
 ghost use Rattle.kf_shared.specs.Hiding.{HidAndLooked, HideRefused, hold_cause};
@@ -19,11 +24,21 @@ use kf_words::{Hidden, Hiding, Hold, Parted, wait_hidden};
 use std::sync::Wait;
 
 /// Raises the event number of a slot, if the posts have one for it.
+#[tactic(auto, using(crate::proofs::Told::told_by, crate::proofs::Told::told_nothing))]
 fn tell(posts: &mut Posts, slot: u32)
-    ensures posts { posts.new ≡ posts.old }
+    ensures told { WasTold posts.old slot posts.new }
 {
     if slot < posts.slots() {
         let _ = posts.notify(slot);
+    }
+}
+
+/// Raises the event numbers of the slots of these holds, one after another, as `tell` does.
+fn tell_each(posts: &mut Posts, holds: &[Hold])
+    ensures told { WereTold posts.old (keys_of holds.now) posts.new }
+{
+    for hold in holds {
+        tell(posts, hold.key().slot);
     }
 }
 
@@ -31,17 +46,17 @@ fn tell(posts: &mut Posts, slot: u32)
 /// there to change: each finds its node gone. Call it between the begin of a removal and its end, whoever's
 /// call began it (`begin_removal`, `begin_removal_of`, `begin_self_removal`). It takes no memory.
 pub fn tell_removed<N: Naming>(posts: &mut Posts, removing: &Removing<N>)
-    ensures posts { posts.new ≡ posts.old }
+    ensures told { WereTold posts.old (keys_of removing.now) posts.new }
+    ensures posts { id_of posts.new ≡ id_of posts.old }
 {
-    for hold in removing.holds() {
-        tell(posts, hold.key().slot);
-    }
+    tell_each(posts, removing.holds());
 }
 
 /// Raises the event number of the file that is being hidden, and so wakes who waits for it to change: each
 /// finds that it is not live. It takes no memory.
 pub fn tell_hidden(posts: &mut Posts, hiding: &Hiding)
-    ensures posts { posts.new ≡ posts.old }
+    ensures told { WasTold posts.old hiding.now.key.slot posts.new }
+    ensures posts { id_of posts.new ≡ id_of posts.old }
 {
     tell(posts, hiding.key().slot);
 }
@@ -63,7 +78,9 @@ pub fn remove_and_tell<N: Naming, R: Wait>(
     ensures tables { IfOk result (λ receipts. AreOf N.table receipts.items) }
     ensures listed { IfOk result (λ receipts. IsRemovalOf editor.entry.state key (keys_of receipts.items)) }
     ensures refused { IfErr result (λ refusal. KeyRefused editor.entry.state key refusal) }
-    ensures posts { posts.new ≡ posts.old }
+    ensures told { IfOk result (λ receipts. WereTold posts.old (keys_of receipts.items) posts.new) }
+    ensures untold { OnErr result (posts.new ≡ posts.old) }
+    ensures posts { id_of posts.new ≡ id_of posts.old }
 {
     let mut editor = editor;
     let begun = editor.begin_removal_of(key);
@@ -94,7 +111,9 @@ pub fn hide_and_tell<N: Naming, R: Wait>(
     ensures looked { IfOk result (λ hidden. HidAndLooked (seat_view hold) (seat_view hidden)) }
     ensures no_cause { OnOk result (hold_cause editor.entry.state.tree hold ≡ None) }
     ensures refused { IfErr result (λ r. HideRefused editor.entry.state.tree hold r.0 r.1) }
-    ensures posts { posts.new ≡ posts.old }
+    ensures told { OnOk result (WasTold posts.old hold.key.slot posts.new) }
+    ensures untold { OnErr result (posts.new ≡ posts.old) }
+    ensures posts { id_of posts.new ≡ id_of posts.old }
 {
     let mut editor = editor;
     let started = editor.hide(hold);

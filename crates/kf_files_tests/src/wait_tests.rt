@@ -210,7 +210,7 @@ fn four_threads_that_wait_sleep_and_miss_no_notify(rt: HostRuntime) {
 // ---- a removal and a hiding wake them all
 
 fn removes<N: Naming, R: Wait>(rt: &R, tree: &SharedTree<N>, posts: &mut Posts, key: Key) -> bool
-    ensures { posts.new ≡ posts.old }
+    ensures { posts.new.slots ≡ posts.old.slots }
 {
     match remove_and_tell(tree.edit(rt), rt, posts, key) {
         Ok(receipts) => {
@@ -223,7 +223,7 @@ fn removes<N: Naming, R: Wait>(rt: &R, tree: &SharedTree<N>, posts: &mut Posts, 
 }
 
 fn hides<N: Naming, R: Wait>(rt: &R, tree: &SharedTree<N>, posts: &mut Posts, key: Key) -> bool
-    ensures { posts.new ≡ posts.old }
+    ensures { posts.new.slots ≡ posts.old.slots }
 {
     let held = tree.edit(rt).hold(key);
     let Ok(hold) = held else {
