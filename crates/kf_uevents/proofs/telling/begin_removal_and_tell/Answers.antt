@@ -12,8 +12,10 @@ returns-clause-told g c =
     let events = c.in_ok-events.events.items in (
       keys,
       subst (λ (s : TreeLog). IsPostOrder s.tree c.args.key keys) c.state-state.ensures.same c.in_ok-keys.ensures.ordered,
-      (events,
-      subst (λ (s : TreeLog). AreNews s.tree s.root Remove keys events) c.state-state.ensures.same
-          (subst (λ (ks : List Key). AreNews c.state-state.result.now.tree c.state-state.result.now.root Remove ks events) c.as_slice.ensures.value c.in_ok-events.ensures.news),
-      c.push_all.ensures.told),
+      (
+        events,
+        subst (λ (s : TreeLog). AreNews s.tree s.root Remove keys events) c.state-state.ensures.same
+            (subst (λ (ks : List Key). AreNews c.state-state.result.now.tree c.state-state.result.now.root Remove ks events) c.as_slice.ensures.value c.in_ok-events.ensures.news),
+        c.push_all.ensures.told,
+      ),
     )
