@@ -53,14 +53,14 @@
  *   inside, and -EAGAIN where this look saw somebody. Of the calls on a tree kt_unhide() and kt_remove() alone show it.
  * - A file is opened where its node is live and its mode allows it. A show begins where the node was entered and the
  *   event number taken, at offset 0 or where there is no text. Text is kept in a call alone that began a show.
- * - kt_remove() answers 1 only where the node was in the tree before the call and is out after it, and 0 only where it
- *   was out before, and then nothing is done.
+ * - kt_remove() answers 1 only where the node was in the tree before the call and is out after it, and 0 only where the
+ *   tree gave the key once and the node was out before, and then nothing is done.
  * - kt_unhide() answers 0 where it saw nobody inside, and then one step took what hides the file off.
  * - kt_remove() and kt_claim() mark, where that was not done before; but for marks they store only of kt_remove() that
  *   nodes of that subtree were shown and taken out.
- * - Which number each look-up, kt_commands(), kt_create_root(), kt_create_dir(), kt_create_file(), kt_create_link(),
- *   kt_activate(), kt_rename(), kt_compact(), kt_hold(), kt_post(), kt_notify(), kt_event() and kt_copy() refuse with,
- *   and its cause (-ENOMEM has none that a contract can name).
+ * - Which number each call on a tree but kt_hide(), and kt_notify(), kt_event() and kt_copy(), refuse with, and its cause
+ *   (-ENOMEM has none that a contract can name): of kt_remove() and kt_claim() -EMFILE only where a look found a node of
+ *   the subtree so.
  * - Which number kt_enter(), kt_begin_read() and kt_begin_write() refuse with, and that a hold was tried where it is
  *   -ENODEV; that kt_leave(), kt_break(), kt_restore(), kt_changed() and kt_shown() refuse with -EINVAL, and only
  *   what is not in such a call; that kt_clear() and kt_delete() refuse a tree with a file in which a hiding has yet
@@ -71,11 +71,9 @@
  * - No function reads or writes out of bounds or after a free, and each ends.
  *
  * On a node that is not in the tree nobody runs, and a key that has left it never comes again: these are laws over
- * every run of these functions' steps. Not proved: which error number comes of kt_open(), kt_claim(),
- * kt_remove(), kt_hide() and kt_unhide(); that somebody is inside where kt_remove() answers -EAGAIN, and
- * that it lets no hiding of another file go; that kt_clear() and kt_delete() let go; that kt_new() gives a handle;
- * that a call that can be done is not refused; and everything that is C, the helpers too. `make -C c test` tries
- * these.
+ * every run of these functions' steps. Not proved: which error number comes of kt_hide(); that somebody is inside where
+ * kt_remove() answers -EAGAIN, and that it lets no hiding of another file go; that kt_clear() and kt_delete() let go;
+ * that kt_new() gives a handle; that memory was refused where it is -ENOMEM; and everything that is C, the helpers too. `make -C c test` tries these.
  *
  * What a program has to keep to, which the library cannot see:
  * - A handle comes from kt_new(), is used by one function at a time, and not after kt_delete(). It may pass to another
@@ -269,9 +267,9 @@ KT_CALL(1, 3) int32_t kt_hold(struct kt_handle *tree, struct kt_key key, struct 
 
 /* Removes a node and all below it (kernfs_remove), as far as it can without waiting: marks them all, so that no
  * kt_enter() there succeeds any more, and takes each out of the tree that nobody is inside. 1: the node is out, by this
- * call; 0: it was out before, or no node of this tree ever had the key. Its holds stay valid, and never enter again.
- * -EAGAIN: somebody is inside; call again when a callback has left (kt_remove_wait() does). Before anything is marked,
- * in this order: -EINVAL (the root), -EMFILE (a node has as many holds as there may be), -ENOMEM. It takes a hold of
+ * call; 0: it was out before. Its holds stay valid, and never enter again. -EAGAIN: somebody is inside; call again when
+ * a callback has left (kt_remove_wait() does). Before anything is marked, in this order: -ENOENT (no node of this tree
+ * ever had the key), -EINVAL (the root), -EMFILE (a node has as many holds as there may be), -ENOMEM. It takes a hold of
  * each node for a moment: once marked, a node with the most holds there may be gives -EAGAIN until one is let go. A
  * call that goes on with what an earlier one has marked may answer -ENOMEM too: all stays marked; call it again. */
 KT_CALL(1) int32_t kt_remove(struct kt_handle *tree, struct kt_key key);

@@ -269,7 +269,8 @@ class Tree(_Owner):
                 self._left.wait(left)
 
     def remove(self, key):
-        """One step of a removal: 1 (out by this), 0 (it was before), KtError of EAGAIN while somebody is inside."""
+        """One step of a removal: 1 (out by this), 0 (it was before), KtError of EAGAIN while somebody is inside,
+        and of ENOENT where this tree never gave the key."""
         return self._call("remove", key)
 
     def remove_wait(self, key, seconds=None):

@@ -227,6 +227,8 @@ static void removes_itself_too_late(void)
     TRY(stat.doomed, 1);
     TRY(kt_claim(&tree, file), 1);
     TRY(kt_remove_wait(&tree, file, &lock) < 0, 0);
+    TRY(kt_remove_self_wait(&tree, &hold, file, &lock), 0); /* it was gone */
+    TRY(kt_remove_self_wait(&tree, &hold, (struct kt_key){file.slot, file.generation + 1}, &lock), -ENOENT);
     TRY(kt_remove_self_wait(&tree, &hold, root, &lock), -EINVAL);
     TRY(kt_restore(&hold), 0);
     TRY(kt_leave(&hold) < 0, 0);

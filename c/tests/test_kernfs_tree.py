@@ -88,6 +88,8 @@ class Calls(unittest.TestCase):
             self.assertFalse(tree.claim(self.fan))
         self.assertEqual(tree.remove_wait(self.fan), 1)
         self.assertEqual(tree.remove(self.fan), 0)
+        with self.refused(errno.ENOENT):
+            tree.remove(Key(self.fan.slot, self.fan.generation + 1))
         with self.refused(errno.ENODEV):
             hold.enter()
         with self.refused(errno.ENOENT):

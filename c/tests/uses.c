@@ -133,6 +133,11 @@ static void changes(void)
     TRY(commands.stored == commands.compacted, 1);
     TRY(kt_remove(&tree, key), 1);
     TRY(kt_remove(&tree, key), 0); /* it is out of the tree */
+    TRY(kt_remove(&tree, (struct kt_key){key.slot, key.generation + 1}), -ENOENT); /* not given yet */
+    TRY(kt_remove(&tree, (struct kt_key){key.slot, 0}), -ENOENT);
+    TRY(kt_remove(&tree, (struct kt_key){0, 0}), -ENOENT);
+    TRY(kt_remove(&tree, (struct kt_key){8, 1}), -ENOENT); /* no such slot */
+    TRY(kt_remove(&tree, (struct kt_key){UINT32_MAX, UINT32_MAX}), -ENOENT);
     TRY(kt_remove(&tree, root), -EINVAL);
     TRY(kt_stat(&tree, key, &stat), -ENOENT);
     TRY(kt_hold(&tree, key, &hold), -ENOENT);
@@ -142,6 +147,7 @@ static void changes(void)
     TRY(kt_remove(&tree, stale), 1);
     TRY(kt_create_dir(&tree, root, "4", 1, true, &key), 0);
     TRY(key.slot == stale.slot && key.generation == stale.generation + 1, 1);
+    TRY(kt_remove(&tree, stale), 0); /* its slot has a later node */
     TRY(kt_find(&tree, stale, "x", 1, &key), -ENOENT); /* the old key names nothing */
 }
 

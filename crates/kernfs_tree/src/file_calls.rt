@@ -1,9 +1,9 @@
 //! The calls of a program on open files. Each answers 0 or more, or a Linux error number below 0.
 ghost use Rattle.std.specs.Prelude.{◌≡◌, ◌≢◌, pos, negsuc, true, false, length};
 ghost use Rattle.kf_handles.specs.Answers.{IsAsBefore};
-ghost use Rattle.kf_handles.specs.Calls.{IsNothing, is_nothing};
-ghost use Rattle.kf_handles.specs.Files.{OpenedIn, Serves, BeganRead, HasShown, TextFrom, MayWrite, WasPolled, ReadRefused, WriteRefused, IsSamePlace, IsNotAsked, IsNotShowing, HasNoText, read_error, write_error};
-ghost use Rattle.kf_handles.specs.LookUps.{TellsText};
+ghost use Rattle.kf_handles.specs.Calls.{IsNothing, is_nothing, key_in};
+ghost use Rattle.kf_handles.specs.Files.{OpenedIn, OpenRefused, Serves, BeganRead, HasShown, TextFrom, MayWrite, WasPolled, ReadRefused, WriteRefused, IsSamePlace, IsNotAsked, IsNotShowing, HasNoText, read_error, write_error};
+ghost use Rattle.kf_handles.specs.LookUps.{IsRefusal, TellsText};
 ghost use Rattle.kf_handles.specs.Steps.{WasEntered};
 
 use kf_files::Want;
@@ -27,6 +27,9 @@ pub extern "C" fn kt_open(
     ensures tree { IsAsBefore tree.old.place.object tree.new.place.object }
     ensures same { result ≢ pos 0 → out.new.place ≡ out.old.place }
     ensures beside { tree.new.place.seat ≡ tree.old.place.seat }
+    ensures why { is_nothing out.old.place ≡ true → result ≢ pos 0 → IsRefusal
+        (OpenRefused tree.old.place.object tree.new.place.object (key_in key)
+        (record { read = read; write = write })) result }
 {
     kf_handles::open(alloc, tree, key, Want { read, write }, out)
 }

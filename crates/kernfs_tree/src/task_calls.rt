@@ -1,9 +1,11 @@
 //! The calls of a program that remove a node, and that hide a file and show it again. Each answers -EAGAIN
 //! where somebody is inside: it has begun then, and is made again.
 ghost use Rattle.std.specs.Prelude.{◌≡◌, ◌≢◌, pos, negsuc, false, true};
-ghost use Rattle.kf_handles.specs.Tasks.{IsRemovingIn, WasGoneIn, IsHiddenIn, IsUnhiddenIn, IsHiddenStillIn};
-ghost use Rattle.kf_handles.specs.Answers.{IsAsBefore};
-ghost use Rattle.kf_handles.specs.Calls.{ClaimedIn};
+ghost use Rattle.kf_handles.specs.declared.questions.Question.TheVariants as question;
+ghost use Rattle.kf_handles.specs.declared.questions.Task.TheVariants as asks;
+ghost use Rattle.kf_handles.specs.Tasks.{StepToldWhy, IsRemovingIn, WasGoneIn, IsHiddenIn, IsUnhiddenIn, IsHiddenStillIn};
+ghost use Rattle.kf_handles.specs.Answers.{IsAsBefore, ToldWhy};
+ghost use Rattle.kf_handles.specs.Calls.{ClaimedIn, key_in};
 ghost use Rattle.kf_handles.specs.Hiding.{SawNobody, SawSomebody};
 
 use kf_handles::{KtHandle, KtKey};
@@ -16,13 +18,15 @@ pub extern "C" fn kt_claim(tree: &mut KtHandle, key: KtKey) -> i32
     ensures again { result ≡ pos 1 → ClaimedIn tree.old.place.object tree.new.place.object key true }
     ensures kept { result ≢ pos 0 → result ≢ pos 1 → IsAsBefore tree.old.place.object tree.new.place.object }
     ensures beside { tree.new.place.seat ≡ tree.old.place.seat }
+    ensures why { result ≢ pos 0 → result ≢ pos 1 → ToldWhy
+        (question.Claim (key_in key)) tree.old.place.object tree.new.place.object result }
 {
     kf_handles::claim(tree, key)
 }
 
 /// Marks a node and all below it, and takes each of them out of the tree that nobody uses (`kernfs_remove`).
 /// 1 where the node is out by this, 0 where it was out before, -EAGAIN where it is not, since somebody is
-/// inside.
+/// inside; -ENOENT of a key that was never given in the tree.
 #[unsafe(no_mangle)]
 pub extern "C" fn kt_remove(tree: &mut KtHandle, key: KtKey) -> i32
     ensures out { result ≡ pos 1 →
@@ -33,6 +37,8 @@ pub extern "C" fn kt_remove(tree: &mut KtHandle, key: KtKey) -> i32
     ensures kept { result ≢ pos 0 → result ≢ pos 1 → result ≢ negsuc 10 →
         IsAsBefore tree.old.place.object tree.new.place.object }
     ensures beside { tree.new.place.seat ≡ tree.old.place.seat }
+    ensures why { result ≢ pos 0 → result ≢ pos 1 → result ≢ negsuc 10 → StepToldWhy
+        (asks.Remove (key_in key)) tree.old.place.object tree.new.place.object result }
 {
     kf_handles::remove(tree, key)
 }
@@ -61,6 +67,8 @@ pub extern "C" fn kt_unhide(tree: &mut KtHandle, key: KtKey) -> i32
     ensures kept { result ≢ pos 0 → result ≢ negsuc 10 →
         IsAsBefore tree.old.place.object tree.new.place.object }
     ensures beside { tree.new.place.seat ≡ tree.old.place.seat }
+    ensures why { result ≢ pos 0 → result ≢ negsuc 10 → StepToldWhy
+        (asks.Unhide (key_in key)) tree.old.place.object tree.new.place.object result }
 {
     kf_handles::unhide(tree, key)
 }

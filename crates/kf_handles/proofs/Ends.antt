@@ -23,7 +23,7 @@ use Rattle.kf_shared.specs.Removal.{keys_of}
 use Rattle.kf_handles.specs.declared.questions.Reply.{Reply}
 use Rattle.kf_handles.specs.declared.questions.Reply.TheVariants as told
 use Rattle.kf_handles.specs.Answers.{DoneOr}
-use Rattle.kf_handles.specs.Hiding.{IsUnhidden, IsHiddenStill}
+use Rattle.kf_handles.specs.Hiding.{IsUnhidden, IsHiddenStill, UnhidingRefused}
 use Rattle.kf_handles.specs.Removing.{IsEndOf, Ends, Removes}
 
 -- ---- ends of nodes
@@ -141,12 +141,12 @@ shown_at old new key false same claims = no_end (key ∷ []) old new same claims
 
 pub shown_or_not : (old new : Locked) (tokens tokens' : List (Option Handle)) (key : Key) (reply : Reply)
     → DoneOr (IsUnhidden old tokens new tokens' key) (IsHiddenStill old tokens new tokens' key)
-    (λ why. (new ≡ old) × (tokens' ≡ tokens)) reply
+    (λ why. UnhidingRefused old tokens key why × (new ≡ old) × (tokens' ≡ tokens)) reply
     → Ends (key ∷ []) old new
 shown_or_not old new tokens tokens' key told.Done shown =
     shown_at old new key (hidden_in old.state.tree key) shown.2 shown.3
 shown_or_not old new tokens tokens' key told.Not still = no_end_same (key ∷ []) old new still.4.0
-shown_or_not old new tokens tokens' key (told.Refused why) same = no_end_same (key ∷ []) old new same.0
+shown_or_not old new tokens tokens' key (told.Refused why) same = no_end_same (key ∷ []) old new same.1
 shown_or_not old new tokens tokens' key (told.Named k) never = absurd never
 shown_or_not old new tokens tokens' key (told.Held h) never = absurd never
 shown_or_not old new tokens tokens' key told.Gone never = absurd never

@@ -3,3 +3,4 @@ pub mod BySlot
 pub mod Ends
 pub mod Listed
 pub mod Looks
+pub mod Refusals

@@ -10,7 +10,7 @@ use Rattle.kf_tree.specs.Causes.{Refuses, linked_cause}
 use Rattle.kf_tree.specs.TreeLogs.{IsAccepted, IsCompacted}
 use Rattle.kf_words.specs.Callers.{TableId, Handle}
 use Rattle.kf_shared.specs.Locked.{Locked, Created, CreateRefused, IsHoldOfNode, HoldRefused, Unchanged, move_cause, is_claimed}
-use Rattle.kf_handles.specs.Removing.{IsMarked}
+use Rattle.kf_handles.specs.Removing.{ClaimRefused, IsMarked}
 use Rattle.kf_handles.specs.declared.object.Object.{Object}
 use Rattle.kf_handles.specs.declared.object.Object.TheVariants as behind
 use Rattle.kf_handles.specs.declared.questions.Question.{Question}
@@ -77,7 +77,7 @@ Answered table asks.Compact old new reply =
 Answered table (asks.Claim key) old new reply =
     DoneOr ((is_claimed old.claims key ≡ false) × ClaimedTo old new key × IsMarked old new key)
     ((is_claimed old.claims key ≡ true) × ClaimedTo old new key × IsMarked old new key)
-    (λ why. Unchanged old new) reply
+    (λ why. ClaimRefused old new key why × Unchanged old new) reply
 
 -- the questions that ask for a key
 abbrev pub is_naming : Question → Bool

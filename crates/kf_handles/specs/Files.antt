@@ -1,11 +1,12 @@
 -- What the calls on open files say.
-use Rattle.std.specs.Prelude.{◌≡◌, ◌<◌, ◌⊎◌, ℕ, ℤ, negsuc, Bool, true, false, not, ◌&&◌, List, Option, None, Some, IsTrue, IsSome, MatchBool}
+use Rattle.std.specs.Prelude.{◌≡◌, ◌<◌, ◌⊎◌, ℕ, ℤ, negsuc, Bool, true, false, not, ◌&&◌, List, Option, None, Some, Ok, Err, IsTrue, IsSome, MatchBool}
 use Rattle.std.specs.Option.{option_map}
 use Rattle.kf_core.specs.declared.caller.Phase.TheVariants.{Running}
+use Rattle.kf_core.specs.declared.key.Key.{Key}
 use Rattle.kf_core.specs.declared.key.Node.{Node}
 use Rattle.kf_core.specs.declared.key.Node.TheVariants.{Dir, File, Link}
 use Rattle.kf_core.specs.declared.refusal.Refusal.{Refusal}
-use Rattle.kf_core.specs.declared.refusal.Refusal.TheVariants.{IsDir, Invalid}
+use Rattle.kf_core.specs.declared.refusal.Refusal.TheVariants.{IsDir, Invalid, NoMemory}
 use Rattle.kf_core.specs.Tree.{record_at}
 use Rattle.kf_tree.specs.declared.stat.Stat.{Stat}
 use Rattle.kf_tree.specs.Stat.{stat_of}
@@ -18,7 +19,12 @@ use Rattle.kf_handles.specs.declared.object.Place.{Place}
 use Rattle.kf_handles.specs.declared.object.Seat.{Seat}
 use Rattle.kf_handles.specs.declared.object.Seat.TheVariants as seat
 use Rattle.kf_handles.specs.declared.replies.KtKey.{KtKey}
+use Rattle.kf_handles.specs.declared.questions.Question.TheVariants as asks
+use Rattle.kf_handles.specs.declared.questions.Reply.TheVariants as told
+use Rattle.kf_handles.specs.Answers.{AnsweredBehind}
 use Rattle.kf_handles.specs.Calls.{HoldsNode, key_in}
+use Rattle.kf_handles.specs.LookUps.{stat_behind}
+use Rattle.kf_handles.specs.Numbers.{PostRefused}
 use Rattle.kf_handles.specs.Steps.{WasEnteredToShow, WasRefused, IsNotRunning, enter_error}
 
 -- what is told of a node says that it is live
@@ -30,6 +36,20 @@ abbrev pub open_fault : Stat → Node → Want → Option Refusal
 open_fault stat Dir want = Some IsDir
 open_fault stat (Link target) want = Some Invalid
 open_fault stat (File mode tag) want = open_cause mode want (tells_live stat)
+
+-- what is told of the node is against opening it as wanted
+abbrev pub OpenFaultTold : Object → Key → Want → Refusal → Type 0
+OpenFaultTold tree key want why =
+    (stat : Stat) × (stat_behind tree key ≡ Ok stat) × (open_fault stat stat.node want ≡ Some why)
+
+-- why a file is not opened: nothing is told of the node; what is told is against it; its hold or its post was
+-- refused; or there was no memory
+abbrev pub OpenRefused : Object → Object → Key → Want → Refusal → Type 0
+OpenRefused old new key want why = (stat_behind old key ≡ Err why)
+    ⊎ OpenFaultTold old key want why
+    ⊎ AnsweredBehind (asks.Hold key) old new (told.Refused why)
+    ⊎ PostRefused old key why
+    ⊎ (why ≡ NoMemory)
 
 -- it is a file just opened, of a live node that the tree has, and that may be opened as wanted
 abbrev pub IsOpened : Object → KtKey → Want → Object → Type 0

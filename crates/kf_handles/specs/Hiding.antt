@@ -1,5 +1,6 @@
 -- What hiding a file and showing it again make of a tree and of its tokens.
-use Rattle.std.specs.Prelude.{◌≡◌, ◌⊎◌, ◌+◌, ℕ, true, false, List, All, Option, None, Some, IfSome, slice_get, slice_set, if◌then◌else◌}
+use Rattle.std.specs.Prelude.{◌≡◌, ◌⊎◌, ◌+◌, ◌≤◌, ℕ, true, false, List, All, Option, None, Some, IfSome, MatchBool, length, slice_get, slice_set, if◌then◌else◌}
+use Rattle.std.specs.Option.{option_map}
 use Rattle.kf_core.specs.declared.key.Key.{Key}
 use Rattle.kf_core.specs.declared.key.Node.{Node}
 use Rattle.kf_core.specs.declared.key.Node.TheVariants.{Dir, File, Link}
@@ -7,13 +8,16 @@ use Rattle.kf_core.specs.declared.caller.Phase.TheVariants as phase_of
 use Rattle.kf_core.specs.declared.command.Command.TheVariants.{Hide}
 use Rattle.kf_core.specs.declared.refusal.Refusal.{Refusal}
 use Rattle.kf_core.specs.declared.refusal.Refusal.TheVariants.{IsDir, Invalid, NoEntry}
+use Rattle.kf_core.specs.Tree.{Tree, record_at, is_linked}
 use Rattle.kf_tree.specs.declared.stat.Stat.{Stat}
+use Rattle.kf_tree.specs.Stat.{stat_of}
 use Rattle.kf_tree.specs.TreeLogs.{IsAccepted}
 use Rattle.kf_words.specs.Callers.{TableId, Handle, IsSameSeat, WasHidden, seat_view}
 use Rattle.kf_words.specs.Layout.{is_unused}
 use Rattle.kf_words.specs.Made.{WasAHide, WasALookHidden, WasAShow}
+use Rattle.kf_words.specs.Nodes.{PinRefused}
 use Rattle.kf_shared.specs.Locked.{Locked, IsHoldOfNode}
-use Rattle.kf_shared.specs.Hiding.{hold_cause, ShowDone}
+use Rattle.kf_shared.specs.Hiding.{hold_cause, HideRefused, ShowDone}
 
 -- ---- one token
 
@@ -102,3 +106,34 @@ IsUnhidden old tokens new tokens' key =
 abbrev pub IsHiddenStill : Locked → List (Option Handle) → Locked → List (Option Handle) → Key → Type 0
 IsHiddenStill old tokens new tokens' key = (token : Handle) × (token.key ≡ key) × SawSomebody token
     × (tokens' ≡ slice_set tokens key.slot (Some token)) × LookedAgain old tokens new key token
+
+-- ---- refusals
+
+-- what is told of the node is against its hiding
+abbrev pub FaultTold : Tree → Key → Refusal → Type 0
+FaultTold t key why = (stat : Stat) × (option_map (stat_of t) (record_at t key) ≡ Some stat)
+    × (hide_fault stat stat.node ≡ Some why)
+
+-- a new hold of the node was refused by the tree, or by its step
+abbrev pub NewHoldRefused : TableId → Locked → Key → Refusal → Type 0
+NewHoldRefused table old key why = (hold : Handle) × IsHoldOfNode table old.state.tree key hold
+    × (back : Handle) × HideRefused old.state.tree hold back why
+
+-- why a file is not hidden: it is not linked; what is told of it is against that; no hold of its slot was to
+-- be had; or a new hold of it was refused
+abbrev pub BeginRefused : TableId → Locked → Locked → Key → Refusal → Type 0
+BeginRefused table old new key why = MatchBool (is_linked old.state.tree key)
+    (FaultTold old.state.tree key why
+    ⊎ PinRefused old.master.view key.slot why new.master.view
+    ⊎ NewHoldRefused table old key why)
+    (why ≡ NoEntry)
+
+-- so it is of a key with no token; or the tree has no such slot
+abbrev pub HidingRefused : TableId → Locked → List (Option Handle) → Locked → Key → Refusal → Type 0
+HidingRefused table old tokens new key why =
+    ((length tokens ≤ key.slot) × (why ≡ NoEntry)) ⊎ BeginRefused table old new key why
+
+-- why a file is not shown again: no token lies there for the key, of a linked node or of none
+abbrev pub UnhidingRefused : Locked → List (Option Handle) → Key → Refusal → Type 0
+UnhidingRefused old tokens key why = ((token : Handle) → ¬ IsTokenOf tokens key token)
+    × MatchBool (is_linked old.state.tree key) (why ≡ Invalid) (why ≡ NoEntry)

@@ -1,5 +1,7 @@
 -- What may have to be asked of a tree again, since somebody is inside, and what that makes of it.
-use Rattle.std.specs.Prelude.{◌≡◌, Bool, true, false, List, Option}
+use Rattle.std.specs.Prelude.{◌≡◌, ℤ, pos, negsuc, neg_ℤ, Bool, true, false, List, Option}
+use Rattle.kf_core.specs.declared.refusal.Refusal.{Refusal}
+use Rattle.kf_core.specs.Refusals.{number_of}
 use Rattle.kf_words.specs.Callers.{TableId, Handle}
 use Rattle.kf_shared.specs.Locked.{Locked, Unchanged}
 use Rattle.kf_handles.specs.declared.object.Object.{Object}
@@ -11,22 +13,22 @@ use Rattle.kf_handles.specs.declared.questions.Reply.TheVariants as told
 use Rattle.kf_handles.specs.declared.replies.KtKey.{KtKey}
 use Rattle.kf_handles.specs.Answers.{DoneOr, OutOr}
 use Rattle.kf_handles.specs.Calls.{key_in}
-use Rattle.kf_handles.specs.Removing.{IsRemoving, WasGone}
-use Rattle.kf_handles.specs.Hiding.{SawNobody, SawSomebody, HasHiding, HasNoHiding, IsHidden, IsUnhidden, IsHiddenStill}
+use Rattle.kf_handles.specs.Removing.{IsRemoving, RemoveRefused, WasGone}
+use Rattle.kf_handles.specs.Hiding.{SawNobody, SawSomebody, HasHiding, HasNoHiding, HidingRefused, UnhidingRefused, IsHidden, IsUnhidden, IsHiddenStill}
 
 -- what becomes of a tree, of this table, and of its tokens, where it answers this
 abbrev pub Stepped : TableId → Task → Locked → List (Option Handle) → Locked → List (Option Handle)
     → Reply → Type 0
 Stepped table (task.Remove key) old tokens new tokens' reply =
     OutOr (IsRemoving old new key false) (WasGone old new key × (tokens' ≡ tokens)) (IsRemoving old new key true)
-    (λ why. Unchanged old new × (tokens' ≡ tokens)) reply
+    (λ why. RemoveRefused old new key why × Unchanged old new × (tokens' ≡ tokens)) reply
 Stepped table (task.Hide key) old tokens new tokens' reply =
     DoneOr (IsHidden SawNobody table old tokens new tokens' key)
     (IsHidden SawSomebody table old tokens new tokens' key)
-    (λ why. Unchanged old new × (tokens' ≡ tokens)) reply
+    (λ why. HidingRefused table old tokens new key why × Unchanged old new × (tokens' ≡ tokens)) reply
 Stepped table (task.Unhide key) old tokens new tokens' reply =
     DoneOr (IsUnhidden old tokens new tokens' key) (IsHiddenStill old tokens new tokens' key)
-    (λ why. (new ≡ old) × (tokens' ≡ tokens)) reply
+    (λ why. UnhidingRefused old tokens key why × (new ≡ old) × (tokens' ≡ tokens)) reply
 
 -- there was a tree and there is one, of the same event numbers, and this holds of both and of their tokens
 abbrev pub OfSteps : (Locked → List (Option Handle) → Locked → List (Option Handle) → Type 0)
@@ -43,6 +45,14 @@ SteppedBehind what (behind.Tree old) (behind.Tree new) reply =
     new.value.hidden reply × (new.value.posts ≡ old.value.posts)
 SteppedBehind what old new reply = (new ≡ old) × (reply ≡ told.Wrong)
 
+-- it is the number of what the tree refuses the step with; -EINVAL where there is no tree
+abbrev pub StepToldWhy : Task → Object → Object → ℤ → Type 0
+StepToldWhy what (behind.Tree old) (behind.Tree new) number = (why : Refusal)
+    × (number ≡ neg_ℤ (pos (number_of why)))
+    × Stepped old.value.nodes.master.table what old.value.nodes old.value.hidden new.value.nodes
+    new.value.hidden (told.Refused why)
+StepToldWhy what old new number = number ≡ negsuc 21
+
 -- it is a tree with a hidden file in which somebody may be
 abbrev pub HasHidingIn : Object → Type 0
 HasHidingIn (behind.Tree tree) = HasHiding tree.value.hidden
@@ -58,7 +68,7 @@ abbrev pub IsRemovingIn : Object → Object → KtKey → Bool → Type 0
 IsRemovingIn old new key linked =
     OfSteps (λ before tokens after tokens'. IsRemoving before after (key_in key) linked) old new
 
--- the tree had no node of this key, and nothing was done
+-- the tree had given the key, had no node of it any more, and nothing was done
 abbrev pub WasGoneIn : Object → Object → KtKey → Type 0
 WasGoneIn old new key = OfSteps (λ before tokens after tokens'.
     WasGone before after (key_in key) × (tokens' ≡ tokens)) old new

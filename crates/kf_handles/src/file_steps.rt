@@ -1,9 +1,9 @@
 //! Open files in halves, round the program's own show and store.
 ghost use Rattle.std.specs.Prelude.{◌≡◌, ◌≢◌, pos, negsuc, true, false, length, IfErr, IfOk};
 ghost use Rattle.kf_handles.specs.Answers.{IsAsBefore};
-ghost use Rattle.kf_handles.specs.Calls.{IsNothing, is_nothing};
-ghost use Rattle.kf_handles.specs.Files.{OpenedIn, Serves, BeganRead, HasShown, TextFrom, MayWrite, WasPolled, ReadRefused, WriteRefused, IsSamePlace, IsNotAsked, IsNotShowing, HasNoText, open_fault, read_error, write_error};
-ghost use Rattle.kf_handles.specs.LookUps.{TellsText};
+ghost use Rattle.kf_handles.specs.Calls.{IsNothing, is_nothing, key_in};
+ghost use Rattle.kf_handles.specs.Files.{OpenedIn, OpenRefused, Serves, BeganRead, HasShown, TextFrom, MayWrite, WasPolled, ReadRefused, WriteRefused, IsSamePlace, IsNotAsked, IsNotShowing, HasNoText, open_fault, read_error, write_error};
+ghost use Rattle.kf_handles.specs.LookUps.{IsRefusal, TellsText};
 ghost use Rattle.kf_handles.specs.Steps.{WasEntered};
 ghost use Rattle.kf_files.specs.Files.{allows};
 
@@ -56,6 +56,8 @@ pub fn open(alloc: Global, handle: &mut KtHandle, key: KtKey, want: Want, out: &
     ensures tree { IsAsBefore handle.old.place.object handle.new.place.object }
     ensures same { result ≢ pos 0 → out.new.place ≡ out.old.place }
     ensures beside { handle.new.place.seat ≡ handle.old.place.seat }
+    ensures why { is_nothing out.old.place ≡ true → result ≢ pos 0 → IsRefusal
+        (OpenRefused handle.old.place.object handle.new.place.object (key_in key) want) result }
 {
     if !is_nothing(out) {
         return INVALID;

@@ -1,5 +1,5 @@
 //! Files that are hidden and shown again, in steps: what is hidden is looked at until nobody is inside.
-ghost use Rattle.std.specs.Prelude.{◌≡◌, IfOk, OnErr};
+ghost use Rattle.std.specs.Prelude.{◌≡◌, IfErr, IfOk, OnErr};
 ghost use Rattle.kf_core.specs.declared.caller.Phase.TheVariants as phase_of;
 ghost use Rattle.kf_core.specs.declared.command.Command.TheVariants.{Hide};
 ghost use Rattle.kf_tree.specs.TreeLogs.{IsAccepted};
@@ -7,7 +7,7 @@ ghost use Rattle.kf_shared.specs.Locked.{Unchanged};
 ghost use Rattle.kf_shared.specs.Hiding.{hold_cause};
 ghost use Rattle.kf_handles.specs.Answers.{DoneOr};
 ghost use Rattle.kf_handles.specs.Kept.{AreTokensOf};
-ghost use Rattle.kf_handles.specs.Hiding.{SawNobody, SawSomebody, HasHidden, IsHidden, IsHiddenStill, IsUnhidden, hide_fault};
+ghost use Rattle.kf_handles.specs.Hiding.{SawNobody, SawSomebody, BeginRefused, HasHidden, HidingRefused, IsHidden, IsHiddenStill, IsUnhidden, UnhidingRefused, hide_fault};
 
 use crate::questions::Reply;
 use crate::token::Token;
@@ -43,6 +43,7 @@ fn begin<N: Naming>(locked: &mut Locked<N>, key: Key) -> Result<Hiding, Refusal>
     ensures accepted { IfOk result (λ hiding. IsAccepted locked.old.state locked.new.state
         (hold_cause locked.old.state.tree hiding) (Hide key)) }
     ensures same { OnErr result (Unchanged locked.old locked.new) }
+    ensures refused { IfErr result (λ why. BeginRefused N.table locked.old locked.new key why) }
     ensures claims { locked.new.claims ≡ locked.old.claims }
 {
     let stat = locked.state().stat(key)?;
@@ -67,7 +68,8 @@ pub fn hide<N: Naming>(locked: &mut Locked<N>, tokens: &mut Vec<Option<Token>>, 
     ensures told { DoneOr
         (IsHidden SawNobody N.table locked.old tokens.old.items locked.new tokens.new.items key)
         (IsHidden SawSomebody N.table locked.old tokens.old.items locked.new tokens.new.items key)
-        (λ why. Unchanged locked.old locked.new × (tokens.new.items ≡ tokens.old.items)) result }
+        (λ why. HidingRefused N.table locked.old tokens.old.items locked.new key why
+        × Unchanged locked.old locked.new × (tokens.new.items ≡ tokens.old.items)) result }
 {
     if key.slot as usize >= tokens.len() {
         return Reply::Refused(Refusal::NoEntry);
@@ -98,7 +100,8 @@ pub fn unhide<N: Naming>(locked: &mut Locked<N>, tokens: &mut Vec<Option<Token>>
     ensures told { DoneOr
         (IsUnhidden locked.old tokens.old.items locked.new tokens.new.items key)
         (IsHiddenStill locked.old tokens.old.items locked.new tokens.new.items key)
-        (λ why. (locked.new ≡ locked.old) × (tokens.new.items ≡ tokens.old.items)) result }
+        (λ why. UnhidingRefused locked.old tokens.old.items key why
+        × (locked.new ≡ locked.old) × (tokens.new.items ≡ tokens.old.items)) result }
 {
     let Some(token) = take(tokens, key) else {
         return Reply::Refused(match locked.state().stat(key) {

@@ -1,14 +1,16 @@
 //! The marks of a removal: a hold of each node below comes first, and memory last.
-ghost use Rattle.std.specs.Prelude.{◌≡◌, ◌∷◌, [], None, IfSome, IfOk, OnOk, OnErr, true, false};
+ghost use Rattle.std.specs.Prelude.{◌≡◌, ◌≢◌, ◌⊎◌, ◌∷◌, [], None, IfErr, IfSome, IfOk, OnOk, OnErr, true, false};
 ghost use Rattle.kf_core.specs.declared.command.Command.TheVariants.{Doom};
+ghost use Rattle.kf_core.specs.declared.refusal.Refusal.TheVariants as refusal_of;
 ghost use Rattle.kf_core.specs.PostOrder.{IsPostOrder};
 ghost use Rattle.kf_core.specs.Tree.{is_linked};
 ghost use Rattle.kf_tree.specs.Causes.{doomed_in};
 ghost use Rattle.kf_tree.specs.TreeLogs.{Stores};
 ghost use Rattle.kf_shared.specs.Locked.{Unchanged};
 ghost use Rattle.kf_shared.specs.Receipts.{AreOf};
-ghost use Rattle.kf_shared.specs.Removal.{keys_of};
-ghost use Rattle.kf_handles.specs.Removing.{mark_of};
+ghost use Rattle.kf_shared.specs.Removal.{FoundFullIn, keys_of};
+ghost use Rattle.kf_words.specs.Nodes.{FoundFull};
+ghost use Rattle.kf_handles.specs.Removing.{MarkRefused, mark_of};
 
 use kf_core::{Key, Refusal};
 use kf_shared::{Locked, Naming};
@@ -36,7 +38,8 @@ pub fn is_marked<N: Naming>(locked: &Locked<N>, key: Key) -> Option<bool>
 
 /// Whether a node has as many holds as there may be.
 fn is_full<N: Naming>(locked: &mut Locked<N>, key: Key) -> bool
-    ensures { Unchanged locked.old locked.new }
+    ensures same { Unchanged locked.old locked.new }
+    ensures full { result ≡ true → FoundFull locked.new.master.view key.slot }
 {
     match locked.hold(key) {
         Ok(hold) => {
@@ -50,7 +53,11 @@ fn is_full<N: Naming>(locked: &mut Locked<N>, key: Key) -> bool
 /// What is answered where a hold of the top is refused: want of memory only where no node below is full. It
 /// looks at the nodes below alone.
 fn memory_last<N: Naming>(locked: &mut Locked<N>, top: Key, refusal: Refusal) -> Refusal
-    ensures { Unchanged locked.old locked.new }
+    ensures same { Unchanged locked.old locked.new }
+    ensures other { refusal ≢ refusal_of.NoMemory → (result ≡ refusal) × (locked.new ≡ locked.old) }
+    ensures memory { refusal ≡ refusal_of.NoMemory → (result ≡ refusal)
+        ⊎ ((result ≡ refusal_of.TooManyHolds)
+        × FoundFullIn locked.old.state.tree top locked.new.master.view) }
 {
     if refusal != Refusal::NoMemory {
         return refusal;
@@ -75,6 +82,7 @@ pub fn mark<N: Naming>(locked: &mut Locked<N>, key: Key) -> Result<Vec<Hold>, Re
     ensures ordered { IfOk result (λ holds. IsPostOrder locked.old.state.tree key (keys_of holds.items)) }
     ensures stored { OnOk result (Stores locked.old.state locked.new.state (Doom key ∷ [])) }
     ensures same { OnErr result (Unchanged locked.old locked.new) }
+    ensures refused { IfErr result (λ why. MarkRefused locked.old locked.new key why) }
     ensures claims { locked.new.claims ≡ locked.old.claims }
 {
     locked.state().may_doom(key)?;
@@ -96,6 +104,7 @@ pub fn mark_once<N: Naming>(locked: &mut Locked<N>, key: Key, marked: bool) -> R
     requires { is_linked locked.old.state.tree key ≡ true }
     ensures stored { OnOk result (Stores locked.old.state locked.new.state (mark_of marked key)) }
     ensures same { OnErr result (Unchanged locked.old locked.new) }
+    ensures refused { IfErr result (λ why. (marked ≡ false) × MarkRefused locked.old locked.new key why) }
     ensures claims { locked.new.claims ≡ locked.old.claims }
 {
     if marked {

@@ -1,12 +1,13 @@
 //! Removal in steps: each marks what is not marked yet, and takes out what nobody uses.
-ghost use Rattle.std.specs.Prelude.{◌≡◌, ◌∷◌, [], true, false, OnOk, OnErr};
+ghost use Rattle.std.specs.Prelude.{◌≡◌, ◌∷◌, [], true, false, IfErr, MatchBool, OnOk, OnErr};
+ghost use Rattle.kf_core.specs.declared.refusal.Refusal.TheVariants as refusal_of;
 ghost use Rattle.kf_core.specs.Tree.{is_linked};
 ghost use Rattle.kf_shared.specs.Locked.{Unchanged, is_claimed};
 ghost use Rattle.kf_shared.specs.Receipts.{AreOf};
 ghost use Rattle.kf_shared.specs.Removal.{keys_of};
 ghost use Rattle.kf_handles.specs.Answers.{ClaimedTo, DoneOr, OutOr};
 ghost use Rattle.kf_handles.specs.Kept.{AreTokensOf};
-ghost use Rattle.kf_handles.specs.Removing.{Ends, IsMarked, IsRemoving, Removes, WasGone};
+ghost use Rattle.kf_handles.specs.Removing.{ClaimRefused, Ends, IsMarked, IsRemoving, MarkRefused, RemoveRefused, Removes, WasGone};
 
 use crate::hiding::unhide;
 use crate::marking::{is_marked, mark, mark_once};
@@ -105,7 +106,7 @@ pub fn claim<N: Naming>(locked: &mut Locked<N>, key: Key) -> Reply
         × IsMarked locked.old locked.new key)
         ((is_claimed locked.old.claims key ≡ true) × ClaimedTo locked.old locked.new key
         × IsMarked locked.old locked.new key)
-        (λ why. Unchanged locked.old locked.new) result }
+        (λ why. ClaimRefused locked.old locked.new key why × Unchanged locked.old locked.new) result }
 {
     let Some(marked) = is_marked(locked, key) else {
         return Reply::Refused(Refusal::NoEntry);
@@ -131,6 +132,8 @@ fn take_up<N: Naming>(
     requires tokens { AreTokensOf N.table tokens.old.items }
     ensures removes { OnOk result (Removes marked locked.old locked.new key) }
     ensures same { OnErr result (Unchanged locked.old locked.new × (tokens.new.items ≡ tokens.old.items)) }
+    ensures refused { IfErr result (λ why. MatchBool marked
+        (why ≡ refusal_of.NoMemory) (MarkRefused locked.old locked.new key why)) }
     ensures tokens { AreTokensOf N.table tokens.new.items }
 {
     if marked {
@@ -152,7 +155,8 @@ fn is_linked<N: Naming>(locked: &Locked<N>, key: Key) -> bool
 
 /// Marks a node and all below it, where it is not marked yet, and takes out each of them that nobody uses.
 /// Done where it is out of the tree by this, Gone where it was out before, and Not where it is still there. A
-/// refusal comes before anything is marked or taken out.
+/// refusal comes before anything is marked or taken out: NoEntry where the key was never given in the tree,
+/// Invalid of the root, TooManyHolds, NoMemory.
 pub fn remove<N: Naming>(locked: &mut Locked<N>, tokens: &mut Vec<Option<Token>>, key: Key) -> Reply
     requires { AreTokensOf N.table tokens.old.items }
     ensures tokens { AreTokensOf N.table tokens.new.items }
@@ -160,10 +164,15 @@ pub fn remove<N: Naming>(locked: &mut Locked<N>, tokens: &mut Vec<Option<Token>>
         (IsRemoving locked.old locked.new key false)
         (WasGone locked.old locked.new key × (tokens.new.items ≡ tokens.old.items))
         (IsRemoving locked.old locked.new key true)
-        (λ why. Unchanged locked.old locked.new × (tokens.new.items ≡ tokens.old.items)) result }
+        (λ why. RemoveRefused locked.old locked.new key why × Unchanged locked.old locked.new
+        × (tokens.new.items ≡ tokens.old.items)) result }
 {
     let Some(marked) = is_marked(locked, key) else {
-        return Reply::Gone;
+        return if locked.was_given(key) {
+            Reply::Gone
+        } else {
+            Reply::Refused(Refusal::NoEntry)
+        };
     };
     if let Err(refusal) = take_up(locked, tokens, key, marked) {
         return Reply::Refused(refusal);

@@ -216,6 +216,8 @@ pub fn claim(handle: &mut KtHandle, key: KtKey) -> i32
     ensures kept { result ≢ pos 0 → result ≢ pos 1 →
         IsAsBefore handle.old.place.object handle.new.place.object }
     ensures beside { handle.new.place.seat ≡ handle.old.place.seat }
+    ensures why { result ≢ pos 0 → result ≢ pos 1 → ToldWhy
+        (asks.Claim (key_in key)) handle.old.place.object handle.new.place.object result }
 {
     let question = Question::Claim(key_of(key));
     match replace_with(handle, question, ask_handle) {

@@ -1,7 +1,9 @@
 //! What may have to be asked of a tree again, asked of what lies behind a handle, and the numbers that are
 //! answered.
 ghost use Rattle.std.specs.Prelude.{◌≡◌, ◌≢◌, true, false, pos, negsuc};
-ghost use Rattle.kf_handles.specs.Tasks.{SteppedBehind, IsRemovingIn, WasGoneIn, IsHiddenIn, IsUnhiddenIn, IsHiddenStillIn};
+ghost use Rattle.kf_handles.specs.Calls.{key_in};
+ghost use Rattle.kf_handles.specs.declared.questions.Task.TheVariants as asks;
+ghost use Rattle.kf_handles.specs.Tasks.{SteppedBehind, StepToldWhy, IsRemovingIn, WasGoneIn, IsHiddenIn, IsUnhiddenIn, IsHiddenStillIn};
 ghost use Rattle.kf_handles.specs.Answers.{IsAsBefore};
 ghost use Rattle.kf_handles.specs.Hiding.{SawNobody, SawSomebody};
 
@@ -46,6 +48,8 @@ pub fn remove(handle: &mut KtHandle, key: KtKey) -> i32
     ensures kept { result ≢ pos 0 → result ≢ pos 1 → result ≢ negsuc 10 →
         IsAsBefore handle.old.place.object handle.new.place.object }
     ensures beside { handle.new.place.seat ≡ handle.old.place.seat }
+    ensures why { result ≢ pos 0 → result ≢ pos 1 → result ≢ negsuc 10 → StepToldWhy
+        (asks.Remove (key_in key)) handle.old.place.object handle.new.place.object result }
 {
     let task = Task::Remove(key_of(key));
     match replace_with(handle, task, step_handle) {
@@ -85,6 +89,8 @@ pub fn unhide(handle: &mut KtHandle, key: KtKey) -> i32
     ensures kept { result ≢ pos 0 → result ≢ negsuc 10 →
         IsAsBefore handle.old.place.object handle.new.place.object }
     ensures beside { handle.new.place.seat ≡ handle.old.place.seat }
+    ensures why { result ≢ pos 0 → result ≢ negsuc 10 → StepToldWhy
+        (asks.Unhide (key_in key)) handle.old.place.object handle.new.place.object result }
 {
     let task = Task::Unhide(key_of(key));
     match replace_with(handle, task, step_handle) {

@@ -1,6 +1,7 @@
 //! The tokens of a tree's hidden files, each in its file's slot. While one lies there the slot is not given
 //! again, so it is the slot's only one.
-ghost use Rattle.std.specs.Prelude.{◌≡◌, ◌<◌, IfErr, IfOk, IfSome, None, Some, true, false, length, slice_set, replicate};
+ghost use Rattle.std.specs.Prelude.{◌≡◌, ◌<◌, IfErr, IfNone, IfOk, IfSome, None, Some, true, false, length, slice_set, replicate};
+ghost use Rattle.kf_words.specs.Callers.{Handle};
 ghost use Rattle.kf_handles.specs.Hiding.{IsTokenOf, IsSeen, HasHiding, HasNoHiding, SawNobody, SawSomebody};
 
 use crate::token::Token;
@@ -27,6 +28,7 @@ pub fn take(tokens: &mut Vec<Option<Token>>, key: Key) -> Option<Token>
         × (key.slot < length tokens.old.items)
         × (tokens.new.items ≡ slice_set tokens.old.items key.slot None)) }
     ensures none { result ≡ None → tokens.new.items ≡ tokens.old.items }
+    ensures nothing { IfNone result ((token : Handle) → ¬ IsTokenOf tokens.old.items key token) }
 {
     let place = tokens.get_mut(key.slot as usize)?;
     match place {

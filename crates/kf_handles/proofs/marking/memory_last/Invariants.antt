@@ -1,4 +1,4 @@
-use Rattle.std.proofs.Common.{◌-◌, List, length}
+use Rattle.std.proofs.Common.{◌≡◌, ◌-◌, List, length}
 use Rattle.kf_core.specs.declared.key.Key.{Key}
 use Rattle.kf_tree.specs.Tours.{HasPassed}
 use Rattle.kf_shared.specs.Locked.{Unchanged}
@@ -6,7 +6,11 @@ use Rattle.kf_handles.proofs.marking.memory_last.Given as goal
 
 -- holds come and go, and the tour is one of the tree that stays
 abbrev pub invariant-below : goal.invariant-below
-invariant-below g l = Unchanged l.fn.locked l.locked × ((keys : List Key) × HasPassed l.locked.state.tree l.tour keys)
+invariant-below g l = record {
+  same : Unchanged l.fn.locked l.locked;
+  top : l.tour.top ≡ l.fn.top;
+  passed : (keys : List Key) × HasPassed l.locked.state.tree l.tour keys;
+}
 
 abbrev pub decreases-below : goal.decreases-below
 decreases-below g l = length l.locked.state.tree - l.tour.passed

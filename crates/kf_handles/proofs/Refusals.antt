@@ -1,0 +1,74 @@
+-- Why a node is not marked.
+use Rattle.std.proofs.Common.{◌≡◌, ◌≢◌, ◌⊎◌, inl, inr, ℕ, Bool, true, false, List, [], ◌∷◌, ◌++◌, length, refl, sym, ◌∙◌, ap, subst, arith}
+use Rattle.std.specs.Prelude.{None, Some, MatchBool, slice_get}
+use Rattle.std.proofs.lemmas.Bool.{MatchBool-at_true}
+use Rattle.kf_core.specs.declared.key.Key.{Key}
+use Rattle.kf_core.specs.declared.refusal.Refusal.{Refusal}
+use Rattle.kf_core.specs.declared.refusal.Refusal.TheVariants.{NoEntry, NoMemory, TooManyHolds}
+use Rattle.kf_core.specs.Tree.{Tree, is_linked, parent_of}
+use Rattle.kf_core.proofs.Climbs.{same_key_self, meets_here}
+use Rattle.kf_tree.specs.Causes.{doom_cause}
+use Rattle.kf_tree.specs.TreeLogs.{TreeLog}
+use Rattle.kf_words.specs.declared.view.MasterView.{MasterView}
+use Rattle.kf_words.specs.Nodes.{FoundFull, PinRefused, WasFull}
+use Rattle.kf_words.specs.Steps.{with_load}
+use Rattle.kf_shared.specs.Locked.{Locked, HoldRefused}
+use Rattle.kf_shared.specs.Removal.{FoundFullIn}
+use Rattle.kf_shared.proofs.Pins.{if_false, not_the_root, why_refused}
+use Rattle.kf_handles.specs.Removing.{MarkRefused}
+
+-- the load that was made last
+last_there : {X : Type 0} (xs : List X) (x : X) → slice_get (xs ++ x ∷ []) (length xs) ≡ Some x
+last_there [] x = refl
+last_there (y ∷ xs) x = last_there xs x
+
+found_full : (m m' : MasterView) (slot : ℕ) → WasFull m slot m' → FoundFull m' slot
+found_full m m' slot (found, full, is) = subst (λ (w : MasterView). FoundFull w slot) (sym is)
+    (length m.loads, record { slot = slot; word = found }, last_there m.loads (record { slot = slot; word = found }), refl, full)
+
+-- the top is in its own subtree
+top_in : (t : Tree) (top : Key) (m : MasterView) → FoundFull m top.slot → FoundFullIn t top m
+top_in t top m full = (top, meets_here (parent_of t) (length t) top top (same_key_self top), full)
+
+-- of a linked node a hold was refused, since there is one too many, or for want of memory
+hold_was_full : (old mid : Locked) (key : Key) (why : Refusal) → is_linked old.state.tree key ≡ true
+    → HoldRefused old mid key why
+    → (why ≡ NoMemory) ⊎ ((why ≡ TooManyHolds) × FoundFull mid.master.view key.slot)
+hold_was_full old mid key why linked refused =
+    let pin : PinRefused old.master.view key.slot why mid.master.view = MatchBool-at_true _ _ linked refused in
+    let full : why ≡ TooManyHolds → FoundFull mid.master.view key.slot = λ e.
+    found_full old.master.view mid.master.view key.slot (subst (λ w. PinRefused old.master.view key.slot w mid.master.view) e pin) in
+    elim (why_refused old.master.view mid.master.view (key ∷ []) key why (0, omega arith, refl) pin full) [
+      | inl memory ↦ inl memory
+      | inr many ↦ inr (many.0, full many.0)
+    ]
+
+-- a hold too many of a node was found to be so in its slot
+pub full_of : (old new : Locked) (key : Key) → HoldRefused old new key TooManyHolds → FoundFull new.master.view key.slot
+full_of old new key refused = go (is_linked old.state.tree key) refused
+  where
+    go : (b : Bool)
+        → MatchBool b (PinRefused old.master.view key.slot TooManyHolds new.master.view) ((TooManyHolds ≡ NoEntry) × (new ≡ old))
+        → FoundFull new.master.view key.slot
+    go true full = found_full old.master.view new.master.view key.slot full
+    go false (never, same) = cc
+
+-- a hold of the top was refused, and want of memory was answered last
+pub by_hold : (old mid new : Locked) (key : Key) (why told : Refusal) → is_linked old.state.tree key ≡ true
+    → doom_cause old.state.tree old.state.root key ≡ None → mid.state ≡ old.state → HoldRefused old mid key why
+    → (why ≢ NoMemory → (told ≡ why) × (new ≡ mid))
+    → (why ≡ NoMemory → (told ≡ why) ⊎ ((told ≡ TooManyHolds) × FoundFullIn mid.state.tree key new.master.view))
+    → MarkRefused old new key told
+by_hold old mid new key why told linked none same refused other memory =
+    if_false _ _ (not_the_root old.state.tree old.state.root key linked none) (elim (hold_was_full old mid key why linked refused) [
+      | inl want ↦ elim (memory want) [
+        | inl is ↦ inr (is ∙ want)
+        | inr full ↦ inl (full.0, subst (λ (s : TreeLog). FoundFullIn s.tree key new.master.view) same full.1)
+      ]
+      | inr full ↦
+          let stays = other (λ e. let never : TooManyHolds ≡ NoMemory = sym full.0 ∙ e in cc) in
+          inl (
+            stays.0 ∙ full.0,
+            subst (λ (l : Locked). FoundFullIn old.state.tree key l.master.view) (sym stays.1) (top_in old.state.tree key mid.master.view full.1),
+          )
+    ])
