@@ -73,7 +73,7 @@
  * On a node that is not in the tree nobody runs, and a key that has left it never comes again: these are laws over
  * every run of these functions' steps. Not proved: which error number comes of kt_hide(); that somebody is inside where
  * kt_remove() answers -EAGAIN, and that it lets no hiding of another file go; that kt_clear() and kt_delete() let go;
- * that kt_new() gives a handle; that memory was refused where it is -ENOMEM; and everything that is C, the helpers too. `make -C c test` tries these.
+ * that memory was refused where it is -ENOMEM; and everything that is C, the helpers too. `make -C c test` tries these.
  *
  * What a program has to keep to, which the library cannot see:
  * - A handle comes from kt_new(), is used by one function at a time, and not after kt_delete(). It may pass to another

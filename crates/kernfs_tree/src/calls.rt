@@ -1,5 +1,5 @@
 //! The calls of a program. Each answers 0 or more, or a Linux error number below 0, and then nothing changed.
-ghost use Rattle.std.specs.Prelude.{◌≡◌, ◌≢◌, ◌⊎◌, ◌<◌, ◌≤◌, pos, negsuc, true, false};
+ghost use Rattle.std.specs.Prelude.{◌≡◌, ◌≢◌, ◌⊎◌, ◌<◌, ◌≤◌, pos, negsuc, true, false, IfSome, IsSome};
 ghost use Rattle.kf_core.specs.declared.key.Node.TheVariants as kind;
 ghost use Rattle.kf_handles.specs.declared.object.Object.TheVariants as behind;
 ghost use Rattle.kf_handles.specs.Tasks.{HasHidingIn, HasNoHidingIn};
@@ -11,7 +11,7 @@ ghost use Rattle.kf_handles.specs.Numbers.{HasPostOf, IsSameTree, PostRefused, W
 ghost use Rattle.kf_handles.specs.Steps.{WasEntered, WasRefused, WasLeft, WasBroken, WasRestored, HasNoReference, IsNotRunning, IsNotBroken, WakeOwed, enter_error, wake_of};
 
 use kf_core::{Key, Node};
-use kf_handles::{KtCommands, KtHandle, KtKey, KtStat, Question, key_of};
+use kf_handles::{KtCommands, KtGiven, KtHandle, KtKey, KtStat, Question, key_of};
 use std::alloc::Global;
 
 /// The version of the library: its major number times 1,000, and its minor number.
@@ -22,9 +22,12 @@ pub extern "C" fn kt_version() -> i32
     2
 }
 
-/// A new handle with nothing behind it.
+/// A new handle with nothing behind it, which is the caller's then.
 #[unsafe(no_mangle)]
-pub extern "C" fn kt_new(alloc: Global, out: &mut *mut u8) -> i32 {
+pub extern "C" fn kt_new(alloc: Global, out: &mut KtGiven) -> i32
+    ensures given { result ≡ pos 0 → IfSome out.new.place IsNothing × IsSome out.new.place }
+    ensures refused { result ≢ pos 0 → (result ≡ negsuc 11) × (out.new ≡ out.old) }
+{
     kf_handles::make(alloc, out)
 }
 

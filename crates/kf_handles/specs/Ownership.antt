@@ -1,7 +1,9 @@
--- What a handle owns: what a box of a place owns.
-use base.Fml.{Fml}
+-- What a handle owns: what a box of a place owns. And what a new one owns, where it was given to a program.
+use base.Fml.{Fml, ftrue}
 use base.Stored.{Coded}
 use denote.RawPtr.{Ptr}
+use Rattle.std.specs.Coded.{coded_option}
+use Rattle.std.specs.Prelude.{Option, None, Some}
 use Rattle.std.specs.Box.Ownership.{box_owns}
 use Rattle.std.specs.Global.{Global}
 use Rattle.std_heap.specs.contracts.GlobalAllocator.TheImpl.{ghosts}
@@ -14,3 +16,12 @@ handle_owns alloc = box_owns (ghosts.dealloc_token alloc) the_row
 -- how the logic stores a place
 abbrev pub place_coded : Coded the_row.Denot
 place_coded = the_row.coded
+
+-- nothing, before it was given
+abbrev pub given_owns : Global → Ptr → Option the_row.Denot → Fml
+given_owns alloc at None = ftrue
+given_owns alloc at (Some place) = handle_owns alloc at place
+
+-- how the logic stores whether it was
+abbrev pub given_coded : Coded (Option the_row.Denot)
+given_coded = coded_option place_coded

@@ -1,7 +1,7 @@
 //! A handle: the pointer of a box, which a program in C keeps.
-ghost use Rattle.std.specs.Prelude.{◌≡◌};
+ghost use Rattle.std.specs.Prelude.{◌≡◌, Option, Some};
 ghost use Rattle.kf_handles.specs.declared.object.Place.{Place};
-ghost use Rattle.kf_handles.specs.Ownership.{handle_owns, place_coded};
+ghost use Rattle.kf_handles.specs.Ownership.{given_coded, given_owns, handle_owns, place_coded};
 
 mod apart;
 
@@ -20,6 +20,18 @@ pub struct KtHandle {
 
 impl Model for KtHandle {
     ghost also_owns = { λ h. handle_owns h.alloc h.at h.place };
+}
+
+/// Where a program in C gets a new handle: nothing lies there, or what the handle owns.
+#[repr(C)]
+pub struct KtGiven {
+    at: *mut u8,
+    alloc: Global,
+    pub ghost place: { Option Place } by { given_coded },
+}
+
+impl Model for KtGiven {
+    ghost also_owns = { λ g. given_owns g.alloc g.at g.place };
 }
 
 impl KtHandle {
@@ -51,6 +63,14 @@ impl KtHandle {
         ensures { result.value ≡ self.place }
     {
         self.into_apart().into_box()
+    }
+
+    /// The same, where a program gets it.
+    pub(crate) fn give(self) -> KtGiven
+        ensures { result.place ≡ Some self.place }
+    {
+        let KtHandle { at, alloc } = self;
+        KtGiven { at, alloc }
     }
 
     /// The pointer alone. What it owned is the program's from now on.

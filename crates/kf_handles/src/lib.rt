@@ -24,7 +24,7 @@ mod tokens;
 mod tree;
 
 pub use file_steps::{begin_read, begin_write, changed, copy, open, shown};
-pub use handle::KtHandle;
+pub use handle::{KtGiven, KtHandle};
 pub use numbers::{notify, number, post};
 pub use questions::Question;
 pub use replies::{

@@ -1,5 +1,5 @@
 //! What the calls of a program do to what lies behind its handles, and the numbers that they answer.
-ghost use Rattle.std.specs.Prelude.{◌≡◌, ◌≢◌, ◌⊎◌, ◌<◌, ◌≤◌, true, false, pos, negsuc};
+ghost use Rattle.std.specs.Prelude.{◌≡◌, ◌≢◌, ◌⊎◌, ◌<◌, ◌≤◌, true, false, pos, negsuc, IfSome, IsSome};
 ghost use Rattle.kf_handles.specs.Tasks.{HasHidingIn, HasNoHidingIn};
 ghost use Rattle.kf_handles.specs.Answers.{Answered, AnsweredBehind, OfTrees, IsAsBefore, ToldWhy, is_change, is_naming};
 ghost use Rattle.kf_handles.specs.Calls.{AreLimits, IsNewTree, CreatedIn, HoldsNode, ClaimedIn, IsNothing, is_nothing, key_in, stat_in_c};
@@ -11,7 +11,7 @@ ghost use Rattle.kf_handles.specs.declared.questions.Reply.TheVariants as told;
 
 use crate::answers::ask_object;
 use crate::errors::{BUSY, INVALID, NO_MEMORY, error_of};
-use crate::handle::KtHandle;
+use crate::handle::{KtGiven, KtHandle};
 use crate::object::{Object, Place, Seat};
 use crate::questions::{Question, Reply};
 use crate::telling::is_nothing;
@@ -20,6 +20,7 @@ use core::mem::{replace, replace_with};
 use kf_core::{Key, Limits, Node};
 use kf_tree::Stat;
 use std::alloc::Global;
+use std::mem::ManuallyDrop;
 
 /// A key of a node.
 #[repr(C)]
@@ -281,10 +282,14 @@ pub fn hold(handle: &mut KtHandle, key: KtKey, out: &mut KtHandle) -> i32
 }
 
 /// A new handle with nothing behind it.
-pub fn make(alloc: Global, out: &mut *mut u8) -> i32 {
+pub fn make(alloc: Global, out: &mut KtGiven) -> i32
+    ensures given { result ≡ pos 0 → IfSome out.new.place IsNothing × IsSome out.new.place }
+    ensures refused { result ≢ pos 0 → (result ≡ negsuc 11) × (out.new ≡ out.old) }
+{
     match Box::new(alloc, Place::of(Seat::None, Object::Empty)) {
         Ok(boxed) => {
-            *out = KtHandle::of(boxed).into_pointer();
+            let given = KtHandle::of(boxed).give();
+            let _before = unsafe { ManuallyDrop::new_unchecked(replace(out, given)) };
             0
         }
         Err(_) => NO_MEMORY,
