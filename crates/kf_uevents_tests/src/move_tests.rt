@@ -69,6 +69,13 @@ fn a_move_tells_both_paths(rt: HostRuntime) {
     told_moves::<Brand, _>(&rt, rt.alloc(), made(&rt, rt.alloc()));
 }
 
+/// A path of a slash and a name of 255 bytes.
+fn long_path() -> [u8; 256] {
+    let mut path = [b'n'; 256];
+    path[0] = b'/';
+    path
+}
+
 /// A path of a slash, a name of 255 bytes, a slash, and one more such name.
 fn longest_path() -> [u8; 512] {
     let mut path = [b'n'; 512];
@@ -86,14 +93,14 @@ fn longest<N: Naming, R: Abort + Wait>(rt: &R, alloc: Global, new: NewTree)
     let (dir, file) = live(rt, &tree, &mut log);
     let root = root(rt, &tree);
     let name = [b'n'; 256];
-    let path = longest_path();
+    let (path, of_both) = (long_path(), longest_path());
     let answers = [
         moves(rt, &tree, &mut log, dir, root, &name) == Err(Refusal::NameTooLong),
         moves(rt, &tree, &mut log, dir, root, &name[..255]) == Ok(3),
         moves(rt, &tree, &mut log, file, dir, &name[..255]) == Ok(4),
         moves(rt, &tree, &mut log, file, root, b"a") == Ok(5),
-        tells_move(&log, 2, &path[..256], b"/d"),
-        tells_move(&log, 4, b"/a", &path),
+        tells_move(&log, 2, &path, b"/d"),
+        tells_move(&log, 4, b"/a", &of_both),
     ];
     assert_eq!(rt; first_wrong(&answers), None);
 }
