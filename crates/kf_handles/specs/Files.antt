@@ -10,7 +10,7 @@ use Rattle.kf_core.specs.declared.refusal.Refusal.TheVariants.{IsDir, Invalid, N
 use Rattle.kf_core.specs.Tree.{record_at}
 use Rattle.kf_tree.specs.declared.stat.Stat.{Stat}
 use Rattle.kf_tree.specs.Stat.{stat_of}
-use Rattle.kf_notify.specs.PostStates.{IsNewPost, Took}
+use Rattle.kf_notify.specs.PostStates.{IsNewPost}
 use Rattle.kf_files.specs.declared.contents.Want.{Want}
 use Rattle.kf_files.specs.Files.{open_cause, new_file, text_of, text_in_file, slice, is_changed}
 use Rattle.kf_handles.specs.declared.object.Object.{Object}
@@ -25,6 +25,7 @@ use Rattle.kf_handles.specs.Answers.{AnsweredBehind}
 use Rattle.kf_handles.specs.Calls.{HoldsNode, key_in}
 use Rattle.kf_handles.specs.LookUps.{stat_behind}
 use Rattle.kf_handles.specs.Numbers.{PostRefused}
+use Rattle.kf_handles.specs.Taken.{NumberTaken}
 use Rattle.kf_handles.specs.Steps.{WasEnteredToShow, WasRefused, IsNotRunning, enter_error}
 
 -- what is told of a node says that it is live
@@ -98,7 +99,7 @@ NeedsShow offset other = ⊥
 abbrev pub Begins : ℕ → Object → Object → Type 0
 Begins offset (behind.File old) (behind.File new) = IsTrue old.value.state.want.read
     × ((offset ≡ 0) ⊎ (old.value.state.text ≡ None))
-    × Took old.value.post new.value.state.number new.value.post
+    × NumberTaken old.value.post new.value.state.number new.value.post
     × (new.value.state ≡ record old.value.state { text = None; number = new.value.state.number })
 Begins offset old new = ⊥
 
@@ -181,7 +182,7 @@ MayWrite other = ⊥
 -- the slot's event number, as it was taken now, is another than that of the last show, or not
 abbrev pub Polled : Bool → Object → Object → Type 0
 Polled changed (behind.File old) (behind.File new) =
-    Took old.value.post new.value.post.found new.value.post
+    NumberTaken old.value.post new.value.post.found new.value.post
     × (is_changed old.value.state (Some new.value.post.found) ≡ changed)
     × (new.value.state ≡ old.value.state)
 Polled changed old new = ⊥

@@ -9,4 +9,5 @@ pub mod Calls
 pub mod LookUps
 pub mod Tasks
 pub mod Numbers
+pub mod Taken
 pub mod Files

@@ -1,7 +1,7 @@
 //! An open file behind a handle: a post of its node's slot, what it was opened for, and its text.
 ghost use Rattle.std.specs.Prelude.{◌≡◌, ◌<◌, ◌⊎◌, None, Some, false, IsTrue, IsSome};
-ghost use Rattle.kf_notify.specs.PostStates.{Took};
 ghost use Rattle.kf_files.specs.Files.{text_of, slice, text_in_file, new_file, is_changed};
+ghost use Rattle.kf_handles.specs.Taken.{NumberTaken};
 
 use kf_files::{Page, Want};
 use kf_notify::Post;
@@ -70,7 +70,7 @@ impl File {
 
     /// Takes the event number for a show, and forgets the text.
     pub fn begin_show(&mut self)
-        ensures took { Took self.old.post self.new.state.number self.new.post }
+        ensures took { NumberTaken self.old.post self.new.state.number self.new.post }
         ensures state { self.new.state ≡
             record self.old.state { text = None; number = self.new.state.number } }
     {
@@ -108,7 +108,7 @@ impl File {
 
     /// Whether the slot's event number is another than the one that was taken for the last show.
     pub fn is_changed(&mut self) -> bool
-        ensures took { Took self.old.post self.new.post.found self.new.post }
+        ensures took { NumberTaken self.old.post self.new.post.found self.new.post }
         ensures told { result ≡ is_changed self.old.state (Some self.new.post.found) }
         ensures state { self.new.state ≡ self.old.state }
     {
