@@ -247,7 +247,7 @@ fn reads_each<N: Naming, R: Abort + Wait>(
             met = met.saturating_add(1);
             let mut out = [0u8; 4];
             match file.read(rt, tree, bus, 0, &mut out) {
-                Ok(2) if &out[..2] == b"on".as_slice() => {}
+                Ok(2) if out == *b"on\0\0" => {}
                 Err(FileError::Refused(Refusal::NoDevice)) => {}
                 _ => wrong = wrong.saturating_add(1),
             }
