@@ -12,13 +12,13 @@ use Rattle.kf_words.specs.declared.view.View.{View}
 use Rattle.kf_words.specs.declared.view.View.TheVariants as seat
 use Rattle.kf_words.specs.Layout.{hide, active_index, hold_index, active_word, hold_word, has_hide}
 use Rattle.kf_words.specs.Rule.{Shows, Shown, seats}
-use Rattle.kf_words.specs.Steps.{Seated, caller_of, after_try, after_undo, after_leave, after_look, after_release, after_part, after_break, after_restore, after_hide, after_look_hidden, after_show, CallerBecomes, ShowsKey}
+use Rattle.kf_words.specs.Steps.{Seated, caller_of, after_try, after_undo, after_leave, after_look, after_release, after_part, after_miss, after_break, after_restore, after_hide, after_look_hidden, after_show, CallerBecomes, ShowsKey}
 use Rattle.kf_words.specs.Callers.{IsAtRest, HasReference, IsIn}
 use Rattle.kf_words.proofs.Bits.{waiting_is, counted_is}
 use Rattle.kf_words.proofs.Seating.{caller_seat, seats-set}
 use Rattle.kf_words.proofs.CallerSteps.{try_owes, undo_owes, leave_owes, break_owes, restore_owes, look_owes}
 use Rattle.kf_words.proofs.HidingSteps.{hide_owes, look_hidden_owes, show_owes, show_finds}
-use Rattle.kf_words.proofs.HoldSteps.{release_owes, part_owes}
+use Rattle.kf_words.proofs.HoldSteps.{release_owes, part_owes, miss_owes}
 
 -- no play of a caller reads the step
 abbrev pub no_step : Step (Unit {0})
@@ -123,3 +123,6 @@ module _ (count limit homes id : ℕ) (me : Seated) (i : ℕ) (is : me ≡ (seat
 
   pub part_allowed : IsIn Drained me_c → Allows (Shown count limit) homes id me i (λ n. n) (CallerBecomes after_part no_step me)
   part_allowed is_in = hold_step (λ n. n) after_part (λ words m cs j shows at small. part_owes words m cs j me_c shows at (λ e. let x : Drained ≡ Spent = sym is_in.0 ∙ e in cc) is_in.0 is_in.1)
+
+  pub miss_allowed : IsAtRest me_c → Allows (Shown count limit) homes id me i (λ n. n) (CallerBecomes after_miss no_step me)
+  miss_allowed waits = hold_step (λ n. n) after_miss (λ words m cs j shows at small. miss_owes words m cs j me_c shows at (waiting_is me_c.phase waits.0).0 waits.0 waits.1)

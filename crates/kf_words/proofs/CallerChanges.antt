@@ -25,7 +25,7 @@ use Rattle.atomic_table.proofs.Lists.{at_set}
 use Rattle.kf_words.specs.declared.view.CallerView.{CallerView}
 use Rattle.kf_words.specs.declared.view.MasterView.{MasterView}
 use Rattle.kf_words.specs.Layout.{bit, active_index, hold_index, active_word, hold_word, IsFree}
-use Rattle.kf_words.specs.Rule.{tally, is_user, is_hider, is_holder, users, hiders, holders, pins_in, ShowsMarks, ShowsHolds, StillHolds, last_key, caller, bare, Shows}
+use Rattle.kf_words.specs.Rule.{tally, is_user, is_hider, is_holder, is_pinner, users, hiders, holders, pins_in, ShowsMarks, ShowsHolds, StillHolds, last_key, caller, bare, Shows}
 use Rattle.kf_words.proofs.Bits.{one_more, one_less, counted_unspent, not_spent, held_not_free}
 use Rattle.kf_words.proofs.Seating.{caller_at, at_caller, tally-set, tally≤, tally-one}
 
@@ -60,7 +60,7 @@ module _ {words : List ℕ} {m : MasterView} {cs : List CallerView} (j : ℕ) {c
 
   -- its hold is counted, so the slot is not free
   held : 1 ≤ holders slot cs
-  held = tally-one (is_holder slot) cs j c at (ap (λ (b : Bool). b && not (is_spent c.phase)) (in_its_slot c refl) ∙ ap not (not_spent c.phase holding))
+  held = let one = tally-one (is_holder slot) cs j c at (ap (λ (b : Bool). b && not (is_spent c.phase)) (in_its_slot c refl) ∙ ap not (not_spent c.phase holding)) in omega arith
 
   pub not_free : IsFree hold → ⊥
   not_free free = held_not_free m.limit hold last.0 (holders slot cs + pins_in m.pinning slot) shows.few (shows.holds slot last.0 last.1) (let h = held in omega arith) free
@@ -113,6 +113,21 @@ module _ {words : List ℕ} {m : MasterView} {cs : List CallerView} (j : ℕ) {c
         let y : bit (p slot c') 1 ≡ bit b' 1 = ap (λ (y : Bool). bit y 1) now in
         omega arith
 
+    -- in another slot nobody comes to hold, and none of its holds goes
+    pub held_in_other : (k : ℕ) → k ≢ slot → holders k (set cs j c') ≡ holders k cs
+    held_in_other k ne =
+        let a = in_other is_holder k ne (λ x. off k x (not (is_spent x.phase))) in
+        let b = in_other is_pinner k ne (λ x. off k x x.pinning) in
+        omega arith
+
+    -- in its own slot the holds change by its phase and by what it counted
+    pub held_in_this : (b b' p p' : Bool) → not (is_spent c.phase) ≡ b → not (is_spent c'.phase) ≡ b' → c.pinning ≡ p → c'.pinning ≡ p'
+        → holders slot (set cs j c') + (bit b 1 + bit p 1) ≡ holders slot cs + (bit b' 1 + bit p' 1)
+    held_in_this b b' p p' was now counted counts =
+        let x = in_this is_holder b b' (ap (λ (s : Bool). s && not (is_spent c.phase)) (in_its_slot c refl) ∙ was) (ap (λ (s : Bool). s && not (is_spent c'.phase)) (in_its_slot c' same) ∙ now) in
+        let y = in_this is_pinner p p' (ap (λ (s : Bool). s && c.pinning) (in_its_slot c refl) ∙ counted) (ap (λ (s : Bool). s && c'.pinning) (in_its_slot c' same) ∙ counts) in
+        omega arith
+
     same_world : with_phase world j c.key c'.phase ≡ bare m (set cs j c')
     same_world =
         ap (λ (key : Key). with_phase world j key c'.phase) (sym same)
@@ -130,7 +145,6 @@ module _ {words : List ℕ} {m : MasterView} {cs : List CallerView} (j : ℕ) {c
     moves words' wide marks' holds' undo_due still apart runs e event = record {
       wide = wide ∙ shows.wide;
       few = shows.few;
-      pinned = length-set cs j c' ∙ shows.pinned;
       marks = marks';
       holds = holds';
       tries = λ i x e. ⊎_elim
@@ -157,9 +171,9 @@ module _ {words : List ℕ} {m : MasterView} {cs : List CallerView} (j : ℕ) {c
     }
 
     -- a step on the slot's active word
-    on_active_word : (new : ℕ) → ShowsMarks new last.0.marks (users slot (set cs j c')) (hiders slot (set cs j c')) → c'.phase ≢ Spent → (c'.undo_due ≡ true → c'.phase ≡ Turned) → (c'.phase ≡ Running → are_live last.0.marks ≡ true)
+    on_active_word : (new : ℕ) → ShowsMarks new last.0.marks (users slot (set cs j c')) (hiders slot (set cs j c')) → c'.pinning ≡ c.pinning → c'.phase ≢ Spent → (c'.undo_due ≡ true → c'.phase ≡ Turned) → (c'.phase ≡ Running → are_live last.0.marks ≡ true)
         → (e : Event) → BareStep world e (with_phase world j c.key c'.phase) → Shows (set words (active_index slot) new) m (set cs j c')
-    on_active_word new is holds' undo_due runs = moves (set words (active_index slot) new) (length-set words (active_index slot) new)
+    on_active_word new is pins holds' undo_due runs = moves (set words (active_index slot) new) (length-set words (active_index slot) new)
         (λ k state its. dite (ℕ_discrete k slot)
         (λ e.
         let here : slice_get m.slots slot ≡ Some state = subst (λ (x : ℕ). slice_get m.slots x ≡ Some state) e its in
@@ -184,8 +198,8 @@ module _ {words : List ℕ} {m : MasterView} {cs : List CallerView} (j : ℕ) {c
         stays : (k : ℕ) → holders k (set cs j c') ≡ holders k cs
         stays k = dite (ℕ_discrete k slot)
             (λ e. subst (λ (x : ℕ). holders x (set cs j c') ≡ holders x cs) (sym e)
-            (let r = in_this is_holder true true (ap (λ (b : Bool). b && not (is_spent c.phase)) (in_its_slot c refl) ∙ ap not (not_spent c.phase holding)) (ap (λ (b : Bool). b && not (is_spent c'.phase)) (in_its_slot c' same) ∙ ap not (not_spent c'.phase holds')) in omega arith))
-            (λ ne. in_other is_holder k ne (λ x. off k x (not (is_spent x.phase))))
+            (let r = held_in_this true true c.pinning c.pinning (ap not (not_spent c.phase holding)) (ap not (not_spent c'.phase holds')) refl pins in omega arith))
+            (λ ne. held_in_other k ne)
 
     pub users_now : (b b' : Bool) → (has_reference c.phase || c.undo_due) ≡ b → (has_reference c'.phase || c'.undo_due) ≡ b' → users slot (set cs j c') + bit b 1 ≡ users slot cs + bit b' 1
     users_now b b' was now = in_this is_user b b' (ap (λ (s : Bool). s && (has_reference c.phase || c.undo_due)) (in_its_slot c refl) ∙ was) (ap (λ (s : Bool). s && (has_reference c'.phase || c'.undo_due)) (in_its_slot c' same) ∙ now)
@@ -200,24 +214,24 @@ module _ {words : List ℕ} {m : MasterView} {cs : List CallerView} (j : ℕ) {c
     own_word_now : is_hiding c'.phase ≡ is_hiding c.phase → ShowsMarks word last.0.marks (users slot cs) (hiders slot (set cs j c'))
     own_word_now as_was = subst (λ (n : ℕ). ShowsMarks word last.0.marks (users slot cs) n) (hiders_stay as_was) (shows.marks slot last.0 last.1)
 
-    pub adds : is_hiding c'.phase ≡ is_hiding c.phase → (has_reference c.phase || c.undo_due) ≡ false → (has_reference c'.phase || c'.undo_due) ≡ true → c'.phase ≢ Spent → (c'.undo_due ≡ true → c'.phase ≡ Turned) → (c'.phase ≡ Running → are_live last.0.marks ≡ true)
+    pub adds : is_hiding c'.phase ≡ is_hiding c.phase → (has_reference c.phase || c.undo_due) ≡ false → (has_reference c'.phase || c'.undo_due) ≡ true → c'.pinning ≡ c.pinning → c'.phase ≢ Spent → (c'.undo_due ≡ true → c'.phase ≡ Turned) → (c'.phase ≡ Running → are_live last.0.marks ≡ true)
         → (e : Event) → BareStep world e (with_phase world j c.key c'.phase) → Shows (set words (active_index slot) ((word + 1) % 2 ^ 64)) m (set cs j c')
     adds hides was now = let u = users_now false true was now in
         on_active_word ((word + 1) % 2 ^ 64) (one_more word last.0.marks (users slot cs) (users slot (set cs j c')) (hiders slot (set cs j c')) users_few (omega arith) (own_word_now hides))
 
-    pub drops : is_hiding c'.phase ≡ is_hiding c.phase → (has_reference c.phase || c.undo_due) ≡ true → (has_reference c'.phase || c'.undo_due) ≡ false → c'.phase ≢ Spent → (c'.undo_due ≡ true → c'.phase ≡ Turned) → (c'.phase ≡ Running → are_live last.0.marks ≡ true)
+    pub drops : is_hiding c'.phase ≡ is_hiding c.phase → (has_reference c.phase || c.undo_due) ≡ true → (has_reference c'.phase || c'.undo_due) ≡ false → c'.pinning ≡ c.pinning → c'.phase ≢ Spent → (c'.undo_due ≡ true → c'.phase ≡ Turned) → (c'.phase ≡ Running → are_live last.0.marks ≡ true)
         → (e : Event) → BareStep world e (with_phase world j c.key c'.phase) → Shows (set words (active_index slot) ((word + (2 ^ 64 - 1)) % 2 ^ 64)) m (set cs j c')
     drops hides was now = let u = users_now true false was now in
         on_active_word ((word + (2 ^ 64 - 1)) % 2 ^ 64) (one_less word last.0.marks (users slot cs) (users slot (set cs j c')) (hiders slot (set cs j c')) users_few (omega arith) (own_word_now hides))
 
-    pub sees : is_hiding c'.phase ≡ is_hiding c.phase → (has_reference c'.phase || c'.undo_due) ≡ (has_reference c.phase || c.undo_due) → c'.phase ≢ Spent → (c'.undo_due ≡ true → c'.phase ≡ Turned) → (c'.phase ≡ Running → are_live last.0.marks ≡ true)
+    pub sees : is_hiding c'.phase ≡ is_hiding c.phase → (has_reference c'.phase || c'.undo_due) ≡ (has_reference c.phase || c.undo_due) → c'.pinning ≡ c.pinning → c'.phase ≢ Spent → (c'.undo_due ≡ true → c'.phase ≡ Turned) → (c'.phase ≡ Running → are_live last.0.marks ≡ true)
         → (e : Event) → BareStep world e (with_phase world j c.key c'.phase) → Shows (set words (active_index slot) word) m (set cs j c')
     sees hides as_was = let u = users_now (has_reference c.phase || c.undo_due) (has_reference c.phase || c.undo_due) refl as_was in
         let even : users slot (set cs j c') ≡ users slot cs = omega arith in
         on_active_word word (subst (λ (n : ℕ). ShowsMarks word last.0.marks n (hiders slot (set cs j c'))) (sym even) (own_word_now hides))
 
     -- a step that changes the bit of a hidden key
-    pub turns : (new : ℕ) → ((n : ℕ) → n ≡ users slot cs → ShowsMarks new last.0.marks n (hiders slot (set cs j c'))) → (has_reference c'.phase || c'.undo_due) ≡ (has_reference c.phase || c.undo_due) → c'.phase ≢ Spent → (c'.undo_due ≡ true → c'.phase ≡ Turned) → (c'.phase ≡ Running → are_live last.0.marks ≡ true)
+    pub turns : (new : ℕ) → ((n : ℕ) → n ≡ users slot cs → ShowsMarks new last.0.marks n (hiders slot (set cs j c'))) → (has_reference c'.phase || c'.undo_due) ≡ (has_reference c.phase || c.undo_due) → c'.pinning ≡ c.pinning → c'.phase ≢ Spent → (c'.undo_due ≡ true → c'.phase ≡ Turned) → (c'.phase ≡ Running → are_live last.0.marks ≡ true)
         → (e : Event) → BareStep world e (with_phase world j c.key c'.phase) → Shows (set words (active_index slot) new) m (set cs j c')
     turns new is as_was = let u = users_now (has_reference c.phase || c.undo_due) (has_reference c.phase || c.undo_due) refl as_was in
         on_active_word new (is (users slot (set cs j c')) (omega arith))

@@ -46,10 +46,10 @@ module _ (words : List ℕ) (m : MasterView) (cs : List CallerView) (j : ℕ) (c
       let lives' : is_live world c.key ≡ not (keeps_out word) = ap (λ (b : Bool). b && not (is_hidden world c.key)) (ap are_live (known j shows at holding) ∙ lives) ∙ ap (λ (b : Bool). not (has_bias word) && not b) hides ∙ neither (has_bias word) (has_hide word) in
       ⊎_elim
       (λ (biased : keeps_out word ≡ true). subst (λ (x : CallerView). Shows (set words (active_index slot) ((word + 1) % 2 ^ 64)) m (set cs j x)) (sym (try_refused word c biased))
-      (adds j shows at holding (after_step Turned true word (with_try c)) refl shown idle refl (λ e. cc) (λ _. refl) (λ e. absurd (let x : Turned ≡ Running = e in cc)) (Enter j)
+      (adds j shows at holding (after_step Turned true word (with_try c)) refl shown idle refl refl (λ e. cc) (λ _. refl) (λ e. absurd (let x : Turned ≡ Running = e in cc)) (Enter j)
       (c.key, c.phase, there j shows at holding, waits, ap (with_phase world j c.key) (sym (ap (λ (b : Bool). if b then Running else Turned) (lives' ∙ ap not biased))))))
       (λ (free : keeps_out word ≡ false). subst (λ (x : CallerView). Shows (set words (active_index slot) ((word + 1) % 2 ^ 64)) m (set cs j x)) (sym (try_enters word c free))
-      (adds j shows at holding (after_step Running false word (with_try c)) refl shown idle refl (λ e. cc) (λ e. absurd (let x : false ≡ true = e in cc)) (λ _. lives ∙ ap not (no_first (has_bias word) (has_hide word) free)) (Enter j)
+      (adds j shows at holding (after_step Running false word (with_try c)) refl shown idle refl refl (λ e. cc) (λ e. absurd (let x : false ≡ true = e in cc)) (λ _. lives ∙ ap not (no_first (has_bias word) (has_hide word) free)) (Enter j)
       (c.key, c.phase, there j shows at holding, waits, ap (with_phase world j c.key) (sym (ap (λ (b : Bool). if b then Running else Turned) (lives' ∙ ap not free))))))
       (bool_cases (keeps_out word))
     where
@@ -63,22 +63,22 @@ module _ (words : List ℕ) (m : MasterView) (cs : List CallerView) (j : ℕ) (c
 
   pub undo_owes : c.phase ≡ Turned → c.undo_due ≡ true → Shows (set words (active_index slot) ((word + (2 ^ 64 - 1)) % 2 ^ 64)) m (set cs j (after_undo c))
   undo_owes turned undo_due =
-      drops j shows at holding (after_undo c) refl refl (ap (λ (p : Phase). has_reference p || c.undo_due) turned ∙ undo_due) (ap (λ (p : Phase). has_reference p || false) turned) holding
+      drops j shows at holding (after_undo c) refl refl (ap (λ (p : Phase). has_reference p || c.undo_due) turned ∙ undo_due) (ap (λ (p : Phase). has_reference p || false) turned) refl holding
       (λ e. absurd (let x : false ≡ true = e in cc)) (λ e. absurd (let x : Turned ≡ Running = sym turned ∙ e in cc)) (Undo j) (unmoved j shows at holding)
 
   pub leave_owes : has_reference c.phase ≡ true → Shows (set words (active_index slot) ((word + (2 ^ 64 - 1)) % 2 ^ 64)) m (set cs j (after_leave word c))
   leave_owes counted =
-      drops j shows at holding (after_leave word c) refl (sym (counts_shown c.phase counted)) (ap (λ (b : Bool). b || c.undo_due) counted) refl (λ e. cc) (λ e. absurd (let x : false ≡ true = e in cc)) (λ e. absurd (let x : Still ≡ Running = e in cc))
+      drops j shows at holding (after_leave word c) refl (sym (counts_shown c.phase counted)) (ap (λ (b : Bool). b || c.undo_due) counted) refl refl (λ e. cc) (λ e. absurd (let x : false ≡ true = e in cc)) (λ e. absurd (let x : Still ≡ Running = e in cc))
       (Leave j) (c.key, c.phase, there j shows at holding, counted, refl)
 
   pub break_owes : c.phase ≡ Running → c.undo_due ≡ false → Shows (set words (active_index slot) ((word + (2 ^ 64 - 1)) % 2 ^ 64)) m (set cs j (after_break word c))
   break_owes runs settled =
-      drops j shows at holding (after_break word c) refl (sym (ap is_hiding runs)) (ap (λ (p : Phase). has_reference p || c.undo_due) runs) refl (λ e. cc) (λ e. absurd (let x : false ≡ true = e in cc)) (λ e. absurd (let x : Broken ≡ Running = e in cc))
+      drops j shows at holding (after_break word c) refl (sym (ap is_hiding runs)) (ap (λ (p : Phase). has_reference p || c.undo_due) runs) refl refl (λ e. cc) (λ e. absurd (let x : false ≡ true = e in cc)) (λ e. absurd (let x : Broken ≡ Running = e in cc))
       (Break j) (c.key, subst (λ (p : Phase). slice_get world.callers j ≡ Some (record { key = c.key; phase = p })) runs (there j shows at holding), refl)
 
   pub restore_owes : c.phase ≡ Broken → c.undo_due ≡ false → Shows (set words (active_index slot) ((word + 1) % 2 ^ 64)) m (set cs j (after_restore word c))
   restore_owes broke settled =
-      adds j shows at holding (after_restore word c) refl (sym (ap is_hiding broke)) (ap (λ (p : Phase). has_reference p || c.undo_due) broke ∙ settled) refl (λ e. cc) (λ e. absurd (let x : false ≡ true = e in cc)) (λ e. absurd (let x : Restored ≡ Running = e in cc))
+      adds j shows at holding (after_restore word c) refl (sym (ap is_hiding broke)) (ap (λ (p : Phase). has_reference p || c.undo_due) broke ∙ settled) refl refl (λ e. cc) (λ e. absurd (let x : false ≡ true = e in cc)) (λ e. absurd (let x : Restored ≡ Running = e in cc))
       (Restore j) (c.key, subst (λ (p : Phase). slice_get world.callers j ≡ Some (record { key = c.key; phase = p })) broke (there j shows at holding), refl)
 
   pub look_owes : is_waiting c.phase ≡ true → c.undo_due ≡ false → Shows (set words (active_index slot) word) m (set cs j (after_look word c))
@@ -89,8 +89,8 @@ module _ (words : List ℕ) (m : MasterView) (cs : List CallerView) (j : ℕ) (c
       (λ (hit : is_drained word ≡ true).
       let is = drained_shows word last.0.marks (users slot cs) (hiders slot cs) (users_few j shows at holding) (own_word j shows at holding) hit in
       subst (λ (x : CallerView). Shows (set words (active_index slot) word) m (set cs j x)) (sym (look_hits word c hit))
-      (sees j shows at holding (after_step Drained false word c) refl (sym (waits_shown c.phase waits)) (sym idle) (λ e. cc) (λ e. absurd (let x : false ≡ true = e in cc)) (λ e. absurd (let x : Drained ≡ Running = e in cc))
+      (sees j shows at holding (after_step Drained false word c) refl (sym (waits_shown c.phase waits)) (sym idle) refl (λ e. cc) (λ e. absurd (let x : false ≡ true = e in cc)) (λ e. absurd (let x : Drained ≡ Running = e in cc))
       (Look j) (record { key = c.key; phase = c.phase; there = there j shows at holding; waits = waits; doomed = ap are_doomed (known j shows at holding) ∙ is.1; unused = none_counted j shows at holding is.0 }, refl)))
       (λ (miss : is_drained word ≡ false). subst (λ (x : CallerView). Shows (set words (active_index slot) word) m (set cs j x)) (sym (look_misses word c miss))
-      (sees j shows at holding (after_step c.phase c.undo_due word c) refl refl refl holding (λ e. absurd (let x : true ≡ false = sym e ∙ settled in cc)) (λ e. absurd (not_running c.phase waits e)) (Undo j) (unmoved j shows at holding)))
+      (sees j shows at holding (after_step c.phase c.undo_due word c) refl refl refl refl holding (λ e. absurd (let x : true ≡ false = sym e ∙ settled in cc)) (λ e. absurd (not_running c.phase waits e)) (Undo j) (unmoved j shows at holding)))
       (bool_cases (is_drained word))

@@ -3,7 +3,9 @@ use Rattle.std.proofs.Common.{◌≡◌, ◌≢◌, ◌∷◌, ◌++◌, inr, le
 use Rattle.std.specs.Prelude.{slice_get, Option, Some, None, is_some}
 use Rattle.std.proofs.lemmas.Option.{none-some, same_Some, get_or_from_slice_get}
 use Rattle.std.proofs.lemmas.List.{length-map}
+use mathlib.Core.Option.{some}
 use mathlib.Core.List.{map-append}
+use lib.ListN.{get_elem?}
 use lib.Seq.{map-set}
 use Rattle.atomic_table.specs.Table.{State}
 use Rattle.kf_core.specs.declared.key.Key.{Key}
@@ -23,13 +25,19 @@ use Rattle.kf_words.specs.declared.view.MasterView.{MasterView}
 use Rattle.kf_words.specs.declared.view.View.{View}
 use Rattle.kf_words.specs.Layout.{active_word, hold_word, keeps_out, is_drained, has_hide, is_unused, has_linked}
 use Rattle.kf_words.specs.Rule.{Shown, caller, bare, last_key}
-use Rattle.kf_words.specs.Steps.{after_step, with_try, no_state, state_at, remarked, new_hold, hold_for, after_split, activated_marks, doomed_marks}
+use Rattle.kf_words.specs.Steps.{after_step, with_try, no_state, state_at, remarked, new_hold, hold_for, after_split, activated_marks, doomed_marks, after_count, after_share}
 use Rattle.kf_words.specs.Nodes.{marks_of}
-use Rattle.kf_words.specs.Events.{Moves, TryIsEnter, UndoIsUndo, LookIsLook, PartIsPart, LeaveIsLeave, BreakIsBreak, RestoreIsRestore, ReleaseIsRelease, HideIsHide, LookHiddenIsLook, ShowIsShow, MissIsNothing, RiseIsRise, MarkIsMark, BirthIsBorn, UnlinkIsUnlink, SplitIsPin, HeldSplitIsPin, RestIsNothing}
+use Rattle.kf_words.specs.Events.{Moves, TryIsEnter, UndoIsUndo, LookIsLook, PartIsPart, LeaveIsLeave, BreakIsBreak, RestoreIsRestore, ReleaseIsRelease, HideIsHide, LookHiddenIsLook, ShowIsShow, MissIsNothing, RiseIsRise, MarkIsMark, BirthIsBorn, UnlinkIsUnlink, SplitIsPin, HeldSplitIsPin, ShareIsPin, RestIsNothing}
 use Rattle.kf_words.proofs.Bits.{bool_cases, waiting_is, not_not}
 use Rattle.kf_words.proofs.Answered.{try_enters, try_refused, look_hits, look_misses, part_gone, part_linked, hide_sets, hide_found, look_hidden_hits, look_hidden_misses}
 use Rattle.kf_words.proofs.Keys.{linked_state}
+use Rattle.kf_words.proofs.Sharing.{is_pinned}
 use Rattle.kf_words.proofs.Tells.{lets_in_the_live, tells_the_hidden, drained_is_unused, unused_is_unused, free_is_unheld, tells_the_linked}
+
+seated_at : (cs : List CallerView) (j : ℕ) (c : CallerView) → slice_get cs j ≡ Some c → get_elem? cs j ≡ some c
+seated_at [] j c e = absurd (none-some c e)
+seated_at (x ∷ xs) zero c e = ap some (same_Some x c e)
+seated_at (x ∷ xs) (suc j) c e = seated_at xs j c e
 
 caller_there : (cs : List CallerView) (j : ℕ) (c : CallerView) → slice_get cs j ≡ Some c → slice_get (map caller cs) j ≡ Some (caller c)
 caller_there [] j c e = absurd (none-some c e)
@@ -179,6 +187,9 @@ miss_is_nothing slots limit t shown j c at found =
       λ linked. ap (λ (x : CallerView). bare m (set cs j x)) (part_linked found c linked) ∙ stays m cs j c at c.undo_due found,
       λ set_already. ap (λ (x : CallerView). bare m (set cs j x)) (hide_found found c set_already) ∙ stays m cs j c at c.undo_due found,
       λ used. ap (λ (x : CallerView). bare m (set cs j x)) (look_hidden_misses found c used) ∙ stays m cs j c at c.undo_due found,
+      stays m cs j c at c.undo_due found,
+      ap (λ (l : List Caller). let w : BareWorld = record { slots = m.slots; callers = l } in w) (map-set caller cs j (after_count found c) ∙ sym (map-set caller cs j (after_step c.phase c.undo_due found c)))
+          ∙ stays m cs j c at c.undo_due found,
     )
 
 -- the Master writes a slot's state
@@ -246,6 +257,13 @@ held_split_is_pin slots limit t shown j c at holds pins =
     let held : core.IsHeld (bare m cs) c.key = record { caller = j; phase = c.phase; there = there m cs j c at; holds = holds } in
     subst (λ (k : Key). core.BareStep (bare m cs) (Pin (length cs) k) (bare (after_split m) (cs ++ hold_for m m.pinning ∷ []))) key
     (split_is_pin slots limit t shown c.key.slot l.0 pins l.1 (inr (subst (λ (k : Key). core.IsHeld (bare m cs) k) (sym key) held)))
+
+pub share_is_pin : ShareIsPin
+share_is_pin slots limit t shown j c at holding =
+    let m : MasterView = shown.master in
+    let cs : List CallerView = shown.callers in
+    subst (λ (n : ℕ). core.BareStep (bare m cs) (Pin n c.key) (bare m (set cs j (after_share c) ++ new_hold c.key ∷ [])))
+    (length-map cs caller) (is_pinned m cs j c (seated_at cs j c at) holding)
 
 pub rest_is_nothing : RestIsNothing
 rest_is_nothing slots limit t shown slot found = (refl, refl, refl, refl, refl)

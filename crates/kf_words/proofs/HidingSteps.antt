@@ -47,13 +47,13 @@ module _ (words : List ℕ) (m : MasterView) (cs : List CallerView) (j : ℕ) (c
       ⊎_elim
       (λ (found : has_hide word ≡ true). subst (λ (n : ℕ). Shows (set words (active_index slot) n) m (set cs j (after_hide word c))) (sym (hide_again word found small))
       (subst (λ (x : CallerView). Shows (set words (active_index slot) word) m (set cs j x)) (sym (hide_found word c found))
-      (sees j shows at holding (after_step c.phase c.undo_due word c) refl refl refl holding (λ e. absurd (let x : true ≡ false = sym e ∙ settled in cc)) (λ e. absurd (not_running c.phase waits e)) (Undo j) (unmoved j shows at holding))))
+      (sees j shows at holding (after_step c.phase c.undo_due word c) refl refl refl refl holding (λ e. absurd (let x : true ≡ false = sym e ∙ settled in cc)) (λ e. absurd (not_running c.phase waits e)) (Undo j) (unmoved j shows at holding))))
       (λ (clear : has_hide word ≡ false). subst (λ (x : CallerView). Shows (set words (active_index slot) (bit_or word hide)) m (set cs j x)) (sym (hide_sets word c clear))
       (turns j shows at holding (after_step Hiding false word c) refl (bit_or word hide)
       (λ n e. subst (λ (k : ℕ). ShowsMarks (bit_or word hide) last.0.marks k (hiders slot (set cs j (after_step Hiding false word c)))) (sym e)
       (hide_comes word last.0.marks (users slot cs) (hiders slot cs) (hiders slot (set cs j (after_step Hiding false word c))) (users_few j shows at holding) (own_word j shows at holding) clear
       (let r = hiders_now j shows at holding (after_step Hiding false word c) refl false true (waits_shown c.phase waits) refl in omega arith)))
-      (sym idle) (λ e. cc) (λ e. absurd (let x : false ≡ true = e in cc)) (λ e. absurd (let x : Hiding ≡ Running = e in cc))
+      (sym idle) refl (λ e. cc) (λ e. absurd (let x : false ≡ true = e in cc)) (λ e. absurd (let x : Hiding ≡ Running = e in cc))
       (Hide j) (record { key = c.key; phase = c.phase; there = there j shows at holding; waits = waits; shown = hides ∙ clear }, refl)))
       (bool_cases (has_hide word))
 
@@ -64,10 +64,10 @@ module _ (words : List ℕ) (m : MasterView) (cs : List CallerView) (j : ℕ) (c
       (λ (hit : is_unused word ≡ true).
       let none = unused_shows word last.0.marks (users slot cs) (hiders slot cs) (users_few j shows at holding) (own_word j shows at holding) hit in
       subst (λ (x : CallerView). Shows (set words (active_index slot) word) m (set cs j x)) (sym (look_hidden_hits word c hit))
-      (sees j shows at holding (after_step Hidden false word c) refl (sym (ap is_hiding hiding)) (sym idle) (λ e. cc) (λ e. absurd (let x : false ≡ true = e in cc)) (λ e. absurd (let x : Hidden ≡ Running = e in cc))
+      (sees j shows at holding (after_step Hidden false word c) refl (sym (ap is_hiding hiding)) (sym idle) refl (λ e. cc) (λ e. absurd (let x : false ≡ true = e in cc)) (λ e. absurd (let x : Hidden ≡ Running = e in cc))
       (LookHidden j) (record { key = c.key; there = in_phase Hiding hiding; unused = none_counted j shows at holding none }, refl)))
       (λ (miss : is_unused word ≡ false). subst (λ (x : CallerView). Shows (set words (active_index slot) word) m (set cs j x)) (sym (look_hidden_misses word c miss))
-      (sees j shows at holding (after_step c.phase c.undo_due word c) refl refl refl holding (λ e. absurd (let x : true ≡ false = sym e ∙ settled in cc)) (λ e. absurd (let x : Hiding ≡ Running = sym hiding ∙ e in cc)) (Undo j) (unmoved j shows at holding)))
+      (sees j shows at holding (after_step c.phase c.undo_due word c) refl refl refl refl holding (λ e. absurd (let x : true ≡ false = sym e ∙ settled in cc)) (λ e. absurd (let x : Hiding ≡ Running = sym hiding ∙ e in cc)) (Undo j) (unmoved j shows at holding)))
       (bool_cases (is_unused word))
 
   -- a hidden caller finds its bit set
@@ -83,5 +83,5 @@ module _ (words : List ℕ) (m : MasterView) (cs : List CallerView) (j : ℕ) (c
       (λ n e. subst (λ (k : ℕ). ShowsMarks ((word + (2 ^ 64 - hide)) % 2 ^ 64) last.0.marks k (hiders slot (set cs j (after_show word c)))) (sym e)
       (hide_goes word last.0.marks (users slot cs) (hiders slot cs) (hiders slot (set cs j (after_show word c))) (users_few j shows at holding) (own_word j shows at holding)
       (let r = hiders_now j shows at holding (after_show word c) refl true false (ap is_hiding hid) refl in omega arith)))
-      (sym idle) (λ e. cc) (λ e. absurd (let x : false ≡ true = e in cc)) (λ e. absurd (let x : Still ≡ Running = e in cc))
+      (sym idle) refl (λ e. cc) (λ e. absurd (let x : false ≡ true = e in cc)) (λ e. absurd (let x : Still ≡ Running = e in cc))
       (Show j) (c.key, in_phase Hidden hid, refl)

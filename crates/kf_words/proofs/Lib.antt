@@ -11,6 +11,7 @@ pub mod HoldSteps
 pub mod CallerAllowed
 pub mod Sleepers
 pub mod MasterViews
+pub mod Sharing
 pub mod MasterAllowed
 pub mod Keys
 pub mod Searching
@@ -23,6 +24,7 @@ pub mod Keeps
 pub mod OneEnds
 pub mod Runs
 pub mod Made
+pub mod Exchanges
 pub mod MasterMade
 pub mod Waits
 pub mod Life

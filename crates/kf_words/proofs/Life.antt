@@ -2,8 +2,8 @@
 use Rattle.std.proofs.Common.{◌≡◌, ◌≢◌, inl, inr, true, false, [], ◌∷◌, refl, ltb-true}
 use Rattle.std.specs.Prelude.{Some, None}
 use Rattle.kf_core.specs.declared.caller.Phase.TheVariants.{Still, Turned, Running, Broken, Restored, Drained, Parted, Hiding, Hidden, Spent}
-use Rattle.kf_words.specs.TableSteps.{Table, births, breaks, hides, leaves, loads_hold, looks, looks_hidden, looks_over, marks_node, parts, pins_hold, releases, restores, shows, sleeps, awakes, splits, stores_fresh, takes_bias, tries, undoes, unlinks, unpins_hold, WordStep}
-use Rattle.kf_words.specs.Life.{with_marks_of, caller_at, master_at, table_at, table_with, WordLife}
+use Rattle.kf_words.specs.TableSteps.{Table, births, breaks, hides, leaves, loads_hold, looks, looks_hidden, looks_over, marks_node, parts, pins_hold, releases, misses, counts, shares, restores, shows, sleeps, awakes, splits, stores_fresh, takes_bias, tries, undoes, unlinks, unpins_hold, WordStep}
+use Rattle.kf_words.specs.Life.{with_marks_of, caller_at, master_at, table_at, table_with, with_one_more, WordLife}
 
 still_holds : Still ≢ Spent
 still_holds e = let x : Still ≡ Spent = e in cc
@@ -111,29 +111,42 @@ t30 = table_at 12884901888 4294967298 (master_at 1 (None) 2 (None) (None) ([]) (
 abbrev t31 : Table
 t31 = table_at 12884901888 4294967298 (master_at 1 (None) 2 (None) (None) ([]) (record { slot = 1; word = 0 } ∷ []) (None)) ((caller_at Still 8 3 12884901889 false) ∷ (caller_at Parted 9 1 4294967298 false) ∷ [])
 
+-- the node is out: caller 0 finds no room for another hold, and then makes one
+abbrev b31 : Table
+b31 = table_at 12884901888 4294967298 (master_at 1 (None) 2 (None) (None) ([]) (record { slot = 1; word = 0 } ∷ []) (None)) ((caller_at Still 9 3 4294967298 false) ∷ (caller_at Parted 9 1 4294967298 false) ∷ [])
+
 abbrev t32 : Table
-t32 = table_at 12884901888 4294967297 (master_at 1 (None) 2 (None) (None) ([]) (record { slot = 1; word = 0 } ∷ []) (None)) ((caller_at Still 8 3 12884901889 false) ∷ (caller_at Spent 10 1 4294967298 false) ∷ [])
+t32 = table_at 12884901888 4294967297 (master_at 1 (None) 2 (None) (None) ([]) (record { slot = 1; word = 0 } ∷ []) (None)) ((caller_at Still 9 3 4294967298 false) ∷ (caller_at Spent 10 1 4294967298 false) ∷ [])
+
+abbrev c32 : Table
+c32 = table_at 12884901888 4294967298 (master_at 1 (None) 2 (None) (None) ([]) (record { slot = 1; word = 0 } ∷ []) (None)) (with_one_more (caller_at Still 10 3 4294967297 false) ∷ (caller_at Spent 10 1 4294967298 false) ∷ [])
+
+abbrev d32 : Table
+d32 = table_at 12884901888 4294967298 (master_at 1 (None) 2 (None) (None) ([]) (record { slot = 1; word = 0 } ∷ []) (None)) ((caller_at Still 10 3 4294967297 false) ∷ (caller_at Spent 10 1 4294967298 false) ∷ (caller_at Still 0 0 0 false) ∷ [])
+
+abbrev e32 : Table
+e32 = table_at 12884901888 4294967297 (master_at 1 (None) 2 (None) (None) ([]) (record { slot = 1; word = 0 } ∷ []) (None)) ((caller_at Still 10 3 4294967297 false) ∷ (caller_at Spent 10 1 4294967298 false) ∷ (caller_at Spent 1 0 4294967298 false) ∷ [])
 
 abbrev t33 : Table
-t33 = table_at 12884901888 4294967296 (master_at 1 (None) 2 (None) (None) ([]) (record { slot = 1; word = 0 } ∷ []) (None)) ((caller_at Spent 9 3 4294967297 false) ∷ (caller_at Spent 10 1 4294967298 false) ∷ [])
+t33 = table_at 12884901888 4294967296 (master_at 1 (None) 2 (None) (None) ([]) (record { slot = 1; word = 0 } ∷ []) (None)) ((caller_at Spent 11 3 4294967297 false) ∷ (caller_at Spent 10 1 4294967298 false) ∷ (caller_at Spent 1 0 4294967298 false) ∷ [])
 
 abbrev t34 : Table
-t34 = table_at 12884901888 4294967296 (master_at 1 (None) 2 (None) (None) (record { slot = 1; word = 4294967296 } ∷ []) (record { slot = 1; word = 0 } ∷ []) (None)) ((caller_at Spent 9 3 4294967297 false) ∷ (caller_at Spent 10 1 4294967298 false) ∷ [])
+t34 = table_at 12884901888 4294967296 (master_at 1 (None) 2 (None) (None) (record { slot = 1; word = 4294967296 } ∷ []) (record { slot = 1; word = 0 } ∷ []) (None)) ((caller_at Spent 11 3 4294967297 false) ∷ (caller_at Spent 10 1 4294967298 false) ∷ (caller_at Spent 1 0 4294967298 false) ∷ [])
 
 abbrev t35 : Table
-t35 = table_at 4294967296 4294967296 (master_at 1 (None) 2 (None) (Some 1) (record { slot = 1; word = 4294967296 } ∷ []) (record { slot = 1; word = 0 } ∷ []) (None)) ((caller_at Spent 9 3 4294967297 false) ∷ (caller_at Spent 10 1 4294967298 false) ∷ [])
+t35 = table_at 4294967296 4294967296 (master_at 1 (None) 2 (None) (Some 1) (record { slot = 1; word = 4294967296 } ∷ []) (record { slot = 1; word = 0 } ∷ []) (None)) ((caller_at Spent 11 3 4294967297 false) ∷ (caller_at Spent 10 1 4294967298 false) ∷ (caller_at Spent 1 0 4294967298 false) ∷ [])
 
 abbrev t36 : Table
-t36 = table_at 4294967296 10737418240 (master_at 2 (Some (with_marks_of false false)) 2 (None) (None) ([]) (record { slot = 1; word = 4294967296 } ∷ []) (None)) ((caller_at Spent 9 3 4294967297 false) ∷ (caller_at Spent 10 1 4294967298 false) ∷ [])
+t36 = table_at 4294967296 10737418240 (master_at 2 (Some (with_marks_of false false)) 2 (None) (None) ([]) (record { slot = 1; word = 4294967296 } ∷ []) (None)) ((caller_at Spent 11 3 4294967297 false) ∷ (caller_at Spent 10 1 4294967298 false) ∷ (caller_at Spent 1 0 4294967298 false) ∷ [])
 
 abbrev t37 : Table
-t37 = table_at 4294967296 10737418240 (master_at 2 (Some (with_marks_of false false)) 2 (None) (None) (record { slot = 1; word = 10737418240 } ∷ []) (record { slot = 1; word = 4294967296 } ∷ []) (None)) ((caller_at Spent 9 3 4294967297 false) ∷ (caller_at Spent 10 1 4294967298 false) ∷ [])
+t37 = table_at 4294967296 10737418240 (master_at 2 (Some (with_marks_of false false)) 2 (None) (None) (record { slot = 1; word = 10737418240 } ∷ []) (record { slot = 1; word = 4294967296 } ∷ []) (None)) ((caller_at Spent 11 3 4294967297 false) ∷ (caller_at Spent 10 1 4294967298 false) ∷ (caller_at Spent 1 0 4294967298 false) ∷ [])
 
 abbrev t38 : Table
-t38 = table_at 4294967296 10737418241 (master_at 2 (Some (with_marks_of false false)) 2 (Some 1) (None) ([]) (record { slot = 1; word = 4294967296 } ∷ []) (None)) ((caller_at Spent 9 3 4294967297 false) ∷ (caller_at Spent 10 1 4294967298 false) ∷ [])
+t38 = table_at 4294967296 10737418241 (master_at 2 (Some (with_marks_of false false)) 2 (Some 1) (None) ([]) (record { slot = 1; word = 4294967296 } ∷ []) (None)) ((caller_at Spent 11 3 4294967297 false) ∷ (caller_at Spent 10 1 4294967298 false) ∷ (caller_at Spent 1 0 4294967298 false) ∷ [])
 
 abbrev t39 : Table
-t39 = table_at 4294967296 10737418240 (master_at 2 (Some (with_marks_of false false)) 2 (None) (None) ([]) (record { slot = 1; word = 4294967296 } ∷ []) (None)) ((caller_at Spent 9 3 4294967297 false) ∷ (caller_at Spent 10 1 4294967298 false) ∷ [])
+t39 = table_at 4294967296 10737418240 (master_at 2 (Some (with_marks_of false false)) 2 (None) (None) ([]) (record { slot = 1; word = 4294967296 } ∷ []) (None)) ((caller_at Spent 11 3 4294967297 false) ∷ (caller_at Spent 10 1 4294967298 false) ∷ (caller_at Spent 1 0 4294967298 false) ∷ [])
 
 s0 : WordStep t0 (loads_hold 1) t1
 s0 = (master_at 0 (None) 0 (None) (None) ([]) ([]) (None), ltb-true 1 2 refl, record { there = refl; fits = ltb-true 0 18446744073709551616 refl; becomes = refl })
@@ -234,11 +247,23 @@ s29 = (master_at 1 (Some (with_marks_of true true)) 2 (None) (None) ([]) (record
 s30 : WordStep t30 (parts 1) t31
 s30 = (caller_at Drained 8 1 6442450946 false, (refl, refl), record { there = refl; fits = ltb-true 4294967298 18446744073709551616 refl; becomes = refl })
 
-s31 : WordStep t31 (releases 1) t32
-s31 = (caller_at Parted 9 1 4294967298 false, (refl, refl), record { there = refl; fits = ltb-true 4294967298 18446744073709551616 refl; becomes = refl })
+s31 : WordStep t31 (misses 0) b31
+s31 = (caller_at Still 8 3 12884901889 false, (refl, refl), record { there = refl; fits = ltb-true 4294967298 18446744073709551616 refl; becomes = refl })
 
-s32 : WordStep t32 (releases 0) t33
-s32 = (caller_at Still 8 3 12884901889 false, (refl, refl), record { there = refl; fits = ltb-true 4294967297 18446744073709551616 refl; becomes = refl })
+b_releases : WordStep b31 (releases 1) t32
+b_releases = (caller_at Parted 9 1 4294967298 false, (refl, refl), record { there = refl; fits = ltb-true 4294967298 18446744073709551616 refl; becomes = refl })
+
+c_counts : WordStep t32 (counts 0) c32
+c_counts = (caller_at Still 9 3 4294967298 false, ((refl, refl), refl, ltb-true 2 3 refl), record { there = refl; fits = ltb-true 4294967297 18446744073709551616 refl; becomes = refl })
+
+d_shares : WordStep c32 (shares 0) d32
+d_shares = (with_one_more (caller_at Still 10 3 4294967297 false), ((refl, refl), refl), refl, refl)
+
+e_releases : WordStep d32 (releases 2) e32
+e_releases = (caller_at Still 0 0 0 false, (refl, refl), record { there = refl; fits = ltb-true 4294967298 18446744073709551616 refl; becomes = refl })
+
+s32 : WordStep e32 (releases 0) t33
+s32 = (caller_at Still 10 3 4294967297 false, (refl, refl), record { there = refl; fits = ltb-true 4294967297 18446744073709551616 refl; becomes = refl })
 
 s33 : WordStep t33 (loads_hold 1) t34
 s33 = (master_at 1 (None) 2 (None) (None) ([]) (record { slot = 1; word = 0 } ∷ []) (None), ltb-true 1 2 refl, record { there = refl; fits = ltb-true 4294967296 18446744073709551616 refl; becomes = refl })
@@ -259,4 +284,4 @@ s38 : WordStep t38 (unpins_hold 1) t39
 s38 = (master_at 2 (Some (with_marks_of false false)) 2 (Some 1) (None) ([]) (record { slot = 1; word = 4294967296 } ∷ []) (None), (ltb-true 1 2 refl, refl), record { there = refl; fits = ltb-true 10737418241 18446744073709551616 refl; becomes = refl })
 
 pub lives : WordLife
-lives = (t1, tt, s0, (t2, tt, s1, (t3, tt, s2, (t4, tt, s3, (t5, tt, s4, (t6, tt, s5, (t7, inl refl, s6, (t8, tt, s7, (t9, tt, s8, (t10, inr (0, (caller_at Still 0 0 0 false, refl, refl, still_holds)), s9, (t11, tt, s10, (t12, tt, s11, (t13, tt, s12, (t14, tt, s13, (t15, tt, s14, (t16, tt, s15, (t17, tt, s16, (t18, tt, s17, (t19, tt, s18, (t20, tt, s19, (t21, tt, s20, (t22, tt, s21, (a22, tt, s22, (a23, tt, a_breaks, (t23, tt, awake, (t24, tt, s23, (t25, tt, s24, (t26, tt, s25, (t27, tt, s26, (t28, tt, s27, (t29, tt, s28, (t30, (1, (caller_at Drained 8 1 6442450946 false, refl, refl, refl, refl)), s29, (t31, tt, s30, (t32, tt, s31, (t33, tt, s32, (t34, tt, s33, (t35, tt, s34, (t36, tt, s35, (t37, tt, s36, (t38, tt, s37, (t39, tt, s38, refl)))))))))))))))))))))))))))))))))))))))))
+lives = (t1, tt, s0, (t2, tt, s1, (t3, tt, s2, (t4, tt, s3, (t5, tt, s4, (t6, tt, s5, (t7, inl refl, s6, (t8, tt, s7, (t9, tt, s8, (t10, inr (0, (caller_at Still 0 0 0 false, refl, refl, still_holds)), s9, (t11, tt, s10, (t12, tt, s11, (t13, tt, s12, (t14, tt, s13, (t15, tt, s14, (t16, tt, s15, (t17, tt, s16, (t18, tt, s17, (t19, tt, s18, (t20, tt, s19, (t21, tt, s20, (t22, tt, s21, (a22, tt, s22, (a23, tt, a_breaks, (t23, tt, awake, (t24, tt, s23, (t25, tt, s24, (t26, tt, s25, (t27, tt, s26, (t28, tt, s27, (t29, tt, s28, (t30, (1, (caller_at Drained 8 1 6442450946 false, refl, refl, refl, refl)), s29, (t31, tt, s30, (b31, tt, s31, (t32, tt, b_releases, (c32, tt, c_counts, (d32, tt, d_shares, (e32, tt, e_releases, (t33, tt, s32, (t34, tt, s33, (t35, tt, s34, (t36, tt, s35, (t37, tt, s36, (t38, tt, s37, (t39, tt, s38, refl)))))))))))))))))))))))))))))))))))))))))))))

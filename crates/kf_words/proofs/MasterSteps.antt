@@ -31,7 +31,7 @@ use Rattle.kf_words.proofs.Seating.{at_caller, tally≤, tally-one}
 
 module _ (words : List ℕ) (m : MasterView) (cs : List CallerView) (shows : Shows words m cs) where
   pub users≤holders : (slot : ℕ) → users slot cs ≤ holders slot cs
-  users≤holders slot = tally≤ (is_user slot) (is_holder slot) cs (λ i x e u. and_not_spent (eqb x.key.slot slot) (has_reference x.phase) x.undo_due x.phase u refl (shows.tries i x e))
+  users≤holders slot = let r = tally≤ (is_user slot) (is_holder slot) cs (λ i x e u. and_not_spent (eqb x.key.slot slot) (has_reference x.phase) x.undo_due x.phase u refl (shows.tries i x e)) in omega arith
     where
       and_not_spent : (s p t : Bool) (phase : Phase) → (s && (p || t)) ≡ true → has_reference phase ≡ p → (t ≡ true → phase ≡ Turned) → (s && not (is_spent phase)) ≡ true
       and_not_spent false p t phase u e tries = absurd (let x : false ≡ true = u in cc)
@@ -40,7 +40,7 @@ module _ (words : List ℕ) (m : MasterView) (cs : List CallerView) (shows : Sho
       and_not_spent true false false phase u e tries = absurd (let x : false ≡ true = u in cc)
 
   pub hiders≤holders : (slot : ℕ) → hiders slot cs ≤ holders slot cs
-  hiders≤holders slot = tally≤ (is_hider slot) (is_holder slot) cs (λ i x e u. and_not_spent (eqb x.key.slot slot) x.phase u)
+  hiders≤holders slot = let r = tally≤ (is_hider slot) (is_holder slot) cs (λ i x e u. and_not_spent (eqb x.key.slot slot) x.phase u) in omega arith
     where
       and_not_spent : (s : Bool) (phase : Phase) → (s && is_hiding phase) ≡ true → (s && not (is_spent phase)) ≡ true
       and_not_spent false phase u = absurd (let x : false ≡ true = u in cc)
@@ -75,7 +75,6 @@ module _ (words : List ℕ) (m : MasterView) (cs : List CallerView) (shows : Sho
       changed wide marks' holds' others loads' fresh' looked' safe' = record {
         wide = wide ∙ shows.wide ∙ ap (λ (n : ℕ). n * line_words) (sym (length-set m.slots slot state'));
         few = shows.few;
-        pinned = shows.pinned;
         marks = λ k x at. dite (ℕ_discrete k slot)
             (λ e. subst (λ (i : ℕ). ShowsMarks (active_word words' i) x.marks (users i cs) (hiders i cs)) (sym e) (subst (λ (y : SlotState). ShowsMarks (active_word words' slot) y.marks (users slot cs) (hiders slot cs)) (here k x e at) marks'))
             (λ ne. let at' = there k x ne at in let o = others k ne (slice_get_within m.slots k x at') in

@@ -20,7 +20,7 @@ use Rattle.kf_words.specs.declared.view.CallerView.{CallerView}
 use Rattle.kf_words.specs.declared.view.MasterView.{MasterView}
 use Rattle.kf_words.specs.declared.view.Load.{Load}
 use Rattle.kf_words.specs.Layout.{bit, active_word, hold_word, is_drained}
-use Rattle.kf_words.specs.Rule.{is_user, is_hider, is_holder, users, hiders, holders, pins_in, ShowsMarks, ShowsHolds, StillHolds, last_key, caller, bare, Shows}
+use Rattle.kf_words.specs.Rule.{is_user, is_hider, is_holder, is_pinner, users, hiders, holders, pins_in, ShowsMarks, ShowsHolds, StillHolds, last_key, caller, bare, Shows}
 use Rattle.kf_words.specs.Steps.{on_active, after_split, new_hold, with_look}
 use Rattle.kf_words.proofs.Bits.{drained_shows}
 use Rattle.kf_words.proofs.Seating.{at_caller, tally-push, tally-one}
@@ -32,7 +32,6 @@ module _ (words : List ℕ) (m : MasterView) (cs : List CallerView) (shows : Sho
   give slot state its pins = record {
     wide = shows.wide;
     few = shows.few;
-    pinned = (let a = length-append cs (new_hold (last_key slot state) ∷ []) in let b = shows.pinned in omega arith);
     marks = λ k y at. subst (λ (n : ℕ). ShowsMarks (active_word words k) y.marks n (hiders k (cs ++ new_hold (last_key slot state) ∷ []))) (sym (no_user k))
         (subst (λ (n : ℕ). ShowsMarks (active_word words k) y.marks (users k cs) n) (sym (no_hider k)) (shows.marks k y at));
     holds = λ k y at. subst (λ (n : ℕ). ShowsHolds m.limit (hold_word words k) y n) (sym (same_holds k)) (shows.holds k y at);
@@ -72,6 +71,8 @@ module _ (words : List ℕ) (m : MasterView) (cs : List CallerView) (shows : Sho
       same_holds k =
           let a = tally-push (is_holder k) cs (new_hold (last_key slot state)) in
           let b : bit (is_holder k (new_hold (last_key slot state))) 1 ≡ bit (eqb slot k) 1 = one_of (eqb slot k) in
+          let p = tally-push (is_pinner k) cs (new_hold (last_key slot state)) in
+          let q : bit (is_pinner k (new_hold (last_key slot state))) 1 ≡ 0 = off (eqb slot k) in
           let d : pins_in m.pinning k ≡ bit (eqb slot k) 1 = ap (λ o. pins_in o k) pins in
           omega arith
 
@@ -80,7 +81,6 @@ module _ (words : List ℕ) (m : MasterView) (cs : List CallerView) (shows : Sho
   load_kept k = record {
     wide = shows.wide;
     few = shows.few;
-    pinned = shows.pinned;
     marks = shows.marks;
     holds = shows.holds;
     tries = shows.tries;
@@ -97,7 +97,6 @@ module _ (words : List ℕ) (m : MasterView) (cs : List CallerView) (shows : Sho
   look_kept slot = record {
     wide = shows.wide;
     few = shows.few;
-    pinned = shows.pinned;
     marks = shows.marks;
     holds = shows.holds;
     tries = shows.tries;

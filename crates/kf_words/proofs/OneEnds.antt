@@ -12,8 +12,8 @@ use Rattle.kf_core.specs.Marks.{fresh_marks}
 use Rattle.kf_words.specs.declared.view.CallerView.{CallerView}
 use Rattle.kf_words.specs.declared.view.MasterView.{MasterView}
 use Rattle.kf_words.specs.declared.view.View.TheVariants as seat
-use Rattle.kf_words.specs.TableSteps.{Table, Kind, CallerPlays, MasterPlays, MasterSplits, WordStep, WordRun, tries, undoes, leaves, breaks, restores, looks, parts, hides, looks_hidden, shows, releases, sleeps, awakes, loads_hold, pins_hold, unpins_hold, splits, stores_fresh, births, takes_bias, marks_node, looks_over, unlinks, plus, minus, same, with_hide, HasUndoDue, MayRelease, MaySleep, SeesRoom, HasPin, SeesFree, HasFresh, IsUndoomed, SeesDrained}
-use Rattle.kf_words.specs.Steps.{after_try, after_undo, after_leave, after_break, after_restore, after_look, after_part, after_hide, after_look_hidden, after_show, after_release, unmoved, with_load, with_pin, without_pin, after_store, with_birth, with_look, without_node, unread, with_marks, activated_marks, doomed_marks, after_split, hold_for}
+use Rattle.kf_words.specs.TableSteps.{Table, Kind, CallerPlays, MasterPlays, MasterSplits, CallerShares, WordStep, WordRun, tries, undoes, leaves, breaks, restores, looks, parts, hides, looks_hidden, shows, releases, misses, counts, shares, sleeps, awakes, loads_hold, pins_hold, unpins_hold, splits, stores_fresh, births, takes_bias, marks_node, looks_over, unlinks, plus, minus, same, with_hide, HasUndoDue, MayRelease, MayCount, MaySleep, SeesRoom, HasPin, SeesFree, HasFresh, IsUndoomed, SeesDrained}
+use Rattle.kf_words.specs.Steps.{after_try, after_undo, after_leave, after_break, after_restore, after_look, after_part, after_hide, after_look_hidden, after_show, after_release, after_miss, after_count, after_share, new_hold, unmoved, with_load, with_pin, without_pin, after_store, with_birth, with_look, without_node, unread, with_marks, activated_marks, doomed_marks, after_split, hold_for}
 use Rattle.kf_words.specs.Layout.{bit, bias, doom, hide, linked, one_generation, active_index, hold_index, sleepers_index}
 use Rattle.kf_words.specs.Callers.{IsAtRest, HasReference, IsIn}
 use Rattle.kf_words.specs.Nodes.{HasMarks}
@@ -41,6 +41,12 @@ module _ (t u v : Table) where
   by_split slot p q =
       p.4 ∙ ap (λ (m : MasterView). let x : Table = record { words = t.words; homes = t.homes; views = set t.views 0 (seat.Master (after_split m)) ++ seat.Caller (hold_for m m.pinning) ∷ [] } in x) (one_master p.0 q.0 p.1 q.1) ∙ sym q.4
 
+  by_share : (j : ℕ) → CallerShares t j u → CallerShares t j v → u ≡ v
+  by_share j p q =
+      let seats : seat.Caller p.0 ≡ seat.Caller q.0 = some-injective _ _ (sym p.2 ∙ q.2) in
+      let one : p.0 ≡ q.0 = cc in
+      p.3 ∙ ap (λ (c : CallerView). let x : Table = record { words = t.words; homes = t.homes; views = set t.views (suc j) (seat.Caller (after_share c)) ++ seat.Caller (new_hold c.key) ∷ [] } in x) one ∙ sym q.3
+
 -- the marks of a slot are one
 one_marks : (slot : ℕ) (m m' : MasterView) (x y : Marks) → IsUndoomed slot x m → IsUndoomed slot y m' → m ≡ m' → x ≡ y
 one_marks slot m m' x y a b is =
@@ -61,6 +67,9 @@ one_step t u v (hides j) p q = by_caller t u v after_hide IsAtRest active_index 
 one_step t u v (looks_hidden j) p q = by_caller t u v after_look_hidden (IsIn Hiding) active_index same j p q
 one_step t u v (shows j) p q = by_caller t u v after_show (IsIn Hidden) active_index (minus hide) j p q
 one_step t u v (releases j) p q = by_caller t u v after_release MayRelease hold_index (minus 1) j p q
+one_step t u v (misses j) p q = by_caller t u v after_miss IsAtRest hold_index same j p q
+one_step t u v (counts j) p q = by_caller t u v after_count (MayCount t) hold_index (plus 1) j p q
+one_step t u v (shares j) p q = by_share t u v j p q
 one_step t u v (sleeps j) p q = by_caller t u v unmoved MaySleep sleepers_index (plus 1) j p q
 one_step t u v (awakes j) p q = by_caller t u v unmoved MaySleep sleepers_index (minus 1) j p q
 one_step t u v (loads_hold slot) p q = by_master t u v with_load (λ m. slot < length m.slots) hold_index same slot p q

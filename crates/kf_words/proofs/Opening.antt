@@ -152,7 +152,6 @@ module _ (slots limit start : ℕ) (some_slot : 1 ≤ slots) (few : limit ≤ 65
     shows = record {
       wide = all_words ∙ ap (λ (n : ℕ). n * line_words) (sym all);
       few = few;
-      pinned = refl;
       marks = marks;
       holds = holds;
       tries = λ j c e. absurd (some-ne-none c (sym e));

@@ -31,7 +31,6 @@ module _ (words : List ℕ) (m : MasterView) (cs : List CallerView) (shows : Sho
   unread = record {
     wide = length-set words (sleepers_index slot) n ∙ shows.wide;
     few = shows.few;
-    pinned = shows.pinned;
     marks = λ k state its. subst (λ (x : ℕ). ShowsMarks x state.marks (users k cs) (hiders k cs)) (sym (active_stays k)) (shows.marks k state its);
     holds = λ k state its. subst (λ (x : ℕ). ShowsHolds m.limit x state (holders k cs + pins_in m.pinning k)) (sym (hold_stays k)) (shows.holds k state its);
     tries = shows.tries;

@@ -13,6 +13,7 @@ use Rattle.kf_core.specs.declared.slot.Marks.{Marks}
 use Rattle.kf_core.specs.declared.slot.SlotState.{SlotState}
 use Rattle.kf_core.specs.Bare.{BareWorld, IsCaller, marks, marks_in}
 use Rattle.kf_core.specs.Marks.{fresh_marks, are_doomed}
+use Rattle.kf_core.specs.Phases.{is_waiting}
 use Rattle.kf_core.specs.Steps.{BareStep, MayPin}
 use Rattle.kf_core.specs.Steps as core
 use Rattle.kf_core.specs.declared.caller.Caller.{Caller}
@@ -23,17 +24,19 @@ use Rattle.kf_words.specs.declared.view.CallerView.{CallerView}
 use Rattle.kf_words.specs.declared.view.MasterView.{MasterView}
 use Rattle.kf_words.specs.declared.view.View.{View}
 use Rattle.kf_words.specs.declared.view.View.TheVariants as seat
-use Rattle.kf_words.specs.Layout.{bit, bias, doom, hide, linked, one_generation, active_index, hold_index, sleepers_index, slot_of, is_drained, has_hide, is_unused, has_linked}
+use Rattle.kf_words.specs.Layout.{bit, bias, doom, hide, linked, one_generation, active_index, hold_index, sleepers_index, slot_of, is_drained, has_hide, is_unused, has_linked, HasSpare}
 use Rattle.kf_words.specs.Rule.{Shows, Shown, seats, bare, caller, last_key}
-use Rattle.kf_words.specs.Steps.{Seated, caller_of, no_state, state_at, after_try, after_undo, after_leave, after_break, after_restore, after_look, after_part, after_hide, after_look_hidden, after_show, after_release, unmoved, after_split, new_hold, hold_for, with_load, with_pin, without_pin, after_store, with_birth, with_marks, activated_marks, doomed_marks, with_look, without_node, unread, CallerBecomes, On, MasterBecomes, LoadsHold, ShowsKey}
+use Rattle.kf_words.specs.Steps.{Seated, caller_of, no_state, state_at, after_try, after_undo, after_leave, after_break, after_restore, after_look, after_part, after_hide, after_look_hidden, after_show, after_release, after_miss, after_count, after_share, unmoved, after_split, new_hold, hold_for, with_load, with_pin, without_pin, after_store, with_birth, with_marks, activated_marks, doomed_marks, with_look, without_node, unread, CallerBecomes, On, MasterBecomes, LoadsHold, ShowsKey}
 use Rattle.kf_words.specs.Nodes.{marks_of}
-use Rattle.kf_words.specs.TableSteps.{Table, Kind, tries, undoes, leaves, breaks, restores, looks, parts, hides, looks_hidden, shows, releases, sleeps, awakes, loads_hold, pins_hold, unpins_hold, splits, stores_fresh, births, takes_bias, marks_node, looks_over, unlinks, plus, minus, same, with_hide, master_in, callers_in, world, IsSeated, HoldsSlot, WordStep}
-use Rattle.kf_words.proofs.Bits.{bool_cases}
+use Rattle.kf_words.specs.TableSteps.{Table, Kind, tries, undoes, leaves, breaks, restores, looks, parts, hides, looks_hidden, shows, releases, misses, counts, shares, sleeps, awakes, loads_hold, pins_hold, unpins_hold, splits, stores_fresh, births, takes_bias, marks_node, looks_over, unlinks, plus, minus, same, with_hide, master_in, callers_in, world, IsSeated, HoldsSlot, MayCount, WordStep}
+use Rattle.kf_words.proofs.Bits.{bool_cases, waiting_is}
 use Rattle.kf_words.proofs.Seating.{caller_seat, master_seat, seats-set, seats-push}
-use Rattle.kf_words.proofs.CallerAllowed.{no_step, try_allowed, undo_allowed, leave_allowed, break_allowed, restore_allowed, look_allowed, release_allowed, part_allowed, hide_allowed, look_hidden_allowed, show_allowed}
+use Rattle.kf_words.proofs.CallerAllowed.{no_step, try_allowed, undo_allowed, leave_allowed, break_allowed, restore_allowed, look_allowed, release_allowed, part_allowed, miss_allowed, hide_allowed, look_hidden_allowed, show_allowed}
+use Rattle.kf_words.proofs.HoldSteps.{count_owes}
+use Rattle.kf_words.proofs.Sharing.{share_kept}
 use Rattle.kf_words.proofs.Sleepers.{put_same, sleep_allowed}
 use Rattle.kf_words.proofs.MasterAllowed.{active_slot, hold_slot, hold_allows, pin_owes, unpin_owes, birth_owes, unlink_owes, splits as splits_shown, state_there, look_allowed as look_over_allowed, fresh_allowed, load_allowed, rise_allowed, mark_allowed}
-use Rattle.kf_words.proofs.Events.{try_is_enter, undo_is_undo, look_is_look, part_is_part, leave_is_leave, break_is_break, restore_is_restore, release_is_release, hide_is_hide, look_hidden_is_look, show_is_show, miss_is_nothing, rise_is_rise, mark_is_mark, birth_is_born, split_is_pin}
+use Rattle.kf_words.proofs.Events.{try_is_enter, undo_is_undo, look_is_look, part_is_part, leave_is_leave, break_is_break, restore_is_restore, release_is_release, hide_is_hide, look_hidden_is_look, show_is_show, miss_is_nothing, rise_is_rise, mark_is_mark, birth_is_born, split_is_pin, share_is_pin}
 
 -- a doomed node on which nobody runs was taken out, with no caller that is drained there
 pub record TakenOut (kind : Kind) (w w' : BareWorld) : Type 0 where
@@ -151,6 +154,62 @@ module _ (slots limit : ℕ) (t t' : Table) (h : Shown slots limit t) (j : ℕ) 
       caller_goes kind (sleepers_index c.key.slot) f unmoved (CallerBecomes unmoved no_step me)
       (sleep_allowed slots limit (length t.homes) (suc j) me (sleepers_index c.key.slot) f refl refl)
       (λ me' e. ap (λ (x : Seated). x.0) e) fits becomes (inl (ap (bare h.master) same))
+
+  -- where the rule is met by what the step makes of the word and of the caller's view
+  caller_shown : (word n : ℕ) (c' : CallerView) → Shows (set t.words word n) h.master (set h.callers j c') → t' ≡ stepped t word n (suc j) [] (seat.Caller c') keeps → Shown slots limit t'
+  caller_shown word n c' shown_so becomes = record {
+    master = h.master;
+    callers = set h.callers j c';
+    views = ap (λ (x : Table). x.views) becomes ∙ ap (λ (l : List View). set l (suc j) (seat.Caller c')) h.views ∙ seats-set h.master h.callers j c';
+    all_slots = h.all_slots;
+    most_holds = h.most_holds;
+    shows = subst (λ (l : List ℕ). Shows l h.master (set h.callers j c')) (sym (ap (λ (x : Table). x.words) becomes)) shown_so;
+  }
+
+  seated : get_elem? h.callers j ≡ some c
+  seated =
+      let p = caller_seat h.master h.callers (suc j) c (subst (λ (l : List View). get_elem? l (suc j) ≡ some (seat.Caller c)) h.views there) in
+      let here : p.0 ≡ j = (let e = p.1 in omega arith) in
+      subst (λ (k : ℕ). get_elem? h.callers k ≡ some c) here p.2
+
+  -- one hold more is counted
+  count_goes : MayCount t c → slice_index t.words (hold_index c.key.slot) < 18446744073709551616
+      → t' ≡ stepped t (hold_index c.key.slot) (plus 1 (slice_index t.words (hold_index c.key.slot))) (suc j) [] (seat.Caller (after_count (slice_index t.words (hold_index c.key.slot)) c)) keeps
+      → Goes (counts j) slots limit t t'
+  count_goes may fits becomes =
+      let n : ℕ = slice_index t.words (hold_index c.key.slot) in
+      let c' : CallerView = after_count n c in
+      let limit_is : (master_in t.views).limit ≡ h.master.limit = ap (λ (l : List View). (master_in l).limit) h.views in
+      let spare : HasSpare h.master.limit n = subst (λ (k : ℕ). HasSpare k n) limit_is may.2 in
+      let views : t'.views ≡ seats h.master (set h.callers j c') =
+      ap (λ (x : Table). x.views) becomes ∙ ap (λ (l : List View). set l (suc j) (seat.Caller c')) h.views ∙ seats-set h.master h.callers j c' in (
+        caller_shown (hold_index c.key.slot) (plus 1 n) c' (count_owes t.words h.master h.callers j c h.shows seated (waiting_is c.phase may.0.0).0 may.0.0 may.0.1 may.1 spare fits) becomes,
+        led (counts j) t t' (bare h.master h.callers) (bare h.master (set h.callers j c')) (world_is t h.master h.callers h.views) (world_is t' h.master (set h.callers j c') views)
+            (inl (miss_is_nothing slots limit t h j c at n).5),
+      )
+
+  -- the hold that was counted gets its seat
+  share_goes : is_waiting c.phase ≡ true → c.pinning ≡ true
+      → t' ≡ record { words = t.words; homes = t.homes; views = set t.views (suc j) (seat.Caller (after_share c)) ++ seat.Caller (new_hold c.key) ∷ [] }
+      → Goes (shares j) slots limit t t'
+  share_goes waits pinned becomes =
+      let cs' : List CallerView = set h.callers j (after_share c) ++ new_hold c.key ∷ [] in
+      let holding = (waiting_is c.phase waits).0 in
+      let views : t'.views ≡ seats h.master cs' =
+      ap (λ (x : Table). x.views) becomes ∙ ap (λ (l : List View). set l (suc j) (seat.Caller (after_share c)) ++ seat.Caller (new_hold c.key) ∷ []) h.views
+      ∙ ap (λ (l : List View). l ++ seat.Caller (new_hold c.key) ∷ []) (seats-set h.master h.callers j (after_share c))
+      ∙ seats-push h.master (set h.callers j (after_share c)) (new_hold c.key) in (
+        record {
+          master = h.master;
+          callers = cs';
+          views = views;
+          all_slots = h.all_slots;
+          most_holds = h.most_holds;
+          shows = subst (λ (l : List ℕ). Shows l h.master cs') (sym (ap (λ (x : Table). x.words) becomes)) (share_kept h.master h.callers j c seated t.words h.shows holding pinned);
+        },
+        led (shares j) t t' (bare h.master h.callers) (bare h.master cs') (world_is t h.master h.callers h.views) (world_is t' h.master cs' views)
+            (happens _ _ _ (Pin (length h.callers) c.key) (share_is_pin slots limit t h j c at holding) (λ k e. absurd (let x : Pin (length h.callers) c.key ≡ Enter k = e in cc))),
+      )
 
 -- what a step of the Master tells, by its slot
 slot_view : (after : ℕ → ℕ → MasterView → MasterView) (m : MasterView) (n i slot : ℕ) (me' : Seated) → slot_of i ≡ slot → me' ≡ (seat.Master (after (slot_of i) n m), []) → me'.0 ≡ seat.Master (after slot n m)
@@ -325,6 +384,15 @@ word_step slots limit t (releases j) t' h s =
     (release_allowed slots limit (length t.homes) (suc j) (seat.Caller c, []) (hold_index c.key.slot) refl refl s.1.0 s.1.1)
     (λ me' e. ap (λ (x : Seated). x.0) e) s.2.fits s.2.becomes
     (happens _ _ _ (Release j) (release_is_release slots limit t h j c (at slots limit t t' h j c s.2.there) s.1.0 (slice_index t.words (hold_index c.key.slot))) (λ c e. absurd (let x : Release j ≡ Enter c = e in cc)))
+word_step slots limit t (misses j) t' h s =
+    let c : CallerView = s.0 in
+    let n : ℕ = slice_index t.words (hold_index c.key.slot) in
+    caller_goes slots limit t t' h j c s.2.there (misses j) (hold_index c.key.slot) same after_miss (CallerBecomes after_miss no_step (seat.Caller c, []))
+    (miss_allowed slots limit (length t.homes) (suc j) (seat.Caller c, []) (hold_index c.key.slot) refl refl s.1)
+    (λ me' e. ap (λ (x : Seated). x.0) e) s.2.fits s.2.becomes
+    (inl (miss_is_nothing slots limit t h j c (at slots limit t t' h j c s.2.there) n).4)
+word_step slots limit t (counts j) t' h s = count_goes slots limit t t' h j s.0 s.2.there s.1 s.2.fits s.2.becomes
+word_step slots limit t (shares j) t' h s = share_goes slots limit t t' h j s.0 s.2 s.1.0.0 s.1.1 s.3
 word_step slots limit t (sleeps j) t' h s = sleeper_goes slots limit t t' h j s.0 s.2.there (sleeps j) (plus 1) s.2.fits s.2.becomes
 word_step slots limit t (awakes j) t' h s = sleeper_goes slots limit t t' h j s.0 s.2.there (awakes j) (minus 1) s.2.fits s.2.becomes
 word_step slots limit t (loads_hold slot) t' g s =

@@ -29,6 +29,7 @@ pub record Handle : Type 0 where
   pub tries : ℕ  -- how many of them were tries
   pub found : ℕ  -- the word that its last step found, the second step of a refused try left out
   pub undo_due : Bool  -- it is between the two steps of a refused try, as no hold, call or receipt is
+  pub pinning : Bool  -- it counted one hold more that has no seat yet, as no hold, call or receipt did
   pub seen : Seen  -- the beginning of the one run of all steps at the table that it has seen
 
 -- which seat of which table, and the node that was born with its key
@@ -76,6 +77,7 @@ handle_of s = record {
   tries = (view_of s).tries;
   found = (view_of s).found;
   undo_due = (view_of s).undo_due;
+  pinning = (view_of s).pinning;
   seen = s.token.me.0.seen;
 }
 
@@ -192,6 +194,7 @@ seat_view h = record {
     tries = h.tries;
     found = h.found;
     undo_due = h.undo_due;
+    pinning = h.pinning;
   };
   seen = h.seen;
 }

@@ -17,7 +17,7 @@ use Rattle.kf_words.specs.declared.view.MasterView.{MasterView}
 use Rattle.kf_words.specs.declared.view.View.{View}
 use Rattle.kf_words.specs.Layout.{active_word, hold_word, is_drained, has_hide, is_unused, has_linked}
 use Rattle.kf_words.specs.Rule.{Shown, bare, last_key}
-use Rattle.kf_words.specs.Steps.{after_try, after_undo, after_leave, after_break, after_restore, after_look, after_part, after_hide, after_look_hidden, after_show, after_release, with_load, with_pin, without_pin, with_look, after_store, after_split, hold_for, with_birth, with_marks, activated_marks, doomed_marks, without_node}
+use Rattle.kf_words.specs.Steps.{after_try, after_undo, after_leave, after_break, after_restore, after_look, after_part, after_hide, after_look_hidden, after_show, after_release, after_miss, after_count, after_share, new_hold, with_load, with_pin, without_pin, with_look, after_store, after_split, hold_for, with_birth, with_marks, activated_marks, doomed_marks, without_node}
 use Rattle.kf_words.specs.Callers.{IsAtRest, HasReference, IsIn}
 use Rattle.kf_words.specs.Nodes.{marks_of}
 
@@ -103,14 +103,24 @@ abbrev pub ShowIsShow : Type 0
 ShowIsShow =
     OfEachCaller (λ words m cs j c. IsIn Hidden c → (found : ℕ) → Moves m cs j (after_show found c) (Show j))
 
--- a look that finds another word, and a load that finds a node linked, leave the world as it is
+-- a hold that a caller counted, and that gets its seat, is a Pin of the caller's key
+abbrev pub ShareIsPin : Type 0
+ShareIsPin = OfEachCaller
+    (λ words m cs j c. c.phase ≢ Spent
+    → BareStep (bare m cs) (Pin (length cs) c.key)
+    (bare m (slice_set cs j (after_share c) ++ new_hold c.key ∷ [])))
+
+-- a look that finds another word, a load that finds a node linked, and a hold more that has no seat yet leave
+-- the world as it is
 abbrev pub MissIsNothing : Type 0
 MissIsNothing = OfEachCaller
     (λ words m cs j c. (found : ℕ)
     → (is_drained found ≡ false → bare m (slice_set cs j (after_look found c)) ≡ bare m cs)
     × (has_linked found ≡ true → bare m (slice_set cs j (after_part found c)) ≡ bare m cs)
     × (has_hide found ≡ true → bare m (slice_set cs j (after_hide found c)) ≡ bare m cs)
-    × (is_unused found ≡ false → bare m (slice_set cs j (after_look_hidden found c)) ≡ bare m cs))
+    × (is_unused found ≡ false → bare m (slice_set cs j (after_look_hidden found c)) ≡ bare m cs)
+    × (bare m (slice_set cs j (after_miss found c)) ≡ bare m cs)
+    × (bare m (slice_set cs j (after_count found c)) ≡ bare m cs))
 
 -- the bias taken off the active word of a fresh node is a Rise
 abbrev pub RiseIsRise : Type 0

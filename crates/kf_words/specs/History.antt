@@ -14,7 +14,7 @@ use Rattle.kf_words.specs.declared.sight.Seen.{Seen}
 use Rattle.kf_words.specs.declared.sight.Sight.{Sight}
 use Rattle.kf_words.specs.declared.view.View.TheVariants as seat
 use Rattle.kf_words.specs.Rule.{Shown}
-use Rattle.kf_words.specs.Steps.{opened, master_of, after_split, hold_for}
+use Rattle.kf_words.specs.Steps.{opened, master_of, caller_of, after_split, hold_for, after_share, new_hold}
 use Rattle.kf_words.specs.TableSteps.{Table, Kind, world, WordRun, opened_table}
 
 -- the words, and what each seat knows
@@ -46,6 +46,14 @@ given s = record {
   view = seat.Caller (hold_for (master_of s.view) (master_of s.view).pinning);
   seen = s.seen;
 }
+
+-- what a caller knows after the hold that it counted went to a new seat
+abbrev pub after_sharing : Sight → Sight
+after_sharing s = record { view = seat.Caller (after_share (caller_of s.view)); seen = s.seen }
+
+-- what the new seat of that hold knows: as much of the run as the caller
+abbrev pub shared_out : Sight → Sight
+shared_out s = record { view = seat.Caller (new_hold (caller_of s.view).key); seen = s.seen }
 
 -- a beginning of the run of these steps, from this opening
 abbrev pub IsBeginning : Opening → Seen → List Kind → Type 0

@@ -98,6 +98,10 @@ IsFree word = (word % one_generation ≡ 0) × (word / one_generation < 42949672
 abbrev pub HasRoom : ℕ → ℕ → Type 0
 HasRoom limit word = holds_in word < limit
 
+-- the slot may have one hold more, and then has room still for one of the Master's
+abbrev pub HasSpare : ℕ → ℕ → Type 0
+HasSpare limit word = holds_in word + 1 < limit
+
 -- the line of a slot that has had `start` generations, and has no node
 abbrev pub empty_line : ℕ → List ℕ
 empty_line start = bias ∷ start * one_generation ∷ 0 ∷ 0 ∷ 0 ∷ 0 ∷ 0 ∷ 0 ∷ []

@@ -9,5 +9,6 @@ pub mod Events
 pub mod TableSteps
 pub mod History
 pub mod Made
+pub mod Another
 pub mod Runs
 pub mod Life

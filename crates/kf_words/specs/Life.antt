@@ -7,7 +7,7 @@ use Rattle.kf_words.specs.declared.view.CallerView.{CallerView}
 use Rattle.kf_words.specs.declared.view.MasterView.{MasterView}
 use Rattle.kf_words.specs.declared.view.Load.{Load}
 use Rattle.kf_words.specs.declared.view.View.TheVariants as seat
-use Rattle.kf_words.specs.TableSteps.{Table, Kind, births, breaks, hides, leaves, loads_hold, looks, looks_hidden, looks_over, marks_node, parts, pins_hold, releases, restores, shows, sleeps, awakes, splits, stores_fresh, takes_bias, tries, undoes, unlinks, unpins_hold}
+use Rattle.kf_words.specs.TableSteps.{Table, Kind, births, breaks, hides, leaves, loads_hold, looks, looks_hidden, looks_over, marks_node, parts, pins_hold, releases, misses, counts, shares, restores, shows, sleeps, awakes, splits, stores_fresh, takes_bias, tries, undoes, unlinks, unpins_hold}
 use Rattle.kf_words.specs.declared.view.View.{View}
 use Rattle.kf_words.specs.declared.sight.Opening.{Opening}
 use Rattle.kf_words.specs.declared.sight.Sight.{Sight}
@@ -27,7 +27,12 @@ caller_at phase steps tried found due = record {
   tries = tried;
   found = found;
   undo_due = due;
+  pinning = false;
 }
+
+-- the same after it counted one hold more, which has no seat yet
+abbrev pub with_one_more : CallerView → CallerView
+with_one_more c = record c { pinning = true }
 
 -- the Master of two slots, with three holds at most, by what it knows of slot 1
 abbrev pub master_at : ℕ → Option Marks → ℕ → Option ℕ → Option ℕ → List Load → List Load → Option Load
@@ -56,13 +61,15 @@ table_with active hold sleepers m cs = record {
 abbrev pub table_at : ℕ → ℕ → MasterView → List CallerView → Table
 table_at active hold m cs = table_with active hold 0 m cs
 
--- caller 0 calls into the node, caller 1 hides it, shows it, and removes it
+-- caller 0 calls into the node, caller 1 hides it, shows it, and removes it. Of the node that is out caller 0
+-- makes another hold, once there is room
 abbrev pub word_life : List Kind
 word_life = loads_hold 1 ∷ stores_fresh 1 ∷ births 1 ∷ takes_bias 1 ∷ loads_hold 1 ∷ pins_hold 1
     ∷ splits 1 ∷ loads_hold 1 ∷ pins_hold 1 ∷ splits 1 ∷ tries 0 ∷ hides 1
     ∷ looks_hidden 1 ∷ leaves 0 ∷ looks_hidden 1 ∷ tries 0 ∷ undoes 0 ∷ shows 1 ∷ tries 0
     ∷ marks_node 1 ∷ tries 1 ∷ undoes 1 ∷ sleeps 1 ∷ breaks 0 ∷ awakes 1 ∷ looks 1 ∷ restores 0
-    ∷ parts 1 ∷ looks_over 1 ∷ leaves 0 ∷ looks_over 1 ∷ unlinks 1 ∷ parts 1 ∷ releases 1 ∷ releases 0
+    ∷ parts 1 ∷ looks_over 1 ∷ leaves 0 ∷ looks_over 1 ∷ unlinks 1 ∷ parts 1 ∷ misses 0 ∷ releases 1
+    ∷ counts 0 ∷ shares 0 ∷ releases 2 ∷ releases 0
     ∷ loads_hold 1 ∷ stores_fresh 1 ∷ births 1 ∷ loads_hold 1 ∷ pins_hold 1 ∷ unpins_hold 1 ∷ []
 
 -- how the table opens there
@@ -74,7 +81,8 @@ abbrev pub lived : Table
 lived = table_at 4294967296 10737418240
     (master_at 2 (Some (with_marks_of false false)) 2 (None) (None) ([])
     (record { slot = 1; word = 4294967296 } ∷ []) (None))
-    ((caller_at Spent 9 3 4294967297 false) ∷ (caller_at Spent 10 1 4294967298 false) ∷ [])
+    ((caller_at Spent 11 3 4294967297 false) ∷ (caller_at Spent 10 1 4294967298 false)
+    ∷ (caller_at Spent 1 0 4294967298 false) ∷ [])
 
 -- there is an attended run of all these steps from the opening of two slots
 abbrev pub WordLife : Type 0

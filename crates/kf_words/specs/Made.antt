@@ -1,5 +1,5 @@
 -- What a step of a seat tells: which kind of step it was, the next of the one run, and what that had come to.
-use Rattle.std.specs.Prelude.{◌≡◌, ℕ, zero, suc, Bool, true, false, List, [], ◌∷◌, ◌++◌, slice_index}
+use Rattle.std.specs.Prelude.{◌≡◌, ℕ, zero, suc, ◌≢◌, Bool, true, false, ◌==◌, if◌then◌else◌, List, [], ◌∷◌, ◌++◌, slice_index}
 use mathlib.Core.Option.{some}
 use lib.ListN.{get_elem?}
 use Rattle.atomic_table.specs.Table.{Step}
@@ -8,10 +8,11 @@ use Rattle.kf_words.specs.declared.sight.Seen.{Seen}
 use Rattle.kf_words.specs.declared.view.View.TheVariants as seat
 use Rattle.kf_words.specs.Layout.{active_index, hold_index, slot_of}
 use Rattle.kf_words.specs.Rule.{Shown}
-use Rattle.kf_words.specs.Steps.{Seated, Sighted, plain, caller_of, after_try, after_undo, after_leave, after_break, after_restore, after_look, after_part, after_hide, after_look_hidden, after_release, CallerBecomes, ShowsKey}
+use Rattle.kf_words.specs.Steps.{Seated, Sighted, plain, caller_of, after_try, after_undo, after_leave, after_break, after_restore, after_look, after_part, after_hide, after_look_hidden, after_release, after_miss, after_count, after_share, CallerBecomes, ShowsKey}
+use Rattle.kf_words.specs.declared.view.CallerView.{CallerView}
 use Rattle.kf_words.specs.Callers.{Handle, Owed, CallerSight, caller_sight, seat_view}
 use Rattle.kf_words.specs.Nodes.{MasterSight, master_sight}
-use Rattle.kf_words.specs.TableSteps.{Table, world, Kind, IsSeated, WordStep, WordRun, tries, undoes, leaves, breaks, restores, looks, parts, hides, looks_hidden, shows, releases, loads_hold, pins_hold, stores_fresh, births, looks_over, unlinks}
+use Rattle.kf_words.specs.TableSteps.{Table, world, Kind, IsSeated, WordStep, WordRun, tries, undoes, leaves, breaks, restores, looks, parts, hides, looks_hidden, shows, releases, misses, counts, loads_hold, pins_hold, stores_fresh, births, looks_over, unlinks}
 use Rattle.kf_words.specs.History.{opened_as}
 
 -- the run that was seen before went on by the steps between, then by this one, and so far it is seen after
@@ -143,6 +144,43 @@ MakesRelease = Makes hold_index releases (CallerBecomes after_release)
 -- as WasMade: this seat gave its hold back between these two sights of it
 abbrev pub WasARelease : CallerSight → CallerSight → Type 0
 WasARelease = WasMade releases
+
+-- as WasMade: this seat made a step on the hold word that counted nothing between these two sights of it
+abbrev pub WasAMiss : CallerSight → CallerSight → Type 0
+WasAMiss = WasMade misses
+
+-- what a caller's load of the hold word tells, which names the most holds of a slot
+abbrev pub MakesMiss : Step (Unit {0}) → Sighted → ℕ → Sighted → Type 0
+MakesMiss st me found me' =
+    Makes hold_index misses (CallerBecomes after_miss) st me found me' × (st.first ≡ me.0.seen.opening.holds)
+
+-- as WasMade: this seat counted one hold more between these two sights of it
+abbrev pub WasACount : CallerSight → CallerSight → Type 0
+WasACount = WasMade counts
+
+-- the caller's view after an exchange that expected this word: one hold more is counted where it was found
+abbrev pub after_exchange : ℕ → ℕ → CallerView → CallerView
+after_exchange old found c = if found == old then after_count found c else after_miss found c
+
+-- the exchange counted one hold more where it found the word that it expected, and else nothing
+abbrev pub WasAnExchange : ℕ → ℕ → CallerSight → CallerSight → Type 0
+WasAnExchange old found before after =
+    (found ≡ old → WasACount before after) × (found ≢ old → WasAMiss before after)
+
+-- what an exchange on the hold word tells
+abbrev pub MakesExchange : Step (Unit {0}) → Sighted → ℕ → Sighted → Type 0
+MakesExchange st me found me' = (st.word ≡ hold_index (caller_of me.0.view).key.slot)
+    × (CallerBecomes (after_exchange st.first) st (plain me) found (plain me')
+    × WasAnExchange st.first found (caller_sight me.0) (caller_sight me'.0))
+
+-- one hold more was counted, and went to a new seat, which has seen as much of the one run as the seat that
+-- counted it
+pub record WasDoubled (before after : CallerSight) (seen : Seen) : Type 0 where
+  pub counted : CallerSight
+  pub count : WasACount before counted
+  pub view : after.view ≡ after_share counted.view
+  pub same : after.seen ≡ counted.seen
+  pub told : seen ≡ counted.seen
 
 -- so many steps of this kind, one after another and no other of this seat between them, each as WasMade says
 abbrev pub WereMade : (ℕ → Kind) → ℕ → CallerSight → CallerSight → Type 0

@@ -37,6 +37,10 @@ is_hider slot c = (c.key.slot == slot) && is_hiding c.phase
 abbrev pub is_holder : ℕ → CallerView → Bool
 is_holder slot c = (c.key.slot == slot) && not (is_spent c.phase)
 
+-- the caller counted one hold more in the hold word of this slot, which has no seat yet
+abbrev pub is_pinner : ℕ → CallerView → Bool
+is_pinner slot c = (c.key.slot == slot) && c.pinning
+
 -- how many callers count in the active word of this slot
 abbrev pub users : ℕ → List CallerView → ℕ
 users slot cs = tally (is_user slot) cs
@@ -45,11 +49,11 @@ users slot cs = tally (is_user slot) cs
 abbrev pub hiders : ℕ → List CallerView → ℕ
 hiders slot cs = tally (is_hider slot) cs
 
--- how many callers count in the hold word of this slot
+-- how many holds the callers count in the hold word of this slot
 abbrev pub holders : ℕ → List CallerView → ℕ
-holders slot cs = tally (is_holder slot) cs
+holders slot cs = tally (is_holder slot) cs + tally (is_pinner slot) cs
 
--- a pin of this slot that no seat has yet
+-- a pin of the Master in this slot that no seat has yet
 abbrev pub pins_in : Option ℕ → ℕ → ℕ
 pins_in None slot = 0
 pins_in (Some s) slot = bit (s == slot) 1
@@ -88,8 +92,6 @@ module _ (words : List ℕ) (m : MasterView) (cs : List CallerView) where
     pub wide : length words ≡ length m.slots * line_words
     -- a count of holds stays below the bits above it
     pub few : m.limit ≤ 65535
-    -- each pin has its seat
-    pub pinned : length cs ≡ m.pins
     pub marks : (slot : ℕ) (state : SlotState) → slice_get m.slots slot ≡ Some state
         → ShowsMarks (active_word words slot) state.marks (users slot cs) (hiders slot cs)
     pub holds : (slot : ℕ) (state : SlotState) → slice_get m.slots slot ≡ Some state

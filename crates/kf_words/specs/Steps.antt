@@ -37,6 +37,7 @@ no_caller = record {
   tries = 0;
   found = 0;
   undo_due = false;
+  pinning = false;
 }
 
 -- the view of a caller's seat; the Master's seat has that of no caller
@@ -71,6 +72,7 @@ after_step phase undo_due found c = record {
   tries = c.tries;
   found = found;
   undo_due = undo_due;
+  pinning = c.pinning;
 }
 
 -- the caller's view with one try more in its count
@@ -130,6 +132,19 @@ abbrev pub after_part : ℕ → CallerView → CallerView
 after_part found c =
     if has_linked found then after_step c.phase c.undo_due found c else after_step Parted false found c
 
+-- the caller's view after a step on the hold word that counts nothing: a load, or an exchange that found
+-- another word than it expected
+abbrev pub after_miss : ℕ → CallerView → CallerView
+after_miss found c = after_step c.phase c.undo_due found c
+
+-- the caller's view after it counted one hold more, which has no seat yet
+abbrev pub after_count : ℕ → CallerView → CallerView
+after_count found c = record (after_step c.phase c.undo_due found c) { pinning = true }
+
+-- the caller's view after the hold that it counted went to a new seat
+abbrev pub after_share : CallerView → CallerView
+after_share c = record c { pinning = false }
+
 -- the view after a step on the count of sleepers, which is no step on a word that the rule reads: as before
 abbrev pub unmoved : ℕ → CallerView → CallerView
 unmoved found c = c
@@ -186,7 +201,15 @@ after_split m = record (on_active m) { pins = m.pins + 1; pinning = None }
 
 -- the view of a new hold of this key, which has made no step
 abbrev pub new_hold : Key → CallerView
-new_hold key = record { key = key; phase = Still; steps = 0; tries = 0; found = 0; undo_due = false }
+new_hold key = record {
+  key = key;
+  phase = Still;
+  steps = 0;
+  tries = 0;
+  found = 0;
+  undo_due = false;
+  pinning = false;
+}
 
 -- the view of the seat that a split makes
 abbrev pub hold_for : MasterView → Option ℕ → CallerView

@@ -14,10 +14,10 @@ use Rattle.kf_words.specs.declared.view.MasterView.{MasterView}
 use Rattle.kf_words.specs.declared.view.View.{View}
 use Rattle.kf_words.specs.declared.view.View.TheVariants as seat
 pub use Rattle.kf_words.specs.declared.sight.Kind.{Kind}
-pub use Rattle.kf_words.specs.declared.sight.Kind.TheVariants.{Tries as tries, Undoes as undoes, Leaves as leaves, Breaks as breaks, Restores as restores, Looks as looks, Parts as parts, Hides as hides, LooksHidden as looks_hidden, Shows as shows, Releases as releases, Sleeps as sleeps, Awakes as awakes, LoadsHold as loads_hold, PinsHold as pins_hold, UnpinsHold as unpins_hold, Splits as splits, StoresFresh as stores_fresh, Births as births, TakesBias as takes_bias, MarksNode as marks_node, LooksOver as looks_over, Unlinks as unlinks}
-use Rattle.kf_words.specs.Layout.{bit, bias, doom, hide, linked, one_generation, active_index, hold_index, sleepers_index, opening_words}
+pub use Rattle.kf_words.specs.declared.sight.Kind.TheVariants.{Tries as tries, Undoes as undoes, Leaves as leaves, Breaks as breaks, Restores as restores, Looks as looks, Parts as parts, Hides as hides, LooksHidden as looks_hidden, Shows as shows, Releases as releases, Misses as misses, Counts as counts, Shares as shares, Sleeps as sleeps, Awakes as awakes, LoadsHold as loads_hold, PinsHold as pins_hold, UnpinsHold as unpins_hold, Splits as splits, StoresFresh as stores_fresh, Births as births, TakesBias as takes_bias, MarksNode as marks_node, LooksOver as looks_over, Unlinks as unlinks}
+use Rattle.kf_words.specs.Layout.{bit, bias, doom, hide, linked, one_generation, active_index, hold_index, sleepers_index, opening_words, HasSpare}
 use Rattle.kf_words.specs.Rule.{bare}
-use Rattle.kf_words.specs.Steps.{caller_of, no_master, master_of, state_at, after_try, after_undo, after_leave, after_break, after_restore, after_look, after_part, after_hide, after_look_hidden, after_show, after_release, unmoved, after_split, hold_for, with_load, with_pin, without_pin, after_store, with_birth, with_marks, activated_marks, doomed_marks, with_look, without_node, unread, opened}
+use Rattle.kf_words.specs.Steps.{caller_of, no_master, master_of, state_at, after_try, after_undo, after_leave, after_break, after_restore, after_look, after_part, after_hide, after_look_hidden, after_show, after_release, after_miss, after_count, after_share, new_hold, unmoved, after_split, hold_for, with_load, with_pin, without_pin, after_store, with_birth, with_marks, activated_marks, doomed_marks, with_look, without_node, unread, opened}
 use Rattle.kf_words.specs.Callers.{IsAtRest, HasReference, IsIn}
 use Rattle.kf_words.specs.Nodes.{FoundRoom, FoundFree, HasMarks, HasLooked, marks_of}
 
@@ -98,6 +98,25 @@ HasUndoDue c = (c.phase ≡ Turned) × (c.undo_due ≡ true)
 abbrev pub MayRelease : CallerView → Type 0
 MayRelease c = (may_release c.phase ≡ true) × (c.undo_due ≡ false)
 
+-- the caller may count one hold more: none that it counted waits for a seat, and its slot's hold word has a
+-- spare place
+abbrev pub MayCount : Table → CallerView → Type 0
+MayCount t c = IsAtRest c × (c.pinning ≡ false)
+    × HasSpare (master_in t.views).limit (slice_index t.words (hold_index c.key.slot))
+
+-- the hold that the caller counted waits for its seat
+abbrev pub MayShare : CallerView → Type 0
+MayShare c = IsAtRest c × (c.pinning ≡ true)
+
+-- the hold that a caller counted goes to a new seat of its key, behind all others
+abbrev pub CallerShares : Table → ℕ → Table → Type 0
+CallerShares t j t' = (c : CallerView) × MayShare c × IsSeated t j c
+    × (t' ≡ record {
+      words = t.words;
+      homes = t.homes;
+      views = slice_set t.views (suc j) (seat.Caller (after_share c)) ++ seat.Caller (new_hold c.key) ∷ [];
+    })
+
 -- the caller may step on the count of its slot's sleepers, whatever its view says
 abbrev pub MaySleep : CallerView → Type 0
 MaySleep c = Unit {0}
@@ -149,6 +168,9 @@ WordStep t (hides j) t' = CallerPlays after_hide IsAtRest active_index with_hide
 WordStep t (looks_hidden j) t' = CallerPlays after_look_hidden (IsIn Hiding) active_index same t j t'
 WordStep t (shows j) t' = CallerPlays after_show (IsIn Hidden) active_index (minus hide) t j t'
 WordStep t (releases j) t' = CallerPlays after_release MayRelease hold_index (minus 1) t j t'
+WordStep t (misses j) t' = CallerPlays after_miss IsAtRest hold_index same t j t'
+WordStep t (counts j) t' = CallerPlays after_count (MayCount t) hold_index (plus 1) t j t'
+WordStep t (shares j) t' = CallerShares t j t'
 WordStep t (sleeps j) t' = CallerPlays unmoved MaySleep sleepers_index (plus 1) t j t'
 WordStep t (awakes j) t' = CallerPlays unmoved MaySleep sleepers_index (minus 1) t j t'
 WordStep t (loads_hold slot) t' = MasterPlays with_load (λ m. slot < length m.slots) hold_index same t slot t'
@@ -200,6 +222,9 @@ IsAttended t (hides j) = Unit {0}
 IsAttended t (looks_hidden j) = Unit {0}
 IsAttended t (shows j) = Unit {0}
 IsAttended t (releases j) = Unit {0}
+IsAttended t (misses j) = Unit {0}
+IsAttended t (counts j) = Unit {0}
+IsAttended t (shares j) = Unit {0}
 IsAttended t (sleeps j) = Unit {0}
 IsAttended t (awakes j) = Unit {0}
 IsAttended t (loads_hold j) = Unit {0}

@@ -2,6 +2,7 @@
 ghost use Rattle.std.specs.Prelude.{◌≡◌, true, IfOk, IfErr, MatchResult};
 ghost use Rattle.kf_core.specs.Phases.{is_waiting};
 ghost use Rattle.kf_words.specs.Callers.{IsSameSeat, Entered, WasTurned, SawDrained, SawUse, WasHidden, FoundHidden, seat_view};
+ghost use Rattle.kf_words.specs.Another.{StaysAs, IsAnother, WasCountedFor, AnotherRefused, OnlyMissed};
 ghost use Rattle.kf_words.specs.Made.{FoundThere, WasATry, WasATryUndone, WasALook, WasAHide, WasLetInLive};
 
 use crate::call::Call;
@@ -9,7 +10,7 @@ use crate::hiding::Hiding;
 use crate::layout::{has_hide, is_drained};
 use crate::receipt::Drained;
 use crate::seat::{CallerSeat, release_seat};
-use kf_core::{Key, Node};
+use kf_core::{Key, Node, Refusal};
 use std::marker::Model;
 
 /// Holds the slot of a node, with no reference to it. While it is out the slot is not given again.
@@ -100,6 +101,26 @@ impl Hold {
         } else {
             Ok(Hiding { seat })
         }
+    }
+
+    /// Another hold of the same key (`kernfs_get`), with no lock of the tree, whatever became of the node
+    /// meanwhile: a slot that is held is not given again. The last place of a slot is not taken: it is for a
+    /// hold that the tree's Master gives.
+    ///
+    /// Refusals, in order: TooManyHolds where the slot has as many holds as there may be, or one fewer; Busy
+    /// where other holds came or went at each of 64 tries; NoMemory where the table can have no owner more
+    /// (its `Arc` is at its last count). After each the slot has the holds that it had.
+    pub fn another(&mut self) -> Result<Hold, Refusal>
+        ensures same { IsSameSeat self.old self.new }
+        ensures stays { StaysAs self.old self.new }
+        ensures other { IfOk result (λ other. IsAnother self.old other) }
+        ensures made { IfOk result
+            (λ other. WasCountedFor (seat_view self.old) (seat_view self.new) other.seen) }
+        ensures refused { IfErr result (λ why. AnotherRefused self.old self.new why) }
+        ensures missed { IfErr result (λ _. OnlyMissed (seat_view self.old) (seat_view self.new)) }
+    {
+        let seat = self.seat.another()?;
+        Ok(Hold { seat })
     }
 
     /// Gives its hold of the slot back (`kernfs_put`), in one word step.

@@ -1,6 +1,6 @@
 //! What the words tell at every moment, and which event each step is.
 ghost use Rattle.kf_words.specs.Laws.{AlwaysSafe, LetsInTheLive, DrainedIsUnused, FreeIsUnheld, TellsTheLinked, TellsTheHidden, HiddenIsRefused, ShownLetsIn};
-ghost use Rattle.kf_words.specs.Events.{TryIsEnter, UndoIsUndo, LookIsLook, PartIsPart, LeaveIsLeave, BreakIsBreak, RestoreIsRestore, ReleaseIsRelease, HideIsHide, LookHiddenIsLook, ShowIsShow, MissIsNothing, RiseIsRise, MarkIsMark, BirthIsBorn, UnlinkIsUnlink, SplitIsPin, HeldSplitIsPin, RestIsNothing};
+ghost use Rattle.kf_words.specs.Events.{TryIsEnter, UndoIsUndo, LookIsLook, PartIsPart, LeaveIsLeave, BreakIsBreak, RestoreIsRestore, ReleaseIsRelease, HideIsHide, LookHiddenIsLook, ShowIsShow, MissIsNothing, RiseIsRise, MarkIsMark, BirthIsBorn, UnlinkIsUnlink, SplitIsPin, HeldSplitIsPin, ShareIsPin, RestIsNothing};
 ghost use Rattle.kf_words.specs.History.{EndsARun, SeenLeadsHere, DrainedEverAfter, OneRunIsSeen, OneEnd};
 ghost use Rattle.kf_words.specs.Life.{WordLife, LifeIsKept};
 ghost use Rattle.kf_words.specs.Runs.{OpensWell, RuleKept, RunIsRun, RunIsSafe, MarkedKeepsOut, DrainedForGood, HiddenKeepsOut, PassedForGood, BornUnheld, LetInLive, TakenLive};
@@ -37,7 +37,9 @@ pub fn words_tell()
 /// calls, protection broken and restored, and holds given back are Leave, Break, Restore and Release. Of the
 /// Master, a birth is a Born of the slot's next key, activation and mark are a Rise and a Mark. A node taken
 /// out is an Unlink of any drained caller of it. A hold that gets its seat is a Pin of a new caller, on a
-/// linked key or one that somebody holds. The Master's other steps leave the world as it is.
+/// linked key or one that somebody holds. A caller that counts one hold more leaves the world as it is, and
+/// the seat that gets it is a Pin of the caller's key, linked or not. The Master's other steps leave the
+/// world as it is.
 pub fn words_step()
     ensures try_is_enter { TryIsEnter }
     ensures undo_is_undo { UndoIsUndo }
@@ -57,6 +59,7 @@ pub fn words_step()
     ensures unlink_is_unlink { UnlinkIsUnlink }
     ensures split_is_pin { SplitIsPin }
     ensures held_split_is_pin { HeldSplitIsPin }
+    ensures share_is_pin { ShareIsPin }
     ensures rest_is_nothing { RestIsNothing }
 {}
 

@@ -1,7 +1,7 @@
 //! Where the words of a slot stand, the numbers of which active words and hold words are made, and the tests
 //! on a word that was found.
 ghost use Rattle.std.specs.Prelude.{◌≡◌, ◌+◌, ◌-◌, ◌↔◌, IsTrue};
-ghost use Rattle.kf_words.specs.Layout.{active_index, hold_index, sleepers_index, keeps_out, has_bias, has_hide, is_drained, is_unused, wants_wake, has_linked, bit, bias, doom, IsFree, HasRoom};
+ghost use Rattle.kf_words.specs.Layout.{active_index, hold_index, sleepers_index, keeps_out, has_bias, has_hide, is_drained, is_unused, wants_wake, has_linked, bit, bias, doom, IsFree, HasRoom, HasSpare};
 
 use kf_core::Marks;
 
@@ -124,6 +124,13 @@ pub(crate) fn has_room(word: u64, limit: u32) -> bool
     ensures { IsTrue result ↔ HasRoom limit word }
 {
     word & HOLDS < limit as u64
+}
+
+/// Whether the slot of this hold word can have one hold more, and has room then for one of the Master's.
+pub(crate) fn has_spare(word: u64, limit: u32) -> bool
+    ensures { IsTrue result ↔ HasSpare limit word }
+{
+    (word & HOLDS) + 1 < limit as u64
 }
 
 /// What the mark adds to the active word of a node with these marks.

@@ -149,6 +149,7 @@ impl Master {
             return Err(Refusal::TooManyHolds);
         }
         self.steps.pin_hold(key.slot);
+        let most = self.steps.most;
         let Ok(table) = Arc::try_clone(&self.steps.table) else {
             self.steps.unpin_hold(key.slot);
             return Err(Refusal::NoMemory);
@@ -156,7 +157,7 @@ impl Master {
         let token = self.steps.give_hold(key.slot);
         let node = self.nodes[key.slot as usize];
         Ok(Hold {
-            seat: CallerSeat::new(table, key, node, token),
+            seat: CallerSeat::new(table, key, node, most, token),
         })
     }
 }

@@ -101,6 +101,35 @@ impl Play<(), Sight> for Releases {
     ghost then = { MakesRelease };
 }
 
+/// A caller loads the hold word, and names the most holds of a slot.
+pub(crate) struct Misses;
+
+impl Play<(), Sight> for Misses {
+    ghost use Rattle.kf_words.specs.Made.{MakesMiss};
+
+    ghost then = { MakesMiss };
+}
+
+/// A caller counts one hold more, where the word is as it expects.
+pub(crate) struct Counts;
+
+impl Play<(), Sight> for Counts {
+    ghost use Rattle.kf_words.specs.Made.{MakesExchange};
+
+    ghost then = { MakesExchange };
+}
+
+/// The hold that a caller counted goes to a new seat.
+pub(crate) struct SharesHold;
+
+impl Split<Sight> for SharesHold {
+    ghost use Rattle.kf_words.specs.History.{after_sharing, shared_out};
+
+    ghost left = { after_sharing };
+
+    ghost right = { shared_out };
+}
+
 /// A caller counts itself among its slot's sleepers.
 pub(crate) struct Sleeps;
 

@@ -1,12 +1,13 @@
 //! A caller's seat at the table of words. Its fields are private: the files of this module alone read them,
 //! and `new`, `moved` and `end` alone take it apart.
-ghost use Rattle.std.specs.Prelude.{◌≡◌, ◌*◌, ◌<◌, []};
+ghost use Rattle.std.specs.Prelude.{◌≡◌, ◌*◌, ◌<◌, ◌≤◌, false, []};
 ghost use Rattle.std.specs.Arc.{arc_value};
 ghost use Rattle.kf_words.specs.Layout.{line_words};
 ghost use Rattle.kf_words.specs.Steps.{caller_of, plain};
 ghost use Rattle.kf_words.specs.declared.view.View.TheVariants as seat_of;
 
 mod parts;
+mod share;
 mod sleep;
 mod steps;
 
@@ -37,6 +38,8 @@ pub struct CallerSeat {
     target: Key,
     key: Key,
     kind: Kind,
+    /// The most holds of a slot.
+    most: u32,
     token: Seat<(), Sight>,
     ghost of_table: { token.table_id ≡ (arc_value table).shared.table_id },
     ghost a_caller: { plain token.me ≡ (seat_of.Caller (caller_of token.me.0.view), []) },
@@ -44,4 +47,7 @@ pub struct CallerSeat {
     ghost lines: { (arc_value table).shared.table_id.words
         ≡ (arc_value table).shared.key.slots * line_words },
     ghost in_table: { key.slot < (arc_value table).shared.key.slots },
+    ghost limit: { (arc_value table).shared.key.holds ≡ most },
+    ghost few: { most ≤ 65535 },
+    ghost single: { (caller_of token.me.0.view).pinning ≡ false },
 }

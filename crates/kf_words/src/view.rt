@@ -15,6 +15,8 @@ pub struct CallerView {
     pub found: u64,
     /// Whether that second step is still due.
     pub undo_due: bool,
+    /// Whether it counted one hold more of its slot, which has no seat yet.
+    pub pinning: bool,
 }
 
 /// A load of a word of a slot, and what it found.

@@ -120,6 +120,7 @@ fn open_table(
     let steps = MasterSeat {
         table: shared,
         token: MasterToken::new(token),
+        most: opening.holds,
     };
     Ok((Words { table }, steps))
 }

@@ -2,6 +2,8 @@
 #![tactic(auto)]
 
 #[cfg(test)]
+mod another_tests;
+#[cfg(test)]
 mod hider_tests;
 #[cfg(test)]
 mod hiding_tests;

@@ -1,5 +1,5 @@
 //! A seat made, moved and ended, part by part, and its key and node.
-ghost use Rattle.std.specs.Prelude.{◌≡◌, ◌*◌, ◌<◌, []};
+ghost use Rattle.std.specs.Prelude.{◌≡◌, ◌*◌, ◌<◌, ◌≤◌, false, []};
 ghost use Rattle.std.specs.Arc.{arc_value};
 ghost use Rattle.kf_core.specs.declared.caller.Phase.TheVariants as phase_of;
 ghost use Rattle.kf_words.specs.Callers.{node_of, handle_of, view_of};
@@ -20,6 +20,7 @@ impl CallerSeat {
         table: Arc<WordTable>,
         key: Key,
         node: Node,
+        most: u32,
         token: Seat<(), Sight>,
     ) -> CallerSeat
         requires table { token.table_id ≡ (arc_value table).shared.table_id }
@@ -28,6 +29,9 @@ impl CallerSeat {
         requires words { (arc_value table).shared.table_id.words
             ≡ (arc_value table).shared.key.slots * line_words }
         requires slot { key.slot < (arc_value table).shared.key.slots }
+        requires limit { (arc_value table).shared.key.holds ≡ most }
+        requires few { most ≤ 65535 }
+        requires single { (caller_of token.me.0.view).pinning ≡ false }
         ensures token { result.token ≡ token }
         ensures node { (handle_of result).node ≡ node }
     {
@@ -36,6 +40,7 @@ impl CallerSeat {
             table,
             key,
             kind,
+            most,
             tag,
             target,
             token,
@@ -75,6 +80,7 @@ impl CallerSeat {
             target,
             key,
             kind,
+            most,
             token,
         } = self;
         CallerSeat {
@@ -83,6 +89,7 @@ impl CallerSeat {
             target,
             key,
             kind,
+            most,
             token,
         }
     }
@@ -96,6 +103,7 @@ impl CallerSeat {
             table: _,
             key: _,
             kind: _,
+            most: _,
             tag: _,
             target: _,
             token: _,

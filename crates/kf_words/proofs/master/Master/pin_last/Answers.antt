@@ -92,3 +92,6 @@ returns-clause-made c =
       told = ap (λ t. t.me.0.seen) c.new.ensures.token ∙ c.give_hold-token.ensures.told;
       same = c.give_hold-token.ensures.seen;
     }
+
+pub new-requires-clause-limit : goal.new-requires-clause-limit
+new-requires-clause-limit c = ap (λ t. t.shared.key.holds) c.in-Ok.ensures ∙ c.pin_hold.new.self.limit

@@ -31,6 +31,8 @@ invariant_of-self c =
       of_table = c.fetch_add.ensures.0 ∙ ap (λ s. s.table_id) c.token.view_is ∙ self.of_table;
       a_master = keeps_master _ _ now;
       lines = self.lines;
+      limit = self.limit;
+      few = self.few;
       all_slots = ap (λ (x : Seated). length (master_of x.0).slots) now ∙ length-set (master_of self.token.me.0.view).slots c.args.slot _ ∙ self.all_slots;
     }
 

@@ -1,0 +1,62 @@
+-- What it tells to make another hold from a hold.
+use Rattle.std.specs.Prelude.{◌≡◌, ◌≤◌, ℕ, ◌+◌, []}
+use Rattle.atomic_table.specs.declared.shared.Seat.{Seat}
+use Rattle.kf_core.specs.declared.caller.Phase.TheVariants.{Still}
+use Rattle.kf_core.specs.declared.refusal.Refusal.{Refusal}
+use Rattle.kf_core.specs.declared.refusal.Refusal.TheVariants.{NoEntry, NoMemory, Access, Busy, Exists, NoDevice, NotDir, IsDir, Invalid, TooManyHolds, NoSpace, NameTooLong}
+use Rattle.kf_words.specs.declared.sight.Seen.{Seen}
+use Rattle.kf_words.specs.declared.sight.Sight.{Sight}
+use Rattle.kf_words.specs.declared.view.View.TheVariants as seat
+use Rattle.kf_words.specs.Layout.{holds_in, HasSpare}
+use Rattle.kf_words.specs.Steps.{plain, new_hold}
+use Rattle.kf_words.specs.Callers.{Handle, CallerSight, seat_view}
+use Rattle.kf_words.specs.TableSteps.{misses}
+use Rattle.kf_words.specs.Made.{WereMade, WasDoubled}
+
+-- the hold is as it was, but for how many steps it made, what the last found, and what it has seen
+pub record StaysAs (old new : Handle) : Type 0 where
+  pub phase : new.phase ≡ old.phase
+  pub tries : new.tries ≡ old.tries
+  pub undo_due : new.undo_due ≡ old.undo_due
+
+-- a seat of the same table, on the same key, which has made no step
+abbrev pub IsShared : Handle → Seat (Unit {0}) Sight → Type 0
+IsShared h token = (token.table_id ≡ h.table) × (plain token.me ≡ (seat.Caller (new_hold h.key), []))
+
+-- another hold of the same key, which has made no step
+pub record IsAnother (hold other : Handle) : Type 0 where
+  pub table : other.table ≡ hold.table
+  pub key : other.key ≡ hold.key
+  pub node : other.node ≡ hold.node
+  pub still : other.phase ≡ Still
+  pub steps : other.steps ≡ 0
+
+-- so many steps on the hold word that counted nothing, and no other
+abbrev pub OnlyMissed : CallerSight → CallerSight → Type 0
+OnlyMissed before after = (count : ℕ) × WereMade misses count before after
+
+-- after steps that counted nothing one step counted one hold more, and a new seat got it
+abbrev pub WasCountedFor : CallerSight → CallerSight → Seen → Type 0
+WasCountedFor before after seen =
+    (missed : CallerSight) × OnlyMissed before missed × WasDoubled missed after seen
+
+-- the last step found a word without a spare place
+abbrev pub HasNoSpare : Handle → Type 0
+HasNoSpare h = h.seen.opening.holds ≤ holds_in h.found + 1
+
+-- another hold is refused as one too many where the last step found a word without a spare place, and for
+-- want of memory where it found one with such a place; as busy where each of 64 steps found another word than
+-- was guessed; for no other cause
+abbrev pub AnotherRefused : Handle → Handle → Refusal → Type 0
+AnotherRefused before after TooManyHolds = HasNoSpare after
+AnotherRefused before after NoMemory = HasSpare after.seen.opening.holds after.found
+AnotherRefused before after Busy = WereMade misses 64 (seat_view before) (seat_view after)
+AnotherRefused before after NoEntry = ⊥
+AnotherRefused before after Access = ⊥
+AnotherRefused before after Exists = ⊥
+AnotherRefused before after NoDevice = ⊥
+AnotherRefused before after NotDir = ⊥
+AnotherRefused before after IsDir = ⊥
+AnotherRefused before after Invalid = ⊥
+AnotherRefused before after NoSpace = ⊥
+AnotherRefused before after NameTooLong = ⊥
