@@ -1,5 +1,5 @@
 -- A caller's steps on the hold word keep the rule: a release, and the look whether the node has left.
-use Rattle.std.proofs.Common.{◌&&◌, ◌||◌, ◌≡◌, ◌≢◌, ℕ, ◌+◌, ◌-◌, ◌%◌, ◌^◌, ◌<◌, Bool, true, false, not, List, set, refl, sym, ap, ◌∙◌, subst, ⊎_elim, arith, length-set, get_or-set_same, get_or-set_other}
+use Rattle.std.proofs.Common.{◌||◌, ◌≡◌, ◌≢◌, ℕ, ◌+◌, ◌-◌, ◌%◌, ◌^◌, ◌<◌, Bool, true, false, not, List, set, refl, sym, ap, ◌∙◌, subst, ⊎_elim, arith, length-set, get_or-set_same, get_or-set_other}
 use Rattle.std.specs.Prelude.{slice_get, Some, is_some}
 use Rattle.std.proofs.lemmas.Option.{slice_get_within}
 use mathlib.Core.Logic.{dite}
@@ -22,7 +22,7 @@ use Rattle.kf_words.specs.Steps.{after_step, after_release, after_part, after_mi
 use Rattle.kf_words.proofs.Bits.{bool_cases, not_spent, waiting_is, hold_less, hold_more, linked_shows, count_shows}
 use Rattle.kf_words.proofs.Answered.{part_gone, part_linked}
 use Rattle.kf_words.proofs.CallerPhases.{not_running, idle_shown, idle_uncounted}
-use Rattle.kf_words.proofs.CallerChanges.{last as last_state, there, near, known, in_its_slot, not_free, off, in_other, held_in_other, held_in_this, moves, users_now, hiders_stay, unmoved}
+use Rattle.kf_words.proofs.CallerChanges.{last as last_state, there, near, known, not_free, off, in_other, held_in_other, held_in_this, moves, users_now, hiders_stay, unmoved}
 
 module _ (words : List ℕ) (m : MasterView) (cs : List CallerView) (j : ℕ) (c : CallerView) (shows : Shows words m cs) (at : get_elem? cs j ≡ some c) (holding : c.phase ≢ Spent) where
   abbrev slot : ℕ

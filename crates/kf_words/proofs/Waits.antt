@@ -1,8 +1,9 @@
 -- What a wait does: one step of a kind, and then another.
-use Rattle.std.proofs.Common.{◌≡◌, ℕ, suc, subst, sym}
+use Rattle.std.proofs.Common.{◌≡◌, ℕ, zero, suc, subst, sym}
 use Rattle.kf_words.specs.Callers.{CallerSight}
-use Rattle.kf_words.specs.TableSteps.{Kind}
+use Rattle.kf_words.specs.TableSteps.{Kind, misses}
 use Rattle.kf_words.specs.Made.{WasMade, WereMade, OnlyMade}
+use Rattle.kf_words.specs.Another.{WereOutrun}
 
 -- one more of them, after any number
 pub one_more : (kind : ℕ → Kind) (before between after : CallerSight)
@@ -21,3 +22,8 @@ pub since : (kind : ℕ → Kind) (start first between last end : CallerSight) �
 since kind start first between last end is_start is_end so_far step =
     subst (λ x. OnlyMade kind x end) is_start
     (subst (λ x. OnlyMade kind first x) (sym is_end) (at_least_one kind _ _ _ so_far step))
+
+-- steps that others outran are steps that counted nothing
+pub outrun_missed : (count : ℕ) (before after : CallerSight) → WereOutrun count before after → WereMade misses count before after
+outrun_missed zero before after same = same
+outrun_missed (suc count) before after so_far = (so_far.0, outrun_missed count before so_far.0 so_far.1, so_far.2)

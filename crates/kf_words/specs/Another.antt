@@ -1,5 +1,5 @@
 -- What it tells to make another hold from a hold.
-use Rattle.std.specs.Prelude.{◌≡◌, ◌≤◌, ℕ, ◌+◌, []}
+use Rattle.std.specs.Prelude.{◌≡◌, ◌≢◌, ◌≤◌, ℕ, zero, suc, ◌+◌, []}
 use Rattle.atomic_table.specs.declared.shared.Seat.{Seat}
 use Rattle.kf_core.specs.declared.caller.Phase.TheVariants.{Still}
 use Rattle.kf_core.specs.declared.refusal.Refusal.{Refusal}
@@ -11,7 +11,7 @@ use Rattle.kf_words.specs.Layout.{holds_in, HasSpare}
 use Rattle.kf_words.specs.Steps.{plain, new_hold}
 use Rattle.kf_words.specs.Callers.{Handle, CallerSight, seat_view}
 use Rattle.kf_words.specs.TableSteps.{misses}
-use Rattle.kf_words.specs.Made.{WereMade, WasDoubled}
+use Rattle.kf_words.specs.Made.{WasAMiss, WereMade, WasDoubled}
 
 -- the hold is as it was, but for how many steps it made, what the last found, and what it has seen
 pub record StaysAs (old new : Handle) : Type 0 where
@@ -31,26 +31,33 @@ pub record IsAnother (hold other : Handle) : Type 0 where
   pub still : other.phase ≡ Still
   pub steps : other.steps ≡ 0
 
--- so many steps on the hold word that counted nothing, and no other
-abbrev pub OnlyMissed : CallerSight → CallerSight → Type 0
-OnlyMissed before after = (count : ℕ) × WereMade misses count before after
+-- steps on the hold word that counted nothing, from so many to so many, and no other
+abbrev pub Missed : ℕ → ℕ → CallerSight → CallerSight → Type 0
+Missed least most before after =
+    (count : ℕ) × (least ≤ count) × (count ≤ most) × WereMade misses count before after
 
--- after steps that counted nothing one step counted one hold more, and a new seat got it
+-- after 63 such steps at most one step counted one hold more, and a new seat got it
 abbrev pub WasCountedFor : CallerSight → CallerSight → Seen → Type 0
 WasCountedFor before after seen =
-    (missed : CallerSight) × OnlyMissed before missed × WasDoubled missed after seen
+    (missed : CallerSight) × Missed 0 63 before missed × WasDoubled missed after seen
+
+-- so many such steps, and each but the first found another word than the one before it
+abbrev pub WereOutrun : ℕ → CallerSight → CallerSight → Type 0
+WereOutrun zero before after = after ≡ before
+WereOutrun (suc count) before after = (between : CallerSight) × WereOutrun count before between
+    × WasAMiss between after × (count ≢ 0 → after.view.found ≢ between.view.found)
 
 -- the last step found a word without a spare place
 abbrev pub HasNoSpare : Handle → Type 0
 HasNoSpare h = h.seen.opening.holds ≤ holds_in h.found + 1
 
 -- another hold is refused as one too many where the last step found a word without a spare place, and for
--- want of memory where it found one with such a place; as busy where each of 64 steps found another word than
--- was guessed; for no other cause
+-- want of memory where it found one with such a place; as busy where others changed the word between each of
+-- 64 steps and the next; for no other cause
 abbrev pub AnotherRefused : Handle → Handle → Refusal → Type 0
 AnotherRefused before after TooManyHolds = HasNoSpare after
 AnotherRefused before after NoMemory = HasSpare after.seen.opening.holds after.found
-AnotherRefused before after Busy = WereMade misses 64 (seat_view before) (seat_view after)
+AnotherRefused before after Busy = WereOutrun 64 (seat_view before) (seat_view after)
 AnotherRefused before after NoEntry = ⊥
 AnotherRefused before after Access = ⊥
 AnotherRefused before after Exists = ⊥

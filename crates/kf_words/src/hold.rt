@@ -2,7 +2,7 @@
 ghost use Rattle.std.specs.Prelude.{◌≡◌, true, IfOk, IfErr, MatchResult};
 ghost use Rattle.kf_core.specs.Phases.{is_waiting};
 ghost use Rattle.kf_words.specs.Callers.{IsSameSeat, Entered, WasTurned, SawDrained, SawUse, WasHidden, FoundHidden, seat_view};
-ghost use Rattle.kf_words.specs.Another.{StaysAs, IsAnother, WasCountedFor, AnotherRefused, OnlyMissed};
+ghost use Rattle.kf_words.specs.Another.{StaysAs, IsAnother, WasCountedFor, AnotherRefused, Missed};
 ghost use Rattle.kf_words.specs.Made.{FoundThere, WasATry, WasATryUndone, WasALook, WasAHide, WasLetInLive};
 
 use crate::call::Call;
@@ -117,7 +117,7 @@ impl Hold {
         ensures made { IfOk result
             (λ other. WasCountedFor (seat_view self.old) (seat_view self.new) other.seen) }
         ensures refused { IfErr result (λ why. AnotherRefused self.old self.new why) }
-        ensures missed { IfErr result (λ _. OnlyMissed (seat_view self.old) (seat_view self.new)) }
+        ensures missed { IfErr result (λ _. Missed 1 64 (seat_view self.old) (seat_view self.new)) }
     {
         let seat = self.seat.another()?;
         Ok(Hold { seat })

@@ -4,9 +4,9 @@
 //! - `Words::new` gives the words and their one `Master`, who bears, activates, dooms and unlinks nodes and
 //!   gives holds (`pin`). It belongs behind a lock; `kf_shared` keeps it there, and most programs begin with
 //!   that crate.
-//! - `Hold` keeps a slot, and `another` makes one hold more of its key, with no Master. `enter` makes a `Call`
-//!   of it, which has an active reference, and `leave` the hold again. After the mark `wait_drained` makes
-//!   `Drained`, and the unlink leads to `Parted`, the receipt. None can be dropped or copied, so what a
+//! - `Hold` keeps a slot, and `another` makes one hold more of its key, with no Master. `enter` makes a
+//!   `Call` of it, which has an active reference, and `leave` the hold again. After the mark `wait_drained`
+//!   makes `Drained`, and the unlink leads to `Parted`, the receipt. None can be dropped or copied, so what a
 //!   thread may do next is what it has in hand.
 //! - `Hiding` and `Hidden` do the same for a file that is shown again.
 //!

@@ -1,11 +1,11 @@
 //! Another hold from a seat that has one: one hold more is counted on the slot's hold word, and a new seat
 //! gets it. No lock is asked for, and no node need be linked.
-ghost use Rattle.std.specs.Prelude.{◌≡◌, None, IfOk, IfErr};
+ghost use Rattle.std.specs.Prelude.{◌≡◌, ◌≢◌, None, IfOk, IfErr, IfSome};
 ghost use Rattle.kf_words.specs.Layout.{HasSpare};
 ghost use Rattle.kf_words.specs.Steps.{after_miss};
 ghost use Rattle.kf_words.specs.Callers.{IsSameSeat, IsAtRest, handle_of, sight_of, view_of};
 ghost use Rattle.kf_words.specs.Made.{WasAMiss, WasDoubled};
-ghost use Rattle.kf_words.specs.Another.{IsShared, StaysAs, IsAnother, AnotherRefused, HasNoSpare, WasCountedFor, OnlyMissed};
+ghost use Rattle.kf_words.specs.Another.{IsShared, StaysAs, IsAnother, AnotherRefused, HasNoSpare, WasCountedFor, Missed};
 
 use crate::layout::has_spare;
 use crate::plays::{Counts, Misses, SharesHold};
@@ -32,6 +32,7 @@ impl CallerSeat {
         ensures view { view_of self.new ≡ after_miss result (view_of self.old) }
         ensures made { WasAMiss (sight_of self.old) (sight_of self.new) }
         ensures limit { (handle_of self.new).seen.opening.holds ≡ self.new.most }
+        ensures most { self.new.most ≡ self.old.most }
     {
         let word = self.hold_index();
         let most = self.most as u64;
@@ -50,8 +51,9 @@ impl CallerSeat {
         ensures shared { IfOk result
             (λ token. WasDoubled (sight_of self.old) (sight_of self.new) token.me.0.seen) }
         ensures token { IfOk result (λ token. IsShared (handle_of self.new) token) }
-        ensures missed { IfErr result (λ found. (view_of self.new ≡ after_miss found (view_of self.old))
-            × WasAMiss (sight_of self.old) (sight_of self.new)) }
+        ensures missed { IfErr result (λ _. WasAMiss (sight_of self.old) (sight_of self.new)) }
+        ensures view { IfErr result (λ found. view_of self.new ≡ after_miss found (view_of self.old)) }
+        ensures other { IfErr result (λ found. found ≢ expected) }
     {
         let word = self.hold_index();
         let found = self
@@ -74,7 +76,9 @@ impl CallerSeat {
         ensures shared { IfOk result
             (λ token. WasDoubled (sight_of self.old) (sight_of self.new) token.me.0.seen) }
         ensures missed { IfErr result (λ _. WasAMiss (sight_of self.old) (sight_of self.new)) }
-        ensures full { IfErr result (λ found. found ≡ None → HasNoSpare (handle_of self.new)) }
+        ensures outrun { IfErr result (λ why. IfSome why
+            (λ found. (found ≡ (view_of self.new).found) × (found ≢ guess))) }
+        ensures full { IfErr result (λ why. why ≡ None → HasNoSpare (handle_of self.new)) }
     {
         if has_spare(guess, self.most) {
             return match self.exchange(guess) {
@@ -102,7 +106,7 @@ impl CallerSeat {
             (λ token. WasCountedFor (sight_of self.old) (sight_of self.new) token.me.0.seen) }
         ensures refused { IfErr result
             (λ why. AnotherRefused (handle_of self.old) (handle_of self.new) why) }
-        ensures missed { IfErr result (λ _. OnlyMissed (sight_of self.old) (sight_of self.new)) }
+        ensures missed { IfErr result (λ _. Missed 1 64 (sight_of self.old) (sight_of self.new)) }
     {
         let mut guess = self.peek_holds();
         for tries in 0..TRIES {
@@ -123,7 +127,7 @@ impl CallerSeat {
         ensures same { IsSameSeat (handle_of self.old) (handle_of self.new) }
         ensures stays { StaysAs (handle_of self.old) (handle_of self.new) }
         ensures refused { AnotherRefused (handle_of self.old) (handle_of self.new) result }
-        ensures missed { OnlyMissed (sight_of self.old) (sight_of self.new) }
+        ensures missed { Missed 1 64 (sight_of self.old) (sight_of self.new) }
     {
         let found = self.see_holds();
         if has_spare(found, self.most) {
@@ -144,7 +148,7 @@ impl CallerSeat {
             (λ seat. WasCountedFor (sight_of self.old) (sight_of self.new) (handle_of seat).seen) }
         ensures refused { IfErr result
             (λ why. AnotherRefused (handle_of self.old) (handle_of self.new) why) }
-        ensures missed { IfErr result (λ _. OnlyMissed (sight_of self.old) (sight_of self.new)) }
+        ensures missed { IfErr result (λ _. Missed 1 64 (sight_of self.old) (sight_of self.new)) }
     {
         let (key, node, most) = (self.key, self.node(), self.most);
         let Ok(table) = Arc::try_clone(&self.table) else {

@@ -1,4 +1,4 @@
-use Rattle.std.proofs.Common.{◌≡◌, ℕ, ◌+◌, true, rules, arith, ap, sym, ◌∙◌, subst}
+use Rattle.std.proofs.Common.{◌≡◌, ℕ, true, rules, arith, ap, sym, ◌∙◌, subst}
 use Rattle.std.specs.Arc.{arc_value}
 use Rattle.kf_core.specs.Phases.{is_waiting}
 use Rattle.kf_words.specs.declared.view.CallerView.{CallerView}
@@ -19,7 +19,7 @@ compare_exchange-found-requires c =
     let room = c.requires.spare in
     let fits = c.ranges.expected.fits in
     let spare = subst (λ (k : ℕ). HasSpare k c.args.expected) limit c.requires.spare in
-    (search rules, omega arith, exchange_made _ _ _ seat.token.me seat.a_caller c.hold_index-word.result (omega arith) c.requires.rests seat.single c.args.expected (c.args.expected + 1) (omega arith) (omega arith) spare)
+    (search rules, omega arith, exchange_made _ _ _ seat.token.me seat.a_caller c.hold_index-word.result (omega arith) c.requires.rests seat.single _ _ (omega arith) (omega arith) spare)
 
 pub split_seat-requires : goal.split_seat-requires
 split_seat-requires c =
