@@ -9,174 +9,174 @@ still_holds : Still ≢ Spent
 still_holds e = let x : Still ≡ Spent = e in cc
 
 abbrev t0 : Table
-t0 = table_at 4294967296 0 (master_at 0 (None) 0 (None) (None) ([]) ([]) (None)) ([])
+t0 = table_at 4294967296 0 (master_at 0 (None) (None) (None) ([]) ([]) (None)) ([])
 
 abbrev t1 : Table
-t1 = table_at 4294967296 0 (master_at 0 (None) 0 (None) (None) (record { slot = 1; word = 0 } ∷ []) ([]) (None)) ([])
+t1 = table_at 4294967296 0 (master_at 0 (None) (None) (None) (record { slot = 1; word = 0 } ∷ []) ([]) (None)) ([])
 
 abbrev t2 : Table
-t2 = table_at 4294967296 0 (master_at 0 (None) 0 (None) (Some 1) (record { slot = 1; word = 0 } ∷ []) ([]) (None)) ([])
+t2 = table_at 4294967296 0 (master_at 0 (None) (None) (Some 1) (record { slot = 1; word = 0 } ∷ []) ([]) (None)) ([])
 
 abbrev t3 : Table
-t3 = table_at 4294967296 6442450944 (master_at 1 (Some (with_marks_of false false)) 0 (None) (None) ([]) (record { slot = 1; word = 0 } ∷ []) (None)) ([])
+t3 = table_at 4294967296 6442450944 (master_at 1 (Some (with_marks_of false false)) (None) (None) ([]) (record { slot = 1; word = 0 } ∷ []) (None)) ([])
 
 abbrev t4 : Table
-t4 = table_at 0 6442450944 (master_at 1 (Some (with_marks_of true false)) 0 (None) (None) ([]) (record { slot = 1; word = 0 } ∷ []) (None)) ([])
+t4 = table_at 0 6442450944 (master_at 1 (Some (with_marks_of true false)) (None) (None) ([]) (record { slot = 1; word = 0 } ∷ []) (None)) ([])
 
 abbrev t5 : Table
-t5 = table_at 0 6442450944 (master_at 1 (Some (with_marks_of true false)) 0 (None) (None) (record { slot = 1; word = 6442450944 } ∷ []) (record { slot = 1; word = 0 } ∷ []) (None)) ([])
+t5 = table_at 0 6442450944 (master_at 1 (Some (with_marks_of true false)) (None) (None) (record { slot = 1; word = 6442450944 } ∷ []) (record { slot = 1; word = 0 } ∷ []) (None)) ([])
 
 abbrev t6 : Table
-t6 = table_at 0 6442450945 (master_at 1 (Some (with_marks_of true false)) 0 (Some 1) (None) ([]) (record { slot = 1; word = 0 } ∷ []) (None)) ([])
+t6 = table_at 0 6442450945 (master_at 1 (Some (with_marks_of true false)) (Some 1) (None) ([]) (record { slot = 1; word = 0 } ∷ []) (None)) ([])
 
 abbrev t7 : Table
-t7 = table_at 0 6442450945 (master_at 1 (Some (with_marks_of true false)) 1 (None) (None) ([]) (record { slot = 1; word = 0 } ∷ []) (None)) ((caller_at Still 0 0 0 false) ∷ [])
+t7 = table_at 0 6442450945 (master_at 1 (Some (with_marks_of true false)) (None) (None) ([]) (record { slot = 1; word = 0 } ∷ []) (None)) ((caller_at Still 0 0 0 false) ∷ [])
 
 abbrev t8 : Table
-t8 = table_at 0 6442450945 (master_at 1 (Some (with_marks_of true false)) 1 (None) (None) (record { slot = 1; word = 6442450945 } ∷ []) (record { slot = 1; word = 0 } ∷ []) (None)) ((caller_at Still 0 0 0 false) ∷ [])
+t8 = table_at 0 6442450945 (master_at 1 (Some (with_marks_of true false)) (None) (None) (record { slot = 1; word = 6442450945 } ∷ []) (record { slot = 1; word = 0 } ∷ []) (None)) ((caller_at Still 0 0 0 false) ∷ [])
 
 abbrev t9 : Table
-t9 = table_at 0 6442450946 (master_at 1 (Some (with_marks_of true false)) 1 (Some 1) (None) ([]) (record { slot = 1; word = 0 } ∷ []) (None)) ((caller_at Still 0 0 0 false) ∷ [])
+t9 = table_at 0 6442450946 (master_at 1 (Some (with_marks_of true false)) (Some 1) (None) ([]) (record { slot = 1; word = 0 } ∷ []) (None)) ((caller_at Still 0 0 0 false) ∷ [])
 
 abbrev t10 : Table
-t10 = table_at 0 6442450946 (master_at 1 (Some (with_marks_of true false)) 2 (None) (None) ([]) (record { slot = 1; word = 0 } ∷ []) (None)) ((caller_at Still 0 0 0 false) ∷ (caller_at Still 0 0 0 false) ∷ [])
+t10 = table_at 0 6442450946 (master_at 1 (Some (with_marks_of true false)) (None) (None) ([]) (record { slot = 1; word = 0 } ∷ []) (None)) ((caller_at Still 0 0 0 false) ∷ (caller_at Still 0 0 0 false) ∷ [])
 
 abbrev t11 : Table
-t11 = table_at 1 6442450946 (master_at 1 (Some (with_marks_of true false)) 2 (None) (None) ([]) (record { slot = 1; word = 0 } ∷ []) (None)) ((caller_at Running 1 1 0 false) ∷ (caller_at Still 0 0 0 false) ∷ [])
+t11 = table_at 1 6442450946 (master_at 1 (Some (with_marks_of true false)) (None) (None) ([]) (record { slot = 1; word = 0 } ∷ []) (None)) ((caller_at Running 1 1 0 false) ∷ (caller_at Still 0 0 0 false) ∷ [])
 
 abbrev t12 : Table
-t12 = table_at 17179869185 6442450946 (master_at 1 (Some (with_marks_of true false)) 2 (None) (None) ([]) (record { slot = 1; word = 0 } ∷ []) (None)) ((caller_at Running 1 1 0 false) ∷ (caller_at Hiding 1 0 1 false) ∷ [])
+t12 = table_at 17179869185 6442450946 (master_at 1 (Some (with_marks_of true false)) (None) (None) ([]) (record { slot = 1; word = 0 } ∷ []) (None)) ((caller_at Running 1 1 0 false) ∷ (caller_at Hiding 1 0 1 false) ∷ [])
 
 abbrev t13 : Table
-t13 = table_at 17179869185 6442450946 (master_at 1 (Some (with_marks_of true false)) 2 (None) (None) ([]) (record { slot = 1; word = 0 } ∷ []) (None)) ((caller_at Running 1 1 0 false) ∷ (caller_at Hiding 2 0 17179869185 false) ∷ [])
+t13 = table_at 17179869185 6442450946 (master_at 1 (Some (with_marks_of true false)) (None) (None) ([]) (record { slot = 1; word = 0 } ∷ []) (None)) ((caller_at Running 1 1 0 false) ∷ (caller_at Hiding 2 0 17179869185 false) ∷ [])
 
 abbrev t14 : Table
-t14 = table_at 17179869184 6442450946 (master_at 1 (Some (with_marks_of true false)) 2 (None) (None) ([]) (record { slot = 1; word = 0 } ∷ []) (None)) ((caller_at Still 2 1 17179869185 false) ∷ (caller_at Hiding 2 0 17179869185 false) ∷ [])
+t14 = table_at 17179869184 6442450946 (master_at 1 (Some (with_marks_of true false)) (None) (None) ([]) (record { slot = 1; word = 0 } ∷ []) (None)) ((caller_at Still 2 1 17179869185 false) ∷ (caller_at Hiding 2 0 17179869185 false) ∷ [])
 
 abbrev t15 : Table
-t15 = table_at 17179869184 6442450946 (master_at 1 (Some (with_marks_of true false)) 2 (None) (None) ([]) (record { slot = 1; word = 0 } ∷ []) (None)) ((caller_at Still 2 1 17179869185 false) ∷ (caller_at Hidden 3 0 17179869184 false) ∷ [])
+t15 = table_at 17179869184 6442450946 (master_at 1 (Some (with_marks_of true false)) (None) (None) ([]) (record { slot = 1; word = 0 } ∷ []) (None)) ((caller_at Still 2 1 17179869185 false) ∷ (caller_at Hidden 3 0 17179869184 false) ∷ [])
 
 abbrev t16 : Table
-t16 = table_at 17179869185 6442450946 (master_at 1 (Some (with_marks_of true false)) 2 (None) (None) ([]) (record { slot = 1; word = 0 } ∷ []) (None)) ((caller_at Turned 3 2 17179869184 true) ∷ (caller_at Hidden 3 0 17179869184 false) ∷ [])
+t16 = table_at 17179869185 6442450946 (master_at 1 (Some (with_marks_of true false)) (None) (None) ([]) (record { slot = 1; word = 0 } ∷ []) (None)) ((caller_at Turned 3 2 17179869184 true) ∷ (caller_at Hidden 3 0 17179869184 false) ∷ [])
 
 abbrev t17 : Table
-t17 = table_at 17179869184 6442450946 (master_at 1 (Some (with_marks_of true false)) 2 (None) (None) ([]) (record { slot = 1; word = 0 } ∷ []) (None)) ((caller_at Turned 4 2 17179869184 false) ∷ (caller_at Hidden 3 0 17179869184 false) ∷ [])
+t17 = table_at 17179869184 6442450946 (master_at 1 (Some (with_marks_of true false)) (None) (None) ([]) (record { slot = 1; word = 0 } ∷ []) (None)) ((caller_at Turned 4 2 17179869184 false) ∷ (caller_at Hidden 3 0 17179869184 false) ∷ [])
 
 abbrev t18 : Table
-t18 = table_at 0 6442450946 (master_at 1 (Some (with_marks_of true false)) 2 (None) (None) ([]) (record { slot = 1; word = 0 } ∷ []) (None)) ((caller_at Turned 4 2 17179869184 false) ∷ (caller_at Still 4 0 17179869184 false) ∷ [])
+t18 = table_at 0 6442450946 (master_at 1 (Some (with_marks_of true false)) (None) (None) ([]) (record { slot = 1; word = 0 } ∷ []) (None)) ((caller_at Turned 4 2 17179869184 false) ∷ (caller_at Still 4 0 17179869184 false) ∷ [])
 
 abbrev t19 : Table
-t19 = table_at 1 6442450946 (master_at 1 (Some (with_marks_of true false)) 2 (None) (None) ([]) (record { slot = 1; word = 0 } ∷ []) (None)) ((caller_at Running 5 3 0 false) ∷ (caller_at Still 4 0 17179869184 false) ∷ [])
+t19 = table_at 1 6442450946 (master_at 1 (Some (with_marks_of true false)) (None) (None) ([]) (record { slot = 1; word = 0 } ∷ []) (None)) ((caller_at Running 5 3 0 false) ∷ (caller_at Still 4 0 17179869184 false) ∷ [])
 
 abbrev t20 : Table
-t20 = table_at 12884901889 6442450946 (master_at 1 (Some (with_marks_of true true)) 2 (None) (None) ([]) (record { slot = 1; word = 0 } ∷ []) (None)) ((caller_at Running 5 3 0 false) ∷ (caller_at Still 4 0 17179869184 false) ∷ [])
+t20 = table_at 12884901889 6442450946 (master_at 1 (Some (with_marks_of true true)) (None) (None) ([]) (record { slot = 1; word = 0 } ∷ []) (None)) ((caller_at Running 5 3 0 false) ∷ (caller_at Still 4 0 17179869184 false) ∷ [])
 
 abbrev t21 : Table
-t21 = table_at 12884901890 6442450946 (master_at 1 (Some (with_marks_of true true)) 2 (None) (None) ([]) (record { slot = 1; word = 0 } ∷ []) (None)) ((caller_at Running 5 3 0 false) ∷ (caller_at Turned 5 1 12884901889 true) ∷ [])
+t21 = table_at 12884901890 6442450946 (master_at 1 (Some (with_marks_of true true)) (None) (None) ([]) (record { slot = 1; word = 0 } ∷ []) (None)) ((caller_at Running 5 3 0 false) ∷ (caller_at Turned 5 1 12884901889 true) ∷ [])
 
 abbrev t22 : Table
-t22 = table_at 12884901889 6442450946 (master_at 1 (Some (with_marks_of true true)) 2 (None) (None) ([]) (record { slot = 1; word = 0 } ∷ []) (None)) ((caller_at Running 5 3 0 false) ∷ (caller_at Turned 6 1 12884901889 false) ∷ [])
+t22 = table_at 12884901889 6442450946 (master_at 1 (Some (with_marks_of true true)) (None) (None) ([]) (record { slot = 1; word = 0 } ∷ []) (None)) ((caller_at Running 5 3 0 false) ∷ (caller_at Turned 6 1 12884901889 false) ∷ [])
 
 abbrev t23 : Table
-t23 = table_at 12884901888 6442450946 (master_at 1 (Some (with_marks_of true true)) 2 (None) (None) ([]) (record { slot = 1; word = 0 } ∷ []) (None)) ((caller_at Broken 6 3 12884901889 false) ∷ (caller_at Turned 6 1 12884901889 false) ∷ [])
+t23 = table_at 12884901888 6442450946 (master_at 1 (Some (with_marks_of true true)) (None) (None) ([]) (record { slot = 1; word = 0 } ∷ []) (None)) ((caller_at Broken 6 3 12884901889 false) ∷ (caller_at Turned 6 1 12884901889 false) ∷ [])
 
 -- the two tables while caller 1 sleeps: before the last user gives its reference up, and after it
 abbrev a22 : Table
-a22 = table_with 12884901889 6442450946 1 (master_at 1 (Some (with_marks_of true true)) 2 (None) (None) ([]) (record { slot = 1; word = 0 } ∷ []) (None)) ((caller_at Running 5 3 0 false) ∷ (caller_at Turned 6 1 12884901889 false) ∷ [])
+a22 = table_with 12884901889 6442450946 1 (master_at 1 (Some (with_marks_of true true)) (None) (None) ([]) (record { slot = 1; word = 0 } ∷ []) (None)) ((caller_at Running 5 3 0 false) ∷ (caller_at Turned 6 1 12884901889 false) ∷ [])
 
 abbrev a23 : Table
-a23 = table_with 12884901888 6442450946 1 (master_at 1 (Some (with_marks_of true true)) 2 (None) (None) ([]) (record { slot = 1; word = 0 } ∷ []) (None)) ((caller_at Broken 6 3 12884901889 false) ∷ (caller_at Turned 6 1 12884901889 false) ∷ [])
+a23 = table_with 12884901888 6442450946 1 (master_at 1 (Some (with_marks_of true true)) (None) (None) ([]) (record { slot = 1; word = 0 } ∷ []) (None)) ((caller_at Broken 6 3 12884901889 false) ∷ (caller_at Turned 6 1 12884901889 false) ∷ [])
 
 abbrev t24 : Table
-t24 = table_at 12884901888 6442450946 (master_at 1 (Some (with_marks_of true true)) 2 (None) (None) ([]) (record { slot = 1; word = 0 } ∷ []) (None)) ((caller_at Broken 6 3 12884901889 false) ∷ (caller_at Drained 7 1 12884901888 false) ∷ [])
+t24 = table_at 12884901888 6442450946 (master_at 1 (Some (with_marks_of true true)) (None) (None) ([]) (record { slot = 1; word = 0 } ∷ []) (None)) ((caller_at Broken 6 3 12884901889 false) ∷ (caller_at Drained 7 1 12884901888 false) ∷ [])
 
 abbrev t25 : Table
-t25 = table_at 12884901889 6442450946 (master_at 1 (Some (with_marks_of true true)) 2 (None) (None) ([]) (record { slot = 1; word = 0 } ∷ []) (None)) ((caller_at Restored 7 3 12884901888 false) ∷ (caller_at Drained 7 1 12884901888 false) ∷ [])
+t25 = table_at 12884901889 6442450946 (master_at 1 (Some (with_marks_of true true)) (None) (None) ([]) (record { slot = 1; word = 0 } ∷ []) (None)) ((caller_at Restored 7 3 12884901888 false) ∷ (caller_at Drained 7 1 12884901888 false) ∷ [])
 
 abbrev t26 : Table
-t26 = table_at 12884901889 6442450946 (master_at 1 (Some (with_marks_of true true)) 2 (None) (None) ([]) (record { slot = 1; word = 0 } ∷ []) (None)) ((caller_at Restored 7 3 12884901888 false) ∷ (caller_at Drained 8 1 6442450946 false) ∷ [])
+t26 = table_at 12884901889 6442450946 (master_at 1 (Some (with_marks_of true true)) (None) (None) ([]) (record { slot = 1; word = 0 } ∷ []) (None)) ((caller_at Restored 7 3 12884901888 false) ∷ (caller_at Drained 8 1 6442450946 false) ∷ [])
 
 abbrev t27 : Table
-t27 = table_at 12884901889 6442450946 (master_at 1 (Some (with_marks_of true true)) 2 (None) (None) ([]) (record { slot = 1; word = 0 } ∷ []) (Some (record { slot = 1; word = 12884901889 }))) ((caller_at Restored 7 3 12884901888 false) ∷ (caller_at Drained 8 1 6442450946 false) ∷ [])
+t27 = table_at 12884901889 6442450946 (master_at 1 (Some (with_marks_of true true)) (None) (None) ([]) (record { slot = 1; word = 0 } ∷ []) (Some (record { slot = 1; word = 12884901889 }))) ((caller_at Restored 7 3 12884901888 false) ∷ (caller_at Drained 8 1 6442450946 false) ∷ [])
 
 abbrev t28 : Table
-t28 = table_at 12884901888 6442450946 (master_at 1 (Some (with_marks_of true true)) 2 (None) (None) ([]) (record { slot = 1; word = 0 } ∷ []) (Some (record { slot = 1; word = 12884901889 }))) ((caller_at Still 8 3 12884901889 false) ∷ (caller_at Drained 8 1 6442450946 false) ∷ [])
+t28 = table_at 12884901888 6442450946 (master_at 1 (Some (with_marks_of true true)) (None) (None) ([]) (record { slot = 1; word = 0 } ∷ []) (Some (record { slot = 1; word = 12884901889 }))) ((caller_at Still 8 3 12884901889 false) ∷ (caller_at Drained 8 1 6442450946 false) ∷ [])
 
 abbrev t29 : Table
-t29 = table_at 12884901888 6442450946 (master_at 1 (Some (with_marks_of true true)) 2 (None) (None) ([]) (record { slot = 1; word = 0 } ∷ []) (Some (record { slot = 1; word = 12884901888 }))) ((caller_at Still 8 3 12884901889 false) ∷ (caller_at Drained 8 1 6442450946 false) ∷ [])
+t29 = table_at 12884901888 6442450946 (master_at 1 (Some (with_marks_of true true)) (None) (None) ([]) (record { slot = 1; word = 0 } ∷ []) (Some (record { slot = 1; word = 12884901888 }))) ((caller_at Still 8 3 12884901889 false) ∷ (caller_at Drained 8 1 6442450946 false) ∷ [])
 
 abbrev t30 : Table
-t30 = table_at 12884901888 4294967298 (master_at 1 (None) 2 (None) (None) ([]) (record { slot = 1; word = 0 } ∷ []) (None)) ((caller_at Still 8 3 12884901889 false) ∷ (caller_at Drained 8 1 6442450946 false) ∷ [])
+t30 = table_at 12884901888 4294967298 (master_at 1 (None) (None) (None) ([]) (record { slot = 1; word = 0 } ∷ []) (None)) ((caller_at Still 8 3 12884901889 false) ∷ (caller_at Drained 8 1 6442450946 false) ∷ [])
 
 abbrev t31 : Table
-t31 = table_at 12884901888 4294967298 (master_at 1 (None) 2 (None) (None) ([]) (record { slot = 1; word = 0 } ∷ []) (None)) ((caller_at Still 8 3 12884901889 false) ∷ (caller_at Parted 9 1 4294967298 false) ∷ [])
+t31 = table_at 12884901888 4294967298 (master_at 1 (None) (None) (None) ([]) (record { slot = 1; word = 0 } ∷ []) (None)) ((caller_at Still 8 3 12884901889 false) ∷ (caller_at Parted 9 1 4294967298 false) ∷ [])
 
 -- the node is out: caller 0 finds no room for another hold, and then makes one
 abbrev b31 : Table
-b31 = table_at 12884901888 4294967298 (master_at 1 (None) 2 (None) (None) ([]) (record { slot = 1; word = 0 } ∷ []) (None)) ((caller_at Still 9 3 4294967298 false) ∷ (caller_at Parted 9 1 4294967298 false) ∷ [])
+b31 = table_at 12884901888 4294967298 (master_at 1 (None) (None) (None) ([]) (record { slot = 1; word = 0 } ∷ []) (None)) ((caller_at Still 9 3 4294967298 false) ∷ (caller_at Parted 9 1 4294967298 false) ∷ [])
 
 abbrev t32 : Table
-t32 = table_at 12884901888 4294967297 (master_at 1 (None) 2 (None) (None) ([]) (record { slot = 1; word = 0 } ∷ []) (None)) ((caller_at Still 9 3 4294967298 false) ∷ (caller_at Spent 10 1 4294967298 false) ∷ [])
+t32 = table_at 12884901888 4294967297 (master_at 1 (None) (None) (None) ([]) (record { slot = 1; word = 0 } ∷ []) (None)) ((caller_at Still 9 3 4294967298 false) ∷ (caller_at Spent 10 1 4294967298 false) ∷ [])
 
 abbrev c32 : Table
-c32 = table_at 12884901888 4294967298 (master_at 1 (None) 2 (None) (None) ([]) (record { slot = 1; word = 0 } ∷ []) (None)) (with_one_more (caller_at Still 10 3 4294967297 false) ∷ (caller_at Spent 10 1 4294967298 false) ∷ [])
+c32 = table_at 12884901888 4294967298 (master_at 1 (None) (None) (None) ([]) (record { slot = 1; word = 0 } ∷ []) (None)) (with_one_more (caller_at Still 10 3 4294967297 false) ∷ (caller_at Spent 10 1 4294967298 false) ∷ [])
 
 abbrev d32 : Table
-d32 = table_at 12884901888 4294967298 (master_at 1 (None) 2 (None) (None) ([]) (record { slot = 1; word = 0 } ∷ []) (None)) ((caller_at Still 10 3 4294967297 false) ∷ (caller_at Spent 10 1 4294967298 false) ∷ (caller_at Still 0 0 0 false) ∷ [])
+d32 = table_at 12884901888 4294967298 (master_at 1 (None) (None) (None) ([]) (record { slot = 1; word = 0 } ∷ []) (None)) ((caller_at Still 10 3 4294967297 false) ∷ (caller_at Spent 10 1 4294967298 false) ∷ (caller_at Still 0 0 0 false) ∷ [])
 
 abbrev e32 : Table
-e32 = table_at 12884901888 4294967297 (master_at 1 (None) 2 (None) (None) ([]) (record { slot = 1; word = 0 } ∷ []) (None)) ((caller_at Still 10 3 4294967297 false) ∷ (caller_at Spent 10 1 4294967298 false) ∷ (caller_at Spent 1 0 4294967298 false) ∷ [])
+e32 = table_at 12884901888 4294967297 (master_at 1 (None) (None) (None) ([]) (record { slot = 1; word = 0 } ∷ []) (None)) ((caller_at Still 10 3 4294967297 false) ∷ (caller_at Spent 10 1 4294967298 false) ∷ (caller_at Spent 1 0 4294967298 false) ∷ [])
 
 abbrev t33 : Table
-t33 = table_at 12884901888 4294967296 (master_at 1 (None) 2 (None) (None) ([]) (record { slot = 1; word = 0 } ∷ []) (None)) ((caller_at Spent 11 3 4294967297 false) ∷ (caller_at Spent 10 1 4294967298 false) ∷ (caller_at Spent 1 0 4294967298 false) ∷ [])
+t33 = table_at 12884901888 4294967296 (master_at 1 (None) (None) (None) ([]) (record { slot = 1; word = 0 } ∷ []) (None)) ((caller_at Spent 11 3 4294967297 false) ∷ (caller_at Spent 10 1 4294967298 false) ∷ (caller_at Spent 1 0 4294967298 false) ∷ [])
 
 abbrev t34 : Table
-t34 = table_at 12884901888 4294967296 (master_at 1 (None) 2 (None) (None) (record { slot = 1; word = 4294967296 } ∷ []) (record { slot = 1; word = 0 } ∷ []) (None)) ((caller_at Spent 11 3 4294967297 false) ∷ (caller_at Spent 10 1 4294967298 false) ∷ (caller_at Spent 1 0 4294967298 false) ∷ [])
+t34 = table_at 12884901888 4294967296 (master_at 1 (None) (None) (None) (record { slot = 1; word = 4294967296 } ∷ []) (record { slot = 1; word = 0 } ∷ []) (None)) ((caller_at Spent 11 3 4294967297 false) ∷ (caller_at Spent 10 1 4294967298 false) ∷ (caller_at Spent 1 0 4294967298 false) ∷ [])
 
 abbrev t35 : Table
-t35 = table_at 4294967296 4294967296 (master_at 1 (None) 2 (None) (Some 1) (record { slot = 1; word = 4294967296 } ∷ []) (record { slot = 1; word = 0 } ∷ []) (None)) ((caller_at Spent 11 3 4294967297 false) ∷ (caller_at Spent 10 1 4294967298 false) ∷ (caller_at Spent 1 0 4294967298 false) ∷ [])
+t35 = table_at 4294967296 4294967296 (master_at 1 (None) (None) (Some 1) (record { slot = 1; word = 4294967296 } ∷ []) (record { slot = 1; word = 0 } ∷ []) (None)) ((caller_at Spent 11 3 4294967297 false) ∷ (caller_at Spent 10 1 4294967298 false) ∷ (caller_at Spent 1 0 4294967298 false) ∷ [])
 
 abbrev t36 : Table
-t36 = table_at 4294967296 10737418240 (master_at 2 (Some (with_marks_of false false)) 2 (None) (None) ([]) (record { slot = 1; word = 4294967296 } ∷ []) (None)) ((caller_at Spent 11 3 4294967297 false) ∷ (caller_at Spent 10 1 4294967298 false) ∷ (caller_at Spent 1 0 4294967298 false) ∷ [])
+t36 = table_at 4294967296 10737418240 (master_at 2 (Some (with_marks_of false false)) (None) (None) ([]) (record { slot = 1; word = 4294967296 } ∷ []) (None)) ((caller_at Spent 11 3 4294967297 false) ∷ (caller_at Spent 10 1 4294967298 false) ∷ (caller_at Spent 1 0 4294967298 false) ∷ [])
 
 abbrev t37 : Table
-t37 = table_at 4294967296 10737418240 (master_at 2 (Some (with_marks_of false false)) 2 (None) (None) (record { slot = 1; word = 10737418240 } ∷ []) (record { slot = 1; word = 4294967296 } ∷ []) (None)) ((caller_at Spent 11 3 4294967297 false) ∷ (caller_at Spent 10 1 4294967298 false) ∷ (caller_at Spent 1 0 4294967298 false) ∷ [])
+t37 = table_at 4294967296 10737418240 (master_at 2 (Some (with_marks_of false false)) (None) (None) (record { slot = 1; word = 10737418240 } ∷ []) (record { slot = 1; word = 4294967296 } ∷ []) (None)) ((caller_at Spent 11 3 4294967297 false) ∷ (caller_at Spent 10 1 4294967298 false) ∷ (caller_at Spent 1 0 4294967298 false) ∷ [])
 
 abbrev t38 : Table
-t38 = table_at 4294967296 10737418241 (master_at 2 (Some (with_marks_of false false)) 2 (Some 1) (None) ([]) (record { slot = 1; word = 4294967296 } ∷ []) (None)) ((caller_at Spent 11 3 4294967297 false) ∷ (caller_at Spent 10 1 4294967298 false) ∷ (caller_at Spent 1 0 4294967298 false) ∷ [])
+t38 = table_at 4294967296 10737418241 (master_at 2 (Some (with_marks_of false false)) (Some 1) (None) ([]) (record { slot = 1; word = 4294967296 } ∷ []) (None)) ((caller_at Spent 11 3 4294967297 false) ∷ (caller_at Spent 10 1 4294967298 false) ∷ (caller_at Spent 1 0 4294967298 false) ∷ [])
 
 abbrev t39 : Table
-t39 = table_at 4294967296 10737418240 (master_at 2 (Some (with_marks_of false false)) 2 (None) (None) ([]) (record { slot = 1; word = 4294967296 } ∷ []) (None)) ((caller_at Spent 11 3 4294967297 false) ∷ (caller_at Spent 10 1 4294967298 false) ∷ (caller_at Spent 1 0 4294967298 false) ∷ [])
+t39 = table_at 4294967296 10737418240 (master_at 2 (Some (with_marks_of false false)) (None) (None) ([]) (record { slot = 1; word = 4294967296 } ∷ []) (None)) ((caller_at Spent 11 3 4294967297 false) ∷ (caller_at Spent 10 1 4294967298 false) ∷ (caller_at Spent 1 0 4294967298 false) ∷ [])
 
 s0 : WordStep t0 (loads_hold 1) t1
-s0 = (master_at 0 (None) 0 (None) (None) ([]) ([]) (None), ltb-true 1 2 refl, record { there = refl; fits = ltb-true 0 18446744073709551616 refl; becomes = refl })
+s0 = (master_at 0 (None) (None) (None) ([]) ([]) (None), ltb-true 1 2 refl, record { there = refl; fits = ltb-true 0 18446744073709551616 refl; becomes = refl })
 
 s1 : WordStep t1 (stores_fresh 1) t2
-s1 = (master_at 0 (None) 0 (None) (None) (record { slot = 1; word = 0 } ∷ []) ([]) (None), (ltb-true 1 2 refl, (0, record { slot = 1; word = 0 }, refl, refl, (refl, ltb-true 0 4294967295 refl))), record { there = refl; fits = ltb-true 4294967296 18446744073709551616 refl; becomes = refl })
+s1 = (master_at 0 (None) (None) (None) (record { slot = 1; word = 0 } ∷ []) ([]) (None), (ltb-true 1 2 refl, (0, record { slot = 1; word = 0 }, refl, refl, (refl, ltb-true 0 4294967295 refl))), record { there = refl; fits = ltb-true 4294967296 18446744073709551616 refl; becomes = refl })
 
 s2 : WordStep t2 (births 1) t3
-s2 = (master_at 0 (None) 0 (None) (Some 1) (record { slot = 1; word = 0 } ∷ []) ([]) (None), (ltb-true 1 2 refl, refl), record { there = refl; fits = ltb-true 0 18446744073709551616 refl; becomes = refl })
+s2 = (master_at 0 (None) (None) (Some 1) (record { slot = 1; word = 0 } ∷ []) ([]) (None), (ltb-true 1 2 refl, refl), record { there = refl; fits = ltb-true 0 18446744073709551616 refl; becomes = refl })
 
 s3 : WordStep t3 (takes_bias 1) t4
-s3 = (master_at 1 (Some (with_marks_of false false)) 0 (None) (None) ([]) (record { slot = 1; word = 0 } ∷ []) (None), (record { generation = 1; marks = Some (with_marks_of false false) }, refl, refl), record { there = refl; fits = ltb-true 4294967296 18446744073709551616 refl; becomes = refl })
+s3 = (master_at 1 (Some (with_marks_of false false)) (None) (None) ([]) (record { slot = 1; word = 0 } ∷ []) (None), (record { generation = 1; marks = Some (with_marks_of false false) }, refl, refl), record { there = refl; fits = ltb-true 4294967296 18446744073709551616 refl; becomes = refl })
 
 s4 : WordStep t4 (loads_hold 1) t5
-s4 = (master_at 1 (Some (with_marks_of true false)) 0 (None) (None) ([]) (record { slot = 1; word = 0 } ∷ []) (None), ltb-true 1 2 refl, record { there = refl; fits = ltb-true 6442450944 18446744073709551616 refl; becomes = refl })
+s4 = (master_at 1 (Some (with_marks_of true false)) (None) (None) ([]) (record { slot = 1; word = 0 } ∷ []) (None), ltb-true 1 2 refl, record { there = refl; fits = ltb-true 6442450944 18446744073709551616 refl; becomes = refl })
 
 s5 : WordStep t5 (pins_hold 1) t6
-s5 = (master_at 1 (Some (with_marks_of true false)) 0 (None) (None) (record { slot = 1; word = 6442450944 } ∷ []) (record { slot = 1; word = 0 } ∷ []) (None), (ltb-true 1 2 refl, refl, (0, record { slot = 1; word = 6442450944 }, refl, refl, ltb-true 0 3 refl)), record { there = refl; fits = ltb-true 6442450944 18446744073709551616 refl; becomes = refl })
+s5 = (master_at 1 (Some (with_marks_of true false)) (None) (None) (record { slot = 1; word = 6442450944 } ∷ []) (record { slot = 1; word = 0 } ∷ []) (None), (ltb-true 1 2 refl, refl, (0, record { slot = 1; word = 6442450944 }, refl, refl, ltb-true 0 3 refl)), record { there = refl; fits = ltb-true 6442450944 18446744073709551616 refl; becomes = refl })
 
 s6 : WordStep t6 (splits 1) t7
-s6 = (master_at 1 (Some (with_marks_of true false)) 0 (Some 1) (None) ([]) (record { slot = 1; word = 0 } ∷ []) (None), refl, ltb-true 1 2 refl, refl, refl)
+s6 = (master_at 1 (Some (with_marks_of true false)) (Some 1) (None) ([]) (record { slot = 1; word = 0 } ∷ []) (None), refl, ltb-true 1 2 refl, refl, refl)
 
 s7 : WordStep t7 (loads_hold 1) t8
-s7 = (master_at 1 (Some (with_marks_of true false)) 1 (None) (None) ([]) (record { slot = 1; word = 0 } ∷ []) (None), ltb-true 1 2 refl, record { there = refl; fits = ltb-true 6442450945 18446744073709551616 refl; becomes = refl })
+s7 = (master_at 1 (Some (with_marks_of true false)) (None) (None) ([]) (record { slot = 1; word = 0 } ∷ []) (None), ltb-true 1 2 refl, record { there = refl; fits = ltb-true 6442450945 18446744073709551616 refl; becomes = refl })
 
 s8 : WordStep t8 (pins_hold 1) t9
-s8 = (master_at 1 (Some (with_marks_of true false)) 1 (None) (None) (record { slot = 1; word = 6442450945 } ∷ []) (record { slot = 1; word = 0 } ∷ []) (None), (ltb-true 1 2 refl, refl, (0, record { slot = 1; word = 6442450945 }, refl, refl, ltb-true 1 3 refl)), record { there = refl; fits = ltb-true 6442450945 18446744073709551616 refl; becomes = refl })
+s8 = (master_at 1 (Some (with_marks_of true false)) (None) (None) (record { slot = 1; word = 6442450945 } ∷ []) (record { slot = 1; word = 0 } ∷ []) (None), (ltb-true 1 2 refl, refl, (0, record { slot = 1; word = 6442450945 }, refl, refl, ltb-true 1 3 refl)), record { there = refl; fits = ltb-true 6442450945 18446744073709551616 refl; becomes = refl })
 
 s9 : WordStep t9 (splits 1) t10
-s9 = (master_at 1 (Some (with_marks_of true false)) 1 (Some 1) (None) ([]) (record { slot = 1; word = 0 } ∷ []) (None), refl, ltb-true 1 2 refl, refl, refl)
+s9 = (master_at 1 (Some (with_marks_of true false)) (Some 1) (None) ([]) (record { slot = 1; word = 0 } ∷ []) (None), refl, ltb-true 1 2 refl, refl, refl)
 
 s10 : WordStep t10 (tries 0) t11
 s10 = (caller_at Still 0 0 0 false, (refl, refl), record { there = refl; fits = ltb-true 0 18446744073709551616 refl; becomes = refl })
@@ -206,7 +206,7 @@ s18 : WordStep t18 (tries 0) t19
 s18 = (caller_at Turned 4 2 17179869184 false, (refl, refl), record { there = refl; fits = ltb-true 0 18446744073709551616 refl; becomes = refl })
 
 s19 : WordStep t19 (marks_node 1) t20
-s19 = (with_marks_of true false, (master_at 1 (Some (with_marks_of true false)) 2 (None) (None) ([]) (record { slot = 1; word = 0 } ∷ []) (None), ((record { generation = 1; marks = Some (with_marks_of true false) }, refl, refl), refl), record { there = refl; fits = ltb-true 1 18446744073709551616 refl; becomes = refl }))
+s19 = (with_marks_of true false, (master_at 1 (Some (with_marks_of true false)) (None) (None) ([]) (record { slot = 1; word = 0 } ∷ []) (None), ((record { generation = 1; marks = Some (with_marks_of true false) }, refl, refl), refl), record { there = refl; fits = ltb-true 1 18446744073709551616 refl; becomes = refl }))
 
 s20 : WordStep t20 (tries 1) t21
 s20 = (caller_at Still 4 0 17179869184 false, (refl, refl), record { there = refl; fits = ltb-true 12884901889 18446744073709551616 refl; becomes = refl })
@@ -233,16 +233,16 @@ s25 : WordStep t25 (parts 1) t26
 s25 = (caller_at Drained 7 1 12884901888 false, (refl, refl), record { there = refl; fits = ltb-true 6442450946 18446744073709551616 refl; becomes = refl })
 
 s26 : WordStep t26 (looks_over 1) t27
-s26 = (master_at 1 (Some (with_marks_of true true)) 2 (None) (None) ([]) (record { slot = 1; word = 0 } ∷ []) (None), ltb-true 1 2 refl, record { there = refl; fits = ltb-true 12884901889 18446744073709551616 refl; becomes = refl })
+s26 = (master_at 1 (Some (with_marks_of true true)) (None) (None) ([]) (record { slot = 1; word = 0 } ∷ []) (None), ltb-true 1 2 refl, record { there = refl; fits = ltb-true 12884901889 18446744073709551616 refl; becomes = refl })
 
 s27 : WordStep t27 (leaves 0) t28
 s27 = (caller_at Restored 7 3 12884901888 false, (refl, refl), record { there = refl; fits = ltb-true 12884901889 18446744073709551616 refl; becomes = refl })
 
 s28 : WordStep t28 (looks_over 1) t29
-s28 = (master_at 1 (Some (with_marks_of true true)) 2 (None) (None) ([]) (record { slot = 1; word = 0 } ∷ []) (Some (record { slot = 1; word = 12884901889 })), ltb-true 1 2 refl, record { there = refl; fits = ltb-true 12884901888 18446744073709551616 refl; becomes = refl })
+s28 = (master_at 1 (Some (with_marks_of true true)) (None) (None) ([]) (record { slot = 1; word = 0 } ∷ []) (Some (record { slot = 1; word = 12884901889 })), ltb-true 1 2 refl, record { there = refl; fits = ltb-true 12884901888 18446744073709551616 refl; becomes = refl })
 
 s29 : WordStep t29 (unlinks 1) t30
-s29 = (master_at 1 (Some (with_marks_of true true)) 2 (None) (None) ([]) (record { slot = 1; word = 0 } ∷ []) (Some (record { slot = 1; word = 12884901888 })), ((with_marks_of true true, (record { generation = 1; marks = Some (with_marks_of true true) }, refl, refl)), (12884901888, refl, refl)), record { there = refl; fits = ltb-true 6442450946 18446744073709551616 refl; becomes = refl })
+s29 = (master_at 1 (Some (with_marks_of true true)) (None) (None) ([]) (record { slot = 1; word = 0 } ∷ []) (Some (record { slot = 1; word = 12884901888 })), ((with_marks_of true true, (record { generation = 1; marks = Some (with_marks_of true true) }, refl, refl)), (12884901888, refl, refl)), record { there = refl; fits = ltb-true 6442450946 18446744073709551616 refl; becomes = refl })
 
 s30 : WordStep t30 (parts 1) t31
 s30 = (caller_at Drained 8 1 6442450946 false, (refl, refl), record { there = refl; fits = ltb-true 4294967298 18446744073709551616 refl; becomes = refl })
@@ -266,22 +266,22 @@ s32 : WordStep e32 (releases 0) t33
 s32 = (caller_at Still 10 3 4294967297 false, (refl, refl), record { there = refl; fits = ltb-true 4294967297 18446744073709551616 refl; becomes = refl })
 
 s33 : WordStep t33 (loads_hold 1) t34
-s33 = (master_at 1 (None) 2 (None) (None) ([]) (record { slot = 1; word = 0 } ∷ []) (None), ltb-true 1 2 refl, record { there = refl; fits = ltb-true 4294967296 18446744073709551616 refl; becomes = refl })
+s33 = (master_at 1 (None) (None) (None) ([]) (record { slot = 1; word = 0 } ∷ []) (None), ltb-true 1 2 refl, record { there = refl; fits = ltb-true 4294967296 18446744073709551616 refl; becomes = refl })
 
 s34 : WordStep t34 (stores_fresh 1) t35
-s34 = (master_at 1 (None) 2 (None) (None) (record { slot = 1; word = 4294967296 } ∷ []) (record { slot = 1; word = 0 } ∷ []) (None), (ltb-true 1 2 refl, (0, record { slot = 1; word = 4294967296 }, refl, refl, (refl, ltb-true 1 4294967295 refl))), record { there = refl; fits = ltb-true 12884901888 18446744073709551616 refl; becomes = refl })
+s34 = (master_at 1 (None) (None) (None) (record { slot = 1; word = 4294967296 } ∷ []) (record { slot = 1; word = 0 } ∷ []) (None), (ltb-true 1 2 refl, (0, record { slot = 1; word = 4294967296 }, refl, refl, (refl, ltb-true 1 4294967295 refl))), record { there = refl; fits = ltb-true 12884901888 18446744073709551616 refl; becomes = refl })
 
 s35 : WordStep t35 (births 1) t36
-s35 = (master_at 1 (None) 2 (None) (Some 1) (record { slot = 1; word = 4294967296 } ∷ []) (record { slot = 1; word = 0 } ∷ []) (None), (ltb-true 1 2 refl, refl), record { there = refl; fits = ltb-true 4294967296 18446744073709551616 refl; becomes = refl })
+s35 = (master_at 1 (None) (None) (Some 1) (record { slot = 1; word = 4294967296 } ∷ []) (record { slot = 1; word = 0 } ∷ []) (None), (ltb-true 1 2 refl, refl), record { there = refl; fits = ltb-true 4294967296 18446744073709551616 refl; becomes = refl })
 
 s36 : WordStep t36 (loads_hold 1) t37
-s36 = (master_at 2 (Some (with_marks_of false false)) 2 (None) (None) ([]) (record { slot = 1; word = 4294967296 } ∷ []) (None), ltb-true 1 2 refl, record { there = refl; fits = ltb-true 10737418240 18446744073709551616 refl; becomes = refl })
+s36 = (master_at 2 (Some (with_marks_of false false)) (None) (None) ([]) (record { slot = 1; word = 4294967296 } ∷ []) (None), ltb-true 1 2 refl, record { there = refl; fits = ltb-true 10737418240 18446744073709551616 refl; becomes = refl })
 
 s37 : WordStep t37 (pins_hold 1) t38
-s37 = (master_at 2 (Some (with_marks_of false false)) 2 (None) (None) (record { slot = 1; word = 10737418240 } ∷ []) (record { slot = 1; word = 4294967296 } ∷ []) (None), (ltb-true 1 2 refl, refl, (0, record { slot = 1; word = 10737418240 }, refl, refl, ltb-true 0 3 refl)), record { there = refl; fits = ltb-true 10737418240 18446744073709551616 refl; becomes = refl })
+s37 = (master_at 2 (Some (with_marks_of false false)) (None) (None) (record { slot = 1; word = 10737418240 } ∷ []) (record { slot = 1; word = 4294967296 } ∷ []) (None), (ltb-true 1 2 refl, refl, (0, record { slot = 1; word = 10737418240 }, refl, refl, ltb-true 0 3 refl)), record { there = refl; fits = ltb-true 10737418240 18446744073709551616 refl; becomes = refl })
 
 s38 : WordStep t38 (unpins_hold 1) t39
-s38 = (master_at 2 (Some (with_marks_of false false)) 2 (Some 1) (None) ([]) (record { slot = 1; word = 4294967296 } ∷ []) (None), (ltb-true 1 2 refl, refl), record { there = refl; fits = ltb-true 10737418241 18446744073709551616 refl; becomes = refl })
+s38 = (master_at 2 (Some (with_marks_of false false)) (Some 1) (None) ([]) (record { slot = 1; word = 4294967296 } ∷ []) (None), (ltb-true 1 2 refl, refl), record { there = refl; fits = ltb-true 10737418241 18446744073709551616 refl; becomes = refl })
 
 pub lives : WordLife
 lives = (t1, tt, s0, (t2, tt, s1, (t3, tt, s2, (t4, tt, s3, (t5, tt, s4, (t6, tt, s5, (t7, inl refl, s6, (t8, tt, s7, (t9, tt, s8, (t10, inr (0, (caller_at Still 0 0 0 false, refl, refl, still_holds)), s9, (t11, tt, s10, (t12, tt, s11, (t13, tt, s12, (t14, tt, s13, (t15, tt, s14, (t16, tt, s15, (t17, tt, s16, (t18, tt, s17, (t19, tt, s18, (t20, tt, s19, (t21, tt, s20, (t22, tt, s21, (a22, tt, s22, (a23, tt, a_breaks, (t23, tt, awake, (t24, tt, s23, (t25, tt, s24, (t26, tt, s25, (t27, tt, s26, (t28, tt, s27, (t29, tt, s28, (t30, (1, (caller_at Drained 8 1 6442450946 false, refl, refl, refl, refl)), s29, (t31, tt, s30, (b31, tt, s31, (t32, tt, b_releases, (c32, tt, c_counts, (d32, tt, d_shares, (e32, tt, e_releases, (t33, tt, s32, (t34, tt, s33, (t35, tt, s34, (t36, tt, s35, (t37, tt, s36, (t38, tt, s37, (t39, tt, s38, refl)))))))))))))))))))))))))))))))))))))))))))))

@@ -62,7 +62,7 @@ module _ (words : List ℕ) (m : MasterView) (cs : List CallerView) (shows : Sho
     -- the new state of one slot, and of the Master's memory
     module _ (words' : List ℕ) (state' : SlotState) (p' f' : Option ℕ) (l' b' : List Load) (k' : Option Load) where
       abbrev next : MasterView
-      next = record { limit = m.limit; slots = set m.slots slot state'; pins = m.pins; pinning = p'; fresh = f'; loads = l'; at_birth = b'; looked = k' }
+      next = record { limit = m.limit; slots = set m.slots slot state'; pinning = p'; fresh = f'; loads = l'; at_birth = b'; looked = k' }
 
       changed : length words' ≡ length words
           → ShowsMarks (active_word words' slot) state'.marks (users slot cs) (hiders slot cs)

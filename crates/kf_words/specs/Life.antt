@@ -35,13 +35,11 @@ abbrev pub with_one_more : CallerView → CallerView
 with_one_more c = record c { pinning = true }
 
 -- the Master of two slots, with three holds at most, by what it knows of slot 1
-abbrev pub master_at : ℕ → Option Marks → ℕ → Option ℕ → Option ℕ → List Load → List Load → Option Load
-    → MasterView
-master_at last marks pins pinning fresh loads at_birth looked = record {
+abbrev pub master_at : ℕ → Option Marks → Option ℕ → Option ℕ → List Load → List Load → Option Load → MasterView
+master_at last marks pinning fresh loads at_birth looked = record {
   limit = 3;
   slots = record { generation = 1; marks = Some (with_marks_of true false) }
       ∷ record { generation = last; marks = marks } ∷ [];
-  pins = pins;
   pinning = pinning;
   fresh = fresh;
   loads = loads;
@@ -79,7 +77,7 @@ life_opening = record { holds = 3; slots = 2; start = 0 }
 -- the table after all these steps
 abbrev pub lived : Table
 lived = table_at 4294967296 10737418240
-    (master_at 2 (Some (with_marks_of false false)) 2 (None) (None) ([])
+    (master_at 2 (Some (with_marks_of false false)) (None) (None) ([])
     (record { slot = 1; word = 4294967296 } ∷ []) (None))
     ((caller_at Spent 11 3 4294967297 false) ∷ (caller_at Spent 10 1 4294967298 false)
     ∷ (caller_at Spent 1 0 4294967298 false) ∷ [])

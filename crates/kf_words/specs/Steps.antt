@@ -50,7 +50,6 @@ abbrev pub no_master : MasterView
 no_master = record {
   limit = 0;
   slots = [];
-  pins = 0;
   pinning = None;
   fresh = None;
   loads = [];
@@ -197,7 +196,7 @@ without_pin slot m = record (on_hold m) { pinning = None }
 
 -- the hold goes to a new seat
 abbrev pub after_split : MasterView → MasterView
-after_split m = record (on_active m) { pins = m.pins + 1; pinning = None }
+after_split m = record (on_active m) { pinning = None }
 
 -- the view of a new hold of this key, which has made no step
 abbrev pub new_hold : Key → CallerView

@@ -31,8 +31,6 @@ pub struct MasterView {
     pub limit: u64,
     /// By slot, the last generation, and the marks of its node where one is linked.
     pub slots: LinkedList<SlotState>,
-    /// How many holds have got a seat.
-    pub pins: u64,
     /// The slot of a hold that is counted and has no seat yet.
     pub pinning: Option<u32>,
     /// The slot in which its last step stored a new active word.
