@@ -5,7 +5,8 @@ use std::sync::atomic::{AtomicU64, Ordering};
 use std::thread::{Threads, for_each_mut};
 use std::time::{Clock, Duration, Instant};
 
-/// A figure is the best of so many rounds, of which the first warm up. A round is the mean of its threads' times.
+/// A figure is the best of so many rounds, of which the first warm up. A round is the mean of its threads'
+/// times.
 const ROUNDS: u32 = 25;
 
 /// How often a thread looks whether the others have come too, before it begins without them.

@@ -21,7 +21,7 @@ use Rattle.kf_core.specs.Safe.{Safe}
 use Rattle.kf_core.specs.Steps.{BareStep, with_phase, with_marks, with_caller, IsHeld}
 use Rattle.kf_core.specs.Bounded.{IsFree, holds}
 use Rattle.kf_core.specs.Hints.{AsMany, Covers, Skips}
-use Rattle.kf_core.specs.Counts.{tally, references, hiders, IsKept, NoneFree}
+use Rattle.kf_core.specs.Counts.{tally, references, hiders, IsSoundWorld, NoneFree}
 use Rattle.kf_core.proofs.Lists.{slice_get-set_same, slice_get-set_other}
 use Rattle.kf_core.proofs.Keeping.{caller, slot_state, step_keeps, one_key}
 use Rattle.kf_core.proofs.Tallies.{phase_counted, pinned_counted, unheld_spent, spent_unheld, share, past_none}
@@ -68,19 +68,19 @@ free_before w key slot f = record {
 }
 
 -- the slot of a caller that is not spent is in the list
-pub slot_within : (w : BareWorld) (counts : List Counts) (hint : Hint) (c : ℕ) (key : Key) (p : Phase) → IsKept w counts hint → IsCaller w c key p → p ≢ Spent → key.slot < length w.slots
+pub slot_within : (w : BareWorld) (counts : List Counts) (hint : Hint) (c : ℕ) (key : Key) (p : Phase) → IsSoundWorld w counts hint → IsCaller w c key p → p ≢ Spent → key.slot < length w.slots
 slot_within w counts hint c key p kept was ne = let l : IsLast w key.slot key.generation = kept.safe.held_last c key p was ne in slice_get_within w.slots key.slot l.0 l.1
 
 -- its block and its group have marks
-pub block_within : (w : BareWorld) (counts : List Counts) (hint : Hint) (slot : ℕ) → IsKept w counts hint → slot < length w.slots → Covers hint.full slot
+pub block_within : (w : BareWorld) (counts : List Counts) (hint : Hint) (slot : ℕ) → IsSoundWorld w counts hint → slot < length w.slots → Covers hint.full slot
 block_within w counts hint slot kept within = (omega (arith, kept.covered.0, within), omega (arith, kept.covered.1, within))
 
 -- what stands at a slot of the counts
-pub counts_there : (w : BareWorld) (counts : List Counts) (hint : Hint) (slot : ℕ) (n : Counts) → IsKept w counts hint → slot < length w.slots → n ≡ get_or counts slot n → slice_get counts slot ≡ Some n
+pub counts_there : (w : BareWorld) (counts : List Counts) (hint : Hint) (slot : ℕ) (n : Counts) → IsSoundWorld w counts hint → slot < length w.slots → n ≡ get_or counts slot n → slice_get counts slot ≡ Some n
 counts_there w counts hint slot n kept i is = slice_get_read counts (length counts) slot n refl (let e : length counts ≡ length w.slots = kept.as_long in omega arith) is
 
 -- it has at least the share of each caller of the slot
-pub own_share : (w : BareWorld) (counts : List Counts) (hint : Hint) (c : ℕ) (key : Key) (p : Phase) (n : Counts) → IsKept w counts hint → IsCaller w c key p → slice_get counts key.slot ≡ Some n → (tally (not (is_spent p)) ≤ n.holds) × (tally (has_reference p) ≤ n.references) × (tally (is_hiding p) ≤ n.hiders)
+pub own_share : (w : BareWorld) (counts : List Counts) (hint : Hint) (c : ℕ) (key : Key) (p : Phase) (n : Counts) → IsSoundWorld w counts hint → IsCaller w c key p → slice_get counts key.slot ≡ Some n → (tally (not (is_spent p)) ≤ n.holds) × (tally (has_reference p) ≤ n.references) × (tally (is_hiding p) ≤ n.hiders)
 own_share w counts hint c key p n kept was is = (
   subst (λ x. tally (not (is_spent p)) ≤ x) (sym (kept.counted key.slot n is).0) (share w.callers c key p (λ p. not (is_spent p)) was),
   subst (λ x. tally (has_reference p) ≤ x) (sym (kept.counted key.slot n is).1) (share w.callers c key p has_reference was),
@@ -88,7 +88,7 @@ own_share w counts hint c key p n kept was is = (
 )
 
 -- and no more than there are callers
-pub few_counts : (w : BareWorld) (counts : List Counts) (hint : Hint) (slot : ℕ) (n : Counts) → IsKept w counts hint → slice_get counts slot ≡ Some n → (n.holds ≤ length w.callers) × (n.references ≤ length w.callers) × (n.hiders ≤ length w.callers)
+pub few_counts : (w : BareWorld) (counts : List Counts) (hint : Hint) (slot : ℕ) (n : Counts) → IsSoundWorld w counts hint → slice_get counts slot ≡ Some n → (n.holds ≤ length w.callers) × (n.references ≤ length w.callers) × (n.hiders ≤ length w.callers)
 few_counts w counts hint slot n kept is = (
   subst (λ x. x ≤ length w.callers) (sym (kept.counted slot n is).0) (count_by-le-length _ w.callers),
   subst (λ x. x ≤ length w.callers) (sym (kept.counted slot n is).1) (count_by-le-length _ w.callers),
@@ -102,11 +102,11 @@ pub record Fewer (now before : Hint) : Type 0 where
 
 -- after a step of a caller on the key
 pub phase_kept : (w : BareWorld) (c : ℕ) (key : Key) (from to : Phase) (counts : List Counts) (old new : Counts) (state : SlotState) (hint hint' : Hint) →
-    IsKept w counts hint → (e : Event) → BareStep w e (with_phase w c key to) → IsCaller w c key from → slice_get counts key.slot ≡ Some old → slice_get w.slots key.slot ≡ Some state →
+    IsSoundWorld w counts hint → (e : Event) → BareStep w e (with_phase w c key to) → IsCaller w c key from → slice_get counts key.slot ≡ Some old → slice_get w.slots key.slot ≡ Some state →
     new.holds + tally (not (is_spent from)) ≡ old.holds + tally (not (is_spent to)) → new.references + tally (has_reference from) ≡ old.references + tally (has_reference to) →
     new.hiders + tally (is_hiding from) ≡ old.hiders + tally (is_hiding to) →
     Fewer hint' hint → ((state.marks ≡ None) × (state.generation < 2 ^ 32 - 1) × (new.holds ≡ 0) → 1 ≤ key.slot → ¬ Skips hint'.lowest hint'.full key.slot) →
-    IsKept (with_phase w c key to) (slice_set counts key.slot new) hint'
+    IsSoundWorld (with_phase w c key to) (slice_set counts key.slot new) hint'
 phase_kept w c key from to counts old new state hint hint' kept e step was is has h r i fewer looks =
     let counted = phase_counted w c key from to counts old new was is h r i kept.counted in
     let told : new.holds ≡ holds (with_phase w c key to) key.slot = (counted key.slot new (slice_get-set_same counts key.slot new (slice_get_within counts key.slot old is))).0 in
@@ -124,7 +124,7 @@ phase_kept w c key from to counts old new state hint hint' kept e step was is ha
     }
 
 -- after a change of the marks of the key
-pub marks_kept : (w : BareWorld) (key : Key) (m : Option Marks) (counts : List Counts) (hint : Hint) → IsKept w counts hint → (e : Event) → BareStep w e (with_marks w key m) → ¬ IsFree (with_marks w key m) key.slot → IsKept (with_marks w key m) counts hint
+pub marks_kept : (w : BareWorld) (key : Key) (m : Option Marks) (counts : List Counts) (hint : Hint) → IsSoundWorld w counts hint → (e : Event) → BareStep w e (with_marks w key m) → ¬ IsFree (with_marks w key m) key.slot → IsSoundWorld (with_marks w key m) counts hint
 marks_kept w key m counts hint kept e step taken =
     let l : length (with_marks w key m).slots ≡ length w.slots = length-set w.slots key.slot (slot_state key.generation m) in
     record {
@@ -140,7 +140,7 @@ marks_kept w key m counts hint kept e step taken =
     }
 
 -- after a pin of the key
-pub pinned_kept : (w : BareWorld) (key : Key) (counts : List Counts) (old new : Counts) (hint : Hint) → IsKept w counts hint → (e : Event) → BareStep w e (with_caller w key) → slice_get counts key.slot ≡ Some old → new.holds ≡ old.holds + 1 → new.references ≡ old.references + 0 → new.hiders ≡ old.hiders + 0 → IsKept (with_caller w key) (slice_set counts key.slot new) hint
+pub pinned_kept : (w : BareWorld) (key : Key) (counts : List Counts) (old new : Counts) (hint : Hint) → IsSoundWorld w counts hint → (e : Event) → BareStep w e (with_caller w key) → slice_get counts key.slot ≡ Some old → new.holds ≡ old.holds + 1 → new.references ≡ old.references + 0 → new.hiders ≡ old.hiders + 0 → IsSoundWorld (with_caller w key) (slice_set counts key.slot new) hint
 pinned_kept w key counts old new hint kept e step is h r i = record {
   safe = step_keeps w e (with_caller w key) kept.safe step;
   few = kept.few;
@@ -151,13 +151,13 @@ pinned_kept w key counts old new hint kept e step is h r i = record {
 }
 
 -- past the last slot nobody is on the slot
-pub past_kept : (w : BareWorld) (counts : List Counts) (hint : Hint) (slot : ℕ) → IsKept w counts hint → length counts ≤ slot → (0 ≡ holds w slot) × (0 ≡ references w slot) × (0 ≡ hiders w slot)
+pub past_kept : (w : BareWorld) (counts : List Counts) (hint : Hint) (slot : ℕ) → IsSoundWorld w counts hint → length counts ≤ slot → (0 ≡ holds w slot) × (0 ≡ references w slot) × (0 ≡ hiders w slot)
 past_kept w counts hint slot kept past =
     let out : length w.slots ≤ slot = (let e : length counts ≡ length w.slots = kept.as_long in omega arith) in
     (sym (past_none w slot (λ p. not (is_spent p)) kept.safe out refl), sym (past_none w slot has_reference kept.safe out refl), sym (past_none w slot is_hiding kept.safe out refl))
 
 -- past slots that are skipped none is free
-pub none_skipped : (w : BareWorld) (counts : List Counts) (hint : Hint) (low high : ℕ) → IsKept w counts hint → NoneFree w low → ((slot : ℕ) → low ≤ slot → slot < high → Skips hint.lowest hint.full slot) → NoneFree w high
+pub none_skipped : (w : BareWorld) (counts : List Counts) (hint : Hint) (low high : ℕ) → IsSoundWorld w counts hint → NoneFree w low → ((slot : ℕ) → low ≤ slot → slot < high → Skips hint.lowest hint.full slot) → NoneFree w high
 none_skipped w counts hint low high kept passed skips slot one below free = elim (leb_tells low slot) [
   | inl m ↦ kept.skipped slot one (skips slot m.1 below) free
   | inr l ↦ passed slot one (omega (arith, l.1)) free
@@ -205,7 +205,7 @@ same_item (suc n) (suc i) x y h = same_item n i x y h
 
 -- nobody is there at the opening
 pub opening_kept : (slots start : ℕ) (counts : List Counts) (hint : Hint) → slots ≤ most_slots → counts ≡ replicate slots (record { holds = 0; references = 0; hiders = 0 }) →
-    ((slot : ℕ) → 1 ≤ slot → ¬ Skips hint.lowest hint.full slot) → Covers hint.full slots → IsKept (opening slots start) counts hint
+    ((slot : ℕ) → 1 ≤ slot → ¬ Skips hint.lowest hint.full slot) → Covers hint.full slots → IsSoundWorld (opening slots start) counts hint
 opening_kept slots start counts hint few is looks covered =
     let len : length (opening slots start).slots ≡ slots = length-set (replicate slots (slot_state start None)) 0 _ ∙ length-replicate slots _ in
     record {

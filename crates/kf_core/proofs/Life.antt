@@ -15,7 +15,7 @@ use Rattle.kf_core.specs.Lawful.{root_record}
 use Rattle.kf_core.specs.Steps.{NoReference}
 use Rattle.kf_core.specs.Commands.{hidden_record}
 use Rattle.kf_core.specs.Worlds.{World, bare, tree, opening, Run, NoChild, MayMove}
-use Rattle.kf_core.specs.Life.{root, first, second, a, b, file_at, by, at, doomed_marks, whole_life}
+use Rattle.kf_core.specs.Life.{root, first, second, a, b, file_at, by, at, activated_and_doomed, whole_life}
 use Rattle.kf_core.proofs.Names.{lawful_without_fault}
 
 -- the record of the node while it lives, while it is hidden, and when it is doomed
@@ -26,7 +26,7 @@ abbrev unseen : Option Record
 unseen = Some (hidden_record true (file_at first b live_marks))
 
 abbrev doomed : Option Record
-doomed = Some (file_at first b doomed_marks)
+doomed = Some (file_at first b activated_and_doomed)
 
 -- two callers, in these phases
 abbrev two : ℕ → Option Record → Phase → Phase → World
@@ -139,7 +139,7 @@ lives = (
                                       record { bare_step = (first, refl, refl); tree_step = refl },
                                       (
                                         two 1 None Restored Drained,
-                                        record { bare_step = (first, refl, refl, refl); tree_step = (first, Drained, refl, childless doomed_marks (by Restored ∷ by Drained ∷ []), refl) },
+                                        record { bare_step = (first, refl, refl, refl); tree_step = (first, Drained, refl, childless activated_and_doomed (by Restored ∷ by Drained ∷ []), refl) },
                                         (
                                           two 1 None Restored Parted,
                                           record { bare_step = (record { key = first; there = refl; gone = refl }, refl); tree_step = refl },

@@ -36,7 +36,7 @@ NoneFree w below = (slot : ℕ) → 1 ≤ slot → slot < below → ¬ IsFree w 
 
 -- the world is safe, the counts of its slots are exact, and the search for a free slot skips none that is
 -- free
-pub record IsKept (w : BareWorld) (counts : List Counts) (hint : Hint) : Type 0 where
+pub record IsSoundWorld (w : BareWorld) (counts : List Counts) (hint : Hint) : Type 0 where
   pub safe : Safe w
   pub few : length w.slots ≤ most_slots
   pub as_long : length counts ≡ length w.slots

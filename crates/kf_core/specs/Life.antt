@@ -54,8 +54,8 @@ at last linked callers = record {
 }
 
 -- the marks of a node that was activated, and then doomed
-abbrev pub doomed_marks : Marks
-doomed_marks = record { activated = true; doomed = true }
+abbrev pub activated_and_doomed : Marks
+activated_and_doomed = record { activated = true; doomed = true }
 
 -- caller 0 calls into the node, caller 1 hides it, shows it, and removes it
 abbrev pub whole_life : List Event

@@ -8,7 +8,7 @@ ghost use Rattle.kf_core.specs.Bare.{marks, marks_in, is_live, is_linked, is_doo
 ghost use Rattle.kf_core.specs.Marks.{are_live};
 ghost use Rattle.kf_core.specs.Safe.{Safe};
 ghost use Rattle.kf_core.specs.Bounded.{BoundedWorld, bounded, holds};
-ghost use Rattle.kf_core.specs.Counts.{IsKept, references, hiders};
+ghost use Rattle.kf_core.specs.Counts.{IsSoundWorld, references, hiders};
 
 use crate::caller::{Caller, Phase};
 use crate::counts::Counts;
@@ -44,7 +44,7 @@ impl Model for World {
 
     ghost view = { λ w. bounded (record { slots = w.slots; callers = w.callers.items }) w.limit };
 
-    ghost invariant = { λ w. IsKept
+    ghost invariant = { λ w. IsSoundWorld
         (record { slots = w.slots; callers = w.callers.items }) w.counts w.hint };
 }
 

@@ -145,7 +145,7 @@ impl<N: Naming> Bus<N> {
     }
 
     /// How many devices the bus keeps texts of: those that are plugged, and those that were removed without
-    /// it since it last looked.
+    /// it since it last looked. Others plug and unplug from then on, so no clause tells the number.
     ///
     /// It may never return: it waits for the lock of the bus.
     pub fn kept<R: Wait>(&self, rt: &R) -> usize {

@@ -5,7 +5,7 @@ use Rattle.kf_core.specs.declared.key.Key.{Key}
 use Rattle.kf_core.specs.declared.refusal.Refusal.{Refusal}
 use Rattle.kf_core.specs.Tree.{Tree}
 use Rattle.kf_notify.specs.PostStates.{PostState, Numbers, IsNewPost, IsSamePost, Made}
-use Rattle.kf_driver.specs.Opening.{file_at, Told}
+use Rattle.kf_driver.specs.Opening.{file_at, Notified}
 
 -- the second load found no less than the first, which found no less than the first number
 not_below : (first found known again : ℕ) → first ≤ found → known ≡ found → known ≤ again → first ≤ again
@@ -13,7 +13,7 @@ not_below first found known again no_less seen later = omega arith
 
 pub told : (t : Tree) (place : Result Key Refusal) (numbers : Numbers) (key : Key) (start post : PostState)
     (number : ℕ) → file_at t place ≡ Ok key → IsNewPost numbers key.slot start → IsSamePost start post
-    → Made start number post → Told t place numbers number post
+    → Made start number post → Notified t place numbers number post
 told t place numbers key start post number named fresh same made = record {
   key = key;
   named = named;

@@ -82,7 +82,7 @@ OpenRefused s m' slots path want refusal = FileRefused s m' slots want
 
 -- The post is of these numbers and of the slot of the file at the place. Its second load found a number not
 -- below the one that each slot had at first, and its third step, a raise, made the next, which is this.
-pub record Told (t : Tree) (place : Result Key Refusal) (numbers : Numbers) (number : ℕ)
+pub record Notified (t : Tree) (place : Result Key Refusal) (numbers : Numbers) (number : ℕ)
     (post : PostState) : Type 0 where
   pub key : Key
   pub named : file_at t place ≡ Ok key

@@ -11,5 +11,5 @@ place_of tags tag = if nat_le tags.first tag
 
 -- the line that has a file of this tag, where there is one, and which of its files that is
 abbrev pub row_of : {A : Type 0} → LineTags → List A → ℕ → Option (A × ℕ)
-row_of tags lines tag = option_and_then (λ place. option_map (λ line. (line, place.1)) (slice_get lines place.0))
-    (place_of tags tag)
+row_of tags lines tag = option_and_then
+    (λ place. option_map (λ line. (line, place.1)) (slice_get lines place.0)) (place_of tags tag)

@@ -7,7 +7,7 @@ ghost use Rattle.kf_driver.specs.Buffers.{GivesWithin, TakesWithin};
 ghost use Rattle.kf_driver.specs.Tables.{unknown};
 
 use crate::buffers::read_from_buffer;
-use crate::table::Table;
+use crate::table::DriverTable;
 use kf_files::{Fault, Page};
 use kf_groups::Attribute;
 
@@ -50,8 +50,8 @@ pub struct BinaryRow<A, B> {
 }
 
 impl<A: BinaryCallbacks, B> BinaryRow<A, B> {
-    /// The row of this attribute, before the others. Its callbacks see no byte beyond the size: a read past it
-    /// gives none, a write past it is Fault 6 (`ENXIO`). Where there is no such end, it is `u64::MAX`.
+    /// The row of this attribute, before the others. Its callbacks see no byte beyond the size: a read past
+    /// it gives none, a write past it is Fault 6 (`ENXIO`). Where there is no such end, it is `u64::MAX`.
     ///
     /// Condition: its mode lets somebody write exactly where the callbacks take writes.
     pub fn new(attribute: Attribute, size: u64, callbacks: A, others: B) -> BinaryRow<A, B>
@@ -70,7 +70,7 @@ impl<A: BinaryCallbacks, B> BinaryRow<A, B> {
     }
 }
 
-impl<A: BinaryCallbacks, B: Table> Table for BinaryRow<A, B> {
+impl<A: BinaryCallbacks, B: DriverTable> DriverTable for BinaryRow<A, B> {
     ghost may_show = { λ row tag filled. MatchBool (tag == row.tag)
         (filled ≡ Err unknown) (B.may_show row.others tag filled) };
 

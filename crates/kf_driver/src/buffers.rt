@@ -17,8 +17,8 @@ pub fn read_from_buffer(buffer: &[u8], offset: u64, out: &mut [u8]) -> usize
     found.len()
 }
 
-/// Puts those of the bytes that fit into the buffer from the offset on, and answers how many those are, 0 past
-/// its end. The rest of the buffer stays.
+/// Puts those of the bytes that fit into the buffer from the offset on, and answers how many those are, 0
+/// past its end. The rest of the buffer stays.
 pub fn write_to_buffer(buffer: &mut [u8], offset: u64, bytes: &[u8]) -> usize
     ensures count { result ≡ length (within (length buffer.old) offset bytes.now) }
     ensures bytes { buffer.new ≡ with_bytes buffer.old offset (within (length buffer.old) offset bytes.now) }

@@ -1,7 +1,7 @@
 //! The callbacks of the files of a table's attributes.
 ghost use Rattle.std.specs.Prelude.{◌≡◌};
 
-use crate::table::Table;
+use crate::table::DriverTable;
 use kf_files::{Fault, Page, WaitBinaryOps, WaitOps};
 use kf_shared::{Naming, SharedTree};
 use kf_words::Call;
@@ -23,7 +23,7 @@ impl<T> Driver<T> {
     }
 }
 
-impl<T: Table, N: Naming> WaitOps<N> for Driver<T> {
+impl<T: DriverTable, N: Naming> WaitOps<N> for Driver<T> {
     ghost may_show = { λ driver. T.may_show driver.table };
 
     ghost may_store = { λ driver. T.may_store driver.table };
@@ -51,7 +51,7 @@ impl<T: Table, N: Naming> WaitOps<N> for Driver<T> {
     }
 }
 
-impl<T: Table, N: Naming> WaitBinaryOps<N> for Driver<T> {
+impl<T: DriverTable, N: Naming> WaitBinaryOps<N> for Driver<T> {
     ghost may_read_at = { λ driver. T.may_read_at driver.table };
 
     ghost may_write_at = { λ driver. T.may_write_at driver.table };

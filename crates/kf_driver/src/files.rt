@@ -4,7 +4,7 @@ ghost use Rattle.kf_core.specs.declared.key.Node.TheVariants.{File};
 ghost use Rattle.kf_files.specs.Files.{new_file, allows};
 ghost use Rattle.kf_notify.specs.PostStates.{IsNewPost};
 ghost use Rattle.kf_tree.specs.Paths.{found};
-ghost use Rattle.kf_driver.specs.Opening.{file_at, IsPostAt, OpenedAt, OpenRefused, PostRefused, NotifyRefused, NotOpened, Told};
+ghost use Rattle.kf_driver.specs.Opening.{file_at, IsPostAt, OpenedAt, OpenRefused, PostRefused, NotifyRefused, NotOpened, Notified};
 
 use kf_core::{Key, Node, Refusal};
 use kf_files::{WaitingFile, Want};
@@ -129,7 +129,7 @@ pub fn notify(
     name: &[u8],
 ) -> Result<(u64, Post), Refusal>
     ensures told { IfOk result
-        (λ answer. Told state.now.tree (found state.now.tree dir name.now) posts.old answer.0 answer.1) }
+        (λ answer. Notified state.now.tree (found state.now.tree dir name.now) posts.old answer.0 answer.1) }
     ensures refused { IfErr result (λ refusal.
         MatchResult (file_at state.now.tree (found state.now.tree dir name.now))
         (λ key. NotifyRefused posts.old.slots key.slot refusal) (λ why. refusal ≡ why)) }

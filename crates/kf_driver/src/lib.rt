@@ -31,4 +31,4 @@ pub use line_tags::LineTags;
 pub use lines::Lines;
 pub use notifier::{Notifier, Notifying};
 pub use ready::{Number, ReadOnly, Signed, Switch, Text, emit_line};
-pub use table::{Callbacks, End, Row, Table};
+pub use table::{Callbacks, DriverTable, End, Row};

@@ -3,7 +3,7 @@ ghost use Rattle.std.specs.Prelude.{◌≡◌, ◌+◌, ◌*◌, ◌<◌, MatchO
 ghost use Rattle.kf_driver.specs.Places.{place_of, row_of};
 
 use crate::line_tags::LineTags;
-use crate::table::Table;
+use crate::table::DriverTable;
 use kf_files::{Fault, Page};
 use kf_groups::Attribute;
 
@@ -88,7 +88,7 @@ impl<'a, A, B> Lines<'a, A, B> {
     }
 }
 
-impl<A: Table, B: Table> Table for Lines<'_, A, B> {
+impl<A: DriverTable, B: DriverTable> DriverTable for Lines<'_, A, B> {
     ghost may_show = { λ rows tag filled. MatchOption (row_of rows.tags rows.lines.now tag)
         (B.may_show rows.others tag filled) (λ row. A.may_show row.0 row.1 filled) };
 

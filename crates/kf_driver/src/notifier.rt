@@ -15,7 +15,7 @@ pub struct Notifier<'a, R> {
 }
 
 impl<'a, R: Wait> Notifier<'a, R> {
-    /// The notifier of the post's slot.
+    /// The notifier of the post's slot. What its lock keeps nobody outside sees, so no clause tells of it.
     pub fn new(rt: &'a R, post: Post) -> Notifier<'a, R> {
         Notifier {
             rt,
@@ -23,7 +23,8 @@ impl<'a, R: Wait> Notifier<'a, R> {
         }
     }
 
-    /// Raises the slot's event number, and answers it. `Full` where it is the last that there is.
+    /// Raises the slot's event number, and answers it. `Full` where it is the last that there is. The post behind
+    /// the lock is as the last thread left it; of one's own post [`Post::notify`] tells the number by contract.
     ///
     /// Context: takes the lock of the post.
     pub fn notify(&self) -> Result<u64, Full> {

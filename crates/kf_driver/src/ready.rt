@@ -21,6 +21,7 @@ pub fn emit_line(page: &mut Page, part: Part<'_>)
 }
 
 /// A number that is shown in decimal, and stored where it is at most `most` (`DEVICE_ULONG_ATTR`).
+/// Any thread may store it meanwhile, so no clause tells its value.
 #[derive(Drop)]
 pub struct Number {
     value: AtomicU64,
@@ -71,6 +72,7 @@ impl Callbacks for Number {
 }
 
 /// A number that may be below zero, stored where it is from `least` to `most` (`DEVICE_INT_ATTR`).
+/// Any thread may store it meanwhile, so no clause tells its value.
 #[derive(Drop)]
 pub struct Signed {
     value: AtomicI64,
@@ -123,7 +125,8 @@ impl Callbacks for Signed {
     }
 }
 
-/// A switch: `1` or `0`, stored by what `read_flag` takes (`DEVICE_BOOL_ATTR`).
+/// A switch: `1` or `0`, stored by what `read_flag` takes (`DEVICE_BOOL_ATTR`). Any
+/// thread may store it meanwhile, so no clause tells its value.
 #[derive(Drop)]
 pub struct Switch {
     value: AtomicBool,

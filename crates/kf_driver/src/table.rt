@@ -37,7 +37,7 @@ pub trait Callbacks {
 }
 
 /// Attributes by their tags.
-pub trait Table {
+pub trait DriverTable {
     /// A show for this tag may fill a page with these bytes, or give this fault.
     ghost may_show: { Self → ℕ → Result (List ℕ) Fault → Type 0 };
 
@@ -107,7 +107,7 @@ impl<A: Callbacks, B> Row<A, B> {
     }
 }
 
-impl<A: Callbacks, B: Table> Table for Row<A, B> {
+impl<A: Callbacks, B: DriverTable> DriverTable for Row<A, B> {
     ghost may_show = { λ row tag filled. MatchBool (tag == row.tag)
         (A.shows row.callbacks filled) (B.may_show row.others tag filled) };
 
@@ -150,7 +150,7 @@ impl<A: Callbacks, B: Table> Table for Row<A, B> {
     }
 }
 
-impl Table for End {
+impl DriverTable for End {
     ghost may_show = { λ _ _ filled. filled ≡ Err unknown };
 
     ghost may_store = { λ _ _ _ answer. answer ≡ Err unknown };

@@ -4,8 +4,8 @@ ghost use Rattle.std.specs.Prelude.{◌≡◌};
 use crate::fixtures::{BOTH, first_wrong, made};
 use kf_core::Refusal;
 use kf_driver::{
-    BinaryCallbacks, BinaryRow, Bytes, Driver, End, LineTags, Lines, Row, Switch, Table, open_path,
-    read_from_buffer, write_to_buffer,
+    BinaryCallbacks, BinaryRow, Bytes, Driver, DriverTable, End, LineTags, Lines, Row, Switch,
+    open_path, read_from_buffer, write_to_buffer,
 };
 use kf_files::{Fault, FileError, Want};
 use kf_groups::{Attribute, Group, create_group};
@@ -39,8 +39,9 @@ impl<R: Wait> BinaryCallbacks for Registers<'_, R> {
     }
 }
 
-/// The number of the fault of a read of four bytes at the offset, or whether it gives these. None: not opened.
-fn gives<N: Naming, T: Table, R: Wait>(
+/// The number of the fault of a read of four bytes at the offset, or whether it gives these. None: not
+/// opened.
+fn gives<N: Naming, T: DriverTable, R: Wait>(
     rt: &R,
     tree: &SharedTree<N>,
     driver: &Driver<T>,
@@ -57,7 +58,7 @@ fn gives<N: Naming, T: Table, R: Wait>(
 }
 
 /// What a write of these bytes at the offset is answered by. None: not opened.
-fn puts<N: Naming, T: Table, R: Wait>(
+fn puts<N: Naming, T: DriverTable, R: Wait>(
     rt: &R,
     tree: &SharedTree<N>,
     driver: &Driver<T>,
@@ -70,7 +71,7 @@ fn puts<N: Naming, T: Table, R: Wait>(
 }
 
 /// What a read as a text and a write as one are answered by. None: not opened.
-fn as_text<N: Naming, T: Table, R: Wait>(
+fn as_text<N: Naming, T: DriverTable, R: Wait>(
     rt: &R,
     tree: &SharedTree<N>,
     driver: &Driver<T>,
@@ -84,7 +85,7 @@ fn as_text<N: Naming, T: Table, R: Wait>(
 }
 
 /// The answers about two lines, each with a switch, six registers and four bytes that are only read.
-fn answers<N: Naming, A: Table, R: Wait>(
+fn answers<N: Naming, A: DriverTable, R: Wait>(
     rt: &R,
     tree: &SharedTree<N>,
     posts: &mut Posts,

@@ -4,7 +4,7 @@ ghost use Rattle.std.specs.Prelude.{◌≡◌};
 use crate::counted::Calls;
 use crate::fixtures::{first_wrong, made, open, planted};
 use kf_core::Refusal;
-use kf_driver::{Driver, End, Row, Table};
+use kf_driver::{Driver, DriverTable, End, Row};
 use kf_files::{Fault, FileError, WaitingFile};
 use kf_groups::Attribute;
 use kf_notify::Posts;
@@ -14,7 +14,7 @@ use std::marker::Brand;
 use std::sync::Wait;
 
 /// Whether a read and then a write fail for this reason, if any, and each makes so many calls.
-fn makes<N: Naming, T: Table, R: Wait>(
+fn makes<N: Naming, T: DriverTable, R: Wait>(
     rt: &R,
     tree: &SharedTree<N>,
     driver: &Driver<T>,
@@ -30,7 +30,7 @@ fn makes<N: Naming, T: Table, R: Wait>(
 }
 
 /// The same of the file that the path opens.
-fn makes_at<N: Naming, T: Table, R: Wait>(
+fn makes_at<N: Naming, T: DriverTable, R: Wait>(
     rt: &R,
     tree: &SharedTree<N>,
     driver: &Driver<T>,

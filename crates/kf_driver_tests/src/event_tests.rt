@@ -4,7 +4,7 @@ ghost use Rattle.std.specs.Prelude.{◌≡◌};
 use crate::counted::Calls;
 use crate::fixtures::{first_wrong, made, open, planted};
 use kf_core::Refusal;
-use kf_driver::{Driver, End, Row, Table, notify};
+use kf_driver::{Driver, DriverTable, End, Row, notify};
 use kf_files::WaitingFile;
 use kf_groups::Attribute;
 use kf_notify::Posts;
@@ -27,7 +27,7 @@ fn tell<N: Naming, R: Wait>(
 }
 
 /// Whether the file was shown and has not changed since.
-fn is_shown<N: Naming, T: Table, R: Wait>(
+fn is_shown<N: Naming, T: DriverTable, R: Wait>(
     rt: &R,
     tree: &SharedTree<N>,
     driver: &Driver<T>,
@@ -37,7 +37,7 @@ fn is_shown<N: Naming, T: Table, R: Wait>(
 }
 
 /// Both files are shown, and `a` is told. The numbers began at 1.
-fn told<N: Naming, T: Table, R: Wait>(
+fn told<N: Naming, T: DriverTable, R: Wait>(
     rt: &R,
     tree: &SharedTree<N>,
     driver: &Driver<T>,

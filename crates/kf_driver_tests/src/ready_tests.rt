@@ -4,8 +4,8 @@ ghost use Rattle.std.specs.Prelude.{◌≡◌};
 use crate::fixtures::{BOTH, first_wrong};
 use kf_core::{Limits, Refusal};
 use kf_driver::{
-    Callbacks, Driver, End, LineTags, Lines, Notifier, Number, ReadOnly, Row, Signed, Switch,
-    Table, Text, open_path, post_of,
+    Callbacks, Driver, DriverTable, End, LineTags, Lines, Notifier, Number, ReadOnly, Row, Signed,
+    Switch, Text, open_path, post_of,
 };
 use kf_files::{Fault, FileError, Page, WaitingFile, Want};
 use kf_groups::{Attribute, Group, create_group};
@@ -22,7 +22,7 @@ const READ: Want = Want {
 };
 
 /// Whether the file of a path shows this text.
-fn shows<N: Naming, T: Table, R: Wait>(
+fn shows<N: Naming, T: DriverTable, R: Wait>(
     rt: &R,
     tree: &SharedTree<N>,
     driver: &Driver<T>,
@@ -41,7 +41,7 @@ fn shows<N: Naming, T: Table, R: Wait>(
 }
 
 /// What a write to the file of a path is answered by. None: it was not opened.
-fn stores<N: Naming, T: Table, R: Wait>(
+fn stores<N: Naming, T: DriverTable, R: Wait>(
     rt: &R,
     tree: &SharedTree<N>,
     driver: &Driver<T>,
@@ -158,7 +158,7 @@ fn line<'a, R: Wait>(
 }
 
 /// Whether the file was shown and has not changed since.
-fn is_shown<N: Naming, T: Table, R: Wait>(
+fn is_shown<N: Naming, T: DriverTable, R: Wait>(
     rt: &R,
     tree: &SharedTree<N>,
     driver: &Driver<T>,
@@ -168,7 +168,7 @@ fn is_shown<N: Naming, T: Table, R: Wait>(
 }
 
 /// Reads and stores by a table of these lines, and tells the first answer that is wrong.
-fn wrong_of<N: Naming, A: Table, R: Wait>(
+fn wrong_of<N: Naming, A: DriverTable, R: Wait>(
     rt: &R,
     tree: &SharedTree<N>,
     posts: &mut Posts,

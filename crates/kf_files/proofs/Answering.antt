@@ -2,10 +2,10 @@
 use Rattle.std.proofs.Common.{◌≡◌, ℕ, sym, subst, refl, List, ◌++◌, length, drop, Result, Ok, Err}
 use Rattle.kf_core.specs.Calls.{Visit}
 use Rattle.kf_files.specs.declared.ops.FileError.{FileError}
-use Rattle.kf_files.specs.Files.{FileState, Gives, Reads, Shown}
+use Rattle.kf_files.specs.Files.{FileState, Gives, Reads, ShowResult}
 
 -- what is said of a read's answer may be said otherwise
-pub reads_answered : {V : Visit Shown → Type 0} {A A' : Result (List ℕ) FileError → Type 0} {state state' : FileState} {offset count : ℕ}
+pub reads_answered : {V : Visit ShowResult → Type 0} {A A' : Result (List ℕ) FileError → Type 0} {state state' : FileState} {offset count : ℕ}
     → ((answer : Result (List ℕ) FileError) → A answer → A' answer) → Reads V A state offset count state' → Reads V A' state offset count state'
 reads_answered f r = record {
   denied = λ no. let d = r.denied no in (d.0, f _ d.1, d.2);

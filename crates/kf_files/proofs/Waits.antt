@@ -3,7 +3,7 @@ use Rattle.std.proofs.Common.{ℕ, List, None, Some, Result, refl}
 use Rattle.kf_core.specs.Calls.{Visit, unvisited, tried, Visits}
 use Rattle.kf_words.specs.Callers.{Handle}
 use Rattle.kf_files.specs.declared.ops.FileError.{FileError}
-use Rattle.kf_files.specs.Files.{FileState, Reads, Shown}
+use Rattle.kf_files.specs.Files.{FileState, Reads, ShowResult}
 use Rattle.kf_files.specs.Waiting.{lets_in, turns_away, lets_go, call_view, WaitVisits}
 
 module _ {G Done : Type 0} {idle idle' : Type 0} {does does' : Done → Type 0} (guard guard' : G) (hold hold' : Handle) (rests : idle → idle') (did : (d : Done) → does d → does' d) where
@@ -14,7 +14,7 @@ module _ {G Done : Type 0} {idle idle' : Type 0} {does does' : Done → Type 0} 
   visits_told (tried (Some d)) v = record { call = v.call; ended = v.ended; inside = tt; entered = v.entered; running = v.running; did = did d v.did; given_back = v.given_back; left = v.left }
 
 -- what is said of a read's visit may be less
-pub reads_told : {V V' : Visit Shown → Type 0} {A : Result (List ℕ) FileError → Type 0} {state state' : FileState} {offset count : ℕ} → ((v : Visit Shown) → V v → V' v) → Reads V A state offset count state' → Reads V' A state offset count state'
+pub reads_told : {V V' : Visit ShowResult → Type 0} {A : Result (List ℕ) FileError → Type 0} {state state' : FileState} {offset count : ℕ} → ((v : Visit ShowResult) → V v → V' v) → Reads V A state offset count state' → Reads V' A state offset count state'
 reads_told f r = record {
   denied = λ no. let d = r.denied no in (f unvisited d.0, d.1, d.2);
   buffered = λ text yes far is. let b = r.buffered text yes far is in (f unvisited b.0, b.1, b.2);

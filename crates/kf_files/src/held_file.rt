@@ -3,7 +3,7 @@
 ghost use Rattle.std.specs.Prelude.{◌≡◌, ◌≤◌, ℕ, length, IsSome, IfOk, OnOk};
 ghost use Rattle.kf_core.specs.Calls.{Visits, GivenBack};
 ghost use Rattle.kf_core.specs.declared.caller.Phase.TheVariants.{Running};
-ghost use Rattle.kf_files.specs.Files.{Opens, Reads, Writes, Polls, Shows, Gives, Stored, new_file, tag_of, allows, slice, text_in_file, text_told};
+ghost use Rattle.kf_files.specs.Files.{Opens, Reads, Writes, Polls, TriesShow, Gives, Stored, new_file, tag_of, allows, slice, text_in_file, text_told};
 ghost use Rattle.kf_files.specs.Opened.{held_after, held_refusal};
 
 use crate::contents::{Contents, Want};
@@ -191,7 +191,7 @@ impl<G: Guard, P: PageHolder> HeldFile<G, P> {
         numbers: &mut N,
     ) -> Result<(), FileError>
         requires may_enter { G.may_enter guard.old self.old.hold }
-        ensures shows { Shows
+        ensures shows { TriesShow
             (Visits G.enters G.refuses G.leaves G.Call.view_of
             ((ops.new ≡ ops.old) × (numbers.new ≡ numbers.old))
             (λ shown. N.gives numbers.old shown.number numbers.new

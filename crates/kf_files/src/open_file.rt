@@ -240,7 +240,7 @@ impl<G: Guard, P: PageHolder> OpenFile<G, P> {
     }
 
     /// Sleeps while the slot's event number is that of the last show, until a notify of the slot, and may
-    /// return for no reason. It makes no try: nobody waits for who sleeps here.
+    /// return for no reason: no clause tells why it did. It makes no try: nobody waits for who sleeps here.
     ///
     /// Context: sleeps; takes no lock.
     pub fn rest<R: Wait>(&self, rt: &R) {

@@ -94,7 +94,7 @@ pub struct PageApart {
 }
 
 impl PageApart {
-    /// An empty page.
+    /// An empty page. No clause rests on that: each show begins by emptying it.
     pub fn new() -> PageApart {
         PageApart {
             page: Page::new(),

@@ -15,11 +15,11 @@ use Rattle.kf_shared.specs.Locked.{Locked, IsHoldOfNode, Unchanged}
 use Rattle.kf_shared.specs.Removal.{DoomDone, DoomRefused}
 use Rattle.kf_words.specs.Callers.{Handle, TableId}
 use Rattle.kf_words.specs.Nodes.{KeepsNodes, WasPinned}
-use Rattle.kf_groups.specs.TakenBack.{RemovalRefused}
+use Rattle.kf_groups.specs.TakenBack.{TakeBackRefused}
 
 module _ (old held : Locked) (key : Key) (same : held.state ≡ old.state) (words : KeepsNodes old.master held.master) (claims : held.claims ≡ old.claims) where
   pub doom_refused : (new : Locked) (hold : Handle) (refusal : Refusal) → hold.key ≡ key → WasPinned old.master.view key.slot held.master.view
-      → Unchanged held new → DoomRefused held new hold.key refusal → RemovalRefused old new key
+      → Unchanged held new → DoomRefused held new hold.key refusal → TakeBackRefused old new key
   doom_refused new hold refusal is pinned still refused = (
     record {
       root = still.root ∙ ap (λ (s : TreeLog). s.root) same;

@@ -8,7 +8,7 @@ use Rattle.kf_core.specs.declared.refusal.Refusal.{Refusal}
 use Rattle.kf_core.specs.declared.refusal.Refusal.TheVariants.{NoEntry, NoMemory, NoSpace}
 use Rattle.kf_core.specs.Refusals.{unless, first_cause}
 use Rattle.kf_core.specs.Tree.{is_linked}
-use Rattle.kf_shared.specs.Locked.{Locked, CreateRefused, Unchanged, fault_of}
+use Rattle.kf_shared.specs.Locked.{Locked, CreateRefused, Unchanged, creation_fault}
 use Rattle.kf_tree.specs.Causes.{linked_cause}
 use Rattle.kf_tree.specs.TreeLogs.{TreeLog, IsRefused}
 use Rattle.kf_groups.specs.Keeps.{node_count}
@@ -26,7 +26,7 @@ lacks_key : (next : Option Key) (refusal : Refusal) → first_cause (None ∷ un
 lacks_key None refusal h = sym (same_Some NoSpace refusal h)
 lacks_key (Some key) refusal h = absurd (none-some refusal h)
 
-pub create_lacks : (old new : Locked) (parent : Key) (name : List ℕ) (node : Node) (refusal : Refusal) → fault_of old parent name node ≡ None
+pub create_lacks : (old new : Locked) (parent : Key) (name : List ℕ) (node : Node) (refusal : Refusal) → creation_fault old parent name node ≡ None
     → CreateRefused old new parent name node refusal → Unchanged old new → LacksRoom old.state.tree new.state.tree refusal refusal
 create_lacks old new parent name node refusal free refused same = elim refused [
   | inl c ↦ absurd (none-some refusal (sym free ∙ c.0))

@@ -13,7 +13,7 @@ use Rattle.kf_core.specs.Lawful.{Lawful}
 use Rattle.kf_core.specs.Names.{name_fault}
 use Rattle.kf_core.specs.Refusals.{unless}
 use Rattle.kf_core.specs.Tree.{Tree, is_linked}
-use Rattle.kf_shared.specs.Locked.{Locked, IsWhole, Created, fault_of}
+use Rattle.kf_shared.specs.Locked.{Locked, IsWhole, Created, creation_fault}
 use Rattle.kf_words.specs.Callers.{TableId}
 use Rattle.kf_words.specs.Nodes.{IsVacant}
 use Rattle.kf_tree.specs.Causes.{create_fault, is_directory, doomed_in, has_entry}
@@ -51,7 +51,7 @@ module _ (s0 s1 : Locked) (dir : Key) (attributes : List Attribute) (d : Attribu
       (subst (λ xs. AreFree s0.state dir xs) (first_shown attributes d some there) free)
 
   -- nothing is wrong with the first file's node
-  pub first_free : node ≡ file_of a → AreFree s0.state dir (shown attributes) → fault_of s0 dir a.name.now node ≡ None
+  pub first_free : node ≡ file_of a → AreFree s0.state dir (shown attributes) → creation_fault s0 dir a.name.now node ≡ None
   first_free same free = ap (λ n. create_fault s0.state.tree s0.state.root dir a.name.now n) same ∙ (apart free).0
 
   pub later_free : (key : Key) → Created s0 s1 dir a.name.now node false key → AreFree s0.state dir (shown attributes)

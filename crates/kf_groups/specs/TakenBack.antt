@@ -37,8 +37,8 @@ GaveUp nodes old new refusal result =
 
 -- the removal of the node was refused, and nothing was stored: a hold of it was refused; or one was counted,
 -- and then the doom was refused
-abbrev pub RemovalRefused : Locked → Locked → Key → Type 0
-RemovalRefused old new key = Unchanged old new × (refusal : Refusal) × (HoldRefused old new key refusal
+abbrev pub TakeBackRefused : Locked → Locked → Key → Type 0
+TakeBackRefused old new key = Unchanged old new × (refusal : Refusal) × (HoldRefused old new key refusal
     ⊎ ((held : Locked) × (held.state ≡ old.state) × WasPinned old.master.view key.slot held.master.view
     × DoomRefused held new key refusal))
 
@@ -49,7 +49,7 @@ DoomedAndUnlinked old new key = (order unlinked : List Key) × IsPostOrder old.s
 
 -- a node was taken back, or its removal was refused
 abbrev pub TookBack : Locked → Locked → Key → Type 0
-TookBack old new key = RemovalRefused old new key ⊎ DoomedAndUnlinked old new key
+TookBack old new key = TakeBackRefused old new key ⊎ DoomedAndUnlinked old new key
 
 -- the node that stands in the directory under this name, live or not, was taken back; where none does,
 -- nothing was done

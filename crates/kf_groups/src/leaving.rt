@@ -68,8 +68,8 @@ fn begin_files<N: Naming>(
 /// Begins the removal of what has a group's names in a directory, under this lock: of its own directory with
 /// all in it, or of each of its files that is there. All of that is marked at once, and nothing else.
 ///
-/// Refusals, in order: of a group with a name NoEntry (`dir` is not linked), NotDir, NoEntry (its directory is
-/// not there), then TooManyHolds or NoMemory, whichever is met first; of one without a name NoMemory. Then
+/// Refusals, in order: of a group with a name NoEntry (`dir` is not linked), NotDir, NoEntry (its directory
+/// is not there), then TooManyHolds or NoMemory, whichever is met first; of one without a name NoMemory. Then
 /// nothing has changed. Why a file is refused stands in the answer, beside what was begun before it.
 pub fn remove_group_in<N: Naming>(
     editor: &mut Editor<'_, N>,

@@ -11,7 +11,7 @@ ghost use Rattle.kf_shared.specs.Receipts.{AreOf};
 ghost use Rattle.kf_shared.specs.Removal.{keys_of};
 ghost use Rattle.kf_groups.specs.Attributes.{HasNone, shown};
 ghost use Rattle.kf_groups.specs.Keeps.{Keeps, KeepsOlder, node_count};
-ghost use Rattle.kf_groups.specs.TakenBack.{EachTookBack, GaveUp, NameTookBack, RemovalRefused, TookBack};
+ghost use Rattle.kf_groups.specs.TakenBack.{EachTookBack, GaveUp, NameTookBack, TakeBackRefused, TookBack};
 
 use crate::attribute::Attribute;
 use kf_core::{Key, Refusal};
@@ -24,7 +24,7 @@ fn doom<N: Naming>(editor: &mut Editor<'_, N>, key: Key) -> Result<Vec<Hold>, Re
     ensures ordered { IfOk result (λ holds. IsPostOrder editor.old.state.tree key (keys_of holds.items)) }
     ensures done { IfOk result (λ _. IsAccepted editor.old.state editor.new.state
         (doom_cause editor.old.state.tree editor.old.state.root key) (Doom key)) }
-    ensures refused { OnErr result (RemovalRefused editor.old editor.new key) }
+    ensures refused { OnErr result (TakeBackRefused editor.old editor.new key) }
     ensures claims { editor.new.claims ≡ editor.old.claims }
 {
     let _ = editor.state();

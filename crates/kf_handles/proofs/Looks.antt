@@ -9,7 +9,7 @@ use Rattle.kf_tree.specs.TreeLogs.{TreeLog, IsAccepted}
 use Rattle.kf_words.specs.Callers.{TableId, Handle}
 use Rattle.kf_shared.specs.Hiding.{hold_cause}
 use Rattle.kf_shared.specs.Locked.{Locked}
-use Rattle.kf_handles.specs.Hiding.{HasHidden, HasLooked, IsHidden, IsSeen, IsTokenOf, LookedOnce}
+use Rattle.kf_handles.specs.Hiding.{HasHidden, HasLookedAgain, IsHidden, IsSeen, IsTokenOf, LookedOnce}
 use Rattle.kf_handles.proofs.BySlot.{put_back, put_new}
 
 other : {A B : Type 0} → A ⊎ B → (¬ A) → B
@@ -17,7 +17,7 @@ other (inl a) not_a = absurd (not_a a)
 other (inr b) not_a = b
 
 -- one that had yet to see nobody made a step
-looked_once : (before after : Handle) → HasLooked before after → before.phase ≡ phase_of.Hiding
+looked_once : (before after : Handle) → HasLookedAgain before after → before.phase ≡ phase_of.Hiding
     → LookedOnce before after
 looked_once before after looked phase = other looked (λ seen.
     let never : phase_of.Hiding ≡ phase_of.Hidden = sym phase ∙ seen.0 in cc)

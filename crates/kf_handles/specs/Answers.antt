@@ -60,21 +60,21 @@ abbrev pub ClaimedTo : Locked → Locked → Key → Type 0
 ClaimedTo old new key = new.claims ≡ slice_set old.claims key.slot key.generation
 
 -- what becomes of a tree, of this table, that answers this
-abbrev pub Answered : TableId → Question → Locked → Locked → Reply → Type 0
-Answered table (asks.Create parent name node live) old new reply =
+abbrev pub TreeAnswered : TableId → Question → Locked → Locked → Reply → Type 0
+TreeAnswered table (asks.Create parent name node live) old new reply =
     NamedOr (λ key. Created old new parent name.now node live key)
     (λ why. CreateRefused old new parent name.now node why × Unchanged old new) reply
-Answered table (asks.Hold key) old new reply =
+TreeAnswered table (asks.Hold key) old new reply =
     HeldOr (λ hold. IsHoldOfNode table old.state.tree key hold × Unchanged old new)
     (λ why. HoldRefused old new key why × Unchanged old new) reply
-Answered table (asks.Activate key) old new reply =
+TreeAnswered table (asks.Activate key) old new reply =
     DoneOr (IsAccepted old.state new.state (linked_cause old.state.tree key) (Activate key)) ⊥
     (λ why. Refuses (linked_cause old.state.tree key) why × (new ≡ old)) reply
-Answered table (asks.Rename key dir name) old new reply = DoneOr (Moved old new key dir name.now) ⊥
+TreeAnswered table (asks.Rename key dir name) old new reply = DoneOr (Moved old new key dir name.now) ⊥
     (λ why. Refuses (move_cause old key dir name.now) why × Unchanged old new) reply
-Answered table asks.Compact old new reply =
+TreeAnswered table asks.Compact old new reply =
     DoneOr (IsCompacted old.state new.state) ⊥ (λ why. (why ≡ NoMemory) × (new ≡ old)) reply
-Answered table (asks.Claim key) old new reply =
+TreeAnswered table (asks.Claim key) old new reply =
     DoneOr ((is_claimed old.claims key ≡ false) × ClaimedTo old new key × IsMarked old new key)
     ((is_claimed old.claims key ≡ true) × ClaimedTo old new key × IsMarked old new key)
     (λ why. ClaimRefused old new key why × Unchanged old new) reply
@@ -110,7 +110,7 @@ IsAsBefore old new = new ≡ old
 -- the question is answered by the tree behind the handle, or there is none there
 abbrev pub AnsweredBehind : Question → Object → Object → Reply → Type 0
 AnsweredBehind question (behind.Tree old) (behind.Tree new) reply =
-    Answered old.value.nodes.master.table question old.value.nodes new.value.nodes reply
+    TreeAnswered old.value.nodes.master.table question old.value.nodes new.value.nodes reply
     × (new.value.posts ≡ old.value.posts) × (new.value.hidden ≡ old.value.hidden)
 AnsweredBehind question old new reply = (new ≡ old) × (reply ≡ told.Wrong)
 
@@ -118,5 +118,5 @@ AnsweredBehind question old new reply = (new ≡ old) × (reply ≡ told.Wrong)
 abbrev pub ToldWhy : Question → Object → Object → ℤ → Type 0
 ToldWhy question (behind.Tree old) (behind.Tree new) number = (why : Refusal)
     × (number ≡ neg_ℤ (pos (number_of why)))
-    × Answered old.value.nodes.master.table question old.value.nodes new.value.nodes (told.Refused why)
+    × TreeAnswered old.value.nodes.master.table question old.value.nodes new.value.nodes (told.Refused why)
 ToldWhy question old new number = number ≡ negsuc 21

@@ -35,13 +35,13 @@ LookedOnce before after = IsSameSeat before after × (after.steps ≡ before.ste
     × WasALookHidden (seat_view before) (seat_view after)
 
 -- it made one look more; one that had seen nobody is as it was
-abbrev pub HasLooked : Handle → Handle → Type 0
-HasLooked before after =
+abbrev pub HasLookedAgain : Handle → Handle → Type 0
+HasLookedAgain before after =
     ((before.phase ≡ phase_of.Hidden) × (after ≡ before)) ⊎ LookedOnce before after
 
 -- a step of this seat, once it saw that nobody is inside, took the bit of a hidden file off its word
 abbrev pub HasUnhidden : Handle → Type 0
-HasUnhidden token = (seen : Handle) × HasLooked token seen × SawNobody seen
+HasUnhidden token = (seen : Handle) × HasLookedAgain token seen × SawNobody seen
     × (hold : Handle) × IsSameSeat seen hold × WasAShow (seat_view seen) (seat_view hold)
 
 -- ---- the tokens of a tree, by slot
@@ -52,7 +52,7 @@ IsTokenOf tokens key token = (token.key ≡ key) × (slice_get tokens key.slot �
 
 -- this token looked and saw this, and lies in its slot now
 abbrev pub IsSeen : (Handle → Type 0) → List (Option Handle) → List (Option Handle) → Handle → Type 0
-IsSeen Saw tokens tokens' token = (after : Handle) × IsSameSeat token after × HasLooked token after
+IsSeen Saw tokens tokens' token = (after : Handle) × IsSameSeat token after × HasLookedAgain token after
     × Saw after × (tokens' ≡ slice_set tokens token.key.slot (Some after))
 
 -- of each hidden file it was seen that nobody is inside
@@ -86,7 +86,7 @@ pub record BeganHide (table : TableId) (old new : Locked) (key : Key) (token : H
 -- it was hidden before, and its token looked again
 abbrev pub LookedAgain : Locked → List (Option Handle) → Locked → Key → Handle → Type 0
 LookedAgain old tokens new key token =
-    (new ≡ old) × (before : Handle) × IsTokenOf tokens key before × HasLooked before token
+    (new ≡ old) × (before : Handle) × IsTokenOf tokens key before × HasLookedAgain before token
 
 -- the file is hidden, and its token, which lies in its slot now, saw this
 abbrev pub IsHidden : (Handle → Type 0) → TableId → Locked → List (Option Handle) → Locked

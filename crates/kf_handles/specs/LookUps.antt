@@ -66,7 +66,8 @@ parent_behind other key = Err Invalid
 -- what is told of a node
 abbrev pub stat_behind : Object → Key → Result Stat Refusal
 stat_behind (behind.Tree tree) key =
-    ok_or (option_map (stat_of tree.value.nodes.state.tree) (record_at tree.value.nodes.state.tree key)) NoEntry
+    ok_or (option_map (stat_of tree.value.nodes.state.tree) (record_at tree.value.nodes.state.tree key))
+    NoEntry
 stat_behind other key = Err Invalid
 
 -- it is the node's name

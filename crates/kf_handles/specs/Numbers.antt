@@ -7,7 +7,7 @@ use Rattle.kf_core.specs.declared.refusal.Refusal.TheVariants.{Invalid, NoEntry,
 use Rattle.kf_core.specs.Tree.{record_at}
 use Rattle.kf_tree.specs.declared.stat.Stat.{Stat}
 use Rattle.kf_tree.specs.Stat.{stat_of}
-use Rattle.kf_notify.specs.PostStates.{PostState, IsNewPost, IsSamePost, Found, Made}
+use Rattle.kf_notify.specs.PostStates.{PostState, IsNewPost, IsSamePost, FoundNumber, Made}
 use Rattle.kf_handles.specs.declared.object.Object.{Object}
 use Rattle.kf_handles.specs.declared.object.Object.TheVariants as behind
 
@@ -46,13 +46,13 @@ WasNotified old new = ⊥
 
 -- the slot's number was found to be the last that there is; where there was no post nothing was done
 abbrev pub WasFull : Object → Object → Type 0
-WasFull (behind.Post old) (behind.Post new) = IsSamePost old new × Found old (2 ^ 64 - 1) new
+WasFull (behind.Post old) (behind.Post new) = IsSamePost old new × FoundNumber old (2 ^ 64 - 1) new
 WasFull old new = new ≡ old
 
 -- this was the slot's number, as the post found it
 abbrev pub TookNumber : Object → ℕ → Object → Type 0
 TookNumber (behind.Post old) number (behind.Post new) =
-    IsSamePost old new × Found old number new × (old.numbers.start ≤ number)
+    IsSamePost old new × FoundNumber old number new × (old.numbers.start ≤ number)
 TookNumber old number new = ⊥
 
 -- the number of a notify that is refused: -EOVERFLOW of a post, and -EINVAL where there is none

@@ -20,7 +20,8 @@ use Rattle.kf_handles.specs.Hiding.{SawNobody, SawSomebody, HasHiding, HasNoHidi
 abbrev pub Stepped : TableId → Task → Locked → List (Option Handle) → Locked → List (Option Handle)
     → Reply → Type 0
 Stepped table (task.Remove key) old tokens new tokens' reply =
-    OutOr (IsRemoving old new key false) (WasGone old new key × (tokens' ≡ tokens)) (IsRemoving old new key true)
+    OutOr (IsRemoving old new key false) (WasGone old new key × (tokens' ≡ tokens))
+    (IsRemoving old new key true)
     (λ why. RemoveRefused old new key why × Unchanged old new × (tokens' ≡ tokens)) reply
 Stepped table (task.Hide key) old tokens new tokens' reply =
     DoneOr (IsHidden SawNobody table old tokens new tokens' key)

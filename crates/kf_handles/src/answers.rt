@@ -1,5 +1,5 @@
 //! What a tree does that is asked for a change or for a hold.
-ghost use Rattle.kf_handles.specs.Answers.{Answered, AnsweredBehind};
+ghost use Rattle.kf_handles.specs.Answers.{TreeAnswered, AnsweredBehind};
 
 use crate::holds::Held;
 use crate::object::Object;
@@ -11,7 +11,7 @@ use kf_shared::{Locked, Naming};
 
 /// What the tree answers.
 pub fn answer<N: Naming>(locked: &mut Locked<N>, question: Question<'_>) -> Reply
-    ensures { Answered N.table question.entry locked.old locked.new result }
+    ensures { TreeAnswered N.table question.entry locked.old locked.new result }
 {
     match question {
         Question::Create {

@@ -19,6 +19,7 @@ mod stepping;
 mod steps;
 mod tasks;
 mod telling;
+mod texts;
 mod token;
 mod tokens;
 mod tree;
@@ -33,4 +34,5 @@ pub use replies::{
 };
 pub use stepping::{break_off, enter, leave, restore};
 pub use tasks::{hide, remove, unhide};
-pub use telling::{commands, find, link_text, name, next, parent, path, root, tell, walk};
+pub use telling::{commands, find, parent, root, tell, walk};
+pub use texts::{link_text, name, next, path};

@@ -53,7 +53,8 @@ pub fn post(handle: &mut KtHandle, key: KtKey, out: &mut KtHandle) -> i32
     ensures same { result ≢ pos 0 → out.new.place ≡ out.old.place }
     ensures beside { handle.new.place.seat ≡ handle.old.place.seat }
     ensures why { is_nothing out.old.place ≡ true → result ≢ pos 0 → IsRefusal
-        (PostRefused handle.old.place.object (record { slot = key.slot; generation = key.generation })) result }
+        (PostRefused handle.old.place.object (record { slot = key.slot; generation = key.generation }))
+        result }
 {
     if !is_nothing(out) {
         return INVALID;

@@ -1,7 +1,7 @@
 //! What the calls of a program do to what lies behind its handles, and the numbers that they answer.
 ghost use Rattle.std.specs.Prelude.{◌≡◌, ◌≢◌, ◌⊎◌, ◌<◌, ◌≤◌, true, false, pos, negsuc, IfSome, IsSome};
 ghost use Rattle.kf_handles.specs.Tasks.{HasHidingIn, HasNoHidingIn};
-ghost use Rattle.kf_handles.specs.Answers.{Answered, AnsweredBehind, OfTrees, IsAsBefore, ToldWhy, is_change, is_naming};
+ghost use Rattle.kf_handles.specs.Answers.{TreeAnswered, AnsweredBehind, OfTrees, IsAsBefore, ToldWhy, is_change, is_naming};
 ghost use Rattle.kf_handles.specs.Calls.{AreLimits, IsNewTree, CreatedIn, HoldsNode, ClaimedIn, IsNothing, is_nothing, key_in, stat_in_c};
 ghost use Rattle.kf_handles.specs.Steps.{WakeOwed};
 ghost use Rattle.kf_handles.specs.declared.questions.Question.TheVariants as asks;
@@ -91,7 +91,7 @@ pub fn ask_handle(handle: KtHandle, question: Question<'_>) -> (KtHandle, Reply)
 /// Asks for a key, and writes it.
 fn named(handle: &mut KtHandle, question: Question<'_>, out: &mut KtKey) -> i32
     requires { is_naming question ≡ true }
-    ensures done { result ≡ pos 0 → OfTrees (λ old new. Answered old.master.table question.entry old new
+    ensures done { result ≡ pos 0 → OfTrees (λ old new. TreeAnswered old.master.table question.entry old new
         (told.Named (record { slot = out.new.slot; generation = out.new.generation })))
         handle.old.place.object handle.new.place.object }
     ensures kept { result ≢ pos 0 → IsAsBefore handle.old.place.object handle.new.place.object
@@ -170,11 +170,12 @@ pub fn create_file(
 pub fn change(handle: &mut KtHandle, question: Question<'_>) -> i32
     requires { is_change question ≡ true }
     ensures done { result ≡ pos 0 →
-        OfTrees (λ old new. Answered old.master.table question.entry old new told.Done)
+        OfTrees (λ old new. TreeAnswered old.master.table question.entry old new told.Done)
         handle.old.place.object handle.new.place.object }
     ensures kept { result ≢ pos 0 → IsAsBefore handle.old.place.object handle.new.place.object }
     ensures beside { handle.new.place.seat ≡ handle.old.place.seat }
-    ensures why { result ≢ pos 0 → ToldWhy question.entry handle.old.place.object handle.new.place.object result }
+    ensures why { result ≢ pos 0
+        → ToldWhy question.entry handle.old.place.object handle.new.place.object result }
 {
     match replace_with(handle, question, ask_handle) {
         Reply::Done => 0,
@@ -326,7 +327,8 @@ pub fn make_tree(alloc: Global, handle: &mut KtHandle, slots: u32, holds: u32) -
 }
 
 fn end(place: &mut Place) -> i32
-    ensures empty { (result ≡ pos 0) ⊎ (result ≡ pos 1) → IsNothing place.new × HasNoHidingIn place.old.object }
+    ensures empty { (result ≡ pos 0) ⊎ (result ≡ pos 1)
+        → IsNothing place.new × HasNoHidingIn place.old.object }
     ensures owed { (result ≡ pos 0) ⊎ (result ≡ pos 1) → WakeOwed place.old.seat result }
     ensures busy { result ≢ pos 0 → result ≢ pos 1 →
         (result ≡ negsuc 15) × HasHidingIn place.old.object × (place.new ≡ place.old) }

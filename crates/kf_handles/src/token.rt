@@ -2,7 +2,7 @@
 ghost use Rattle.std.specs.Prelude.{◌≡◌, true, false, MatchResult};
 ghost use Rattle.kf_core.specs.declared.caller.Phase.TheVariants as phase_of;
 ghost use Rattle.kf_words.specs.Callers.{IsSameSeat};
-ghost use Rattle.kf_handles.specs.Hiding.{SawNobody, SawSomebody, HasLooked};
+ghost use Rattle.kf_handles.specs.Hiding.{SawNobody, SawSomebody, HasLookedAgain};
 
 use kf_core::Key;
 use kf_words::{Hidden, Hiding};
@@ -74,7 +74,8 @@ impl Token {
 
     /// Looks whether nobody is inside, where it has not seen that yet.
     pub fn look(self) -> Result<Token, Token>
-        ensures looked { MatchResult result (λ saw. HasLooked self saw) (λ back. HasLooked self back) }
+        ensures looked { MatchResult result (λ saw. HasLookedAgain self saw)
+            (λ back. HasLookedAgain self back) }
         ensures saw { MatchResult result (λ saw. SawNobody saw) (λ back. SawSomebody back) }
         ensures same { MatchResult result (λ saw. IsSameSeat self saw) (λ back. IsSameSeat self back) }
     {
@@ -97,7 +98,8 @@ impl Token {
     /// What shows the file again; the token where somebody is inside.
     pub fn into_hidden(self) -> Result<Hidden, Token>
         ensures same { MatchResult result (λ hidden. IsSameSeat self hidden) (λ back. IsSameSeat self back) }
-        ensures looked { MatchResult result (λ hidden. HasLooked self hidden) (λ back. HasLooked self back) }
+        ensures looked { MatchResult result (λ hidden. HasLookedAgain self hidden)
+            (λ back. HasLookedAgain self back) }
         ensures saw { MatchResult result (λ hidden. SawNobody hidden) (λ back. SawSomebody back) }
     {
         let Token { stage } = self;

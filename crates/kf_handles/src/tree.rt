@@ -5,7 +5,7 @@ ghost use Rattle.kf_notify.specs.PostStates.{IsNewPost};
 ghost use Rattle.kf_tree.specs.TreeLogs.{IsNew};
 ghost use Rattle.kf_words.specs.Steps.{opened};
 ghost use Rattle.kf_handles.specs.Tasks.{Stepped};
-ghost use Rattle.kf_handles.specs.Answers.{Answered};
+ghost use Rattle.kf_handles.specs.Answers.{TreeAnswered};
 ghost use Rattle.kf_handles.specs.Hiding.{HasHiding, HasNoHiding};
 ghost use Rattle.kf_handles.specs.Kept.{AreTokensOf};
 
@@ -92,7 +92,7 @@ impl Tree {
 /// The nodes after they were asked under this name, and what they answer.
 fn ask_named<N: Naming>(nodes: NewTree, question: Question<'_>) -> (NewTree, Reply)
     requires { nodes.master.table ≡ N.table }
-    ensures told { Answered nodes.master.table question.entry nodes result.0 result.1 }
+    ensures told { TreeAnswered nodes.master.table question.entry nodes result.0 result.1 }
     ensures table { result.0.master.table ≡ nodes.master.table }
 {
     let mut locked = nodes.owned::<N>();
@@ -102,7 +102,7 @@ fn ask_named<N: Naming>(nodes: NewTree, question: Question<'_>) -> (NewTree, Rep
 
 /// The tree after it was asked, and what it answers.
 pub fn ask(tree: Tree, question: Question<'_>) -> (Tree, Reply)
-    ensures told { Answered tree.nodes.master.table question.entry tree.nodes result.0.nodes result.1 }
+    ensures told { TreeAnswered tree.nodes.master.table question.entry tree.nodes result.0.nodes result.1 }
     ensures posts { result.0.posts ≡ tree.posts }
     ensures hidden { result.0.hidden ≡ tree.hidden }
 {

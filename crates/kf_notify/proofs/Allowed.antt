@@ -9,7 +9,7 @@ use lib.ListN.{get_elem?}
 use Rattle.atomic_table.specs.Table.{stepped, keeps, opening}
 use Rattle.atomic_table.proofs.Lists.{at_set, at_snoc, set_again}
 use Rattle.kf_notify.specs.declared.view.View.{View}
-use Rattle.kf_notify.specs.Rule.{Table, Shown, KnowsNext, IsSeated, number_at, opened}
+use Rattle.kf_notify.specs.Rule.{Table, NumbersShown, KnowsNext, IsSeated, number_at, opened}
 use Rattle.kf_notify.specs.Steps.{loaded, raised, doubled}
 
 -- what holds of a seat's new view and of all others holds of all views after its step
@@ -24,20 +24,20 @@ seat_within (x ∷ xs) zero v e = omega arith
 seat_within (x ∷ xs) (suc seat) v e = let r = seat_within xs seat v e in omega arith
 
 -- a load keeps it
-pub load_keeps : (slots start : ℕ) (t : Table) (seat : ℕ) (v : View) (slot : ℕ) → Shown slots start t → IsSeated t seat v → slot < slots
-    → Shown slots start (stepped t slot (number_at t slot) seat [] (loaded slot (number_at t slot) v) keeps)
+pub load_keeps : (slots start : ℕ) (t : Table) (seat : ℕ) (v : View) (slot : ℕ) → NumbersShown slots start t → IsSeated t seat v → slot < slots
+    → NumbersShown slots start (stepped t slot (number_at t slot) seat [] (loaded slot (number_at t slot) v) keeps)
 load_keeps slots start t seat v slot h at near =
     let n : ℕ = get_or t.words slot 0 in
     let w : View = loaded slot n v in
     let same : set t.words slot n ≡ t.words = set-get_or t.words slot 0 in
-    let kept : Shown slots start (record { words = t.words; homes = t.homes; views = set t.views seat w }) = record {
+    let kept : NumbersShown slots start (record { words = t.words; homes = t.homes; views = set t.views seat w }) = record {
       wide = h.wide;
       first = each_after t.views seat w (λ y. y.start ≡ start) (h.first seat v at) h.first;
       knows = each_after t.views seat w (λ y. KnowsNext y) (record { found = omega arith; next = omega arith }) h.knows;
       known = each_after t.views seat w (λ y. y.known ≤ get_or t.words y.slot 0) (omega arith) h.known;
       least = h.least;
     } in
-    subst (λ (l : List ℕ). Shown slots start (record { words = l; homes = t.homes; views = set t.views seat w })) (sym same) kept
+    subst (λ (l : List ℕ). NumbersShown slots start (record { words = l; homes = t.homes; views = set t.views seat w })) (sym same) kept
 
 -- a word raised is no smaller, and no other word changes
 pub grown : (words : List ℕ) (i number k : ℕ) → i < length words → (get_or words k 0 ≤ get_or (set words i (max (get_or words i 0) number)) k 0)
@@ -46,8 +46,8 @@ grown words i number k near = dite (ℕ_discrete k i)
     (λ other. let w = get_or-set_other words i k (max (get_or words i 0) number) 0 other in omega arith)
 
 -- a number raised keeps it
-pub raise_keeps : (slots start : ℕ) (t : Table) (seat : ℕ) (v : View) (number : ℕ) → Shown slots start t → IsSeated t seat v → v.slot < slots → number ≡ v.found + 1
-    → Shown slots start (stepped t v.slot (max (number_at t v.slot) number) seat [] (raised number v) keeps)
+pub raise_keeps : (slots start : ℕ) (t : Table) (seat : ℕ) (v : View) (number : ℕ) → NumbersShown slots start t → IsSeated t seat v → v.slot < slots → number ≡ v.found + 1
+    → NumbersShown slots start (stepped t v.slot (max (number_at t v.slot) number) seat [] (raised number v) keeps)
 raise_keeps slots start t seat v number h at near next =
     let i : ℕ = v.slot in
     let n : ℕ = get_or t.words i 0 in
@@ -67,21 +67,21 @@ raise_keeps slots start t seat v number h at near next =
     }
 
 -- a seat doubled keeps it
-pub double_keeps : (slots start seat : ℕ) (v : View) (t : Table) → Shown slots start t → IsSeated t seat v
-    → Shown slots start (record { words = t.words; homes = t.homes; views = set t.views seat v ++ doubled v ∷ [] })
+pub double_keeps : (slots start seat : ℕ) (v : View) (t : Table) → NumbersShown slots start t → IsSeated t seat v
+    → NumbersShown slots start (record { words = t.words; homes = t.homes; views = set t.views seat v ++ doubled v ∷ [] })
 double_keeps slots start seat v t h at =
     let same : set t.views seat v ≡ t.views = set_again t.views seat v at in
     let old = h.knows seat v at in
     let old_found = old.found in
     let old_next = old.next in
-    let kept : Shown slots start (record { words = t.words; homes = t.homes; views = t.views ++ doubled v ∷ [] }) = record {
+    let kept : NumbersShown slots start (record { words = t.words; homes = t.homes; views = t.views ++ doubled v ∷ [] }) = record {
       wide = h.wide;
       first = λ j s e. ⊎_elim (λ x. h.first j s x) (λ x. subst (λ (y : View). y.start ≡ start) x (h.first seat v at)) (at_snoc t.views (doubled v) s j e);
       knows = λ j s e. ⊎_elim (λ x. h.knows j s x) (λ x. subst (λ (y : View). KnowsNext y) x (record { found = old_found; next = old_next })) (at_snoc t.views (doubled v) s j e);
       known = λ j s e. ⊎_elim (λ x. h.known j s x) (λ x. subst (λ (y : View). y.known ≤ get_or t.words y.slot 0) x (h.known seat v at)) (at_snoc t.views (doubled v) s j e);
       least = h.least;
     } in
-    subst (λ (l : List View). Shown slots start (record { words = t.words; homes = t.homes; views = l ++ doubled v ∷ [] })) (sym same) kept
+    subst (λ (l : List View). NumbersShown slots start (record { words = t.words; homes = t.homes; views = l ++ doubled v ∷ [] })) (sym same) kept
 
 -- the only seat at the opening
 first_only : (v s : View) (j : ℕ) → get_elem? (v ∷ []) j ≡ some s → v ≡ s
@@ -98,7 +98,7 @@ length-replicate zero x = refl
 length-replicate (suc n) x = ap suc (length-replicate n x)
 
 -- the opening shows it
-pub opening_shown : (slots words start : ℕ) → slots ≤ words → Shown slots start (opening (replicate words start) [] (opened start))
+pub opening_shown : (slots words start : ℕ) → slots ≤ words → NumbersShown slots start (opening (replicate words start) [] (opened start))
 opening_shown slots words start enough = record {
   wide = let long = length-replicate words start in omega arith;
   first = λ j s e. subst (λ (y : View). y.start ≡ start) (first_only (opened start) s j e) refl;

@@ -7,15 +7,15 @@ use native.Mathlib.Decide.{ℕ_discrete}
 use lib.ListN.{get_elem?}
 use Rattle.atomic_table.proofs.Lists.{at_longer, set_again, set_else, set_here}
 use Rattle.kf_notify.specs.declared.view.View.{View}
-use Rattle.kf_notify.specs.Rule.{Table, Shown, IsSeated, number_at}
+use Rattle.kf_notify.specs.Rule.{Table, NumbersShown, IsSeated, number_at}
 use Rattle.kf_notify.specs.Steps.{loaded, raised, doubled}
-use Rattle.kf_notify.specs.TableSteps.{Kind, loads, raises, doubles, NumberStep, NumberRun}
+use Rattle.kf_notify.specs.TableSteps.{StepKind, loads, raises, doubles, NumberStep, NumberRun}
 use Rattle.kf_notify.specs.Laws.{StaysRaised, LaterIsGreater}
 use Rattle.kf_notify.proofs.Allowed.{seat_within}
 use Rattle.kf_notify.proofs.Runs.{step_keeps, never_goes_back}
 
 -- a raise leaves no less than the number that it makes
-raised_to : (slots start : ℕ) (t : Table) (seat slot number : ℕ) (t' : Table) → Shown slots start t → NumberStep slots t (raises seat slot number) t' → number ≤ number_at t' slot
+raised_to : (slots start : ℕ) (t : Table) (seat slot number : ℕ) (t' : Table) → NumbersShown slots start t → NumberStep slots t (raises seat slot number) t' → number ≤ number_at t' slot
 raised_to slots start t seat slot number t' h s =
     let n : ℕ = get_or t.words slot 0 in
     let wide = h.wide in
@@ -41,7 +41,7 @@ stays_seen t seat other slot number v w at seen own = dite (ℕ_discrete other s
     (λ same. (w, subst (λ (j : ℕ). get_elem? (set t.views seat w) j ≡ some w) (sym same) (set_here t.views seat w (seat_within t.views seat v at)), own same))
     (λ apart. (seen.0, set_else t.views seat other w apart ∙ seen.1, seen.2))
 
-still_seen : (slots : ℕ) (t : Table) (kind : Kind) (t' : Table) (other slot number : ℕ) → NumberStep slots t kind t' → number ≤ number_at t slot
+still_seen : (slots : ℕ) (t : Table) (kind : StepKind) (t' : Table) (other slot number : ℕ) → NumberStep slots t kind t' → number ≤ number_at t slot
     → HasSeen t other slot number → HasSeen t' other slot number
 still_seen slots t (loads seat place) t' other slot number s enough seen =
     let n : ℕ = get_or t.words place 0 in
@@ -59,7 +59,7 @@ still_seen slots t (doubles seat) t' other slot number s enough seen =
     (seen.0, subst (λ (l : List View). get_elem? (l ++ doubled s.0 ∷ []) other ≡ some seen.0) (sym same) (at_longer t.views (doubled s.0 ∷ []) other seen.0 seen.1), seen.2)
 
 -- a raise after such a load makes a greater number
-after_load : (slots start : ℕ) (t : Table) (other slot number later : ℕ) (more : List Kind) (t' : Table) → Shown slots start t
+after_load : (slots start : ℕ) (t : Table) (other slot number later : ℕ) (more : List StepKind) (t' : Table) → NumbersShown slots start t
     → number ≤ number_at t slot → HasSeen t other slot number → NumberRun slots t (more ++ raises other slot later ∷ []) t' → number < later
 after_load slots start t other slot number later [] t' h enough seen run =
     let s = run.1 in
@@ -73,7 +73,7 @@ after_load slots start t other slot number later (kind ∷ more) t' h enough see
     after_load slots start run.0 other slot number later more t' kept (omega arith) (still_seen slots t kind run.0 other slot number run.1 enough seen) run.2
 
 -- so does a load and a raise, where the slot's number was no less before
-before_load : (slots start : ℕ) (t : Table) (other slot number later : ℕ) (kinds more : List Kind) (t' : Table) → Shown slots start t
+before_load : (slots start : ℕ) (t : Table) (other slot number later : ℕ) (kinds more : List StepKind) (t' : Table) → NumbersShown slots start t
     → number ≤ number_at t slot → NumberRun slots t (kinds ++ loads other slot ∷ (more ++ raises other slot later ∷ [])) t' → number < later
 before_load slots start t other slot number later [] more t' h enough run =
     let s = run.1 in

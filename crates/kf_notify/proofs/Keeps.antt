@@ -11,8 +11,8 @@ use Rattle.kf_notify.specs.declared.sight.Opening.{Opening}
 use Rattle.kf_notify.specs.declared.sight.Seen.{Seen}
 use Rattle.kf_notify.specs.declared.sight.Sight.{Sight}
 use Rattle.kf_notify.specs.declared.view.View.{View}
-use Rattle.kf_notify.specs.Rule.{Table, Shown}
-use Rattle.kf_notify.specs.TableSteps.{Kind, NumberStep, NumberRun}
+use Rattle.kf_notify.specs.Rule.{Table, NumbersShown}
+use Rattle.kf_notify.specs.TableSteps.{StepKind, NumberStep, NumberRun}
 use Rattle.kf_notify.specs.History.{SeenTable, erased, opened_as, IsBeginning, Kept}
 use Rattle.kf_notify.proofs.Runs.{step_keeps}
 
@@ -23,12 +23,12 @@ pub prefix_more : {A : Type 0} (xs log more : List A) → IsPrefix xs log → Is
 prefix_more xs log more p = (p.0 ++ more, sym (append_assoc xs p.0 more) ∙ ap (λ w. w ++ more) p.1)
 
 -- a run and one step more
-pub run_snoc : (slots : ℕ) (kinds : List Kind) (t u v : Table) (kind : Kind) → NumberRun slots t kinds u → NumberStep slots u kind v → NumberRun slots t (kinds ++ kind ∷ []) v
+pub run_snoc : (slots : ℕ) (kinds : List StepKind) (t u v : Table) (kind : StepKind) → NumberRun slots t kinds u → NumberStep slots u kind v → NumberRun slots t (kinds ++ kind ∷ []) v
 run_snoc slots [] t u v kind r s = (v, subst (λ (x : Table). NumberStep slots x kind v) r s, refl)
 run_snoc slots (k ∷ ks) t u v kind r s = (r.0, r.1, run_snoc slots ks r.0 u v kind r.2 s)
 
 -- a run in two parts
-pub run_parts : (slots : ℕ) (first rest : List Kind) (t u : Table) → NumberRun slots t (first ++ rest) u → (mid : Table) × NumberRun slots t first mid × NumberRun slots mid rest u
+pub run_parts : (slots : ℕ) (first rest : List StepKind) (t u : Table) → NumberRun slots t (first ++ rest) u → (mid : Table) × NumberRun slots t first mid × NumberRun slots mid rest u
 run_parts slots [] rest t u r = (t, refl, r)
 run_parts slots (k ∷ ks) rest t u r = let p = run_parts slots ks rest r.0 u r.2 in (p.0, (r.0, r.1, p.1), p.2)
 
@@ -40,20 +40,20 @@ view_there (x ∷ xs) (suc place) s e = view_there xs place s e
 
 module _ (o : Opening) (t : SeenTable) (h : Kept o t) (id : ℕ) (before : Sight) (at : get_elem? t.views id ≡ some before) where
   -- the run so far is what the seat had seen, and then these steps
-  abbrev pub between : List Kind
+  abbrev pub between : List StepKind
   between = (h.seen id before at).1.0
 
   so_far : before.seen.steps ++ between ≡ h.log
   so_far = (h.seen id before at).1.1
 
   -- what the seat sees after a step of this kind
-  abbrev pub now_seen : Kind → Seen
+  abbrev pub now_seen : StepKind → Seen
   now_seen kind = record { opening = before.seen.opening; steps = (before.seen.steps ++ between) ++ kind ∷ [] }
 
-  pub is_now : (kind : Kind) → IsBeginning o (now_seen kind) (h.log ++ kind ∷ [])
-  is_now kind = ((h.seen id before at).0, subst (λ (l : List Kind). IsPrefix (l ++ kind ∷ []) (h.log ++ kind ∷ [])) (sym so_far) (prefix_self (h.log ++ kind ∷ [])))
+  pub is_now : (kind : StepKind) → IsBeginning o (now_seen kind) (h.log ++ kind ∷ [])
+  is_now kind = ((h.seen id before at).0, subst (λ (l : List StepKind). IsPrefix (l ++ kind ∷ []) (h.log ++ kind ∷ [])) (sym so_far) (prefix_self (h.log ++ kind ∷ [])))
 
-  still_before : (kind : Kind) → IsBeginning o before.seen (h.log ++ kind ∷ [])
+  still_before : (kind : StepKind) → IsBeginning o before.seen (h.log ++ kind ∷ [])
   still_before kind = let b = h.seen id before at in (b.0, prefix_more before.seen.steps h.log (kind ∷ []) b.1)
 
   -- the table that the step leads to, without what was seen
@@ -61,13 +61,13 @@ module _ (o : Opening) (t : SeenTable) (h : Kept o t) (id : ℕ) (before : Sight
   same_erased i n after = ap (λ (l : List View). let x : Table = record { words = set t.words i n; homes = t.homes; views = l } in x) (map-set (λ (s : Sight). s.view) t.views id after)
 
   -- the seats' beginnings of the longer run
-  see : (kind : Kind) (after : Sight) → IsBeginning o after.seen (h.log ++ kind ∷ []) → (place : ℕ) (s : Sight) → get_elem? (set t.views id after) place ≡ some s → IsBeginning o s.seen (h.log ++ kind ∷ [])
+  see : (kind : StepKind) (after : Sight) → IsBeginning o after.seen (h.log ++ kind ∷ []) → (place : ℕ) (s : Sight) → get_elem? (set t.views id after) place ≡ some s → IsBeginning o s.seen (h.log ++ kind ∷ [])
   see kind after mine place s e = ⊎_elim
       (λ (x : (place ≡ id) × (after ≡ s)). subst (λ (y : Sight). IsBeginning o y.seen (h.log ++ kind ∷ [])) x.1 mine)
       (λ (x : (place ≢ id) × (get_elem? t.views place ≡ some s)). let b = h.seen place s x.1 in (b.0, prefix_more s.seen.steps h.log (kind ∷ []) b.1))
       (at_set t.views id place after s e)
 
-  pub step_kept : (i n : ℕ) (after : Sight) (kind : Kind) → NumberStep o.slots (erased t) kind (stepped (erased t) i n id [] after.view keeps) → IsBeginning o after.seen (h.log ++ kind ∷ [])
+  pub step_kept : (i n : ℕ) (after : Sight) (kind : StepKind) → NumberStep o.slots (erased t) kind (stepped (erased t) i n id [] after.view keeps) → IsBeginning o after.seen (h.log ++ kind ∷ [])
       → Kept o (stepped t i n id [] after keeps)
   step_kept i n after kind step mine =
       let t' : Table = stepped (erased t) i n id [] after.view keeps in
@@ -76,23 +76,23 @@ module _ (o : Opening) (t : SeenTable) (h : Kept o t) (id : ℕ) (before : Sight
         log = h.log ++ kind ∷ [];
         run = subst (λ (x : Table). NumberRun o.slots (opened_as o) (h.log ++ kind ∷ []) x) (sym is) (run_snoc o.slots h.log (opened_as o) (erased t) t' kind h.run step);
         seen = see kind after mine;
-        shown = subst (λ (x : Table). Shown o.slots o.start x) (sym is) (step_keeps o.slots o.start (erased t) kind t' h.shown step);
+        shown = subst (λ (x : Table). NumbersShown o.slots o.start x) (sym is) (step_keeps o.slots o.start (erased t) kind t' h.shown step);
       }
 
   -- the run that was seen, and then the steps between, lead to the table that the step finds
   pub led_here : NumberRun before.seen.opening.slots (opened_as before.seen.opening) (before.seen.steps ++ between) (erased t)
-  led_here = subst (λ (l : List Kind). NumberRun before.seen.opening.slots (opened_as before.seen.opening) l (erased t)) (sym so_far)
+  led_here = subst (λ (l : List StepKind). NumberRun before.seen.opening.slots (opened_as before.seen.opening) l (erased t)) (sym so_far)
       (subst (λ (x : Opening). NumberRun x.slots (opened_as x) h.log (erased t)) (sym (h.seen id before at).0) h.run)
 
-  pub shown_here : Shown before.seen.opening.slots before.seen.opening.start (erased t)
-  shown_here = subst (λ (x : Opening). Shown x.slots x.start (erased t)) (sym (h.seen id before at).0) h.shown
+  pub shown_here : NumbersShown before.seen.opening.slots before.seen.opening.start (erased t)
+  shown_here = subst (λ (x : Opening). NumbersShown x.slots x.start (erased t)) (sym (h.seen id before at).0) h.shown
 
   -- the same step, by the opening of the run that was seen
-  pub step_here : (kind : Kind) (t' : Table) → NumberStep o.slots (erased t) kind t' → NumberStep before.seen.opening.slots (erased t) kind t'
+  pub step_here : (kind : StepKind) (t' : Table) → NumberStep o.slots (erased t) kind t' → NumberStep before.seen.opening.slots (erased t) kind t'
   step_here kind t' step = subst (λ (x : Opening). NumberStep x.slots (erased t) kind t') (sym (h.seen id before at).0) step
 
   -- a new seat, which has seen as much
-  pub split_kept : (left right : Sight) (kind : Kind) → left.seen ≡ before.seen → right.seen ≡ before.seen
+  pub split_kept : (left right : Sight) (kind : StepKind) → left.seen ≡ before.seen → right.seen ≡ before.seen
       → NumberStep o.slots (erased t) kind (record { words = t.words; homes = t.homes; views = set (erased t).views id left.view ++ right.view ∷ [] })
       → Kept o (record { words = t.words; homes = t.homes; views = set t.views id left ++ right ∷ [] })
   split_kept left right kind same same' step =
@@ -108,5 +108,5 @@ module _ (o : Opening) (t : SeenTable) (h : Kept o t) (id : ℕ) (before : Sight
             (λ (old : get_elem? (set t.views id left) place ≡ some s). see kind left (subst (λ (x : Seen). IsBeginning o x (h.log ++ kind ∷ [])) (sym same) (still_before kind)) place s old)
             (λ (new : right ≡ s). subst (λ (y : Sight). IsBeginning o y.seen (h.log ++ kind ∷ [])) new (subst (λ (x : Seen). IsBeginning o x (h.log ++ kind ∷ [])) (sym same') (still_before kind)))
             (at_snoc (set t.views id left) right s place e);
-        shown = subst (λ (x : Table). Shown o.slots o.start x) (sym is) (step_keeps o.slots o.start (erased t) kind t' h.shown step);
+        shown = subst (λ (x : Table). NumbersShown o.slots o.start x) (sym is) (step_keeps o.slots o.start (erased t) kind t' h.shown step);
       }

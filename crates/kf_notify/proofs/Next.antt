@@ -10,14 +10,14 @@ use Rattle.kf_notify.specs.declared.sight.Sight.{Sight}
 use Rattle.kf_notify.specs.declared.view.View.{View}
 use Rattle.kf_notify.specs.Rule.{Table, IsSeated, number_at}
 use Rattle.kf_notify.specs.Steps.{Sighted, loaded, raised}
-use Rattle.kf_notify.specs.TableSteps.{Kind, loads, raises, doubles, NumberStep}
+use Rattle.kf_notify.specs.TableSteps.{StepKind, loads, raises, doubles, NumberStep}
 use Rattle.kf_notify.specs.History.{SeenTable, erased, given, Kept}
 use Rattle.kf_notify.specs.Next.{WasMade, MakesLoad, MakesRaise}
 use Rattle.kf_notify.proofs.Allowed.{seat_within}
 use Rattle.kf_notify.proofs.Keeps.{view_there, between, now_seen, is_now, step_kept, led_here, shown_here, step_here, split_kept}
 
 -- what a step tells of the one run
-abbrev next_made : (o : Opening) (t : SeenTable) (h : Kept o t) (id : ℕ) (before : Sight) (at : get_elem? t.views id ≡ some before) (kind : ℕ → Kind) (i n : ℕ) (w : View)
+abbrev next_made : (o : Opening) (t : SeenTable) (h : Kept o t) (id : ℕ) (before : Sight) (at : get_elem? t.views id ≡ some before) (kind : ℕ → StepKind) (i n : ℕ) (w : View)
     → NumberStep o.slots (erased t) (kind id) (stepped (erased t) i n id [] w keeps)
     → WasMade kind before (record { view = w; seen = now_seen o t h id before at (kind id) })
 next_made o t h id before at kind i n w step =
@@ -41,7 +41,7 @@ load_made o homes id me i near t h _ at small =
     let n : ℕ = slice_index t.words i in
     let v : View = me.0.view in
     let own : IsSeated (erased t) id v = view_there t.views id me.0 at in
-    let kind : ℕ → Kind = λ seat. loads seat i in
+    let kind : ℕ → StepKind = λ seat. loads seat i in
     let after : Sight = record { view = loaded i n v; seen = now_seen o t h id me.0 at (kind id) } in
     let made : NumberStep o.slots (erased t) (kind id) (stepped (erased t) i n id [] (loaded i n v) keeps) = (v, own, near, refl) in (
       after,
@@ -64,7 +64,7 @@ raise_made o homes id me i number near own_slot next t h _ at small =
     let n : ℕ = slice_index t.words i in
     let v : View = me.0.view in
     let own : IsSeated (erased t) id v = view_there t.views id me.0 at in
-    let kind : ℕ → Kind = λ seat. raises seat i number in
+    let kind : ℕ → StepKind = λ seat. raises seat i number in
     let after : Sight = record { view = raised number v; seen = now_seen o t h id me.0 at (kind id) } in
     let made : NumberStep o.slots (erased t) (kind id) (stepped (erased t) i (max n number) id [] (raised number v) keeps) = (v, own, near, own_slot, next, refl) in (
       after,

@@ -6,14 +6,14 @@ use Rattle.atomic_table.specs.Table.{stepped, keeps}
 use Rattle.kf_notify.specs.declared.view.View.{View}
 use Rattle.kf_notify.specs.Rule.{Table, IsSeated, number_at}
 use Rattle.kf_notify.specs.Steps.{loaded, raised, doubled}
-use Rattle.kf_notify.specs.TableSteps.{Kind, loads, raises, doubles, NumberStep, NumberRun}
+use Rattle.kf_notify.specs.TableSteps.{StepKind, loads, raises, doubles, NumberStep, NumberRun}
 use Rattle.kf_notify.specs.History.{OneEnd}
 
 -- a seat has one view
 one_view : (t : Table) (seat : ℕ) (v w : View) → IsSeated t seat v → IsSeated t seat w → v ≡ w
 one_view t seat v w a b = some-injective v w (sym a ∙ b)
 
-one_step : (slots : ℕ) (t u v : Table) (kind : Kind) → NumberStep slots t kind u → NumberStep slots t kind v → u ≡ v
+one_step : (slots : ℕ) (t u v : Table) (kind : StepKind) → NumberStep slots t kind u → NumberStep slots t kind v → u ≡ v
 one_step slots t u v (loads seat slot) p q =
     p.3 ∙ ap (λ (w : View). stepped t slot (number_at t slot) seat [] (loaded slot (number_at t slot) w) keeps) (one_view t seat p.0 q.0 p.1 q.1) ∙ sym q.3
 one_step slots t u v (raises seat slot number) p q =

@@ -7,9 +7,9 @@ use Rattle.atomic_table.specs.Table.{State, opening}
 use Rattle.kf_notify.specs.declared.sight.Opening.{Opening}
 use Rattle.kf_notify.specs.declared.sight.Seen.{Seen}
 use Rattle.kf_notify.specs.declared.sight.Sight.{Sight}
-use Rattle.kf_notify.specs.Rule.{Table, Shown, number_at, opened}
+use Rattle.kf_notify.specs.Rule.{Table, NumbersShown, number_at, opened}
 use Rattle.kf_notify.specs.Steps.{doubled}
-use Rattle.kf_notify.specs.TableSteps.{Kind, raises, NumberRun, opened_table}
+use Rattle.kf_notify.specs.TableSteps.{StepKind, raises, NumberRun, opened_table}
 
 -- the words, and what each seat knows
 abbrev pub SeenTable : Type 0
@@ -32,19 +32,19 @@ abbrev pub given : Sight → Sight
 given s = record { view = doubled s.view; seen = s.seen }
 
 -- a beginning of the run of these steps, from this opening
-abbrev pub IsBeginning : Opening → Seen → List Kind → Type 0
+abbrev pub IsBeginning : Opening → Seen → List StepKind → Type 0
 IsBeginning o seen log = (seen.opening ≡ o) × IsPrefix seen.steps log
 
 -- one run leads here from the opening, each seat has seen a beginning of it, and the words show the views of
 -- all seats
 pub record Kept (o : Opening) (t : SeenTable) : Type 0 where
-  pub log : List Kind
+  pub log : List StepKind
   pub run : NumberRun o.slots (opened_as o) log (erased t)
   pub seen : (place : ℕ) (s : Sight) → get_elem? t.views place ≡ some s → IsBeginning o s.seen log
-  pub shown : Shown o.slots o.start (erased t)
+  pub shown : NumbersShown o.slots o.start (erased t)
 
 -- in each table that meets the rule
-abbrev pub OfEachKept : ((o : Opening) (t : SeenTable) → List Kind → Type 0) → Type 0
+abbrev pub OfEachKept : ((o : Opening) (t : SeenTable) → List StepKind → Type 0) → Type 0
 OfEachKept Law = (o : Opening) (t : SeenTable) (kept : Kept o t) → Law o t kept.log
 
 -- the rule holds at each opening
@@ -54,15 +54,16 @@ OpensKept = (o : Opening) → Kept o (opening (replicate (max o.slots 1) o.start
 -- its words and views are at the end of a run from the opening
 abbrev pub EndsARun : Type 0
 EndsARun = OfEachKept (λ o t log. NumberRun o.slots (opened_as o) log (erased t)
-    × Shown o.slots o.start (erased t))
+    × NumbersShown o.slots o.start (erased t))
 
 -- what a seat has seen leads from the opening to a table that met the rule, and from there the run went on to
 -- the table as it is, in which no number has gone back since
 abbrev pub SeenLeadsHere : Type 0
 SeenLeadsHere = OfEachKept
     (λ o t log. (place : ℕ) (s : Sight) → get_elem? t.views place ≡ some s → (s.seen.opening ≡ o)
-    × (later : List Kind) × (mid : Table) × (s.seen.steps ++ later ≡ log) × Shown o.slots o.start mid
-    × NumberRun o.slots (opened_as o) s.seen.steps mid × NumberRun o.slots mid later (erased t)
+    × (later : List StepKind) × (mid : Table) × (s.seen.steps ++ later ≡ log)
+    × NumbersShown o.slots o.start mid × NumberRun o.slots (opened_as o) s.seen.steps mid
+    × NumberRun o.slots mid later (erased t)
     × ((slot : ℕ) → number_at mid slot ≤ number_at (erased t) slot))
 
 -- a number to which a slot's was raised, at any moment of the one run so far, is not above it as it is
@@ -83,5 +84,5 @@ OneRunIsSeen = OfEachKept
 
 -- a run of the same steps from the same table ends at the same table
 abbrev pub OneEnd : Type 0
-OneEnd = (slots : ℕ) (t u v : Table) (kinds : List Kind) → NumberRun slots t kinds u
+OneEnd = (slots : ℕ) (t u v : Table) (kinds : List StepKind) → NumberRun slots t kinds u
     → NumberRun slots t kinds v → u ≡ v

@@ -3,30 +3,30 @@ use Rattle.std.specs.Prelude.{◌≡◌, ℕ, zero, suc, ◌+◌, List, [], ◌�
 use Rattle.atomic_table.specs.Table.{Step}
 use Rattle.kf_notify.specs.declared.sight.Seen.{Seen}
 use Rattle.kf_notify.specs.declared.sight.Sight.{Sight}
-use Rattle.kf_notify.specs.Rule.{Table, Shown, IsSeated, number_at}
+use Rattle.kf_notify.specs.Rule.{Table, NumbersShown, IsSeated, number_at}
 use Rattle.kf_notify.specs.Steps.{Sighted, plain, Loads, Raises}
-use Rattle.kf_notify.specs.TableSteps.{Kind, loads, raises, NumberStep, NumberRun}
+use Rattle.kf_notify.specs.TableSteps.{StepKind, loads, raises, NumberStep, NumberRun}
 use Rattle.kf_notify.specs.History.{opened_as}
 
 -- the run that was seen before went on by the steps between, then by this one, and so far it is seen after
-abbrev pub SawNext : Seen → List Kind → Kind → Seen → Type 0
+abbrev pub SawNext : Seen → List StepKind → StepKind → Seen → Type 0
 SawNext before between kind after =
     after ≡ record { opening = before.opening; steps = (before.steps ++ between) ++ kind ∷ [] }
 
 -- the run that was seen, and then these steps, lead to this table
-abbrev pub LeadsTo : Seen → List Kind → Table → Type 0
+abbrev pub LeadsTo : Seen → List StepKind → Table → Type 0
 LeadsTo seen between t =
     NumberRun seen.opening.slots (opened_as seen.opening) (seen.steps ++ between) t
 
 -- the seat's step was the next of the one run, which had gone on from all that the seat had seen before to
 -- the table that it found. That met the rule, and had the seat's view before it
-pub record WasMade (kind : ℕ → Kind) (before after : Sight) : Type 0 where
-  pub between : List Kind
+pub record WasMade (kind : ℕ → StepKind) (before after : Sight) : Type 0 where
+  pub between : List StepKind
   pub found : Table
   pub left : Table
   pub seat : ℕ
   pub run : LeadsTo before.seen between found
-  pub shown : Shown before.seen.opening.slots before.seen.opening.start found
+  pub shown : NumbersShown before.seen.opening.slots before.seen.opening.start found
   pub step : NumberStep before.seen.opening.slots found (kind seat) left
   pub was : IsSeated found seat before.view
   pub is : IsSeated left seat after.view

@@ -106,7 +106,7 @@ pub record IsNewPost (numbers : Numbers) (slot : ℕ) (post : PostState) : Type 
   pub next : WasFirstLoad numbers slot post.found (seat_view post)
 
 -- one load found this number, which is not below any that the post had seen or made; the post made none
-pub record Found (old : PostState) (number : ℕ) (new : PostState) : Type 0 where
+pub record FoundNumber (old : PostState) (number : ℕ) (new : PostState) : Type 0 where
   pub found : new.found ≡ number
   pub known : new.known ≡ number
   pub none_made : new.made ≡ old.made
@@ -137,7 +137,7 @@ pub record Made (old : PostState) (number : ℕ) (new : PostState) : Type 0 wher
 -- the post took this event number, by one load, which was the next step of the one run
 pub record Took (old : PostState) (number : ℕ) (new : PostState) : Type 0 where
   pub same : IsSamePost old new
-  pub found : Found old number new
+  pub found : FoundNumber old number new
   pub next : WasLoad old.slot number (seat_view old) (seat_view new)
 
 -- the handle's next two steps of the one run were a load of this slot, and a raise of its number to this,

@@ -27,7 +27,7 @@ pub record KnowsNext (v : View) : Type 0 where
   pub next : v.known ≤ v.found + 1
 
 -- a slot's number is never below one that any seat has seen or made there, and none is below the first
-pub record Shown (slots start : ℕ) (t : Table) : Type 0 where
+pub record NumbersShown (slots start : ℕ) (t : Table) : Type 0 where
   -- for each slot a word
   pub wide : slots ≤ length t.words
   pub first : (seat : ℕ) (v : View) → IsSeated t seat v → v.start ≡ start

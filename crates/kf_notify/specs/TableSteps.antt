@@ -4,14 +4,14 @@ use Rattle.std.specs.Prelude.{List, [], ◌∷◌, ◌++◌, replicate, slice_se
 use Rattle.atomic_table.specs.Table.{stepped, keeps}
 use Rattle.atomic_table.specs.Table.{opening as table_opening}
 use Rattle.kf_notify.specs.declared.view.View.{View}
-pub use Rattle.kf_notify.specs.declared.sight.Kind.{Kind}
-pub use Rattle.kf_notify.specs.declared.sight.Kind.TheVariants.{Loads as loads, Raises as raises, Doubles as doubles}
+pub use Rattle.kf_notify.specs.declared.sight.StepKind.{StepKind}
+pub use Rattle.kf_notify.specs.declared.sight.StepKind.TheVariants.{Loads as loads, Raises as raises, Doubles as doubles}
 use Rattle.kf_notify.specs.Rule.{Table, IsSeated, number_at, opened}
 use Rattle.kf_notify.specs.Steps.{loaded, raised, doubled}
 
 -- One step of the table as a whole. A seat may load the number of any slot, and raises that of the slot of
 -- its last load to the next of what that load found.
-abbrev pub NumberStep : ℕ → Table → Kind → Table → Type 0
+abbrev pub NumberStep : ℕ → Table → StepKind → Table → Type 0
 NumberStep slots t (loads seat slot) t' = (v : View) × IsSeated t seat v × (slot < slots)
     × (t' ≡ stepped t slot (number_at t slot) seat [] (loaded slot (number_at t slot) v) keeps)
 NumberStep slots t (raises seat slot number) t' = (v : View) × IsSeated t seat v × (slot < slots)
@@ -21,7 +21,7 @@ NumberStep slots t (doubles seat) t' = (v : View) × IsSeated t seat v
     × (t' ≡ record { words = t.words; homes = t.homes; views = slice_set t.views seat v ++ doubled v ∷ [] })
 
 -- these steps, one after another
-abbrev pub NumberRun : ℕ → Table → List Kind → Table → Type 0
+abbrev pub NumberRun : ℕ → Table → List StepKind → Table → Type 0
 NumberRun slots t [] t' = t' ≡ t
 NumberRun slots t (kind ∷ kinds) t' =
     (between : Table) × NumberStep slots t kind between × NumberRun slots between kinds t'

@@ -1,7 +1,7 @@
 //! How long a wait with a limit has still to go.
 use std::time::{Clock, Duration, Instant};
 
-/// A wait with a limit, from the moment when it began.
+/// A wait with a limit, from the moment when it began. No clause says what a clock tells.
 #[derive(Clone, Copy, Drop)]
 pub struct Deadline {
     // None where the clock could not be read.

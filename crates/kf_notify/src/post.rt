@@ -1,6 +1,6 @@
 //! A post: it reads and raises the event number of one slot, and waits for it to change.
 ghost use Rattle.std.specs.Prelude.{◌≡◌, ◌≢◌, ◌-◌, ◌^◌, ◌<◌, ◌≤◌, IfOk, IfErr, MatchOption};
-ghost use Rattle.kf_notify.specs.PostStates.{post_of, seat_view, IsSamePost, Found, FoundAtLast, WaitedPast, Made, KnowsSlot};
+ghost use Rattle.kf_notify.specs.PostStates.{post_of, seat_view, IsSamePost, FoundNumber, FoundAtLast, WaitedPast, Made, KnowsSlot};
 ghost use Rattle.kf_notify.specs.Next.{WasLoad, WasNotify};
 
 use crate::deadline::Deadline;
@@ -50,7 +50,7 @@ impl Post {
     /// The slot's event number, as one load finds it: no less than all that this post has seen or made.
     pub fn now(&mut self) -> u64
         ensures same { IsSamePost self.old self.new }
-        ensures found { Found self.old result self.new }
+        ensures found { FoundNumber self.old result self.new }
         ensures next { WasLoad self.old.slot result (seat_view self.old) (seat_view self.new) }
         ensures start { self.old.numbers.start ≤ result }
     {
@@ -65,7 +65,7 @@ impl Post {
         ensures made { IfOk result (λ number. Made self.old number self.new) }
         ensures raised { IfOk result
             (λ number. WasNotify self.old.slot number (seat_view self.old) (seat_view self.new)) }
-        ensures full { IfErr result (λ _. Found self.old (2 ^ 64 - 1) self.new) }
+        ensures full { IfErr result (λ _. FoundNumber self.old (2 ^ 64 - 1) self.new) }
         ensures kept { IfErr result
             (λ _. WasLoad self.old.slot (2 ^ 64 - 1) (seat_view self.old) (seat_view self.new)) }
         ensures start { self.old.numbers.start ≤ self.new.found }
@@ -82,7 +82,7 @@ impl Post {
         ensures made { IfOk result (λ number. Made self.old number self.new) }
         ensures raised { IfOk result
             (λ number. WasNotify self.old.slot number (seat_view self.old) (seat_view self.new)) }
-        ensures full { IfErr result (λ _. Found self.old (2 ^ 64 - 1) self.new) }
+        ensures full { IfErr result (λ _. FoundNumber self.old (2 ^ 64 - 1) self.new) }
         ensures kept { IfErr result
             (λ _. WasLoad self.old.slot (2 ^ 64 - 1) (seat_view self.old) (seat_view self.new)) }
         ensures start { self.old.numbers.start ≤ self.new.found }
@@ -141,7 +141,8 @@ impl Post {
         unreachable!()
     }
 
-    /// Sleeps while the slot's number is `seen`, until a notify of the slot, and may return for no reason.
+    /// Sleeps while the slot's number is `seen`, until a notify of the slot, and may return for no reason:
+    /// no clause tells why it did.
     ///
     /// Context: sleeps; takes no lock.
     pub fn rest<R: Wait>(&self, rt: &R, seen: u64) {

@@ -1,5 +1,6 @@
 //! The one run of all steps at a table of numbers, and what each seat has seen of it. The rule of the table
-//! speaks of these types, so they are types of the code, but no value of a `Sight` or a `Kind` is ever made.
+//! speaks of these types, so they are types of the code, but no value of a `Sight` or a
+//! `StepKind` is ever made.
 use crate::view::View;
 use std::collections::LinkedList;
 
@@ -12,7 +13,7 @@ pub struct Opening {
 
 /// What a seat, by its number, does: it loads the number of a slot, raises that of its slot to this one, or
 /// gets a new seat beside it.
-pub enum Kind {
+pub enum StepKind {
     Loads { seat: u64, slot: u32 },
     Raises { seat: u64, slot: u32, number: u64 },
     Doubles { seat: u64 },
@@ -21,7 +22,7 @@ pub enum Kind {
 /// A beginning of the one run: the steps of all seats from the opening on, in their order.
 pub struct Seen {
     pub opening: Opening,
-    pub steps: LinkedList<Kind>,
+    pub steps: LinkedList<StepKind>,
 }
 
 /// What a seat knows: its view, and the beginning of the run that it has seen.

@@ -10,7 +10,7 @@ use Rattle.kf_plain.specs.declared.nodes.visits.BoardFile.{BoardFile}
 use Rattle.kf_plain.specs.declared.nodes.hiding.BoardToken.{BoardToken}
 use Rattle.kf_plain.specs.Nodes.{Nodes, Waits, hold_count, with_spent}
 use Rattle.kf_plain.specs.Plain.{Plain, OpenPlainFile, file_at, holder_count, with_file}
-use Rattle.kf_plain.specs.PlainInside.{plain_of, plain_file, plain_files, plain_tokens, IsWhole, IsTaggedNode, IsOpened, IsShort}
+use Rattle.kf_plain.specs.PlainInside.{plain_of, plain_file, plain_files, plain_tokens, IsWholeBoard, IsTaggedNode, IsOpened, IsShort}
 use Rattle.kf_core.specs.Phases.{is_waiting}
 use Rattle.kf_core.specs.Refusals.{unless}
 use Rattle.kf_core.specs.declared.caller.Phase.TheVariants.{Spent}
@@ -28,7 +28,7 @@ use Rattle.kf_core.proofs.Lists.{length_set}
 use Rattle.kf_plain.proofs.Wholes.{held_part, whole_held}
 use Rattle.kf_plain.proofs.BoardShows.{spent_whole, spent_shown, leads_shown, why_shown}
 
-module _ (b : Plain) (n n' : Nodes) (events events' : List ℕ) (texts : List (List ℕ)) (files : List (Option BoardFile)) (tokens : List (Option BoardToken)) (is : plain_of n events texts files tokens ≡ b) (whole : IsWhole n events texts files tokens) where
+module _ (b : Plain) (n n' : Nodes) (events events' : List ℕ) (texts : List (List ℕ)) (files : List (Option BoardFile)) (tokens : List (Option BoardToken)) (is : plain_of n events texts files tokens ≡ b) (whole : IsWholeBoard n events texts files tokens) where
   -- an open, of a letter that had no file
   module _ (file : ℕ) (path : List ℕ) (want : Want) (index : Option BoardFile) (at : slice_get files file ≡ Some index) (empty : is_some index ≡ false) (same_posts : events' ≡ events) where
     no_file : slice_get files file ≡ Some None
@@ -51,8 +51,8 @@ module _ (b : Plain) (n n' : Nodes) (events events' : List ℕ) (texts : List (L
         go (inl x) = inl (leads_to (Err refusal) x)
         go (inr x) = inr (x.0, (x.1.0, ap (λ (o : Option OpenPlainFile). and_then (ok_unless (unless (not (is_some o)) Busy) file) (λ _. seen b.log.tree b.log.root path)) free_letter ∙ x.1.1))
 
-    pub not_opened_whole : (keys : List Key) → n' ≡ with_spent n keys → IsWhole n' events' texts files tokens
-    not_opened_whole keys e = subst (λ ev. IsWhole n' ev texts files tokens) (sym same_posts) (spent_whole b n n' events events' texts files tokens is whole keys e)
+    pub not_opened_whole : (keys : List Key) → n' ≡ with_spent n keys → IsWholeBoard n' events' texts files tokens
+    not_opened_whole keys e = subst (λ ev. IsWholeBoard n' ev texts files tokens) (sym same_posts) (spent_whole b n n' events events' texts files tokens is whole keys e)
 
     module _ (f : BoardFile) (new : IsOpened n path want f) (held : (phase : Phase) × IsTrue (is_waiting phase) × (n' ≡ record { log = n.log; last = n.last; limit = n.limit; callers = n.callers ++ record { key = f.key; phase = phase } ∷ [] })) where
       its_tag : f.file.tag ≡ f.key.slot
@@ -61,8 +61,8 @@ module _ (b : Plain) (n n' : Nodes) (events events' : List ℕ) (texts : List (L
           let tagged = whole.tagged new.node.key.slot (Some new.node) found.0 in
           ap (λ (o : Held ℕ). o.tag) new.new ∙ ap tag_of new.is_file.2 ∙ subst (λ node. IsTaggedNode new.node.key.slot node) new.is_file.2 tagged ∙ ap (λ (k : Key). k.slot) found.1
 
-      pub opened_whole : IsWhole n' events' texts (slice_set files file (Some f)) tokens
-      opened_whole = subst (λ ev. IsWhole n' ev texts (slice_set files file (Some f)) tokens) (sym same_posts)
+      pub opened_whole : IsWholeBoard n' events' texts (slice_set files file (Some f)) tokens
+      opened_whole = subst (λ ev. IsWholeBoard n' ev texts (slice_set files file (Some f)) tokens) (sym same_posts)
           (whole_held n n' events events texts texts files tokens (slice_set files file (Some f)) whole (ap (λ (m : Nodes). m.log) held.2) refl refl (length_set files file (Some f))
           (subst (λ (m : Nodes). AreHeld m.callers (slice_set files file (Some f)) tokens) (sym held.2)
           (held_opened n.callers files tokens (held_part n events texts files tokens whole) file f held.0 no_file held.1 (ap (λ (o : Held ℕ). o.hold) new.new) its_tag (subst (λ (o : Held ℕ). IsShort o.state.text) (sym new.new) tt))))
@@ -85,7 +85,7 @@ module _ (b : Plain) (n n' : Nodes) (events events' : List ℕ) (texts : List (L
     pub its_waits : Waits n.callers f.file.hold f.key
     its_waits = (whole.held file f at).waits
 
-    pub closed_whole : n' ≡ record { log = n.log; last = n.last; limit = n.limit; callers = slice_set n.callers f.file.hold (record { key = f.key; phase = Spent }) } → IsWhole n' events texts (slice_set files file None) tokens
+    pub closed_whole : n' ≡ record { log = n.log; last = n.last; limit = n.limit; callers = slice_set n.callers f.file.hold (record { key = f.key; phase = Spent }) } → IsWholeBoard n' events texts (slice_set files file None) tokens
     closed_whole e = whole_held n n' events events texts texts files tokens (slice_set files file None) whole (ap (λ (m : Nodes). m.log) e) refl refl (length_set files file None)
         (subst (λ (m : Nodes). AreHeld m.callers (slice_set files file None) tokens) (sym e) (held_closed n.callers files tokens (held_part n events texts files tokens whole) file f at))
 

@@ -9,7 +9,7 @@ use Rattle.kf_plain.specs.declared.nodes.visits.BoardFile.{BoardFile}
 use Rattle.kf_plain.specs.declared.nodes.hiding.BoardToken.{BoardToken}
 use Rattle.kf_plain.specs.Nodes.{Nodes, hold_count, logged, with_spent}
 use Rattle.kf_plain.specs.Plain.{Plain, holder_count}
-use Rattle.kf_plain.specs.PlainInside.{plain_of, IsWhole}
+use Rattle.kf_plain.specs.PlainInside.{plain_of, IsWholeBoard}
 use Rattle.kf_core.specs.PostOrder.{IsPostOrder}
 use Rattle.kf_plain.specs.PlainRemove.{remove_held, removed_key, without}
 use Rattle.kf_plain.specs.Settled.{IsWhyFrom, IsRefusedFrom}
@@ -18,16 +18,16 @@ use Rattle.kf_plain.proofs.BoardTags.{no_tags}
 use Rattle.kf_plain.proofs.Wholes.{whole_after, held_part, whole_held}
 use Rattle.kf_plain.proofs.BoardShows.{log_shown, spent_whole, spent_shown, leads_shown, why_shown}
 
-module _ (b : Plain) (n n' : Nodes) (events events' : List ℕ) (texts : List (List ℕ)) (files : List (Option BoardFile)) (tokens : List (Option BoardToken)) (is : plain_of n events texts files tokens ≡ b) (whole : IsWhole n events texts files tokens) where
+module _ (b : Plain) (n n' : Nodes) (events events' : List ℕ) (texts : List (List ℕ)) (files : List (Option BoardFile)) (tokens : List (Option BoardToken)) (is : plain_of n events texts files tokens ≡ b) (whole : IsWholeBoard n events texts files tokens) where
   abbrev removed_log : Key → List Key → Nodes
   removed_log key keys = record { log = logged n.log (Doom key ∷ map Unlink keys); last = n.last; limit = n.limit; callers = n.callers }
 
   pub whole_removed : (path : List ℕ) (result : Result (Unit {0}) Refusal) →
       IfOk result (λ _. (key : Key) × (removed_key n.log (hold_count n.callers) n.limit path ≡ Ok key) × ((keys : List Key) × IsPostOrder n.log.tree key keys × (n' ≡ with_spent (record { log = logged n.log (Doom key ∷ map Unlink keys); last = n.last; limit = n.limit; callers = n.callers }) keys))) →
-      IfErr result (λ refusal. IsWhyFrom (remove_held n.log path) (removed_key n.log (hold_count n.callers) n.limit path) refusal × ((spent : List Key) × (n' ≡ with_spent n spent))) → IsWhole n' events texts files tokens
+      IfErr result (λ refusal. IsWhyFrom (remove_held n.log path) (removed_key n.log (hold_count n.callers) n.limit path) refusal × ((spent : List Key) × (n' ≡ with_spent n spent))) → IsWholeBoard n' events texts files tokens
   whole_removed path (Ok x) done refused =
       let mid = whole_after n events texts files tokens whole (removed_log done.0 done.2.0) (Doom done.0 ∷ map Unlink done.2.0) (tt, no_tags done.2.0) refl refl in
-      subst (λ m. IsWhole m events texts files tokens) (sym done.2.2) (whole_held (removed_log done.0 done.2.0) (with_spent (removed_log done.0 done.2.0) done.2.0) events events texts texts files tokens files mid refl refl refl refl (held_spent n.callers files tokens (held_part n events texts files tokens whole) done.2.0))
+      subst (λ m. IsWholeBoard m events texts files tokens) (sym done.2.2) (whole_held (removed_log done.0 done.2.0) (with_spent (removed_log done.0 done.2.0) done.2.0) events events texts texts files tokens files mid refl refl refl refl (held_spent n.callers files tokens (held_part n events texts files tokens whole) done.2.0))
   whole_removed path (Err refusal) done refused = spent_whole b n n' events events' texts files tokens is whole refused.1.0 refused.1.1
 
   pub shown_removed : (path : List ℕ) (result : Result (Unit {0}) Refusal) →

@@ -10,13 +10,13 @@ use Rattle.kf_plain.specs.declared.nodes.visits.BoardFile.{BoardFile}
 use Rattle.kf_plain.specs.declared.nodes.hiding.BoardToken.{BoardToken}
 use Rattle.kf_plain.specs.Nodes.{Nodes, IsNext, hold_count, with_spent}
 use Rattle.kf_plain.specs.Plain.{Plain, IsNextKey, holder_count}
-use Rattle.kf_plain.specs.PlainInside.{plain_of, IsWhole, IsTaggedNode}
+use Rattle.kf_plain.specs.PlainInside.{plain_of, IsWholeBoard, IsTaggedNode}
 use Rattle.kf_plain.specs.PlainTree.{Spot, with_born, with_node}
 use Rattle.kf_plain.specs.Settled.{Leads, IsWhyFrom}
 use Rattle.kf_plain.proofs.Holding.{held_spent}
 use Rattle.kf_plain.proofs.Wholes.{whole_after, counts_same, held_part, whole_held}
 
-module _ (b : Plain) (n : Nodes) (events : List ℕ) (texts : List (List ℕ)) (files : List (Option BoardFile)) (tokens : List (Option BoardToken)) (is : plain_of n events texts files tokens ≡ b) (whole : IsWhole n events texts files tokens) where
+module _ (b : Plain) (n : Nodes) (events : List ℕ) (texts : List (List ℕ)) (files : List (Option BoardFile)) (tokens : List (Option BoardToken)) (is : plain_of n events texts files tokens ≡ b) (whole : IsWholeBoard n events texts files tokens) where
   pub next_shown : (next : Option Key) → IsNext n.log.tree n.last (hold_count n.callers) next → IsNextKey b next
   next_shown next h = subst (λ (x : Plain). IsNextKey x next) is (subst (λ count. IsNext n.log.tree n.last count next) (counts_same n events texts files tokens whole) h)
 
@@ -27,18 +27,18 @@ module _ (b : Plain) (n : Nodes) (events : List ℕ) (texts : List (List ℕ)) (
   pub born_shown : (n' : Nodes) (key : Key) (spot : Spot) (node : Node) (is_live : Bool) → n' ≡ with_born n key spot node is_live → plain_of n' events texts files tokens ≡ with_node b key spot node is_live
   born_shown n' key spot node is_live e = ap (λ m. plain_of m events texts files tokens) e ∙ ap (λ (x : Plain). with_node x key spot node is_live) is
 
-  pub born_whole : (n' : Nodes) (key : Key) (spot : Spot) (node : Node) (is_live : Bool) → IsTaggedNode key.slot node → n' ≡ with_born n key spot node is_live → IsWhole n' events texts files tokens
+  pub born_whole : (n' : Nodes) (key : Key) (spot : Spot) (node : Node) (is_live : Bool) → IsTaggedNode key.slot node → n' ≡ with_born n key spot node is_live → IsWholeBoard n' events texts files tokens
   born_whole n' key spot node is_live x e = whole_after n events texts files tokens whole n' (Create key spot.dir spot.name node is_live ∷ []) (x, tt) (ap (λ (m : Nodes). m.log) e) (ap (λ (m : Nodes). m.callers) e)
 
   pub same_shown : (n' : Nodes) → n' ≡ n → plain_of n' events texts files tokens ≡ b
   same_shown n' e = ap (λ m. plain_of m events texts files tokens) e ∙ is
 
-  pub same_whole : (n' : Nodes) → n' ≡ n → IsWhole n' events texts files tokens
-  same_whole n' e = subst (λ m. IsWhole m events texts files tokens) (sym e) whole
+  pub same_whole : (n' : Nodes) → n' ≡ n → IsWholeBoard n' events texts files tokens
+  same_whole n' e = subst (λ m. IsWholeBoard m events texts files tokens) (sym e) whole
 
-module _ (b : Plain) (n n' : Nodes) (events events' : List ℕ) (texts : List (List ℕ)) (files : List (Option BoardFile)) (tokens : List (Option BoardToken)) (is : plain_of n events texts files tokens ≡ b) (whole : IsWhole n events texts files tokens) where
-  pub spent_whole : (keys : List Key) → n' ≡ with_spent n keys → IsWhole n' events texts files tokens
-  spent_whole keys e = subst (λ m. IsWhole m events texts files tokens) (sym e) (whole_held n (with_spent n keys) events events texts texts files tokens files whole refl refl refl refl (held_spent n.callers files tokens (held_part n events texts files tokens whole) keys))
+module _ (b : Plain) (n n' : Nodes) (events events' : List ℕ) (texts : List (List ℕ)) (files : List (Option BoardFile)) (tokens : List (Option BoardToken)) (is : plain_of n events texts files tokens ≡ b) (whole : IsWholeBoard n events texts files tokens) where
+  pub spent_whole : (keys : List Key) → n' ≡ with_spent n keys → IsWholeBoard n' events texts files tokens
+  spent_whole keys e = subst (λ m. IsWholeBoard m events texts files tokens) (sym e) (whole_held n (with_spent n keys) events events texts texts files tokens files whole refl refl refl refl (held_spent n.callers files tokens (held_part n events texts files tokens whole) keys))
 
   pub spent_shown : (keys : List Key) → n' ≡ with_spent n keys → plain_of n' events texts files tokens ≡ b
   spent_shown keys e = ap (λ m. plain_of m events texts files tokens) e ∙ is

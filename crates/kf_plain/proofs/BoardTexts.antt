@@ -10,14 +10,14 @@ use Rattle.kf_plain.specs.declared.nodes.visits.BoardFile.{BoardFile}
 use Rattle.kf_plain.specs.declared.nodes.hiding.BoardToken.{BoardToken}
 use Rattle.kf_plain.specs.Nodes.{Nodes, IsNext, hold_count}
 use Rattle.kf_plain.specs.Plain.{Plain, IsNextKey, with_text}
-use Rattle.kf_plain.specs.PlainInside.{plain_of, IsWhole, IsTaggedNode}
+use Rattle.kf_plain.specs.PlainInside.{plain_of, IsWholeBoard, IsTaggedNode}
 use Rattle.kf_plain.specs.PlainTree.{Spot, file_node, new_spot, with_born, with_node}
-use Rattle.kf_plain.specs.Settled.{IsWhy, IsRefused}
+use Rattle.kf_plain.specs.Settled.{IsWhy, IsRefusedBy}
 use Rattle.kf_plain.proofs.Ties.{free_tells}
 use Rattle.kf_plain.proofs.Wholes.{whole_text}
 use Rattle.kf_plain.proofs.BoardShows.{next_shown, log_shown, born_shown, born_whole, same_shown}
 
-module _ (b : Plain) (n n' : Nodes) (events : List ℕ) (texts texts' : List (List ℕ)) (files : List (Option BoardFile)) (tokens : List (Option BoardToken)) (is : plain_of n events texts files tokens ≡ b) (whole : IsWhole n events texts files tokens)
+module _ (b : Plain) (n n' : Nodes) (events : List ℕ) (texts texts' : List (List ℕ)) (files : List (Option BoardFile)) (tokens : List (Option BoardToken)) (is : plain_of n events texts files tokens ≡ b) (whole : IsWholeBoard n events texts files tokens)
     (path text copy : List ℕ) (mode : ℕ) (node : Node) (next : Option Key) (key : Key) (is_file : node ≡ file_node mode next) (found : IsNext n.log.tree n.last (hold_count n.callers) next) (given : next ≡ Some key)
     (made : (s : Spot) × (new_spot n.log path node next ≡ Ok s) × (n' ≡ with_born n key s node true)) (same : copy ≡ text) where
   its_node : node ≡ file_node mode (Some key)
@@ -29,8 +29,8 @@ module _ (b : Plain) (n n' : Nodes) (events : List ℕ) (texts texts' : List (Li
       let wide = whole.a_text_each in omega (arith, inside, wide)
 
   module _ (put : texts' ≡ slice_set texts key.slot copy) where
-    pub file_whole : IsWhole n' events texts' files tokens
-    file_whole = subst (λ ts. IsWhole n' events ts files tokens) (sym put)
+    pub file_whole : IsWholeBoard n' events texts' files tokens
+    file_whole = subst (λ ts. IsWholeBoard n' events ts files tokens) (sym put)
         (whole_text n' events texts files tokens (born_whole b n events texts files tokens is whole n' key made.0 node true (subst (λ x. IsTaggedNode key.slot x) (sym its_node) refl) made.2) key.slot copy)
 
     pub file_shown : IsNextKey b (Some key) × ((s : Spot) × (new_spot b.log path (file_node mode (Some key)) (Some key) ≡ Ok s) × (plain_of n' events texts' files tokens ≡ with_text (with_node b key s (file_node mode (Some key)) true) key.slot text))
@@ -45,9 +45,9 @@ module _ (b : Plain) (n n' : Nodes) (events : List ℕ) (texts texts' : List (Li
       ),
     )
 
-pub file_refused : (b : Plain) (n n' : Nodes) (events : List ℕ) (texts : List (List ℕ)) (files : List (Option BoardFile)) (tokens : List (Option BoardToken)) (is : plain_of n events texts files tokens ≡ b) (whole : IsWhole n events texts files tokens)
+pub file_refused : (b : Plain) (n n' : Nodes) (events : List ℕ) (texts : List (List ℕ)) (files : List (Option BoardFile)) (tokens : List (Option BoardToken)) (is : plain_of n events texts files tokens ≡ b) (whole : IsWholeBoard n events texts files tokens)
     (path : List ℕ) (mode : ℕ) (node : Node) (next : Option Key) (refusal : Refusal) → node ≡ file_node mode next → IsNext n.log.tree n.last (hold_count n.callers) next → IsWhy (new_spot n.log path node next) refusal × (n' ≡ n) →
-    (o : Option Key) × IsNextKey b o × IsRefused (new_spot b.log path (file_node mode o) o) b refusal (plain_of n' events texts files tokens)
+    (o : Option Key) × IsNextKey b o × IsRefusedBy (new_spot b.log path (file_node mode o) o) b refusal (plain_of n' events texts files tokens)
 file_refused b n n' events texts files tokens is whole path mode node next refusal is_file found why = (
   next,
   next_shown b n events texts files tokens is whole next found,

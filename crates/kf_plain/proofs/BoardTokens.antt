@@ -17,7 +17,7 @@ use Rattle.kf_plain.specs.declared.nodes.visits.BoardFile.{BoardFile}
 use Rattle.kf_plain.specs.declared.nodes.hiding.BoardToken.{BoardToken}
 use Rattle.kf_plain.specs.Nodes.{Nodes, NoneHides, hidden_on, hold_count, logged, spent_on}
 use Rattle.kf_plain.specs.Plain.{Plain, holder_count, with_commands, with_token, token_at}
-use Rattle.kf_plain.specs.PlainInside.{plain_of, plain_files, plain_token, IsWhole}
+use Rattle.kf_plain.specs.PlainInside.{plain_of, plain_files, plain_token, IsWholeBoard}
 use Rattle.kf_core.specs.Refusals.{unless, first_cause}
 use Rattle.kf_core.specs.declared.refusal.Refusal.TheVariants.{Invalid, NoEntry}
 use Rattle.kf_tree.specs.Paths.{and_then, walked, seen}
@@ -47,7 +47,7 @@ stat_linked log seen key s same told = subst (λ (l : TreeLog). is_linked l.tree
     go None e = absurd (cc)
     go (Some r) e = refl
 
-module _ (b : Plain) (n n' : Nodes) (events : List ℕ) (texts : List (List ℕ)) (files : List (Option BoardFile)) (tokens : List (Option BoardToken)) (is : plain_of n events texts files tokens ≡ b) (whole : IsWhole n events texts files tokens) where
+module _ (b : Plain) (n n' : Nodes) (events : List ℕ) (texts : List (List ℕ)) (files : List (Option BoardFile)) (tokens : List (Option BoardToken)) (is : plain_of n events texts files tokens ≡ b) (whole : IsWholeBoard n events texts files tokens) where
   tokens_set : (slot : ℕ) (token : Option BoardToken) (c : Command) (callers : List Caller) → n' ≡ record { log = logged n.log (c ∷ []); last = n.last; limit = n.limit; callers = callers } →
       plain_of n' events texts files (slice_set tokens slot token) ≡ with_token (with_commands b (c ∷ [])) slot (option_map plain_token token)
   tokens_set slot token c callers e =
@@ -61,7 +61,7 @@ module _ (b : Plain) (n n' : Nodes) (events : List ℕ) (texts : List (List ℕ)
 
   -- a token more
   module _ (t : BoardToken) (hidden : n' ≡ record { log = logged n.log (Hide t.key ∷ []); last = n.last; limit = n.limit; callers = n.callers ++ hidden_on t.key ∷ [] }) where
-    pub whole_hidden : is_linked n.log.tree t.key ≡ true → t.hold ≡ length n.callers → NoneHides n.callers t.key.slot → IsWhole n' events texts files (slice_set tokens t.key.slot (Some t))
+    pub whole_hidden : is_linked n.log.tree t.key ≡ true → t.hold ≡ length n.callers → NoneHides n.callers t.key.slot → IsWholeBoard n' events texts files (slice_set tokens t.key.slot (Some t))
     whole_hidden linked hold first = whole_tokens n n' events texts files tokens (slice_set tokens t.key.slot (Some t)) whole
         (ap (λ (m : Nodes). length m.log.tree) hidden ∙ length_after n.log.tree (Hide t.key))
         (subst (λ (m : Nodes). AllTagged m.log.tree) (sym hidden) (tagged_after n.log.tree (Hide t.key) tt whole.tagged))
@@ -95,7 +95,7 @@ module _ (b : Plain) (n n' : Nodes) (events : List ℕ) (texts : List (List ℕ)
     -- a token less
     module _ (t : BoardToken) (at : slice_get tokens key.slot ≡ Some (Some t)) (own : t.key ≡ key)
         (shown : n' ≡ record { log = logged n.log (Show t.key ∷ []); last = n.last; limit = n.limit; callers = slice_set n.callers t.hold (spent_on t.key) }) where
-      pub whole_shown : IsWhole n' events texts files (slice_set tokens key.slot None)
+      pub whole_shown : IsWholeBoard n' events texts files (slice_set tokens key.slot None)
       whole_shown = whole_tokens n n' events texts files tokens (slice_set tokens key.slot None) whole
           (ap (λ (m : Nodes). length m.log.tree) shown ∙ length_after n.log.tree (Show t.key))
           (subst (λ (m : Nodes). AllTagged m.log.tree) (sym shown) (tagged_after n.log.tree (Show t.key) tt whole.tagged))

@@ -30,7 +30,7 @@ use Rattle.kf_table.specs.Live.{lives_in, live_in}
 use Rattle.kf_files.specs.declared.contents.Want.{Want}
 use Rattle.kf_files.specs.declared.ops.Fault.{Fault}
 use Rattle.kf_files.specs.declared.ops.FileError.{FileError}
-use Rattle.kf_files.specs.Files.{FileState, Shown, Reads, Writes, Opens}
+use Rattle.kf_files.specs.Files.{FileState, ShowResult, Reads, Writes, Opens}
 use Rattle.kf_plain.specs.Nodes.{Nodes, nodes_of, last_of, AreTied, Waits, StillWaits, hold_count, spent_on, with_spent}
 use Rattle.kf_plain.specs.Removals.{PinsRefused, still_on, with_callers}
 use Rattle.kf_plain.specs.Visits.{VisitsLive, file_cause}
@@ -123,7 +123,7 @@ live_seen n log w key is tied told = live_told log w.world key tied told ∙ ap 
 
 -- ---- the words of files, by other words for a visit
 
-module _ (V V' : Visit Shown → Type 0) (to : (v : Visit Shown) → V v → V' v) (Answers : Result (List ℕ) FileError → Type 0) (state : FileState) (offset count : ℕ) (state' : FileState) where
+module _ (V V' : Visit ShowResult → Type 0) (to : (v : Visit ShowResult) → V v → V' v) (Answers : Result (List ℕ) FileError → Type 0) (state : FileState) (offset count : ℕ) (state' : FileState) where
   pub reads_by : Reads V Answers state offset count state' → Reads V' Answers state offset count state'
   reads_by r = record {
     denied = λ e. let d = r.denied e in (to unvisited d.0, d.1, d.2);
@@ -131,18 +131,18 @@ module _ (V V' : Visit Shown → Type 0) (to : (v : Visit Shown) → V v → V' 
     shown = λ e o. let d = r.shown e o in (d.0, to (tried d.0) d.1, d.2, d.3);
   }
 
-module _ (V : Visit Shown → Type 0) (Answers : Result (List ℕ) FileError → Type 0) (state : FileState) where
+module _ (V : Visit ShowResult → Type 0) (Answers : Result (List ℕ) FileError → Type 0) (state : FileState) where
   -- whatever is read, one visit came
-  pub reads_visit : (offset count : ℕ) (state' : FileState) → Reads V Answers state offset count state' → (v : Visit Shown) × V v
-  reads_visit offset count state' r = elim state.want.read as (λ b. state.want.read ≡ b → (v : Visit Shown) × V v) [
+  pub reads_visit : (offset count : ℕ) (state' : FileState) → Reads V Answers state offset count state' → (v : Visit ShowResult) × V v
+  reads_visit offset count state' r = elim state.want.read as (λ b. state.want.read ≡ b → (v : Visit ShowResult) × V v) [
     | false ↦ λ e. (unvisited, (r.denied e).0)
-    | true ↦ λ e. elim state.text as (λ t. state.text ≡ t → (v : Visit Shown) × V v) [
+    | true ↦ λ e. elim state.text as (λ t. state.text ≡ t → (v : Visit ShowResult) × V v) [
       | None ↦ λ t. (let s = r.shown e (inr t) in (tried s.0, s.1))
       | Some text ↦ λ t. at_offset e text t offset r
     ] refl
   ] refl
     where
-      at_offset : state.want.read ≡ true → (text : List ℕ) → state.text ≡ Some text → (o : ℕ) → Reads V Answers state o count state' → (v : Visit Shown) × V v
+      at_offset : state.want.read ≡ true → (text : List ℕ) → state.text ≡ Some text → (o : ℕ) → Reads V Answers state o count state' → (v : Visit ShowResult) × V v
       at_offset e text t zero r = let s = r.shown e (inl refl) in (tried s.0, s.1)
       at_offset e text t (suc o) r = (unvisited, (r.buffered text e (omega arith) t).0)
 

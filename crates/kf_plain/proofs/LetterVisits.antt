@@ -9,9 +9,9 @@ use Rattle.kf_plain.specs.declared.nodes.visits.BoardFile.{BoardFile}
 use Rattle.kf_plain.specs.declared.nodes.hiding.BoardToken.{BoardToken}
 use Rattle.kf_plain.specs.Nodes.{Nodes, StillWaits}
 use Rattle.kf_plain.specs.Plain.{Plain, OpenPlainFile, with_file}
-use Rattle.kf_plain.specs.PlainInside.{plain_of, plain_file, plain_files, plain_tokens, IsWhole, IsShort}
+use Rattle.kf_plain.specs.PlainInside.{plain_of, plain_file, plain_files, plain_tokens, IsWholeBoard, IsShort}
 use Rattle.kf_files.specs.declared.ops.Fault.{Fault}
-use Rattle.kf_files.specs.Files.{FileState, Shown, Stored}
+use Rattle.kf_files.specs.Files.{FileState, ShowResult, Stored}
 use Rattle.kf_core.specs.Calls.{Visit, unvisited, tried}
 use Rattle.kf_plain.specs.Visits.{VisitsLive}
 use Rattle.kf_plain.specs.TextTable.{ShowsOf, StoresIn}
@@ -39,10 +39,10 @@ visits_to live live' idle idle' does does' unvisited e i d h = i h
 visits_to live live' idle idle' does does' (tried None) e i d h = (subst (λ x. IsFalse x) e h.0, i h.1)
 visits_to live live' idle idle' does does' (tried (Some x)) e i d h = (subst (λ x. IsTrue x) e h.0, d x h.1)
 
-module _ (b : Plain) (n n' : Nodes) (events events' : List ℕ) (texts texts' : List (List ℕ)) (files : List (Option BoardFile)) (tokens : List (Option BoardToken)) (is : plain_of n events texts files tokens ≡ b) (whole : IsWhole n events texts files tokens)
+module _ (b : Plain) (n n' : Nodes) (events events' : List ℕ) (texts texts' : List (List ℕ)) (files : List (Option BoardFile)) (tokens : List (Option BoardToken)) (is : plain_of n events texts files tokens ≡ b) (whole : IsWholeBoard n events texts files tokens)
     (file : ℕ) (f f' : BoardFile) (at : slice_get files file ≡ Some (Some f)) (same : n' ≡ record { log = n.log; last = n.last; limit = n.limit; callers = n'.callers }) (waiting : StillWaits n.callers f.file.hold f.key n'.callers)
     (same_posts : events' ≡ events) (as_many : length texts' ≡ length texts) (keeps : f' ≡ record { key = f.key; file = record { hold = f.file.hold; tag = f.file.tag; state = f'.file.state } }) where
-  pub visited_whole : IsShort f'.file.state.text → IsWhole n' events' texts' (slice_set files file (Some f')) tokens
+  pub visited_whole : IsShort f'.file.state.text → IsWholeBoard n' events' texts' (slice_set files file (Some f')) tokens
   visited_whole short = whole_held n n' events events' texts texts' files tokens (slice_set files file (Some f')) whole (ap (λ (m : Nodes). m.log) same) (ap length same_posts) as_many (length_set files file (Some f'))
       (held_visited n.callers files tokens (held_part n events texts files tokens whole) file f f' n'.callers at waiting (ap (λ (g : BoardFile). g.key) keeps) (ap (λ (g : BoardFile). g.file.hold) keeps) (ap (λ (g : BoardFile). g.file.tag) keeps) short)
 
@@ -70,7 +70,7 @@ module _ (b : Plain) (n n' : Nodes) (events events' : List ℕ) (texts texts' : 
   pub its_number : (number : ℕ) → number ≡ slice_index events f.key.slot → number ≡ slice_index b.events f.key.slot
   its_number number e = e ∙ ap (λ (y : Plain). slice_index y.events f.key.slot) is
 
-  pub its_show : (shown : Shown) → (shown.number ≡ slice_index events f.key.slot) × ShowsOf texts f.file.tag shown.filled texts → ShowsText b f.key.slot shown
+  pub its_show : (shown : ShowResult) → (shown.number ≡ slice_index events f.key.slot) × ShowsOf texts f.file.tag shown.filled texts → ShowsText b f.key.slot shown
   its_show shown h = (its_number shown.number h.0, h.1.0 ∙ ap (λ slot. let r : Result (List ℕ) Fault = Ok (take 4096 (slice_index_or texts slot [])) in r) (whole.held file f at).tag ∙ ap (λ (y : Plain). let r : Result (List ℕ) Fault = Ok (take 4096 (slice_index_or y.texts f.key.slot [])) in r) is)
 
   module _ (e : f'.file.state ≡ f.file.state) where
@@ -86,7 +86,7 @@ module _ (b : Plain) (n n' : Nodes) (events events' : List ℕ) (texts texts' : 
 pub kept_form : (f f' : BoardFile) → f' ≡ f → f' ≡ record { key = f.key; file = record { hold = f.file.hold; tag = f.file.tag; state = f'.file.state } }
 kept_form f f' e = e ∙ ap (λ (s : FileState). let g : BoardFile = record { key = f.key; file = record { hold = f.file.hold; tag = f.file.tag; state = s } } in g) (sym (ap (λ (g : BoardFile). g.file.state) e))
 
-pub kept_short : (n : Nodes) (events : List ℕ) (texts : List (List ℕ)) (files : List (Option BoardFile)) (tokens : List (Option BoardToken)) (whole : IsWhole n events texts files tokens) (file : ℕ) (f f' : BoardFile) → slice_get files file ≡ Some (Some f) → f' ≡ f → IsShort f'.file.state.text
+pub kept_short : (n : Nodes) (events : List ℕ) (texts : List (List ℕ)) (files : List (Option BoardFile)) (tokens : List (Option BoardToken)) (whole : IsWholeBoard n events texts files tokens) (file : ℕ) (f f' : BoardFile) → slice_get files file ≡ Some (Some f) → f' ≡ f → IsShort f'.file.state.text
 kept_short n events texts files tokens whole file f f' at e = subst (λ (g : BoardFile). IsShort g.file.state.text) (sym e) (whole.held file f at).short
 
 -- a store leaves as many texts

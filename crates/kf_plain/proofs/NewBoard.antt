@@ -9,7 +9,7 @@ use Rattle.kf_plain.specs.declared.nodes.visits.BoardFile.{BoardFile}
 use Rattle.kf_plain.specs.declared.nodes.hiding.BoardToken.{BoardToken}
 use Rattle.kf_plain.specs.Nodes.{Nodes, new_nodes, root_key}
 use Rattle.kf_plain.specs.Plain.{Plain, new_board, OpenPlainFile, is_on, token_count}
-use Rattle.kf_plain.specs.PlainInside.{plain_of, plain_file, plain_files, plain_tokens, IsWhole, IsTagged}
+use Rattle.kf_plain.specs.PlainInside.{plain_of, plain_file, plain_files, plain_tokens, IsWholeBoard, IsTagged}
 use Rattle.std.proofs.lemmas.List.{length-replicate}
 use Rattle.kf_core.specs.Lawful.{root_record}
 use Rattle.kf_plain.proofs.Counts.{none_counted}
@@ -31,7 +31,7 @@ no_file_on slot zero i o e = absurd (none-some o e)
 no_file_on slot (suc n) zero o e = subst (λ p. is_on slot p ≡ false) (same_Some None o e) refl
 no_file_on slot (suc n) (suc i) o e = no_file_on slot n i o e
 
-new_whole : (slots holds start : ℕ) → slots ≤ most_slots → IsWhole (new_nodes slots holds start) (replicate slots 1) (replicate slots []) (replicate 26 None) (replicate slots None)
+new_whole : (slots holds start : ℕ) → slots ≤ most_slots → IsWholeBoard (new_nodes slots holds start) (replicate slots 1) (replicate slots []) (replicate 26 None) (replicate slots None)
 new_whole slots holds start few = record {
   few = rw as_long few;
   an_event_each = length-replicate slots _ ∙ sym as_long;
@@ -57,11 +57,11 @@ new_whole slots holds start few = record {
     no_token_in (suc n) zero = refl
     no_token_in (suc n) (suc slot) = no_token_in n slot
 
-pub whole_new : (slots holds start : ℕ) (n : Nodes) (events : List ℕ) (texts : List (List ℕ)) (files : List (Option BoardFile)) (tokens : List (Option BoardToken)) → slots ≤ most_slots → n ≡ new_nodes slots holds start → events ≡ replicate slots 1 → texts ≡ replicate slots [] → files ≡ replicate 26 None → tokens ≡ replicate slots None → IsWhole n events texts files tokens
+pub whole_new : (slots holds start : ℕ) (n : Nodes) (events : List ℕ) (texts : List (List ℕ)) (files : List (Option BoardFile)) (tokens : List (Option BoardToken)) → slots ≤ most_slots → n ≡ new_nodes slots holds start → events ≡ replicate slots 1 → texts ≡ replicate slots [] → files ≡ replicate 26 None → tokens ≡ replicate slots None → IsWholeBoard n events texts files tokens
 whole_new slots holds start n events texts files tokens few a b c d k =
-    subst (λ m. IsWhole m events texts files tokens) (sym a) (subst (λ ev. IsWhole (new_nodes slots holds start) ev texts files tokens) (sym b) (subst (λ ts. IsWhole (new_nodes slots holds start) (replicate slots 1) ts files tokens) (sym c)
-    (subst (λ fs. IsWhole (new_nodes slots holds start) (replicate slots 1) (replicate slots []) fs tokens) (sym d)
-    (subst (λ ks. IsWhole (new_nodes slots holds start) (replicate slots 1) (replicate slots []) (replicate 26 None) ks) (sym k) (new_whole slots holds start few)))))
+    subst (λ m. IsWholeBoard m events texts files tokens) (sym a) (subst (λ ev. IsWholeBoard (new_nodes slots holds start) ev texts files tokens) (sym b) (subst (λ ts. IsWholeBoard (new_nodes slots holds start) (replicate slots 1) ts files tokens) (sym c)
+    (subst (λ fs. IsWholeBoard (new_nodes slots holds start) (replicate slots 1) (replicate slots []) fs tokens) (sym d)
+    (subst (λ ks. IsWholeBoard (new_nodes slots holds start) (replicate slots 1) (replicate slots []) (replicate 26 None) ks) (sym k) (new_whole slots holds start few)))))
 
 pub shown_new : (slots holds start : ℕ) (n : Nodes) (events : List ℕ) (texts : List (List ℕ)) (files : List (Option BoardFile)) (tokens : List (Option BoardToken)) → n ≡ new_nodes slots holds start → events ≡ replicate slots 1 → texts ≡ replicate slots [] → files ≡ replicate 26 None → tokens ≡ replicate slots None →
     plain_of n events texts files tokens ≡ new_board slots holds start

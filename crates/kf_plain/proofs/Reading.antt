@@ -6,22 +6,22 @@ use Rattle.kf_core.specs.Calls.{Visit, unvisited, tried}
 use Rattle.kf_files.specs.declared.ops.Fault.{Fault}
 use Rattle.kf_files.specs.declared.ops.FileError.{FileError}
 use Rattle.std.specs.Option.{unwrap_or}
-use Rattle.kf_files.specs.Files.{FileState, Shown, Reads, after_show, text_of, text_in_file, slice}
+use Rattle.kf_files.specs.Files.{FileState, ShowResult, Reads, file_after, text_of, text_in_file, slice}
 use Rattle.kf_plain.specs.PlainInside.{IsShort}
 
 text_short : (page : List ℕ) → length (text_of page) ≤ 4095
 text_short page = let e = length-take 4095 page in omega (arith, e)
 
 -- what a show leaves is short
-shown_short : (state : FileState) (came : Option Shown) → IsShort state.text → IsShort (after_show state came).text
+shown_short : (state : FileState) (came : Option ShowResult) → IsShort state.text → IsShort (file_after state came).text
 shown_short state None h = h
 shown_short state (Some shown) h = go shown.filled
   where
-    go : (filled : Result (List ℕ) Fault) → IsShort (after_show state (Some (record { number = shown.number; filled = filled }))).text
+    go : (filled : Result (List ℕ) Fault) → IsShort (file_after state (Some (record { number = shown.number; filled = filled }))).text
     go (Ok page) = text_short page
     go (Err fault) = tt
 
-module _ (V : Visit Shown → Type 0) (A : Result (List ℕ) FileError → Type 0) (state : FileState) (count : ℕ) (state' : FileState) where
+module _ (V : Visit ShowResult → Type 0) (A : Result (List ℕ) FileError → Type 0) (state : FileState) (count : ℕ) (state' : FileState) where
   pub reads_short : (offset : ℕ) → Reads V A state offset count state' → IsShort state.text → IsShort state'.text
   reads_short offset r h = elim state.want.read as (λ b. state.want.read ≡ b → IsShort state'.text) [
     | false ↦ λ e. subst (λ (s : FileState). IsShort s.text) (sym (r.denied e).2) h
@@ -59,7 +59,7 @@ slice_fits state offset most bytes short is =
     omega (arith, all, cut, rest)
 
 -- a read, told otherwise
-module _ (V V' : Visit Shown → Type 0) (to : (v : Visit Shown) → V v → V' v) (A A' : Result (List ℕ) FileError → Type 0) (tells : (a : Result (List ℕ) FileError) → A a → A' a) (state : FileState) (offset most : ℕ) (state' : FileState) where
+module _ (V V' : Visit ShowResult → Type 0) (to : (v : Visit ShowResult) → V v → V' v) (A A' : Result (List ℕ) FileError → Type 0) (tells : (a : Result (List ℕ) FileError) → A a → A' a) (state : FileState) (offset most : ℕ) (state' : FileState) where
   pub reads_as : Reads V A state offset most state' → Reads V' A' state offset most state'
   reads_as r = record {
     denied = λ e. let d = r.denied e in (to unvisited d.0, tells _ d.1, d.2);

@@ -14,7 +14,7 @@ use Rattle.kf_tree.specs.Causes.{linked_cause}
 use Rattle.kf_table.specs.Live.{live_in}
 use Rattle.kf_files.specs.declared.contents.Want.{Want}
 use Rattle.kf_files.specs.declared.ops.Fault.{Fault}
-use Rattle.kf_files.specs.Files.{Shown, open_cause, new_file}
+use Rattle.kf_files.specs.Files.{ShowResult, open_cause, new_file}
 use Rattle.kf_tree.specs.TreeLogs.{TreeLog}
 use Rattle.kf_plain.specs.Plain.{Plain, OpenPlainFile, file_at, holder_count, with_text}
 use Rattle.kf_plain.specs.Visits.{VisitsLive, kind_cause}
@@ -85,7 +85,7 @@ VisitsNode b key idle does visit = VisitsLive (live_in b.log.tree key) idle does
 
 -- a show fills the page with the first 4,096 bytes of the slot's text, and the slot's event number was taken
 -- for it
-abbrev pub ShowsText : Plain → ℕ → Shown → Type 0
+abbrev pub ShowsText : Plain → ℕ → ShowResult → Type 0
 ShowsText b slot shown = (shown.number ≡ slice_index b.events slot)
     × (shown.filled ≡ Ok (take 4096 (slice_index_or b.texts slot [])))
 

@@ -74,8 +74,8 @@ IsTagged (Some r) = IsTaggedNode r.key.slot r.node
 
 -- what holds of the board's fields at all times: a place in each list for each slot or letter, and callers
 -- that are those of open files and tokens
-pub record IsWhole (n : Nodes) (events : List ℕ) (texts : List (List ℕ)) (files : List (Option BoardFile))
-    (tokens : List (Option BoardToken)) : Type 0 where
+pub record IsWholeBoard (n : Nodes) (events : List ℕ) (texts : List (List ℕ))
+    (files : List (Option BoardFile)) (tokens : List (Option BoardToken)) : Type 0 where
   pub few : length n.log.tree ≤ most_slots
   pub an_event_each : length events ≡ length n.log.tree
   pub a_text_each : length texts ≡ length n.log.tree

@@ -34,5 +34,5 @@ abbrev pub IsRefusedFrom : {X Y : Type 0} → Result Y Refusal → Result X Refu
 IsRefusedFrom held leads before refusal now = IsWhyFrom held leads refusal × (now ≡ before)
 
 -- the board is as before, and this is the refusal to which the look leads
-abbrev pub IsRefused : {X : Type 0} → Result X Refusal → Plain → Refusal → Plain → Type 0
-IsRefused leads before refusal now = IsRefusedFrom leads leads before refusal now
+abbrev pub IsRefusedBy : {X : Type 0} → Result X Refusal → Plain → Refusal → Plain → Type 0
+IsRefusedBy leads before refusal now = IsRefusedFrom leads leads before refusal now

@@ -39,11 +39,11 @@ impl Model for PlainBoard {
 
     ghost Value = { Plain };
 
-    ghost use Rattle.kf_plain.specs.PlainInside.{plain_of, IsWhole};
+    ghost use Rattle.kf_plain.specs.PlainInside.{plain_of, IsWholeBoard};
 
     ghost view = { λ b. plain_of b.nodes b.events b.texts b.files.items b.tokens };
 
-    ghost invariant = { λ b. IsWhole b.nodes b.events b.texts b.files.items b.tokens };
+    ghost invariant = { λ b. IsWholeBoard b.nodes b.events b.texts b.files.items b.tokens };
 }
 
 /// No file under any of the 26 letters.

@@ -6,7 +6,7 @@ use Rattle.std.proofs.Math.Seq.{take-suc, drop-cons}
 use mathlib.Core.List.{append-nil}
 use Rattle.kf_script.specs.Answers.{Step, AnswersRequest}
 use Rattle.kf_script.specs.Requests.{request_of}
-use Rattle.kf_rounds.specs.Kinds.{Kind, bad, ends_round, of_seat, commands_of, own_command}
+use Rattle.kf_rounds.specs.Kinds.{KindOfLine, bad, ends_round, of_seat, commands_of, own_command}
 use Rattle.kf_rounds.specs.Turns.{Tells, Adds}
 
 module _ {Board : Type 0} (step : Step Board) where
@@ -61,7 +61,7 @@ module _ {Board : Type 0} (step : Step Board) where
       subst (λ rs. TellsAll before (cs ++ c ∷ []) rs now) (sym a.3) (tells_push before middle now cs old c a.0 a.1 t a.2)
   told_line before middle now cs (c ∷ d ∷ ds) old new n t a = absurd (omega arith)
 
-own_short : (who : ℕ) (g : Kind) → length (own_command who g) < 2
+own_short : (who : ℕ) (g : KindOfLine) → length (own_command who g) < 2
 own_short who bad = omega arith
 own_short who ends_round = omega arith
 own_short who (of_seat w command) = one_or_none (w == who)
@@ -71,28 +71,28 @@ own_short who (of_seat w command) = one_or_none (w == who)
     one_or_none false = omega arith
 
 -- the commands of one line more
-commands_next : (who : ℕ) (ks : List Kind) (i : ℕ) → i < length ks → commands_of who (take (i + 1) ks) ≡ commands_of who (take i ks) ++ own_command who (get_or ks i bad)
+commands_next : (who : ℕ) (ks : List KindOfLine) (i : ℕ) → i < length ks → commands_of who (take (i + 1) ks) ≡ commands_of who (take i ks) ++ own_command who (get_or ks i bad)
 commands_next who ks i near =
     let n : i + 1 ≡ suc i = omega arith in
     ap (commands_of who) (ap (λ k. take k ks) n ∙ take-suc ks i bad near) ∙ flat_map-append (own_command who) (take i ks) (get_or ks i bad ∷ [])
     ∙ ap (λ l. commands_of who (take i ks) ++ l) (append-nil (own_command who (get_or ks i bad)))
 
 -- those of the lines so far, of the next one, and of the others
-commands_cut : (who : ℕ) (ks : List Kind) (i : ℕ) → i < length ks
+commands_cut : (who : ℕ) (ks : List KindOfLine) (i : ℕ) → i < length ks
     → commands_of who ks ≡ commands_of who (take i ks) ++ (own_command who (get_or ks i bad) ++ commands_of who (drop (suc i) ks))
 commands_cut who ks i near =
     sym (ap (commands_of who) (take-append-drop i ks)) ∙ flat_map-append (own_command who) (take i ks) (drop i ks)
     ∙ ap (λ l. commands_of who (take i ks) ++ commands_of who l) (drop-cons ks i bad near)
 
 module _ {Board : Type 0} (step : Step Board) where
-  pub told_next : (before middle now : Board) (who : ℕ) (ks : List Kind) (i : ℕ) (old new : List (List ℕ)) → i < length ks
+  pub told_next : (before middle now : Board) (who : ℕ) (ks : List KindOfLine) (i : ℕ) (old new : List (List ℕ)) → i < length ks
       → TellsAll step before (commands_of who (take i ks)) old middle → Adds step (own_command who (get_or ks i bad)) middle old now new
       → TellsAll step before (commands_of who (take (i + 1) ks)) new now
   told_next before middle now who ks i old new near t a = subst (λ cs. TellsAll step before cs new now) (sym (commands_next who ks i near))
       (told_line step before middle now (commands_of who (take i ks)) _ old new (own_short who (get_or ks i bad)) t a)
 
   -- a line of its own whose reply is wanting
-  pub told_part : (before middle now : Board) (who : ℕ) (ks : List Kind) (i : ℕ) (rs : List (List ℕ)) (c : List ℕ) → i < length ks
+  pub told_part : (before middle now : Board) (who : ℕ) (ks : List KindOfLine) (i : ℕ) (rs : List (List ℕ)) (c : List ℕ) → i < length ks
       → TellsAll step before (commands_of who (take i ks)) rs middle → own_command who (get_or ks i bad) ≡ c ∷ []
       → Tells step before (commands_of who ks) rs now
   told_part before middle now who ks i rs c near t own =

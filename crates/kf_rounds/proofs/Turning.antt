@@ -8,7 +8,7 @@ use Rattle.std.proofs.lemmas.List.Elements.{All-append, All-nil}
 use native.Mathlib.Decide.{ℕ_discrete}
 use Rattle.kf_script.specs.Answers.{Step}
 use Rattle.kf_script.specs.ReplyText.{bad_line_text, done_text}
-use Rattle.kf_rounds.specs.Kinds.{Kind, bad, ends_round, of_seat, own_command, commands_of}
+use Rattle.kf_rounds.specs.Kinds.{KindOfLine, bad, ends_round, of_seat, own_command, commands_of}
 use Rattle.kf_rounds.specs.Turns.{Turn, kind_in, text, reply_line, HasFixed, own_reply, reply_of, replies_of, Tells, EachTells, Puts, PutOut, Replied}
 use Rattle.kf_rounds.proofs.Telling.{tells_front, tells_append, tells_none}
 
@@ -44,7 +44,7 @@ replies_one : (who : ℕ) (t : Turn) → replies_of who (t ∷ []) ≡ reply_of 
 replies_one who t = append-nil (reply_of who t)
 
 -- one line's turn
-pub put_one : (k : Kind) (said said' : List (List (List ℕ))) (out out' : List ℕ) → Puts k said said' out out' → PutOut (k ∷ []) said said' out out'
+pub put_one : (k : KindOfLine) (said said' : List (List (List ℕ))) (out out' : List ℕ) → Puts k said said' out out' → PutOut (k ∷ []) said said' out out'
 put_one bad said said' out out' p = let t : Turn = record { kind = bad; reply = bad_line_text } in record {
   turns = t ∷ [];
   kinds_are = refl;
@@ -71,7 +71,7 @@ put_one (of_seat w command) said said' out out' p = let t : Turn = record { kind
 pub put_none : (said : List (List (List ℕ))) (out : List ℕ) → PutOut [] said said out out
 put_none said out = record { turns = []; kinds_are = refl; fixed = All-nil HasFixed; dealt = λ who. refl; bytes_are = sym (append-nil out) }
 
-pub put_more : (ks ls : List Kind) (said said' said'' : List (List (List ℕ))) (out out' out'' : List ℕ) → PutOut ks said said' out out' → PutOut ls said' said'' out' out''
+pub put_more : (ks ls : List KindOfLine) (said said' said'' : List (List (List ℕ))) (out out' out'' : List ℕ) → PutOut ks said said' out out' → PutOut ls said' said'' out' out''
     → PutOut (ks ++ ls) said said'' out out''
 put_more ks ls said said' said'' out out' out'' h l = record {
   turns = h.turns ++ l.turns;
@@ -83,7 +83,7 @@ put_more ks ls said said' said'' out out' out'' h l = record {
 }
 
 -- a reply for each command
-same_own : (who : ℕ) (k : Kind) (reply : List ℕ) → length (own_reply who k reply) ≡ length (own_command who k)
+same_own : (who : ℕ) (k : KindOfLine) (reply : List ℕ) → length (own_reply who k reply) ≡ length (own_command who k)
 same_own who bad reply = refl
 same_own who ends_round reply = refl
 same_own who (of_seat w command) reply = dite (ℕ_discrete who w)
@@ -100,12 +100,12 @@ same_count who (t ∷ turns) =
     let b = length-append (own_command who t.kind) (commands_of who (map kind_in turns)) in
     omega arith
 
-pub as_many : (who : ℕ) (turns : List Turn) (ks : List Kind) → map kind_in turns ≡ ks → length (replies_of who turns) ≡ length (commands_of who ks)
+pub as_many : (who : ℕ) (turns : List Turn) (ks : List KindOfLine) → map kind_in turns ≡ ks → length (replies_of who turns) ≡ length (commands_of who ks)
 as_many who turns ks e = same_count who turns ∙ ap (λ l. length (commands_of who l)) e
 
 module _ {Board : Type 0} (step : Step Board) where
   -- what the seats said was put out
-  pub replied_round : (ks : List Kind) (before now : List Board) (said said' : List (List (List ℕ))) (out out' : List ℕ) → EachTells step ks before said now
+  pub replied_round : (ks : List KindOfLine) (before now : List Board) (said said' : List (List (List ℕ))) (out out' : List ℕ) → EachTells step ks before said now
       → PutOut ks said said' out out' → Replied step ks before now out out'
   replied_round ks before now said said' out out' t p = record {
     turns = p.turns;
@@ -120,7 +120,7 @@ module _ {Board : Type 0} (step : Step Board) where
   replied_none before out = record { turns = []; kinds_are = refl; fixed = All-nil HasFixed; ran = λ who d. refl; bytes_are = sym (append-nil out) }
 
   -- the replies of one round behind those of the earlier ones
-  pub replied_more : (ks ls : List Kind) (before middle now : List Board) (old out out' : List ℕ) → Replied step ks before middle old out → Replied step ls middle now out out'
+  pub replied_more : (ks ls : List KindOfLine) (before middle now : List Board) (old out out' : List ℕ) → Replied step ks before middle old out → Replied step ls middle now out out'
       → Replied step (ks ++ ls) before now old out'
   replied_more ks ls before middle now old out out' h l = record {
     turns = h.turns ++ l.turns;

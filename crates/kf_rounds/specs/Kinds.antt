@@ -5,10 +5,10 @@ use Rattle.kf_script.specs.Lines.{line_limit}
 use Rattle.kf_script.specs.Requests.{is_digit, first_word, rest}
 
 -- what a line is for: nothing, where it is not lawful; a round's end; or a command of one seat, 0 the owner's
-pub data Kind : Type 0 where
-  bad : Kind
-  ends_round : Kind
-  of_seat : (seat : ℕ) (command : List ℕ) → Kind
+pub data KindOfLine : Type 0 where
+  bad : KindOfLine
+  ends_round : KindOfLine
+  of_seat : (seat : ℕ) (command : List ℕ) → KindOfLine
 
 -- a worker's number, 1 to so many, in decimal without leading zeros; of two digits at most
 abbrev pub worker_of : ℕ → List ℕ → Option ℕ
@@ -20,16 +20,16 @@ worker_of most (a ∷ b ∷ []) =
 worker_of most _ = None
 
 -- a worker may not wait for all
-abbrev pub kind_for : Option ℕ → List ℕ → Kind
+abbrev pub kind_for : Option ℕ → List ℕ → KindOfLine
 kind_for None command = bad
 kind_for (Some worker) command = if bytes_eq command (codes "wait") then bad else of_seat worker command
 
 -- what follows the `@` of a line: the worker's number, one space, and its command
-abbrev pub worker_line : ℕ → List ℕ → Kind
+abbrev pub worker_line : ℕ → List ℕ → KindOfLine
 worker_line workers words = kind_for (worker_of workers (first_word words)) (rest words)
 
 -- the kind of a line that is not too long: a worker's where it begins with `@`, else the owner's
-abbrev pub short_line : ℕ → List ℕ → Kind
+abbrev pub short_line : ℕ → List ℕ → KindOfLine
 short_line workers [] = bad
 short_line workers (byte ∷ line) =
     if byte == 64 then worker_line workers line
@@ -37,36 +37,36 @@ short_line workers (byte ∷ line) =
     else of_seat 0 (byte ∷ line))
 
 -- what a line is for, with so many workers
-abbrev pub kind_by : ℕ → List ℕ → Kind
+abbrev pub kind_by : ℕ → List ℕ → KindOfLine
 kind_by workers line = if nat_le (length line) line_limit then short_line workers line else bad
 
 -- the line ends its round
-abbrev pub is_end : Kind → Bool
+abbrev pub is_end : KindOfLine → Bool
 is_end ends_round = true
 is_end _ = false
 
 -- whose line it is: 0 for the owner, where it is nobody's too
-abbrev pub seat_in : Kind → ℕ
+abbrev pub seat_in : KindOfLine → ℕ
 seat_in bad = 0
 seat_in ends_round = 0
 seat_in (of_seat seat command) = seat
 
 -- the line's command, without its `@W`
-abbrev pub command_in : Kind → List ℕ
+abbrev pub command_in : KindOfLine → List ℕ
 command_in bad = []
 command_in ends_round = []
 command_in (of_seat seat command) = command
 
 -- the command of a line, where it is this seat's
-abbrev pub own_command : ℕ → Kind → List (List ℕ)
+abbrev pub own_command : ℕ → KindOfLine → List (List ℕ)
 own_command who bad = []
 own_command who ends_round = []
 own_command who (of_seat seat command) = if seat == who then command ∷ [] else []
 
 -- the commands of one seat, in the order of the lines
-abbrev pub commands_of : ℕ → List Kind → List (List ℕ)
+abbrev pub commands_of : ℕ → List KindOfLine → List (List ℕ)
 commands_of who kinds = flat_map (own_command who) kinds
 
 -- what each line is for, with so many workers
-abbrev pub kinds_by : ℕ → List (List ℕ) → List Kind
+abbrev pub kinds_by : ℕ → List (List ℕ) → List KindOfLine
 kinds_by workers lines = map (kind_by workers) lines

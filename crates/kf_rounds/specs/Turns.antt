@@ -3,15 +3,15 @@ use Rattle.std.specs.Prelude.{ℕ, ◌==◌, Bool, List, [], ◌∷◌, ◌++◌
 use Rattle.kf_script.specs.Answers.{Step, AnswersRequest}
 use Rattle.kf_script.specs.Requests.{request_of}
 use Rattle.kf_script.specs.ReplyText.{bad_line_text, done_text}
-use Rattle.kf_rounds.specs.Kinds.{Kind, bad, ends_round, of_seat, commands_of}
+use Rattle.kf_rounds.specs.Kinds.{KindOfLine, bad, ends_round, of_seat, commands_of}
 
 -- one line, by what it is for, and its reply
 pub record Turn : Type 0 where
-  pub kind : Kind
+  pub kind : KindOfLine
   pub reply : List ℕ
 
 -- what the line of this turn is for
-abbrev pub kind_in : Turn → Kind
+abbrev pub kind_in : Turn → KindOfLine
 kind_in turn = turn.kind
 
 -- the reply with its newline
@@ -23,7 +23,7 @@ abbrev pub text : List Turn → List ℕ
 text turns = flat_map reply_line turns
 
 -- a line that is no seat's has always the same reply
-abbrev pub IsFixed : Kind → List ℕ → Type 0
+abbrev pub IsFixed : KindOfLine → List ℕ → Type 0
 IsFixed bad reply = reply ≡ bad_line_text
 IsFixed ends_round reply = reply ≡ done_text
 IsFixed (of_seat seat command) reply = Unit {0}
@@ -33,7 +33,7 @@ abbrev pub HasFixed : Turn → Type 0
 HasFixed turn = IsFixed turn.kind turn.reply
 
 -- the reply to a line, where it is this seat's
-abbrev pub own_reply : ℕ → Kind → List ℕ → List (List ℕ)
+abbrev pub own_reply : ℕ → KindOfLine → List ℕ → List (List ℕ)
 own_reply who bad reply = []
 own_reply who ends_round reply = []
 own_reply who (of_seat seat command) reply = if seat == who then reply ∷ [] else []
@@ -66,14 +66,14 @@ Adds step (command ∷ commands) before old now new =
     × AnswersRequest step before (request_of command) starved reply now × (new ≡ old ++ reply ∷ [])
 
 -- What each seat said are its own board's answers to its own commands; a seat's number is its place.
-abbrev pub EachTells : {Board : Type 0} → Step Board → List Kind → List Board → List (List (List ℕ))
+abbrev pub EachTells : {Board : Type 0} → Step Board → List KindOfLine → List Board → List (List (List ℕ))
     → List Board → Type 0
 EachTells {Board} step kinds before said now =
     (who : ℕ) (d : Board)
     → Tells step (get_or before who d) (commands_of who kinds) (get_or said who []) (get_or now who d)
 
 -- the reply to a line was put out: the next of its seat's, where it has one
-abbrev pub Puts : Kind → List (List (List ℕ)) → List (List (List ℕ)) → List ℕ → List ℕ → Type 0
+abbrev pub Puts : KindOfLine → List (List (List ℕ)) → List (List (List ℕ)) → List ℕ → List ℕ → Type 0
 Puts bad said said' out out' = (said' ≡ said) × (out' ≡ out ++ bad_line_text ++ 10 ∷ [])
 Puts ends_round said said' out out' = (said' ≡ said) × (out' ≡ out ++ done_text ++ 10 ∷ [])
 Puts (of_seat seat command) said said' out out' =
@@ -81,7 +81,8 @@ Puts (of_seat seat command) said said' out out' =
     × (said' ≡ set said seat later) × (out' ≡ out ++ reply ++ 10 ∷ [])
 
 -- the replies to lines of these kinds were put out, each the next of its seat's
-pub record PutOut (kinds : List Kind) (said said' : List (List (List ℕ))) (out out' : List ℕ) : Type 0 where
+pub record PutOut (kinds : List KindOfLine) (said said' : List (List (List ℕ))) (out out' : List ℕ)
+    : Type 0 where
   pub turns : List Turn
   pub kinds_are : map kind_in turns ≡ kinds
   pub fixed : All HasFixed turns
@@ -90,7 +91,7 @@ pub record PutOut (kinds : List Kind) (said said' : List (List (List ℕ))) (out
 
 -- The replies to lines of these kinds, one each, in their order, stand behind the bytes. Those to the lines
 -- of a seat are what its board answered to these lines, one after the other.
-pub record Replied {Board : Type 0} (step : Step Board) (kinds : List Kind) (before now : List Board)
+pub record Replied {Board : Type 0} (step : Step Board) (kinds : List KindOfLine) (before now : List Board)
     (old new : List ℕ) : Type 0 where
   pub turns : List Turn
   pub kinds_are : map kind_in turns ≡ kinds

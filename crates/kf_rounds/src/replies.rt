@@ -68,7 +68,8 @@ impl Replies {
         Ok(())
     }
 
-    /// How many bytes the texts are at most, with a newline each.
+    /// How many bytes the texts are at most, with a newline each: for one growth that saves later ones. No
+    /// clause rests on it.
     pub fn size(&self) -> usize {
         self.bytes.len().saturating_add(self.lengths.len())
     }

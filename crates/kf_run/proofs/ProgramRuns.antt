@@ -7,7 +7,7 @@ use Rattle.kf_script.specs.declared.fault.RunFault.TheVariants.{Read, Write, Mem
 use Rattle.kf_script.specs.Lines.{lines_of, ended_lines_of}
 use Rattle.kf_plain.specs.Plain.{Plain, new_board}
 use Rattle.kf_plain.specs.PlainStep.{PlainStep}
-use Rattle.kf_script.specs.Progress.{Answered, CutShort, IsPrefix, Writes}
+use Rattle.kf_script.specs.Progress.{Answered, CutShort, IsPrefix, WrittenOrCut}
 use Rattle.kf_run.specs.Programs.{Ran, StoppedFor}
 
 -- a script that was answered on a new board
@@ -40,6 +40,6 @@ stopped_on slots first last input left old new (Err Memory) is_new read write me
     (kept, written)
 
 -- what was written of a line, whether it was written whole or not
-pub part_of : {T E : Type 0} (old new : Option (List ℕ)) (result : Result T E) (line : List ℕ) → Writes old new result line → (part : List ℕ) × IsPrefix part line × Appends old new part
+pub part_of : {T E : Type 0} (old new : Option (List ℕ)) (result : Result T E) (line : List ℕ) → WrittenOrCut old new result line → (part : List ℕ) × IsPrefix part line × Appends old new part
 part_of old new (Ok x) line wrote = (line, ([], sym (append-nil line)), wrote)
 part_of old new (Err e) line wrote = wrote

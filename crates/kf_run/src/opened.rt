@@ -38,8 +38,8 @@ fn refuse<F: Write>(fault: &mut F, name: &str, kind: ErrorKind) {
 }
 
 /// Runs the script that was opened, whatever it is, as it was asked for, and answers the program's status:
-/// that of [`run_asked`]. Where it could not be opened nothing is run, and the status is 2, or that of a fault of
-/// memory where this was refused.
+/// that of [`run_asked`]. Where it could not be opened nothing is run, and the status is 2, or that of a
+/// fault of memory where this was refused.
 pub(crate) fn run_opened<H: Threads + Wait + Sync, R: Read, W: Write, F: Write>(
     rt: &H,
     alloc: Global,
@@ -58,7 +58,8 @@ pub(crate) fn run_opened<H: Threads + Wait + Sync, R: Read, W: Write, F: Write>(
         × (IsOkAnd opened.old (λ reader. IsOkAnd opened.new (λ left.
         StoppedBy reason asked.now.workers asked.now.limits.slots (R.remaining reader) (R.remaining left)
         (W.contents out.old) (W.contents out.new)))
-        ⊎ ((reason ≡ RunFault.Memory) × IsErrAnd opened.old (λ error. error_kind error ≡ ErrorKind.OutOfMemory)
+        ⊎ ((reason ≡ RunFault.Memory)
+        × IsErrAnd opened.old (λ error. error_kind error ≡ ErrorKind.OutOfMemory)
         × Keeps (W.contents out.old) (W.contents out.new))) }
     ensures refused { result ≡ 2 → IsErrAnd opened.old (λ error. error_kind error ≢ ErrorKind.OutOfMemory)
         × Keeps (W.contents out.old) (W.contents out.new) }

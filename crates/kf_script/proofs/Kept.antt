@@ -4,8 +4,8 @@ use Rattle.std.specs.Io.KnownBytes.{Appends, Consumes, IsAtEnd, Keeps, append_kn
 use Rattle.std.proofs.KnownBytes.{Appends-kept, Appends-trans, Appends-nil}
 use Rattle.kf_script.specs.Lines.{lines_of, has_bytes}
 use Rattle.kf_script.specs.Answers.{Step, text}
-use Rattle.kf_script.specs.Progress.{Answered, CutShort, GivesOut, Grows, Writes}
-use Rattle.kf_script.specs.Running.{Running}
+use Rattle.kf_script.specs.Progress.{Answered, CutShort, GivesOut, Grows, WrittenOrCut}
+use Rattle.kf_script.specs.SoFar.{AnsweredSoFar}
 use Rattle.kf_script.proofs.Running.{lines-here}
 
 -- ---- what a writer has, and what is kept for it
@@ -22,7 +22,7 @@ pub grows-trans : (a b c : Option (List ℕ)) → Grows a b → Grows b c → Gr
 grows-trans a b c (x, p) (y, q) = (x ++ y, Appends-trans a b c x y p q)
 
 -- what a write did
-pub writes-grow : {T E : Type 0} (a b : Option (List ℕ)) (result : Result T E) (bytes : List ℕ) → Writes a b result bytes → Grows a b
+pub writes-grow : {T E : Type 0} (a b : Option (List ℕ)) (result : Result T E) (bytes : List ℕ) → WrittenOrCut a b result bytes → Grows a b
 writes-grow a b (Ok x) bytes written = (bytes, written)
 writes-grow a b (Err x) bytes (part, prefix, written) = (part, written)
 
@@ -55,7 +55,7 @@ answered-kept old new same keeps p = record {
 }
 
 pub running-kept : {Board : Type 0} {step : Step Board} {first now : Board} {read : List ℕ} {line : Option (List ℕ)} (old new same : Option (List ℕ))
-    → Keeps new same → Running step first now read line old new → Running step first now read line old same
+    → Keeps new same → AnsweredSoFar step first now read line old new → AnsweredSoFar step first now read line old same
 running-kept old new same keeps s = record {
   ended = s.ended;
   pending = s.pending;
@@ -72,9 +72,9 @@ answered-all {step = step} {first = first} {now = now} {lines = lines} old new k
     subst (λ k. Answered step first now lines old k) (ap (append_known new) none ∙ known-nil new) p
 
 pub running-known : {Board : Type 0} {step : Step Board} {first now : Board} {read : List ℕ} {line : Option (List ℕ)} (old new : Option (List ℕ)) (kept : List ℕ)
-    → kept ≡ [] → Running step first now read line old new → Running step first now read line old (append_known new kept)
+    → kept ≡ [] → AnsweredSoFar step first now read line old new → AnsweredSoFar step first now read line old (append_known new kept)
 running-known {step = step} {first = first} {now = now} {read = read} {line = line} old new kept none s =
-    subst (λ k. Running step first now read line old k) (sym (ap (append_known new) none ∙ known-nil new)) s
+    subst (λ k. AnsweredSoFar step first now read line old k) (sym (ap (append_known new) none ∙ known-nil new)) s
 
 -- ---- where a run stops
 
@@ -97,7 +97,7 @@ cut-all {step = step} {first = first} {now = now} {lines = lines} old new p =
 
 -- and between two reads
 pub cut-running : {Board : Type 0} {step : Step Board} {first now : Board} {read : List ℕ} {line : Option (List ℕ)} (old new : Option (List ℕ))
-    → Running step first now read line old new → CutShort step first now (lines_of read) old new
+    → AnsweredSoFar step first now read line old new → CutShort step first now (lines_of read) old new
 cut-running {step = step} {first = first} {now = now} {read = read} old new s =
     subst (λ l. CutShort step first now l old new) (sym (lines-here s)) (cut-after (filter has_bytes (s.pending ∷ [])) old new s.answered)
 

@@ -14,8 +14,8 @@ use Rattle.kf_script.specs.Lines.{is_newline, has_bytes, lines_of, front, ended_
 use Rattle.kf_script.specs.Requests.{request_of}
 use Rattle.kf_script.specs.ReplyText.{bad_line_text}
 use Rattle.kf_script.specs.Answers.{Step, Turn, line_of, AnswersRequest, Answers, reply_line, text}
-use Rattle.kf_script.specs.Progress.{Writes, Answered, CutShort}
-use Rattle.kf_script.specs.Running.{Running, Stopped, AnsweredOrCut, ended_line}
+use Rattle.kf_script.specs.Progress.{WrittenOrCut, Answered, CutShort}
+use Rattle.kf_script.specs.SoFar.{AnsweredSoFar, Stopped, AnsweredOrCut, ended_line}
 
 -- ---- lists
 
@@ -95,7 +95,7 @@ answered-none old = record { turns = []; lines_are = refl; answers = refl; writt
 
 -- a line with bytes, and what was written of its reply
 pub answered-one : {Board T E : Type 0} (step : Step Board) (before now : Board) (byte : ℕ) (line reply : List ℕ) (starved : Bool) (old new : Option (List ℕ)) (result : Result T E)
-    → AnswersRequest step before (request_of (byte ∷ line)) starved reply now → Writes old new result (reply ++ 10 ∷ [])
+    → AnswersRequest step before (request_of (byte ∷ line)) starved reply now → WrittenOrCut old new result (reply ++ 10 ∷ [])
     → AnsweredOrCut step before now (ended_line (byte ∷ line)) old new result
 answered-one step before now byte line reply starved old new (Ok x) answered written = record {
   turns = record { line = byte ∷ line; starved = starved; reply = reply } ∷ [];
@@ -114,7 +114,7 @@ answered-one step before now byte line reply starved old new (Err x) answered (p
 
 -- a line that is not empty
 pub answered-line : {Board T E : Type 0} (step : Step Board) (before now : Board) (line reply : List ℕ) (starved : Bool) (old new : Option (List ℕ)) (result : Result T E)
-    → (length line == 0) ≡ false → AnswersRequest step before (request_of line) starved reply now → Writes old new result (reply ++ 10 ∷ [])
+    → (length line == 0) ≡ false → AnswersRequest step before (request_of line) starved reply now → WrittenOrCut old new result (reply ++ 10 ∷ [])
     → AnsweredOrCut step before now (ended_line line) old new result
 answered-line step before now [] reply starved old new result some answered written = absurd (cc)
 answered-line step before now (byte ∷ line) reply starved old new result some answered written =
@@ -134,7 +134,7 @@ kept_some line bytes e = elim (leb_tells (length line) 8192) [
 
 -- a line that is too long
 pub answered-long : {Board T E : Type 0} (step : Step Board) (board : Board) (line : List ℕ) (old new : Option (List ℕ)) (result : Result T E)
-    → None ≡ kept_line line → Writes old new result (bad_line_text ++ 10 ∷ []) → AnsweredOrCut step board board (ended_line line) old new result
+    → None ≡ kept_line line → WrittenOrCut old new result (bad_line_text ++ 10 ∷ []) → AnsweredOrCut step board board (ended_line line) old new result
 answered-long step board [] old new result e written = absurd (cc)
 answered-long step board (byte ∷ line) old new result e written =
     let long : request_of (byte ∷ line) ≡ None = rw (kept_none (byte ∷ line) e) refl in
@@ -169,7 +169,7 @@ kept-whole bytes line e fits = elim (leb_tells (length bytes) 8192) [
 ]
 
 -- nothing was read
-pub running-start : {Board : Type 0} {step : Step Board} {board : Board} {line : Option (List ℕ)} (old : Option (List ℕ)) → line ≡ Some [] → Running step board board [] line old old
+pub running-start : {Board : Type 0} {step : Step Board} {board : Board} {line : Option (List ℕ)} (old : Option (List ℕ)) → line ≡ Some [] → AnsweredSoFar step board board [] line old old
 running-start old e = record {
   ended = [];
   pending = [];
@@ -181,7 +181,7 @@ running-start old e = record {
 
 -- bytes without a newline belong to the line
 pub running-bytes : {Board : Type 0} {step : Step Board} {first now : Board} {read : List ℕ} {line old new : Option (List ℕ)} (bytes : List ℕ) → All (λ byte. is_newline byte ≡ false) bytes
-    → Running step first now read line old new → Running step first now (read ++ bytes) (option_and_then (λ l. kept_line (l ++ bytes)) line) old new
+    → AnsweredSoFar step first now read line old new → AnsweredSoFar step first now (read ++ bytes) (option_and_then (λ l. kept_line (l ++ bytes)) line) old new
 running-bytes {read = read} bytes plain s = record {
   ended = s.ended;
   pending = s.pending ++ bytes;
@@ -192,7 +192,7 @@ running-bytes {read = read} bytes plain s = record {
 }
 
 -- a newline ends the pending line
-ended-cut : {Board : Type 0} {step : Step Board} {first now : Board} {read : List ℕ} {line old new : Option (List ℕ)} (s : Running step first now read line old new) (more : List ℕ)
+ended-cut : {Board : Type 0} {step : Step Board} {first now : Board} {read : List ℕ} {line old new : Option (List ℕ)} (s : AnsweredSoFar step first now read line old new) (more : List ℕ)
     → slice_split is_newline ((read ++ 10 ∷ []) ++ more) ≡ (s.ended ++ s.pending ∷ []) ++ slice_split is_newline more
 ended-cut {read = read} s more =
     ap (slice_split is_newline) (append_assoc read (10 ∷ []) more)
@@ -202,8 +202,8 @@ ended-cut {read = read} s more =
 
 -- a newline came, and its line was answered or stopped by a fault
 pub running-newline : {Board T E : Type 0} {step : Step Board} {first now : Board} (next : Board) {read : List ℕ} {line old new : Option (List ℕ)} (last after : Option (List ℕ)) (result : Result T E)
-    → (s : Running step first now read line old new) → AnsweredOrCut step now next (ended_line s.pending) new after result → last ≡ Some []
-    → MatchResult result (λ _. Running step first next (read ++ 10 ∷ []) last old after) (λ _. Stopped step first next (read ++ 10 ∷ []) old after)
+    → (s : AnsweredSoFar step first now read line old new) → AnsweredOrCut step now next (ended_line s.pending) new after result → last ≡ Some []
+    → MatchResult result (λ _. AnsweredSoFar step first next (read ++ 10 ∷ []) last old after) (λ _. Stopped step first next (read ++ 10 ∷ []) old after)
 running-newline {step = step} {first = first} next {old = old} last after (Ok x) s a e = record {
   ended = s.ended ++ s.pending ∷ [];
   pending = [];
@@ -219,12 +219,12 @@ running-newline {step = step} {first = first} next {read = read} {old = old} las
 
 -- bytes and a newline came, and the line that they end was answered or stopped by a fault
 pub running-line : {Board T E : Type 0} {step : Step Board} {first now : Board} (next : Board) {read : List ℕ} {line old new : Option (List ℕ)} (bytes : List ℕ) (last after : Option (List ℕ)) (result : Result T E)
-    → Running step first now read line old new → All (λ byte. is_newline byte ≡ false) bytes
+    → AnsweredSoFar step first now read line old new → All (λ byte. is_newline byte ≡ false) bytes
     → ((whole : List ℕ) → option_and_then (λ l. kept_line (l ++ bytes)) line ≡ kept_line whole → AnsweredOrCut step now next (ended_line whole) new after result) → last ≡ Some []
-    → MatchResult result (λ _. Running step first next (read ++ (bytes ++ 10 ∷ [])) last old after) (λ _. Stopped step first next (read ++ (bytes ++ 10 ∷ [])) old after)
+    → MatchResult result (λ _. AnsweredSoFar step first next (read ++ (bytes ++ 10 ∷ [])) last old after) (λ _. Stopped step first next (read ++ (bytes ++ 10 ∷ [])) old after)
 running-line {step = step} {first = first} next {read = read} {old = old} bytes last after result s plain answered e =
     let t = running-bytes bytes plain s in
-    subst (λ l. MatchResult result (λ _. Running step first next l last old after) (λ _. Stopped step first next l old after)) (append_assoc read bytes (10 ∷ [])) (running-newline next last after result t (answered t.pending t.buffered) e)
+    subst (λ l. MatchResult result (λ _. AnsweredSoFar step first next l last old after) (λ _. Stopped step first next l old after)) (append_assoc read bytes (10 ∷ [])) (running-newline next last after result t (answered t.pending t.buffered) e)
 
 -- more bytes were read after the fault
 pub stopped-more : {Board : Type 0} {step : Step Board} {first now : Board} (read : List ℕ) {old new : Option (List ℕ)} (more : List ℕ)
@@ -240,7 +240,7 @@ stopped-here {step = step} {first = first} {now = now} read {old = old} {new = n
 -- ---- the end of a run
 
 -- the script up to here, cut at its newlines
-cut-here : {Board : Type 0} {step : Step Board} {first now : Board} {read : List ℕ} {line old new : Option (List ℕ)} (s : Running step first now read line old new)
+cut-here : {Board : Type 0} {step : Step Board} {first now : Board} {read : List ℕ} {line old new : Option (List ℕ)} (s : AnsweredSoFar step first now read line old new)
     → slice_split is_newline read ≡ s.ended ++ s.pending ∷ []
 cut-here {read = read} s =
     ap (slice_split is_newline) (sym (append-nil read))
@@ -249,25 +249,25 @@ cut-here {read = read} s =
     ∙ ap (λ l. s.ended ++ l) (slice_split_none is_newline s.pending s.unended)
 
 -- the lines that had ended, and the one that had not
-pub lines-here : {Board : Type 0} {step : Step Board} {first now : Board} {read : List ℕ} {line old new : Option (List ℕ)} (s : Running step first now read line old new)
+pub lines-here : {Board : Type 0} {step : Step Board} {first now : Board} {read : List ℕ} {line old new : Option (List ℕ)} (s : AnsweredSoFar step first now read line old new)
     → lines_of read ≡ filter has_bytes s.ended ++ filter has_bytes (s.pending ∷ [])
 lines-here s = ap (filter has_bytes) (cut-here s) ∙ filter-append s.ended (s.pending ∷ [])
 
 -- a read failed: the lines that had ended were answered
 pub running-ended : {Board : Type 0} {step : Step Board} {first now : Board} {read : List ℕ} {line old new : Option (List ℕ)}
-    → Running step first now read line old new → Answered step first now (ended_lines_of read) old new
+    → AnsweredSoFar step first now read line old new → Answered step first now (ended_lines_of read) old new
 running-ended {step = step} {first = first} {now = now} {read = read} {old = old} {new = new} s =
     let same : ended_lines_of read ≡ filter has_bytes s.ended = ap (λ l. filter has_bytes (front l)) (cut-here s) ∙ ap (filter has_bytes) (front-push s.ended s.pending) in
     subst (λ l. Answered step first now l old new) (sym same) s.answered
 
 -- the input ended, and its last line was answered
 pub end-answered : {Board : Type 0} {step : Step Board} {first now : Board} (next : Board) {read : List ℕ} {line : Option (List ℕ)} (old new after : Option (List ℕ))
-    → (s : Running step first now read line old new) → Answered step now next (ended_line s.pending) new after → Answered step first next (lines_of read) old after
+    → (s : AnsweredSoFar step first now read line old new) → Answered step now next (ended_line s.pending) new after → Answered step first next (lines_of read) old after
 end-answered {step = step} {first = first} next old new after s a =
     subst (λ l. Answered step first next l old after) (sym (lines-here s)) (answered-then s.answered a)
 
 -- or stopped by a fault
 pub end-stopped : {Board : Type 0} {step : Step Board} {first now : Board} (next : Board) {read : List ℕ} {line : Option (List ℕ)} (old new after : Option (List ℕ))
-    → (s : Running step first now read line old new) → CutShort step now next (ended_line s.pending) new after → CutShort step first next (lines_of read) old after
+    → (s : AnsweredSoFar step first now read line old new) → CutShort step now next (ended_line s.pending) new after → CutShort step first next (lines_of read) old after
 end-stopped {step = step} {first = first} next old new after s a =
     subst (λ l. CutShort step first next l old after) (sym (lines-here s)) (answered-cut s.answered a)

@@ -3,4 +3,4 @@ pub mod Requests
 pub mod ReplyText
 pub mod Answers
 pub mod Progress
-pub mod Running
+pub mod SoFar

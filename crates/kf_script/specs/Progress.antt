@@ -8,8 +8,8 @@ abbrev pub IsPrefix : List ℕ → List ℕ → Type 0
 IsPrefix part whole = (rest : List ℕ) × (whole ≡ part ++ rest)
 
 -- all of the bytes were written, or after a fault a prefix of them
-abbrev pub Writes : {T E : Type 0} → Option (List ℕ) → Option (List ℕ) → Result T E → List ℕ → Type 0
-Writes old new result bytes =
+abbrev pub WrittenOrCut : {T E : Type 0} → Option (List ℕ) → Option (List ℕ) → Result T E → List ℕ → Type 0
+WrittenOrCut old new result bytes =
     MatchResult result (λ _. Appends old new bytes)
     (λ _. (part : List ℕ) × IsPrefix part bytes × Appends old new part)
 
@@ -27,8 +27,8 @@ pub record GivesOut (old new : Option (List ℕ)) (kept left : List ℕ) : Type 
 abbrev pub kept_limit : ℕ
 kept_limit = 4096
 
--- What is kept once such bytes have come: they follow what was kept, or are alone where they find no room behind
--- it, and where they are more than are ever kept, nothing is.
+-- What is kept once such bytes have come: they follow what was kept, or are alone where they find no room
+-- behind it, and where they are more than are ever kept, nothing is.
 abbrev pub kept_with : List ℕ → List ℕ → List ℕ
 kept_with kept bytes =
     if nat_le (length kept + length bytes) kept_limit then kept ++ bytes

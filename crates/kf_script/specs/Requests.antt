@@ -148,11 +148,11 @@ want_of word =
 -- ---- what stands behind a command
 
 -- a request, made of what stands behind its command, where that is as it should be
-abbrev pub Reads : Type 0
-Reads = Option (List ℕ) → Option RequestWords
+abbrev pub Parser : Type 0
+Parser = Option (List ℕ) → Option RequestWords
 
 -- a word of this kind comes next, and then what follows it
-abbrev pub word : {Value : Type 0} → (List ℕ → Option Value) → (Value → Reads) → Reads
+abbrev pub word : {Value : Type 0} → (List ℕ → Option Value) → (Value → Parser) → Parser
 word kind following later =
     option_and_then (λ value. following value (behind_next later)) (option_and_then kind (next_word later))
 
@@ -162,7 +162,7 @@ is_over None = true
 is_over (Some later) = false
 
 -- this request, where no word is left
-abbrev pub ends : RequestWords → Reads
+abbrev pub ends : RequestWords → Parser
 ends request later = if is_over later then Some request else None
 
 -- nothing more comes, or this word alone, which the request tells
@@ -171,7 +171,7 @@ last_word last None = Some false
 last_word last (Some later) = if bytes_eq later last then Some true else None
 
 -- a request with or without this last word
-abbrev pub ends_or : List ℕ → (Bool → RequestWords) → Reads
+abbrev pub ends_or : List ℕ → (Bool → RequestWords) → Parser
 ends_or last request later = option_map request (last_word last later)
 
 -- all that comes, its spaces too, is a text; it is empty where nothing comes
@@ -180,7 +180,7 @@ whole_text None = []
 whole_text (Some later) = later
 
 -- a request with all that is left of the line for its text
-abbrev pub text : (List ℕ → RequestWords) → Reads
+abbrev pub text : (List ℕ → RequestWords) → Parser
 text request later = Some (request (whole_text later))
 
 -- ---- the grammar
@@ -188,10 +188,10 @@ text request later = Some (request (whole_text later))
 -- a row: the word of a command, and what stands behind it
 pub record Row : Type 0 where
   pub command : List ℕ
-  pub reads : Reads
+  pub reads : Parser
 
 -- a row of the grammar: a command, and how the words behind it are read
-abbrev pub row : List ℕ → Reads → Row
+abbrev pub row : List ℕ → Parser → Row
 row command reads = record { command = command; reads = reads }
 
 -- one row for each command
@@ -228,13 +228,13 @@ rows =
     ∷ []
 
 -- what the row of a command reads, of such rows
-abbrev pub row_of : List Row → List ℕ → Reads
+abbrev pub row_of : List Row → List ℕ → Parser
 row_of [] command later = None
 row_of (row ∷ rows) command later =
     if bytes_eq command row.command then row.reads later else row_of rows command later
 
 -- what this command makes of what stands behind it, where it is one
-abbrev pub reads_of : List ℕ → Reads
+abbrev pub reads_of : List ℕ → Parser
 reads_of command later = row_of rows command later
 
 -- the request of a line, where it makes one

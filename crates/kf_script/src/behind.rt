@@ -5,7 +5,8 @@ ghost use Rattle.std.specs.Prelude.{◌≡◌, ◌≤◌, ◌+◌, ◌++◌, len
 /// As many bytes are put one by one.
 const FEW: usize = 8;
 
-/// Puts the bytes behind those of the text, one by one. Inlined, where they are known, it writes a few numbers.
+/// Puts the bytes behind those of the text, one by one. Inlined, where they are known, it writes a few
+/// numbers.
 #[inline(always)]
 pub fn push_each(text: &mut Vec<u8>, bytes: &[u8])
     requires { vec_len text.old + length bytes.now ≤ vec_capacity text.old }

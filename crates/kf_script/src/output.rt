@@ -3,7 +3,7 @@
 
 ghost use Rattle.std.specs.Prelude.{◌≡◌, ◌≤◌, ◌+◌, ◌-◌, ◌<◌, ◌⊎◌, [], true, false, length, take, drop, OnOk, OnErr, IfErr, IsErrOf, vec_len, vec_capacity};
 ghost use Rattle.std.specs.Io.KnownBytes.{Appends, append_known};
-ghost use Rattle.kf_script.specs.Progress.{GivesOut, Writes, Grows, kept_limit, kept_with};
+ghost use Rattle.kf_script.specs.Progress.{GivesOut, WrittenOrCut, Grows, kept_limit, kept_with};
 
 use super::behind::push_all;
 use super::fault::RunFault;
@@ -30,7 +30,7 @@ fn give<W: Write>(writer: &mut W, bytes: &[u8]) -> usize
 
 /// Writes all of the bytes. A call that fails, or that takes no byte, is a fault, and is not tried again.
 pub fn write_whole<W: Write>(writer: &mut W, bytes: &[u8]) -> Result<(), RunFault>
-    ensures written { Writes (W.contents writer.old) (W.contents writer.new) result bytes.now }
+    ensures written { WrittenOrCut (W.contents writer.old) (W.contents writer.new) result bytes.now }
     ensures fault { IfErr result (λ fault. fault ≡ RunFault.Write) }
 {
     if give(writer, bytes) < bytes.len() {
@@ -132,7 +132,7 @@ impl<'a, W: Write> Output<'a, W> {
     #[inline(always)]
     pub fn write(&mut self, bytes: &[u8]) -> Result<(), RunFault>
         ensures lent { self.new.writer.ghost_name ≡ self.old.writer.ghost_name }
-        ensures written { Writes (append_known (W.contents self.old.writer.now) self.old.kept.now.items)
+        ensures written { WrittenOrCut (append_known (W.contents self.old.writer.now) self.old.kept.now.items)
             (append_known (W.contents self.new.writer.now) self.new.kept.now.items) result bytes.now }
         ensures whole { OnOk result
             (self.new.kept.now.items ≡ kept_with self.old.kept.now.items bytes.now) }

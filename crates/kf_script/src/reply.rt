@@ -3,7 +3,7 @@
 ghost use Rattle.std.specs.Prelude.{◌≡◌, ◌≤◌, ◌<◌, ◌+◌, ◌++◌, ◌∷◌, ℕ, List, [], length, decimal, vec_len, vec_capacity, IfOk, IfErr, IsOk, OnOk};
 ghost use Rattle.kf_core.specs.Refusals.{name_of};
 ghost use Rattle.std.specs.Io.KnownBytes.{append_known};
-ghost use Rattle.kf_script.specs.Progress.{Writes, Grows, kept_with};
+ghost use Rattle.kf_script.specs.Progress.{WrittenOrCut, Grows, kept_with};
 ghost use Rattle.kf_script.specs.ReplyText.{done_text, bad_line_text, refusal_text, fault_text, key_text, poll_text, stat_text, octal as octal_text, node_text, state_text};
 
 use super::behind::{push_all, push_each};
@@ -163,7 +163,8 @@ impl Reply {
     /// Writes the text and a newline, and forgets the text.
     #[inline(always)]
     pub fn write_line<W: Write>(&mut self, output: &mut Output<'_, W>) -> Result<(), RunFault>
-        ensures written { Writes (append_known (W.contents output.old.writer.now) output.old.kept.now.items)
+        ensures written { WrittenOrCut
+            (append_known (W.contents output.old.writer.now) output.old.kept.now.items)
             (append_known (W.contents output.new.writer.now) output.new.kept.now.items) result
             (self.old ++ 10 ∷ []) }
         ensures whole { OnOk result

@@ -7,7 +7,7 @@ ghost use Rattle.kf_script.specs.Lines.{is_newline, kept_line, line_limit, lines
 ghost use Rattle.kf_script.specs.Requests.{request_of};
 ghost use Rattle.kf_script.specs.Answers.{AnswersRequest};
 ghost use Rattle.kf_script.specs.Progress.{Answered, CutShort, Grows};
-ghost use Rattle.kf_script.specs.Running.{Running, Stopped, AnsweredOrCut, ended_line};
+ghost use Rattle.kf_script.specs.SoFar.{AnsweredSoFar, Stopped, AnsweredOrCut, ended_line};
 
 use super::board::Board;
 use super::fault::RunFault;
@@ -74,10 +74,10 @@ fn take_line<B: Board, W: Write>(
 ) -> Result<(), RunFault>
     requires { All (λ byte. is_newline byte ≡ false) bytes.now }
     ensures runs { (first : B) (read : List ℕ) (start : Option (List ℕ)) →
-        Running B.step first board.old read line.old start
+        AnsweredSoFar B.step first board.old read line.old start
         (append_known (W.contents output.old.writer.now) output.old.kept.now.items) →
         MatchResult result
-        (λ _. Running B.step first board.new (read ++ (bytes.now ++ 10 ∷ [])) line.new start
+        (λ _. AnsweredSoFar B.step first board.new (read ++ (bytes.now ++ 10 ∷ [])) line.new start
         (append_known (W.contents output.new.writer.now) output.new.kept.now.items))
         (λ _. Stopped B.step first board.new (read ++ (bytes.now ++ 10 ∷ [])) start
         (append_known (W.contents output.new.writer.now) output.new.kept.now.items)) }
@@ -103,10 +103,10 @@ fn take_bytes<B: Board, W: Write>(
     bytes: &[u8],
 ) -> Result<(), RunFault>
     ensures runs { (first : B) (read : List ℕ) (start : Option (List ℕ)) →
-        Running B.step first board.old read line.old start
+        AnsweredSoFar B.step first board.old read line.old start
         (append_known (W.contents output.old.writer.now) output.old.kept.now.items) →
         MatchResult result
-        (λ _. Running B.step first board.new (read ++ bytes.now) line.new start
+        (λ _. AnsweredSoFar B.step first board.new (read ++ bytes.now) line.new start
         (append_known (W.contents output.new.writer.now) output.new.kept.now.items))
         (λ _. Stopped B.step first board.new (read ++ bytes.now) start
         (append_known (W.contents output.new.writer.now) output.new.kept.now.items)) }

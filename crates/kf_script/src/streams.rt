@@ -1,5 +1,5 @@
-//! The streams of one run: the one way to the reader, with each call of read counted, and the output, of which
-//! nothing is kept back at such a call.
+//! The streams of one run: the one way to the reader, with each call of read counted, and the output, of
+//! which nothing is kept back at such a call.
 
 ghost use Rattle.std.specs.Prelude.{◌≡◌, ◌≤◌, ◌<◌, ◌+◌, [], length, take, MatchResult, OnErr, IfErr, IfOk, IsErrOf};
 ghost use Rattle.std.specs.Io.KnownBytes.{Consumes, IsAtEnd, Keeps};

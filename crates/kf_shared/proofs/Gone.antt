@@ -16,7 +16,7 @@ use Rattle.kf_core.specs.Steps.{BareStep, with_marks}
 use Rattle.kf_core.proofs.Climbs.{same_parts}
 use Rattle.kf_core.proofs.Lists.{slice_get-set_same, slice_get-set_other}
 use Rattle.kf_core.proofs.Passing.{HasCome, step_come}
-use Rattle.kf_words.specs.declared.sight.Kind.{Kind}
+use Rattle.kf_words.specs.declared.sight.StepKind.{StepKind}
 use Rattle.kf_words.proofs.WordSteps.{Alone, TakenOut, Came}
 use Rattle.kf_words.proofs.Runs.{alone_come}
 
@@ -84,7 +84,7 @@ pub step_gone : (w : BareWorld) (e : Event) (w' : BareWorld) (k : Key) → BareS
 step_gone w e w' k s g = record { unlinked = stays w e w' k s g; come = step_come w e w' k s g.come }
 
 -- the same of a step of the Master that no event tells
-pub alone_gone : (k : Key) (kind : Kind) (w w' : BareWorld) → Alone kind w w' → Gone w k → Gone w' k
+pub alone_gone : (k : Key) (kind : StepKind) (w w' : BareWorld) → Alone kind w w' → Gone w k → Gone w' k
 alone_gone k kind w w' a g = record {
   unlinked = ⊎_elim
       (λ (o : TakenOut kind w w'). subst (λ (x : BareWorld). marks x k ≡ None) (sym o.is) (linked_else w o.key k o.had None o.linked g.unlinked))

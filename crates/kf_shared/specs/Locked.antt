@@ -55,15 +55,15 @@ Created old new parent name node live key =
     (Create key parent name node live)
 
 -- what is wrong with the new node, whichever key is next
-abbrev pub fault_of : Locked → Key → List ℕ → Node → Option Refusal
-fault_of s parent name node = create_fault s.state.tree s.state.root parent name node
+abbrev pub creation_fault : Locked → Key → List ℕ → Node → Option Refusal
+creation_fault s parent name node = create_fault s.state.tree s.state.root parent name node
 
 -- why a create was refused: something was wrong with the new node, and nothing was searched or changed; or
 -- nothing was, and with the next key that was found there was this cause, or no memory
 abbrev pub CreateRefused : Locked → Locked → Key → List ℕ → Node → Refusal → Type 0
 CreateRefused old new parent name node refusal =
-    ((fault_of old parent name node ≡ Some refusal) × (new ≡ old))
-    ⊎ ((fault_of old parent name node ≡ None)
+    ((creation_fault old parent name node ≡ Some refusal) × (new ≡ old))
+    ⊎ ((creation_fault old parent name node ≡ None)
     × ((next : Option Key) × HasFound old.master.view next new.master.view
     × IsRefused old.state new.state (create_cause old.state.tree old.state.root parent name node next)
     refusal))

@@ -11,7 +11,7 @@ use Rattle.kf_tree.specs.TreeLogs.{TreeLog}
 use Rattle.kf_words.specs.Callers.{CallerSight}
 use Rattle.kf_words.specs.Callers.{TableId, Handle, SeatId, IsSameSeat, id_of}
 use Rattle.kf_words.specs.Runs.{OnlyLooked, OnlyMade}
-use Rattle.kf_words.specs.declared.sight.Kind.TheVariants.{Parts as parts}
+use Rattle.kf_words.specs.declared.sight.StepKind.TheVariants.{Parts as parts}
 use Rattle.kf_words.specs.Nodes.{IsLastKey}
 use Rattle.kf_shared.specs.Locked.{Locked}
 

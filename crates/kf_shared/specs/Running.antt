@@ -15,8 +15,8 @@ use Rattle.kf_core.specs.Commands.{replay, root_alone}
 use Rattle.kf_words.specs.Rule.{Shown}
 use Rattle.kf_words.specs.Steps.{opened}
 use Rattle.kf_words.specs.Callers.{TableId}
-use Rattle.kf_words.specs.declared.sight.Kind.{Kind}
-use Rattle.kf_words.specs.declared.sight.Kind.TheVariants.{Tries as tries, Births as births}
+use Rattle.kf_words.specs.declared.sight.StepKind.{StepKind}
+use Rattle.kf_words.specs.declared.sight.StepKind.TheVariants.{Tries as tries, Births as births}
 use Rattle.kf_words.specs.Runs.{Table, WordStep, WordRun, WasLetIn, TryIsRefused, OverRuns, world, master_in, opened_table}
 use Rattle.kf_shared.specs.Locked.{Locked, IsWhole}
 
@@ -28,7 +28,7 @@ pub record IsFreeLock (u : Table) (s : Locked) : Type 0 where
 
 -- in each run of any seats, from each table that meets the rule, where at its end the lock is free
 abbrev pub WhileFree : (ℕ → ℕ → Table → Table → Locked → Type 0) → Type 0
-WhileFree Law = (slots limit : ℕ) (t u : Table) (kinds : List Kind) (s : Locked) → Shown slots limit t
+WhileFree Law = (slots limit : ℕ) (t u : Table) (kinds : List StepKind) (s : Locked) → Shown slots limit t
     → WordRun t kinds u → IsFreeLock u s → Law slots limit t u s
 
 -- a new tree goes with a table that meets the rule, where nobody is there but its Master
@@ -62,7 +62,7 @@ StartsLive = WhileFree
 -- in each run from a new tree's table, whoever runs at its end was let in by a try of it, which found its key
 -- live
 abbrev pub TakenWhileLive : Type 0
-TakenWhileLive = (slots limit start : ℕ) (u : Table) (kinds : List Kind) → 1 ≤ slots → limit ≤ 65535
+TakenWhileLive = (slots limit start : ℕ) (u : Table) (kinds : List StepKind) → 1 ≤ slots → limit ≤ 65535
     → WordRun (opened_table limit slots start) kinds u
     → (c : ℕ) (key : Key) → IsCaller (world u) c key Running
     → WasLetIn (opened_table limit slots start) kinds u c key

@@ -247,7 +247,8 @@ impl<'a, N: Naming> Editor<'a, N> {
         self.guard.compact()
     }
 
-    /// Lets the lock go, and gives the tree back, on which a removal that was begun is then finished.
+    /// Lets the lock go, and gives the tree back, on which a removal that was begun is then finished. What
+    /// the lock keeps is others' from then on, so no clause tells of it.
     pub fn let_go(self) -> &'a SharedTree<N> {
         let tree = self.tree;
         drop(self);

@@ -11,7 +11,7 @@ use kf_tree::State;
 use kf_words::{Hold, Master, Parted};
 use std::alloc::Global;
 
-/// Gives these holds back.
+/// Gives these holds back: nothing is left of them that a clause could tell of.
 pub fn release_each(mut holds: Vec<Hold>) {
     while let Some(hold) = holds.pop() {
         hold.release();

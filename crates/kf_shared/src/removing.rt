@@ -76,7 +76,8 @@ impl<N: Naming> Removing<N> {
     }
 }
 
-/// Gives the receipts of a removal back. Each frees its node's slot where nobody holds that any more.
+/// Gives the receipts of a removal back. Each frees its node's slot where nobody holds that any more. Nothing
+/// is left of them that a clause could tell of.
 pub fn release_all(mut receipts: Vec<Parted>) {
     while let Some(receipt) = receipts.pop() {
         receipt.release();

@@ -12,7 +12,7 @@ use Rattle.std.proofs.lemmas.List.{map-set, set-get_or, set-set}
 use Rattle.kf_core.specs.declared.key.Key.{Key}
 use Rattle.kf_index.specs.Entries.{AreAbove}
 use Rattle.kf_table.specs.declared.directory.Directory.{Directory}
-use Rattle.kf_table.specs.Directories.{empty_directory, directory_in, without_child, subdirs_at, HasRoom}
+use Rattle.kf_table.specs.Directories.{empty_directory, directory_in, without_child, subdirs_at, HasRoomFor}
 use Rattle.kf_table.proofs.Entries.{entry_read, subdirs_read, names_read}
 
 -- the box of a slot, where there is one
@@ -108,7 +108,7 @@ always_err (Err e) p = p
 
 -- ---- what a name asks of the directory that it enters
 
-module _ (ds : List Directory) (slot : ℕ) (name : List ℕ) (room : HasRoom ds slot name) (d : Directory) (is : d ≡ get_or ds slot empty_directory) where
+module _ (ds : List Directory) (slot : ℕ) (name : List ℕ) (room : HasRoomFor ds slot name) (d : Directory) (is : d ≡ get_or ds slot empty_directory) where
   pub room_few : d.subdirs + 1 < 2 ^ 64
   room_few = let told = subdirs_read ds slot d room.within is in let few = room.few in omega (arith, told, few)
 

@@ -13,7 +13,7 @@ use Rattle.kf_core.specs.Commands.{moved_record}
 use Rattle.kf_table.specs.declared.directory.Directory.{Directory}
 use Rattle.kf_table.specs.Children.{is_there_already}
 use Rattle.kf_table.specs.Changes.{with_changed_slot}
-use Rattle.kf_table.specs.Directories.{empty_directory, with_child, with_entry, without_entry, without_record, HasRoom, MayRemove, entry_at, subdirs_at, AreKept}
+use Rattle.kf_table.specs.Directories.{empty_directory, with_child, with_entry, without_entry, without_record, HasRoomFor, MayRemove, entry_at, subdirs_at, AreKept}
 use Rattle.kf_core.proofs.FoundRecords.{in_found}
 use Rattle.kf_table.proofs.Altered.{record_in}
 use Rattle.kf_table.proofs.Entries.{entered_counted, left_elsewhere, subdirs_elsewhere}
@@ -35,7 +35,7 @@ module _ (t : Tree) (ds : List Directory) (kept : AreKept t ds) (key dir : Key) 
     known : record_at t key ≡ Some r
     known = ap (record_at t) (sym has_key) ∙ in_found t r is_in
 
-    pub has_room : HasRoom ds dir.slot name
+    pub has_room : HasRoomFor ds dir.slot name
     has_room =
         let low = move_low t ds kept m.lawful.0 m.lawful.1 key dir name r known m.lawful_after.0 m.lawful_after.1 m.elsewhere in
         record {

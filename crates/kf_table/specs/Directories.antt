@@ -75,7 +75,7 @@ without_record None directories = directories
 without_record (Some r) directories = without_entry r.parent r.name (is_dir r.node) directories
 
 -- the name may enter the index of this slot
-pub record HasRoom (directories : List Directory) (slot : ℕ) (name : List ℕ) : Type 0 where
+pub record HasRoomFor (directories : List Directory) (slot : ℕ) (name : List ℕ) : Type 0 where
   pub within : slot < length directories
   pub lawful_name : IsLawfulName name
   pub absent : entry_at directories slot name ≡ None
@@ -84,7 +84,7 @@ pub record HasRoom (directories : List Directory) (slot : ℕ) (name : List ℕ)
 
 -- where the record has a parent, its name may enter the index of the parent's slot
 abbrev pub MayInsert : List Directory → Record → Type 0
-MayInsert directories r = (parent : Key) → r.parent ≡ Some parent → HasRoom directories parent.slot r.name
+MayInsert directories r = (parent : Key) → r.parent ≡ Some parent → HasRoomFor directories parent.slot r.name
 
 -- there is a directory for the record's parent, which counts it if it is a directory
 abbrev pub MayRemove : List Directory → Option Record → Type 0

@@ -3,7 +3,7 @@
 ghost use Rattle.std.specs.Prelude.{◌≡◌, ◌<◌, None, IsTrue, IfSome, IfNone, IfOk, IfErr, OnOk, OnErr, replicate, slice_get, slice_set, slice_index_or};
 ghost use Rattle.std.specs.Option.{option_copied, option_and_then};
 ghost use Rattle.kf_index.specs.Entries.{AreAbove};
-ghost use Rattle.kf_table.specs.Directories.{empty_directory, directory_in, without_child, with_entry, with_record, without_record, subdirs_at, HasRoom, MayInsert, MayRemove};
+ghost use Rattle.kf_table.specs.Directories.{empty_directory, directory_in, without_child, with_entry, with_record, without_record, subdirs_at, HasRoomFor, MayInsert, MayRemove};
 
 use crate::children::is_directory;
 use crate::directory::Directory;
@@ -107,7 +107,7 @@ impl Directories {
         key: Key,
         is_subdir: bool,
     ) -> Result<(), Refusal>
-        requires room { HasRoom self.old slot name.now }
+        requires room { HasRoomFor self.old slot name.now }
         ensures inserted { OnOk result (self.new ≡ with_entry slot name.now key is_subdir self.old) }
         ensures unchanged { OnErr result (self.new ≡ self.old) }
         ensures refused { IfErr result (λ refusal. refusal ≡ Refusal.NoMemory) }

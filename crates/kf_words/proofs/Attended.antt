@@ -10,10 +10,10 @@ use Rattle.kf_words.specs.declared.view.CallerView.{CallerView}
 use Rattle.kf_words.specs.declared.view.MasterView.{MasterView}
 use Rattle.kf_words.specs.declared.view.View.{View}
 use Rattle.kf_words.specs.declared.view.View.TheVariants as seat
-use Rattle.kf_words.specs.Rule.{Shown, seats, bare, last_key}
+use Rattle.kf_words.specs.Rule.{Shown, seats, bare_world, last_key}
 use Rattle.kf_words.specs.Steps.{state_at, without_node}
 use Rattle.kf_words.specs.Nodes.{marks_of}
-use Rattle.kf_words.specs.TableSteps.{Table, Kind, splits, unlinks, master_in, world, HoldsSlot, IsDrainedOn, IsPinnable, IsAttended, WordStep}
+use Rattle.kf_words.specs.TableSteps.{Table, StepKind, splits, unlinks, master_in, world, HoldsSlot, IsDrainedOn, IsPinnable, IsAttended, WordStep}
 use Rattle.kf_words.proofs.MasterAllowed.{state_there}
 use Rattle.kf_words.proofs.Events.{unlink_is_unlink}
 use Rattle.kf_words.proofs.WordSteps.{IsEvent, Alone, TakenOut, Came, at, met, world_is, split_pins, linked_pins, held_pins, word_step}
@@ -31,8 +31,8 @@ unlink_event slots limit t slot t' g s j lent =
     let is = world_is t m g.callers k.views in
     let is' = world_is t' m' g.callers views in
     subst (λ (w : BareWorld). BareStep w (Unlink j) (world t')) (sym is)
-    (subst (λ (w : BareWorld). BareStep (bare m g.callers) (Unlink j) w) (sym is')
-    (subst (λ (i : ℕ). BareStep (bare m g.callers) (Unlink j) (bare (without_node i m) g.callers)) lent.2
+    (subst (λ (w : BareWorld). BareStep (bare_world m g.callers) (Unlink j) w) (sym is')
+    (subst (λ (i : ℕ). BareStep (bare_world m g.callers) (Unlink j) (bare_world (without_node i m) g.callers)) lent.2
     (unlink_is_unlink slots limit t k j c its lent.3 there)))
 
 -- a hold that gets its seat while its slot has a linked node, or another who holds it, is a Pin
@@ -50,7 +50,7 @@ pin_event slots limit t slot t' g s may =
     )
 
 -- an attended step is an event, or nothing
-pub attended_event : (slots limit : ℕ) (t : Table) (kind : Kind) (t' : Table) → Shown slots limit t → WordStep t kind t' → IsAttended t kind
+pub attended_event : (slots limit : ℕ) (t : Table) (kind : StepKind) (t' : Table) → Shown slots limit t → WordStep t kind t' → IsAttended t kind
     → (world t' ≡ world t) ⊎ ((e : Event) × BareStep (world t) e (world t'))
 attended_event slots limit t kind t' h s may = ⊎_elim
     (λ (same : world t' ≡ world t). inl same)
@@ -58,10 +58,10 @@ attended_event slots limit t kind t' h s may = ⊎_elim
     (λ (e : IsEvent kind (world t) (world t')). inr (e.event, e.step))
     (λ (alone : Alone kind (world t) (world t')). ⊎_elim
     (λ (o : TakenOut kind (world t) (world t')).
-    let drained : (j : ℕ) × IsDrainedOn t o.slot j = subst (λ (k : Kind). IsAttended t k) o.kind_is may in
-    inr (Unlink drained.0, unlink_event slots limit t o.slot t' h (subst (λ (k : Kind). WordStep t k t') o.kind_is s) drained.0 drained.1))
+    let drained : (j : ℕ) × IsDrainedOn t o.slot j = subst (λ (k : StepKind). IsAttended t k) o.kind_is may in
+    inr (Unlink drained.0, unlink_event slots limit t o.slot t' h (subst (λ (k : StepKind). WordStep t k t') o.kind_is s) drained.0 drained.1))
     (λ (c : Came kind (world t) (world t')).
-    inr (pin_event slots limit t c.slot t' h (subst (λ (k : Kind). WordStep t k t') c.kind_is s) (subst (λ (k : Kind). IsAttended t k) c.kind_is may)))
+    inr (pin_event slots limit t c.slot t' h (subst (λ (k : StepKind). WordStep t k t') c.kind_is s) (subst (λ (k : StepKind). IsAttended t k) c.kind_is may)))
     alone)
     more)
     (word_step slots limit t kind t' h s).1

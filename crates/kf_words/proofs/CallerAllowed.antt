@@ -13,7 +13,7 @@ use Rattle.kf_words.specs.declared.view.View.TheVariants as seat
 use Rattle.kf_words.specs.Layout.{hide, active_index, hold_index, active_word, hold_word, has_hide}
 use Rattle.kf_words.specs.Rule.{Shows, Shown, seats}
 use Rattle.kf_words.specs.Steps.{Seated, caller_of, after_try, after_undo, after_leave, after_look, after_release, after_part, after_miss, after_break, after_restore, after_hide, after_look_hidden, after_show, CallerBecomes, ShowsKey}
-use Rattle.kf_words.specs.Callers.{IsAtRest, HasReference, IsIn}
+use Rattle.kf_words.specs.Callers.{IsAtRest, HasReference, IsInPhase}
 use Rattle.kf_words.proofs.Bits.{waiting_is, counted_is}
 use Rattle.kf_words.proofs.Seating.{caller_seat, seats-set}
 use Rattle.kf_words.proofs.CallerSteps.{try_owes, undo_owes, leave_owes, break_owes, restore_owes, look_owes}
@@ -67,20 +67,20 @@ module _ (count limit homes id : ℕ) (me : Seated) (i : ℕ) (is : me ≡ (seat
   hide_allowed waits = subst (λ (k : ℕ). Allows (Shown count limit) homes id me k (λ n. bit_or n hide) (CallerBecomes after_hide no_step me)) its
       (allows count limit homes id me (active_index c.key.slot) (λ n. bit_or n hide) after_hide is (λ words m cs j _ shows at small. hide_owes words m cs j c shows at (waiting_is c.phase waits.0).0 waits.0 waits.1 small))
 
-  pub look_hidden_allowed : IsIn Hiding c → Allows (Shown count limit) homes id me i (λ n. n) (CallerBecomes after_look_hidden no_step me)
+  pub look_hidden_allowed : IsInPhase Hiding c → Allows (Shown count limit) homes id me i (λ n. n) (CallerBecomes after_look_hidden no_step me)
   look_hidden_allowed is_in = here (λ n. n) after_look_hidden (λ words m cs j shows at. look_hidden_owes words m cs j c shows at (λ e. let x : Hiding ≡ Spent = sym is_in.0 ∙ e in cc) is_in.0 is_in.1)
 
-  show_moves : IsIn Hidden c → Allows (Shown count limit) homes id me i (λ n. (n + (2 ^ 64 - hide)) % 2 ^ 64) (CallerBecomes after_show no_step me)
+  show_moves : IsInPhase Hidden c → Allows (Shown count limit) homes id me i (λ n. (n + (2 ^ 64 - hide)) % 2 ^ 64) (CallerBecomes after_show no_step me)
   show_moves is_in = here (λ n. (n + (2 ^ 64 - hide)) % 2 ^ 64) after_show (λ words m cs j shows at. show_owes words m cs j c shows at (λ e. let x : Hidden ≡ Spent = sym is_in.0 ∙ e in cc) is_in.0 is_in.1)
 
   -- the bit was set
-  hidden_set : IsIn Hidden c → (t : State (Unit {0}) View) → Shown count limit t → get_elem? t.views id ≡ some me.0 → has_hide (get_or t.words i 0) ≡ true
+  hidden_set : IsInPhase Hidden c → (t : State (Unit {0}) View) → Shown count limit t → get_elem? t.views id ≡ some me.0 → has_hide (get_or t.words i 0) ≡ true
   hidden_set is_in t h at =
       let at' : get_elem? (seats h.master h.callers) id ≡ some (seat.Caller c) = subst (λ (l : List View). get_elem? l id ≡ some (seat.Caller c)) h.views (at ∙ ap (λ (x : Seated). some x.0) is) in
       let p = caller_seat h.master h.callers id c at' in
       subst (λ (k : ℕ). has_hide (get_or t.words k 0) ≡ true) its (show_finds t.words h.master h.callers p.0 c h.shows p.2 (λ e. let x : Hidden ≡ Spent = sym is_in.0 ∙ e in cc) is_in.0)
 
-  pub show_allowed : IsIn Hidden c → Allows (Shown count limit) homes id me i (λ n. (n + (2 ^ 64 - hide)) % 2 ^ 64) (ShowsKey no_step me)
+  pub show_allowed : IsInPhase Hidden c → Allows (Shown count limit) homes id me i (λ n. (n + (2 ^ 64 - hide)) % 2 ^ 64) (ShowsKey no_step me)
   show_allowed is_in t h long at small = let r = show_moves is_in t h long at small in (r.0, r.1, r.2, r.3, (r.4, hidden_set is_in t h at))
 
   pub try_allowed : IsAtRest c → Allows (Shown count limit) homes id me i (λ n. (n + 1) % 2 ^ 64) (CallerBecomes after_try no_step me)
@@ -95,10 +95,10 @@ module _ (count limit homes id : ℕ) (me : Seated) (i : ℕ) (is : me ≡ (seat
   pub look_allowed : IsAtRest c → Allows (Shown count limit) homes id me i (λ n. n) (CallerBecomes after_look no_step me)
   look_allowed waits = here (λ n. n) after_look (λ words m cs j shows at. look_owes words m cs j c shows at (waiting_is c.phase waits.0).0 waits.0 waits.1)
 
-  pub break_allowed : IsIn Running c → Allows (Shown count limit) homes id me i (λ n. (n + (2 ^ 64 - 1)) % 2 ^ 64) (CallerBecomes after_break no_step me)
+  pub break_allowed : IsInPhase Running c → Allows (Shown count limit) homes id me i (λ n. (n + (2 ^ 64 - 1)) % 2 ^ 64) (CallerBecomes after_break no_step me)
   break_allowed is_in = here (λ n. (n + (2 ^ 64 - 1)) % 2 ^ 64) after_break (λ words m cs j shows at. break_owes words m cs j c shows at (λ e. let x : Running ≡ Spent = sym is_in.0 ∙ e in cc) is_in.0 is_in.1)
 
-  pub restore_allowed : IsIn Broken c → Allows (Shown count limit) homes id me i (λ n. (n + 1) % 2 ^ 64) (CallerBecomes after_restore no_step me)
+  pub restore_allowed : IsInPhase Broken c → Allows (Shown count limit) homes id me i (λ n. (n + 1) % 2 ^ 64) (CallerBecomes after_restore no_step me)
   restore_allowed is_in = here (λ n. (n + 1) % 2 ^ 64) after_restore (λ words m cs j shows at. restore_owes words m cs j c shows at (λ e. let x : Broken ≡ Spent = sym is_in.0 ∙ e in cc) is_in.0 is_in.1)
 
 -- the steps on the hold word
@@ -121,7 +121,7 @@ module _ (count limit homes id : ℕ) (me : Seated) (i : ℕ) (is : me ≡ (seat
       idle_is : (p : Phase) → may_release p ≡ true → p ≢ Spent
       idle_is p e x = let y : may_release Spent ≡ true = subst (λ (q : Phase). may_release q ≡ true) x e in cc
 
-  pub part_allowed : IsIn Drained me_c → Allows (Shown count limit) homes id me i (λ n. n) (CallerBecomes after_part no_step me)
+  pub part_allowed : IsInPhase Drained me_c → Allows (Shown count limit) homes id me i (λ n. n) (CallerBecomes after_part no_step me)
   part_allowed is_in = hold_step (λ n. n) after_part (λ words m cs j shows at small. part_owes words m cs j me_c shows at (λ e. let x : Drained ≡ Spent = sym is_in.0 ∙ e in cc) is_in.0 is_in.1)
 
   pub miss_allowed : IsAtRest me_c → Allows (Shown count limit) homes id me i (λ n. n) (CallerBecomes after_miss no_step me)

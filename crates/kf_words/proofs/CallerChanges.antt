@@ -25,7 +25,7 @@ use Rattle.atomic_table.proofs.Lists.{at_set}
 use Rattle.kf_words.specs.declared.view.CallerView.{CallerView}
 use Rattle.kf_words.specs.declared.view.MasterView.{MasterView}
 use Rattle.kf_words.specs.Layout.{bit, active_index, hold_index, active_word, hold_word, IsFree}
-use Rattle.kf_words.specs.Rule.{tally, is_user, is_hider, is_holder, is_pinner, users, hiders, holders, pins_in, ShowsMarks, ShowsHolds, StillHolds, last_key, caller, bare, Shows}
+use Rattle.kf_words.specs.Rule.{tally, is_user, is_hider, is_holder, is_pinner, users, hiders, holders, pins_in, ShowsMarks, ShowsHolds, StillHolds, last_key, caller, bare_world, Shows}
 use Rattle.kf_words.proofs.Bits.{one_more, one_less, counted_unspent, not_spent, held_not_free}
 use Rattle.kf_words.proofs.Seating.{caller_at, at_caller, tally-set, tally≤, tally-one}
 
@@ -40,7 +40,7 @@ module _ {words : List ℕ} {m : MasterView} {cs : List CallerView} (j : ℕ) {c
   hold = hold_word words slot
 
   abbrev world : BareWorld
-  world = bare m cs
+  world = bare_world m cs
 
   pub there : slice_get world.callers j ≡ Some (caller c)
   there = caller_at cs j c at
@@ -128,7 +128,7 @@ module _ {words : List ℕ} {m : MasterView} {cs : List CallerView} (j : ℕ) {c
         let y = in_this is_pinner p p' (ap (λ (s : Bool). s && c.pinning) (in_its_slot c refl) ∙ counted) (ap (λ (s : Bool). s && c'.pinning) (in_its_slot c' same) ∙ counts) in
         omega arith
 
-    same_world : with_phase world j c.key c'.phase ≡ bare m (set cs j c')
+    same_world : with_phase world j c.key c'.phase ≡ bare_world m (set cs j c')
     same_world =
         ap (λ (key : Key). with_phase world j key c'.phase) (sym same)
         ∙ ap (λ (l : List Caller). let w : BareWorld = record { slots = m.slots; callers = l } in w) (sym (map-set caller cs j c'))

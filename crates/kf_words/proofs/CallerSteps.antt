@@ -14,7 +14,7 @@ use Rattle.kf_core.proofs.Keeping.{same_key}
 use Rattle.kf_words.specs.declared.view.CallerView.{CallerView}
 use Rattle.kf_words.specs.declared.view.MasterView.{MasterView}
 use Rattle.kf_words.specs.Layout.{active_index, active_word, has_bias, has_hide, keeps_out, is_drained}
-use Rattle.kf_words.specs.Rule.{users, hiders, last_key, bare, Shows}
+use Rattle.kf_words.specs.Rule.{users, hiders, last_key, bare_world, Shows}
 use Rattle.kf_words.specs.Steps.{after_step, with_try, after_try, after_undo, after_leave, after_look, after_break, after_restore}
 use Rattle.kf_words.proofs.Bits.{bool_cases, bias_shows, drained_shows, waiting_is, not_not}
 use Rattle.kf_words.proofs.Answered.{try_enters, try_refused, look_hits, look_misses}
@@ -30,7 +30,7 @@ module _ (words : List ℕ) (m : MasterView) (cs : List CallerView) (j : ℕ) (c
   word = active_word words slot
 
   abbrev world : BareWorld
-  world = bare m cs
+  world = bare_world m cs
 
   abbrev last : IsLast world c.key.slot c.key.generation
   last = last_state j shows at holding

@@ -24,7 +24,7 @@ use Rattle.kf_words.specs.declared.view.CallerView.{CallerView}
 use Rattle.kf_words.specs.declared.view.MasterView.{MasterView}
 use Rattle.kf_words.specs.declared.view.View.{View}
 use Rattle.kf_words.specs.Layout.{active_word, hold_word, keeps_out, is_drained, has_hide, is_unused, has_linked}
-use Rattle.kf_words.specs.Rule.{Shown, caller, bare, last_key}
+use Rattle.kf_words.specs.Rule.{Shown, caller, bare_world, last_key}
 use Rattle.kf_words.specs.Steps.{after_step, with_try, no_state, state_at, remarked, new_hold, hold_for, after_split, activated_marks, doomed_marks, after_count, after_share}
 use Rattle.kf_words.specs.Nodes.{marks_of}
 use Rattle.kf_words.specs.Events.{Moves, TryIsEnter, UndoIsUndo, LookIsLook, PartIsPart, LeaveIsLeave, BreakIsBreak, RestoreIsRestore, ReleaseIsRelease, HideIsHide, LookHiddenIsLook, ShowIsShow, MissIsNothing, RiseIsRise, MarkIsMark, BirthIsBorn, UnlinkIsUnlink, SplitIsPin, HeldSplitIsPin, ShareIsPin, RestIsNothing}
@@ -46,23 +46,23 @@ caller_there (x ∷ xs) (suc j) c e = caller_there xs j c e
 
 -- the caller of number j has this view
 module _ (m : MasterView) (cs : List CallerView) (j : ℕ) (c : CallerView) (at : slice_get cs j ≡ Some c) where
-  there : slice_get (bare m cs).callers j ≡ Some (caller c)
+  there : slice_get (bare_world m cs).callers j ≡ Some (caller c)
   there = caller_there cs j c at
 
   -- its new view, with the same key, makes of the world what its new phase does
-  becomes : (c' : CallerView) → caller c' ≡ record { key = c.key; phase = c'.phase } → core.with_phase (bare m cs) j c.key c'.phase ≡ bare m (set cs j c')
+  becomes : (c' : CallerView) → caller c' ≡ record { key = c.key; phase = c'.phase } → core.with_phase (bare_world m cs) j c.key c'.phase ≡ bare_world m (set cs j c')
   becomes c' is =
       ap (λ (x : Caller). let w : BareWorld = record { slots = m.slots; callers = set (map caller cs) j x } in w) (sym is)
       ∙ ap (λ (l : List Caller). let w : BareWorld = record { slots = m.slots; callers = l } in w) (sym (map-set caller cs j c'))
 
-  moved : (event : Event) (phase : Phase) (due : Bool) (found : ℕ) → core.BareStep (bare m cs) event (core.with_phase (bare m cs) j c.key phase) → Moves m cs j (after_step phase due found c) event
-  moved event phase due found = subst (λ (w : BareWorld). core.BareStep (bare m cs) event w) (becomes (after_step phase due found c) refl)
+  moved : (event : Event) (phase : Phase) (due : Bool) (found : ℕ) → core.BareStep (bare_world m cs) event (core.with_phase (bare_world m cs) j c.key phase) → Moves m cs j (after_step phase due found c) event
+  moved event phase due found = subst (λ (w : BareWorld). core.BareStep (bare_world m cs) event w) (becomes (after_step phase due found c) refl)
 
-  tried : (event : Event) (phase : Phase) (due : Bool) (found : ℕ) → core.BareStep (bare m cs) event (core.with_phase (bare m cs) j c.key phase) → Moves m cs j (after_step phase due found (with_try c)) event
-  tried event phase due found = subst (λ (w : BareWorld). core.BareStep (bare m cs) event w) (becomes (after_step phase due found (with_try c)) refl)
+  tried : (event : Event) (phase : Phase) (due : Bool) (found : ℕ) → core.BareStep (bare_world m cs) event (core.with_phase (bare_world m cs) j c.key phase) → Moves m cs j (after_step phase due found (with_try c)) event
+  tried event phase due found = subst (λ (w : BareWorld). core.BareStep (bare_world m cs) event w) (becomes (after_step phase due found (with_try c)) refl)
 
   -- the world stays where the phase does
-  stays : (due : Bool) (found : ℕ) → bare m (set cs j (after_step c.phase due found c)) ≡ bare m cs
+  stays : (due : Bool) (found : ℕ) → bare_world m (set cs j (after_step c.phase due found c)) ≡ bare_world m cs
   stays due found = sym (becomes (after_step c.phase due found c) refl) ∙ ap (λ (l : List Caller). let w : BareWorld = record { slots = m.slots; callers = l } in w) (same (map caller cs) j (caller c) there)
     where
       same : (l : List Caller) (i : ℕ) (x : Caller) → slice_get l i ≡ Some x → set l i x ≡ l
@@ -70,13 +70,13 @@ module _ (m : MasterView) (cs : List CallerView) (j : ℕ) (c : CallerView) (at 
       same (y ∷ ys) zero x e = ap (λ z. z ∷ ys) (sym (same_Some y x e))
       same (y ∷ ys) (suc i) x e = ap (λ l. y ∷ l) (same ys i x e)
 
-  in_phase : (phase : Phase) → c.phase ≡ phase → slice_get (bare m cs).callers j ≡ Some (record { key = c.key; phase = phase })
-  in_phase phase is = subst (λ (p : Phase). slice_get (bare m cs).callers j ≡ Some (record { key = c.key; phase = p })) is there
+  in_phase : (phase : Phase) → c.phase ≡ phase → slice_get (bare_world m cs).callers j ≡ Some (record { key = c.key; phase = phase })
+  in_phase phase is = subst (λ (p : Phase). slice_get (bare_world m cs).callers j ≡ Some (record { key = c.key; phase = p })) is there
 
 -- a caller that is not spent holds the last key of its slot
 module _ (slots limit : ℕ) (t : State (Unit {0}) View) (shown : Shown slots limit t) (j : ℕ) (c : CallerView) (at : slice_get shown.callers j ≡ Some c) (holding : c.phase ≢ Spent) where
   abbrev world : BareWorld
-  world = bare shown.master shown.callers
+  world = bare_world shown.master shown.callers
 
   last : IsLast world c.key.slot c.key.generation
   last = shown.shows.safe.held_last j c.key c.phase (there shown.master shown.callers j c at) holding
@@ -113,10 +113,10 @@ try_is_enter slots limit t shown j c at rests =
     ⊎_elim
     (λ (biased : keeps_out word ≡ true). subst (λ (x : CallerView). Moves m cs j x (Enter j)) (sym (try_refused word c biased))
     (tried m cs j c at (Enter j) Turned true word
-    (c.key, c.phase, there m cs j c at, rests.0, ap (core.with_phase (bare m cs) j c.key) (sym (ap (λ (b : Bool). if b then Running else Turned) (lives ∙ ap not biased))))))
+    (c.key, c.phase, there m cs j c at, rests.0, ap (core.with_phase (bare_world m cs) j c.key) (sym (ap (λ (b : Bool). if b then Running else Turned) (lives ∙ ap not biased))))))
     (λ (free : keeps_out word ≡ false). subst (λ (x : CallerView). Moves m cs j x (Enter j)) (sym (try_enters word c free))
     (tried m cs j c at (Enter j) Running false word
-    (c.key, c.phase, there m cs j c at, rests.0, ap (core.with_phase (bare m cs) j c.key) (sym (ap (λ (b : Bool). if b then Running else Turned) (lives ∙ ap not free))))))
+    (c.key, c.phase, there m cs j c at, rests.0, ap (core.with_phase (bare_world m cs) j c.key) (sym (ap (λ (b : Bool). if b then Running else Turned) (lives ∙ ap not free))))))
     (bool_cases (keeps_out word))
 
 pub undo_is_undo : UndoIsUndo
@@ -183,10 +183,10 @@ pub miss_is_nothing : MissIsNothing
 miss_is_nothing slots limit t shown j c at found =
     let m : MasterView = shown.master in
     let cs : List CallerView = shown.callers in (
-      λ miss. ap (λ (x : CallerView). bare m (set cs j x)) (look_misses found c miss) ∙ stays m cs j c at c.undo_due found,
-      λ linked. ap (λ (x : CallerView). bare m (set cs j x)) (part_linked found c linked) ∙ stays m cs j c at c.undo_due found,
-      λ set_already. ap (λ (x : CallerView). bare m (set cs j x)) (hide_found found c set_already) ∙ stays m cs j c at c.undo_due found,
-      λ used. ap (λ (x : CallerView). bare m (set cs j x)) (look_hidden_misses found c used) ∙ stays m cs j c at c.undo_due found,
+      λ miss. ap (λ (x : CallerView). bare_world m (set cs j x)) (look_misses found c miss) ∙ stays m cs j c at c.undo_due found,
+      λ linked. ap (λ (x : CallerView). bare_world m (set cs j x)) (part_linked found c linked) ∙ stays m cs j c at c.undo_due found,
+      λ set_already. ap (λ (x : CallerView). bare_world m (set cs j x)) (hide_found found c set_already) ∙ stays m cs j c at c.undo_due found,
+      λ used. ap (λ (x : CallerView). bare_world m (set cs j x)) (look_hidden_misses found c used) ∙ stays m cs j c at c.undo_due found,
       stays m cs j c at c.undo_due found,
       ap (λ (l : List Caller). let w : BareWorld = record { slots = m.slots; callers = l } in w) (map-set caller cs j (after_count found c) ∙ sym (map-set caller cs j (after_step c.phase c.undo_due found c)))
           ∙ stays m cs j c at c.undo_due found,
@@ -244,7 +244,7 @@ split_is_pin slots limit t shown slot state pins its may =
     ap (hold_for m) pins ∙ ap (λ (y : SlotState). new_hold (last_key slot y)) (get_or_from_slice_get m.slots slot state no_state its) in (
       sym (length-map cs caller),
       may,
-      ap (λ (x : CallerView). bare (after_split m) (cs ++ x ∷ [])) who
+      ap (λ (x : CallerView). bare_world (after_split m) (cs ++ x ∷ [])) who
           ∙ ap (λ (l : List Caller). let w : BareWorld = record { slots = m.slots; callers = l } in w) (map-append caller cs (new_hold (last_key slot state) ∷ [])),
     )
 
@@ -254,15 +254,15 @@ held_split_is_pin slots limit t shown j c at holds pins =
     let cs : List CallerView = shown.callers in
     let l = last slots limit t shown j c at holds in
     let key : last_key c.key.slot l.0 ≡ c.key = its_key slots limit t shown j c at holds in
-    let held : core.IsHeld (bare m cs) c.key = record { caller = j; phase = c.phase; there = there m cs j c at; holds = holds } in
-    subst (λ (k : Key). core.BareStep (bare m cs) (Pin (length cs) k) (bare (after_split m) (cs ++ hold_for m m.pinning ∷ []))) key
-    (split_is_pin slots limit t shown c.key.slot l.0 pins l.1 (inr (subst (λ (k : Key). core.IsHeld (bare m cs) k) (sym key) held)))
+    let held : core.IsHeld (bare_world m cs) c.key = record { caller = j; phase = c.phase; there = there m cs j c at; holds = holds } in
+    subst (λ (k : Key). core.BareStep (bare_world m cs) (Pin (length cs) k) (bare_world (after_split m) (cs ++ hold_for m m.pinning ∷ []))) key
+    (split_is_pin slots limit t shown c.key.slot l.0 pins l.1 (inr (subst (λ (k : Key). core.IsHeld (bare_world m cs) k) (sym key) held)))
 
 pub share_is_pin : ShareIsPin
 share_is_pin slots limit t shown j c at holding =
     let m : MasterView = shown.master in
     let cs : List CallerView = shown.callers in
-    subst (λ (n : ℕ). core.BareStep (bare m cs) (Pin n c.key) (bare m (set cs j (after_share c) ++ new_hold c.key ∷ [])))
+    subst (λ (n : ℕ). core.BareStep (bare_world m cs) (Pin n c.key) (bare_world m (set cs j (after_share c) ++ new_hold c.key ∷ [])))
     (length-map cs caller) (is_pinned m cs j c (seated_at cs j c at) holding)
 
 pub rest_is_nothing : RestIsNothing

@@ -15,7 +15,7 @@ use Rattle.kf_words.specs.declared.view.View.TheVariants as seat
 use Rattle.kf_words.specs.Layout.{hold_index, HasSpare}
 use Rattle.kf_words.specs.Steps.{Seated, Sighted, plain, caller_of, after_miss, after_count, after_share, new_hold}
 use Rattle.kf_words.specs.Callers.{caller_sight, IsAtRest}
-use Rattle.kf_words.specs.TableSteps.{Table, Kind, misses, counts, shares, plus, master_in, IsSeated, WordStep}
+use Rattle.kf_words.specs.TableSteps.{Table, StepKind, misses, counts, shares, plus, master_in, IsSeated, WordStep}
 use Rattle.kf_words.specs.History.{SeenTable, erased, Kept, after_sharing, shared_out}
 use Rattle.kf_words.specs.Made.{WasMade, MakesMiss, MakesExchange, after_exchange}
 use Rattle.kf_words.proofs.Seating.{caller_seat}
@@ -35,7 +35,7 @@ module _ (o : Opening) (homes id : ℕ) (me : Sighted) (is : plain me ≡ (seat.
   my = caller_of me.0.view
 
   -- where a table that meets the rule allows a step of the caller, it is the next of the one run
-  one_made : (t : SeenTable) (h : Kept o t) (at : get_elem? t.views id ≡ some me.0) (i n : ℕ) (kind : ℕ → Kind) (c' : CallerView)
+  one_made : (t : SeenTable) (h : Kept o t) (at : get_elem? t.views id ≡ some me.0) (i n : ℕ) (kind : ℕ → StepKind) (c' : CallerView)
       → ((j : ℕ) → IsSeated (erased t) j my → WordStep (erased t) (kind j) (stepped (erased t) i n (suc j) [] (seat.Caller c') keeps))
       → (after : Sight) × (after.view ≡ seat.Caller c') × Kept o (stepped t i n id [] after keeps) × WasMade kind (caller_sight me.0) (caller_sight after)
   one_made t h at i n kind c' makes =

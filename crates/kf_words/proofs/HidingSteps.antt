@@ -12,7 +12,7 @@ use Rattle.kf_core.proofs.Keeping.{same_key}
 use Rattle.kf_words.specs.declared.view.CallerView.{CallerView}
 use Rattle.kf_words.specs.declared.view.MasterView.{MasterView}
 use Rattle.kf_words.specs.Layout.{hide, active_index, active_word, has_hide, is_unused}
-use Rattle.kf_words.specs.Rule.{is_hider, users, hiders, ShowsMarks, last_key, bare, Shows}
+use Rattle.kf_words.specs.Rule.{is_hider, users, hiders, ShowsMarks, last_key, bare_world, Shows}
 use Rattle.kf_words.specs.Steps.{after_step, after_hide, after_look_hidden, after_show}
 use Rattle.kf_words.proofs.Bits.{bool_cases, unused_shows, hide_set, hide_comes, hide_again, hide_goes, waiting_is}
 use Rattle.kf_words.proofs.Seating.{tally-one}
@@ -29,7 +29,7 @@ module _ (words : List ℕ) (m : MasterView) (cs : List CallerView) (j : ℕ) (c
   word = active_word words slot
 
   abbrev world : BareWorld
-  world = bare m cs
+  world = bare_world m cs
 
   abbrev last : IsLast world c.key.slot c.key.generation
   last = last_state j shows at holding

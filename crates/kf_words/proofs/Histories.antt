@@ -7,7 +7,7 @@ use Rattle.atomic_table.specs.Table.{opening}
 use Rattle.kf_words.specs.declared.sight.Opening.{Opening}
 use Rattle.kf_words.specs.declared.sight.Sight.{Sight}
 use Rattle.kf_words.specs.Layout.{opening_words}
-use Rattle.kf_words.specs.TableSteps.{Table, Kind, world, WordRun}
+use Rattle.kf_words.specs.TableSteps.{Table, StepKind, world, WordRun}
 use Rattle.kf_core.specs.Bare.{IsCaller}
 use Rattle.kf_words.specs.History.{erased, opened_as, IsBeginning, Kept, first_sight, EndsARun, SeenLeadsHere, DrainedEverAfter, OneRunIsSeen}
 use Rattle.kf_words.specs.Life.{life_opening, lived, word_life, saw_life, LifeIsKept}
@@ -38,8 +38,8 @@ ends_a_run o t kept = (kept.begins, kept.run, kept.shown)
 pub seen_leads_here : SeenLeadsHere
 seen_leads_here o t kept place s at =
     let b = kept.seen place s at in
-    let later : List Kind = b.1.0 in
-    let p = run_parts s.seen.steps later (opened_as o) (erased t) (subst (λ (l : List Kind). WordRun (opened_as o) l (erased t)) (sym b.1.1) kept.run) in
+    let later : List StepKind = b.1.0 in
+    let p = run_parts s.seen.steps later (opened_as o) (erased t) (subst (λ (l : List StepKind). WordRun (opened_as o) l (erased t)) (sym b.1.1) kept.run) in
     (b.0, later, p.0, b.1.1, rule_kept o.slots o.holds (opened_as o) p.0 s.seen.steps kept.begins p.1, p.1, p.2)
 
 abbrev head_of : {A : Type 0} → A → List A → A
@@ -69,7 +69,7 @@ one_run_is_seen o t kept i j a b at there =
 
 pub drained_ever_after : DrainedEverAfter
 drained_ever_after o t kept first mid p r c key phase there past =
-    let x = run_parts first p.0 (opened_as o) (erased t) (subst (λ (l : List Kind). WordRun (opened_as o) l (erased t)) (sym p.1) kept.run) in
+    let x = run_parts first p.0 (opened_as o) (erased t) (subst (λ (l : List StepKind). WordRun (opened_as o) l (erased t)) (sym p.1) kept.run) in
     let one : mid ≡ x.0 = one_end (opened_as o) mid x.0 first r x.1 in
     drained_for_good o.slots o.holds x.0 (erased t) p.0 (rule_kept o.slots o.holds (opened_as o) x.0 first kept.begins x.1) x.2 c key phase
     (subst (λ (y : Table). IsCaller (world y) c key phase) one there) past

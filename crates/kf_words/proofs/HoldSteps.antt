@@ -17,7 +17,7 @@ use Rattle.kf_core.specs.Steps.{BareStep, with_phase}
 use Rattle.kf_words.specs.declared.view.CallerView.{CallerView}
 use Rattle.kf_words.specs.declared.view.MasterView.{MasterView}
 use Rattle.kf_words.specs.Layout.{active_index, hold_index, active_word, hold_word, has_linked, holds_in, HasSpare}
-use Rattle.kf_words.specs.Rule.{is_user, is_hider, users, hiders, holders, pins_in, ShowsMarks, ShowsHolds, StillHolds, bare, Shows}
+use Rattle.kf_words.specs.Rule.{is_user, is_hider, users, hiders, holders, pins_in, ShowsMarks, ShowsHolds, StillHolds, bare_world, Shows}
 use Rattle.kf_words.specs.Steps.{after_step, after_release, after_part, after_miss, after_count}
 use Rattle.kf_words.proofs.Bits.{bool_cases, not_spent, waiting_is, hold_less, hold_more, linked_shows, count_shows}
 use Rattle.kf_words.proofs.Answered.{part_gone, part_linked}
@@ -35,7 +35,7 @@ module _ (words : List ℕ) (m : MasterView) (cs : List CallerView) (j : ℕ) (c
   hold = hold_word words slot
 
   abbrev world : BareWorld
-  world = bare m cs
+  world = bare_world m cs
 
   abbrev last : IsLast world c.key.slot c.key.generation
   last = last_state j shows at holding

@@ -12,7 +12,7 @@ use Rattle.kf_words.specs.declared.sight.Seen.{Seen}
 use Rattle.kf_words.specs.declared.sight.Sight.{Sight}
 use Rattle.kf_words.specs.declared.view.View.{View}
 use Rattle.kf_words.specs.Rule.{Shown}
-use Rattle.kf_words.specs.TableSteps.{Table, Kind, WordStep, WordRun}
+use Rattle.kf_words.specs.TableSteps.{Table, StepKind, WordStep, WordRun}
 use Rattle.kf_words.specs.History.{SeenTable, erased, opened_as, IsBeginning, Kept}
 use Rattle.kf_words.proofs.WordSteps.{word_step}
 
@@ -23,12 +23,12 @@ pub prefix_more : {A : Type 0} (xs log more : List A) → IsPrefix xs log → Is
 prefix_more xs log more p = (p.0 ++ more, sym (append_assoc xs p.0 more) ∙ ap (λ w. w ++ more) p.1)
 
 -- a run and one step more
-pub run_snoc : (kinds : List Kind) (t u v : Table) (kind : Kind) → WordRun t kinds u → WordStep u kind v → WordRun t (kinds ++ kind ∷ []) v
+pub run_snoc : (kinds : List StepKind) (t u v : Table) (kind : StepKind) → WordRun t kinds u → WordStep u kind v → WordRun t (kinds ++ kind ∷ []) v
 run_snoc [] t u v kind r s = (v, subst (λ (x : Table). WordStep x kind v) r s, refl)
 run_snoc (k ∷ ks) t u v kind r s = (r.0, r.1, run_snoc ks r.0 u v kind r.2 s)
 
 -- a run in two parts
-pub run_parts : (first rest : List Kind) (t u : Table) → WordRun t (first ++ rest) u → (mid : Table) × WordRun t first mid × WordRun mid rest u
+pub run_parts : (first rest : List StepKind) (t u : Table) → WordRun t (first ++ rest) u → (mid : Table) × WordRun t first mid × WordRun mid rest u
 run_parts [] rest t u r = (t, refl, r)
 run_parts (k ∷ ks) rest t u r = let p = run_parts ks rest r.0 u r.2 in (p.0, (r.0, r.1, p.1), p.2)
 
@@ -40,20 +40,20 @@ view_there (x ∷ xs) (suc place) s e = view_there xs place s e
 
 module _ (o : Opening) (t : SeenTable) (h : Kept o t) (id : ℕ) (before : Sight) (at : get_elem? t.views id ≡ some before) where
   -- the run so far is what the seat had seen, and then these steps
-  abbrev pub between : List Kind
+  abbrev pub between : List StepKind
   between = (h.seen id before at).1.0
 
   pub so_far : before.seen.steps ++ between ≡ h.log
   so_far = (h.seen id before at).1.1
 
   -- what the seat sees after a step of this kind
-  abbrev pub now_seen : Kind → Seen
+  abbrev pub now_seen : StepKind → Seen
   now_seen kind = record { opening = before.seen.opening; steps = (before.seen.steps ++ between) ++ kind ∷ [] }
 
-  pub is_now : (kind : Kind) → IsBeginning o (now_seen kind) (h.log ++ kind ∷ [])
-  is_now kind = ((h.seen id before at).0, subst (λ (l : List Kind). IsPrefix (l ++ kind ∷ []) (h.log ++ kind ∷ [])) (sym so_far) (prefix_self (h.log ++ kind ∷ [])))
+  pub is_now : (kind : StepKind) → IsBeginning o (now_seen kind) (h.log ++ kind ∷ [])
+  is_now kind = ((h.seen id before at).0, subst (λ (l : List StepKind). IsPrefix (l ++ kind ∷ []) (h.log ++ kind ∷ [])) (sym so_far) (prefix_self (h.log ++ kind ∷ [])))
 
-  pub still_before : (kind : Kind) → IsBeginning o before.seen (h.log ++ kind ∷ [])
+  pub still_before : (kind : StepKind) → IsBeginning o before.seen (h.log ++ kind ∷ [])
   still_before kind = let b = h.seen id before at in (b.0, prefix_more before.seen.steps h.log (kind ∷ []) b.1)
 
   -- the table that the step leads to, without what was seen
@@ -61,14 +61,14 @@ module _ (o : Opening) (t : SeenTable) (h : Kept o t) (id : ℕ) (before : Sight
   same_erased i n after = ap (λ (l : List View). let x : Table = record { words = set t.words i n; homes = t.homes; views = l } in x) (map-set (λ (s : Sight). s.view) t.views id after)
 
   -- the seats' beginnings of the longer run
-  see : (kind : Kind) (after : Sight) → IsBeginning o after.seen (h.log ++ kind ∷ []) → (views : List Sight) → views ≡ set t.views id after
+  see : (kind : StepKind) (after : Sight) → IsBeginning o after.seen (h.log ++ kind ∷ []) → (views : List Sight) → views ≡ set t.views id after
       → (place : ℕ) (s : Sight) → get_elem? views place ≡ some s → IsBeginning o s.seen (h.log ++ kind ∷ [])
   see kind after mine views is place s e = ⊎_elim
       (λ (x : (place ≡ id) × (after ≡ s)). subst (λ (y : Sight). IsBeginning o y.seen (h.log ++ kind ∷ [])) x.1 mine)
       (λ (x : (place ≢ id) × (get_elem? t.views place ≡ some s)). let b = h.seen place s x.1 in (b.0, prefix_more s.seen.steps h.log (kind ∷ []) b.1))
       (at_set t.views id place after s (ap (λ (l : List Sight). get_elem? l place) (sym is) ∙ e))
 
-  pub step_kept : (i n : ℕ) (after : Sight) (kind : Kind) → WordStep (erased t) kind (stepped (erased t) i n id [] after.view keeps) → IsBeginning o after.seen (h.log ++ kind ∷ [])
+  pub step_kept : (i n : ℕ) (after : Sight) (kind : StepKind) → WordStep (erased t) kind (stepped (erased t) i n id [] after.view keeps) → IsBeginning o after.seen (h.log ++ kind ∷ [])
       → Kept o (stepped t i n id [] after keeps)
   step_kept i n after kind step mine =
       let t' : Table = stepped (erased t) i n id [] after.view keeps in
@@ -83,14 +83,14 @@ module _ (o : Opening) (t : SeenTable) (h : Kept o t) (id : ℕ) (before : Sight
 
   -- the run that was seen, and then the steps between, lead to the table that the step finds
   pub led_here : WordRun (opened_as before.seen.opening) (before.seen.steps ++ between) (erased t)
-  led_here = subst (λ (l : List Kind). WordRun (opened_as before.seen.opening) l (erased t)) (sym so_far)
+  led_here = subst (λ (l : List StepKind). WordRun (opened_as before.seen.opening) l (erased t)) (sym so_far)
       (subst (λ (x : Opening). WordRun (opened_as x) h.log (erased t)) (sym (h.seen id before at).0) h.run)
 
   pub shown_here : Shown before.seen.opening.slots before.seen.opening.holds (erased t)
   shown_here = subst (λ (x : Opening). Shown x.slots x.holds (erased t)) (sym (h.seen id before at).0) h.shown
 
   -- a new seat, which has seen as much
-  pub split_kept : (left right : Sight) (kind : Kind) → left.seen ≡ before.seen → right.seen ≡ before.seen
+  pub split_kept : (left right : Sight) (kind : StepKind) → left.seen ≡ before.seen → right.seen ≡ before.seen
       → WordStep (erased t) kind (record { words = t.words; homes = t.homes; views = set (erased t).views id left.view ++ right.view ∷ [] })
       → Kept o (record { words = t.words; homes = t.homes; views = set t.views id left ++ right ∷ [] })
   split_kept left right kind same same' step =

@@ -31,3 +31,4 @@ pub mod Life
 pub mod Histories
 pub mod Tokens
 pub mod Crossing
+pub mod Led

@@ -15,10 +15,10 @@ use Rattle.kf_words.specs.declared.view.CallerView.{CallerView}
 use Rattle.kf_words.specs.declared.view.View.{View}
 use Rattle.kf_words.specs.declared.view.View.TheVariants as seat
 use Rattle.kf_words.specs.Layout.{hide, active_index, hold_index, sleepers_index, keeps_out, is_drained, is_unused, has_linked}
-use Rattle.kf_words.specs.Rule.{Shown, bare}
+use Rattle.kf_words.specs.Rule.{Shown, bare_world}
 use Rattle.kf_words.specs.Steps.{Seated, Sighted, plain, caller_of, after_try, after_undo, after_leave, after_break, after_restore, after_look, after_part, after_hide, after_look_hidden, after_show, after_release, CallerBecomes, ShowsKey}
-use Rattle.kf_words.specs.Callers.{CallerSight, caller_sight, IsAtRest, HasReference, IsIn}
-use Rattle.kf_words.specs.TableSteps.{Table, world, Kind, tries, undoes, leaves, breaks, restores, looks, parts, hides, looks_hidden, shows, releases, sleeps, awakes, plus, minus, same, with_hide, Plays, CallerPlays, IsSeated, WordStep}
+use Rattle.kf_words.specs.Callers.{CallerSight, caller_sight, IsAtRest, HasReference, IsInPhase}
+use Rattle.kf_words.specs.TableSteps.{Table, world, StepKind, tries, undoes, leaves, breaks, restores, looks, parts, hides, looks_hidden, shows, releases, sleeps, awakes, plus, minus, same, with_hide, Plays, CallerPlays, IsSeated, WordStep}
 use Rattle.kf_words.specs.History.{erased, Kept}
 use Rattle.kf_words.specs.Made.{WasLetInLive, WasMade, WasUndone, WasFound}
 use Rattle.kf_words.proofs.Seating.{caller_seat}
@@ -33,7 +33,7 @@ put (x ∷ xs) zero a b e = refl
 put (x ∷ xs) (suc k) a b e = put xs k a b e
 
 -- what a step on the word i tells, where that is the word of this index of the caller's slot
-abbrev pub MadeAt : (ℕ → ℕ) → ℕ → Sighted → (ℕ → Kind) → (ℕ → Seated → Type 0) → ℕ → Sighted → Type 0
+abbrev pub MadeAt : (ℕ → ℕ) → ℕ → Sighted → (ℕ → StepKind) → (ℕ → Seated → Type 0) → ℕ → Sighted → Type 0
 MadeAt index i me kind told n me' = (i ≡ index (caller_of me.0.view).key.slot) × (told n (plain me') × WasMade kind (caller_sight me.0) (caller_sight me'.0))
 
 module _ (o : Opening) (homes id : ℕ) (me : Sighted) (i : ℕ) (is : plain me ≡ (seat.Caller (caller_of me.0.view), [])) where
@@ -41,7 +41,7 @@ module _ (o : Opening) (homes id : ℕ) (me : Sighted) (i : ℕ) (is : plain me 
   me_c = caller_of me.0.view
 
   -- the step found this word
-  abbrev MadeFinding : (ℕ → Kind) → ℕ → CallerSight → Type 0
+  abbrev MadeFinding : (ℕ → StepKind) → ℕ → CallerSight → Type 0
   MadeFinding kind n s' = (m : WasMade kind (caller_sight me.0) s') × (slice_index m.found.words i ≡ n)
 
   -- what the step tells of the view after it, by the word that it found
@@ -49,7 +49,7 @@ module _ (o : Opening) (homes id : ℕ) (me : Sighted) (i : ℕ) (is : plain me 
   Tells aft told = (t : Table) → Shown o.slots o.holds t → length t.homes ≡ homes → get_elem? t.views id ≡ some me.0.view → slice_index t.words i < 18446744073709551616
       → told (slice_index t.words i) (seat.Caller (aft (slice_index t.words i) me_c), me.1)
 
-  finding : (kind : ℕ → Kind) (f : ℕ → ℕ) (aft : ℕ → CallerView → CallerView) (told : ℕ → Seated → Type 0) → Tells aft told
+  finding : (kind : ℕ → StepKind) (f : ℕ → ℕ) (aft : ℕ → CallerView → CallerView) (told : ℕ → Seated → Type 0) → Tells aft told
       → ((t t' : Table) (j : ℕ) → Plays t (suc j) i f (seat.Caller me_c) (seat.Caller (aft (slice_index t.words i) me_c)) t' → WordStep t (kind j) t')
       → Allows (Kept o) homes id me i f (λ n me'. told n (plain me') × MadeFinding kind n (caller_sight me'.0))
   finding kind f aft told tells makes t h far at small =
@@ -90,7 +90,7 @@ module _ (o : Opening) (homes id : ℕ) (me : Sighted) (i : ℕ) (is : plain me 
         ),
       )
 
-  made : (kind : ℕ → Kind) (f : ℕ → ℕ) (aft : ℕ → CallerView → CallerView) (told : ℕ → Seated → Type 0) → Tells aft told
+  made : (kind : ℕ → StepKind) (f : ℕ → ℕ) (aft : ℕ → CallerView → CallerView) (told : ℕ → Seated → Type 0) → Tells aft told
       → ((t t' : Table) (j : ℕ) → Plays t (suc j) i f (seat.Caller me_c) (seat.Caller (aft (slice_index t.words i) me_c)) t' → WordStep t (kind j) t')
       → Allows (Kept o) homes id me i f (λ n me'. told n (plain me') × WasMade kind (caller_sight me.0) (caller_sight me'.0))
   made kind f aft told tells makes t h far at small =
@@ -98,7 +98,7 @@ module _ (o : Opening) (homes id : ℕ) (me : Sighted) (i : ℕ) (is : plain me 
       (r.0, r.1, r.2, r.3, (r.4.0, r.4.1.0))
 
   -- a step on the count of sleepers is one of the run, and its seat learns nothing by it
-  pub sleep_kept : (kind : ℕ → Kind) (f : ℕ → ℕ) → ((t t' : Table) (j : ℕ) → Plays t (suc j) i f (seat.Caller me_c) (seat.Caller me_c) t' → WordStep t (kind j) t')
+  pub sleep_kept : (kind : ℕ → StepKind) (f : ℕ → ℕ) → ((t t' : Table) (j : ℕ) → Plays t (suc j) i f (seat.Caller me_c) (seat.Caller me_c) t' → WordStep t (kind j) t')
       → Allows (Kept o) homes id me i f (λ n me'. me' ≡ me)
   sleep_kept kind f makes t h far at small =
       let e : Table = erased t in
@@ -122,7 +122,7 @@ on_kept o homes id me i f told Is is allowed t h far at small = let r = allowed 
 
 -- the same of a step on a word of the caller's slot, by the word's index
 step_made : (o : Opening) (homes id : ℕ) (me : Sighted) (i : ℕ) (is : plain me ≡ (seat.Caller (caller_of me.0.view), [])) (index : ℕ → ℕ) → index (caller_of me.0.view).key.slot ≡ i
-    → (kind : ℕ → Kind) (f : ℕ → ℕ) (aft : ℕ → CallerView → CallerView) (told : ℕ → Seated → Type 0) → Tells o homes id me (index (caller_of me.0.view).key.slot) is aft told
+    → (kind : ℕ → StepKind) (f : ℕ → ℕ) (aft : ℕ → CallerView → CallerView) (told : ℕ → Seated → Type 0) → Tells o homes id me (index (caller_of me.0.view).key.slot) is aft told
     → ((t t' : Table) (j : ℕ) → (let k : ℕ = index (caller_of me.0.view).key.slot in Plays t (suc j) k f (seat.Caller (caller_of me.0.view)) (seat.Caller (aft (slice_index t.words k) (caller_of me.0.view))) t') → WordStep t (kind j) t')
     → Allows (Kept o) homes id me i f (MadeAt index i me kind told)
 step_made o homes id me i is index its kind f aft told tells makes =
@@ -154,11 +154,11 @@ module _ (o : Opening) (homes id : ℕ) (me : Sighted) (i : ℕ) (is : plain me 
   leave_made may = step_made o homes id me i is active_index its leaves (minus 1) after_leave (CallerBecomes after_leave no_step (plain me))
       (λ t h far at small. refl) (λ t t' j p. (at_c, may, p))
 
-  pub break_made : IsIn Running at_c → Allows (Kept o) homes id me i (minus 1) (MadeAt active_index i me breaks (CallerBecomes after_break no_step (plain me)))
+  pub break_made : IsInPhase Running at_c → Allows (Kept o) homes id me i (minus 1) (MadeAt active_index i me breaks (CallerBecomes after_break no_step (plain me)))
   break_made may = step_made o homes id me i is active_index its breaks (minus 1) after_break (CallerBecomes after_break no_step (plain me))
       (λ t h far at small. refl) (λ t t' j p. (at_c, may, p))
 
-  pub restore_made : IsIn Broken at_c → Allows (Kept o) homes id me i (plus 1) (MadeAt active_index i me restores (CallerBecomes after_restore no_step (plain me)))
+  pub restore_made : IsInPhase Broken at_c → Allows (Kept o) homes id me i (plus 1) (MadeAt active_index i me restores (CallerBecomes after_restore no_step (plain me)))
   restore_made may = step_made o homes id me i is active_index its restores (plus 1) after_restore (CallerBecomes after_restore no_step (plain me))
       (λ t h far at small. refl) (λ t t' j p. (at_c, may, p))
 
@@ -170,11 +170,11 @@ module _ (o : Opening) (homes id : ℕ) (me : Sighted) (i : ℕ) (is : plain me 
   hide_made may = step_made o homes id me i is active_index its hides with_hide after_hide (CallerBecomes after_hide no_step (plain me))
       (λ t h far at small. refl) (λ t t' j p. (at_c, may, p))
 
-  pub look_hidden_made : IsIn Hiding at_c → Allows (Kept o) homes id me i same (MadeAt active_index i me looks_hidden (CallerBecomes after_look_hidden no_step (plain me)))
+  pub look_hidden_made : IsInPhase Hiding at_c → Allows (Kept o) homes id me i same (MadeAt active_index i me looks_hidden (CallerBecomes after_look_hidden no_step (plain me)))
   look_hidden_made may = step_made o homes id me i is active_index its looks_hidden same after_look_hidden (CallerBecomes after_look_hidden no_step (plain me))
       (λ t h far at small. refl) (λ t t' j p. (at_c, may, p))
 
-  pub show_made : IsIn Hidden at_c → Allows (Kept o) homes id me i (minus hide) (MadeAt active_index i me shows (ShowsKey no_step (plain me)))
+  pub show_made : IsInPhase Hidden at_c → Allows (Kept o) homes id me i (minus hide) (MadeAt active_index i me shows (ShowsKey no_step (plain me)))
   show_made may = step_made o homes id me i is active_index its shows (minus hide) after_show (ShowsKey no_step (plain me))
       (λ t h far at small. (refl, (show_allowed o.slots o.holds homes id (plain me) (active_index at_c.key.slot) is refl may t h far at small).4.1)) (λ t t' j p. (at_c, may, p))
 
@@ -183,7 +183,7 @@ module _ (o : Opening) (homes id : ℕ) (me : Sighted) (i : ℕ) (is : plain me 
   abbrev on_c : CallerView
   on_c = caller_of me.0.view
 
-  pub part_made : IsIn Drained on_c → Allows (Kept o) homes id me i same (MadeAt hold_index i me parts (CallerBecomes after_part no_step (plain me)))
+  pub part_made : IsInPhase Drained on_c → Allows (Kept o) homes id me i same (MadeAt hold_index i me parts (CallerBecomes after_part no_step (plain me)))
   part_made may = step_made o homes id me i is hold_index its parts same after_part (CallerBecomes after_part no_step (plain me))
       (λ t h far at small. refl) (λ t t' j p. (on_c, may, p))
 
@@ -196,7 +196,7 @@ module _ (o : Opening) (homes id : ℕ) (me : Sighted) (i : ℕ) (is : plain me 
   abbrev by_c : CallerView
   by_c = caller_of me.0.view
 
-  asleep : (kind : ℕ → Kind) (f : ℕ → ℕ) → ((t t' : Table) (j : ℕ) → Plays t (suc j) (sleepers_index by_c.key.slot) f (seat.Caller by_c) (seat.Caller by_c) t' → WordStep t (kind j) t')
+  asleep : (kind : ℕ → StepKind) (f : ℕ → ℕ) → ((t t' : Table) (j : ℕ) → Plays t (suc j) (sleepers_index by_c.key.slot) f (seat.Caller by_c) (seat.Caller by_c) t' → WordStep t (kind j) t')
       → Allows (Kept o) homes id me i f (λ n me'. me' ≡ me)
   asleep kind f makes = subst (λ (k : ℕ). Allows (Kept o) homes id me k f (λ n me'. me' ≡ me)) its (sleep_kept o homes id me (sleepers_index by_c.key.slot) is kind f makes)
 
@@ -207,7 +207,7 @@ module _ (o : Opening) (homes id : ℕ) (me : Sighted) (i : ℕ) (is : plain me 
   awake_made = asleep awakes (minus 1) (λ t t' j p. (by_c, tt, p))
 
 -- what a caller's step finds goes into its view
-module _ (before after : CallerSight) (kind : ℕ → Kind) (x : WasMade kind before after) where
+module _ (before after : CallerSight) (kind : ℕ → StepKind) (x : WasMade kind before after) where
   step_found : (aft : ℕ → CallerView → CallerView) (May : CallerView → Type 0) (index : ℕ → ℕ) (f : ℕ → ℕ) → ((n : ℕ) (c : CallerView) → (aft n c).found ≡ n)
       → CallerPlays aft May index f x.found x.caller x.left → WasFound before after (index before.view.key.slot) after.view.found
   step_found aft May index f keeps_found s =
@@ -238,20 +238,20 @@ pub look_found : (before after : CallerSight) → WasMade looks before after →
 look_found before after x = step_found before after looks x after_look IsAtRest active_index same (λ n c. either_found (is_drained n) _ _ n refl refl) x.step
 
 pub part_found : (before after : CallerSight) → WasMade parts before after → WasFound before after (hold_index before.view.key.slot) after.view.found
-part_found before after x = step_found before after parts x after_part (IsIn Drained) hold_index same (λ n c. either_found (has_linked n) _ _ n refl refl) x.step
+part_found before after x = step_found before after parts x after_part (IsInPhase Drained) hold_index same (λ n c. either_found (has_linked n) _ _ n refl refl) x.step
 
 pub look_hidden_found : (before after : CallerSight) → WasMade looks_hidden before after → WasFound before after (active_index before.view.key.slot) after.view.found
-look_hidden_found before after x = step_found before after looks_hidden x after_look_hidden (IsIn Hiding) active_index same (λ n c. either_found (is_unused n) _ _ n refl refl) x.step
+look_hidden_found before after x = step_found before after looks_hidden x after_look_hidden (IsInPhase Hiding) active_index same (λ n c. either_found (is_unused n) _ _ n refl refl) x.step
 
 pub try_found : (before after : CallerSight) → WasMade tries before after → WasFound before after (active_index before.view.key.slot) after.view.found
 try_found before after x = step_found before after tries x after_try IsAtRest active_index (plus 1) (λ n c. either_found (keeps_out n) _ _ n refl refl) x.step
 
 -- what was found stays so while the run goes on, where the seat's last step leaves the word that it tells
-pub found_later : (before between after : CallerSight) (kind : ℕ → Kind) (word : ℕ) → WasFound before between word between.view.found → WasMade kind between after → after.view.found ≡ between.view.found
+pub found_later : (before between after : CallerSight) (kind : ℕ → StepKind) (word : ℕ) → WasFound before between word between.view.found → WasMade kind between after → after.view.found ≡ between.view.found
     → WasFound before after word after.view.found
 found_later before middle after kind word f x same =
-    let log : List Kind = before.seen.steps ++ f.between in
-    let more : List Kind = x.between ++ kind x.caller ∷ [] in
+    let log : List StepKind = before.seen.steps ++ f.between in
+    let more : List StepKind = x.between ++ kind x.caller ∷ [] in
     record {
       between = f.between;
       later = f.later ++ more;
@@ -262,7 +262,7 @@ found_later before middle after kind word f x same =
       as_found = f.as_found ∙ sym same;
       goes_on = x.seen
           ∙ ap (λ (s : Seen). let y : Seen = record { opening = s.opening; steps = (s.steps ++ x.between) ++ kind x.caller ∷ [] } in y) f.goes_on
-          ∙ ap (λ (l : List Kind). let y : Seen = record { opening = before.seen.opening; steps = l } in y)
+          ∙ ap (λ (l : List StepKind). let y : Seen = record { opening = before.seen.opening; steps = l } in y)
           (append_assoc (log ++ f.later) x.between (kind x.caller ∷ []) ∙ append_assoc log f.later more);
     }
 
@@ -274,7 +274,7 @@ was_live before after x runs =
     let h = (word_step slots limit x.found (tries x.caller) x.left x.shown x.step).0 in
     let at = at_seat h.callers x.caller after.view (subst (λ (l : List View). get_elem? l (suc x.caller) ≡ some (seat.Caller after.view)) h.views x.is) in
     let there : IsCaller (world x.left) x.caller after.view.key Running = subst (λ (w : BareWorld). IsCaller w x.caller after.view.key Running) (sym (world_is x.left h.master h.callers h.views))
-    (subst (λ (p : Phase). IsCaller (bare h.master h.callers) x.caller after.view.key p) runs (in_world h.callers x.caller after.view at)) in
+    (subst (λ (p : Phase). IsCaller (bare_world h.master h.callers) x.caller after.view.key p) runs (in_world h.callers x.caller after.view at)) in
     record {
       try = x;
       live = let_in_live slots limit x.found x.found [] x.shown refl x.caller after.view.key x.left x.step there;

@@ -15,7 +15,7 @@ use Rattle.kf_words.specs.Layout.{bit, bias, doom, linked, one_generation, activ
 use Rattle.kf_words.specs.Rule.{Shown}
 use Rattle.kf_words.specs.Steps.{Seated, Sighted, plain, master_of, with_load, with_pin, without_pin, after_store, with_birth, with_look, without_node, with_marks, activated_marks, doomed_marks, after_split, hold_for, unread, LoadsHold, MasterBecomes}
 use Rattle.kf_words.specs.Nodes.{FoundRoom, FoundFree, HasMarks, HasLooked, master_sight}
-use Rattle.kf_words.specs.TableSteps.{Table, Kind, loads_hold, pins_hold, unpins_hold, splits, stores_fresh, births, takes_bias, marks_node, looks_over, unlinks, plus, minus, same, Plays, WordStep}
+use Rattle.kf_words.specs.TableSteps.{Table, StepKind, loads_hold, pins_hold, unpins_hold, splits, stores_fresh, births, takes_bias, marks_node, looks_over, unlinks, plus, minus, same, Plays, WordStep}
 use Rattle.kf_words.specs.History.{erased, Kept, after_giving, given}
 use Rattle.kf_words.specs.Made.{WasMadeByMaster, MasterMakes}
 use Rattle.kf_words.proofs.Seating.{master_seat}
@@ -33,7 +33,7 @@ module _ (o : Opening) (homes id : ℕ) (me : Sighted) (slot : ℕ) (is : plain 
       → told (slice_index t.words i) (seat.Master (after (slot_of i) (slice_index t.words i) m), me.1)
 
   -- on the word that this index has of the slot
-  there_made : (index : ℕ → ℕ) → slot_of (index slot) ≡ slot → (kind : ℕ → Kind) (f : ℕ → ℕ) (after : ℕ → ℕ → MasterView → MasterView) (told : ℕ → Seated → Type 0) → Tells (index slot) after told
+  there_made : (index : ℕ → ℕ) → slot_of (index slot) ≡ slot → (kind : ℕ → StepKind) (f : ℕ → ℕ) (after : ℕ → ℕ → MasterView → MasterView) (told : ℕ → Seated → Type 0) → Tells (index slot) after told
       → ((t t' : Table) → Plays t 0 (index slot) f (seat.Master m) (seat.Master (after slot (slice_index t.words (index slot)) m)) t' → WordStep t (kind slot) t')
       → Allows (Kept o) homes id me (index slot) f (λ n me'. (index slot ≡ index (slot_of (index slot))) × (told n (plain me') × WasMadeByMaster (kind (slot_of (index slot))) (master_sight me.0) (master_sight me'.0)))
   there_made index back kind f after told tells makes t h far at small =
@@ -75,7 +75,7 @@ module _ (o : Opening) (homes id : ℕ) (me : Sighted) (slot : ℕ) (is : plain 
         ),
       )
 
-  master_made : (i : ℕ) (index : ℕ → ℕ) → index slot ≡ i → slot_of (index slot) ≡ slot → (kind : ℕ → Kind) (f : ℕ → ℕ) (after : ℕ → ℕ → MasterView → MasterView)
+  master_made : (i : ℕ) (index : ℕ → ℕ) → index slot ≡ i → slot_of (index slot) ≡ slot → (kind : ℕ → StepKind) (f : ℕ → ℕ) (after : ℕ → ℕ → MasterView → MasterView)
       → ((t t' : Table) → Plays t 0 (index slot) f (seat.Master m) (seat.Master (after slot (slice_index t.words (index slot)) m)) t' → WordStep t (kind slot) t')
       → Allows (Kept o) homes id me i f (MasterMakes index kind (MasterBecomes after) (step 0 i 0 0 none) me)
   master_made i index its back kind f after makes =
@@ -84,7 +84,7 @@ module _ (o : Opening) (homes id : ℕ) (me : Sighted) (slot : ℕ) (is : plain 
 
   -- the steps on the hold word
   module _ (i : ℕ) (its : hold_index slot ≡ i) where
-    abbrev on_hold_word : (kind : ℕ → Kind) (f : ℕ → ℕ) (after : ℕ → ℕ → MasterView → MasterView)
+    abbrev on_hold_word : (kind : ℕ → StepKind) (f : ℕ → ℕ) (after : ℕ → ℕ → MasterView → MasterView)
         → ((t t' : Table) → Plays t 0 (hold_index slot) f (seat.Master m) (seat.Master (after slot (slice_index t.words (hold_index slot)) m)) t' → WordStep t (kind slot) t')
         → Allows (Kept o) homes id me i f (MasterMakes hold_index kind (MasterBecomes after) (step 0 i 0 0 none) me)
     on_hold_word = master_made i hold_index its (hold_slot slot (hold_index slot) refl)
@@ -111,7 +111,7 @@ module _ (o : Opening) (homes id : ℕ) (me : Sighted) (slot : ℕ) (is : plain 
 
   -- the steps on the active word
   module _ (i : ℕ) (its : active_index slot ≡ i) where
-    abbrev on_active_word : (kind : ℕ → Kind) (f : ℕ → ℕ) (after : ℕ → ℕ → MasterView → MasterView)
+    abbrev on_active_word : (kind : ℕ → StepKind) (f : ℕ → ℕ) (after : ℕ → ℕ → MasterView → MasterView)
         → ((t t' : Table) → Plays t 0 (active_index slot) f (seat.Master m) (seat.Master (after slot (slice_index t.words (active_index slot)) m)) t' → WordStep t (kind slot) t')
         → Allows (Kept o) homes id me i f (MasterMakes active_index kind (MasterBecomes after) (step 0 i 0 0 none) me)
     on_active_word = master_made i active_index its (active_slot slot (active_index slot) refl)

@@ -24,7 +24,7 @@ use Rattle.kf_words.specs.declared.view.CallerView.{CallerView}
 use Rattle.kf_words.specs.declared.view.MasterView.{MasterView}
 use Rattle.kf_words.specs.declared.view.Load.{Load}
 use Rattle.kf_words.specs.Layout.{bit, bias, doom, hide, linked, one_generation, line_words, active_index, hold_index, active_word, hold_word, is_drained, holds_in, HasRoom, IsFree}
-use Rattle.kf_words.specs.Rule.{is_user, is_hider, is_holder, users, hiders, holders, pins_in, ShowsMarks, ShowsHolds, StillHolds, last_key, caller, bare, Shows}
+use Rattle.kf_words.specs.Rule.{is_user, is_hider, is_holder, users, hiders, holders, pins_in, ShowsMarks, ShowsHolds, StillHolds, last_key, caller, bare_world, Shows}
 use Rattle.kf_words.specs.Steps.{on_active, on_hold, activated_marks, doomed_marks}
 use Rattle.kf_words.proofs.Bits.{counted_unspent, hiding_unspent, free_shows, count_shows, hold_less, hold_more}
 use Rattle.kf_words.proofs.Seating.{at_caller, tally≤, tally-one}
@@ -70,8 +70,8 @@ module _ (words : List ℕ) (m : MasterView) (cs : List CallerView) (shows : Sho
           → ((k : ℕ) → k ≢ slot → k < length m.slots → (active_word words' k ≡ active_word words k) × (hold_word words' k ≡ hold_word words k) × (pins_in p' k ≡ pins_in m.pinning k))
           → ((i : ℕ) (load : Load) → slice_get l' i ≡ Some load → StillHolds m.limit load.word (hold_word words' load.slot))
           → ((k : ℕ) → f' ≡ Some k → (k < length m.slots) × (active_word words' k ≡ bias) × IsFree (hold_word words' k))
-          → ((load : Load) (x : SlotState) → k' ≡ Some load → is_drained load.word ≡ true → slice_get (set m.slots slot state') load.slot ≡ Some x → (are_doomed x.marks ≡ true) × NoneRunning (bare next cs) (last_key load.slot x))
-          → Safe (bare next cs) → Shows words' next cs
+          → ((load : Load) (x : SlotState) → k' ≡ Some load → is_drained load.word ≡ true → slice_get (set m.slots slot state') load.slot ≡ Some x → (are_doomed x.marks ≡ true) × NoneRunning (bare_world next cs) (last_key load.slot x))
+          → Safe (bare_world next cs) → Shows words' next cs
       changed wide marks' holds' others loads' fresh' looked' safe' = record {
         wide = wide ∙ shows.wide ∙ ap (λ (n : ℕ). n * line_words) (sym (length-set m.slots slot state'));
         few = shows.few;
@@ -109,7 +109,7 @@ module _ (words : List ℕ) (m : MasterView) (cs : List CallerView) (shows : Sho
         stays (y ∷ ys) zero e = let is : Some y ≡ Some state = e in let same : state ≡ y = cc in ap (λ z. z ∷ ys) same
         stays (y ∷ ys) (suc i) e = ap (λ l. y ∷ l) (stays ys i e)
 
-    same_world : bare (next words state m.pinning m.fresh m.loads m.at_birth m.looked) cs ≡ bare m cs
+    same_world : bare_world (next words state m.pinning m.fresh m.loads m.at_birth m.looked) cs ≡ bare_world m cs
     same_world = ap (λ (ps : List SlotState). let w : BareWorld = record { slots = ps; callers = map caller cs } in w) same_slots
 
     other_hold : (k new : ℕ) → k ≢ slot → hold_word (set words (hold_index slot) new) k ≡ hold_word words k
@@ -224,7 +224,7 @@ module _ (words : List ℕ) (m : MasterView) (cs : List CallerView) (shows : Sho
     spent_if Hiding h = absurd (h refl)
     spent_if Hidden h = absurd (h refl)
 
-    pub only_spent : (c : ℕ) (k : Key) (phase : Phase) → IsCaller (bare m cs) c k phase → k.slot ≡ slot → holders slot cs ≡ 0 → phase ≡ Spent
+    pub only_spent : (c : ℕ) (k : Key) (phase : Phase) → IsCaller (bare_world m cs) c k phase → k.slot ≡ slot → holders slot cs ≡ 0 → phase ≡ Spent
     only_spent c k phase there same nobody =
         let x = at_caller cs c (record { key = k; phase = phase }) there in
         let y : CallerView = x.0 in
@@ -256,7 +256,7 @@ module _ (words : List ℕ) (m : MasterView) (cs : List CallerView) (shows : Sho
         (subst (λ (x : ℕ). ShowsHolds m.limit x node (holders slot cs + pins_in m.pinning slot)) (sym (this_hold new)) (now, shown_holds.1))
         (λ k ne short. (active_kept k new short, other_hold k new ne, refl))
         (nothing_loaded _) (nothing_fresh _) (no_look _)
-        (born_keeps (bare m cs) key shows.safe (record {
+        (born_keeps (bare_world m cs) key shows.safe (record {
           last = g;
           unlinked = its ∙ ap (λ (o : Option Marks). let x : SlotState = record { generation = g; marks = o } in Some x) (unlinked_state state.marks gone);
           next = refl;
@@ -278,14 +278,14 @@ module _ (words : List ℕ) (m : MasterView) (cs : List CallerView) (shows : Sho
         let s = shows.marks slot state its in
         let dead : are_live state.marks ≡ false = not_both state.marks d.0 in
         let key : Key = last_key slot state in
-        let known : marks (bare m cs) key ≡ Some x = ap (λ o. marks_in o g) its ∙ shown g state.marks ∙ there in
+        let known : marks (bare_world m cs) key ≡ Some x = ap (λ o. marks_in o g) its ∙ shown g state.marks ∙ there in
         changed (set words (hold_index slot) new) node m.pinning None [] m.at_birth None
         (length-set words (hold_index slot) new)
         (s.0, active_kept slot new near ∙ s.1 ∙ ap (λ (b : Bool). users slot cs + bit (not b) bias + bit s.0 doom + hiders slot cs * hide) dead, (λ e. absurd (let y : false ≡ true = e in cc)), s.3)
         (subst (λ (y : ℕ). ShowsHolds m.limit y node (holders slot cs + pins_in m.pinning slot)) (sym (this_hold new)) (now, shown_holds.1))
         (λ k ne short. (active_kept k new short, other_hold k new ne, refl))
         (nothing_loaded _) (nothing_fresh _) (no_look _)
-        (marks_keep (bare m cs) key x None shows.safe known (λ _. refl) (inl d.1))
+        (marks_keep (bare_world m cs) key x None shows.safe known (λ _. refl) (inl d.1))
       where
         not_both : (o : Option Marks) → are_doomed o ≡ true → are_live o ≡ false
         not_both None e = refl
@@ -299,7 +299,7 @@ module _ (words : List ℕ) (m : MasterView) (cs : List CallerView) (shows : Sho
 
     -- the marks of the node change with its active word
     remark : (x : Marks) (change : Marks → Marks) (new : ℕ) → state.marks ≡ Some x → ShowsMarks new (Some (change x)) (users slot cs) (hiders slot cs)
-        → (e : Event) → core.BareStep (bare m cs) e (core.with_marks (bare m cs) (last_key slot state) (Some (change x)))
+        → (e : Event) → core.BareStep (bare_world m cs) e (core.with_marks (bare_world m cs) (last_key slot state) (Some (change x)))
         → Shows (set words (active_index slot) new) (record (on_active m) { slots = set m.slots slot (record { generation = state.generation; marks = Some (change x) }) }) cs
     remark x change new there is e event =
         let node : SlotState = record { generation = state.generation; marks = Some (change x) } in
@@ -312,9 +312,9 @@ module _ (words : List ℕ) (m : MasterView) (cs : List CallerView) (shows : Sho
         (λ k ne short. (get_or-set_other words (active_index slot) (active_index k) new 0 (λ e. ne (omega arith)), hold_kept k new, refl))
         (λ i load e. subst (λ (y : ℕ). StillHolds m.limit load.word y) (sym (hold_kept load.slot new)) (shows.loads i load e))
         (nothing_fresh _) (no_look _)
-        (step_keeps (bare m cs) e (core.with_marks (bare m cs) (last_key slot state) (Some (change x))) shows.safe event)
+        (step_keeps (bare_world m cs) e (core.with_marks (bare_world m cs) (last_key slot state) (Some (change x))) shows.safe event)
 
-    pub marks_known : (x : Marks) → state.marks ≡ Some x → marks (bare m cs) (last_key slot state) ≡ Some x
+    pub marks_known : (x : Marks) → state.marks ≡ Some x → marks (bare_world m cs) (last_key slot state) ≡ Some x
     marks_known x there = ap (λ o. marks_in o state.generation) its ∙ shown state.generation state.marks ∙ there
 
     pub rise : state.marks ≡ Some fresh_marks → Shows (set words (active_index slot) ((active_word words slot + (2 ^ 64 - bias)) % 2 ^ 64)) (record (on_active m) { slots = set m.slots slot (record { generation = state.generation; marks = Some live_marks }) }) cs

@@ -20,7 +20,7 @@ use Rattle.kf_words.specs.declared.view.CallerView.{CallerView}
 use Rattle.kf_words.specs.declared.view.MasterView.{MasterView}
 use Rattle.kf_words.specs.declared.view.Load.{Load}
 use Rattle.kf_words.specs.Layout.{bit, active_word, hold_word, is_drained}
-use Rattle.kf_words.specs.Rule.{is_user, is_hider, is_holder, is_pinner, users, hiders, holders, pins_in, ShowsMarks, ShowsHolds, StillHolds, last_key, caller, bare, Shows}
+use Rattle.kf_words.specs.Rule.{is_user, is_hider, is_holder, is_pinner, users, hiders, holders, pins_in, ShowsMarks, ShowsHolds, StillHolds, last_key, caller, bare_world, Shows}
 use Rattle.kf_words.specs.Steps.{on_active, after_split, new_hold, with_look}
 use Rattle.kf_words.proofs.Bits.{drained_shows}
 use Rattle.kf_words.proofs.Seating.{at_caller, tally-push, tally-one}
@@ -40,7 +40,7 @@ module _ (words : List ℕ) (m : MasterView) (cs : List CallerView) (shows : Sho
     fresh = λ i e. absurd (none-some i e);
     looked = λ load y e hit at. absurd (none-some load e);
     safe = subst Safe (ap (λ (l : List Caller). let w : BareWorld = record { slots = m.slots; callers = l } in w) (sym (map-append caller cs (new_hold (last_key slot state) ∷ []))))
-        (caller_keeps (bare m cs) (core.with_caller (bare m cs) (last_key slot state)).callers (last_key slot state) Still shows.safe
+        (caller_keeps (bare_world m cs) (core.with_caller (bare_world m cs) (last_key slot state)).callers (last_key slot state) Still shows.safe
         (λ d y h. after_push (map caller cs) d (caller (new_hold (last_key slot state))) y h)
         (λ e. absurd (let x : Still ≡ Running = e in cc))
         (λ e. absurd (let x : saw_drain Still ≡ true = e in cc))
@@ -103,14 +103,14 @@ module _ (words : List ℕ) (m : MasterView) (cs : List CallerView) (shows : Sho
     loads = shows.loads;
     fresh = λ i e. absurd (none-some i e);
     looked = λ load x e hit at. subst
-        (λ (y : Load). is_drained y.word ≡ true → slice_get m.slots y.slot ≡ Some x → (are_doomed x.marks ≡ true) × NoneRunning (bare m cs) (last_key y.slot x))
+        (λ (y : Load). is_drained y.word ≡ true → slice_get m.slots y.slot ≡ Some x → (are_doomed x.marks ≡ true) × NoneRunning (bare_world m cs) (last_key y.slot x))
         (same_Some _ _ e)
         (λ found here. let s = drained_shows (active_word words slot) x.marks (users slot cs) (hiders slot cs) (users_few words m cs shows slot x here) (shows.marks slot x here) found in (s.1, nobody_runs slot x s.0))
         hit at;
     safe = shows.safe;
   }
     where
-      nobody_runs : (i : ℕ) (x : SlotState) → users i cs ≡ 0 → NoneRunning (bare m cs) (last_key i x)
+      nobody_runs : (i : ℕ) (x : SlotState) → users i cs ≡ 0 → NoneRunning (bare_world m cs) (last_key i x)
       nobody_runs i x empty c there =
           let y = at_caller cs c (record { key = last_key i x; phase = Running }) there in
           let z : CallerView = y.0 in

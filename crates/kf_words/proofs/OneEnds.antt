@@ -12,10 +12,10 @@ use Rattle.kf_core.specs.Marks.{fresh_marks}
 use Rattle.kf_words.specs.declared.view.CallerView.{CallerView}
 use Rattle.kf_words.specs.declared.view.MasterView.{MasterView}
 use Rattle.kf_words.specs.declared.view.View.TheVariants as seat
-use Rattle.kf_words.specs.TableSteps.{Table, Kind, CallerPlays, MasterPlays, MasterSplits, CallerShares, WordStep, WordRun, tries, undoes, leaves, breaks, restores, looks, parts, hides, looks_hidden, shows, releases, misses, counts, shares, sleeps, awakes, loads_hold, pins_hold, unpins_hold, splits, stores_fresh, births, takes_bias, marks_node, looks_over, unlinks, plus, minus, same, with_hide, HasUndoDue, MayRelease, MayCount, MaySleep, SeesRoom, HasPin, SeesFree, HasFresh, IsUndoomed, SeesDrained}
+use Rattle.kf_words.specs.TableSteps.{Table, StepKind, CallerPlays, MasterPlays, MasterSplits, CallerShares, WordStep, WordRun, tries, undoes, leaves, breaks, restores, looks, parts, hides, looks_hidden, shows, releases, misses, counts, shares, sleeps, awakes, loads_hold, pins_hold, unpins_hold, splits, stores_fresh, births, takes_bias, marks_node, looks_over, unlinks, plus, minus, same, with_hide, HasUndoDue, MayRelease, MayCount, MaySleep, SeesRoom, HasPin, SeesFree, HasFresh, IsUndoomed, SeesDrained}
 use Rattle.kf_words.specs.Steps.{after_try, after_undo, after_leave, after_break, after_restore, after_look, after_part, after_hide, after_look_hidden, after_show, after_release, after_miss, after_count, after_share, new_hold, unmoved, with_load, with_pin, without_pin, after_store, with_birth, with_look, without_node, unread, with_marks, activated_marks, doomed_marks, after_split, hold_for}
 use Rattle.kf_words.specs.Layout.{bit, bias, doom, hide, linked, one_generation, active_index, hold_index, sleepers_index}
-use Rattle.kf_words.specs.Callers.{IsAtRest, HasReference, IsIn}
+use Rattle.kf_words.specs.Callers.{IsAtRest, HasReference, IsInPhase}
 use Rattle.kf_words.specs.Nodes.{HasMarks}
 use Rattle.kf_words.specs.History.{OneEnd}
 
@@ -55,17 +55,17 @@ one_marks slot m m' x y a b is =
     let one : state ≡ state' = same_Some state state' (sym a.0.1 ∙ ap (λ (z : MasterView). slice_get z.slots slot) is ∙ b.0.1) in
     same_Some x y (sym a.0.2 ∙ ap (λ (z : SlotState). z.marks) one ∙ b.0.2)
 
-one_step : (t u v : Table) (kind : Kind) → WordStep t kind u → WordStep t kind v → u ≡ v
+one_step : (t u v : Table) (kind : StepKind) → WordStep t kind u → WordStep t kind v → u ≡ v
 one_step t u v (tries j) p q = by_caller t u v after_try IsAtRest active_index (plus 1) j p q
 one_step t u v (undoes j) p q = by_caller t u v (λ _. after_undo) HasUndoDue active_index (minus 1) j p q
 one_step t u v (leaves j) p q = by_caller t u v after_leave HasReference active_index (minus 1) j p q
-one_step t u v (breaks j) p q = by_caller t u v after_break (IsIn Running) active_index (minus 1) j p q
-one_step t u v (restores j) p q = by_caller t u v after_restore (IsIn Broken) active_index (plus 1) j p q
+one_step t u v (breaks j) p q = by_caller t u v after_break (IsInPhase Running) active_index (minus 1) j p q
+one_step t u v (restores j) p q = by_caller t u v after_restore (IsInPhase Broken) active_index (plus 1) j p q
 one_step t u v (looks j) p q = by_caller t u v after_look IsAtRest active_index same j p q
-one_step t u v (parts j) p q = by_caller t u v after_part (IsIn Drained) hold_index same j p q
+one_step t u v (parts j) p q = by_caller t u v after_part (IsInPhase Drained) hold_index same j p q
 one_step t u v (hides j) p q = by_caller t u v after_hide IsAtRest active_index with_hide j p q
-one_step t u v (looks_hidden j) p q = by_caller t u v after_look_hidden (IsIn Hiding) active_index same j p q
-one_step t u v (shows j) p q = by_caller t u v after_show (IsIn Hidden) active_index (minus hide) j p q
+one_step t u v (looks_hidden j) p q = by_caller t u v after_look_hidden (IsInPhase Hiding) active_index same j p q
+one_step t u v (shows j) p q = by_caller t u v after_show (IsInPhase Hidden) active_index (minus hide) j p q
 one_step t u v (releases j) p q = by_caller t u v after_release MayRelease hold_index (minus 1) j p q
 one_step t u v (misses j) p q = by_caller t u v after_miss IsAtRest hold_index same j p q
 one_step t u v (counts j) p q = by_caller t u v after_count (MayCount t) hold_index (plus 1) j p q

@@ -14,7 +14,7 @@ use Rattle.kf_core.proofs.Lists.{slice_get-set_same, slice_get-set_other}
 use Rattle.kf_words.specs.declared.view.MasterView.{MasterView}
 use Rattle.kf_words.specs.declared.view.View.TheVariants as seat
 use Rattle.kf_words.specs.Layout.{bias, linked, one_generation, line_words, active_index, hold_index, active_word, hold_word, empty_line, opening_words}
-use Rattle.kf_words.specs.Rule.{ShowsMarks, ShowsHolds, bare, Shown}
+use Rattle.kf_words.specs.Rule.{ShowsMarks, ShowsHolds, bare_world, Shown}
 use Rattle.kf_words.specs.Steps.{opened}
 
 length-replicate : {X : Type 0} (n : ℕ) (x : X) → length (replicate n x) ≡ n
@@ -132,7 +132,7 @@ module _ (slots limit start : ℕ) (some_slot : 1 ≤ slots) (few : limit ≤ 65
       (subst (λ (s : SlotState). ShowsHolds limit (hold_word words 0) s 0) (root_here state (subst (λ (i : ℕ). slice_get m.slots i ≡ Some state) e its)) ((let w = root_hold in omega arith), omega arith)))
       (λ ne. subst (λ (s : SlotState). ShowsHolds limit (hold_word words k) s 0) (unborn_there k state ne its) ((let w = other_hold k ne (within k state its) in omega arith), omega arith))
 
-  safe : Safe (bare m [])
+  safe : Safe (bare_world m [])
   safe = record {
     none_running = λ c key phase h past d run. absurd (none-some _ h);
     drain_doomed = λ c key phase h past. absurd (none-some _ h);

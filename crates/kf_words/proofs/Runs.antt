@@ -22,9 +22,9 @@ use Rattle.kf_words.specs.declared.view.MasterView.{MasterView}
 use Rattle.kf_words.specs.declared.view.View.{View}
 use Rattle.kf_words.specs.declared.view.View.TheVariants as seat
 use Rattle.kf_words.specs.Layout.{active_index}
-use Rattle.kf_words.specs.Rule.{Shown, seats, bare}
+use Rattle.kf_words.specs.Rule.{Shown, seats, bare_world}
 use Rattle.kf_words.specs.Steps.{after_try}
-use Rattle.kf_words.specs.TableSteps.{Table, Kind, tries, world, WordStep}
+use Rattle.kf_words.specs.TableSteps.{Table, StepKind, tries, world, WordStep}
 use Rattle.kf_words.specs.Runs.{WordRun, OpensWell, RuleKept, RunIsRun, RunIsSafe, DrainedForGood, MarkedKeepsOut, HiddenKeepsOut, PassedForGood, BornUnheld, LetInLive, WasLetIn, TakenLive}
 use Rattle.kf_words.proofs.Seating.{seats-set}
 use Rattle.kf_words.proofs.MasterAllowed.{state_there}
@@ -34,13 +34,13 @@ use Rattle.kf_words.proofs.WordSteps.{Led, IsEvent, Alone, TakenOut, Came, at, m
 use Rattle.kf_words.proofs.Attended.{attended_event}
 
 -- a run keeps the rule
-word_run : (slots limit : ℕ) (kinds : List Kind) (t u : Table) → Shown slots limit t → WordRun t kinds u → Shown slots limit u
+word_run : (slots limit : ℕ) (kinds : List StepKind) (t u : Table) → Shown slots limit t → WordRun t kinds u → Shown slots limit u
 word_run slots limit [] t u h r = subst (λ (x : Table). Shown slots limit x) (sym r) h
 word_run slots limit (kind ∷ kinds) t u h r = word_run slots limit kinds r.0 u (word_step slots limit t kind r.0 h r.1).0 r.2
 
 -- what each event and each step of the Master alone keeps, a run keeps
-pub run_holds : (P : BareWorld → Type 0) → ((w : BareWorld) (e : Event) (w' : BareWorld) → BareStep w e w' → P w → P w') → ((kind : Kind) (w w' : BareWorld) → Alone kind w w' → P w → P w')
-    → (slots limit : ℕ) (kinds : List Kind) (t u : Table) → Shown slots limit t → WordRun t kinds u → P (world t) → P (world u)
+pub run_holds : (P : BareWorld → Type 0) → ((w : BareWorld) (e : Event) (w' : BareWorld) → BareStep w e w' → P w → P w') → ((kind : StepKind) (w w' : BareWorld) → Alone kind w w' → P w → P w')
+    → (slots limit : ℕ) (kinds : List StepKind) (t u : Table) → Shown slots limit t → WordRun t kinds u → P (world t) → P (world u)
 run_holds P events alone slots limit [] t u h r p = subst (λ (x : Table). P (world x)) (sym r) p
 run_holds P events alone slots limit (kind ∷ kinds) t u h r p =
     let v : Table = r.0 in
@@ -54,20 +54,20 @@ run_holds P events alone slots limit (kind ∷ kinds) t u h r p =
     more)
     s.1)
 
-pub alone_come : (k : Key) (kind : Kind) (w w' : BareWorld) → Alone kind w w' → HasCome w k → HasCome w' k
+pub alone_come : (k : Key) (kind : StepKind) (w w' : BareWorld) → Alone kind w w' → HasCome w k → HasCome w' k
 alone_come k kind w w' a h = ⊎_elim
     (λ (o : TakenOut kind w w'). subst (λ (x : BareWorld). HasCome x k) (sym o.is) (linked_come w o.key k o.had None o.linked h))
     (λ (c : Came kind w w'). subst (λ (x : BareWorld). HasCome x k) (sym c.is) (record { last = h.last; there = h.there; come = h.come }))
     a
 
-alone_lost : (k : Key) (kind : Kind) (w w' : BareWorld) → Alone kind w w' → Lost w k → Lost w' k
+alone_lost : (k : Key) (kind : StepKind) (w w' : BareWorld) → Alone kind w w' → Lost w k → Lost w' k
 alone_lost k kind w w' a f = ⊎_elim
     (λ (o : TakenOut kind w w'). subst (λ (x : BareWorld). Lost x k) (sym o.is) (linked_lost w o.key k o.had None o.linked (λ _. refl) f))
     (λ (c : Came kind w w'). subst (λ (x : BareWorld). Lost x k) (sym c.is)
     (record { doomed = f.doomed; come = record { last = f.come.last; there = f.come.there; come = f.come.come } }))
     a
 
-alone_finished : (k : Key) (kind : Kind) (w w' : BareWorld) → Alone kind w w' → Finished w k → Finished w' k
+alone_finished : (k : Key) (kind : StepKind) (w w' : BareWorld) → Alone kind w w' → Finished w k → Finished w' k
 alone_finished k kind w w' a f = ⊎_elim
     (λ (o : TakenOut kind w w'). subst (λ (x : BareWorld). Finished x k) (sym o.is) (linked_finished w o.key k o.had None o.linked (λ _. refl) f))
     (λ (c : Came kind w w'). subst (λ (x : BareWorld). Finished x k) (sym c.is)
@@ -75,13 +75,13 @@ alone_finished k kind w w' a f = ⊎_elim
     a
 
 -- a slot that has come to a key's generation stays there, and what is lost or finished stays so
-pub come_for_good : (slots limit : ℕ) (kinds : List Kind) (t u : Table) (k : Key) → Shown slots limit t → WordRun t kinds u → HasCome (world t) k → HasCome (world u) k
+pub come_for_good : (slots limit : ℕ) (kinds : List StepKind) (t u : Table) (k : Key) → Shown slots limit t → WordRun t kinds u → HasCome (world t) k → HasCome (world u) k
 come_for_good slots limit kinds t u k h r = run_holds (λ x. HasCome x k) (λ x e y s p. step_come x e y k s p) (alone_come k) slots limit kinds t u h r
 
-pub lost_for_good : (slots limit : ℕ) (kinds : List Kind) (t u : Table) (k : Key) → Shown slots limit t → WordRun t kinds u → Lost (world t) k → Lost (world u) k
+pub lost_for_good : (slots limit : ℕ) (kinds : List StepKind) (t u : Table) (k : Key) → Shown slots limit t → WordRun t kinds u → Lost (world t) k → Lost (world u) k
 lost_for_good slots limit kinds t u k h r = run_holds (λ x. Lost x k) (λ x e y s p. step_lost x e y k s p) (alone_lost k) slots limit kinds t u h r
 
-pub done_for_good : (slots limit : ℕ) (kinds : List Kind) (t u : Table) (k : Key) → Shown slots limit t → WordRun t kinds u → Finished (world t) k → Finished (world u) k
+pub done_for_good : (slots limit : ℕ) (kinds : List StepKind) (t u : Table) (k : Key) → Shown slots limit t → WordRun t kinds u → Finished (world t) k → Finished (world u) k
 done_for_good slots limit kinds t u k h r = run_holds (λ x. Finished x k) (λ x e y s p. step_finished x e y k s p) (alone_finished k) slots limit kinds t u h r
 
 pub opens_well : OpensWell
@@ -158,7 +158,7 @@ try_enters slots limit u v k j s =
     ap (λ (x : Table). x.views) s.2.becomes ∙ ap (λ (l : List View). set l (suc j) (seat.Caller c')) k.views ∙ seats-set k.master k.callers j c' in
     let is_u = world_is u k.master k.callers k.views in
     let is_v = world_is v k.master (set k.callers j c') views in
-    subst (λ (w : BareWorld). BareStep w (Enter j) (world v)) (sym is_u) (subst (λ (w : BareWorld). BareStep (bare k.master k.callers) (Enter j) w) (sym is_v) enters)
+    subst (λ (w : BareWorld). BareStep w (Enter j) (world v)) (sym is_u) (subst (λ (w : BareWorld). BareStep (bare_world k.master k.callers) (Enter j) w) (sym is_v) enters)
 
 pub let_in_live : LetInLive
 let_in_live slots limit t u kinds g r j key v s runs =
@@ -194,7 +194,7 @@ hidden_keeps_out slots limit t u kinds g r c key phase there hiding =
     )
 
 -- who runs after a step ran before it, or the step is its try, on a live key
-started : (kind : Kind) (w w' : BareWorld) (c : ℕ) (key : Key) → Led kind w w' → IsCaller w' c key Running → IsCaller w c key Running ⊎ ((kind ≡ tries c) × (is_live w key ≡ true))
+started : (kind : StepKind) (w w' : BareWorld) (c : ℕ) (key : Key) → Led kind w w' → IsCaller w' c key Running → IsCaller w c key Running ⊎ ((kind ≡ tries c) × (is_live w key ≡ true))
 started kind w w' c key l runs = ⊎_elim
     (λ (stays : w' ≡ w). inl (subst (λ (x : BareWorld). IsCaller x c key Running) stays runs))
     (λ (more : IsEvent kind w w' ⊎ Alone kind w w'). ⊎_elim
@@ -226,11 +226,11 @@ taken_live slots limit t u (kind ∷ kinds) h r c key runs =
       found = t;
       left = v;
       run_before = refl;
-      try = subst (λ (x : Kind). WordStep t x v) new.0 r.1;
+      try = subst (λ (x : StepKind). WordStep t x v) new.0 r.1;
       live = new.1;
       runs = early;
       run_later = r.2;
-      all = ap (λ (x : Kind). x ∷ kinds) new.0;
+      all = ap (λ (x : StepKind). x ∷ kinds) new.0;
     }))
     (started kind (world t) (world v) c key s.1 early))
     (λ (late : WasLetIn v kinds u c key). inr (record {
@@ -243,6 +243,6 @@ taken_live slots limit t u (kind ∷ kinds) h r c key runs =
       live = late.live;
       runs = late.runs;
       run_later = late.run_later;
-      all = ap (λ (l : List Kind). kind ∷ l) late.all;
+      all = ap (λ (l : List StepKind). kind ∷ l) late.all;
     }))
     (taken_live slots limit v u kinds s.0 r.2 c key runs)

@@ -16,7 +16,7 @@ use Rattle.kf_core.proofs.Lists.{after_push}
 use Rattle.kf_words.specs.declared.view.CallerView.{CallerView}
 use Rattle.kf_words.specs.declared.view.MasterView.{MasterView}
 use Rattle.kf_words.specs.Layout.{bit, active_word, hold_word}
-use Rattle.kf_words.specs.Rule.{tally, is_user, is_hider, is_holder, is_pinner, users, hiders, holders, pins_in, ShowsMarks, ShowsHolds, last_key, caller, bare, Shows}
+use Rattle.kf_words.specs.Rule.{tally, is_user, is_hider, is_holder, is_pinner, users, hiders, holders, pins_in, ShowsMarks, ShowsHolds, last_key, caller, bare_world, Shows}
 use Rattle.kf_words.specs.Steps.{after_share, new_hold}
 use Rattle.kf_words.proofs.Seating.{caller_at, tally-set, tally-push}
 
@@ -41,14 +41,14 @@ module _ (m : MasterView) (cs : List CallerView) (j : ℕ) (c : CallerView) (at 
   one_more_caller = map-append caller (set cs j (after_share c)) (new ∷ [])
       ∙ ap (λ (l : List Caller). l ++ caller new ∷ []) (map-set caller cs j (after_share c) ∙ put_same (map caller cs) j (caller c) there)
 
-  pub shared_world : bare m shared ≡ core.with_caller (bare m cs) c.key
+  pub shared_world : bare_world m shared ≡ core.with_caller (bare_world m cs) c.key
   shared_world = ap (λ (l : List Caller). let w : BareWorld = record { slots = m.slots; callers = l } in w) one_more_caller
 
   -- the caller holds its key
-  pub holds_it : c.phase ≢ Spent → core.IsHeld (bare m cs) c.key
+  pub holds_it : c.phase ≢ Spent → core.IsHeld (bare_world m cs) c.key
   holds_it holding = record { caller = j; phase = c.phase; there = there; holds = holding }
 
-  pub is_pinned : c.phase ≢ Spent → core.BareStep (bare m cs) (Pin (length (bare m cs).callers) c.key) (bare m shared)
+  pub is_pinned : c.phase ≢ Spent → core.BareStep (bare_world m cs) (Pin (length (bare_world m cs).callers) c.key) (bare_world m shared)
   is_pinned holding = (refl, inr (holds_it holding), shared_world)
 
   module _ (words : List ℕ) (shows : Shows words m cs) (holding : c.phase ≢ Spent) (pinned : c.pinning ≡ true) where
@@ -110,5 +110,5 @@ module _ (m : MasterView) (cs : List CallerView) (j : ℕ) (c : CallerView) (at 
             (λ (old : slice_get (map caller cs) i ≡ Some (record { key = last_key load.slot state; phase = Running })). d.1 i old)
             (after_push (map caller cs) i (caller new) (record { key = last_key load.slot state; phase = Running }) (subst (λ (l : List Caller). slice_get l i ≡ Some (record { key = last_key load.slot state; phase = Running })) one_more_caller h)),
       );
-      safe = step_keeps (bare m cs) (Pin (length (bare m cs).callers) c.key) (bare m shared) shows.safe (is_pinned holding);
+      safe = step_keeps (bare_world m cs) (Pin (length (bare_world m cs).callers) c.key) (bare_world m shared) shows.safe (is_pinned holding);
     }

@@ -20,7 +20,7 @@ use Rattle.kf_words.specs.declared.view.MasterView.{MasterView}
 use Rattle.kf_words.specs.declared.view.View.{View}
 use Rattle.atomic_table.specs.Table.{State}
 use Rattle.kf_words.specs.Layout.{hide, active_word, hold_word, has_bias, has_hide, is_unused}
-use Rattle.kf_words.specs.Rule.{Shown, is_user, users, hiders, holders, pins_in, caller, bare, last_key}
+use Rattle.kf_words.specs.Rule.{Shown, is_user, users, hiders, holders, pins_in, caller, bare_world, last_key}
 use Rattle.kf_words.specs.Laws.{AlwaysSafe, LetsInTheLive, TellsTheHidden, HiddenIsRefused, ShownLetsIn, DrainedIsUnused, FreeIsUnheld, TellsTheLinked}
 use Rattle.kf_words.proofs.Bits.{bias_shows, hide_clear, hide_taken, hiders_one, drained_shows, unused_shows, linked_shows}
 use Rattle.kf_words.proofs.HiddenBit.{hidden_bit}
@@ -38,7 +38,7 @@ tells_the_hidden slots limit t shown slot state its = (
 
 pub hidden_is_refused : HiddenIsRefused
 hidden_is_refused slots limit t shown j c at hides =
-    let world : BareWorld = bare shown.master shown.callers in
+    let world : BareWorld = bare_world shown.master shown.callers in
     let there : slice_get world.callers j ≡ Some (caller c) = slice_get-map caller shown.callers j ∙ ap (option_map caller) at in
     let last = shown.shows.safe.held_last j c.key c.phase there (hiding_holds c.phase hides) in
     let key : last_key c.key.slot last.0 ≡ c.key = same_key (last_key c.key.slot last.0) c.key refl last.2 in
@@ -57,20 +57,20 @@ shown_lets_in slots limit t shown j c at hid =
     let m : MasterView = shown.master in
     let cs : List CallerView = shown.callers in
     let word : ℕ = active_word t.words c.key.slot in
-    let there : slice_get (bare m cs).callers j ≡ Some (caller c) = slice_get-map caller cs j ∙ ap (option_map caller) at in
+    let there : slice_get (bare_world m cs).callers j ≡ Some (caller c) = slice_get-map caller cs j ∙ ap (option_map caller) at in
     let hides : is_hiding c.phase ≡ true = ap is_hiding hid in
     let last = shown.shows.safe.held_last j c.key c.phase there (hiding_holds c.phase hides) in
     let key : last_key c.key.slot last.0 ≡ c.key = same_key (last_key c.key.slot last.0) c.key refl last.2 in
     let few = users_few t.words m cs shown.shows c.key.slot last.0 last.1 in
     let own = shown.shows.marks c.key.slot last.0 last.1 in
-    let set : has_hide word ≡ true = (tells_the_hidden slots limit t shown c.key.slot last.0 last.1).1 ∙ ap (is_hidden (bare m cs)) key ∙ hider_hidden (bare m cs) j c.key c.phase there hides in
+    let set : has_hide word ≡ true = (tells_the_hidden slots limit t shown c.key.slot last.0 last.1).1 ∙ ap (is_hidden (bare_world m cs)) key ∙ hider_hidden (bare_world m cs) j c.key c.phase there hides in
     let one = hiders_one word last.0.marks (users c.key.slot cs) (hiders c.key.slot cs) few own set in
     let rest = hide_taken word last.0.marks (users c.key.slot cs) (hiders c.key.slot cs) few own one in
-    let known : marks (bare m cs) (last_key c.key.slot last.0) ≡ last.0.marks = ap (λ o. marks_in o last.0.generation) last.1 ∙ at_place last.0.generation last.0.marks in (
+    let known : marks (bare_world m cs) (last_key c.key.slot last.0) ≡ last.0.marks = ap (λ o. marks_in o last.0.generation) last.1 ∙ at_place last.0.generation last.0.marks in (
       set,
       ap (λ (b : Bool). b || has_hide (word - hide)) (bias_shows (word - hide) last.0.marks (users c.key.slot cs) 0 few rest)
           ∙ ap (λ (b : Bool). not (are_live last.0.marks) || b) (hide_clear (word - hide) last.0.marks (users c.key.slot cs) 0 few rest refl) ∙ or_false (not (are_live last.0.marks))
-          ∙ ap (λ o. not (are_live o)) (sym known ∙ ap (marks (bare m cs)) key),
+          ∙ ap (λ o. not (are_live o)) (sym known ∙ ap (marks (bare_world m cs)) key),
     )
   where
     or_false : (b : Bool) → (b || false) ≡ b
@@ -81,7 +81,7 @@ pub lets_in_the_live : LetsInTheLive
 lets_in_the_live slots limit t shown slot state its =
     let told = tells_the_hidden slots limit t shown slot state its in
     let key : Key = last_key slot state in
-    let world : BareWorld = bare shown.master shown.callers in
+    let world : BareWorld = bare_world shown.master shown.callers in
     let known : marks world key ≡ state.marks = ap (λ o. marks_in o state.generation) its ∙ at_place state.generation state.marks in
     ap (λ (b : Bool). b || has_hide (active_word t.words slot)) told.0 ∙ ap (λ (b : Bool). not (are_live state.marks) || b) told.1 ∙ either (are_live state.marks) (is_hidden world key)
     ∙ ap (λ (o : Option Marks). not (are_live o && not (is_hidden world key))) (sym known)
@@ -91,7 +91,7 @@ lets_in_the_live slots limit t shown slot state its =
     either true false = refl
     either false b = refl
 
-no_reference : (m : MasterView) (cs : List CallerView) (slot : ℕ) (state : SlotState) → users slot cs ≡ 0 → NoReference (bare m cs) (last_key slot state)
+no_reference : (m : MasterView) (cs : List CallerView) (slot : ℕ) (state : SlotState) → users slot cs ≡ 0 → NoReference (bare_world m cs) (last_key slot state)
 no_reference m cs slot state empty c phase is = no (has_reference phase) (λ counted.
     let x = at_caller cs c (record { key = last_key slot state; phase = phase }) is in
     let y : CallerView = x.0 in
@@ -106,7 +106,7 @@ no_reference m cs slot state empty c phase is = no (has_reference phase) (λ cou
     no false h = refl
 
 -- where a word is not used, nobody has a reference to the last key of its slot
-pub unused_is_unused : (slots limit : ℕ) (t : State (Unit {0}) View) (shown : Shown slots limit t) (slot : ℕ) (state : SlotState) → slice_get shown.master.slots slot ≡ Some state → is_unused (active_word t.words slot) ≡ true → NoReference (bare shown.master shown.callers) (last_key slot state)
+pub unused_is_unused : (slots limit : ℕ) (t : State (Unit {0}) View) (shown : Shown slots limit t) (slot : ℕ) (state : SlotState) → slice_get shown.master.slots slot ≡ Some state → is_unused (active_word t.words slot) ≡ true → NoReference (bare_world shown.master shown.callers) (last_key slot state)
 unused_is_unused slots limit t shown slot state its hit =
     let cs : List CallerView = shown.callers in
     no_reference shown.master cs slot state (unused_shows (active_word t.words slot) state.marks (users slot cs) (hiders slot cs) (users_few t.words shown.master cs shown.shows slot state its) (shown.shows.marks slot state its) hit)

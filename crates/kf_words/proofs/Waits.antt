@@ -1,23 +1,23 @@
 -- What a wait does: one step of a kind, and then another.
 use Rattle.std.proofs.Common.{◌≡◌, ℕ, zero, suc, subst, sym}
 use Rattle.kf_words.specs.Callers.{CallerSight}
-use Rattle.kf_words.specs.TableSteps.{Kind, misses}
+use Rattle.kf_words.specs.TableSteps.{StepKind, misses}
 use Rattle.kf_words.specs.Made.{WasMade, WereMade, OnlyMade}
 use Rattle.kf_words.specs.Another.{WereOutrun}
 
 -- one more of them, after any number
-pub one_more : (kind : ℕ → Kind) (before between after : CallerSight)
+pub one_more : (kind : ℕ → StepKind) (before between after : CallerSight)
     → ((count : ℕ) × WereMade kind count before between) → WasMade kind between after
     → (count : ℕ) × WereMade kind count before after
 one_more kind before between after so_far step = (suc so_far.0, (between, so_far.1, step))
 
 -- and with it there is one at least
-pub at_least_one : (kind : ℕ → Kind) (before between after : CallerSight)
+pub at_least_one : (kind : ℕ → StepKind) (before between after : CallerSight)
     → ((count : ℕ) × WereMade kind count before between) → WasMade kind between after → OnlyMade kind before after
 at_least_one kind before between after so_far step = (so_far.0, (between, so_far.1, step))
 
 -- the same between views that are told in other words
-pub since : (kind : ℕ → Kind) (start first between last end : CallerSight) → first ≡ start → end ≡ last
+pub since : (kind : ℕ → StepKind) (start first between last end : CallerSight) → first ≡ start → end ≡ last
     → ((count : ℕ) × WereMade kind count first between) → WasMade kind between last → OnlyMade kind start end
 since kind start first between last end is_start is_end so_far step =
     subst (λ x. OnlyMade kind x end) is_start

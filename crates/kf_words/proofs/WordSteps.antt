@@ -7,7 +7,6 @@ use lib.ListN.{get_elem?}
 use Rattle.atomic_table.specs.Table.{Allows, step, stepped, keeps, carried_after}
 use Rattle.kf_core.specs.declared.key.Key.{Key}
 use Rattle.kf_core.specs.declared.key.Node.TheVariants.{Dir}
-use Rattle.kf_core.specs.declared.event.Event.{Event}
 use Rattle.kf_core.specs.declared.event.Event.TheVariants.{Born, Rise, Mark, Pin, Enter, Leave, Break, Restore, Look, Part, Hide, LookHidden, Show, Release, Undo}
 use Rattle.kf_core.specs.declared.slot.Marks.{Marks}
 use Rattle.kf_core.specs.declared.slot.SlotState.{SlotState}
@@ -25,10 +24,10 @@ use Rattle.kf_words.specs.declared.view.MasterView.{MasterView}
 use Rattle.kf_words.specs.declared.view.View.{View}
 use Rattle.kf_words.specs.declared.view.View.TheVariants as seat
 use Rattle.kf_words.specs.Layout.{bit, bias, doom, hide, linked, one_generation, active_index, hold_index, sleepers_index, slot_of, is_drained, has_hide, is_unused, has_linked, HasSpare}
-use Rattle.kf_words.specs.Rule.{Shows, Shown, seats, bare, caller, last_key}
+use Rattle.kf_words.specs.Rule.{Shows, Shown, seats, bare_world, caller, last_key}
 use Rattle.kf_words.specs.Steps.{Seated, caller_of, no_state, state_at, after_try, after_undo, after_leave, after_break, after_restore, after_look, after_part, after_hide, after_look_hidden, after_show, after_release, after_miss, after_count, after_share, unmoved, after_split, new_hold, hold_for, with_load, with_pin, without_pin, after_store, with_birth, with_marks, activated_marks, doomed_marks, with_look, without_node, unread, CallerBecomes, On, MasterBecomes, LoadsHold, ShowsKey}
 use Rattle.kf_words.specs.Nodes.{marks_of}
-use Rattle.kf_words.specs.TableSteps.{Table, Kind, tries, undoes, leaves, breaks, restores, looks, parts, hides, looks_hidden, shows, releases, misses, counts, shares, sleeps, awakes, loads_hold, pins_hold, unpins_hold, splits, stores_fresh, births, takes_bias, marks_node, looks_over, unlinks, plus, minus, same, with_hide, master_in, callers_in, world, IsSeated, HoldsSlot, MayCount, WordStep}
+use Rattle.kf_words.specs.TableSteps.{Table, StepKind, tries, undoes, leaves, breaks, restores, looks, parts, hides, looks_hidden, shows, releases, misses, counts, shares, sleeps, awakes, loads_hold, pins_hold, unpins_hold, splits, stores_fresh, births, takes_bias, marks_node, looks_over, unlinks, plus, minus, same, with_hide, master_in, callers_in, world, IsSeated, HoldsSlot, MayCount, WordStep}
 use Rattle.kf_words.proofs.Bits.{bool_cases, waiting_is}
 use Rattle.kf_words.proofs.Seating.{caller_seat, master_seat, seats-set, seats-push}
 use Rattle.kf_words.proofs.CallerAllowed.{no_step, try_allowed, undo_allowed, leave_allowed, break_allowed, restore_allowed, look_allowed, release_allowed, part_allowed, miss_allowed, hide_allowed, look_hidden_allowed, show_allowed}
@@ -37,44 +36,11 @@ use Rattle.kf_words.proofs.Sharing.{share_kept}
 use Rattle.kf_words.proofs.Sleepers.{put_same, sleep_allowed}
 use Rattle.kf_words.proofs.MasterAllowed.{active_slot, hold_slot, hold_allows, pin_owes, unpin_owes, birth_owes, unlink_owes, splits as splits_shown, state_there, look_allowed as look_over_allowed, fresh_allowed, load_allowed, rise_allowed, mark_allowed}
 use Rattle.kf_words.proofs.Events.{try_is_enter, undo_is_undo, look_is_look, part_is_part, leave_is_leave, break_is_break, restore_is_restore, release_is_release, hide_is_hide, look_hidden_is_look, show_is_show, miss_is_nothing, rise_is_rise, mark_is_mark, birth_is_born, split_is_pin, share_is_pin}
-
--- a doomed node on which nobody runs was taken out, with no caller that is drained there
-pub record TakenOut (kind : Kind) (w w' : BareWorld) : Type 0 where
-  pub slot : ℕ
-  pub kind_is : kind ≡ unlinks slot
-  pub key : Key
-  pub had : Marks
-  pub linked : marks w key ≡ Some had
-  pub doomed : had.doomed ≡ true
-  pub is : w' ≡ core.with_marks w key None
-
--- a caller came to a key, with no other that holds it
-pub record Came (kind : Kind) (w w' : BareWorld) : Type 0 where
-  pub slot : ℕ
-  pub kind_is : kind ≡ splits slot
-  pub key : Key
-  pub is : w' ≡ core.with_caller w key
-
--- what an unattended step of the Master makes of the world
-abbrev pub Alone : Kind → BareWorld → BareWorld → Type 0
-Alone kind w w' = TakenOut kind w w' ⊎ Came kind w w'
-
--- an event that only a try makes an Enter
-pub record IsEvent (kind : Kind) (w w' : BareWorld) : Type 0 where
-  pub event : Event
-  pub step : BareStep w event w'
-  pub only : (c : ℕ) → event ≡ Enter c → kind ≡ tries c
-
--- the next world is the same, or an event leads there, or the Master's step alone
-abbrev pub Led : Kind → BareWorld → BareWorld → Type 0
-Led kind w w' = (w' ≡ w) ⊎ (IsEvent kind w w' ⊎ Alone kind w w')
-
--- by an event
-happens : (kind : Kind) (w w' : BareWorld) (e : Event) → BareStep w e w' → ((c : ℕ) → e ≡ Enter c → kind ≡ tries c) → Led kind w w'
-happens kind w w' e step only = inr (inl (record { event = e; step = step; only = only }))
+pub use Rattle.kf_words.proofs.Led.{TakenOut, Came, Alone, IsEvent, Led}
+use Rattle.kf_words.proofs.Led.{happens}
 
 -- the rule holds after the step, and the worlds are led
-abbrev Goes : Kind → ℕ → ℕ → Table → Table → Type 0
+abbrev Goes : StepKind → ℕ → ℕ → Table → Table → Type 0
 Goes kind slots limit t t' = Shown slots limit t' × Led kind (world t) (world t')
 
 pub at_seat : (cs : List CallerView) (j : ℕ) (c : CallerView) → get_elem? (map seat.Caller cs) j ≡ some (seat.Caller c) → slice_get cs j ≡ Some c
@@ -92,10 +58,10 @@ callers_back [] = refl
 callers_back (c ∷ cs) = ap (λ (l : List CallerView). c ∷ l) (callers_back cs)
 
 -- the world of a table, by the views that the rule names
-pub world_is : (t : Table) (m : MasterView) (cs : List CallerView) → t.views ≡ seats m cs → world t ≡ bare m cs
-world_is t m cs views = ap (λ (l : List View). bare (master_in l) (callers_in l)) views ∙ ap (bare m) (callers_back cs)
+pub world_is : (t : Table) (m : MasterView) (cs : List CallerView) → t.views ≡ seats m cs → world t ≡ bare_world m cs
+world_is t m cs views = ap (λ (l : List View). bare_world (master_in l) (callers_in l)) views ∙ ap (bare_world m) (callers_back cs)
 
-led : (kind : Kind) (t t' : Table) (w w' : BareWorld) → world t ≡ w → world t' ≡ w' → Led kind w w' → Led kind (world t) (world t')
+led : (kind : StepKind) (t t' : Table) (w w' : BareWorld) → world t ≡ w → world t' ≡ w' → Led kind w w' → Led kind (world t) (world t')
 led kind t t' w w' is is' l = subst (λ (x : BareWorld). Led kind x (world t')) (sym is) (subst (λ (x : BareWorld). Led kind w x) (sym is') l)
 
 same_shown : (slots limit : ℕ) (s t : Table) → t.words ≡ s.words → t.views ≡ s.views → Shown slots limit s → Shown slots limit t
@@ -129,22 +95,22 @@ module _ (slots limit : ℕ) (t t' : Table) (h : Shown slots limit t) (j : ℕ) 
   pub at : slice_get h.callers j ≡ Some c
   at = at_seat h.callers j c (subst (λ (l : List View). get_elem? l (suc j) ≡ some (seat.Caller c)) h.views there)
 
-  caller_goes : (kind : Kind) (word : ℕ) (f : ℕ → ℕ) (aft : ℕ → CallerView → CallerView) (told : ℕ → Seated → Type 0)
+  caller_goes : (kind : StepKind) (word : ℕ) (f : ℕ → ℕ) (aft : ℕ → CallerView → CallerView) (told : ℕ → Seated → Type 0)
       → Allows (Shown slots limit) (length t.homes) (suc j) me word f told
       → ((me' : Seated) → told (slice_index t.words word) me' → me'.0 ≡ seat.Caller (aft (slice_index t.words word) c))
       → slice_index t.words word < 18446744073709551616
       → t' ≡ stepped t word (f (slice_index t.words word)) (suc j) [] (seat.Caller (aft (slice_index t.words word) c)) keeps
-      → Led kind (bare h.master h.callers) (bare h.master (set h.callers j (aft (slice_index t.words word) c))) → Goes kind slots limit t t'
+      → Led kind (bare_world h.master h.callers) (bare_world h.master (set h.callers j (aft (slice_index t.words word) c))) → Goes kind slots limit t t'
   caller_goes kind word f aft told allowed one fits becomes l =
       let c' : CallerView = aft (slice_index t.words word) c in
       let views : t'.views ≡ seats h.master (set h.callers j c') =
       ap (λ (x : Table). x.views) becomes ∙ ap (λ (l : List View). set l (suc j) (seat.Caller c')) h.views ∙ seats-set h.master h.callers j c' in (
         by_play slots limit (suc j) word f t t' (seat.Caller c) (seat.Caller c') told allowed h there fits becomes one,
-        led kind t t' (bare h.master h.callers) (bare h.master (set h.callers j c')) (world_is t h.master h.callers h.views) (world_is t' h.master (set h.callers j c') views) l,
+        led kind t t' (bare_world h.master h.callers) (bare_world h.master (set h.callers j c')) (world_is t h.master h.callers h.views) (world_is t' h.master (set h.callers j c') views) l,
       )
 
   -- a step on the count of its slot's sleepers
-  sleeper_goes : (kind : Kind) (f : ℕ → ℕ) → slice_index t.words (sleepers_index c.key.slot) < 18446744073709551616
+  sleeper_goes : (kind : StepKind) (f : ℕ → ℕ) → slice_index t.words (sleepers_index c.key.slot) < 18446744073709551616
       → t' ≡ stepped t (sleepers_index c.key.slot) (f (slice_index t.words (sleepers_index c.key.slot))) (suc j) [] (seat.Caller c) keeps
       → Goes kind slots limit t t'
   sleeper_goes kind f fits becomes =
@@ -153,7 +119,7 @@ module _ (slots limit : ℕ) (t t' : Table) (h : Shown slots limit t) (j : ℕ) 
       let same : set h.callers j c ≡ h.callers = put_same h.callers j c (subst (λ (k : ℕ). get_elem? h.callers k ≡ some c) here p.2) in
       caller_goes kind (sleepers_index c.key.slot) f unmoved (CallerBecomes unmoved no_step me)
       (sleep_allowed slots limit (length t.homes) (suc j) me (sleepers_index c.key.slot) f refl refl)
-      (λ me' e. ap (λ (x : Seated). x.0) e) fits becomes (inl (ap (bare h.master) same))
+      (λ me' e. ap (λ (x : Seated). x.0) e) fits becomes (inl (ap (bare_world h.master) same))
 
   -- where the rule is met by what the step makes of the word and of the caller's view
   caller_shown : (word n : ℕ) (c' : CallerView) → Shows (set t.words word n) h.master (set h.callers j c') → t' ≡ stepped t word n (suc j) [] (seat.Caller c') keeps → Shown slots limit t'
@@ -184,7 +150,7 @@ module _ (slots limit : ℕ) (t t' : Table) (h : Shown slots limit t) (j : ℕ) 
       let views : t'.views ≡ seats h.master (set h.callers j c') =
       ap (λ (x : Table). x.views) becomes ∙ ap (λ (l : List View). set l (suc j) (seat.Caller c')) h.views ∙ seats-set h.master h.callers j c' in (
         caller_shown (hold_index c.key.slot) (plus 1 n) c' (count_owes t.words h.master h.callers j c h.shows seated (waiting_is c.phase may.0.0).0 may.0.0 may.0.1 may.1 spare fits) becomes,
-        led (counts j) t t' (bare h.master h.callers) (bare h.master (set h.callers j c')) (world_is t h.master h.callers h.views) (world_is t' h.master (set h.callers j c') views)
+        led (counts j) t t' (bare_world h.master h.callers) (bare_world h.master (set h.callers j c')) (world_is t h.master h.callers h.views) (world_is t' h.master (set h.callers j c') views)
             (inl (miss_is_nothing slots limit t h j c at n).5),
       )
 
@@ -207,7 +173,7 @@ module _ (slots limit : ℕ) (t t' : Table) (h : Shown slots limit t) (j : ℕ) 
           most_holds = h.most_holds;
           shows = subst (λ (l : List ℕ). Shows l h.master cs') (sym (ap (λ (x : Table). x.words) becomes)) (share_kept h.master h.callers j c seated t.words h.shows holding pinned);
         },
-        led (shares j) t t' (bare h.master h.callers) (bare h.master cs') (world_is t h.master h.callers h.views) (world_is t' h.master cs' views)
+        led (shares j) t t' (bare_world h.master h.callers) (bare_world h.master cs') (world_is t h.master h.callers h.views) (world_is t' h.master cs' views)
             (happens _ _ _ (Pin (length h.callers) c.key) (share_is_pin slots limit t h j c at holding) (λ k e. absurd (let x : Pin (length h.callers) c.key ≡ Enter k = e in cc))),
       )
 
@@ -234,17 +200,17 @@ module _ (slots limit : ℕ) (t t' : Table) (h0 : Shown slots limit t) (m : Mast
     shows = subst (λ (x : MasterView). Shows t.words x cs) is_m h0.shows;
   }
 
-  master_goes : (kind : Kind) (slot word : ℕ) (f : ℕ → ℕ) (after : ℕ → ℕ → MasterView → MasterView) (told : ℕ → Seated → Type 0)
+  master_goes : (kind : StepKind) (slot word : ℕ) (f : ℕ → ℕ) (after : ℕ → ℕ → MasterView → MasterView) (told : ℕ → Seated → Type 0)
       → Allows (Shown slots limit) (length t.homes) 0 (seat.Master m, []) word f told
       → ((me' : Seated) → told (slice_index t.words word) me' → me'.0 ≡ seat.Master (after slot (slice_index t.words word) m))
       → slice_index t.words word < 18446744073709551616
       → t' ≡ stepped t word (f (slice_index t.words word)) 0 [] (seat.Master (after slot (slice_index t.words word) m)) keeps
-      → Led kind (bare m cs) (bare (after slot (slice_index t.words word) m) cs) → Goes kind slots limit t t'
+      → Led kind (bare_world m cs) (bare_world (after slot (slice_index t.words word) m) cs) → Goes kind slots limit t t'
   master_goes kind slot word f after told allowed one fits becomes l =
       let m' : MasterView = after slot (slice_index t.words word) m in
       let views : t'.views ≡ seats m' cs = ap (λ (x : Table). x.views) becomes ∙ ap (λ (l : List View). set l 0 (seat.Master m')) met.views in (
         by_play slots limit 0 word f t t' (seat.Master m) (seat.Master m') told allowed met there fits becomes one,
-        led kind t t' (bare m cs) (bare m' cs) (world_is t m cs met.views) (world_is t' m' cs views) l,
+        led kind t t' (bare_world m cs) (bare_world m' cs) (world_is t m cs met.views) (world_is t' m' cs views) l,
       )
 
   -- marks of a slot's last key
@@ -263,16 +229,16 @@ module _ (slots limit : ℕ) (t t' : Table) (h0 : Shown slots limit t) (m : Mast
       let views : t'.views ≡ seats (after_split m) (cs ++ new ∷ []) = split_views becomes in
       let key : Key = last_key slot state in
       let who : new ≡ new_hold key = ap (hold_for m) pins ∙ ap (λ (y : SlotState). new_hold (last_key slot y)) (get_or_from_slice_get m.slots slot state no_state its) in
-      let came : bare (after_split m) (cs ++ new ∷ []) ≡ core.with_caller (bare m cs) key =
+      let came : bare_world (after_split m) (cs ++ new ∷ []) ≡ core.with_caller (bare_world m cs) key =
       ap (λ (l : List Caller). let w : BareWorld = record { slots = m.slots; callers = l } in w)
       (map-append caller cs (new ∷ []) ∙ ap (λ (y : CallerView). map caller cs ++ caller y ∷ []) who) in (
         subst (λ (x : Table). Shown slots limit x) (sym becomes) (splits_shown slots limit 0 (seat.Master m) slot state refl its pins t met there),
-        led (splits slot) t t' (bare m cs) (bare (after_split m) (cs ++ new ∷ [])) (world_is t m cs met.views) (world_is t' (after_split m) (cs ++ new ∷ []) views)
+        led (splits slot) t t' (bare_world m cs) (bare_world (after_split m) (cs ++ new ∷ [])) (world_is t m cs met.views) (world_is t' (after_split m) (cs ++ new ∷ []) views)
             (inr (inr (inr (record { slot = slot; kind_is = refl; key = key; is = came })))),
       )
 
   -- where it was attended, it is a Pin
-  pub split_pins : (slot : ℕ) (state : SlotState) → slice_get m.slots slot ≡ Some state → m.pinning ≡ Some slot → MayPin (bare m cs) (last_key slot state)
+  pub split_pins : (slot : ℕ) (state : SlotState) → slice_get m.slots slot ≡ Some state → m.pinning ≡ Some slot → MayPin (bare_world m cs) (last_key slot state)
       → t' ≡ record { words = t.words; homes = t.homes; views = set t.views 0 (seat.Master (after_split m)) ++ seat.Caller (hold_for m m.pinning) ∷ [] }
       → BareStep (world t) (Pin (length cs) (last_key slot state)) (world t')
   split_pins slot state its pins may becomes =
@@ -280,24 +246,24 @@ module _ (slots limit : ℕ) (t t' : Table) (h0 : Shown slots limit t) (m : Mast
       let is = world_is t m cs met.views in
       let is' = world_is t' (after_split m) (cs ++ new ∷ []) (split_views becomes) in
       subst (λ (w : BareWorld). BareStep w (Pin (length cs) (last_key slot state)) (world t')) (sym is)
-      (subst (λ (w : BareWorld). BareStep (bare m cs) (Pin (length cs) (last_key slot state)) w) (sym is') (split_is_pin slots limit t met slot state pins its may))
+      (subst (λ (w : BareWorld). BareStep (bare_world m cs) (Pin (length cs) (last_key slot state)) w) (sym is') (split_is_pin slots limit t met slot state pins its may))
 
   -- a linked node, or a holder of its slot, lets it be pinned
-  pub linked_pins : (slot : ℕ) (state : SlotState) → slice_get m.slots slot ≡ Some state → is_some (state_at m slot).marks ≡ true → MayPin (bare m cs) (last_key slot state)
+  pub linked_pins : (slot : ℕ) (state : SlotState) → slice_get m.slots slot ≡ Some state → is_some (state_at m slot).marks ≡ true → MayPin (bare_world m cs) (last_key slot state)
   linked_pins slot state its linked_is =
       inl (ap is_some (last_marks slot state state.marks its refl) ∙ ap (λ (x : SlotState). is_some x.marks) (sym (get_or_from_slice_get m.slots slot state no_state its)) ∙ linked_is)
 
-  pub held_pins : (slot : ℕ) (state : SlotState) → slice_get m.slots slot ≡ Some state → (j : ℕ) → HoldsSlot t slot j → MayPin (bare m cs) (last_key slot state)
+  pub held_pins : (slot : ℕ) (state : SlotState) → slice_get m.slots slot ≡ Some state → (j : ℕ) → HoldsSlot t slot j → MayPin (bare_world m cs) (last_key slot state)
   held_pins slot state its j holder =
       let c : CallerView = holder.0 in
       let in_w = in_world cs j c (at slots limit t t h0 j c holder.1) in
       let last = met.shows.safe.held_last j c.key c.phase in_w holder.3 in
       let one : last.0 ≡ state = same_Some last.0 state (sym last.1 ∙ ap (λ (k : ℕ). slice_get m.slots k) holder.2 ∙ its) in
       let key : c.key ≡ last_key slot state = same_key c.key (last_key slot state) holder.2 (sym last.2 ∙ ap (λ (x : SlotState). x.generation) one) in
-      inr (record { caller = j; phase = c.phase; there = subst (λ (k : Key). IsCaller (bare m cs) j k c.phase) key in_w; holds = holder.3 })
+      inr (record { caller = j; phase = c.phase; there = subst (λ (k : Key). IsCaller (bare_world m cs) j k c.phase) key in_w; holds = holder.3 })
 
 -- each step of the table
-pub word_step : (slots limit : ℕ) (t : Table) (kind : Kind) (t' : Table) → Shown slots limit t → WordStep t kind t' → Goes kind slots limit t t'
+pub word_step : (slots limit : ℕ) (t : Table) (kind : StepKind) (t' : Table) → Shown slots limit t → WordStep t kind t' → Goes kind slots limit t t'
 word_step slots limit t (tries j) t' h s =
     let c : CallerView = s.0 in
     caller_goes slots limit t t' h j c s.2.there (tries j) (active_index c.key.slot) (plus 1) after_try (CallerBecomes after_try no_step (seat.Caller c, []))
@@ -467,7 +433,7 @@ word_step slots limit t (unlinks slot) t' g s =
     let k = met slots limit t t' g m s.2.there in
     let linked_is = last_marks slots limit t t' g m s.2.there slot state (Some x) its had in
     let doomed : x.doomed ≡ true = ap are_doomed (sym had) ∙ (k.shows.looked (record { slot = slot; word = looked.0 }) state looked.1 looked.2 its).0 in
-    let out : bare (without_node slot m) g.callers ≡ core.with_marks (bare m g.callers) key None =
+    let out : bare_world (without_node slot m) g.callers ≡ core.with_marks (bare_world m g.callers) key None =
     ap (λ (y : SlotState). let w : BareWorld = record { slots = set m.slots slot (record { generation = y.generation; marks = None }); callers = map caller g.callers } in w)
     (get_or_from_slice_get m.slots slot state no_state its) in
     master_goes slots limit t t' g m s.2.there (unlinks slot) slot (hold_index slot) (minus linked) (unread without_node) (On hold_index (MasterBecomes (unread without_node)) (step 0 (hold_index slot) 0 0 none) (seat.Master m, []))

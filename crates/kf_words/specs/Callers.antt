@@ -8,8 +8,8 @@ use Rattle.kf_core.specs.declared.caller.Phase.TheVariants.{Still, Turned, Runni
 use Rattle.kf_core.specs.Phases.{has_reference, is_waiting}
 use Rattle.kf_core.specs.declared.key.Node.TheVariants as node
 use Rattle.kf_words.specs.declared.seat.CallerSeat.{CallerSeat}
-use Rattle.kf_words.specs.declared.seat.Kind.{Kind}
-use Rattle.kf_words.specs.declared.seat.Kind.TheVariants as kind
+use Rattle.kf_words.specs.declared.seat.NodeKind.{NodeKind}
+use Rattle.kf_words.specs.declared.seat.NodeKind.TheVariants as kind
 use Rattle.kf_words.specs.declared.wake_due.Wake.{Wake}
 use Rattle.kf_words.specs.declared.wake_due.Wake.TheVariants.{Wanted, Unwanted}
 use Rattle.kf_words.specs.declared.view.CallerView.{CallerView}
@@ -60,7 +60,7 @@ abbrev pub sight_of : CallerSeat → CallerSight
 sight_of s = caller_sight s.token.me.0
 
 -- the node of this kind, with this tag where it is a file, and this target where it is a link
-abbrev pub node_of : Kind → ℕ → Key → Node
+abbrev pub node_of : NodeKind → ℕ → Key → Node
 node_of kind.Dir _ _ = node.Dir
 node_of (kind.File mode) tag _ = node.File mode tag
 node_of kind.Link _ target = node.Link target
@@ -110,8 +110,8 @@ abbrev pub HasReference : CallerView → Type 0
 HasReference c = (has_reference c.phase ≡ true) × (c.undo_due ≡ false)
 
 -- the seat is in this phase, and has no try to undo
-abbrev pub IsIn : Phase → CallerView → Type 0
-IsIn phase c = (c.phase ≡ phase) × (c.undo_due ≡ false)
+abbrev pub IsInPhase : Phase → CallerView → Type 0
+IsInPhase phase c = (c.phase ≡ phase) × (c.undo_due ≡ false)
 
 -- its one step was a try, which found a word that lets it in
 abbrev pub Entered : Handle → Handle → Type 0

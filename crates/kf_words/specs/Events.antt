@@ -16,9 +16,9 @@ use Rattle.kf_words.specs.declared.view.CallerView.{CallerView}
 use Rattle.kf_words.specs.declared.view.MasterView.{MasterView}
 use Rattle.kf_words.specs.declared.view.View.{View}
 use Rattle.kf_words.specs.Layout.{active_word, hold_word, is_drained, has_hide, is_unused, has_linked}
-use Rattle.kf_words.specs.Rule.{Shown, bare, last_key}
+use Rattle.kf_words.specs.Rule.{Shown, bare_world, last_key}
 use Rattle.kf_words.specs.Steps.{after_try, after_undo, after_leave, after_break, after_restore, after_look, after_part, after_hide, after_look_hidden, after_show, after_release, after_miss, after_count, after_share, new_hold, with_load, with_pin, without_pin, with_look, after_store, after_split, hold_for, with_birth, with_marks, activated_marks, doomed_marks, without_node}
-use Rattle.kf_words.specs.Callers.{IsAtRest, HasReference, IsIn}
+use Rattle.kf_words.specs.Callers.{IsAtRest, HasReference, IsInPhase}
 use Rattle.kf_words.specs.Nodes.{marks_of}
 
 -- whatever the words show, of the caller of each number
@@ -34,11 +34,11 @@ OfTheMaster Law =
 
 -- a new view of the caller of this number makes this event of the world
 abbrev pub Moves : MasterView → List CallerView → ℕ → CallerView → Event → Type 0
-Moves m cs j c' event = BareStep (bare m cs) event (bare m (slice_set cs j c'))
+Moves m cs j c' event = BareStep (bare_world m cs) event (bare_world m (slice_set cs j c'))
 
 -- a new view of the Master makes this event of the world
 abbrev pub Changes : MasterView → List CallerView → MasterView → Event → Type 0
-Changes m cs m' event = BareStep (bare m cs) event (bare m' cs)
+Changes m cs m' event = BareStep (bare_world m cs) event (bare_world m' cs)
 
 -- a try, which finds the active word as it is, is an Enter: the caller runs exactly where its node is live
 abbrev pub TryIsEnter : Type 0
@@ -60,7 +60,7 @@ LookIsLook = OfEachCaller
 -- a load that finds no node linked is a Part
 abbrev pub PartIsPart : Type 0
 PartIsPart = OfEachCaller
-    (λ words m cs j c. IsIn Drained c → has_linked (hold_word words c.key.slot) ≡ false
+    (λ words m cs j c. IsInPhase Drained c → has_linked (hold_word words c.key.slot) ≡ false
     → Moves m cs j (after_part (hold_word words c.key.slot) c) (Part j))
 
 -- the end of a call is a Leave, at any word that the step finds
@@ -72,13 +72,13 @@ LeaveIsLeave =
 -- a reference given up inside its call is a Break, at any word that the step finds
 abbrev pub BreakIsBreak : Type 0
 BreakIsBreak =
-    OfEachCaller (λ words m cs j c. IsIn Running c → (found : ℕ)
+    OfEachCaller (λ words m cs j c. IsInPhase Running c → (found : ℕ)
     → Moves m cs j (after_break found c) (Break j))
 
 -- a reference taken again inside its call is a Restore, at any word that the step finds
 abbrev pub RestoreIsRestore : Type 0
 RestoreIsRestore = OfEachCaller
-    (λ words m cs j c. IsIn Broken c → (found : ℕ) → Moves m cs j (after_restore found c) (Restore j))
+    (λ words m cs j c. IsInPhase Broken c → (found : ℕ) → Moves m cs j (after_restore found c) (Restore j))
 
 -- a hold given back is a Release, at any word that the step finds
 abbrev pub ReleaseIsRelease : Type 0
@@ -95,32 +95,33 @@ HideIsHide = OfEachCaller
 -- a load by a hider that finds nobody who uses the node is a LookHidden
 abbrev pub LookHiddenIsLook : Type 0
 LookHiddenIsLook = OfEachCaller
-    (λ words m cs j c. IsIn Hiding c → is_unused (active_word words c.key.slot) ≡ true
+    (λ words m cs j c. IsInPhase Hiding c → is_unused (active_word words c.key.slot) ≡ true
     → Moves m cs j (after_look_hidden (active_word words c.key.slot) c) (LookHidden j))
 
 -- the bit taken off is a Show
 abbrev pub ShowIsShow : Type 0
 ShowIsShow =
-    OfEachCaller (λ words m cs j c. IsIn Hidden c → (found : ℕ) → Moves m cs j (after_show found c) (Show j))
+    OfEachCaller (λ words m cs j c. IsInPhase Hidden c → (found : ℕ)
+    → Moves m cs j (after_show found c) (Show j))
 
 -- a hold that a caller counted, and that gets its seat, is a Pin of the caller's key
 abbrev pub ShareIsPin : Type 0
 ShareIsPin = OfEachCaller
     (λ words m cs j c. c.phase ≢ Spent
-    → BareStep (bare m cs) (Pin (length cs) c.key)
-    (bare m (slice_set cs j (after_share c) ++ new_hold c.key ∷ [])))
+    → BareStep (bare_world m cs) (Pin (length cs) c.key)
+    (bare_world m (slice_set cs j (after_share c) ++ new_hold c.key ∷ [])))
 
 -- a look that finds another word, a load that finds a node linked, and a hold more that has no seat yet leave
 -- the world as it is
 abbrev pub MissIsNothing : Type 0
 MissIsNothing = OfEachCaller
     (λ words m cs j c. (found : ℕ)
-    → (is_drained found ≡ false → bare m (slice_set cs j (after_look found c)) ≡ bare m cs)
-    × (has_linked found ≡ true → bare m (slice_set cs j (after_part found c)) ≡ bare m cs)
-    × (has_hide found ≡ true → bare m (slice_set cs j (after_hide found c)) ≡ bare m cs)
-    × (is_unused found ≡ false → bare m (slice_set cs j (after_look_hidden found c)) ≡ bare m cs)
-    × (bare m (slice_set cs j (after_miss found c)) ≡ bare m cs)
-    × (bare m (slice_set cs j (after_count found c)) ≡ bare m cs))
+    → (is_drained found ≡ false → bare_world m (slice_set cs j (after_look found c)) ≡ bare_world m cs)
+    × (has_linked found ≡ true → bare_world m (slice_set cs j (after_part found c)) ≡ bare_world m cs)
+    × (has_hide found ≡ true → bare_world m (slice_set cs j (after_hide found c)) ≡ bare_world m cs)
+    × (is_unused found ≡ false → bare_world m (slice_set cs j (after_look_hidden found c)) ≡ bare_world m cs)
+    × (bare_world m (slice_set cs j (after_miss found c)) ≡ bare_world m cs)
+    × (bare_world m (slice_set cs j (after_count found c)) ≡ bare_world m cs))
 
 -- the bias taken off the active word of a fresh node is a Rise
 abbrev pub RiseIsRise : Type 0
@@ -152,19 +153,21 @@ UnlinkIsUnlink = OfTheMaster
 abbrev pub SplitIsPin : Type 0
 SplitIsPin = OfTheMaster
     (λ m cs. (slot : ℕ) (state : SlotState) → m.pinning ≡ Some slot → slice_get m.slots slot ≡ Some state
-    → MayPin (bare m cs) (last_key slot state)
-    → BareStep (bare m cs) (Pin (length cs) (last_key slot state))
-    (bare (after_split m) (cs ++ hold_for m m.pinning ∷ [])))
+    → MayPin (bare_world m cs) (last_key slot state)
+    → BareStep (bare_world m cs) (Pin (length cs) (last_key slot state))
+    (bare_world (after_split m) (cs ++ hold_for m m.pinning ∷ [])))
 
 -- a hold that gets its seat is a Pin also of the key of any caller that holds the slot
 abbrev pub HeldSplitIsPin : Type 0
 HeldSplitIsPin = OfEachCaller (λ words m cs j c. c.phase ≢ Spent → m.pinning ≡ Some c.key.slot
-    → BareStep (bare m cs) (Pin (length cs) c.key) (bare (after_split m) (cs ++ hold_for m m.pinning ∷ [])))
+    → BareStep (bare_world m cs) (Pin (length cs) c.key)
+    (bare_world (after_split m) (cs ++ hold_for m m.pinning ∷ [])))
 
 -- the Master's other steps leave the world as it is
 abbrev pub RestIsNothing : Type 0
 RestIsNothing = OfTheMaster
-    (λ m cs. (slot found : ℕ) → (bare (with_load slot found m) cs ≡ bare m cs)
-    × (bare (with_look slot found m) cs ≡ bare m cs)
-    × (bare (with_pin slot m) cs ≡ bare m cs) × (bare (without_pin slot m) cs ≡ bare m cs)
-    × (bare (after_store slot m) cs ≡ bare m cs))
+    (λ m cs. (slot found : ℕ) → (bare_world (with_load slot found m) cs ≡ bare_world m cs)
+    × (bare_world (with_look slot found m) cs ≡ bare_world m cs)
+    × (bare_world (with_pin slot m) cs ≡ bare_world m cs)
+    × (bare_world (without_pin slot m) cs ≡ bare_world m cs)
+    × (bare_world (after_store slot m) cs ≡ bare_world m cs))

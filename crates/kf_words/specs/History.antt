@@ -15,7 +15,7 @@ use Rattle.kf_words.specs.declared.sight.Sight.{Sight}
 use Rattle.kf_words.specs.declared.view.View.TheVariants as seat
 use Rattle.kf_words.specs.Rule.{Shown}
 use Rattle.kf_words.specs.Steps.{opened, master_of, caller_of, after_split, hold_for, after_share, new_hold}
-use Rattle.kf_words.specs.TableSteps.{Table, Kind, world, WordRun, opened_table}
+use Rattle.kf_words.specs.TableSteps.{Table, StepKind, world, WordRun, opened_table}
 
 -- the words, and what each seat knows
 abbrev pub SeenTable : Type 0
@@ -56,20 +56,20 @@ abbrev pub shared_out : Sight → Sight
 shared_out s = record { view = seat.Caller (new_hold (caller_of s.view).key); seen = s.seen }
 
 -- a beginning of the run of these steps, from this opening
-abbrev pub IsBeginning : Opening → Seen → List Kind → Type 0
+abbrev pub IsBeginning : Opening → Seen → List StepKind → Type 0
 IsBeginning o seen log = (seen.opening ≡ o) × IsPrefix seen.steps log
 
 -- one run leads here from the opening, each seat has seen a beginning of it, and the words show the views of
 -- all seats
 pub record Kept (o : Opening) (t : SeenTable) : Type 0 where
   pub begins : Shown o.slots o.holds (opened_as o)
-  pub log : List Kind
+  pub log : List StepKind
   pub run : WordRun (opened_as o) log (erased t)
   pub seen : (place : ℕ) (s : Sight) → get_elem? t.views place ≡ some s → IsBeginning o s.seen log
   pub shown : Shown o.slots o.holds (erased t)
 
 -- in each table that meets the rule
-abbrev pub OfEachKept : ((o : Opening) (t : SeenTable) → List Kind → Type 0) → Type 0
+abbrev pub OfEachKept : ((o : Opening) (t : SeenTable) → List StepKind → Type 0) → Type 0
 OfEachKept Law = (o : Opening) (t : SeenTable) (kept : Kept o t) → Law o t kept.log
 
 -- its words and views are at the end of a run from the opening, at which the rule was met
@@ -82,14 +82,14 @@ EndsARun = OfEachKept (λ o t log. Shown o.slots o.holds (opened_as o) × WordRu
 abbrev pub SeenLeadsHere : Type 0
 SeenLeadsHere = OfEachKept
     (λ o t log. (place : ℕ) (s : Sight) → get_elem? t.views place ≡ some s → (s.seen.opening ≡ o)
-    × (later : List Kind) × (mid : Table) × (s.seen.steps ++ later ≡ log) × Shown o.slots o.holds mid
+    × (later : List StepKind) × (mid : Table) × (s.seen.steps ++ later ≡ log) × Shown o.slots o.holds mid
     × WordRun (opened_as o) s.seen.steps mid × WordRun mid later (erased t))
 
 -- where a caller was drained or parted on a key at any moment of the one run so far, nobody is running on
 -- that key in the table as it is
 abbrev pub DrainedEverAfter : Type 0
 DrainedEverAfter = OfEachKept
-    (λ o t log. (first : List Kind) (mid : Table) → IsPrefix first log → WordRun (opened_as o) first mid
+    (λ o t log. (first : List StepKind) (mid : Table) → IsPrefix first log → WordRun (opened_as o) first mid
     → (c : ℕ) (key : Key) (phase : Phase) → IsCaller (world mid) c key phase → IsTrue (saw_drain phase)
     → NoneRunning (world (erased t)) key)
 
@@ -101,4 +101,4 @@ OneRunIsSeen = OfEachKept
 
 -- a run of the same steps from the same table ends at the same table
 abbrev pub OneEnd : Type 0
-OneEnd = (t u v : Table) (kinds : List Kind) → WordRun t kinds u → WordRun t kinds v → u ≡ v
+OneEnd = (t u v : Table) (kinds : List StepKind) → WordRun t kinds u → WordRun t kinds v → u ≡ v

@@ -11,19 +11,19 @@ use Rattle.kf_core.specs.Steps.{NoReference, OnlySpent}
 use Rattle.kf_words.specs.declared.view.CallerView.{CallerView}
 use Rattle.kf_words.specs.declared.view.View.{View}
 use Rattle.kf_words.specs.Layout.{hide, active_word, hold_word, keeps_out, has_bias, has_hide, is_drained, has_linked, IsFree}
-use Rattle.kf_words.specs.Rule.{Shown, bare, last_key}
+use Rattle.kf_words.specs.Rule.{Shown, bare_world, last_key}
 
 -- the world that the views name is safe
 abbrev pub AlwaysSafe : Type 0
 AlwaysSafe = (slots limit : ℕ) (t : State (Unit {0}) View) (shown : Shown slots limit t)
-    → Safe (bare shown.master shown.callers)
+    → Safe (bare_world shown.master shown.callers)
 
 -- a slot's active word lets a try in exactly where the slot's last key is live
 abbrev pub LetsInTheLive : Type 0
 LetsInTheLive = (slots limit : ℕ) (t : State (Unit {0}) View) (shown : Shown slots limit t) (slot : ℕ)
     (state : SlotState) → slice_get shown.master.slots slot ≡ Some state
     → keeps_out (active_word t.words slot)
-    ≡ not (is_live (bare shown.master shown.callers) (last_key slot state))
+    ≡ not (is_live (bare_world shown.master shown.callers) (last_key slot state))
 
 -- a slot's active word has bias exactly where its last key is not linked, activated and undoomed, and hide
 -- exactly where a caller hides that key
@@ -32,14 +32,14 @@ TellsTheHidden = (slots limit : ℕ) (t : State (Unit {0}) View) (shown : Shown 
     (state : SlotState) → slice_get shown.master.slots slot ≡ Some state
     → (has_bias (active_word t.words slot) ≡ not (are_live state.marks))
     × (has_hide (active_word t.words slot)
-    ≡ is_hidden (bare shown.master shown.callers) (last_key slot state))
+    ≡ is_hidden (bare_world shown.master shown.callers) (last_key slot state))
 
 -- while a caller hides its key a try there is refused, and once it is hidden nobody is running there
 abbrev pub HiddenIsRefused : Type 0
 HiddenIsRefused = (slots limit : ℕ) (t : State (Unit {0}) View) (shown : Shown slots limit t) (j : ℕ)
     (c : CallerView) → slice_get shown.callers j ≡ Some c → is_hiding c.phase ≡ true
     → (keeps_out (active_word t.words c.key.slot) ≡ true)
-    × (c.phase ≡ Hidden → NoneRunning (bare shown.master shown.callers) c.key)
+    × (c.phase ≡ Hidden → NoneRunning (bare_world shown.master shown.callers) c.key)
 
 -- the step by which a hidden caller shows its key again takes the bit off and leaves the rest. The word then
 -- lets a try in exactly where the key is linked, activated and undoomed, whatever became of it meanwhile
@@ -48,21 +48,21 @@ ShownLetsIn = (slots limit : ℕ) (t : State (Unit {0}) View) (shown : Shown slo
     (c : CallerView) → slice_get shown.callers j ≡ Some c → c.phase ≡ Hidden
     → (has_hide (active_word t.words c.key.slot) ≡ true)
     × (keeps_out (active_word t.words c.key.slot - hide)
-    ≡ not (are_live (marks (bare shown.master shown.callers) c.key)))
+    ≡ not (are_live (marks (bare_world shown.master shown.callers) c.key)))
 
 -- where a slot's active word is drained, its last key is doomed and nobody has a reference to the node
 abbrev pub DrainedIsUnused : Type 0
 DrainedIsUnused = (slots limit : ℕ) (t : State (Unit {0}) View) (shown : Shown slots limit t) (slot : ℕ)
     (state : SlotState) → slice_get shown.master.slots slot ≡ Some state
     → is_drained (active_word t.words slot) ≡ true → (are_doomed state.marks ≡ true)
-    × NoReference (bare shown.master shown.callers) (last_key slot state)
+    × NoReference (bare_world shown.master shown.callers) (last_key slot state)
 
 -- where the slot's hold word is free, no node is linked there and nobody holds the slot
 abbrev pub FreeIsUnheld : Type 0
 FreeIsUnheld = (slots limit : ℕ) (t : State (Unit {0}) View) (shown : Shown slots limit t) (slot : ℕ)
     (state : SlotState) → slice_get shown.master.slots slot ≡ Some state
     → IsFree (hold_word t.words slot) → (state.marks ≡ None)
-    × OnlySpent (bare shown.master shown.callers) slot
+    × OnlySpent (bare_world shown.master shown.callers) slot
 
 -- a slot's hold word has the bit of a linked node exactly where one is linked there
 abbrev pub TellsTheLinked : Type 0

@@ -7,7 +7,7 @@ use Rattle.kf_words.specs.declared.view.CallerView.{CallerView}
 use Rattle.kf_words.specs.declared.view.MasterView.{MasterView}
 use Rattle.kf_words.specs.declared.view.Load.{Load}
 use Rattle.kf_words.specs.declared.view.View.TheVariants as seat
-use Rattle.kf_words.specs.TableSteps.{Table, Kind, births, breaks, hides, leaves, loads_hold, looks, looks_hidden, looks_over, marks_node, parts, pins_hold, releases, misses, counts, shares, restores, shows, sleeps, awakes, splits, stores_fresh, takes_bias, tries, undoes, unlinks, unpins_hold}
+use Rattle.kf_words.specs.TableSteps.{Table, StepKind, births, breaks, hides, leaves, loads_hold, looks, looks_hidden, looks_over, marks_node, parts, pins_hold, releases, misses, counts, shares, restores, shows, sleeps, awakes, splits, stores_fresh, takes_bias, tries, undoes, unlinks, unpins_hold}
 use Rattle.kf_words.specs.declared.view.View.{View}
 use Rattle.kf_words.specs.declared.sight.Opening.{Opening}
 use Rattle.kf_words.specs.declared.sight.Sight.{Sight}
@@ -61,7 +61,7 @@ table_at active hold m cs = table_with active hold 0 m cs
 
 -- caller 0 calls into the node, caller 1 hides it, shows it, and removes it. Of the node that is out caller 0
 -- makes another hold, once there is room
-abbrev pub word_life : List Kind
+abbrev pub word_life : List StepKind
 word_life = loads_hold 1 ∷ stores_fresh 1 ∷ births 1 ∷ takes_bias 1 ∷ loads_hold 1 ∷ pins_hold 1
     ∷ splits 1 ∷ loads_hold 1 ∷ pins_hold 1 ∷ splits 1 ∷ tries 0 ∷ hides 1
     ∷ looks_hidden 1 ∷ leaves 0 ∷ looks_hidden 1 ∷ tries 0 ∷ undoes 0 ∷ shows 1 ∷ tries 0

@@ -12,22 +12,22 @@ use Rattle.kf_words.specs.Steps.{Seated, Sighted, plain, caller_of, after_try, a
 use Rattle.kf_words.specs.declared.view.CallerView.{CallerView}
 use Rattle.kf_words.specs.Callers.{Handle, Owed, CallerSight, caller_sight, seat_view}
 use Rattle.kf_words.specs.Nodes.{MasterSight, master_sight}
-use Rattle.kf_words.specs.TableSteps.{Table, world, Kind, IsSeated, WordStep, WordRun, tries, undoes, leaves, breaks, restores, looks, parts, hides, looks_hidden, shows, releases, misses, counts, loads_hold, pins_hold, stores_fresh, births, looks_over, unlinks}
+use Rattle.kf_words.specs.TableSteps.{Table, world, StepKind, IsSeated, WordStep, WordRun, tries, undoes, leaves, breaks, restores, looks, parts, hides, looks_hidden, shows, releases, misses, counts, loads_hold, pins_hold, stores_fresh, births, looks_over, unlinks}
 use Rattle.kf_words.specs.History.{opened_as}
 
 -- the run that was seen before went on by the steps between, then by this one, and so far it is seen after
-abbrev pub SawNext : Seen → List Kind → Kind → Seen → Type 0
+abbrev pub SawNext : Seen → List StepKind → StepKind → Seen → Type 0
 SawNext before between kind after =
     after ≡ record { opening = before.opening; steps = (before.steps ++ between) ++ kind ∷ [] }
 
 -- the run that was seen, and then these steps, lead to this table
-abbrev pub LeadsTo : Seen → List Kind → Table → Type 0
+abbrev pub LeadsTo : Seen → List StepKind → Table → Type 0
 LeadsTo seen between t = WordRun (opened_as seen.opening) (seen.steps ++ between) t
 
 -- the caller's step was the next of the one run, which had gone on from all that the caller had seen before
 -- to the table that it found. That met the rule, and had the caller's view before it
-pub record WasMade (kind : ℕ → Kind) (before after : CallerSight) : Type 0 where
-  pub between : List Kind
+pub record WasMade (kind : ℕ → StepKind) (before after : CallerSight) : Type 0 where
+  pub between : List StepKind
   pub found : Table
   pub left : Table
   pub caller : ℕ
@@ -40,7 +40,7 @@ pub record WasMade (kind : ℕ → Kind) (before after : CallerSight) : Type 0 w
 
 -- what a caller's step tells: that it is on the word that this index has of the caller's slot, the view after
 -- it, and that it was the next of the one run
-abbrev pub Makes : (ℕ → ℕ) → (ℕ → Kind) → (Step (Unit {0}) → Seated → ℕ → Seated → Type 0)
+abbrev pub Makes : (ℕ → ℕ) → (ℕ → StepKind) → (Step (Unit {0}) → Seated → ℕ → Seated → Type 0)
     → Step (Unit {0}) → Sighted → ℕ → Sighted → Type 0
 Makes index kind tells st me found me' =
     (st.word ≡ index (caller_of me.0.view).key.slot)
@@ -183,13 +183,13 @@ pub record WasDoubled (before after : CallerSight) (seen : Seen) : Type 0 where
   pub told : seen ≡ counted.seen
 
 -- so many steps of this kind, one after another and no other of this seat between them, each as WasMade says
-abbrev pub WereMade : (ℕ → Kind) → ℕ → CallerSight → CallerSight → Type 0
+abbrev pub WereMade : (ℕ → StepKind) → ℕ → CallerSight → CallerSight → Type 0
 WereMade kind zero before after = after ≡ before
 WereMade kind (suc count) before after =
     (between : CallerSight) × WereMade kind count before between × WasMade kind between after
 
 -- one step of this kind or more, and no other
-abbrev pub OnlyMade : (ℕ → Kind) → CallerSight → CallerSight → Type 0
+abbrev pub OnlyMade : (ℕ → StepKind) → CallerSight → CallerSight → Type 0
 OnlyMade kind before after = (count : ℕ) × WereMade kind (suc count) before after
 
 -- all that a wait for a drain does: it looks, and looks again
@@ -217,8 +217,8 @@ pub record WasLetInLive (before after : CallerSight) : Type 0 where
 -- the one run had gone on, from all that the caller had seen before, to a table where the word was as found
 -- and the caller's view as it was; and it went on from there to what the caller has seen after
 pub record WasFound (before after : CallerSight) (word found : ℕ) : Type 0 where
-  pub between : List Kind
-  pub later : List Kind
+  pub between : List StepKind
+  pub later : List StepKind
   pub table : Table
   pub caller : ℕ
   pub run : LeadsTo before.seen between table
@@ -241,8 +241,8 @@ FoundInHold before after =
 
 -- the Master's step was the next of the one run, which had gone on from all that the Master had seen before
 -- to the table that it found. That met the rule, and had the Master's view before it
-pub record WasMadeByMaster (kind : Kind) (before after : MasterSight) : Type 0 where
-  pub between : List Kind
+pub record WasMadeByMaster (kind : StepKind) (before after : MasterSight) : Type 0 where
+  pub between : List StepKind
   pub found : Table
   pub left : Table
   pub run : LeadsTo before.seen between found
@@ -275,7 +275,7 @@ pub record WasCounted (slot : ℕ) (before : MasterSight) (seat after : Seen) : 
 
 -- what a step of the Master tells: that it is on the word that this index has of some slot, the view after
 -- it, and that it was the next of the one run
-abbrev pub MasterMakes : (ℕ → ℕ) → (ℕ → Kind) → (Step (Unit {0}) → Seated → ℕ → Seated → Type 0)
+abbrev pub MasterMakes : (ℕ → ℕ) → (ℕ → StepKind) → (Step (Unit {0}) → Seated → ℕ → Seated → Type 0)
     → Step (Unit {0}) → Sighted → ℕ → Sighted → Type 0
 MasterMakes index kind tells st me found me' = (st.word ≡ index (slot_of st.word))
     × (tells st (plain me) found (plain me')

@@ -78,8 +78,8 @@ abbrev pub caller : CallerView → Caller
 caller c = record { key = c.key; phase = c.phase }
 
 -- the world that the views name
-abbrev pub bare : MasterView → List CallerView → BareWorld
-bare m cs = record { slots = m.slots; callers = map caller cs }
+abbrev pub bare_world : MasterView → List CallerView → BareWorld
+bare_world m cs = record { slots = m.slots; callers = map caller cs }
 
 -- the key of a slot with its last generation
 abbrev pub last_key : ℕ → SlotState → Key
@@ -107,8 +107,8 @@ module _ (words : List ℕ) (m : MasterView) (cs : List CallerView) where
     -- where the Master's last step found a drained word, the node is doomed, and nobody is running on it
     pub looked : (load : Load) (state : SlotState) → m.looked ≡ Some load → IsTrue (is_drained load.word)
         → slice_get m.slots load.slot ≡ Some state
-        → (are_doomed state.marks ≡ true) × NoneRunning (bare m cs) (last_key load.slot state)
-    pub safe : Safe (bare m cs)
+        → (are_doomed state.marks ≡ true) × NoneRunning (bare_world m cs) (last_key load.slot state)
+    pub safe : Safe (bare_world m cs)
 
 -- the Master has the first seat, and callers have the others
 abbrev pub seats : MasterView → List CallerView → List View

@@ -10,7 +10,7 @@ use Rattle.kf_core.specs.Bare.{opening as bare_opening}
 use Rattle.kf_core.specs.Safe.{Safe, NoneRunning, NoneHolding}
 use Rattle.kf_core.specs.Steps.{BareRun, OnlySpent}
 use Rattle.kf_words.specs.Rule.{Shown}
-pub use Rattle.kf_words.specs.TableSteps.{Table, master_in, world, Kind, WordStep, WordRun, AttendedRun, opened_table, tries, parts, births}
+pub use Rattle.kf_words.specs.TableSteps.{Table, master_in, world, StepKind, WordStep, WordRun, AttendedRun, opened_table, tries, parts, births}
 pub use Rattle.kf_words.specs.Made.{WasALeave, WasAHide, WasAShow, WereMade, OnlyMade, OnlyLooked, OnlyLookedHidden, WasATryUndone, WasLetInLive}
 
 -- the table opens with the rule, and as the opening world
@@ -21,8 +21,8 @@ OpensWell = (slots limit start : ℕ) → 1 ≤ slots → limit ≤ 65535
 
 -- in each run of any seats, from each table that meets the rule
 abbrev pub OverRuns : (ℕ → ℕ → Table → Table → Type 0) → Type 0
-OverRuns Law = (slots limit : ℕ) (t u : Table) (kinds : List Kind) → Shown slots limit t → WordRun t kinds u
-    → Law slots limit t u
+OverRuns Law = (slots limit : ℕ) (t u : Table) (kinds : List StepKind) → Shown slots limit t
+    → WordRun t kinds u → Law slots limit t u
 
 -- the table at the end of a run meets the rule
 abbrev pub RuleKept : Type 0
@@ -30,8 +30,8 @@ RuleKept = OverRuns (λ slots limit t u. Shown slots limit u)
 
 -- each attended run of steps is a run of events between the worlds that its tables name
 abbrev pub RunIsRun : Type 0
-RunIsRun = (slots limit : ℕ) (t u : Table) (kinds : List Kind) → Shown slots limit t → AttendedRun t kinds u
-    → WordRun t kinds u × (events : List Event) × BareRun (world t) events (world u)
+RunIsRun = (slots limit : ℕ) (t u : Table) (kinds : List StepKind) → Shown slots limit t
+    → AttendedRun t kinds u → WordRun t kinds u × (events : List Event) × BareRun (world t) events (world u)
 
 -- the world at the end of a run is safe
 abbrev pub RunIsSafe : Type 0
@@ -76,9 +76,9 @@ LetInLive = OverRuns (λ slots limit t u. (j : ℕ) (key : Key) (v : Table)
     → WordStep u (tries j) v → IsCaller (world v) j key Running → is_live (world u) key ≡ true)
 
 -- one step of the run was a try of this caller, which found its key live, and let it run
-pub record WasLetIn (t : Table) (kinds : List Kind) (u : Table) (c : ℕ) (key : Key) : Type 0 where
-  pub before : List Kind
-  pub later : List Kind
+pub record WasLetIn (t : Table) (kinds : List StepKind) (u : Table) (c : ℕ) (key : Key) : Type 0 where
+  pub before : List StepKind
+  pub later : List StepKind
   pub found : Table
   pub left : Table
   pub run_before : WordRun t before found
@@ -90,6 +90,6 @@ pub record WasLetIn (t : Table) (kinds : List Kind) (u : Table) (c : ℕ) (key :
 
 -- a caller that runs at the end of a run ran at its start, or was let in while its key was live
 abbrev pub TakenLive : Type 0
-TakenLive = (slots limit : ℕ) (t u : Table) (kinds : List Kind) → Shown slots limit t → WordRun t kinds u
+TakenLive = (slots limit : ℕ) (t u : Table) (kinds : List StepKind) → Shown slots limit t → WordRun t kinds u
     → (c : ℕ) (key : Key) → IsCaller (world u) c key Running → IsCaller (world t) c key Running
     ⊎ WasLetIn t kinds u c key

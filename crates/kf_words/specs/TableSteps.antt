@@ -13,12 +13,12 @@ use Rattle.kf_words.specs.declared.view.CallerView.{CallerView}
 use Rattle.kf_words.specs.declared.view.MasterView.{MasterView}
 use Rattle.kf_words.specs.declared.view.View.{View}
 use Rattle.kf_words.specs.declared.view.View.TheVariants as seat
-pub use Rattle.kf_words.specs.declared.sight.Kind.{Kind}
-pub use Rattle.kf_words.specs.declared.sight.Kind.TheVariants.{Tries as tries, Undoes as undoes, Leaves as leaves, Breaks as breaks, Restores as restores, Looks as looks, Parts as parts, Hides as hides, LooksHidden as looks_hidden, Shows as shows, Releases as releases, Misses as misses, Counts as counts, Shares as shares, Sleeps as sleeps, Awakes as awakes, LoadsHold as loads_hold, PinsHold as pins_hold, UnpinsHold as unpins_hold, Splits as splits, StoresFresh as stores_fresh, Births as births, TakesBias as takes_bias, MarksNode as marks_node, LooksOver as looks_over, Unlinks as unlinks}
+pub use Rattle.kf_words.specs.declared.sight.StepKind.{StepKind}
+pub use Rattle.kf_words.specs.declared.sight.StepKind.TheVariants.{Tries as tries, Undoes as undoes, Leaves as leaves, Breaks as breaks, Restores as restores, Looks as looks, Parts as parts, Hides as hides, LooksHidden as looks_hidden, Shows as shows, Releases as releases, Misses as misses, Counts as counts, Shares as shares, Sleeps as sleeps, Awakes as awakes, LoadsHold as loads_hold, PinsHold as pins_hold, UnpinsHold as unpins_hold, Splits as splits, StoresFresh as stores_fresh, Births as births, TakesBias as takes_bias, MarksNode as marks_node, LooksOver as looks_over, Unlinks as unlinks}
 use Rattle.kf_words.specs.Layout.{bit, bias, doom, hide, linked, one_generation, active_index, hold_index, sleepers_index, opening_words, HasSpare}
-use Rattle.kf_words.specs.Rule.{bare}
+use Rattle.kf_words.specs.Rule.{bare_world}
 use Rattle.kf_words.specs.Steps.{caller_of, no_master, master_of, state_at, after_try, after_undo, after_leave, after_break, after_restore, after_look, after_part, after_hide, after_look_hidden, after_show, after_release, after_miss, after_count, after_share, new_hold, unmoved, after_split, hold_for, with_load, with_pin, without_pin, after_store, with_birth, with_marks, activated_marks, doomed_marks, with_look, without_node, unread, opened}
-use Rattle.kf_words.specs.Callers.{IsAtRest, HasReference, IsIn}
+use Rattle.kf_words.specs.Callers.{IsAtRest, HasReference, IsInPhase}
 use Rattle.kf_words.specs.Nodes.{FoundRoom, FoundFree, HasMarks, HasLooked, marks_of}
 
 -- the words, and the views of all seats
@@ -37,7 +37,7 @@ callers_in (v ∷ vs) = map caller_of vs
 
 -- the world that the views of all seats name
 abbrev pub world : Table → BareWorld
-world t = bare (master_in t.views) (callers_in t.views)
+world t = bare_world (master_in t.views) (callers_in t.views)
 
 -- the word with k added, which wraps round in 64 bits
 abbrev pub plus : ℕ → ℕ → ℕ
@@ -156,17 +156,17 @@ SeesDrained slot m = ((x : Marks) × HasMarks m slot x) × HasLooked m slot
 
 -- one atomic step of the table, by any seat: what it makes of the view, what the view must say before it,
 -- which of the slot's words it is on, and what it makes of that
-abbrev pub WordStep : Table → Kind → Table → Type 0
+abbrev pub WordStep : Table → StepKind → Table → Type 0
 WordStep t (tries j) t' = CallerPlays after_try IsAtRest active_index (plus 1) t j t'
 WordStep t (undoes j) t' = CallerPlays (λ _. after_undo) HasUndoDue active_index (minus 1) t j t'
 WordStep t (leaves j) t' = CallerPlays after_leave HasReference active_index (minus 1) t j t'
-WordStep t (breaks j) t' = CallerPlays after_break (IsIn Running) active_index (minus 1) t j t'
-WordStep t (restores j) t' = CallerPlays after_restore (IsIn Broken) active_index (plus 1) t j t'
+WordStep t (breaks j) t' = CallerPlays after_break (IsInPhase Running) active_index (minus 1) t j t'
+WordStep t (restores j) t' = CallerPlays after_restore (IsInPhase Broken) active_index (plus 1) t j t'
 WordStep t (looks j) t' = CallerPlays after_look IsAtRest active_index same t j t'
-WordStep t (parts j) t' = CallerPlays after_part (IsIn Drained) hold_index same t j t'
+WordStep t (parts j) t' = CallerPlays after_part (IsInPhase Drained) hold_index same t j t'
 WordStep t (hides j) t' = CallerPlays after_hide IsAtRest active_index with_hide t j t'
-WordStep t (looks_hidden j) t' = CallerPlays after_look_hidden (IsIn Hiding) active_index same t j t'
-WordStep t (shows j) t' = CallerPlays after_show (IsIn Hidden) active_index (minus hide) t j t'
+WordStep t (looks_hidden j) t' = CallerPlays after_look_hidden (IsInPhase Hiding) active_index same t j t'
+WordStep t (shows j) t' = CallerPlays after_show (IsInPhase Hidden) active_index (minus hide) t j t'
 WordStep t (releases j) t' = CallerPlays after_release MayRelease hold_index (minus 1) t j t'
 WordStep t (misses j) t' = CallerPlays after_miss IsAtRest hold_index same t j t'
 WordStep t (counts j) t' = CallerPlays after_count (MayCount t) hold_index (plus 1) t j t'
@@ -194,7 +194,7 @@ WordStep t (unlinks slot) t' =
     MasterPlays (unread without_node) (SeesDrained slot) hold_index (minus linked) t slot t'
 
 -- these steps, one after another
-abbrev pub WordRun : Table → List Kind → Table → Type 0
+abbrev pub WordRun : Table → List StepKind → Table → Type 0
 WordRun t [] t' = t' ≡ t
 WordRun t (kind ∷ kinds) t' = (between : Table) × WordStep t kind between × WordRun between kinds t'
 
@@ -210,7 +210,7 @@ IsPinnable t slot =
 
 -- who gives a seat to a hold, or takes a node out, was shown a caller that lets it: one on the slot of a node
 -- that is no longer linked, and one that is drained on the node
-abbrev pub IsAttended : Table → Kind → Type 0
+abbrev pub IsAttended : Table → StepKind → Type 0
 IsAttended t (tries j) = Unit {0}
 IsAttended t (undoes j) = Unit {0}
 IsAttended t (leaves j) = Unit {0}
@@ -239,7 +239,7 @@ IsAttended t (splits slot) = IsPinnable t slot
 IsAttended t (unlinks slot) = (j : ℕ) × IsDrainedOn t slot j
 
 -- a run in which each step of the Master was attended
-abbrev pub AttendedRun : Table → List Kind → Table → Type 0
+abbrev pub AttendedRun : Table → List StepKind → Table → Type 0
 AttendedRun t [] t' = t' ≡ t
 AttendedRun t (kind ∷ kinds) t' = (between : Table) × IsAttended t kind × WordStep t kind between
     × AttendedRun between kinds t'

@@ -19,13 +19,13 @@ pub struct Hiding {
 
 impl Model for Hiding {
     ghost use Rattle.kf_core.specs.declared.caller.Phase.TheVariants as phase_of;
-    ghost use Rattle.kf_words.specs.Callers.{Handle, handle_of, view_of, IsIn};
+    ghost use Rattle.kf_words.specs.Callers.{Handle, handle_of, view_of, IsInPhase};
 
     ghost Value = { Handle };
 
     ghost view = { λ h. handle_of h.seat };
 
-    ghost invariant = { λ h. IsIn phase_of.Hiding (view_of h.seat) };
+    ghost invariant = { λ h. IsInPhase phase_of.Hiding (view_of h.seat) };
 }
 
 /// Hides its key, and saw that nobody had a reference to the node. While it is out no call of the node is
@@ -36,13 +36,13 @@ pub struct Hidden {
 
 impl Model for Hidden {
     ghost use Rattle.kf_core.specs.declared.caller.Phase.TheVariants as phase_of;
-    ghost use Rattle.kf_words.specs.Callers.{Handle, handle_of, view_of, IsIn};
+    ghost use Rattle.kf_words.specs.Callers.{Handle, handle_of, view_of, IsInPhase};
 
     ghost Value = { Handle };
 
     ghost view = { λ h. handle_of h.seat };
 
-    ghost invariant = { λ h. IsIn phase_of.Hidden (view_of h.seat) };
+    ghost invariant = { λ h. IsInPhase phase_of.Hidden (view_of h.seat) };
 }
 
 impl Hiding {

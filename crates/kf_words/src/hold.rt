@@ -123,7 +123,8 @@ impl Hold {
         Ok(Hold { seat })
     }
 
-    /// Gives its hold of the slot back (`kernfs_put`), in one word step.
+    /// Gives its hold of the slot back (`kernfs_put`), in one word step. Nothing is left of it that a clause
+    /// could tell of.
     pub fn release(self) {
         let Hold { mut seat } = self;
         release_seat(&mut seat);

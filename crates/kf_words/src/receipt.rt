@@ -18,13 +18,13 @@ pub struct Drained {
 
 impl Model for Drained {
     ghost use Rattle.kf_core.specs.declared.caller.Phase.TheVariants as phase_of;
-    ghost use Rattle.kf_words.specs.Callers.{Handle, handle_of, view_of, IsIn};
+    ghost use Rattle.kf_words.specs.Callers.{Handle, handle_of, view_of, IsInPhase};
 
     ghost Value = { Handle };
 
     ghost view = { λ d. handle_of d.seat };
 
-    ghost invariant = { λ d. IsIn phase_of.Drained (view_of d.seat) };
+    ghost invariant = { λ d. IsInPhase phase_of.Drained (view_of d.seat) };
 }
 
 /// As `Drained`, and saw that the node has left the tree. It must be spent, by `release`.
@@ -34,13 +34,13 @@ pub struct Parted {
 
 impl Model for Parted {
     ghost use Rattle.kf_core.specs.declared.caller.Phase.TheVariants as phase_of;
-    ghost use Rattle.kf_words.specs.Callers.{Handle, handle_of, view_of, IsIn};
+    ghost use Rattle.kf_words.specs.Callers.{Handle, handle_of, view_of, IsInPhase};
 
     ghost Value = { Handle };
 
     ghost view = { λ p. handle_of p.seat };
 
-    ghost invariant = { λ p. IsIn phase_of.Parted (view_of p.seat) };
+    ghost invariant = { λ p. IsInPhase phase_of.Parted (view_of p.seat) };
 }
 
 impl Drained {
@@ -70,7 +70,8 @@ impl Drained {
         }
     }
 
-    /// Gives its hold of the slot back (`kernfs_put`), in one word step.
+    /// Gives its hold of the slot back (`kernfs_put`), in one word step. Nothing is left of it that a clause
+    /// could tell of.
     pub fn release(self) {
         let Drained { mut seat } = self;
         release_seat(&mut seat);
@@ -87,7 +88,8 @@ impl Parted {
         self.seat.key()
     }
 
-    /// Gives its hold of the slot back (`kernfs_put`), in one word step.
+    /// Gives its hold of the slot back (`kernfs_put`), in one word step. Nothing is left of it that a clause
+    /// could tell of.
     pub fn release(self) {
         let Parted { mut seat } = self;
         release_seat(&mut seat);

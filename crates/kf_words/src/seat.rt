@@ -20,7 +20,7 @@ pub use steps::release_seat;
 
 /// What a node is, but for a file's tag and a link's target.
 #[derive(Clone, Copy)]
-enum Kind {
+enum NodeKind {
     Dir,
     File { mode: u16 },
     Link,
@@ -37,7 +37,7 @@ pub struct CallerSeat {
     /// Of a link.
     target: Key,
     key: Key,
-    kind: Kind,
+    kind: NodeKind,
     /// The most holds of a slot.
     most: u32,
     token: Seat<(), Sight>,

@@ -1,5 +1,6 @@
 //! The one run of all steps at a table of words, and what each seat has seen of it. The rule of the table
-//! speaks of these types, so they are types of the code, but no value of a `Sight` or a `Kind` is ever made.
+//! speaks of these types, so they are types of the code, but no value of a `Sight` or a
+//! `StepKind` is ever made.
 use crate::view::View;
 use std::collections::LinkedList;
 
@@ -13,7 +14,7 @@ pub struct Opening {
 }
 
 /// What a step does: of a caller, by its number, or of the Master, on a slot.
-pub enum Kind {
+pub enum StepKind {
     Tries(u64),
     Undoes(u64),
     Leaves(u64),
@@ -45,7 +46,7 @@ pub enum Kind {
 /// A beginning of the one run: the steps of all seats from the opening on, in their order.
 pub struct Seen {
     pub opening: Opening,
-    pub steps: LinkedList<Kind>,
+    pub steps: LinkedList<StepKind>,
 }
 
 /// What a seat knows: its view, and the beginning of the run that it has seen.

@@ -6,10 +6,10 @@ use mathlib.Core.Logic.{dite}
 use native.Mathlib.Decide.{ℕ_discrete}
 use Rattle.kf_script.specs.Answers.{Step, AnswersRequest}
 use Rattle.kf_script.specs.Requests.{RequestWords, request_of}
-use Rattle.kf_rounds.specs.Kinds.{Kind, bad, ends_round, of_seat, commands_of, own_command, kinds_by}
+use Rattle.kf_rounds.specs.Kinds.{KindOfLine, bad, ends_round, of_seat, commands_of, own_command, kinds_by}
 use Rattle.kf_rounds.specs.Turns.{Turn, kind_in, own_reply, replies_of, IsFixed, HasFixed, Tells, Replied as RepliedBy}
-use Rattle.kf_workers.specs.Replies.{Suits, Answers, AnswersTo}
-use Rattle.kf_workers.specs.Replied.{MayReply, IsTurn, Replied}
+use Rattle.kf_workers.specs.Replies.{Suits, AnswersCommand, AnswersTo}
+use Rattle.kf_workers.specs.Replied.{MayReply, IsTurn, RepliedInForm}
 
 module _ (Board : Type 0) where
   -- a board whose replies suit their requests
@@ -40,7 +40,7 @@ module _ (Board : Type 0) where
   abbrev Ran : List (List ℕ) → List (List ℕ) → Type 0
   Ran commands replies = (before now : Board) × Tells suits before commands replies now
 
-  first_answers : (c r : List ℕ) (cs rs : List (List ℕ)) → Ran (c ∷ cs) (r ∷ rs) → Answers c r
+  first_answers : (c r : List ℕ) (cs rs : List (List ℕ)) → Ran (c ∷ cs) (r ∷ rs) → AnswersCommand c r
   first_answers c r cs rs t = answers_to t.0 t.2.0 (request_of c) t.2.1 r t.2.2
 
   others_answer : (c r : List ℕ) (cs rs : List (List ℕ)) → Ran (c ∷ cs) (r ∷ rs) → Ran cs rs
@@ -55,7 +55,7 @@ module _ (Board : Type 0) where
       (λ same. others_answer c r cs rs (own_front w c r cs rs (subst (λ v. Ran (own_command v (of_seat w c) ++ cs) (own_reply v (of_seat w c) r ++ rs)) same t)))
       (λ ne. subst (λ a. Ran (a ++ cs) rs) (no_command w who c ne) (subst (λ a. Ran (own_command who (of_seat w c) ++ cs) (a ++ rs)) (no_reply w who c r ne) t))
 
-  first_turn : (kind : Kind) (reply : List ℕ) (cs rs : ℕ → List (List ℕ)) → IsFixed kind reply → ((who : ℕ) → Ran (own_command who kind ++ cs who) (own_reply who kind reply ++ rs who))
+  first_turn : (kind : KindOfLine) (reply : List ℕ) (cs rs : ℕ → List (List ℕ)) → IsFixed kind reply → ((who : ℕ) → Ran (own_command who kind ++ cs who) (own_reply who kind reply ++ rs who))
       → MayReply kind reply × ((who : ℕ) → Ran (cs who) (rs who))
   first_turn bad reply cs rs fixed told = (fixed, told)
   first_turn ends_round reply cs rs fixed told = (fixed, told)
@@ -71,7 +71,7 @@ module _ (Board : Type 0) where
       all_turns t turns first.0 (each_turn turns (λ k d near. fixed (suc k) d (omega arith)) first.1)
 
   pub replied_so : (workers : ℕ) (lines : List (List ℕ)) (before now : List Board) (bytes : List ℕ) → 0 < length before
-      → RepliedBy suits (kinds_by workers lines) before now [] bytes → Replied workers lines bytes
+      → RepliedBy suits (kinds_by workers lines) before now [] bytes → RepliedInForm workers lines bytes
   replied_so workers lines [] now bytes some was = absurd (omega arith)
   replied_so workers lines (d ∷ before) now bytes some was = record {
     turns = was.turns;

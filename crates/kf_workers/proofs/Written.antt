@@ -5,12 +5,12 @@ use Rattle.std.specs.Io.KnownBytes.{Consumes, IsAtEnd, Keeps}
 use Rattle.kf_script.specs.declared.fault.RunFault.{RunFault}
 use Rattle.kf_script.specs.declared.fault.RunFault.TheVariants.{Read, Write, Memory}
 use Rattle.kf_script.specs.Lines.{lines_of}
-use Rattle.kf_script.specs.Progress.{Writes}
+use Rattle.kf_script.specs.Progress.{WrittenOrCut}
 use Rattle.kf_workers.specs.RanWhole.{RanWhole, StoppedWhole}
-use Rattle.kf_workers.specs.Replied.{Replied}
+use Rattle.kf_workers.specs.Replied.{RepliedInForm}
 
 pub ran_whole : {T E : Type 0} (workers : ℕ) (input left old new : Option (List ℕ)) (script replies : List ℕ) (result : Result T E)
-    → Consumes input left script → IsAtEnd left → Replied workers (lines_of script) replies → Writes old new result replies
+    → Consumes input left script → IsAtEnd left → RepliedInForm workers (lines_of script) replies → WrittenOrCut old new result replies
     → OnOk result (RanWhole workers input left old new)
 ran_whole workers input left old new script replies (Err e) took ended replied written = tt
 ran_whole workers input left old new script replies (Ok x) took ended replied written = record {
@@ -31,7 +31,7 @@ kept_whole Memory workers input left old new other kept = kept
 
 -- a run whose replies could not be written whole
 pub cut_whole : {T : Type 0} (workers : ℕ) (input left old new : Option (List ℕ)) (script replies : List ℕ) (result : Result T RunFault)
-    → Consumes input left script → Replied workers (lines_of script) replies → Writes old new result replies
+    → Consumes input left script → RepliedInForm workers (lines_of script) replies → WrittenOrCut old new result replies
     → IfErr result (λ fault. fault ≡ Write) → IfErr result (λ reason. StoppedWhole reason workers input left old new)
 cut_whole workers input left old new script replies (Ok x) took replied written fault = tt
 cut_whole workers input left old new script replies (Err reason) took replied (part, prefix, wrote) fault =

@@ -5,7 +5,7 @@ use Rattle.kf_script.specs.declared.fault.RunFault.{RunFault}
 use Rattle.kf_script.specs.declared.fault.RunFault.TheVariants.{Read, Write, Memory}
 use Rattle.kf_script.specs.Progress.{IsPrefix}
 use Rattle.kf_script.specs.Lines.{lines_of}
-use Rattle.kf_workers.specs.Replied.{Replied}
+use Rattle.kf_workers.specs.Replied.{RepliedInForm}
 
 -- The script was read to its end, and the replies to its lines were written, one each, in the order of the
 -- lines.
@@ -14,7 +14,7 @@ pub record RanWhole (workers : ℕ) (input left old new : Option (List ℕ)) : T
   pub took : Consumes input left script
   pub ended : IsAtEnd left
   pub replies : List ℕ
-  pub replied : Replied workers (lines_of script) replies
+  pub replied : RepliedInForm workers (lines_of script) replies
   pub written : Appends old new replies
 
 -- The script was read and answered, and a write failed: what was written is a prefix of the replies.
@@ -22,7 +22,7 @@ pub record CutWhole (workers : ℕ) (input left old new : Option (List ℕ)) : T
   pub script : List ℕ
   pub took : Consumes input left script
   pub replies : List ℕ
-  pub replied : Replied workers (lines_of script) replies
+  pub replied : RepliedInForm workers (lines_of script) replies
   pub part : List ℕ
   pub prefix : IsPrefix part replies
   pub written : Appends old new part

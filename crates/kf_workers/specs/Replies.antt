@@ -29,8 +29,8 @@ abbrev pub IsStat : List ℕ → Type 0
 IsStat reply = (told : Result Stat Refusal) × (reply ≡ stat_told told)
 
 -- a link's text in some tree, or a refusal
-abbrev pub IsLinkText : List ℕ → Type 0
-IsLinkText reply = (told : Result (List ℕ) Refusal)
+abbrev pub IsLinkReply : List ℕ → Type 0
+IsLinkReply reply = (told : Result (List ℕ) Refusal)
     × IfOk told (λ text. (tree : Tree) × (root link : Key) × HasLinkText tree root link text)
     × (reply ≡ text_told told)
 
@@ -48,8 +48,8 @@ abbrev pub IsChange : List ℕ → Type 0
 IsChange reply = (told : Result Bool Refusal) × (reply ≡ changed_told told)
 
 -- a number in decimal
-abbrev pub IsNumber : List ℕ → Type 0
-IsNumber reply = (number : ℕ) × (reply ≡ decimal number)
+abbrev pub IsNumberReply : List ℕ → Type 0
+IsNumberReply reply = (number : ℕ) × (reply ≡ decimal number)
 
 -- the form that the reply to each request has
 abbrev pub Suits : RequestWords → List ℕ → Type 0
@@ -59,11 +59,11 @@ Suits (make_link path target) reply = IsKey reply
 Suits (plug name text) reply = IsKey reply
 Suits (list_names path) reply = AreNames reply
 Suits (stat path) reply = IsStat reply
-Suits (read_link path) reply = IsLinkText reply
+Suits (read_link path) reply = IsLinkReply reply
 Suits (read_file file offset most) reply = AreBytes most reply
 Suits (write_file file text) reply = IsCount reply
 Suits (poll_file file) reply = IsChange reply
-Suits count_commands reply = IsNumber reply
+Suits count_commands reply = IsNumberReply reply
 Suits wait reply = reply ≡ done_text
 Suits _ reply = IsDone reply
 
@@ -73,5 +73,5 @@ AnswersTo None reply = reply ≡ bad_line_text
 AnswersTo (Some request) reply = Suits request reply
 
 -- the reply suits the request that this line makes
-abbrev pub Answers : List ℕ → List ℕ → Type 0
-Answers command reply = AnswersTo (request_of command) reply
+abbrev pub AnswersCommand : List ℕ → List ℕ → Type 0
+AnswersCommand command reply = AnswersTo (request_of command) reply

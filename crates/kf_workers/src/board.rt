@@ -25,9 +25,9 @@ mod removing;
 const FILES: usize = 26;
 
 /// The board of one who runs lines on a shared tree: its open files by letter, its tokens of hidden files by
-/// slot, the tags of the files that it may make, and a handle of its own of the event numbers. What a file gives is read into a page of its own.
-/// There is room for a token of each slot, and no memory is written before one is kept; the pages of files
-/// that were closed are kept for the next ones.
+/// slot, the tags of the files that it may make, and a handle of its own of the event numbers. What a file
+/// gives is read into a page of its own. There is room for a token of each slot, and no memory is written
+/// before one is kept; the pages of files that were closed are kept for the next ones.
 ///
 /// It must be spent, by [`WorkerBoard::end`], which gives all its holds back.
 pub struct WorkerBoard<'x, W: ScriptOps, N: Naming, R: Wait> {

@@ -17,7 +17,8 @@ struct LastFile {
 
 /// What all seats of a run share: the tree, the bus, and the callbacks of the files that scripts make.
 ///
-/// No two of its locks are ever held at once: each is let go before another lock, a callback or a wait.
+/// No two of its locks are ever held at once: each is let go before another lock, a callback or a wait. What
+/// they keep is seen by nobody outside, so its functions have no clauses.
 #[derive(Drop)]
 pub struct Common<'x, W, N: Naming> {
     pub tree: SharedTree<N>,

@@ -2,7 +2,7 @@
 
 ghost use Rattle.std.specs.Prelude.{◌≡◌, ◌≤◌, ◌+◌, OnOk, IfOk, IfErr, vec_len};
 ghost use Rattle.kf_script.specs.Lines.{lines_of};
-ghost use Rattle.kf_workers.specs.Replied.{Replied};
+ghost use Rattle.kf_workers.specs.Replied.{RepliedInForm};
 ghost use Rattle.kf_workers.specs.OwnTags.{AddsOwn};
 
 use crate::board::WorkerBoard;
@@ -86,7 +86,7 @@ fn run_seats<'x, W: ScriptOps + Sync, N: Naming + Send + Sync, R: Threads + Wait
 ) -> Result<Vec<u8>, Refusal>
     requires none { vec_len seats.old ≡ 0 }
     requires workers { workers ≤ 16 }
-    ensures { IfOk result (λ out. Replied workers (lines_of script.now) out.items) }
+    ensures { IfOk result (λ out. RepliedInForm workers (lines_of script.now) out.items) }
 {
     add_seats(seats, rt, alloc, common, limits, workers)?;
     let out = run_rounds(rt, alloc, seats.as_mut_slice(), workers as usize, script)?;
@@ -103,7 +103,7 @@ fn run_on<'x, W: ScriptOps + Sync, N: Naming + Send + Sync, R: Threads + Wait + 
     script: &[u8],
 ) -> Result<Vec<u8>, Refusal>
     requires workers { workers ≤ 16 }
-    ensures { IfOk result (λ out. Replied workers (lines_of script.now) out.items) }
+    ensures { IfOk result (λ out. RepliedInForm workers (lines_of script.now) out.items) }
 {
     let mut seats = Vec::new(alloc);
     let out = run_seats(&mut seats, rt, alloc, common, limits, workers, script);
@@ -123,7 +123,7 @@ fn run_named<W: ScriptOps + Sync, N: Naming + Send + Sync, R: Threads + Wait + S
 ) -> Result<Vec<u8>, Refusal>
     requires table { new.master.table ≡ N.table }
     requires workers { workers ≤ 16 }
-    ensures { IfOk result (λ out. Replied workers (lines_of script.now) out.items) }
+    ensures { IfOk result (λ out. RepliedInForm workers (lines_of script.now) out.items) }
 {
     let common = Common::new(alloc, new.named::<N>(), texts, limits)?;
     run_on(rt, alloc, &common, limits, workers, script)
@@ -154,7 +154,7 @@ pub fn run_workers<W: ScriptOps + Sync, R: Threads + Wait + Sync>(
 ) -> Result<Vec<u8>, RunFault>
     requires some { 1 ≤ workers }
     requires few { workers ≤ 16 }
-    ensures replied { IfOk result (λ out. Replied workers (lines_of script.now) out.items) }
+    ensures replied { IfOk result (λ out. RepliedInForm workers (lines_of script.now) out.items) }
     ensures fault { IfErr result (λ fault. fault ≡ RunFault.Memory) }
 {
     let Ok(new) = SharedTree::<Brand>::new(alloc, limits) else {

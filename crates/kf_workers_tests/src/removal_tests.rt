@@ -9,8 +9,8 @@ use kf_workers::{ScriptOps, run_workers};
 use std::sync::Wait;
 use std::sync::atomic::{AtomicU64, Ordering};
 
-/// A show that turns until the text `told` is stored. A store of `shown` turns until a show has been called, one of
-/// `doomed` until the file `/x` is no live node any more.
+/// A show that turns until the text `told` is stored. A store of `shown` turns until a show has been called,
+/// one of `doomed` until the file `/x` is no live node any more.
 #[derive(Drop)]
 struct Order {
     shown: AtomicU64,

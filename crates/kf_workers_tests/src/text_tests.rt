@@ -12,9 +12,9 @@ use std::sync::Wait;
 use std::sync::atomic::{AtomicU64, Ordering};
 use std::thread::Threads;
 
-/// Counts the texts that were begun, and those that were let go: an empty text took their place. Where it waits,
-/// the first text of the second file is kept once the second of two stores was called, and the first of these
-/// ends once that text is to be kept.
+/// Counts the texts that were begun, and those that were let go: an empty text took their place. Where it
+/// waits, the first text of the second file is kept once the second of two stores was called, and the first
+/// of these ends once that text is to be kept.
 #[derive(Drop)]
 struct Watched {
     waits: bool,

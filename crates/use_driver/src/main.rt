@@ -8,7 +8,8 @@ use anyhow::Context;
 use arrayvec::ArrayVec;
 use kf_core::{Limits, Node, Refusal};
 use kf_driver::{
-    Callbacks, Driver, End, ReadOnly, Row, Signed, Table, emit_line, fault_of, notify, open_path,
+    Callbacks, Driver, DriverTable, End, ReadOnly, Row, Signed, emit_line, fault_of, notify,
+    open_path,
 };
 use kf_files::{Fault, FileError, Page, WaitingFile, Want};
 use kf_groups::{Attribute, Group, create_group};
@@ -44,7 +45,7 @@ impl<R: Wait> Callbacks for Label<'_, R> {
 }
 
 /// Reads until the device is gone, and answers how many texts were no temperature.
-fn reads<N: Naming, T: Table, R: Wait>(
+fn reads<N: Naming, T: DriverTable, R: Wait>(
     rt: &R,
     tree: &SharedTree<N>,
     driver: &Driver<T>,
@@ -63,7 +64,7 @@ fn reads<N: Naming, T: Table, R: Wait>(
 }
 
 /// Writes a thousand times, removes the device under its readers, and writes once more.
-fn removes<N: Naming, T: Table, R: Wait>(
+fn removes<N: Naming, T: DriverTable, R: Wait>(
     rt: &R,
     tree: &SharedTree<N>,
     driver: &Driver<T>,

@@ -8,8 +8,8 @@ ghost use Rattle.std.specs.Prelude.{◌≡◌};
 use anyhow::Context;
 use kf_core::{Limits, Node, Refusal};
 use kf_driver::{
-    BinaryCallbacks, BinaryRow, Driver, End, LineTags, Lines, Notifier, Notifying, Number, Row,
-    Switch, Table, Text, open_path, post_of, read_from_buffer, write_to_buffer,
+    BinaryCallbacks, BinaryRow, Driver, DriverTable, End, LineTags, Lines, Notifier, Notifying,
+    Number, Row, Switch, Text, open_path, post_of, read_from_buffer, write_to_buffer,
 };
 use kf_files::{Fault, FileError, WaitingFile, Want, remove_and_tell};
 use kf_groups::{Attribute, Group, create_group};
@@ -44,7 +44,7 @@ impl<R: Wait> BinaryCallbacks for Config<'_, R> {
 }
 
 /// Waits for changes until the chip is gone, and answers whether each text was a level.
-fn waits<N: Naming, T: Table, R: Wait>(
+fn waits<N: Naming, T: DriverTable, R: Wait>(
     rt: &R,
     tree: &SharedTree<N>,
     driver: &Driver<T>,
@@ -63,7 +63,7 @@ fn waits<N: Naming, T: Table, R: Wait>(
 }
 
 /// Stores a thousand levels and some registers, and removes the chip, which wakes who waits.
-fn stores<N: Naming, T: Table, R: Wait>(
+fn stores<N: Naming, T: DriverTable, R: Wait>(
     rt: &R,
     tree: &SharedTree<N>,
     driver: &Driver<T>,
@@ -89,7 +89,7 @@ fn stores<N: Naming, T: Table, R: Wait>(
 }
 
 /// Uses the fourth line by threads until the chip is gone.
-fn uses<N: Naming + Send + Sync, T: Table + Sync, R: Threads + Wait + Print + Sync>(
+fn uses<N: Naming + Send + Sync, T: DriverTable + Sync, R: Threads + Wait + Print + Sync>(
     rt: &R,
     tree: &SharedTree<N>,
     posts: &mut Posts,

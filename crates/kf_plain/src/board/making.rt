@@ -9,7 +9,7 @@ ghost use Rattle.kf_core.specs.declared.refusal.Refusal.TheVariants.{NoMemory};
 ghost use Rattle.kf_tree.specs.Canonical.{IsCanonical};
 ghost use Rattle.kf_plain.specs.Plain.{IsNextKey, with_commands, with_list, with_text};
 ghost use Rattle.kf_plain.specs.PlainTree.{Spot, new_spot, new_link_spot, file_node, with_node, activated_key, moved_key, with_move};
-ghost use Rattle.kf_plain.specs.Settled.{IsRefused, IsWhy};
+ghost use Rattle.kf_plain.specs.Settled.{IsRefusedBy, IsWhy};
 
 use super::PlainBoard;
 use kf_core::{Key, Node, Refusal};
@@ -22,7 +22,7 @@ impl PlainBoard {
             × (self.new ≡ with_node self.old key spot Dir is_live))) }
         ensures refused { IfErr result
             (λ refusal. (next : Option Key) × IsNextKey self.old next
-            × IsRefused (new_spot self.old.log path.now Dir next) self.old refusal self.new) }
+            × IsRefusedBy (new_spot self.old.log path.now Dir next) self.old refusal self.new) }
     {
         let next = self.nodes.next_key();
         self.nodes.create_at(path, Node::Dir, is_live, next)
@@ -36,7 +36,7 @@ impl PlainBoard {
             × (self.new ≡ with_text
             (with_node self.old key spot (file_node mode (Some key)) true) key.slot text.now))) }
         ensures refused { IfErr result
-            (λ refusal. (next : Option Key) × IsNextKey self.old next × IsRefused
+            (λ refusal. (next : Option Key) × IsNextKey self.old next × IsRefusedBy
             (new_spot self.old.log path.now (file_node mode next) next) self.old refusal self.new) }
     {
         let next = self.nodes.next_key();
@@ -76,7 +76,7 @@ impl PlainBoard {
             × (self.new ≡ with_node self.old key link.1 (Link link.0) true))) }
         ensures refused { IfErr result
             (λ refusal. (next : Option Key) × IsNextKey self.old next
-            × IsRefused (new_link_spot self.old.log path.now target.now next) self.old refusal self.new) }
+            × IsRefusedBy (new_link_spot self.old.log path.now target.now next) self.old refusal self.new) }
     {
         let next = self.nodes.next_key();
         self.nodes.link_at(path, target, next)
@@ -88,7 +88,7 @@ impl PlainBoard {
             (λ _. (key : Key) × (activated_key self.old.log path.now ≡ Ok key)
             × (self.new ≡ with_commands self.old (Activate key ∷ []))) }
         ensures refused { IfErr result
-            (λ refusal. IsRefused (activated_key self.old.log path.now) self.old refusal self.new) }
+            (λ refusal. IsRefusedBy (activated_key self.old.log path.now) self.old refusal self.new) }
     {
         self.nodes.activate_at(path)
     }
@@ -99,7 +99,7 @@ impl PlainBoard {
             (λ _. (keys : Key × Key) × (moved_key self.old.log path.now dir.now name.now ≡ Ok keys)
             × (self.new ≡ with_move self.old keys.0 keys.1 name.now)) }
         ensures refused { IfErr result
-            (λ refusal. IsRefused
+            (λ refusal. IsRefusedBy
             (moved_key self.old.log path.now dir.now name.now) self.old refusal self.new) }
     {
         self.nodes.move_at(path, dir, name)

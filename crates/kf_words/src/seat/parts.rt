@@ -7,7 +7,7 @@ ghost use Rattle.kf_words.specs.Layout.{line_words};
 ghost use Rattle.kf_words.specs.Steps.{caller_of, plain};
 ghost use Rattle.kf_words.specs.declared.view.View.TheVariants as seat_of;
 
-use crate::seat::{CallerSeat, Kind};
+use crate::seat::{CallerSeat, NodeKind};
 use crate::sight::Sight;
 use crate::table::WordTable;
 use atomic_table::Seat;
@@ -59,12 +59,12 @@ impl CallerSeat {
         ensures { result ≡ node_of self.now.kind self.now.tag self.now.target }
     {
         match self.kind {
-            Kind::Dir => Node::Dir,
-            Kind::File { mode } => Node::File {
+            NodeKind::Dir => Node::Dir,
+            NodeKind::File { mode } => Node::File {
                 mode,
                 tag: self.tag,
             },
-            Kind::Link => Node::Link {
+            NodeKind::Link => Node::Link {
                 target: self.target,
             },
         }
@@ -112,12 +112,12 @@ impl CallerSeat {
 }
 
 /// The kind, tag and target of a node. A node without a tag gets 0, and one without a target gets the key.
-fn parts_of(node: Node, key: Key) -> (Kind, u64, Key)
+fn parts_of(node: Node, key: Key) -> (NodeKind, u64, Key)
     ensures { node_of result.0 result.1 result.2 ≡ node }
 {
     match node {
-        Node::Dir => (Kind::Dir, 0, key),
-        Node::File { mode, tag } => (Kind::File { mode }, tag, key),
-        Node::Link { target } => (Kind::Link, 0, target),
+        Node::Dir => (NodeKind::Dir, 0, key),
+        Node::File { mode, tag } => (NodeKind::File { mode }, tag, key),
+        Node::Link { target } => (NodeKind::Link, 0, target),
     }
 }

@@ -4,7 +4,7 @@ ghost use Rattle.std.specs.Arc.{arc_value};
 ghost use Rattle.kf_core.specs.Phases.{may_release};
 ghost use Rattle.kf_core.specs.declared.caller.Phase.TheVariants as phase_of;
 ghost use Rattle.kf_words.specs.Steps.{after_try, after_undo, after_leave, after_break, after_restore, after_look, after_part, after_hide, after_look_hidden, after_show};
-ghost use Rattle.kf_words.specs.Callers.{IsSameSeat, IsAtRest, HasReference, IsIn, WasReleased, handle_of, owed, sight_of, view_of};
+ghost use Rattle.kf_words.specs.Callers.{IsSameSeat, IsAtRest, HasReference, IsInPhase, WasReleased, handle_of, owed, sight_of, view_of};
 ghost use Rattle.kf_words.specs.Layout.{active_index, hold_index, has_hide};
 ghost use Rattle.kf_words.specs.Made.{WasATry, WasUndone, WasALeave, WasABreak, WasARestore, WasALook, WasAPart, WasAHide, WasALookHidden, WasAShow, WasARelease};
 
@@ -72,7 +72,7 @@ impl CallerSeat {
 
     /// Counts one user less inside the call.
     pub(crate) fn break_off(&mut self) -> WakeDue
-        requires { IsIn phase_of.Running (view_of self.old) }
+        requires { IsInPhase phase_of.Running (view_of self.old) }
         ensures same { IsSameSeat (handle_of self.old) (handle_of self.new) }
         ensures view { view_of self.new ≡ after_break result.found (view_of self.old) }
         ensures made { WasABreak (sight_of self.old) (sight_of self.new) }
@@ -88,7 +88,7 @@ impl CallerSeat {
 
     /// Counts one user more inside the call, whatever the word holds.
     pub(crate) fn take_again(&mut self) -> u64
-        requires { IsIn phase_of.Broken (view_of self.old) }
+        requires { IsInPhase phase_of.Broken (view_of self.old) }
         ensures same { IsSameSeat (handle_of self.old) (handle_of self.new) }
         ensures view { view_of self.new ≡ after_restore result (view_of self.old) }
         ensures made { WasARestore (sight_of self.old) (sight_of self.new) }
@@ -125,7 +125,7 @@ impl CallerSeat {
 
     /// Loads the active word of the key that it hides.
     pub(crate) fn load_hidden(&mut self) -> u64
-        requires { IsIn phase_of.Hiding (view_of self.old) }
+        requires { IsInPhase phase_of.Hiding (view_of self.old) }
         ensures same { IsSameSeat (handle_of self.old) (handle_of self.new) }
         ensures view { view_of self.new ≡ after_look_hidden result (view_of self.old) }
         ensures made { WasALookHidden (sight_of self.old) (sight_of self.new) }
@@ -136,7 +136,7 @@ impl CallerSeat {
 
     /// Takes the bit of its hidden key off.
     pub(crate) fn clear_hide(&mut self) -> u64
-        requires { IsIn phase_of.Hidden (view_of self.old) }
+        requires { IsInPhase phase_of.Hidden (view_of self.old) }
         ensures same { IsSameSeat (handle_of self.old) (handle_of self.new) }
         ensures view { view_of self.new ≡ after_show result (view_of self.old) }
         ensures made { WasAShow (sight_of self.old) (sight_of self.new) }
@@ -158,7 +158,7 @@ impl CallerSeat {
 
     /// Loads the hold word.
     pub(crate) fn load_hold(&mut self) -> u64
-        requires { IsIn phase_of.Drained (view_of self.old) }
+        requires { IsInPhase phase_of.Drained (view_of self.old) }
         ensures same { IsSameSeat (handle_of self.old) (handle_of self.new) }
         ensures view { view_of self.new ≡ after_part result (view_of self.old) }
         ensures made { WasAPart (sight_of self.old) (sight_of self.new) }

@@ -1,7 +1,7 @@
 //! What the board answers each request.
 
 ghost use Rattle.std.specs.Prelude.{◌<◌};
-ghost use Rattle.kf_workers.specs.Replies.{AreBytes, AreNames, IsCount, IsLinkText};
+ghost use Rattle.kf_workers.specs.Replies.{AreBytes, AreNames, IsCount, IsLinkReply};
 
 use super::WorkerBoard;
 use crate::script_ops::ScriptOps;
@@ -23,7 +23,7 @@ impl<W: ScriptOps, N: Naming, R: Wait> WorkerBoard<'_, W, N, R> {
 
     /// `readlink`: the text.
     fn answer_read_link(&self, path: &[u8], reply: &mut Reply)
-        ensures { IsLinkText reply.new }
+        ensures { IsLinkReply reply.new }
     {
         if let Err(refusal) = self.read_link(path, reply) {
             reply.set_refusal(refusal);

@@ -16,7 +16,7 @@ use kf_shared::Naming;
 use kf_words::Hold;
 use std::sync::Wait;
 
-/// Closes a file, and gives its hold back. Its page is left.
+/// Closes a file, and gives its hold back: of that no clause could tell. Its page is left.
 pub fn close_file<N: Naming>(file: BoxedFile<N>) -> Box<PageApart> {
     let (hold, _post, page) = file.into_parts();
     hold.release();

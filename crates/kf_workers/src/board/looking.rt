@@ -1,7 +1,7 @@
 //! The requests that only look: each in one turn of the tree lock.
 
 ghost use Rattle.std.specs.Prelude.{OnOk};
-ghost use Rattle.kf_workers.specs.Replies.{AreNames, IsLinkText};
+ghost use Rattle.kf_workers.specs.Replies.{AreNames, IsLinkReply};
 
 use super::WorkerBoard;
 use crate::script_ops::ScriptOps;
@@ -36,7 +36,7 @@ impl<W: ScriptOps, N: Naming, R: Wait> WorkerBoard<'_, W, N, R> {
 
     /// Tells the text of a live link.
     pub(super) fn read_link(&self, path: &[u8], reply: &mut Reply) -> Result<(), Refusal>
-        ensures { OnOk result (IsLinkText reply.new) }
+        ensures { OnOk result (IsLinkReply reply.new) }
     {
         let reader = self.common.tree.read(self.rt);
         let link = reader.state().lookup(path)?;

@@ -1,14 +1,14 @@
 use Rattle.std.proofs.Common.{◌≡◌, ℕ, List}
 use Rattle.std.specs.Io.KnownBytes.{Consumes, append_known}
 use Rattle.kf_script.specs.Progress.{Grows}
-use Rattle.kf_script.specs.Running.{Running}
+use Rattle.kf_script.specs.SoFar.{AnsweredSoFar}
 use Rattle.kf_script.proofs.script.read_lines.Given as goal
 
 -- the run has come as far as the bytes that were read, by the same reader and writer
 abbrev pub invariant-reads : goal.invariant-reads
 invariant-reads g l = (read : List ℕ)
     × Consumes (g.R.Read.remaining l.fn.streams.reader.now) (g.R.Read.remaining l.streams.reader.now) read
-    × Running g.B.Board.step l.fn.board l.board read l.line (g.W.Write.contents l.fn.streams.output.writer.now) (append_known (g.W.Write.contents l.streams.output.writer.now) l.streams.output.kept.now.items)
+    × AnsweredSoFar g.B.Board.step l.fn.board l.board read l.line (g.W.Write.contents l.fn.streams.output.writer.now) (append_known (g.W.Write.contents l.streams.output.writer.now) l.streams.output.kept.now.items)
     × (l.streams.reader.ghost_name ≡ l.fn.streams.reader.ghost_name)
     × (l.streams.output.writer.ghost_name ≡ l.fn.streams.output.writer.ghost_name)
     × Grows (g.W.Write.contents l.fn.streams.output.writer.now) (g.W.Write.contents l.streams.output.writer.now)

@@ -7,7 +7,7 @@ use Rattle.kf_script.specs.Progress.{Answered, CutShort}
 
 -- The bytes `read` came so far. The lines that ended have their replies, and the line buffer keeps the
 -- pending one.
-pub record Running {Board : Type 0} (step : Step Board) (first now : Board) (read : List ℕ)
+pub record AnsweredSoFar {Board : Type 0} (step : Step Board) (first now : Board) (read : List ℕ)
     (line old new : Option (List ℕ)) : Type 0 where
   pub ended : List (List ℕ)
   pub pending : List ℕ

@@ -3,7 +3,7 @@ use Rattle.std.proofs.Common.{Option}
 use Rattle.kf_tree.specs.Listing.{IsListing}
 use Rattle.kf_handles.specs.LookUps.{bound_of}
 use Rattle.kf_handles.proofs.Listed.{only_one}
-use Rattle.kf_handles.proofs.telling.next_after.Goals as goal
+use Rattle.kf_handles.proofs.texts.next_after.Goals as goal
 
 -- the name that was taken is the only one
 pub returns-in-Some-clause-name : goal.returns-in-Some-clause-name

@@ -1,0 +1,200 @@
+//! What a tree behind a handle tells in bytes: names, paths and the texts of links.
+ghost use Rattle.std.specs.Prelude.{◌≡◌, ◌∷◌, [], IfErr, IfOk};
+ghost use Rattle.std.specs.Option.{option_copied};
+ghost use Rattle.kf_handles.specs.Calls.{key_in};
+ghost use Rattle.kf_handles.specs.LookUps.{bound_of, LinkTextIn, LinkTextRefused, NameIn, NameRefused, NextIn, NextRefused, NextRefusedIn, PathIn, PathRefused, TellsText, WritesText};
+ghost use Rattle.kf_tree.specs.Listing.{IsListing};
+
+use crate::errors::{RANGE, error_of};
+use crate::handle::KtHandle;
+use crate::object::Object;
+use crate::replies::{KtKey, key_of};
+use core::mem::replace_with;
+use kf_core::{Key, Refusal};
+use kf_index::Name;
+use kf_tree::State;
+use std::alloc::Global;
+
+/// The number of bytes, copied to the front of `out`; -ERANGE where they do not fit there.
+pub fn copied(bytes: &[u8], out: &mut [u8]) -> i64
+    ensures told { WritesText bytes.now result out.old out.new }
+{
+    if bytes.len() > out.len() {
+        return i64::from(RANGE);
+    }
+    let Ok(count) = i64::try_from(bytes.len()) else {
+        return i64::from(RANGE);
+    };
+    out[..bytes.len()].copy_from_slice(bytes);
+    count
+}
+
+/// The name of a node, copied.
+fn name_in(object: &Object, key: Key, alloc: Global) -> Result<Vec<u8>, Refusal>
+    ensures name { IfOk result (λ name. NameIn object.now key name.items) }
+    ensures refused { IfErr result (λ why. NameRefused object.now key why) }
+{
+    match object {
+        Object::Tree(tree) => match tree.state().name_of(key) {
+            Ok(name) => match name.to_vec(alloc) {
+                Ok(copy) => Ok(copy),
+                Err(_) => Err(Refusal::NoMemory),
+            },
+            Err(refusal) => Err(refusal),
+        },
+        _ => Err(Refusal::Invalid),
+    }
+}
+
+fn name_of(handle: KtHandle, asked: (Key, Global)) -> (KtHandle, Result<Vec<u8>, Refusal>)
+    ensures same { result.0.place ≡ handle.place }
+    ensures name { IfOk result.1 (λ name. NameIn handle.place.object asked.0 name.items) }
+    ensures refused { IfErr result.1 (λ why. NameRefused handle.place.object asked.0 why) }
+{
+    let boxed = handle.into_box();
+    let told = name_in(&boxed.as_ref().object, asked.0, asked.1);
+    (KtHandle::of(boxed), told)
+}
+
+/// The name of a node.
+pub fn name(alloc: Global, handle: &mut KtHandle, key: KtKey, out: &mut [u8]) -> i64
+    ensures same { handle.new.place ≡ handle.old.place }
+    ensures told { TellsText
+        (NameIn handle.old.place.object (key_in key))
+        (NameRefused handle.old.place.object (key_in key))
+        result out.old out.new }
+{
+    match replace_with(handle, (key_of(key), alloc), name_of) {
+        Ok(name) => copied(name.as_slice(), out),
+        Err(refusal) => i64::from(error_of(refusal)),
+    }
+}
+
+/// The path of a node.
+fn path_in(object: &Object, key: Key) -> Result<Vec<u8>, Refusal>
+    ensures path { IfOk result (λ path. PathIn object.now key path.items) }
+    ensures refused { IfErr result (λ why. PathRefused object.now key why) }
+{
+    match object {
+        Object::Tree(tree) => tree.state().path_of(key),
+        _ => Err(Refusal::Invalid),
+    }
+}
+
+fn path_of(handle: KtHandle, key: Key) -> (KtHandle, Result<Vec<u8>, Refusal>)
+    ensures same { result.0.place ≡ handle.place }
+    ensures path { IfOk result.1 (λ path. PathIn handle.place.object key path.items) }
+    ensures refused { IfErr result.1 (λ why. PathRefused handle.place.object key why) }
+{
+    let boxed = handle.into_box();
+    let told = path_in(&boxed.as_ref().object, key);
+    (KtHandle::of(boxed), told)
+}
+
+/// The path of a node.
+pub fn path(handle: &mut KtHandle, key: KtKey, out: &mut [u8]) -> i64
+    ensures same { handle.new.place ≡ handle.old.place }
+    ensures told { TellsText
+        (PathIn handle.old.place.object (key_in key))
+        (PathRefused handle.old.place.object (key_in key))
+        result out.old out.new }
+{
+    match replace_with(handle, key_of(key), path_of) {
+        Ok(path) => copied(path.as_slice(), out),
+        Err(refusal) => i64::from(error_of(refusal)),
+    }
+}
+
+/// The text of a link.
+fn link_text_in(object: &Object, key: Key) -> Result<Vec<u8>, Refusal>
+    ensures text { IfOk result (λ text. LinkTextIn object.now key text.items) }
+    ensures refused { IfErr result (λ why. LinkTextRefused object.now key why) }
+{
+    match object {
+        Object::Tree(tree) => tree.state().target_text(key),
+        _ => Err(Refusal::Invalid),
+    }
+}
+
+fn link_text_of(handle: KtHandle, key: Key) -> (KtHandle, Result<Vec<u8>, Refusal>)
+    ensures same { result.0.place ≡ handle.place }
+    ensures text { IfOk result.1 (λ text. LinkTextIn handle.place.object key text.items) }
+    ensures refused { IfErr result.1 (λ why. LinkTextRefused handle.place.object key why) }
+{
+    let boxed = handle.into_box();
+    let told = link_text_in(&boxed.as_ref().object, key);
+    (KtHandle::of(boxed), told)
+}
+
+/// The text of a link.
+pub fn link_text(handle: &mut KtHandle, key: KtKey, out: &mut [u8]) -> i64
+    ensures same { handle.new.place ≡ handle.old.place }
+    ensures told { TellsText
+        (LinkTextIn handle.old.place.object (key_in key))
+        (LinkTextRefused handle.old.place.object (key_in key))
+        result out.old out.new }
+{
+    match replace_with(handle, key_of(key), link_text_of) {
+        Ok(text) => copied(text.as_slice(), out),
+        Err(refusal) => i64::from(error_of(refusal)),
+    }
+}
+
+/// The bound of a listing: none where the name is empty.
+fn bound(after: &[u8]) -> Option<&[u8]>
+    ensures { option_copied result ≡ bound_of after.now }
+{
+    if after.is_empty() { None } else { Some(after) }
+}
+
+/// The name of the first live child above the bound.
+fn next_after(state: &State, dir: Key, after: &[u8]) -> Result<Name, Refusal>
+    ensures name { IfOk result
+        (λ name. IsListing state.now.tree dir (bound_of after.now) 1 (name ∷ [])) }
+    ensures refused { IfErr result (λ why. NextRefused state.now dir after.now why) }
+{
+    match state.list(dir, bound(after), 1) {
+        Ok(mut names) => match names.pop() {
+            Some(name) => Ok(name),
+            None => Err(Refusal::NoEntry),
+        },
+        Err(refusal) => Err(refusal),
+    }
+}
+
+/// The name of the first live child above the bound.
+fn next_in(object: &Object, dir: Key, after: &[u8]) -> Result<Name, Refusal>
+    ensures name { IfOk result (λ name. NextIn object.now dir after.now name) }
+    ensures refused { IfErr result (λ why. NextRefusedIn object.now dir after.now why) }
+{
+    match object {
+        Object::Tree(tree) => next_after(tree.state(), dir, after),
+        _ => Err(Refusal::Invalid),
+    }
+}
+
+fn next_of(handle: KtHandle, asked: (Key, &[u8])) -> (KtHandle, Result<Name, Refusal>)
+    ensures same { result.0.place ≡ handle.place }
+    ensures name { IfOk result.1
+        (λ name. NextIn handle.place.object asked.entry.0 asked.entry.1.now name) }
+    ensures refused { IfErr result.1
+        (λ why. NextRefusedIn handle.place.object asked.entry.0 asked.entry.1.now why) }
+{
+    let boxed = handle.into_box();
+    let told = next_in(&boxed.as_ref().object, asked.0, asked.1);
+    (KtHandle::of(boxed), told)
+}
+
+/// The name of the next child.
+pub fn next(handle: &mut KtHandle, dir: KtKey, after: &[u8], out: &mut [u8]) -> i64
+    ensures same { handle.new.place ≡ handle.old.place }
+    ensures told { TellsText
+        (NextIn handle.old.place.object (key_in dir) after.now)
+        (NextRefusedIn handle.old.place.object (key_in dir)
+        after.now) result out.old out.new }
+{
+    match replace_with(handle, (key_of(dir), after), next_of) {
+        Ok(name) => copied(name.bytes(), out),
+        Err(refusal) => i64::from(error_of(refusal)),
+    }
+}

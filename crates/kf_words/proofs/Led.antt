@@ -1,0 +1,46 @@
+-- What a step of the words makes of the world: nothing, an event, or a change by the Master alone.
+use Rattle.std.proofs.Common.{◌≡◌, ◌⊎◌, inl, inr, ℕ, true}
+use Rattle.std.specs.Prelude.{Some, None}
+use Rattle.kf_core.specs.declared.key.Key.{Key}
+use Rattle.kf_core.specs.declared.event.Event.{Event}
+use Rattle.kf_core.specs.declared.event.Event.TheVariants.{Enter}
+use Rattle.kf_core.specs.declared.slot.Marks.{Marks}
+use Rattle.kf_core.specs.Bare.{BareWorld, marks}
+use Rattle.kf_core.specs.Steps.{BareStep}
+use Rattle.kf_core.specs.Steps as core
+use Rattle.kf_words.specs.TableSteps.{StepKind, tries, splits, unlinks}
+
+-- a doomed node on which nobody runs was taken out, with no caller that is drained there
+pub record TakenOut (kind : StepKind) (w w' : BareWorld) : Type 0 where
+  pub slot : ℕ
+  pub kind_is : kind ≡ unlinks slot
+  pub key : Key
+  pub had : Marks
+  pub linked : marks w key ≡ Some had
+  pub doomed : had.doomed ≡ true
+  pub is : w' ≡ core.with_marks w key None
+
+-- a caller came to a key, with no other that holds it
+pub record Came (kind : StepKind) (w w' : BareWorld) : Type 0 where
+  pub slot : ℕ
+  pub kind_is : kind ≡ splits slot
+  pub key : Key
+  pub is : w' ≡ core.with_caller w key
+
+-- what an unattended step of the Master makes of the world
+abbrev pub Alone : StepKind → BareWorld → BareWorld → Type 0
+Alone kind w w' = TakenOut kind w w' ⊎ Came kind w w'
+
+-- an event that only a try makes an Enter
+pub record IsEvent (kind : StepKind) (w w' : BareWorld) : Type 0 where
+  pub event : Event
+  pub step : BareStep w event w'
+  pub only : (c : ℕ) → event ≡ Enter c → kind ≡ tries c
+
+-- the next world is the same, or an event leads there, or the Master's step alone
+abbrev pub Led : StepKind → BareWorld → BareWorld → Type 0
+Led kind w w' = (w' ≡ w) ⊎ (IsEvent kind w w' ⊎ Alone kind w w')
+
+-- by an event
+pub happens : (kind : StepKind) (w w' : BareWorld) (e : Event) → BareStep w e w' → ((c : ℕ) → e ≡ Enter c → kind ≡ tries c) → Led kind w w'
+happens kind w w' e step only = inr (inl (record { event = e; step = step; only = only }))
