@@ -1,12 +1,15 @@
 -- When the links that look-ups follow say what the tree says of its live nodes.
-use Rattle.std.specs.Prelude.{◌≡◌, ◌≢◌, ◌≤◌, ◌⊎◌, ℕ, true, List, [], ◌∷◌, length, Option, None, Some, if◌then◌else◌}
+use Rattle.std.specs.Prelude.{◌≡◌, ◌≢◌, ◌≤◌, ◌<◌, ◌⊎◌, ℕ, true, List, [], ◌∷◌, length, Option, None, Some, IsSomeAnd, if◌then◌else◌}
 use Rattle.kf_core.specs.declared.key.Key.{Key}
 use Rattle.kf_core.specs.declared.records.Record.{Record}
 use Rattle.kf_core.specs.Tree.{Tree, record_at}
 use Rattle.kf_table.specs.Live.{lives}
 use Rattle.kf_tree.specs.SlotMarks.{contains_key}
 use Rattle.kf_looks.specs.declared.found.Found.{Found}
+use Rattle.kf_looks.specs.declared.looks.Looks.{Looks}
 use Rattle.kf_looks.specs.declared.view.Link.{Link}
+use Rattle.kf_looks.specs.declared.writer.Writer.{Writer}
+use Rattle.kf_looks.specs.Writing.{links_of}
 use Rattle.kf_core.specs.Lawful.{Lawful}
 use Rattle.kf_looks.specs.Lines.{bytes_in}
 use Rattle.kf_looks.specs.Links.{link, child_of}
@@ -62,6 +65,11 @@ Stood t key (Some spot) = (r : Record) × (r.key ≡ key) × StandsAt t spot.dir
 abbrev pub IsGiven : Key → List ℕ → Found → List Link → List Link → Type 0
 IsGiven dir name child before now = (now ≡ link dir name (Some child) ∷ before)
     ⊎ ((now ≡ before) × (child_of before dir name ≡ Some child))
+
+-- where there are words at all: the writer is there, and this holds of its links
+abbrev pub Writes : Looks → (List Link → Type 0) → Option Writer → Type 0
+Writes looks Fact writer = 0 < looks.slots
+    → IsSomeAnd writer (λ w. (w.seat.table_id ≡ looks.table.shared.table_id) × Fact (links_of w.seat))
 
 -- the links without what they found there
 abbrev pub without : Option Spot → List Link → List Link

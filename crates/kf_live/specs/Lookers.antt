@@ -1,12 +1,13 @@
 -- Who looks names up beside the tree's owner, and what such a one has seen.
-use Rattle.std.specs.Prelude.{List}
+use Rattle.std.specs.Prelude.{ℕ, List}
 use Rattle.kf_core.specs.declared.key.Key.{Key}
 use Rattle.kf_looks.specs.declared.view.Link.{Link}
 use Rattle.kf_looks.specs.declared.view.View.{View}
 
--- the directory from which paths are followed, and what is known of the words
+-- the directory from which paths are followed, for how many slots there are words, and what is known of them
 pub record Onlooker : Type 0 where
   pub root : Key
+  pub slots : ℕ
   pub view : View
 
 -- the links that were seen, the last first

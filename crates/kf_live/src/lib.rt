@@ -5,6 +5,7 @@ mod laws;
 mod live_tree;
 mod looker;
 mod publishing;
+mod reads;
 mod telling;
 
 pub use laws::look_ups_tell;

@@ -12,8 +12,7 @@ ghost use Rattle.kf_live.specs.Live.{Say};
 ghost use Rattle.kf_live.specs.Lookers.{links_seen};
 
 use crate::looker::Looker;
-use crate::publishing::{publish, publish_move, publish_one};
-use crate::telling::place_of;
+use crate::publishing::{place_before, publish, publish_move, publish_one};
 use kf_core::{Key, Limits, Node, Refusal};
 use kf_looks::{Looks, Writer};
 use kf_tree::State;
@@ -31,24 +30,22 @@ pub struct LiveTree {
 }
 
 impl Model for LiveTree {
-    ghost use Rattle.std.specs.Prelude.{◌≡◌, IsSomeAnd};
     ghost use Rattle.std.specs.Arc.{arc_value};
     ghost use Rattle.kf_tree.specs.TreeLogs.{TreeLog};
-    ghost use Rattle.kf_looks.specs.Writing.{links_of};
-    ghost use Rattle.kf_live.specs.Live.{Say};
+    ghost use Rattle.kf_live.specs.Live.{Say, Writes};
 
     ghost Value = { TreeLog };
 
     ghost view = { λ s. s.state };
 
-    ghost invariant = { λ s. IsSomeAnd s.writer
-        (λ w. (w.seat.table_id ≡ (arc_value s.looks).table.shared.table_id)
-        × Say (links_of w.seat) s.state.tree) };
+    ghost invariant = { λ s.
+        Writes (arc_value s.looks) (λ links. Say links s.state.tree) s.writer };
 }
 
 impl LiveTree {
     /// The tree of the root alone, as [`State::new`] makes it, and words for the look-ups of so many slots.
-    /// With none, each look-up is sent to the tree itself.
+    /// Nodes of higher slots are found in the tree alone. With no slot the words are told of nothing, and
+    /// each look-up is sent to the tree.
     ///
     /// Conditions: the root's slot is in the table; there are at most [`kf_core::MOST_SLOTS`] slots of words.
     ///
@@ -73,17 +70,18 @@ impl LiveTree {
     ///
     /// Refusal: NoMemory, where the words may have no owner more.
     pub fn looker(&mut self) -> Result<Looker, Refusal>
-        ensures told { IfOk result (λ looker. Say (links_seen looker) self.old.tree) }
+        ensures told { IfOk result
+            (λ looker. 0 < looker.slots → Say (links_seen looker) self.old.tree) }
         ensures root { IfOk result (λ looker. looker.root ≡ self.old.root) }
         ensures same { self.new ≡ self.old }
         ensures refused { IfErr result (λ refusal. refusal ≡ refusal_of.NoMemory) }
     {
         let looks = Arc::try_clone(&self.looks)?;
         let root = self.state.root();
-        let Some(writer) = &mut self.writer else {
-            return Err(Refusal::NoMemory);
+        let eye = match &mut self.writer {
+            Some(writer) if looks.slots > 0 => looks.looker_after(writer),
+            _ => looks.looker(),
         };
-        let eye = looks.looker_after(writer);
         Ok(Looker { looks, root, eye })
     }
 
@@ -158,7 +156,7 @@ impl LiveTree {
             refusal ≡ refusal_of.NoMemory → is_there_already self.old.tree key dir name.now ≡ false) }
     {
         let _ = self.state.root();
-        let was = place_of(&self.state, key);
+        let was = place_before(&self.looks, &self.state, key);
         self.state.rename(key, dir, name)?;
         self.writer = publish_move(&self.looks, self.writer.take(), was, &self.state, key);
         Ok(())

@@ -28,12 +28,19 @@ impl Model for Looker {
 
     ghost Value = { Onlooker };
 
-    ghost view = { λ s. record { root = s.root; view = s.eye.seat.me.0 } };
+    ghost view = { λ s. record { root = s.root; slots = (arc_value s.looks).slots; view = s.eye.seat.me.0 } };
 
     ghost invariant = { λ s. s.eye.seat.table_id ≡ (arc_value s.looks).table.shared.table_id };
 }
 
 impl Looker {
+    /// For how many slots there are words: nodes of higher slots are found in the tree alone.
+    pub fn slots(&self) -> u64
+        ensures known { result ≡ self.now.slots }
+    {
+        self.looks.slots
+    }
+
     /// Where a path leads among the live nodes, and what stands there: as it was at one moment, after all
     /// changes that this looker has seen. It takes no lock, writes nothing and waits for nobody.
     ///
@@ -41,6 +48,7 @@ impl Looker {
     /// have no line for its node, the path has another form, or a change came between.
     pub fn look(&mut self, path: &[u8]) -> Option<Sight>
         ensures root { self.new.root ≡ self.old.root }
+        ensures slots { self.new.slots ≡ self.old.slots }
         ensures later { IsLater (links_seen self.new) (links_seen self.old) }
         ensures found { IfSome result
             (λ sight. led (links_seen self.new) self.new.root path.now ≡ Some sight.found) }
@@ -58,6 +66,7 @@ impl Looker {
         requires stands { Stands self.old.view sight.now.version
             (λ links. led links self.old.root path.now ≡ Some sight.now.found) }
         ensures root { self.new.root ≡ self.old.root }
+        ensures slots { self.new.slots ≡ self.old.slots }
         ensures later { IsLater (links_seen self.new) (links_seen self.old) }
         ensures kept { Stands self.new.view sight.now.version
             (λ links. led links self.new.root path.now ≡ Some sight.now.found) }
@@ -72,6 +81,7 @@ impl Looker {
     /// Refusal: NoMemory, where the words may have no owner more.
     pub fn another(&mut self) -> Result<Looker, Refusal>
         ensures root { IfOk result (λ looker. looker.root ≡ self.old.root) }
+        ensures slots { IfOk result (λ looker. looker.slots ≡ self.old.slots) }
         ensures told { IfOk result (λ looker. links_seen looker ≡ links_seen self.old) }
         ensures same { self.new ≡ self.old }
         ensures refused { IfErr result (λ refusal. refusal ≡ refusal_of.NoMemory) }

@@ -1,11 +1,11 @@
-//! Telling the words what became of several nodes, in one section.
-ghost use Rattle.std.specs.Prelude.{◌≡◌, ◌∷◌, [], IfSome, IsSomeAnd};
+//! Telling the words what became of several nodes, in one section. Without words nothing is told.
+ghost use Rattle.std.specs.Prelude.{◌≡◌, ◌<◌, ◌∷◌, [], IfSome};
 ghost use Rattle.kf_looks.specs.Lines.{bytes_in};
 ghost use Rattle.kf_looks.specs.Links.{IsOfSlot};
 ghost use Rattle.kf_looks.specs.Writing.{links_of};
-ghost use Rattle.kf_live.specs.Live.{SayBut, Say, IsMove, without};
+ghost use Rattle.kf_live.specs.Live.{SayBut, Say, IsMove, Stood, Writes, without};
 
-use crate::telling::{Spot, tell, tell_each};
+use crate::telling::{Spot, place_of, tell, tell_each};
 use kf_core::Key;
 use kf_looks::{Looks, Section, Writer};
 use kf_tree::State;
@@ -17,11 +17,12 @@ pub(crate) fn publish(
     state: &State,
     keys: &[Key],
 ) -> Option<Writer>
-    requires says { IsSomeAnd writer (λ w. (w.seat.table_id ≡ looks.now.table.shared.table_id)
-        × SayBut keys.now (links_of w.seat) state.now.tree) }
-    ensures says { IsSomeAnd result (λ w. (w.seat.table_id ≡ looks.now.table.shared.table_id)
-        × Say (links_of w.seat) state.now.tree) }
+    requires says { Writes looks.now (λ links. SayBut keys.now links state.now.tree) writer }
+    ensures says { Writes looks.now (λ links. Say links state.now.tree) result }
 {
+    if looks.slots == 0 {
+        return writer;
+    }
     let Some(writer) = writer else {
         return None;
     };
@@ -37,12 +38,20 @@ pub(crate) fn publish_one(
     state: &State,
     key: Key,
 ) -> Option<Writer>
-    requires says { IsSomeAnd writer (λ w. (w.seat.table_id ≡ looks.now.table.shared.table_id)
-        × SayBut (key ∷ []) (links_of w.seat) state.now.tree) }
-    ensures says { IsSomeAnd result (λ w. (w.seat.table_id ≡ looks.now.table.shared.table_id)
-        × Say (links_of w.seat) state.now.tree) }
+    requires says { Writes looks.now (λ links. SayBut (key ∷ []) links state.now.tree) writer }
+    ensures says { Writes looks.now (λ links. Say links state.now.tree) result }
 {
     publish(looks, writer, state, &[key])
+}
+
+/// Where a node stands before it is moved. Without words nobody asks.
+pub(crate) fn place_before(looks: &Looks, state: &State, key: Key) -> Option<Spot>
+    ensures stood { 0 < looks.now.slots → Stood state.now.tree key result }
+{
+    if looks.slots == 0 {
+        return None;
+    }
+    place_of(state, key)
 }
 
 /// Takes a name away from the node that stood under it.
@@ -67,11 +76,12 @@ pub(crate) fn publish_move(
     state: &State,
     key: Key,
 ) -> Option<Writer>
-    requires says { IsSomeAnd writer (λ w. (w.seat.table_id ≡ looks.now.table.shared.table_id)
-        × IsMove (links_of w.seat) key was state.now.tree) }
-    ensures says { IsSomeAnd result (λ w. (w.seat.table_id ≡ looks.now.table.shared.table_id)
-        × Say (links_of w.seat) state.now.tree) }
+    requires says { Writes looks.now (λ links. IsMove links key was state.now.tree) writer }
+    ensures says { Writes looks.now (λ links. Say links state.now.tree) result }
 {
+    if looks.slots == 0 {
+        return writer;
+    }
     let Some(writer) = writer else {
         return None;
     };

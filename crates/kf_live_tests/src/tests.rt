@@ -29,6 +29,7 @@ fn planted<R: Abort>(rt: &R, alloc: Global, words: u32) -> (LiveTree, Looker) {
 #[test]
 fn live_nodes_are_found(rt: HostRuntime) {
     let (mut tree, mut looker) = planted(&rt, rt.alloc(), 4);
+    assert_eq!(&rt; looker.slots(), 4);
     assert_eq!(&rt; found(&rt, &mut looker, b"/").key, TOP);
     assert_eq!(&rt; found(&rt, &mut looker, b"/dir").key, DIR);
     assert_eq!(&rt; found(&rt, &mut looker, b"/dir/file").key, ENTRY);
@@ -101,7 +102,15 @@ fn one_load_tells_what_still_stands(rt: HostRuntime) {
 
 #[test]
 fn without_words_each_look_up_is_sent_to_the_tree(rt: HostRuntime) {
-    let (_tree, mut looker) = planted(&rt, rt.alloc(), 0);
+    let (mut tree, mut looker) = planted(&rt, rt.alloc(), 0);
+    assert_eq!(&rt; looker.slots(), 0);
     assert!(&rt; is_sent(&mut looker, b"/dir"));
+    let moved = tree.rename(ENTRY, TOP, b"other");
+    assert!(&rt; moved.is_ok());
+    assert!(&rt; is_sent(&mut looker, b"/other"));
+    hide(&rt, &mut tree, ENTRY);
+    let shown = tree.show(ENTRY);
+    assert!(&rt; shown);
+    doom(&rt, &mut tree, DIR);
     assert!(&rt; is_sent(&mut looker, b"/"));
 }

@@ -1,23 +1,23 @@
-use Rattle.std.proofs.Common.{sym, ◌∙◌, subst, List, [], ◌∷◌}
-use Rattle.std.specs.Prelude.{IfSome, IsSomeAnd}
+use Rattle.std.proofs.Common.{arith, sym, ◌∙◌, subst, List, [], ◌∷◌}
+use Rattle.std.specs.Prelude.{IfSome}
 use Rattle.kf_looks.specs.declared.view.Link.{Link}
 use Rattle.kf_looks.specs.Lines.{bytes_in}
 use Rattle.kf_looks.specs.Links.{IsOfSlot}
 use Rattle.kf_looks.specs.Writing.{links_of}
 use Rattle.kf_live.specs.Live.{SayBut, IsMove, without}
 use Rattle.kf_live.proofs.Single.{move_slot, move_says}
-use Rattle.kf_live.proofs.Writers.{Writes}
+use Rattle.kf_live.proofs.Writers.{writer_there}
 use Rattle.kf_live.proofs.publishing.publish_move.Goals as goal
 
 pub withdraw-section-requires-clause-of_slot : goal.withdraw-section-requires-clause-of_slot
 withdraw-section-requires-clause-of_slot c =
-    let at = subst (λ o. IsSomeAnd o (Writes c.args.looks.now (λ links. IsMove links c.args.key c.args.was c.args.state.now.tree))) c.in-Some.is c.requires.says in
+    let at = writer_there c.args.looks.now (λ links. IsMove links c.args.key c.args.was c.args.state.now.tree) c.args.writer c.in-Some.writer c.in-Some.is c.requires.says (omega arith) in
     subst (λ (links : List Link). IfSome c.args.was (λ spot. IsOfSlot links spot.dir (bytes_in spot.name) c.args.key.slot)) (sym c.start.ensures.links)
     (move_slot (links_of c.in-Some.writer.seat) c.args.key c.args.was c.args.state.now.tree at.1)
 
 pub tell-section-requires-clause-says : goal.tell-section-requires-clause-says
 tell-section-requires-clause-says c =
-    let at = subst (λ o. IsSomeAnd o (Writes c.args.looks.now (λ links. IsMove links c.args.key c.args.was c.args.state.now.tree))) c.in-Some.is c.requires.says in (
+    let at = writer_there c.args.looks.now (λ links. IsMove links c.args.key c.args.was c.args.state.now.tree) c.args.writer c.in-Some.writer c.in-Some.is c.requires.says (omega arith) in (
       c.args.key ∷ [],
       subst (λ (links : List Link). SayBut (c.args.key ∷ []) links c.args.state.now.tree) (sym c.withdraw-section.ensures.links)
           (subst (λ (links : List Link). SayBut (c.args.key ∷ []) (without c.args.was links) c.args.state.now.tree) (sym c.start.ensures.links)
@@ -26,9 +26,9 @@ tell-section-requires-clause-says c =
 
 pub returns : goal.returns
 returns c =
-    let at = subst (λ o. IsSomeAnd o (Writes c.args.looks.now (λ links. IsMove links c.args.key c.args.was c.args.state.now.tree))) c.in-Some.is c.requires.says in
+    let at = writer_there c.args.looks.now (λ links. IsMove links c.args.key c.args.was c.args.state.now.tree) c.args.writer c.in-Some.writer c.in-Some.is c.requires.says (omega arith) in
     record {
-      says = (
+      says = λ _. (
         c.publish.ensures.table ∙ c.tell-section.ensures.table ∙ c.withdraw-section.ensures.table ∙ c.start.ensures.table ∙ at.0,
         subst (λ (links : List Link). SayBut [] links c.args.state.now.tree) (sym c.publish.ensures.links)
             (c.tell-section.ensures.told []

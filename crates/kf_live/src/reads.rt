@@ -1,0 +1,57 @@
+//! What a live tree answers as its [`State`] does, changing nothing.
+ghost use Rattle.std.specs.Prelude.{◌≡◌, IfOk, IfErr, MatchResult, None, Some, true};
+ghost use Rattle.kf_core.specs.PostOrder.{IsPostOrder};
+ghost use Rattle.kf_core.specs.Tree.{is_linked};
+ghost use Rattle.kf_tree.specs.Causes.{create_fault, doom_cause, linked_cause, unlink_cause, Refuses};
+ghost use Rattle.kf_tree.specs.Ends.{EndsWith};
+ghost use Rattle.kf_tree.specs.TreeLogs.{IsKept};
+
+use crate::live_tree::LiveTree;
+use kf_core::{Key, Node, Refusal};
+
+impl LiveTree {
+    /// As [`State::root`].
+    pub fn root(&self) -> Key
+        ensures known { result ≡ self.now.root }
+        ensures kept { IsKept self.now }
+    {
+        self.state.root()
+    }
+
+    /// As [`State::create_fault`].
+    pub fn create_fault(&self, parent: Key, name: &[u8], node: Node) -> Option<Refusal>
+        ensures first { result ≡ create_fault self.now.tree self.now.root parent name.now node }
+    {
+        self.state.create_fault(parent, name, node)
+    }
+
+    /// As [`State::may_doom`].
+    pub fn may_doom(&self, key: Key) -> Result<(), Refusal>
+        ensures checked { MatchResult result
+            (λ _. doom_cause self.now.tree self.now.root key ≡ None)
+            (λ refusal. doom_cause self.now.tree self.now.root key ≡ Some refusal) }
+        ensures kept { IsKept self.now }
+    {
+        self.state.may_doom(key)
+    }
+
+    /// As [`State::may_unlink`].
+    pub fn may_unlink(&self, key: Key) -> Result<bool, Refusal>
+        ensures linked { IfOk result (λ linked. is_linked self.now.tree key ≡ linked) }
+        ensures no_cause { IfOk result (λ linked. linked ≡ true → unlink_cause self.now.tree key ≡ None) }
+        ensures refused { IfErr result (λ refusal.
+            (is_linked self.now.tree key ≡ true) × (unlink_cause self.now.tree key ≡ Some refusal)) }
+    {
+        self.state.may_unlink(key)
+    }
+
+    /// As [`State::post_order`].
+    pub fn post_order(&self, key: Key) -> Result<Vec<Key>, Refusal>
+        ensures linked { IfOk result (λ _. linked_cause self.now.tree key ≡ None) }
+        ensures ordered { IfOk result (λ keys. IsPostOrder self.now.tree key keys.items) }
+        ensures last { IfOk result (λ keys. EndsWith keys.items key) }
+        ensures refused { IfErr result (λ refusal. Refuses (linked_cause self.now.tree key) refusal) }
+    {
+        self.state.post_order(key)
+    }
+}
