@@ -12,6 +12,7 @@
  *     nothing --kt_post()--> a post
  *     nothing --kt_hold()--> a hold --kt_enter()--> a call, running --kt_break()--> broken --kt_restore()--> restored
  *                             ^--------------kt_leave()-----'<--------------------------kt_leave()--------------'
+ *     nothing --kt_dup()--> a hold of the node of another hold
  *
  * A hold keeps its node's slot from being given again; it does not keep the node in the tree. A call is what a callback
  * runs under. A post reads and raises the event number of a node's slot. An open file (kt_open()) is a hold too, with a
@@ -49,6 +50,8 @@
  *   kt_leave() and kt_break() answer 1 exactly where a removal or a hiding may be waiting for that step; kt_clear()
  *   and kt_delete() too, and 0 of all but a call.
  * - What is written to `out` is what the tree, the post or the text has; a length is that of what is written.
+ * - kt_dup() counts one hold more of that node by one step on its word of holds, and no step else counts one; the first
+ *   hold stays as it is. Each number that it refuses with has its cause (-ENOMEM: the word had a place).
  * - A file is hidden, by one step of a hold of its own, and kt_hide() answers 0 where a look after that step saw nobody
  *   inside, and -EAGAIN where this look saw somebody. Of the calls on a tree kt_unhide() and kt_remove() alone show it.
  * - A file is opened where its node is live and its mode allows it. A show begins where the node was entered and the
@@ -58,9 +61,8 @@
  * - kt_unhide() answers 0 where it saw nobody inside, and then one step took what hides the file off.
  * - kt_remove() and kt_claim() mark, where that was not done before; but for marks they store only of kt_remove() that
  *   nodes of that subtree were shown and taken out.
- * - Which number each call on a tree but kt_hide(), and kt_notify(), kt_event() and kt_copy(), refuse with, and its cause
- *   (-ENOMEM has none that a contract can name): of kt_remove() and kt_claim() -EMFILE only where a look found a node of
- *   the subtree so.
+ * - Which number each call on a tree, kt_notify(), kt_event() and kt_copy() refuse with, and its cause (-ENOMEM has none
+ *   that a contract can name): of kt_remove() and kt_claim() -EMFILE only where a look found a node of the subtree so.
  * - Which number kt_enter(), kt_begin_read() and kt_begin_write() refuse with, and that a hold was tried where it is
  *   -ENODEV; that kt_leave(), kt_break(), kt_restore(), kt_changed() and kt_shown() refuse with -EINVAL, and only
  *   what is not in such a call; that kt_clear() and kt_delete() refuse a tree with a file in which a hiding has yet
@@ -71,15 +73,15 @@
  * - No function reads or writes out of bounds or after a free, and each ends.
  *
  * On a node that is not in the tree nobody runs, and a key that has left it never comes again: these are laws over
- * every run of these functions' steps. Not proved: which error number comes of kt_hide(); that somebody is inside where
- * kt_remove() answers -EAGAIN, and that it lets no hiding of another file go; that kt_clear() and kt_delete() let go;
- * that memory was refused where it is -ENOMEM; and everything that is C, the helpers too. `make -C c test` tries these.
+ * every run of these functions' steps. Not proved: that somebody is inside where kt_remove() answers -EAGAIN, and that
+ * it lets no hiding of another file go; that kt_clear() and kt_delete() let go; that memory was refused where it is
+ * -ENOMEM; and everything that is C, the helpers too. `make -C c test` tries these.
  *
  * What a program has to keep to, which the library cannot see:
  * - A handle comes from kt_new(), is used by one function at a time, and not after kt_delete(). It may pass to another
- *   thread by what orders memory (a lock, a join, an atomic). So each thread that enters a node has a hold of its own,
- *   and each that notifies (a driver's interrupts) a post of its own. With one hold for two, a removal may be over with
- *   a callback inside.
+ *   thread by what orders memory (a lock, a join, an atomic). So each thread that enters a node has a hold of its own
+ *   (kt_dup() makes one from another's), and each that notifies (a driver's interrupts) a post of its own. With one
+ *   hold for two, a removal may be over with a callback inside.
  * - Calls that take a tree are made under one lock of the program's, one for each tree, or by one thread; kt_clear()
  *   and kt_delete() of a tree too. Those of a hold, a call, a post and an open file take no lock.
  * - A key is of one tree: in another it may name another node.
@@ -310,6 +312,12 @@ KT_CALL(1, 3) int32_t kt_post(struct kt_handle *tree, struct kt_key key, struct 
 KT_CALL(1, 5) int32_t kt_open(struct kt_handle *tree, struct kt_key key, bool read, bool write, struct kt_handle *file);
 
 /* ---- steps of a hold, a call, a post and an open file: no lock, from any thread ---- */
+
+/* Another hold of a hold's node (kernfs_get), behind a handle with nothing behind it: for another thread, say, and of a
+ * node that has left the tree too. Of an open file it is a plain hold. 0, and in this order: -EINVAL (something is behind
+ * the other handle, or no hold behind this one; a call is none), -EMFILE (as many holds as there may be, but one: a
+ * removal needs the last), -EBUSY (others came between 64 times: call it again), -ENOMEM. */
+KT_CALL(1, 2) int32_t kt_dup(struct kt_handle *hold, struct kt_handle *other);
 
 /* Before a callback (kernfs_get_active): 0, and the hold is a call; -ENODEV where the node is not live, or hidden;
  * -EINVAL where there is no hold. After -ENODEV wake those who wait in a removal or a hiding: the refused try was

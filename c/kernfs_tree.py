@@ -93,6 +93,7 @@ def _load():
         ("path", i64, *new),
         ("readlink", i64, *new),
         ("hold", i32, handle, Key, handle),
+        ("dup", i32, handle, handle),
         ("post", i32, handle, Key, handle),
         ("open", i32, handle, Key, yes, yes, handle),
         *((it, i32, handle, Key) for it in ("remove", "hide", "unhide", "claim")),
@@ -326,6 +327,12 @@ class Hold(_Owner):
         if answer == 1 and name in ("leave", "break"):
             self._tree._wake()
         return answer
+
+    def dup(self):
+        """Another hold of the node, in the tree or gone, for another thread. It needs no lock."""
+        other = Hold(self._tree)
+        self._call("dup", other._handle)
+        return other
 
     def enter(self):
         self._step("enter")

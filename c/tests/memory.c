@@ -3,7 +3,7 @@
 #include <stdio.h>
 #include <string.h>
 
-static struct kt_handle tree, hold, post, open, small, all;
+static struct kt_handle tree, hold, post, open, other, small, all;
 static struct kt_key root, dir, file, key;
 static struct kt_stat stat;
 static struct kt_lock lock = KT_LOCK_INIT;
@@ -48,6 +48,7 @@ static void full(void)
     REFUSED(kt_post(&small, file, &all));
     REFUSED(kt_open(&small, file, true, false, &all));
     REFUSED(kt_hold(&small, file, &open));
+    REFUSED(kt_dup(&all, &open));
     REFUSED(kt_open(&small, file, true, false, &open));
     REFUSED(kt_open(&small, root, true, false, &open));
     REFUSED(kt_hide(&small, file));
@@ -136,7 +137,13 @@ int main(void)
     AGAIN(kt_enter(&open));
     AGAIN(kt_unhide(&tree, file));
     AGAIN(kt_hold(&tree, file, &hold));
+    AGAIN(kt_new(&other.at));
+    REFUSED(kt_dup(&post, &other));
+    REFUSED(kt_dup(&open, &other));
+    REFUSED(kt_dup(&hold, &post));
+    AGAIN(kt_dup(&hold, &other));
     AGAIN(kt_enter(&hold));
+    AGAIN(kt_clear(&other));
     AGAIN(kt_stat(&tree, file, &stat));
     AGAIN(kt_claim(&tree, dir));
     AGAIN(kt_remove(&tree, dir));
@@ -151,6 +158,7 @@ int main(void)
     full();
     kt_delete(all);
     kt_delete(small);
+    kt_delete(other);
     kt_delete(post);
     kt_delete(open);
     kt_delete(hold);

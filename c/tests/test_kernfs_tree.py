@@ -98,6 +98,22 @@ class Calls(unittest.TestCase):
         with self.refused(errno.EBADF):
             hold.enter()
 
+    def test_second_holds(self):
+        tree, hold = self.tree, self.tree.hold(self.speed)
+        other = hold.dup()
+        with hold, other:
+            with self.refused(errno.EINVAL):
+                hold.dup()
+            with self.refused(errno.ETIMEDOUT):
+                tree.remove_wait(self.fan, seconds=0.05)
+        hold.close()
+        self.assertEqual(tree.remove_wait(self.fan), 1)
+        gone = other.dup()
+        other.close()
+        with self.refused(errno.ENODEV):
+            gone.enter()
+        gone.close()
+
     def test_broken_protection(self):
         hold = self.tree.hold(self.speed)
         hold.enter()

@@ -236,6 +236,67 @@ static void self_removal(void)
     TRY(kt_clear(&hold), 1); /* ends the call too */
 }
 
+/* Another hold from a hold, with no tree: of a node that is there, that is being removed, that is gone. */
+static void doubles(void)
+{
+    struct kt_handle small = {NULL}, third = {NULL};
+    TRY(kt_new(&small.at), 0);
+    TRY(kt_new(&third.at), 0);
+    TRY(kt_create_root(&small, 4, 3), 0);
+    TRY(kt_root(&small, &root), 0);
+    TRY(kt_create_file(&small, root, "f", 1, 0644, 0, true, &file), 0);
+    TRY(kt_dup(&nothing, &other), -EINVAL);
+    TRY(kt_dup(&small, &other), -EINVAL);
+    TRY(kt_hold(&small, file, &hold), 0);
+    TRY(kt_dup(&hold, &small), -EINVAL);
+    TRY(kt_post(&small, file, &third), 0);
+    TRY(kt_dup(&third, &other), -EINVAL);
+    TRY(kt_dup(&hold, &third), -EINVAL);
+    TRY(kt_clear(&third), 0);
+    for (int i = 0; i < 40; i++) {
+        TRY(kt_dup(&hold, &other), 0);
+        TRY(kt_dup(&hold, &other), -EINVAL); /* something is behind it */
+        TRY(kt_clear(&other), 0);
+    }
+    TRY(kt_dup(&hold, &other), 0);
+    TRY(kt_dup(&hold, &third), -EMFILE); /* the last place is left */
+    TRY(kt_dup(&other, &third), -EMFILE);
+    TRY(kt_enter(&other), 0);
+    TRY(kt_dup(&other, &third), -EINVAL); /* a call is no hold */
+    TRY(kt_enter(&hold), 0);
+    TRY(kt_remove(&small, file), -EAGAIN);
+    TRY(kt_leave(&hold), 1);
+    TRY(kt_remove(&small, file), -EAGAIN); /* the other one is inside */
+    TRY(kt_clear(&hold), 0);
+    TRY(kt_leave(&other), 1);
+    TRY(kt_dup(&other, &hold), 0); /* it is being removed */
+    TRY(kt_enter(&hold), -ENODEV);
+    TRY(kt_remove(&small, file), 1);
+    TRY(kt_clear(&other), 0);
+    TRY(kt_dup(&hold, &other), 0); /* it is gone */
+    TRY(kt_enter(&other), -ENODEV);
+    TRY(kt_clear(&hold), 0);
+    for (int i = 0; i < 3; i++) /* three slots: the gone one's is kept by the other hold */
+        TRY(kt_create_dir(&small, root, (char[]){(char)('0' + i)}, 1, true, &key), i < 2 ? 0 : -ENOSPC);
+    TRY(kt_clear(&other), 0);
+    TRY(kt_create_dir(&small, root, "2", 1, true, &key), 0);
+    TRY(same(key, (struct kt_key){file.slot, file.generation + 1}), 1);
+    TRY(kt_open(&small, key, true, false, &hold), -EISDIR);
+    TRY(kt_remove(&small, key), 1);
+    TRY(kt_create_file(&small, root, "o", 1, 0444, 0, true, &file), 0);
+    TRY(kt_open(&small, file, true, false, &hold), 0);
+    TRY(kt_dup(&hold, &other), 0); /* a plain hold, of an open file too */
+    TRY(kt_begin_read(&other, 0), -EINVAL);
+    TRY(kt_begin_read(&hold, 0), 1);
+    TRY(kt_leave(&hold), 0);
+    TRY(kt_delete(small), 0);
+    TRY(kt_dup(&hold, &third), -EMFILE);
+    TRY(kt_clear(&hold), 0);
+    TRY(kt_dup(&other, &third), 0); /* its tree is let go */
+    TRY(kt_clear(&other), 0);
+    TRY(kt_delete(third), 0);
+}
+
 static void posts(void)
 {
     uint64_t event = 9;
@@ -357,6 +418,7 @@ int main(void)
     holds();
     removal();
     self_removal();
+    doubles();
     posts();
     open_files();
     TRY(kt_delete(nothing), 0);

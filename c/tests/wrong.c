@@ -68,6 +68,7 @@ static void cleared(void) { kt_delete(hold); kt_clear(&hold); }
 static void deleted(void) { kt_delete(hold); kt_delete(hold); }
 static void walked(void) { kt_delete(tree); must(kt_walk(&tree, "/d", 2, &dir)); }
 static void held(void) { kt_delete(hold); must(kt_hold(&tree, dir_file, &hold)); }
+static void doubled(void) { kt_clear(&file); kt_delete(hold); must(kt_dup(&hold, &file)); }
 static void copied(void) { kt_delete(file); must(kt_copy(&file, 0, text, sizeof text)); }
 
 static int64_t delete_it(struct kt_handle *call, void *data)
@@ -237,6 +238,14 @@ static void removes(struct kt_key key, bool is_moved)
 static void right_removal(void) { removes(dir_file, false); }
 static void right_removal_above(void) { removes(dir, false); }
 static void right_removal_moved(void) { removes(dir, true); }
+static void right_second_hold(void)
+{
+    struct kt_handle first = hold;
+    must(kt_new(&hold.at));
+    must(kt_dup(&first, &hold));
+    kt_delete(first);
+    removes(dir, false);
+}
 
 /* And freed without that, it is a race. */
 static void freed_early(void)
@@ -301,13 +310,14 @@ static const struct use {
     void (*run)(void);
 } uses[] = {
     {"entered", entered}, {"left", left}, {"cleared", cleared}, {"deleted", deleted}, {"walked", walked},
-    {"held", held}, {"copied", copied}, {"deleted_inside", deleted_inside}, {"zeroed", zeroed},
+    {"held", held}, {"copied", copied}, {"doubled", doubled}, {"deleted_inside", deleted_inside}, {"zeroed", zeroed},
     {"long_path", long_path}, {"long_name", long_name}, {"long_new_name", long_new_name},
     {"long_shown", long_shown}, {"one_hold", one_hold}, {"one_file", one_file}, {"no_lock", no_lock},
     {"half_locked", half_locked}, {"right_lock", right_lock}, {"deleted_meanwhile", deleted_meanwhile},
     {"one_node", one_node}, {"two_nodes", two_nodes}, {"freed_early", freed_early},
     {"right_removal", right_removal}, {"right_removal_above", right_removal_above},
-    {"right_removal_moved", right_removal_moved}, {"right_hiding", right_hiding},
+    {"right_removal_moved", right_removal_moved}, {"right_second_hold", right_second_hold},
+    {"right_hiding", right_hiding},
     {"right_activation", right_activation}, {"right_handles", right_handles},
 };
 

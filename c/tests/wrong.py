@@ -30,14 +30,14 @@ FREED, NO_HANDLE, RACE, USED_FREED = "heap-use-after-free", "SEGV", "data race",
 REPORTED = {
     "address": {
         **dict.fromkeys(
-            ("entered", "left", "cleared", "deleted", "walked", "held", "copied", "deleted_inside"), FREED
+            ("entered", "left", "cleared", "deleted", "walked", "held", "copied", "doubled", "deleted_inside"), FREED
         ),
         **dict.fromkeys(("long_path", "long_name", "long_new_name", "long_shown"), "heap-buffer-overflow"),
         "zeroed": NO_HANDLE,
     },
     "thread": {
         **dict.fromkeys(("one_hold", "one_file", "no_lock", "half_locked", "one_node", "two_nodes", "freed_early"), RACE),
-        **dict.fromkeys(("entered", "left", "cleared", "walked", "copied"), USED_FREED),
+        **dict.fromkeys(("entered", "left", "cleared", "walked", "copied", "doubled"), USED_FREED),
     },
 }
 # (the last of these makes more handles than kt_check.h has room for)
@@ -46,6 +46,7 @@ SILENT = [
     "right_removal",
     "right_removal_above",
     "right_removal_moved",
+    "right_second_hold",
     "right_hiding",
     "right_activation",
     "right_handles",

@@ -8,6 +8,7 @@ ghost use Rattle.kf_handles.specs.Answers.{IsAsBefore, ToldWhy};
 ghost use Rattle.kf_handles.specs.Calls.{AreLimits, key_in, CreatedIn, IsNewTree, HoldsNode, ActivatedIn, MovedIn, CompactedIn, IsNothing, is_nothing};
 ghost use Rattle.kf_handles.specs.LookUps.{find_behind, parent_behind, root_behind, stat_behind, walk_behind, IsRefusal, LinkTextIn, LinkTextRefused, NameIn, NameRefused, NextIn, NextRefusedIn, PathIn, PathRefused, TellsCommands, TellsKey, TellsStat, TellsText};
 ghost use Rattle.kf_handles.specs.Numbers.{HasPostOf, IsSameTree, PostRefused, WasNotified, WasFull, TookNumber, IsNoPost, notify_error};
+ghost use Rattle.kf_handles.specs.Another.{GaveAnother, GaveNoOther, WhyNoOther};
 ghost use Rattle.kf_handles.specs.Steps.{WasEntered, WasRefused, WasLeft, WasBroken, WasRestored, HasNoReference, IsNotRunning, IsNotBroken, WakeOwed, enter_error, wake_of};
 
 use kf_core::{Key, Node};
@@ -342,6 +343,24 @@ pub extern "C" fn kt_event(post: &mut KtHandle, out: &mut u64) -> i32
     ensures why { result ≢ pos 0 → (result ≡ negsuc 21) × IsNoPost post.old.place.object }
 {
     kf_handles::number(post, out)
+}
+
+/// Another hold of a hold's node, in the tree or gone, behind a handle with nothing behind it. It needs no tree.
+#[unsafe(no_mangle)]
+pub extern "C" fn kt_dup(hold: &mut KtHandle, out: &mut KtHandle) -> i32
+    ensures another { result ≡ pos 0 → GaveAnother hold.old.place.seat hold.new.place.seat out.new.place.seat
+        × (out.new.place.object ≡ behind.Empty) }
+    ensures taken { is_nothing out.old.place ≡ false → result ≡ negsuc 21 }
+    ensures was { result ≡ pos 0 → IsNothing out.old.place }
+    ensures none { result ≢ pos 0 → is_nothing out.old.place ≡ true →
+        GaveNoOther hold.old.place.seat hold.new.place.seat }
+    ensures same { result ≢ pos 0 → out.new.place ≡ out.old.place }
+    ensures kept { is_nothing out.old.place ≡ false → hold.new.place ≡ hold.old.place }
+    ensures beside { hold.new.place.object ≡ hold.old.place.object }
+    ensures why { is_nothing out.old.place ≡ true → result ≢ pos 0 →
+        WhyNoOther hold.old.place.seat hold.new.place.seat result }
+{
+    kf_handles::dup(hold, out)
 }
 
 /// Tries for an active reference (`kernfs_get_active`): 0, or -ENODEV where the node is not live.

@@ -53,6 +53,8 @@ pub extern "C" fn kt_hide(tree: &mut KtHandle, key: KtKey) -> i32
     ensures kept { result ≢ pos 0 → result ≢ negsuc 10 →
         IsAsBefore tree.old.place.object tree.new.place.object }
     ensures beside { tree.new.place.seat ≡ tree.old.place.seat }
+    ensures why { result ≢ pos 0 → result ≢ negsuc 10 → StepToldWhy
+        (asks.Hide (key_in key)) tree.old.place.object tree.new.place.object result }
 {
     kf_handles::hide(tree, key)
 }

@@ -1,10 +1,11 @@
 -- Why a node is not marked.
 use Rattle.std.proofs.Common.{◌≡◌, ◌≢◌, ◌⊎◌, inl, inr, ℕ, Bool, true, false, List, [], ◌∷◌, ◌++◌, length, refl, sym, ◌∙◌, ap, subst, arith}
-use Rattle.std.specs.Prelude.{None, Some, MatchBool, slice_get}
+use Rattle.std.specs.Prelude.{None, Some, MatchBool, slice_get, ℤ, pos, neg_ℤ}
 use Rattle.std.proofs.lemmas.Bool.{MatchBool-at_true}
 use Rattle.kf_core.specs.declared.key.Key.{Key}
 use Rattle.kf_core.specs.declared.refusal.Refusal.{Refusal}
 use Rattle.kf_core.specs.declared.refusal.Refusal.TheVariants.{NoEntry, NoMemory, TooManyHolds}
+use Rattle.kf_core.specs.Refusals.{number_of}
 use Rattle.kf_core.specs.Tree.{Tree, is_linked, parent_of}
 use Rattle.kf_core.proofs.Climbs.{same_key_self, meets_here}
 use Rattle.kf_tree.specs.Causes.{doom_cause}
@@ -16,6 +17,11 @@ use Rattle.kf_shared.specs.Locked.{Locked, HoldRefused}
 use Rattle.kf_shared.specs.Removal.{FoundFullIn}
 use Rattle.kf_shared.proofs.Pins.{if_false, not_the_root, why_refused}
 use Rattle.kf_handles.specs.Removing.{MarkRefused}
+use Rattle.kf_handles.specs.Tasks.{SteppedBehind, StepToldWhy}
+use Rattle.kf_handles.specs.declared.object.Object.{Object}
+use Rattle.kf_handles.specs.declared.object.Object.TheVariants as behind
+use Rattle.kf_handles.specs.declared.questions.Reply.TheVariants as told
+use Rattle.kf_handles.specs.declared.questions.Task.{Task}
 
 -- the load that was made last
 last_there : {X : Type 0} (xs : List X) (x : X) → slice_get (xs ++ x ∷ []) (length xs) ≡ Some x
@@ -72,3 +78,14 @@ by_hold old mid new key why told linked none same refused other memory =
             subst (λ (l : Locked). FoundFullIn old.state.tree key l.master.view) (sym stays.1) (top_in old.state.tree key mid.master.view full.1),
           )
     ])
+
+-- a step that the tree refuses is told so
+pub step_told : (what : Task) (old new : Object) (why : Refusal) (number : ℤ) → SteppedBehind what old new (told.Refused why)
+    → number ≡ neg_ℤ (pos (number_of why)) → StepToldWhy what old new number
+step_told what (behind.Tree old) (behind.Tree new) why number h e = (why, e, h.0)
+step_told what (behind.Tree old) behind.Empty why number (same, never) e = cc
+step_told what (behind.Tree old) (behind.Post new) why number (same, never) e = cc
+step_told what (behind.Tree old) (behind.File new) why number (same, never) e = cc
+step_told what behind.Empty new why number (same, never) e = cc
+step_told what (behind.Post old) new why number (same, never) e = cc
+step_told what (behind.File old) new why number (same, never) e = cc

@@ -11,3 +11,4 @@ pub mod Tasks
 pub mod Numbers
 pub mod Taken
 pub mod Files
+pub mod Another

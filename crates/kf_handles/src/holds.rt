@@ -8,7 +8,7 @@ use kf_words::{Call, Hold, Wake};
 
 /// A hold, released where it is let go.
 pub struct Held {
-    hold: Hold,
+    pub(crate) hold: Hold,
 }
 
 impl Held {

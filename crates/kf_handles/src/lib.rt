@@ -2,6 +2,7 @@
 //! do. Behind each handle lies nothing, a tree, a hold of a node or a call of one, a post, or an open file.
 #![tactic(auto)]
 
+mod another;
 mod answers;
 mod errors;
 mod file;
@@ -24,6 +25,7 @@ mod token;
 mod tokens;
 mod tree;
 
+pub use another::dup;
 pub use file_steps::{begin_read, begin_write, changed, copy, open, shown};
 pub use handle::{KtGiven, KtHandle};
 pub use numbers::{notify, number, post};

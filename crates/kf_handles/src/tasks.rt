@@ -70,6 +70,8 @@ pub fn hide(handle: &mut KtHandle, key: KtKey) -> i32
     ensures kept { result ≢ pos 0 → result ≢ negsuc 10 →
         IsAsBefore handle.old.place.object handle.new.place.object }
     ensures beside { handle.new.place.seat ≡ handle.old.place.seat }
+    ensures why { result ≢ pos 0 → result ≢ negsuc 10 → StepToldWhy
+        (asks.Hide (key_in key)) handle.old.place.object handle.new.place.object result }
 {
     let task = Task::Hide(key_of(key));
     match replace_with(handle, task, step_handle) {

@@ -1,0 +1,23 @@
+use Rattle.std.proofs.Common.{◌≡◌, pos, rules}
+use Rattle.std.specs.Prelude.{neg_ℤ}
+use Rattle.kf_core.specs.Refusals.{number_of}
+use Rattle.kf_handles.specs.Calls.{key_in}
+use Rattle.kf_handles.specs.Tasks.{SteppedBehind}
+use Rattle.kf_handles.specs.declared.questions.Reply.TheVariants as told
+use Rattle.kf_handles.specs.declared.questions.Task.TheVariants as asks
+use Rattle.kf_handles.proofs.Refusals.{step_told}
+use Rattle.kf_handles.proofs.tasks.hide.Goals as goal
+use Rattle.kf_handles.proofs.tasks.hide.Goals.{in-Done, in-Not, in-Refused, in_default}
+
+-- each answer alone
+pub returns-clause-why : goal.returns-clause-why
+returns-clause-why c = λ not_done not_again. elim c.match-replace_with.branch [
+  | in-Done w ↦ search (rules, w, not_done)
+  | in-Not w ↦ search (rules, w, not_again)
+  | in-Refused w ↦
+      let refused : SteppedBehind (asks.Hide (key_in c.args.key)) c.args.handle.now.place.object c.replace_with.new.dest.place.object
+      (told.Refused w.in-Refused.refusal) = search (rules, w) in
+      step_told (asks.Hide (key_in c.args.key)) c.args.handle.now.place.object c.replace_with.new.dest.place.object w.in-Refused.refusal _
+      refused (search (rules, w))
+  | in_default w ↦ search (rules, w)
+]
