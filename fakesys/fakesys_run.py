@@ -79,14 +79,20 @@ def read_timeline(name):
 # ---- name spaces ----
 
 
+def handed_on():
+    """The signals that are handed on. What was ignored from the start stays so (nohup, a job in the background)."""
+    return [number for number in HANDED_ON if signal.getsignal(number) != signal.SIG_IGN]
+
+
 def watch(child, hands_on_all):
     """Waits for a process, and hands signals on to it. Its status."""
-    signal.pthread_sigmask(signal.SIG_BLOCK, [*HANDED_ON, signal.SIGCHLD])
+    waited = [*handed_on(), signal.SIGCHLD]
+    signal.pthread_sigmask(signal.SIG_BLOCK, waited)
     while True:
         pid, status = os.waitpid(child, os.WNOHANG)
         if pid:
             return 128 + os.WTERMSIG(status) if os.WIFSIGNALED(status) else os.WEXITSTATUS(status)
-        got = signal.sigwaitinfo([*HANDED_ON, signal.SIGCHLD])
+        got = signal.sigwaitinfo(waited)
         if got.si_signo != signal.SIGCHLD and (hands_on_all or got.si_code != FROM_THE_KERNEL):
             os.kill(child, got.si_signo)
 
@@ -272,7 +278,7 @@ def hand_signals_on(process):
         if number in (signal.SIGTERM, signal.SIGHUP):
             signal.setitimer(signal.ITIMER_REAL, GRACE)
 
-    for number in HANDED_ON:
+    for number in handed_on():
         signal.signal(number, hand_on)
     signal.signal(signal.SIGALRM, lambda *_: process.kill())
 
