@@ -48,11 +48,14 @@ static void fs_lookup(fuse_req_t req, fuse_ino_t dir, const char *name)
         fuse_reply_entry(req, &entry);
 }
 
+/* What is open is named where lseek(2) wants its size, and not by fstat(2): sysfs refuses that of what is gone. */
 static void fs_getattr(fuse_req_t req, fuse_ino_t number, struct fuse_file_info *info)
 {
     struct stat stat;
     lock_tree();
     int error = describe(number, &stat);
+    if (!error && info && !is_control(number) && !is_live(key_of(number)))
+        error = -ENODEV;
     unlock_tree();
     if (error)
         fuse_reply_err(req, -error);
@@ -96,7 +99,7 @@ static void fs_setattr(fuse_req_t req, fuse_ino_t number, struct stat *to, int w
     if (error)
         fuse_reply_err(req, -error);
     else
-        fs_getattr(req, number, info);
+        fs_getattr(req, number, NULL);
 }
 
 static void fs_readlink(fuse_req_t req, fuse_ino_t number)

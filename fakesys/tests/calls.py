@@ -133,6 +133,7 @@ def gone(mount):
                 and stat.S_ISREG(os.fstat(file).st_mode),
                 "fstat(2)",
             )
+            must(error_of(os.lseek, file, 0, os.SEEK_END) == errno.ENODEV, "lseek(2) to its end")
             must(os.listdir(top) == [] == os.listdir("."), "it lists nothing")
             must([it[0] for it in getdents(top)][:1] in ([], ["."]), "getdents64(2)")
             must(

@@ -462,7 +462,8 @@ def about_removal(it, remove):
     )
     yield "openat, after", lambda: os.open(os.path.basename(it.path), os.O_RDONLY, dir_fd=held.top)
     yield "fsync, after", lambda: os.fsync(held.read)
-    yield "lseek to the end, after", lambda: os.lseek(held.read, 0, os.SEEK_END)
+    for name, way in ("start", os.SEEK_SET), ("end", os.SEEK_END), ("next byte", os.SEEK_DATA):
+        yield f"lseek to the {name}, after", lambda way=way: os.lseek(held.read, 0, way)
     yield "close, after", lambda: [
         os.close(file)
         for file in (
