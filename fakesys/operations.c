@@ -9,10 +9,15 @@ static struct kt_key next_control(void)
     return (struct kt_key){0, 2 + controls++ % 1000000000};
 }
 
+static bool names_control(fuse_ino_t dir, const char *name)
+{
+    return dir == FUSE_ROOT_ID && !strcmp(name, CONTROL);
+}
+
 /* Finds a live child. Under the lock. */
 static int find_child(fuse_ino_t dir, const char *name, struct kt_key *out)
 {
-    if (dir == FUSE_ROOT_ID && !strcmp(name, CONTROL)) {
+    if (names_control(dir, name)) {
         *out = next_control();
         return 0;
     }
@@ -20,10 +25,11 @@ static int find_child(fuse_ino_t dir, const char *name, struct kt_key *out)
     return error ? error : is_live(*out) ? 0 : -ENOENT;
 }
 
-static unsigned lateness(fuse_ino_t number)
+/* How late a name is found in a directory. The control file is never late, so that its lines can end that. */
+static unsigned lateness(fuse_ino_t dir, const char *name)
 {
     lock_tree();
-    unsigned late = node_of(number)->late;
+    unsigned late = names_control(dir, name) ? 0 : node_of(dir)->late;
     unlock_tree();
     return late;
 }
@@ -32,7 +38,7 @@ static void fs_lookup(fuse_req_t req, fuse_ino_t dir, const char *name)
 {
     struct fuse_entry_param entry = {0};
     struct kt_key key;
-    unsigned late = lateness(dir);
+    unsigned late = lateness(dir, name);
     if (late)
         wait_milliseconds(late);
     lock_tree();

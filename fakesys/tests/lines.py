@@ -132,7 +132,7 @@ def faults(mount):
 def late(mount):
     """A delay before the show is not waited for by a removal, so that the reader has ENODEV for certain; of
     a directory it comes between the listing and the look-up."""
-    mount.done("late /devices/fan0/speed 700", "late /class 700")
+    mount.done("late /devices/fan0/speed 2000", "late /class 2000")
     with mount.opened("/devices/fan0/limit") as limit, mount.opened("/devices/fan0/speed", os.O_RDWR) as file:
         readers = [Beside(error_of, os.pread, file, 9, 0), Beside(error_of, os.pwrite, file, b"1", 0)]
         must(os.listdir(mount.path("/class")) == ["cooling"], "a listing is not late")
@@ -140,19 +140,22 @@ def late(mount):
         time.sleep(0.2)
         begun = time.monotonic()
         mount.done("unplug /devices/fan0")
-        must(time.monotonic() - begun < 0.4, "the removal waits for a late reader")
+        must(time.monotonic() - begun < 1.5, "the removal waits for a late reader")
         must([it.given() for it in readers] == [errno.ENODEV] * 2, "ENODEV")
         must(looker.given() == errno.ENOENT, "what was listed is not found any more")
         must(error_of(os.pread, limit, 9, 0) == errno.ENODEV, "of an open file")
-    mount.done("file /b 644 text", "late /b 300")
+    mount.done("file /b 644 text", "late /b 1000")
     with mount.opened("/b") as file:
         begun = time.monotonic()
-        must(os.read(file, 2) == b"te" and time.monotonic() - begun > 0.25, "it is late")
+        must(os.read(file, 2) == b"te" and time.monotonic() - begun > 0.9, "it is late")
         begun = time.monotonic()
         must(
-            os.read(file, 9) == b"xt\n" and time.monotonic() - begun < 0.25,
+            os.read(file, 9) == b"xt\n" and time.monotonic() - begun < 0.9,
             "what was shown is not shown again",
         )
+    begun = time.monotonic()
+    mount.done("late / 60000", "late / 0")
+    must(time.monotonic() - begun < 30, "the control file is never late")
     mount.done("late /b 0", "link /l /b")
     must(
         mount.ask("late /l 1", "late /b 100000", "late /b", "slow /l 1", "slow / 1")
