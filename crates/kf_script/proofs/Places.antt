@@ -1,12 +1,14 @@
 -- The place of a byte, found by a search.
 use Rattle.std.proofs.Common.{◌≡◌, ℕ, ◌<◌, ◌≤◌, Bool, true, false, List, [], ◌∷◌, ◌+◌, ◌++◌, All, Option, Some, None, length, position, get_or, take, drop, take-append-drop, add-one, cond, refl, sym, ap, ◌∙◌, append_assoc, length-take, arith, inl, inr}
-use Rattle.std.specs.List.{position_or_len}
-use Rattle.std.specs.Prelude.{◌==◌}
+use Rattle.std.specs.List.{position_or_len, prefix_len}
+use Rattle.std.specs.Simd.Lanes.{chunk}
+use Rattle.std.proofs.lemmas.Simd.{run_in_chunk_fails, run_in_chunk_stops}
+use Rattle.std.specs.Prelude.{◌==◌, not}
 use Rattle.std.proofs.Math.Seq.{drop-cons}
 use Rattle.std.proofs.lemmas.List.Sums.{position_or_len_is, fails_before_first}
 use Rattle.std.proofs.lemmas.List.Quantifiers.{position-Some}
 use Rattle.std.proofs.lemmas.List.Elements.{All-from_get_or}
-use Rattle.std.proofs.lemmas.Bool.Decides.{nat_tests, eqb_tells}
+use Rattle.std.proofs.lemmas.Bool.Decides.{nat_tests, eqb_tells, leb_tells}
 use Rattle.std.proofs.lemmas.List.{get_or-take}
 use borrow.Author.Tests.{ltb-false}
 use Rattle.memchr.specs.Find.{IsFirstByte, is_byte}
@@ -31,6 +33,45 @@ first_place byte bytes (Some at) (first, here) =
     placed (λ b. b == byte) bytes at (
     position_or_len_is (λ b. b == byte) bytes at 0 (omega (arith, first.high)) (λ k below. refuted _ (first.before k (omega arith) below)) (λ inside. here)
     ) first.high
+
+-- the same of what is told byte by byte
+place_here : (byte : ℕ) (bytes : List ℕ) (at : ℕ) → at < length bytes → ((k : ℕ) → k < at → (get_or bytes k 0 == byte) ≡ false)
+    → (get_or bytes at 0 == byte) ≡ true → Some at ≡ position (λ b. b == byte) bytes
+place_here byte bytes at inside before here =
+    placed (λ b. b == byte) bytes at (position_or_len_is (λ b. b == byte) bytes at 0 (omega (arith, inside)) before (λ _. here)) inside
+
+place_nowhere : (byte : ℕ) (bytes : List ℕ) → ((k : ℕ) → k < length bytes → (get_or bytes k 0 == byte) ≡ false)
+    → None ≡ position (λ b. b == byte) bytes
+place_nowhere byte bytes none =
+    nowhere (λ b. b == byte) bytes (position_or_len_is (λ b. b == byte) bytes (length bytes) 0 (omega arith) none (λ below. absurd (omega arith)))
+
+-- how many of the n bytes from a place on stand before the first such byte
+abbrev before : ℕ → List ℕ → ℕ → ℕ → ℕ
+before byte bytes from n = prefix_len (λ b. not (b == byte)) (chunk from n bytes)
+
+-- none of the first n bytes is one, nor any that stands before the first of the n from a place on
+none_before : (byte : ℕ) (bytes : List ℕ) (n from first next : ℕ) → from ≤ n → from + n ≤ length bytes
+    → first ≡ before byte bytes 0 n → n ≤ first → next ≡ before byte bytes from n
+    → (k : ℕ) → k < from + next → (get_or bytes k 0 == byte) ≡ false
+none_before byte bytes n from first next near room counted all later k below = elim (leb_tells from k) [
+  | inl (is, far) ↦ run_in_chunk_fails (λ b. b == byte) bytes from n next 0 room later k far below
+  | inr (is, front) ↦ run_in_chunk_fails (λ b. b == byte) bytes 0 n first 0 (omega arith) counted k (omega arith) (omega arith)
+]
+
+-- it stands among the n from a place on, and not among the first
+pub in_next : (byte : ℕ) (bytes : List ℕ) (n from first next : ℕ) → from ≤ n → from + n ≤ length bytes
+    → first ≡ before byte bytes 0 n → n ≤ first → next ≡ before byte bytes from n → next < n
+    → Some (from + next) ≡ position (λ b. b == byte) bytes
+in_next byte bytes n from first next near room counted all later short =
+    place_here byte bytes (from + next) (omega arith) (none_before byte bytes n from first next near room counted all later)
+    (run_in_chunk_stops (λ b. b == byte) bytes from n next 0 room later short)
+
+-- it stands in neither, and these are all
+pub in_neither : (byte : ℕ) (bytes : List ℕ) (n from first next : ℕ) → from ≤ n → from + n ≡ length bytes
+    → first ≡ before byte bytes 0 n → n ≤ first → next ≡ before byte bytes from n → n ≤ next
+    → None ≡ position (λ b. b == byte) bytes
+in_neither byte bytes n from first next near whole counted all later over =
+    place_nowhere byte bytes (λ k below. none_before byte bytes n from first next near (omega arith) counted all later k (omega arith))
 
 -- ---- what stands before the place, at it and after it
 

@@ -2,9 +2,6 @@
 
 ghost use Rattle.std.specs.Prelude.{◌≡◌, ◌≤◌, ◌+◌, ◌++◌, length, vec_len, vec_capacity};
 
-/// As many bytes are put one by one.
-const FEW: usize = 8;
-
 /// Puts the bytes behind those of the text, one by one. Inlined, where they are known, it writes a few
 /// numbers.
 #[inline(always)]
@@ -19,7 +16,8 @@ pub fn push_each(text: &mut Vec<u8>, bytes: &[u8])
     }
 }
 
-/// Puts the bytes behind those of the text: a few one by one, which costs less than the calls that many take.
+/// Puts the bytes behind those of the text. A few are taken out before they are put, each in a register: that
+/// costs less than the calls that many take.
 #[inline(always)]
 pub fn push_all(text: &mut Vec<u8>, bytes: &[u8])
     requires { vec_len text.old + length bytes.now ≤ vec_capacity text.old }
@@ -27,9 +25,17 @@ pub fn push_all(text: &mut Vec<u8>, bytes: &[u8])
     ensures len { vec_len text.new ≡ vec_len text.old + length bytes.now }
     ensures capacity { vec_capacity text.old ≤ vec_capacity text.new }
 {
-    if bytes.len() <= FEW {
-        push_each(text, bytes);
-    } else {
-        let _ = text.extend_from_slice(bytes);
+    match bytes {
+        [a] => push_each(text, &[*a]),
+        [a, b] => push_each(text, &[*a, *b]),
+        [a, b, c] => push_each(text, &[*a, *b, *c]),
+        [a, b, c, d] => push_each(text, &[*a, *b, *c, *d]),
+        [a, b, c, d, e] => push_each(text, &[*a, *b, *c, *d, *e]),
+        [a, b, c, d, e, f] => push_each(text, &[*a, *b, *c, *d, *e, *f]),
+        [a, b, c, d, e, f, g] => push_each(text, &[*a, *b, *c, *d, *e, *f, *g]),
+        [a, b, c, d, e, f, g, h] => push_each(text, &[*a, *b, *c, *d, *e, *f, *g, *h]),
+        _ => {
+            let _ = text.extend_from_slice(bytes);
+        }
     }
 }

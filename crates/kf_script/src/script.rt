@@ -37,6 +37,28 @@ fn answer_line<B: Board>(board: &mut B, reply: &mut Reply, line: &[u8])
     }
 }
 
+/// Answers a whole line, where it has bytes.
+fn end_whole<B: Board, W: Write>(
+    board: &mut B,
+    reply: &mut Reply,
+    line: &[u8],
+    output: &mut Output<'_, W>,
+) -> Result<(), RunFault>
+    requires { length line.now ≤ line_limit }
+    ensures answered { AnsweredOrCut B.step board.old board.new (ended_line line.now)
+        (append_known (W.contents output.old.writer.now) output.old.kept.now.items)
+        (append_known (W.contents output.new.writer.now) output.new.kept.now.items) result }
+    ensures grew { Grows (W.contents output.old.writer.now) (W.contents output.new.writer.now) }
+    ensures lent { output.new.writer.ghost_name ≡ output.old.writer.ghost_name }
+    ensures fault { IfErr result (λ fault. fault ≡ RunFault.Write) }
+{
+    if line.is_empty() {
+        return Ok(());
+    }
+    answer_line(board, reply, line);
+    reply.write_line(output)
+}
+
 /// Answers a line that has ended, where it has bytes; without a line, one that was too long.
 fn end_line<B: Board, W: Write>(
     board: &mut B,
@@ -57,11 +79,7 @@ fn end_line<B: Board, W: Write>(
         reply.set_bad_line();
         return reply.write_line(output);
     };
-    if bytes.is_empty() {
-        return Ok(());
-    }
-    answer_line(board, reply, bytes);
-    reply.write_line(output)
+    end_whole(board, reply, bytes, output)
 }
 
 /// Takes the bytes before a newline, and answers the line that they end.
@@ -86,7 +104,7 @@ fn take_line<B: Board, W: Write>(
     ensures fault { IfErr result (λ fault. fault ≡ RunFault.Write) }
 {
     if line.is_empty() && bytes.len() <= LINE_LIMIT {
-        return end_line(board, reply, Some(bytes), output);
+        return end_whole(board, reply, bytes, output);
     }
     line.extend(bytes);
     let result = end_line(board, reply, line.get(), output);

@@ -1,12 +1,104 @@
 //! Where a byte stands.
 
-ghost use Rattle.std.specs.Prelude.{◌≡◌, ◌==◌, position};
+ghost use Rattle.std.specs.Prelude.{◌≡◌, ◌≤◌, ◌<◌, ◌+◌, ◌==◌, not, length, position};
+ghost use Rattle.std.specs.List.{prefix_len};
+ghost use Rattle.std.specs.Simd.Lanes.{chunk};
 
 use memchr::memchr;
+use std::simd::prelude::*;
 
-/// Where the byte stands first.
+/// How many of the 16 bytes from a place on stand before the first such byte: 16 where none of them is one.
+#[inline(always)]
+fn before_in_16(byte: u8, bytes: &[u8], from: usize) -> usize
+    requires { from + 16 ≤ length bytes.now }
+    ensures { result ≡ prefix_len (λ b. not (b == byte)) (chunk from 16 bytes.now) }
+{
+    let marks = u8x16::from_slice(&bytes[from..])
+        .simd_eq(u8x16::splat(byte))
+        .to_bitmask();
+    if marks == 0 {
+        16
+    } else {
+        marks.trailing_zeros() as usize
+    }
+}
+
+/// The same of 8 bytes.
+#[inline(always)]
+fn before_in_8(byte: u8, bytes: &[u8], from: usize) -> usize
+    requires { from + 8 ≤ length bytes.now }
+    ensures { result ≡ prefix_len (λ b. not (b == byte)) (chunk from 8 bytes.now) }
+{
+    let marks = u8x8::from_slice(&bytes[from..])
+        .simd_eq(u8x8::splat(byte))
+        .to_bitmask();
+    if marks == 0 {
+        8
+    } else {
+        marks.trailing_zeros() as usize
+    }
+}
+
+/// Where the byte stands first in 8 to 16 bytes: the first 8 are looked at, and then the last 8.
+#[inline(always)]
+fn place_by_8(byte: u8, bytes: &[u8]) -> Option<usize>
+    requires length { (8 ≤ length bytes.now) × (length bytes.now ≤ 16) }
+    ensures place { result ≡ position (λ b. b == byte) bytes.now }
+{
+    let first = before_in_8(byte, bytes, 0);
+    if first < 8 {
+        return Some(first);
+    }
+    let last = before_in_8(byte, bytes, bytes.len() - 8);
+    if last < 8 {
+        return Some(bytes.len() - 8 + last);
+    }
+    None
+}
+
+/// Where the byte stands first in 16 to 32 bytes: the first 16 are looked at, and then the last 16.
+#[inline(always)]
+fn place_by_16(byte: u8, bytes: &[u8]) -> Option<usize>
+    requires length { (16 ≤ length bytes.now) × (length bytes.now ≤ 32) }
+    ensures place { result ≡ position (λ b. b == byte) bytes.now }
+{
+    let first = before_in_16(byte, bytes, 0);
+    if first < 16 {
+        return Some(first);
+    }
+    let last = before_in_16(byte, bytes, bytes.len() - 16);
+    if last < 16 {
+        return Some(bytes.len() - 16 + last);
+    }
+    None
+}
+
+/// Where the byte stands first in more bytes: twice 16 are looked at, and then all.
+#[inline(always)]
+fn place_in_many(byte: u8, bytes: &[u8]) -> Option<usize>
+    requires length { 32 < length bytes.now }
+    ensures place { result ≡ position (λ b. b == byte) bytes.now }
+{
+    let first = before_in_16(byte, bytes, 0);
+    if first < 16 {
+        return Some(first);
+    }
+    let next = before_in_16(byte, bytes, 16);
+    if next < 16 {
+        return Some(16 + next);
+    }
+    memchr(byte, bytes)
+}
+
+/// Where the byte stands first. Words and lines are short: so 8 or 16 bytes are looked at together, where
+/// `memchr` looks at fewer than 32 one by one.
 pub fn place_of(byte: u8, bytes: &[u8]) -> Option<usize>
     ensures { result ≡ position (λ b. b == byte) bytes.now }
 {
-    memchr(byte, bytes)
+    match bytes.len() {
+        0..=7 => memchr(byte, bytes),
+        8..=15 => place_by_8(byte, bytes),
+        16..=32 => place_by_16(byte, bytes),
+        _ => place_in_many(byte, bytes),
+    }
 }

@@ -1,5 +1,5 @@
-use Rattle.std.proofs.Common.{◌≡◌, ◌∙◌, sym}
-use Rattle.kf_script.proofs.Running.{answered-long, answered-line, kept_some}
+use Rattle.std.proofs.Common.{◌≡◌}
+use Rattle.kf_script.proofs.Running.{answered-long, kept_some}
 use Rattle.kf_script.proofs.script.end_line.Goals as goal
 
 pub returns-in_default-clause-answered : goal.returns-in_default-clause-answered
@@ -8,7 +8,5 @@ returns-in_default-clause-answered g c = λ bytes kept.
 
 pub returns-clause-answered : goal.returns-clause-answered
 returns-clause-answered g c = λ bytes kept.
-    let line = c.in-Some.bytes.now in
-    let same : line ≡ bytes = kept_some bytes line (rw c.in-Some.is at kept) in
-    let (starved, answered) = c.answer_line.ensures in
-    rw (← same) (answered-line _ _ _ line _ starved _ _ c.write_line-2.result (sym c.is_empty.ensures ∙ c.if-is_empty.false) answered c.write_line-2.ensures.written)
+    let same : c.in-Some.bytes.now ≡ bytes = kept_some bytes c.in-Some.bytes.now (rw c.in-Some.is at kept) in
+    rw (← same) c.end_whole.ensures.answered
