@@ -1,3 +1,3 @@
 pub mod Openings
 pub mod Places
-pub mod Telling
+pub mod Told

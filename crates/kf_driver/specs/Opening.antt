@@ -1,5 +1,5 @@
 -- A file that is opened by its path, and a notify by name.
-use Rattle.std.specs.Prelude.{◌≡◌, ◌⊎◌, ◌+◌, ◌<◌, ◌≤◌, ℕ, List, true, false, Option, None, Some, Ok, Err, Result, MatchResult}
+use Rattle.std.specs.Prelude.{◌≡◌, ◌⊎◌, ◌+◌, ◌-◌, ◌^◌, ◌<◌, ◌≤◌, ℕ, List, true, false, Option, None, Some, Ok, Err, Result, MatchResult}
 use Rattle.std.specs.Option.{option_map}
 use Rattle.kf_core.specs.declared.key.Key.{Key}
 use Rattle.kf_core.specs.declared.key.Node.{Node}
@@ -55,10 +55,6 @@ abbrev pub PostRefused : ℕ → ℕ → Refusal → Type 0
 PostRefused slots slot refusal =
     ((refusal ≡ NoSpace) × (slots ≤ slot)) ⊎ ((refusal ≡ NoMemory) × (slot < slots))
 
--- why the slot's number is not raised: there is no post, or the number is the last that there is
-abbrev pub NotifyRefused : ℕ → ℕ → Refusal → Type 0
-NotifyRefused slots slot refusal = PostRefused slots slot refusal ⊎ ((refusal ≡ NoSpace) × (slot < slots))
-
 -- why a file is not opened: it is not live, or its mode denies what is wanted
 abbrev pub NotOpened : ℕ → Want → Refusal → Type 0
 NotOpened mode want refusal = (refusal ≡ NoDevice) ⊎ ((refusal ≡ Access) × (allows mode want ≡ false))
@@ -80,16 +76,26 @@ abbrev pub OpenRefused : Locked → MasterView → ℕ → List ℕ → Want →
 OpenRefused s m' slots path want refusal = FileRefused s m' slots want
     (file_at s.state.tree (seen s.state.tree s.state.root path)) refusal
 
--- The post is of these numbers and of the slot of the file at the place. Its second load found a number not
--- below the one that each slot had at first, and its third step, a raise, made the next, which is this.
-pub record Notified (t : Tree) (place : Result Key Refusal) (numbers : Numbers) (number : ℕ)
+-- the post is of these numbers and of the slot of the file at the place, and what its last load found is not
+-- below the number that each slot had at first
+pub record Notified (t : Tree) (place : Result Key Refusal) (numbers : Numbers)
     (post : PostState) : Type 0 where
   pub key : Key
   pub named : file_at t place ≡ Ok key
   pub numbers_are : post.numbers ≡ id_of numbers
   pub slot_is : post.slot ≡ key.slot
   pub no_less : numbers.start ≤ post.found
+
+-- the post's second load found a number, and its third step, a raise, made the next, which is this
+pub record RaisedTo (number : ℕ) (post : PostState) : Type 0 where
   pub one_more : number ≡ post.found + 1
   pub made : post.made ≡ number
   pub known : post.known ≡ number
   pub three_steps : post.steps ≡ 3
+
+-- the post's second load, its last step, found the last number that there is, 2^64 - 1; it has raised none
+pub record FoundLast (post : PostState) : Type 0 where
+  pub found : post.found ≡ 2 ^ 64 - 1
+  pub known : post.known ≡ 2 ^ 64 - 1
+  pub none_made : post.made ≡ 0
+  pub two_steps : post.steps ≡ 2

@@ -4,11 +4,11 @@ ghost use Rattle.kf_core.specs.declared.key.Node.TheVariants.{File};
 ghost use Rattle.kf_files.specs.Files.{new_file, allows};
 ghost use Rattle.kf_notify.specs.PostStates.{IsNewPost};
 ghost use Rattle.kf_tree.specs.Paths.{found};
-ghost use Rattle.kf_driver.specs.Opening.{file_at, IsPostAt, OpenedAt, OpenRefused, PostRefused, NotifyRefused, NotOpened, Notified};
+ghost use Rattle.kf_driver.specs.Opening.{file_at, IsPostAt, OpenedAt, OpenRefused, PostRefused, NotOpened, Notified, RaisedTo, FoundLast};
 
 use kf_core::{Key, Node, Refusal};
 use kf_files::{WaitingFile, Want};
-use kf_notify::{Post, Posts};
+use kf_notify::{Full, Post, Posts};
 use kf_shared::{Editor, Naming};
 use kf_tree::State;
 use kf_words::Hold;
@@ -115,29 +115,32 @@ pub fn post_of(state: &State, posts: &mut Posts, dir: Key, name: &[u8]) -> Resul
 }
 
 /// Tells who polls the file of this name in a directory that it has changed (`sysfs_notify`), and answers its
-/// slot's new event number and the post that made it.
+/// slot's new event number and the post that made it. `Full` in place of a number where the post found the
+/// last that there is, 2^64 - 1, and then none was raised.
 ///
 /// A driver that notifies often takes a post by [`post_of`], or keeps this one, and calls [`Post::notify`].
 ///
 /// Refusals, in order: those of [`State::find`]; IsDir (a directory), Invalid (a link); NoSpace (the posts
-/// have no number for the slot), NoMemory; NoSpace (its number is the last that there is). After a refusal no
-/// number was raised.
+/// have no number for the slot), NoMemory. After a refusal no number was raised.
+#[tactic(auto, using(crate::proofs::Told::told, crate::proofs::Told::raised, crate::proofs::Told::last))]
 pub fn notify(
     state: &State,
     posts: &mut Posts,
     dir: Key,
     name: &[u8],
-) -> Result<(u64, Post), Refusal>
+) -> Result<(Result<u64, Full>, Post), Refusal>
     ensures told { IfOk result
-        (λ answer. Notified state.now.tree (found state.now.tree dir name.now) posts.old answer.0 answer.1) }
+        (λ answer. Notified state.now.tree (found state.now.tree dir name.now) posts.old answer.1) }
+    ensures raised { IfOk result (λ answer. IfOk answer.0 (λ number. RaisedTo number answer.1)) }
+    ensures full { IfOk result (λ answer. IfErr answer.0 (λ _. FoundLast answer.1)) }
     ensures refused { IfErr result (λ refusal.
         MatchResult (file_at state.now.tree (found state.now.tree dir name.now))
-        (λ key. NotifyRefused posts.old.slots key.slot refusal) (λ why. refusal ≡ why)) }
+        (λ key. PostRefused posts.old.slots key.slot refusal) (λ why. refusal ≡ why)) }
     ensures posts { posts.new ≡ posts.old }
 {
     let place = state.find(dir, name)?;
     let key = only_file(state, place)?;
     let mut post = slot_post(posts, key.slot)?;
-    let number = post.notify().ok().ok_or(Refusal::NoSpace)?;
+    let number = post.notify();
     Ok((number, post))
 }
