@@ -163,8 +163,8 @@ fn make_others(place: &mut Option<Hold>, count: &AtomicU64) {
 fn two_make_others<R: Abort + Threads + Sync>(rt: &R, alloc: Global) {
     let mut master = made(rt, alloc, 2, 8, 0);
     let key = born(rt, &mut master, 1, 1);
-    let first = pin(rt, &mut master, key);
     let mut holds = pins(rt, alloc, &mut master, key, 2);
+    let first = pin(rt, &mut master, key);
     let count = AtomicU64::new(0);
     for_each_mut(
         rt,
