@@ -345,7 +345,8 @@ pub extern "C" fn kt_event(post: &mut KtHandle, out: &mut u64) -> i32
     kf_handles::number(post, out)
 }
 
-/// Another hold of a hold's node, in the tree or gone, behind a handle with nothing behind it. It needs no tree.
+/// Another hold of a hold's node, in the tree or gone, behind a handle with nothing behind it. It needs no
+/// tree.
 #[unsafe(no_mangle)]
 pub extern "C" fn kt_dup(hold: &mut KtHandle, out: &mut KtHandle) -> i32
     ensures another { result ≡ pos 0 → GaveAnother hold.old.place.seat hold.new.place.seat out.new.place.seat

@@ -23,8 +23,9 @@ impl<'a, R: Wait> Notifier<'a, R> {
         }
     }
 
-    /// Raises the slot's event number, and answers it. `Full` where it is the last that there is. The post behind
-    /// the lock is as the last thread left it; of one's own post [`Post::notify`] tells the number by contract.
+    /// Raises the slot's event number, and answers it. `Full` where it is the last that there is. The post
+    /// behind the lock is as the last thread left it; of one's own post [`Post::notify`] tells the number by
+    /// contract.
     ///
     /// Context: takes the lock of the post.
     pub fn notify(&self) -> Result<u64, Full> {
