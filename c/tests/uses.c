@@ -265,8 +265,8 @@ static void doubles(void)
     TRY(kt_dup(&other, &third), -EINVAL); /* a call is no hold */
     TRY(kt_enter(&hold), 0);
     TRY(kt_remove(&small, file), -EAGAIN);
-    TRY(kt_leave(&hold), 1);
-    TRY(kt_remove(&small, file), -EAGAIN); /* the other one is inside */
+    TRY(kt_leave(&hold), 0); /* the other one is inside */
+    TRY(kt_remove(&small, file), -EAGAIN);
     TRY(kt_clear(&hold), 0);
     TRY(kt_leave(&other), 1);
     TRY(kt_dup(&other, &hold), 0); /* it is being removed */
