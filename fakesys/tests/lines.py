@@ -83,9 +83,9 @@ def binary_files(mount):
         mount.done("fail /config 0", "set /config short")
         must(os.pread(file, 99, 0) == b"short\n" == read_path(path), "a text again")
         must(os.stat(path).st_size == 4096, "with a text's size")
-        mount.done("set /config " + "a" * 5000 + "\\c", "slow /config 300")
+        mount.done("set /config " + "a" * 5000 + "\\c", "slow /config 2000")
         reader = Beside(os.pread, file, 9999, 4000)
-        time.sleep(0.1)
+        time.sleep(0.6)
         begun = time.monotonic()
         mount.done("rm /config")
         must(time.monotonic() - begun > 0.1 and reader.given() == b"a" * 1000, "a removal waits for a part")
@@ -168,13 +168,13 @@ def hidden(mount):
     """A hidden file is not found or listed, and who has it open has ENODEV, after its reader has left; then
     it is shown again."""
     path, waiting = "/devices/fan0/speed", select.poll()
-    mount.done(f"slow {path} 500")
+    mount.done(f"slow {path} 2000")
     with mount.opened(path, os.O_RDWR) as file, mount.opened(path) as other:
         os.pread(other, 9, 0)
         waiting.register(other, EVENTS)
         reader = Beside(os.pread, file, 9, 0)
-        time.sleep(0.15)
-        poller = Beside(waiting.poll, 2000)
+        time.sleep(0.6)
+        poller = Beside(waiting.poll, 6000)
         hider = Beside(mount.done, f"hide {path}")
         must(poller.given(), "a poll is woken while hide waits")
         must(
@@ -218,11 +218,11 @@ def unplugged(mount):
         "refusals",
     )
     must(sorted(os.listdir(mount.path("/bus"))) == ["again", "fan0", "fan1", "speed"], "which change nothing")
-    mount.done("slow /devices/fan0/speed 500")
+    mount.done("slow /devices/fan0/speed 2000")
     reader = Beside(read_path, mount.path("/devices/fan0/speed"))
-    time.sleep(0.2)
+    time.sleep(0.6)
     remover = Beside(mount.done, "unplug /devices/fan0")
-    time.sleep(0.1)
+    time.sleep(0.4)
     must(
         sorted(os.listdir(mount.path("/bus"))) == ["again", "fan1"] and not remover.ended,
         "the links go at once",

@@ -7,16 +7,16 @@ from mounted import EVENTS, PATIENCE, Beside, error_of, must, read_path
 def removal(mount):
     """A reader is inside its show while the directory is removed: rm answers when it has left; the others
     have ENODEV."""
-    mount.done("slow /devices/fan0/speed 900")
+    mount.done("slow /devices/fan0/speed 2500")
     with mount.opened("/devices/fan0/limit", os.O_RDWR) as limit, mount.opened(
         "/devices/fan0/speed"
     ) as speed:
         must(os.read(limit, 2) == b"30", "a file that is read before")
         begun = time.monotonic()
         reader = Beside(read_path, mount.path("/class/cooling/speed"))
-        time.sleep(0.25)
+        time.sleep(0.6)
         remover = Beside(mount.done, "rm /devices/fan0")
-        time.sleep(0.15)
+        time.sleep(0.4)
         must(
             error_of(os.stat, mount.path("/devices/fan0/speed")) == errno.ENOENT,
             "the name is gone while rm waits",
@@ -25,8 +25,8 @@ def removal(mount):
         must(mount.ask("mkdir /devices/fan0/a", "mkdir /other") == ["err NoEntry 2", "ok"], "others go on")
         must(not remover.ended and not reader.ended, "rm waits for the reader")
         must(reader.given() == b"1200\n", "the reader has its text")
-        remover.given(2)
-        must(remover.ended >= begun + 0.9, "rm answered before the show was over")
+        remover.given()
+        must(remover.ended >= begun + 2.5, "rm answered before the show was over")
         must(error_of(os.pwrite, limit, b"1", 0) == errno.ENODEV, "a write has ENODEV")
         must(error_of(os.pread, speed, 99, 0) == errno.ENODEV, "an open file has ENODEV after")
         must(stat.S_ISREG(os.fstat(speed).st_mode) and os.fstat(speed).st_size == 4096, "fstat goes on")
@@ -39,14 +39,14 @@ def removal(mount):
 
 def side_by_side(mount):
     """Four readers are inside their shows at one time, of one file and of two."""
-    mount.done("slow /devices/fan0/speed 600", "slow /devices/fan0/limit 600")
+    mount.done("slow /devices/fan0/speed 2000", "slow /devices/fan0/limit 2000")
     begun = time.monotonic()
     readers = [
         Beside(read_path, mount.path(f"/devices/fan0/{name}"))
         for name in ("speed", "speed", "speed", "limit")
     ]
     must(sorted(it.given() for it in readers) == [b"1200\n"] * 3 + [b"3000\n"], "each has its text")
-    must(time.monotonic() - begun < 1.8, "they wait for one another: %.2f s" % (time.monotonic() - begun))
+    must(time.monotonic() - begun < 6, "they wait for one another: %.2f s" % (time.monotonic() - begun))
 
 
 def polled(mount):
@@ -61,19 +61,19 @@ def polled(mount):
         os.pwrite(file, b"5", 0)
         must(not waiting.poll(0) and os.pread(file, 99, 0) == b"5\n", "a write tells nobody")
         for line in ("notify /devices/fan0/speed", "rm /devices/fan0"):
-            reader = Beside(waiting.poll, 2000)
-            time.sleep(0.1)
+            reader = Beside(waiting.poll, 6000)
+            time.sleep(0.2)
             must(not reader.ended, "poll waits")
             begun = time.monotonic()
             mount.done(line)
-            must(reader.given() and reader.ended - begun < 1.8, f"poll is woken by {line}")
+            must(reader.given() and reader.ended - begun < 5, f"poll is woken by {line}")
             must(error_of(os.pread, file, 99, 0) == (errno.ENODEV if line[0] == "r" else 0), line)
         must(waiting.poll(0), "it is changed after a removal")
-    mount.done("mkdir /d", "file /d/a 444 a", "file /d/b 444 b", "slow /d/a 700")
+    mount.done("mkdir /d", "file /d/a 444 a", "file /d/b 444 b", "slow /d/a 2000")
     with mount.opened("/d/a") as file:
         waiting.register(file, EVENTS)
         reader = Beside(os.pread, file, 99, 0)
-        time.sleep(0.2)
+        time.sleep(0.6)
         mount.done("notify /d/a")
         must(reader.given() == b"a\n" and waiting.poll(0), "a notify during the show is not missed")
         waiting.unregister(file)
@@ -81,8 +81,8 @@ def polled(mount):
         os.pread(file, 99, 0)
         waiting = select.poll()
         waiting.register(file, EVENTS)
-        reader, poller = Beside(read_path, mount.path("/d/a")), Beside(waiting.poll, 2000)
-        time.sleep(0.15)
+        reader, poller = Beside(read_path, mount.path("/d/a")), Beside(waiting.poll, 6000)
+        time.sleep(0.6)
         remover = Beside(mount.done, "rm /d")
         must(poller.given() and reader.given() == b"a\n", "poll is woken, and the reader has its text")
         remover.given()
@@ -145,11 +145,11 @@ def moved(mount):
 
 def polled_beside_a_show(mount):
     """poll(2) and select(2) answer at once while another thread is inside a show by the same descriptor."""
-    mount.done("slow /devices/fan0/speed 900")
+    mount.done("slow /devices/fan0/speed 3000")
     with mount.opened("/devices/fan0/speed", os.O_RDWR) as file:
         os.pread(file, 99, 0)
         reader = Beside(os.pread, file, 99, 0)
-        time.sleep(0.2)
+        time.sleep(0.6)
         begun = time.monotonic()
         waiting = select.poll()
         waiting.register(file, EVENTS)
@@ -158,7 +158,7 @@ def polled_beside_a_show(mount):
         must(waiting.poll(0), "a notify is seen")
         must(select.select([], [], [file], 0)[2], "by select(2) too")
         must(
-            time.monotonic() - begun < 0.5 and not reader.ended,
+            time.monotonic() - begun < 2 and not reader.ended,
             "it waits for the show: %.2f s" % (time.monotonic() - begun),
         )
         must(reader.given() == b"1200\n", "the reader has its text")
@@ -166,26 +166,36 @@ def polled_beside_a_show(mount):
 
 def many_threads(mount):
     """300 readers are inside shows at one time: all others go on, and a removal waits for each of them."""
-    mount.done("slow /devices/fan0/speed 6000")
-    readers = [Beside(read_path, mount.path("/devices/fan0/speed")) for _ in range(300)]
-    time.sleep(1.5)
+    mount.done("slow /devices/fan0/speed 12000")
+    begun = []
+
+    def read():
+        with mount.opened("/devices/fan0/speed") as file:
+            begun.append(time.monotonic())
+            return os.pread(file, 99, 0)
+
+    readers = [Beside(read) for _ in range(300)]
+    while len(begun) < len(readers) and not any(it.error for it in readers):
+        time.sleep(0.05)
+    time.sleep(2)
     must(read_path(mount.path("/devices/fan0/limit")) == b"3000\n", "another file is read")
     mount.done("mkdir /other")
-    must(not any(it.ended for it in readers), "others wait for them")
+    # (on a busy machine the first ones have their texts before the last ones begin)
+    must(sum(not it.ended for it in readers) > 150, "others wait for them")
     remover = Beside(mount.done, "rm /devices/fan0")
-    must([it.given() for it in readers] == [b"1200\n"] * 300, "each has its text")
+    must([it.given(3 * PATIENCE) for it in readers] == [b"1200\n"] * 300, "each has its text")
     remover.given()
-    must(remover.ended >= max(it.ended for it in readers) - 0.5, "rm waits for the last")
+    must(remover.ended >= max(begun) + 12, "rm waits for the last")
 
 
 def ended(mount):
     """It is ended by a signal while a show sleeps and a file is open: the reader has its text, nothing
     stays behind."""
-    mount.done("slow /devices/fan0/speed 500")
+    mount.done("slow /devices/fan0/speed 2000")
     file = os.open(mount.path("/devices/fan0/limit"), os.O_RDONLY)
     try:
         reader = Beside(read_path, mount.path("/devices/fan0/speed"))
-        time.sleep(0.2)
+        time.sleep(0.6)
         mount.process.terminate()
         must(mount.process.wait(PATIENCE) == 0, "its status")
         must(reader.given() == b"1200\n", "the reader has its text")
