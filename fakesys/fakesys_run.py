@@ -213,7 +213,7 @@ def remove_afterwards(folder):
 def start_daemon(options, place, said):
     """Mounts the description of a run. What the daemon says goes to a file, where one is given."""
     name = options.description if os.path.isfile(options.description) else None  # what is a pipe was read
-    words = ["-o", "allow_other"] + (["--slots", str(options.slots)] if options.slots else [])
+    words = ["-o", "allow_other"] + (["--slots", str(options.slots)] if options.slots is not None else [])
     try:
         return fakesys.start_daemon(options.text, place.at, words, name, said)
     except FileNotFoundError:
@@ -331,6 +331,8 @@ def check_fuse():
 
 def run(options):
     """`fakesys [OPTIONS] DESCRIPTION COMMAND ..`: the status."""
+    if options.timeline == options.description == "-":
+        raise Refused("standard input cannot be both, the description and the timeline")
     options.text = read_text(options.description)
     lines = read_timeline(options.timeline) if options.timeline else []
     return with_tree(options, lambda place: run_command(options, lines, place))
