@@ -108,7 +108,10 @@ fn run<N: Naming + Send + Sync, R: Threads + Wait + Print + Sync>(
     let mut first = open_path(&mut editor, &mut posts, b"/hwmon0/temp1_max", wanted)?;
     let mut second = open_path(&mut editor, &mut posts, b"/hwmon0/temp1_max", wanted)?;
     let mut limit = open_path(&mut editor, &mut posts, b"/hwmon0/temp1_max", wanted)?;
-    let (event, _) = notify(editor.state(), &mut posts, device, b"temp1_max")?;
+    let (raised, _) = notify(editor.state(), &mut posts, device, b"temp1_max")?;
+    let event = raised
+        .ok()
+        .context("the number before was not the last one")?;
     drop(editor);
     let ((one, other), removed) = join(
         rt,
