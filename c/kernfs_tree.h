@@ -43,8 +43,7 @@
  *
  * kt_live.h does all this for devices and their attributes.
  *
- * What is proved, for all inputs, stands beside each call in crates/kernfs_tree/src, in calls.rt, task_calls.rt and
- * file_calls.rt:
+ * What is proved, for all inputs, stands beside each call in crates/kernfs_tree/src:
  * - 0 only where the thing was done, as the tree defines it: the node linked, found, moved, held, activated, out of
  *   the tree; the hold let in while its node was live, the call left, broken, restored; the event number raised.
  *   kt_leave() and kt_break() answer 1 exactly where a removal or a hiding may be waiting for that step; kt_clear()

@@ -1,4 +1,5 @@
-//! The calls of a program. Each answers 0 or more, or a Linux error number below 0, and then nothing changed.
+//! The calls on handles, trees and event numbers. Each answers 0 or more, or a Linux error number below 0,
+//! and then nothing changed.
 ghost use Rattle.std.specs.Prelude.{◌≡◌, ◌≢◌, ◌⊎◌, ◌<◌, ◌≤◌, pos, negsuc, true, false, IfSome, IsSome};
 ghost use Rattle.kf_core.specs.declared.key.Node.TheVariants as kind;
 ghost use Rattle.kf_handles.specs.declared.object.Object.TheVariants as behind;
@@ -8,8 +9,7 @@ ghost use Rattle.kf_handles.specs.Answers.{IsAsBefore, ToldWhy};
 ghost use Rattle.kf_handles.specs.Calls.{AreLimits, key_in, CreatedIn, IsNewTree, HoldsNode, ActivatedIn, MovedIn, CompactedIn, IsNothing, is_nothing};
 ghost use Rattle.kf_handles.specs.LookUps.{find_behind, parent_behind, root_behind, stat_behind, walk_behind, IsRefusal, LinkTextIn, LinkTextRefused, NameIn, NameRefused, NextIn, NextRefusedIn, PathIn, PathRefused, TellsCommands, TellsKey, TellsStat, TellsText};
 ghost use Rattle.kf_handles.specs.Numbers.{HasPostOf, IsSameTree, PostRefused, WasNotified, WasFull, TookNumber, IsNoPost, notify_error};
-ghost use Rattle.kf_handles.specs.Another.{GaveAnother, GaveNoOther, WhyNoOther};
-ghost use Rattle.kf_handles.specs.Steps.{WasEntered, WasRefused, WasLeft, WasBroken, WasRestored, HasNoReference, IsNotRunning, IsNotBroken, WakeOwed, enter_error, wake_of};
+ghost use Rattle.kf_handles.specs.Steps.{WakeOwed};
 
 use kf_core::{Key, Node};
 use kf_handles::{KtCommands, KtGiven, KtHandle, KtKey, KtStat, Question, key_of};
@@ -343,76 +343,4 @@ pub extern "C" fn kt_event(post: &mut KtHandle, out: &mut u64) -> i32
     ensures why { result ≢ pos 0 → (result ≡ negsuc 21) × IsNoPost post.old.place.object }
 {
     kf_handles::number(post, out)
-}
-
-/// Another hold of a hold's node, in the tree or gone, behind a handle with nothing behind it. It needs no
-/// tree.
-#[unsafe(no_mangle)]
-pub extern "C" fn kt_dup(hold: &mut KtHandle, out: &mut KtHandle) -> i32
-    ensures another { result ≡ pos 0 → GaveAnother hold.old.place.seat hold.new.place.seat out.new.place.seat
-        × (out.new.place.object ≡ behind.Empty) }
-    ensures taken { is_nothing out.old.place ≡ false → result ≡ negsuc 21 }
-    ensures was { result ≡ pos 0 → IsNothing out.old.place }
-    ensures none { result ≢ pos 0 → is_nothing out.old.place ≡ true →
-        GaveNoOther hold.old.place.seat hold.new.place.seat }
-    ensures same { result ≢ pos 0 → out.new.place ≡ out.old.place }
-    ensures kept { is_nothing out.old.place ≡ false → hold.new.place ≡ hold.old.place }
-    ensures beside { hold.new.place.object ≡ hold.old.place.object }
-    ensures why { is_nothing out.old.place ≡ true → result ≢ pos 0 →
-        WhyNoOther hold.old.place.seat hold.new.place.seat result }
-{
-    kf_handles::dup(hold, out)
-}
-
-/// Tries for an active reference (`kernfs_get_active`): 0, or -ENODEV where the node is not live.
-#[unsafe(no_mangle)]
-pub extern "C" fn kt_enter(hold: &mut KtHandle) -> i32
-    ensures entered { result ≡ pos 0 → WasEntered hold.old.place.seat hold.new.place.seat }
-    ensures refused { result ≢ pos 0 → WasRefused hold.old.place.seat hold.new.place.seat }
-    ensures why { result ≢ pos 0 → result ≡ enter_error hold.old.place.seat }
-    ensures beside { hold.new.place.object ≡ hold.old.place.object }
-{
-    kf_handles::enter(hold)
-}
-
-/// Gives the reference back (`kernfs_put_active`): 0, or 1 where a removal or a hiding may wait for
-/// that.
-#[unsafe(no_mangle)]
-pub extern "C" fn kt_leave(call: &mut KtHandle) -> i32
-    ensures left { (result ≡ pos 0) ⊎ (result ≡ pos 1) →
-        WasLeft call.old.place.seat call.new.place.seat }
-    ensures owed { (result ≡ pos 0) ⊎ (result ≡ pos 1) → result ≡ wake_of call.new.place.seat }
-    ensures same { result ≢ pos 0 → result ≢ pos 1 → call.new.place.seat ≡ call.old.place.seat }
-    ensures why { result ≢ pos 0 → result ≢ pos 1 →
-        (result ≡ negsuc 21) × HasNoReference call.old.place.seat }
-    ensures beside { call.new.place.object ≡ call.old.place.object }
-{
-    kf_handles::leave(call)
-}
-
-/// Gives the reference up inside the callback (`kernfs_break_active_protection`): 0, or 1 where a removal
-/// or a hiding may wait for that.
-#[unsafe(no_mangle)]
-pub extern "C" fn kt_break(call: &mut KtHandle) -> i32
-    ensures broken { (result ≡ pos 0) ⊎ (result ≡ pos 1) →
-        WasBroken call.old.place.seat call.new.place.seat }
-    ensures owed { (result ≡ pos 0) ⊎ (result ≡ pos 1) → result ≡ wake_of call.new.place.seat }
-    ensures same { result ≢ pos 0 → result ≢ pos 1 → call.new.place.seat ≡ call.old.place.seat }
-    ensures why { result ≢ pos 0 → result ≢ pos 1 →
-        (result ≡ negsuc 21) × IsNotRunning call.old.place.seat }
-    ensures beside { call.new.place.object ≡ call.old.place.object }
-{
-    kf_handles::break_off(call)
-}
-
-/// Takes a reference again (`kernfs_unbreak_active_protection`).
-#[unsafe(no_mangle)]
-pub extern "C" fn kt_restore(call: &mut KtHandle) -> i32
-    ensures restored { result ≡ pos 0 → WasRestored call.old.place.seat call.new.place.seat }
-    ensures same { result ≢ pos 0 → call.new.place.seat ≡ call.old.place.seat }
-    ensures why { result ≢ pos 0 →
-        (result ≡ negsuc 21) × IsNotBroken call.old.place.seat }
-    ensures beside { call.new.place.object ≡ call.old.place.object }
-{
-    kf_handles::restore(call)
 }
