@@ -32,3 +32,4 @@ pub mod Histories
 pub mod Tokens
 pub mod Crossing
 pub mod Led
+pub mod OneStep

@@ -1,10 +1,10 @@
 -- Each step of the table as a whole keeps the rule, and is an event of the world or none.
-use Rattle.std.proofs.Common.{◌≡◌, ◌⊎◌, inl, inr, ℕ, zero, suc, ◌+◌, ◌<◌, true, false, List, [], ◌∷◌, ◌++◌, map, length, set, refl, sym, ap, ◌∙◌, subst, ⊎_elim, arith}
+use Rattle.std.proofs.Common.{◌≡◌, ◌⊎◌, inl, inr, ℕ, suc, ◌+◌, ◌<◌, true, false, List, [], ◌∷◌, ◌++◌, map, length, set, refl, sym, ap, ◌∙◌, subst, ⊎_elim, arith}
 use Rattle.std.specs.Prelude.{slice_get, slice_index, Option, Some, None, is_some}
 use Rattle.std.proofs.lemmas.Option.{same_Some, get_or_from_slice_get}
-use mathlib.Core.Option.{some, none, some-ne-none, some-injective}
+use mathlib.Core.Option.{some, none}
 use lib.ListN.{get_elem?}
-use Rattle.atomic_table.specs.Table.{Allows, step, stepped, keeps, carried_after}
+use Rattle.atomic_table.specs.Table.{Allows, step, stepped, keeps}
 use Rattle.kf_core.specs.declared.key.Key.{Key}
 use Rattle.kf_core.specs.declared.key.Node.TheVariants.{Dir}
 use Rattle.kf_core.specs.declared.event.Event.TheVariants.{Born, Rise, Mark, Pin, Enter, Leave, Break, Restore, Look, Part, Hide, LookHidden, Show, Release, Undo}
@@ -25,9 +25,9 @@ use Rattle.kf_words.specs.declared.view.View.{View}
 use Rattle.kf_words.specs.declared.view.View.TheVariants as seat
 use Rattle.kf_words.specs.Layout.{bit, bias, doom, hide, linked, one_generation, active_index, hold_index, sleepers_index, slot_of, is_drained, has_hide, is_unused, has_linked, HasSpare}
 use Rattle.kf_words.specs.Rule.{Shows, Shown, seats, bare_world, caller, last_key}
-use Rattle.kf_words.specs.Steps.{Seated, caller_of, no_state, state_at, after_try, after_undo, after_leave, after_break, after_restore, after_look, after_part, after_hide, after_look_hidden, after_show, after_release, after_miss, after_count, after_share, unmoved, after_split, new_hold, hold_for, with_load, with_pin, without_pin, after_store, with_birth, with_marks, activated_marks, doomed_marks, with_look, without_node, unread, CallerBecomes, On, MasterBecomes, LoadsHold, ShowsKey}
+use Rattle.kf_words.specs.Steps.{Seated, no_state, state_at, after_try, after_undo, after_leave, after_break, after_restore, after_look, after_part, after_hide, after_look_hidden, after_show, after_release, after_miss, after_count, after_share, unmoved, after_split, new_hold, hold_for, with_load, with_pin, without_pin, after_store, with_birth, with_marks, activated_marks, doomed_marks, with_look, without_node, unread, CallerBecomes, On, MasterBecomes, LoadsHold, ShowsKey}
 use Rattle.kf_words.specs.Nodes.{marks_of}
-use Rattle.kf_words.specs.TableSteps.{Table, StepKind, tries, undoes, leaves, breaks, restores, looks, parts, hides, looks_hidden, shows, releases, misses, counts, shares, sleeps, awakes, loads_hold, pins_hold, unpins_hold, splits, stores_fresh, births, takes_bias, marks_node, looks_over, unlinks, plus, minus, same, with_hide, master_in, callers_in, world, IsSeated, HoldsSlot, MayCount, WordStep}
+use Rattle.kf_words.specs.TableSteps.{Table, StepKind, tries, undoes, leaves, breaks, restores, looks, parts, hides, looks_hidden, shows, releases, misses, counts, shares, sleeps, awakes, loads_hold, pins_hold, unpins_hold, splits, stores_fresh, births, takes_bias, marks_node, looks_over, unlinks, plus, minus, same, with_hide, master_in, world, IsSeated, HoldsSlot, MayCount, WordStep}
 use Rattle.kf_words.proofs.Bits.{bool_cases, waiting_is}
 use Rattle.kf_words.proofs.Seating.{caller_seat, master_seat, seats-set, seats-push}
 use Rattle.kf_words.proofs.CallerAllowed.{no_step, try_allowed, undo_allowed, leave_allowed, break_allowed, restore_allowed, look_allowed, release_allowed, part_allowed, miss_allowed, hide_allowed, look_hidden_allowed, show_allowed}
@@ -36,56 +36,11 @@ use Rattle.kf_words.proofs.Sharing.{share_kept}
 use Rattle.kf_words.proofs.Sleepers.{put_same, sleep_allowed}
 use Rattle.kf_words.proofs.MasterAllowed.{active_slot, hold_slot, hold_allows, pin_owes, unpin_owes, birth_owes, unlink_owes, splits as splits_shown, state_there, look_allowed as look_over_allowed, fresh_allowed, load_allowed, rise_allowed, mark_allowed}
 use Rattle.kf_words.proofs.Events.{try_is_enter, undo_is_undo, look_is_look, part_is_part, leave_is_leave, break_is_break, restore_is_restore, release_is_release, hide_is_hide, look_hidden_is_look, show_is_show, miss_is_nothing, rise_is_rise, mark_is_mark, birth_is_born, split_is_pin, share_is_pin}
-pub use Rattle.kf_words.proofs.Led.{TakenOut, Came, Alone, IsEvent, Led}
+use Rattle.kf_words.proofs.Led.{Led}
 use Rattle.kf_words.proofs.Led.{happens}
-
--- the rule holds after the step, and the worlds are led
-abbrev Goes : StepKind → ℕ → ℕ → Table → Table → Type 0
-Goes kind slots limit t t' = Shown slots limit t' × Led kind (world t) (world t')
-
-pub at_seat : (cs : List CallerView) (j : ℕ) (c : CallerView) → get_elem? (map seat.Caller cs) j ≡ some (seat.Caller c) → slice_get cs j ≡ Some c
-at_seat [] j c e = absurd (some-ne-none (seat.Caller c) (sym e))
-at_seat (x ∷ xs) zero c e = let is : seat.Caller x ≡ seat.Caller c = some-injective _ _ e in let one : x ≡ c = cc in ap Some one
-at_seat (x ∷ xs) (suc j) c e = at_seat xs j c e
-
-pub in_world : (cs : List CallerView) (j : ℕ) (c : CallerView) → slice_get cs j ≡ Some c → slice_get (map caller cs) j ≡ Some (caller c)
-in_world [] j c e = absurd (let x : None ≡ Some c = e in cc)
-in_world (x ∷ xs) zero c e = ap (λ (y : CallerView). Some (caller y)) (same_Some x c e)
-in_world (x ∷ xs) (suc j) c e = in_world xs j c e
-
-callers_back : (cs : List CallerView) → map caller_of (map seat.Caller cs) ≡ cs
-callers_back [] = refl
-callers_back (c ∷ cs) = ap (λ (l : List CallerView). c ∷ l) (callers_back cs)
-
--- the world of a table, by the views that the rule names
-pub world_is : (t : Table) (m : MasterView) (cs : List CallerView) → t.views ≡ seats m cs → world t ≡ bare_world m cs
-world_is t m cs views = ap (λ (l : List View). bare_world (master_in l) (callers_in l)) views ∙ ap (bare_world m) (callers_back cs)
-
-led : (kind : StepKind) (t t' : Table) (w w' : BareWorld) → world t ≡ w → world t' ≡ w' → Led kind w w' → Led kind (world t) (world t')
-led kind t t' w w' is is' l = subst (λ (x : BareWorld). Led kind x (world t')) (sym is) (subst (λ (x : BareWorld). Led kind w x) (sym is') l)
-
-same_shown : (slots limit : ℕ) (s t : Table) → t.words ≡ s.words → t.views ≡ s.views → Shown slots limit s → Shown slots limit t
-same_shown slots limit s t words views h = record {
-  master = h.master;
-  callers = h.callers;
-  views = views ∙ h.views;
-  all_slots = h.all_slots;
-  most_holds = h.most_holds;
-  shows = subst (λ (l : List ℕ). Shows l h.master h.callers) (sym words) h.shows;
-}
-
--- what the table asks of each kind of step, for the one view that it tells
-by_play : (slots limit place word : ℕ) (f : ℕ → ℕ) (t t' : Table) (before after : View) (told : ℕ → Seated → Type 0)
-    → Allows (Shown slots limit) (length t.homes) place (before, []) word f told
-    → Shown slots limit t → get_elem? t.views place ≡ some before → slice_index t.words word < 18446744073709551616
-    → t' ≡ stepped t word (f (slice_index t.words word)) place [] after keeps
-    → ((me' : Seated) → told (slice_index t.words word) me' → me'.0 ≡ after) → Shown slots limit t'
-by_play slots limit place word f t t' before after told allowed h there fits becomes one =
-    let r = allowed t h refl there fits in
-    same_shown slots limit (stepped t word (f (slice_index t.words word)) place [] r.0 r.1) t'
-    (ap (λ (x : Table). x.words) becomes)
-    (ap (λ (x : Table). x.views) becomes ∙ ap (λ (v : View). set t.views place v) (sym (one (r.0, carried_after [] r.1) r.4)))
-    r.3
+pub use Rattle.kf_words.proofs.Led.{TakenOut, Came, Alone, IsEvent, Led}
+pub use Rattle.kf_words.proofs.OneStep.{at_seat, in_world, world_is}
+use Rattle.kf_words.proofs.OneStep.{Goes, led, by_play}
 
 -- a step of the caller of this number
 module _ (slots limit : ℕ) (t t' : Table) (h : Shown slots limit t) (j : ℕ) (c : CallerView) (there : IsSeated t j c) where

@@ -35,7 +35,8 @@ abbrev pub with_one_more : CallerView → CallerView
 with_one_more c = record c { pinning = true }
 
 -- the Master of two slots, with three holds at most, by what it knows of slot 1
-abbrev pub master_at : ℕ → Option Marks → Option ℕ → Option ℕ → List Load → List Load → Option Load → MasterView
+abbrev pub master_at : ℕ → Option Marks → Option ℕ → Option ℕ → List Load → List Load → Option Load
+    → MasterView
 master_at last marks pinning fresh loads at_birth looked = record {
   limit = 3;
   slots = record { generation = 1; marks = Some (with_marks_of true false) }
