@@ -5,6 +5,10 @@
 //!   `LineTags`.
 //! - `Number`, `Signed`, `Switch` and `Text` are callbacks ready to use; `ReadOnly(..)` takes the store off
 //!   any.
+//! - `BinaryRow` is a binary attribute with its size; `read_from_buffer` and `write_to_buffer` serve one that
+//!   lies in memory.
+//! - `open_path` opens the file that a path names. By its name in a directory `post_of` gives a file's post,
+//!   and `notify` raises its number.
 //! - `Notifier` is a post that callbacks may raise by `&`; `fault_of` makes the fault of a store that was
 //!   not read.
 //!

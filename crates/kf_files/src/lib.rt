@@ -1,8 +1,9 @@
 //! Open files of attributes: pages, the callbacks that show and store, and when a file has changed.
 //!
 //! - `WaitingFile` is a file over the words, for many threads: `open`, `read`, `write`, `poll`,
-//!   `wait_changed`, and `read_at`, `write_at` of binary attributes. Its callbacks are yours: a type with
-//!   `WaitOps` (`WaitBinaryOps`), which is lent the tree and the runtime, and answers bytes or a `Fault`.
+//!   `wait_changed` (`wait_changed_for` with a limit of time), and `read_at`, `write_at` of binary
+//!   attributes. Its callbacks are yours: a type with `WaitOps` (`WaitBinaryOps`), which is lent the tree and
+//!   the runtime, and answers bytes or a `Fault`.
 //! - `OpenFile` is the same over any `Guard`, for one owner, and `HeldFile` both without its event numbers.
 //! - A `Page` is 4,096 bytes; who opens many files lends pages of their own (`PageHolder`).
 //! - `remove_and_tell`, `hide_and_tell` remove or hide, and raise the numbers of what they marked, so that

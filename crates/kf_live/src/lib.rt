@@ -1,4 +1,14 @@
 //! The tree whose live names look-ups read: what its commands change, the words of `kf_looks` are told.
+//!
+//! - `LiveTree` is a `State` with those words: `new`, its commands under their names there, and `state` for
+//!   all that only looks. After each command the words say of the live nodes what the tree says.
+//! - `Looker` is for one thread beside the tree's owner. `LiveTree::looker` makes one, `another` one more of
+//!   it. `look` takes a path and answers key and node, as they were at one moment after all that it has
+//!   seen, or None: ask the owner. `again`, one load, tells whether that still stands.
+//!
+//! Begin with `looker.rt`. A caller shows what the commands of `State` ask, and at `again` that the sight is
+//! the last of this looker's `look`. A `SharedTree` that was made `with_looks` has such a tree behind its
+//! lock.
 #![tactic(auto)]
 
 mod laws;
