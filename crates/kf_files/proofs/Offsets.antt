@@ -5,7 +5,7 @@ use Rattle.kf_files.specs.declared.ops.Fault.{Fault}
 use Rattle.kf_files.specs.declared.ops.FileError.{FileError}
 use Rattle.kf_files.specs.Files.{FileState, told_of}
 use Rattle.kf_files.specs.Binary.{front_of, ReadAt, WrittenAt, ReadsAt, NumberedRead, answer_in, after_read}
-use Rattle.kf_files.specs.Waiting.{MayReadAt, MayWriteAt}
+use Rattle.kf_files.specs.Waiting.{MayReadAt}
 
 -- where there is room there was a read
 pub read-some : {Ops : Type 0} (reads_at : Ops → ℕ → ℕ → ℕ → Result (List ℕ) Fault → Ops → Type 0) (ops : Ops) (tag offset : ℕ) (out out' : List ℕ) (ops' : Ops) (answer : Result ℕ Fault)

@@ -1,6 +1,6 @@
 //! Reads and writes at an offset of a file that was opened by a hold: a binary attribute, which has no page.
 
-ghost use Rattle.std.specs.Prelude.{◌≡◌, ◌≤◌, ℕ, length, IfOk};
+ghost use Rattle.std.specs.Prelude.{◌≡◌, ◌≤◌, length, IfOk};
 ghost use Rattle.kf_core.specs.Calls.{Visits, GivenBack};
 ghost use Rattle.kf_core.specs.declared.caller.Phase.TheVariants.{Running};
 ghost use Rattle.kf_files.specs.Binary.{ReadAt, ReadsAt, WrittenAt};

@@ -1,5 +1,5 @@
 -- Why a node is not marked.
-use Rattle.std.proofs.Common.{◌≡◌, ◌≢◌, ◌⊎◌, inl, inr, ℕ, Bool, true, false, List, [], ◌∷◌, ◌++◌, length, refl, sym, ◌∙◌, ap, subst, arith}
+use Rattle.std.proofs.Common.{◌≡◌, ◌≢◌, ◌⊎◌, inl, inr, ℕ, Bool, true, false, List, [], ◌∷◌, ◌++◌, length, refl, sym, ◌∙◌, subst, arith}
 use Rattle.std.specs.Prelude.{None, Some, MatchBool, slice_get, ℤ, pos, neg_ℤ}
 use Rattle.std.proofs.lemmas.Bool.{MatchBool-at_true}
 use Rattle.kf_core.specs.declared.key.Key.{Key}
@@ -12,7 +12,6 @@ use Rattle.kf_tree.specs.Causes.{doom_cause}
 use Rattle.kf_tree.specs.TreeLogs.{TreeLog}
 use Rattle.kf_words.specs.declared.view.MasterView.{MasterView}
 use Rattle.kf_words.specs.Nodes.{FoundFull, PinRefused, WasFull}
-use Rattle.kf_words.specs.Steps.{with_load}
 use Rattle.kf_shared.specs.Locked.{Locked, HoldRefused}
 use Rattle.kf_shared.specs.Removal.{FoundFullIn}
 use Rattle.kf_shared.proofs.Pins.{if_false, not_the_root, why_refused}

@@ -14,13 +14,14 @@ CountedAnother hold after other = IsSameSeat hold after × StaysAs hold after ×
 
 -- so it is of what lies behind two handles
 abbrev pub GaveAnother : Seat → Seat → Seat → Type 0
-GaveAnother (seat.Hold held) (seat.Hold after) (seat.Hold other) = CountedAnother held.hold after.hold other.hold
+GaveAnother (seat.Hold held) (seat.Hold after) (seat.Hold other) =
+    CountedAnother held.hold after.hold other.hold
 GaveAnother old new other = ⊥
 
 -- a second hold was refused, and the first stays as it is, but for what it saw; what is no hold stays
 abbrev pub GaveNoOther : Seat → Seat → Type 0
-GaveNoOther (seat.Hold held) (seat.Hold after) = IsSameSeat held.hold after.hold × StaysAs held.hold after.hold
-    × Missed 1 64 (seat_view held.hold) (seat_view after.hold)
+GaveNoOther (seat.Hold held) (seat.Hold after) = IsSameSeat held.hold after.hold
+    × StaysAs held.hold after.hold × Missed 1 64 (seat_view held.hold) (seat_view after.hold)
 GaveNoOther old new = new ≡ old
 
 -- why: of a hold what its last step found; -EINVAL of what is none

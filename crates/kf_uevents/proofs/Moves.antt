@@ -15,7 +15,7 @@ use Rattle.kf_core.specs.Keys.{same_key}
 use Rattle.kf_core.specs.Lawful.{Lawful}
 use Rattle.kf_core.specs.Tree.{Tree, record_at, is_dir, in_subtree, parent_of, ancestor, IsIn}
 use Rattle.kf_core.specs.Worlds.{MayMove}
-use Rattle.kf_core.proofs.Climbs.{keys_tell, climb_rest, same_key_self}
+use Rattle.kf_core.proofs.Climbs.{keys_tell}
 use Rattle.kf_core.proofs.FoundRecords.{found_in, in_found, parent_known, subtree_from}
 use Rattle.kf_core.proofs.Mapped.{mapped, find_mapped}
 use Rattle.kf_table.specs.Children.{child, is_there_already}

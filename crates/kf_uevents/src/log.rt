@@ -1,6 +1,6 @@
 //! The list of all events, of which the last are kept.
-ghost use Rattle.std.specs.Prelude.{◌≡◌, ◌+◌, ◌-◌, ◌^◌, ◌<◌, ◌≤◌, [], ◌∷◌, ◌++◌, List, drop, length, IfErr, IfOk, OnOk};
-ghost use Rattle.std.specs.VecDeque.{deque_capacity, deque_len};
+ghost use Rattle.std.specs.Prelude.{◌≡◌, ◌+◌, ◌-◌, ◌^◌, ◌<◌, ◌≤◌, [], ◌∷◌, List, drop, length, IfErr, IfOk, OnOk};
+ghost use Rattle.std.specs.VecDeque.{deque_capacity};
 ghost use Rattle.kf_core.specs.declared.refusal.Refusal.TheVariants as refusal_of;
 ghost use Rattle.kf_uevents.specs.declared.uevent.Uevent.{Uevent};
 ghost use Rattle.kf_uevents.specs.Logs.{IsLogOf, IsReading, IsUsedUp, Told, told_count};

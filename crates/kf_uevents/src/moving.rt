@@ -1,5 +1,5 @@
 //! A move that tells its event.
-ghost use Rattle.std.specs.Prelude.{◌≡◌, ◌⊎◌, true, false, IfErr, IfOk, IsSomeAnd, None, OnErr, OnOk};
+ghost use Rattle.std.specs.Prelude.{◌≡◌, true, false, IfErr, IfOk, None, OnErr, OnOk};
 ghost use Rattle.kf_core.specs.declared.command.Command.TheVariants.{Rename};
 ghost use Rattle.kf_core.specs.declared.refusal.Refusal.TheVariants as refusal_of;
 ghost use Rattle.kf_table.specs.Children.{is_there_already};

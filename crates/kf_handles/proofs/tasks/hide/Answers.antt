@@ -1,6 +1,4 @@
-use Rattle.std.proofs.Common.{◌≡◌, pos, rules}
-use Rattle.std.specs.Prelude.{neg_ℤ}
-use Rattle.kf_core.specs.Refusals.{number_of}
+use Rattle.std.proofs.Common.{rules}
 use Rattle.kf_handles.specs.Calls.{key_in}
 use Rattle.kf_handles.specs.Tasks.{SteppedBehind}
 use Rattle.kf_handles.specs.declared.questions.Reply.TheVariants as told

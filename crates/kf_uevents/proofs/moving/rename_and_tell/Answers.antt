@@ -1,4 +1,4 @@
-use Rattle.std.proofs.Common.{◌∙◌, ap, subst, sym}
+use Rattle.std.proofs.Common.{subst}
 use Rattle.kf_tree.specs.TreeLogs.{TreeLog}
 use Rattle.kf_uevents.specs.Moves.{IsToMove}
 use Rattle.kf_uevents.proofs.Moves.{told_move}

@@ -1,6 +1,6 @@
 -- `give` moves two fields, and what they own goes with them.
 use Rattle.std.proofs.Common.{◌≡◌, List, [], ◌∷◌, ◌++◌, refl}
-use Rattle.std.specs.Prelude.{Option, Some}
+use Rattle.std.specs.Prelude.{Some}
 use mir.Val.{Val}
 use base.Logic.{emp, id⊢}
 use base.Fml.{ftrue, fsep}

@@ -1,8 +1,7 @@
-use Rattle.std.proofs.Common.{◌≡◌, ◌<◌, [], ◌∷◌, ◌++◌, arith, refl, ap, ◌∙◌, List, rules, length, drop}
+use Rattle.std.proofs.Common.{◌≡◌, [], ◌∷◌, ◌++◌, arith, refl, ap, ◌∙◌, List, rules, length, drop}
 use Rattle.std.proofs.lemmas.List.{length-drop, length_push}
-use Rattle.kf_uevents.specs.declared.uevent.Uevent.{Uevent}
-use Rattle.kf_uevents.specs.Logs.{LogState, IsLogOf, told_count}
-use Rattle.kf_uevents.proofs.Logs.{counted, few, none_kept, one_more}
+use Rattle.kf_uevents.specs.Logs.{told_count}
+use Rattle.kf_uevents.proofs.Logs.{few, none_kept, one_more}
 use Rattle.kf_uevents.proofs.log.UeventLog.push.Goals as goal
 
 pub make_place-requires : goal.make_place-requires

@@ -1,9 +1,7 @@
-use Rattle.std.proofs.Common.{◌≡◌, ◌+◌, ◌∙◌, ◌++◌, [], ◌∷◌, List, length, ap, arith, refl, sym, subst}
+use Rattle.std.proofs.Common.{◌+◌, ◌∙◌, ◌++◌, [], ◌∷◌, List, ap, arith, sym}
 use Rattle.std.specs.Vec.Iter.{into_iter_items}
 use Rattle.std.proofs.lemmas.List.{append_assoc, length_push}
-use Rattle.kf_uevents.specs.declared.uevent.Uevent.{Uevent}
-use Rattle.kf_uevents.specs.Logs.{Told}
-use Rattle.kf_uevents.proofs.Logs.{more_told, none_told}
+use Rattle.kf_uevents.proofs.Logs.{more_told}
 use Rattle.kf_uevents.proofs.log.UeventLog.push_all.Goals as goal
 
 pub loop-event-preserved : goal.loop-event-preserved
