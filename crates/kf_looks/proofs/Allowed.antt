@@ -6,7 +6,7 @@ use mathlib.Core.Logic.{dite}
 use mathlib.Core.Option.{some, none, some-injective, some-ne-none}
 use native.Mathlib.Decide.{ℕ_discrete}
 use lib.ListN.{get_elem?}
-use Rattle.atomic_table.specs.Table.{step, stepped, Allows, Splits, Enters, keeps, opening}
+use Rattle.atomic_table.specs.Table.{step, stepped, Allows, Splits, Joins, Enters, keeps, opening}
 use Rattle.atomic_table.proofs.Lists.{at_set, at_snoc, set_again}
 use Rattle.kf_looks.specs.declared.found.Found.{Found}
 use Rattle.kf_looks.specs.declared.view.Link.{Link}
@@ -17,12 +17,12 @@ use Rattle.kf_looks.specs.declared.view.View.{View}
 use Rattle.kf_looks.specs.Links.{IsLater}
 use Rattle.kf_looks.specs.Lines.{SaysTrue, words_for, link_at, word_at}
 use Rattle.kf_looks.specs.Rule.{Table, Knows, IsPlan, Kept, opened, plan_of, AllIn}
-use Rattle.kf_looks.specs.Steps.{Seated, view, grown, MakesSeat, MakesBegin, MakesPeek, MakesCheck, MakesRecall, MakesMove, MakesPut, MakesEntry, moved, put, entered, told, like}
+use Rattle.kf_looks.specs.Steps.{Seated, view, grown, MakesSeat, MakesBegin, MakesPeek, MakesCheck, MakesRecall, MakesMove, MakesPut, MakesEntry, moved, put, entered, told, like, heard, given_up, MakesCompare}
 use Rattle.kf_looks.specs.Writing.{IsWriter}
 
 -- what is kept of each seat
 abbrev Fits : ℕ → ℕ → List ℕ → List Link → ℕ → View → Type 0
-Fits slots version draft links seat v = (v.slots ≡ slots) × Knows version draft links seat v.role × IsLater links v.seen
+Fits slots version draft links seat v = (v.slots ≤ slots) × Knows version draft links seat v.role × IsLater links v.seen
 
 -- what holds of a seat's new view and of all others holds of all views after its step
 seats_after : (K : ℕ → View → Type 0) (views : List View) (me : ℕ) (w : View) → K me w
@@ -65,8 +65,12 @@ unmoved slots t r i me carried w mine =
       seats = seats_after (λ j v. Fits slots r.version r.draft r.links j v) t.views me w mine (λ j v _. r.seats j v);
     }
 
+-- what is true of all slots is true of fewer
+says_fewer : (few slots : ℕ) (draft : List ℕ) (links : List Link) → few ≤ slots → SaysTrue slots draft links → SaysTrue few draft links
+says_fewer few slots draft links le says line inside = says line (omega arith)
+
 -- a new seat
-seated : (slots : ℕ) (t : Table) (r : Kept slots t) (w : View) → w.slots ≡ slots → w.role ≡ Idle → IsLater r.links w.seen
+seated : (slots : ℕ) (t : Table) (r : Kept slots t) (w : View) → w.slots ≤ slots → w.role ≡ Idle → IsLater r.links w.seen
     → Kept slots (record { words = t.words; homes = t.homes; views = t.views ++ w ∷ [] })
 seated slots t r w here idle later = record {
   version = r.version;
@@ -87,14 +91,14 @@ seated slots t r w here idle later = record {
 
 pub sit_allowed : (slots count word : ℕ) (first : View) → first.slots ≡ slots → Enters (Kept slots) count word (λ n w. MakesSeat (step count word 0 0 none) (first, []) n (w, []))
 sit_allowed slots count word first here t r _ _ = let w : View = view first.slots Idle [] in
-    (w, seated slots t r w here refl (r.links, sym (append-nil r.links)), refl)
+    (w, seated slots t r w (omega (arith, here)) refl (r.links, sym (append-nil r.links)), refl)
 
 pub begin_allowed : (slots count id : ℕ) (me : Seated) → Allows (Kept slots) count id me 0 (λ n. n) (MakesBegin (step count 0 0 0 none) me)
 begin_allowed slots count id me t r _ at _ = let x : ℕ = get_or t.words 0 0 in let mine = r.seats id me.0 at in let now : x ≡ r.version = r.version_is in
     dite (ℕ_discrete (x % 2) 0)
     (λ even. let w : View = view me.0.slots (Reading x []) me.0.seen in
-    (w, keeps, tt, unmoved slots t r 0 id me.1 w (mine.0, (even, (omega arith), λ _. tt), mine.2), (refl, refl, λ _. refl)))
-    (λ odd. let w : View = view me.0.slots Idle me.0.seen in (w, keeps, tt, unmoved slots t r 0 id me.1 w (mine.0, tt, mine.2), (refl, refl, λ even. absurd (odd even))))
+    (w, keeps, tt, unmoved slots t r 0 id me.1 w (mine.0, (even, (omega arith), λ _. tt), mine.2), ((refl, refl, λ _. refl), refl)))
+    (λ odd. let w : View = view me.0.slots Idle me.0.seen in (w, keeps, tt, unmoved slots t r 0 id me.1 w (mine.0, tt, mine.2), ((refl, refl, λ even. absurd (odd even)), refl)))
 
 -- what a seat knows after one read more
 grown_knows : (slots : ℕ) (t : Table) (r : Kept slots t) (id i : ℕ) → i < words_for slots → (role : Role) → Knows r.version r.draft r.links id role
@@ -119,13 +123,16 @@ check_allowed slots count id me t r _ at _ = let mine = r.seats id me.0 at in le
   keeps,
   tt,
   unmoved slots t r 0 id me.1 w (mine.0, mine.1, ([], refl)),
-  record {
-    slots_are = refl;
-    role_is = refl;
-    later = mine.2;
-    at_once = λ reads is. let k = subst (Knows r.version r.draft r.links id) is mine.1 in
-        (r.draft, k.2 r.version_is, subst (λ (n : ℕ). SaysTrue n r.draft r.links) (sym mine.0) (r.says (ap (λ (z : ℕ). z % 2) (sym r.version_is) ∙ k.0)));
-  },
+  (
+    record {
+      slots_are = refl;
+      role_is = refl;
+      later = mine.2;
+      at_once = λ reads is. let k = subst (Knows r.version r.draft r.links id) is mine.1 in
+          (r.draft, k.2 r.version_is, says_fewer me.0.slots slots r.draft r.links mine.0 (r.says (ap (λ (z : ℕ). z % 2) (sym r.version_is) ∙ k.0)));
+    },
+    refl,
+  ),
 )
 
 -- ---- the writer
@@ -246,6 +253,35 @@ copy_allowed slots id v t r at = let mine = r.seats id v at in
     subst (λ (l : List View). Kept slots (record { words = t.words; homes = t.homes; views = l ++ like v ∷ [] })) (sym (set_again t.views id v at))
     (seated slots t r (like v) mine.0 refl mine.2)
 
+-- the writer has seen what a seat has that is given up
+pub hear_allowed : (slots id other : ℕ) (v w : View) → Joins (Kept slots) id v other w (heard v w) given_up
+hear_allowed slots id other v w t r at apart there = (let mine = r.seats id v at in
+    let K : ℕ → View → Type 0 = λ j x. Fits slots r.version r.draft r.links j x in
+    let his : IsLater r.links w.seen = ⊎_elim (λ (e : (other ≡ id) × (heard v w ≡ w)). absurd (apart e.0))
+    (λ (e : (other ≢ id) × (get_elem? t.views other ≡ some w)). (r.seats other w e.1).2) (at_set t.views id other (heard v w) w there) in
+    record {
+      version = r.version;
+      draft = r.draft;
+      links = r.links;
+      wide = r.wide;
+      long = r.long;
+      version_is = r.version_is;
+      draft_is = r.draft_is;
+      says = r.says;
+      seats = seats_after K (set t.views id (heard v w)) other given_up (omega arith, tt, (r.links, sym (append-nil r.links)))
+          (λ j x _ e. seats_after K t.views id (heard v w) (mine.0, mine.1, his) (λ j x _. r.seats j x) j x e);
+    })
+
+-- and its links begin with that
+pub compare_allowed : (slots count id : ℕ) (me : Seated) → IsWriter me.0 → Allows (Kept slots) count id me 0 (λ n. n) (MakesCompare (step count 0 0 0 none) me)
+compare_allowed slots count id me writes t r _ at _ = let mine = r.seats id me.0 at in let k = plan_kept r.version r.draft r.links id me.0.role writes mine.1 in (
+  me.0,
+  keeps,
+  tt,
+  unmoved slots t r 0 id me.1 me.0 mine,
+  (refl, subst (λ (l : List Link). IsLater l me.0.seen) (sym k.0.links_are) mine.2),
+)
+
 -- ---- the opening
 
 first_only : (v s : View) (j : ℕ) → get_elem? (v ∷ []) j ≡ some s → (j ≡ 0) × (v ≡ s)
@@ -281,5 +317,5 @@ opening_kept slots version = let n : ℕ = words_for slots in let z : ℕ = 0 in
       says = λ even. zeros_say slots n [];
       seats = λ j v e. let f = first_only (opened slots version) v j e in
           subst (λ (x : ℕ × View). Fits slots version none [] x.0 x.1) (λ i. (sym f.0 i, f.1 i))
-          (refl, (record { version_is = refl; draft_is = refl; links_are = refl }, refl), ([], refl));
+          (omega arith, (record { version_is = refl; draft_is = refl; links_are = refl }, refl), ([], refl));
     }

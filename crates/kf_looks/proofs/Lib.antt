@@ -1,6 +1,7 @@
 pub mod Allowed
 pub mod Entering
 pub mod Changed
+pub mod Crossing
 pub mod Following
 pub mod Gone
 pub mod Leading

@@ -14,7 +14,7 @@ use Rattle.kf_looks.specs.Steps.{grown, put, moved}
 use Rattle.kf_looks.specs.Writing.{plan, links_of, IsWriter, WritesTrue, Plans, Keeps, IsFilled, SameLines}
 
 pub same_again : (a b c : Seat (Unit {0}) View) → IsSameSeat a b → IsSameSeat b c → IsSameSeat a c
-same_again a b c ab bc = record { table = bc.table ∙ ab.table; slots = bc.slots ∙ ab.slots; seen = bc.seen ∙ ab.seen }
+same_again a b c ab bc = record { table = bc.table ∙ ab.table; slots = bc.slots ∙ ab.slots; seen = bc.seen ∙ ab.seen; carried = bc.carried ∙ ab.carried }
 
 -- ---- the writer's loads
 

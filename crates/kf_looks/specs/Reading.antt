@@ -14,6 +14,7 @@ pub record IsSameSeat (old new : Seat (Unit {0}) View) : Type 0 where
   pub table : new.table_id ≡ old.table_id
   pub slots : new.me.0.slots ≡ old.me.0.slots
   pub seen : new.me.0.seen ≡ old.me.0.seen
+  pub carried : new.me.1 ≡ old.me.1
 
 -- there were more reads, and where all of them stand in a content, this holds of that content
 abbrev pub Follows : Role → Role → (List ℕ → Type 0) → Type 0

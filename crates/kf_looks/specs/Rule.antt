@@ -43,7 +43,8 @@ Knows version draft links seat (Reading at reads) =
     (at % 2 ≡ 0) × (at ≤ version) × (at ≡ version → AllIn draft reads)
 Knows version draft links seat (Writing plan) = IsPlan version draft links plan × (seat ≡ 0)
 
--- the words are the version and the draft. While the version is even, the draft is true of all links
+-- the words are the version and the draft. While the version is even, the draft is true of all links. A seat
+-- that was given up knows of no slot, and each other one of all
 pub record Kept (slots : ℕ) (t : Table) : Type 0 where
   pub version : ℕ
   pub draft : List ℕ
@@ -54,7 +55,7 @@ pub record Kept (slots : ℕ) (t : Table) : Type 0 where
   pub draft_is : (i : ℕ) → i < words_for slots → slice_index t.words (i + 1) ≡ slice_index draft i
   pub says : version % 2 ≡ 0 → SaysTrue slots draft links
   pub seats : (seat : ℕ) (v : View) → get_elem? t.views seat ≡ some v
-      → (v.slots ≡ slots) × Knows version draft links seat v.role × IsLater links v.seen
+      → (v.slots ≤ slots) × Knows version draft links seat v.role × IsLater links v.seen
 
 -- the plan of the first seat, the writer's
 abbrev pub first_plan : ℕ → ℕ → Plan

@@ -30,7 +30,7 @@ grown word found (Reading at reads) = Reading at (read word found ∷ reads)
 grown word found (Writing plan) = Writing plan
 
 abbrev pub MakesSeat : Step (Unit {0}) → Seated → ℕ → Seated → Type 0
-MakesSeat st me found me' = me'.0 ≡ view me.0.slots Idle []
+MakesSeat st me found me' = me' ≡ (view me.0.slots Idle [], [])
 
 -- an even version is the one that the seat reads
 abbrev pub Begun : ℕ → View → View → Type 0
@@ -38,7 +38,7 @@ Begun found old new = (new.slots ≡ old.slots) × (new.seen ≡ old.seen)
     × (found % 2 ≡ 0 → new.role ≡ Reading found [])
 
 abbrev pub MakesBegin : Step (Unit {0}) → Seated → ℕ → Seated → Type 0
-MakesBegin st me found me' = Begun found me.0 me'.0
+MakesBegin st me found me' = Begun found me.0 me'.0 × (me'.1 ≡ me.1)
 
 abbrev pub MakesPeek : Step (Unit {0}) → Seated → ℕ → Seated → Type 0
 MakesPeek st me found me' = me' ≡ (view me.0.slots (grown (st.word - 1) found me.0.role) me.0.seen, me.1)
@@ -53,7 +53,7 @@ pub record Passed (found : ℕ) (old new : View) : Type 0 where
       → (content : List ℕ) × AllIn content reads × SaysTrue old.slots content new.seen
 
 abbrev pub MakesCheck : Step (Unit {0}) → Seated → ℕ → Seated → Type 0
-MakesCheck st me found me' = Passed found me.0 me'.0
+MakesCheck st me found me' = Passed found me.0 me'.0 × (me'.1 ≡ me.1)
 
 -- ---- the writer
 
@@ -95,3 +95,14 @@ told v = view v.slots Idle (plan_of v.role).links
 -- a new reader has seen what another has
 abbrev pub like : View → View
 like v = view v.slots Idle v.seen
+
+-- the writer has seen what another seat has, which is given up
+abbrev pub heard : View → View → View
+heard writer other = view writer.slots writer.role other.seen
+
+abbrev pub given_up : View
+given_up = view 0 Idle []
+
+-- the writer's links begin with all that it has seen
+abbrev pub MakesCompare : Step (Unit {0}) → Seated → ℕ → Seated → Type 0
+MakesCompare st me found me' = (me' ≡ me) × IsLater (plan_of me.0.role).links me.0.seen

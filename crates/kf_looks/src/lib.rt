@@ -5,12 +5,13 @@
 //!   wait for nobody.
 //! - `Looker` is what one thread has seen; it takes no memory and is registered nowhere. `look` answers
 //!   where a path led at one moment after all that it had seen, or None: ask the owner of the tree. `again`
-//!   is one load: what was found still stands.
+//!   is one load: what was found still stands. `catch_up` tells a `Looker` of all changes so far.
 //!
 //! The writer shows that a name which it gives or takes is of the child's own slot (`of_slot`). Names of
 //! more than 24 bytes have no words.
 #![tactic(auto)]
 
+mod catch_up;
 mod found;
 mod hint;
 mod laws;
@@ -25,6 +26,7 @@ mod table;
 mod view;
 mod walk;
 mod writer;
+mod writer_token;
 
 pub use found::{Found, Sight};
 pub use laws::links_tell;

@@ -3,12 +3,14 @@ ghost use Rattle.std.specs.Prelude.{◌≡◌, ◌+◌, ◌≤◌, [], IfOk};
 ghost use Rattle.kf_core.specs.Limits.{most_slots};
 ghost use Rattle.kf_looks.specs.Lines.{words_for};
 ghost use Rattle.kf_looks.specs.Lookers.{seen};
-ghost use Rattle.kf_looks.specs.Writing.{links_of};
+ghost use Rattle.kf_looks.specs.Steps.{told};
+ghost use Rattle.kf_looks.specs.Writing.{links_of, IsWriter};
 
 use crate::plays::{Copies, Sits, Tells};
 use crate::reader::Looker;
-use crate::table::{LookTable, Opening};
+use crate::table::{LookSeat, LookTable, Opening};
 use crate::writer::Writer;
+use crate::writer_token::WriterToken;
 use std::alloc::{AllocError, Global};
 
 /// The words. Any number of threads look names up there, and none of them writes.
@@ -39,6 +41,7 @@ impl Looks {
         words[0] = version;
         let opening = Opening { slots, version };
         let (table, seat) = LookTable::of_words(alloc, words.as_slice(), &opening)?;
+        let seat = WriterToken::new(seat);
         Ok((Looks { table, slots }, Writer { seat, version }))
     }
 
@@ -60,9 +63,23 @@ impl Looks {
         ensures same { links_of writer.new.seat ≡ links_of writer.old.seat }
         ensures kept { writer.new.seat.table_id ≡ writer.old.seat.table_id }
     {
+        let token = &mut writer.seat;
         Looker {
-            seat: self.table.shared.split_seat::<Tells>(&mut writer.seat),
+            seat: self.tell(&mut token.seat),
         }
+    }
+
+    /// A seat of one who was told of all links.
+    fn tell(&self, writer: &mut LookSeat) -> LookSeat
+        requires table { writer.old.table_id ≡ self.now.table.shared.table_id }
+        requires writes { IsWriter writer.old.me.0 }
+        ensures table { result.table_id ≡ writer.old.table_id }
+        ensures told { result.me.0 ≡ told writer.old.me.0 }
+        ensures bare { result.me.1 ≡ [] }
+        ensures same { writer.new.me ≡ writer.old.me }
+        ensures kept { writer.new.table_id ≡ writer.old.table_id }
+    {
+        self.table.shared.split_seat::<Tells>(writer)
     }
 
     /// A reader that was told of what another has seen, as the one in a receipt: none of its look-ups goes

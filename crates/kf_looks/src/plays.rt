@@ -1,6 +1,6 @@
 //! The kinds of step on the table: what each makes of the view of the seat that steps.
 use crate::view::View;
-use atomic_table::{Play, Split};
+use atomic_table::{Join, Play, Split};
 
 /// A new seat sits down.
 pub(crate) struct Sits;
@@ -94,4 +94,24 @@ impl Split<View> for Copies {
     ghost left = { λ v. v };
 
     ghost right = { like };
+}
+
+/// A seat is given up, and the writer has seen what it has.
+pub(crate) struct Hears;
+
+impl Join<View> for Hears {
+    ghost use Rattle.kf_looks.specs.Steps.{heard, given_up};
+
+    ghost both = { heard };
+
+    ghost spent = { given_up };
+}
+
+/// The writer compares what it has seen with its links.
+pub(crate) struct Compares;
+
+impl Play<(), View> for Compares {
+    ghost use Rattle.kf_looks.specs.Steps.{MakesCompare};
+
+    ghost then = { MakesCompare };
 }

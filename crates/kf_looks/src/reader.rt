@@ -1,5 +1,5 @@
 //! A reader's single steps on the words.
-ghost use Rattle.std.specs.Prelude.{◌≡◌, ◌+◌, ◌<◌, ◌*◌, ℕ, length, slice_index};
+ghost use Rattle.std.specs.Prelude.{◌≡◌, ◌+◌, ◌<◌, ◌*◌, [], ℕ, length, slice_index};
 ghost use Rattle.kf_looks.specs.Lines.{words_for, word_at};
 ghost use Rattle.kf_looks.specs.Reading.{IsSameSeat, Follows};
 ghost use Rattle.kf_looks.specs.Steps.{Begun, Passed, grown, view};
@@ -13,6 +13,7 @@ use crate::table::LookSeat;
 pub struct Looker {
     pub seat: LookSeat,
     ghost sized: { seat.table_id.words ≡ words_for seat.me.0.slots + 1 },
+    ghost bare: { seat.me.1 ≡ [] },
 }
 
 impl Looks {
@@ -21,6 +22,7 @@ impl Looks {
         requires table { seat.old.table_id ≡ self.now.table.shared.table_id }
         ensures table { seat.new.table_id ≡ seat.old.table_id }
         ensures begun { Begun result seat.old.me.0 seat.new.me.0 }
+        ensures carried { seat.new.me.1 ≡ seat.old.me.1 }
     {
         self.table.shared.load::<Begins>(seat, 0)
     }
@@ -40,6 +42,7 @@ impl Looks {
         requires table { seat.old.table_id ≡ self.now.table.shared.table_id }
         ensures table { seat.new.table_id ≡ seat.old.table_id }
         ensures passed { Passed result seat.old.me.0 seat.new.me.0 }
+        ensures carried { seat.new.me.1 ≡ seat.old.me.1 }
     {
         self.table.shared.load::<Checks>(seat, 0)
     }

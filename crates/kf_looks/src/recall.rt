@@ -62,7 +62,7 @@ impl Looks {
         if child.key.slot as u64 >= self.slots {
             return (Section { seat, version }, false);
         }
-        let line = self.recall_line(&mut seat, child.key.slot as usize);
+        let line = self.recall_line(&mut seat.seat, child.key.slot as usize);
         let said = child_there(&line, key_word(dir), name) == Some(child);
         (Section { seat, version }, said)
     }

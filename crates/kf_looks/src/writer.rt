@@ -12,6 +12,7 @@ use crate::packed::{child_words, key_word};
 use crate::plays::{Enters, Moves, Puts};
 use crate::short_name::ShortName;
 use crate::table::LookSeat;
+use crate::writer_token::WriterToken;
 use kf_core::Key;
 
 const HALF: u64 = 4294967296;
@@ -19,7 +20,7 @@ const HALF: u64 = 4294967296;
 /// The one who changes the words, as the tree's lock keeps it. Contracts see all links.
 #[derive(Drop)]
 pub struct Writer {
-    pub seat: LookSeat,
+    pub seat: WriterToken,
     pub(crate) version: u64,
     ghost sized: { seat.table_id.words ≡ words_for seat.me.0.slots + 1 },
     ghost knows: { WritesTrue seat.me.0 version },
@@ -29,7 +30,7 @@ pub struct Writer {
 /// The words while they are changed: look-ups are sent to the lock meanwhile.
 #[derive(Drop)]
 pub struct Section {
-    pub seat: LookSeat,
+    pub seat: WriterToken,
     pub(crate) version: u64,
     ghost sized: { seat.table_id.words ≡ words_for seat.me.0.slots + 1 },
     ghost knows: { WritesTrue seat.me.0 version },
@@ -132,30 +133,35 @@ impl Looks {
         if version == u64::MAX {
             return Section { seat, version };
         }
-        self.advance(&mut seat, version + 1);
+        self.advance(&mut seat.seat, version + 1);
         Section {
             seat,
             version: version + 1,
         }
     }
 
-    /// Writes a line, and the hint to it.
-    fn change(
+    /// Writes a line, and the hint to it, at this odd version.
+    fn write(
         &self,
-        section: Section,
+        seat: &mut LookSeat,
+        version: u64,
         dir: Key,
         name: &ShortName,
         slot: u32,
         child: Option<Found>,
-    ) -> Section
-        requires table { section.seat.table_id ≡ self.now.table.shared.table_id }
-        requires of_slot { IsOfSlot (links_of section.seat) dir (bytes_in name.now) slot }
+    )
+        requires table { seat.old.table_id ≡ self.now.table.shared.table_id }
+        requires slots { seat.old.me.0.slots ≡ self.now.slots }
+        requires knows { WritesTrue seat.old.me.0 version }
+        requires odd { version % 2 ≡ 1 }
+        requires of_slot { IsOfSlot (links_of seat.old) dir (bytes_in name.now) slot }
         requires placed { IfSome child (λ found. found.key.slot ≡ slot) }
-        ensures table { result.seat.table_id ≡ section.seat.table_id }
-        ensures linked { links_of result.seat ≡ link dir (bytes_in name.now) child
-            ∷ links_of section.seat }
+        ensures table { seat.new.table_id ≡ seat.old.table_id }
+        ensures slots { seat.new.me.0.slots ≡ seat.old.me.0.slots }
+        ensures knows { WritesTrue seat.new.me.0 version }
+        ensures linked { links_of seat.new ≡ link dir (bytes_in name.now) child ∷ links_of seat.old }
     {
-        let Section { mut seat, version } = section;
+        let _ = version; // the contract alone names it
         let dir_word = key_word(dir);
         let (key, more, shape) = child_words(child);
         let line = if (slot as u64) < self.slots {
@@ -172,10 +178,30 @@ impl Looks {
             key,
             more,
         ];
-        self.fill(&mut seat, 8 * line, &words);
-        self.enter(&mut seat, 8 * line + 7, shape);
+        self.fill(seat, 8 * line, &words);
+        self.enter(seat, 8 * line + 7, shape);
         let given = shape != 0 && (slot as u64) < self.slots;
-        self.note(&mut seat, self.place(dir_word, name), slot, given);
+        self.note(seat, self.place(dir_word, name), slot, given);
+    }
+
+    /// Makes the link that the name has this child.
+    fn change(
+        &self,
+        section: Section,
+        dir: Key,
+        name: &ShortName,
+        slot: u32,
+        child: Option<Found>,
+    ) -> Section
+        requires table { section.seat.table_id ≡ self.now.table.shared.table_id }
+        requires of_slot { IsOfSlot (links_of section.seat) dir (bytes_in name.now) slot }
+        requires placed { IfSome child (λ found. found.key.slot ≡ slot) }
+        ensures table { result.seat.table_id ≡ section.seat.table_id }
+        ensures linked { links_of result.seat ≡ link dir (bytes_in name.now) child
+            ∷ links_of section.seat }
+    {
+        let Section { mut seat, version } = section;
+        self.write(&mut seat.seat, version, dir, name, slot, child);
         Section { seat, version }
     }
 
@@ -215,7 +241,7 @@ impl Looks {
         if version == u64::MAX {
             return Writer { seat, version };
         }
-        self.advance(&mut seat, version + 1);
+        self.advance(&mut seat.seat, version + 1);
         Writer {
             seat,
             version: version + 1,

@@ -1,0 +1,41 @@
+//! The writer's token. Whoever has a `&` to it can do nothing with it, so many threads may have one at once:
+//! they may look at what lies beside a writer, as those do who only read the tree.
+ghost use Rattle.std.specs.Prelude.{◌≡◌};
+
+use crate::view::View;
+use atomic_table::Seat;
+use std::marker::Model;
+
+/// The writer's seat at the table, which is reached through a `&mut` alone. To a contract it is that seat.
+#[derive(Drop)]
+pub struct WriterToken {
+    pub(crate) seat: Seat<(), View>,
+}
+
+impl Model for WriterToken {
+    ghost use Rattle.std.specs.Borrow.{ftrue};
+    ghost use Rattle.atomic_table.specs.declared.shared.Seat.{Seat};
+    ghost use Rattle.kf_looks.specs.declared.view.View.{View};
+
+    ghost Value = { Seat (Unit {0}) View };
+
+    ghost view = { λ token. token.seat };
+
+    ghost inverse = { λ seat. record { seat = seat } };
+
+    ghost also_owns = { λ _. ftrue };
+}
+
+// The check takes neither from these lines: it reads the two proofs in `proofs/writer_token`.
+unsafe impl Send for WriterToken {}
+
+unsafe impl Sync for WriterToken {}
+
+impl WriterToken {
+    /// The token of this seat.
+    pub(crate) fn new(seat: Seat<(), View>) -> WriterToken
+        ensures same { result ≡ seat }
+    {
+        WriterToken { seat }
+    }
+}
