@@ -121,3 +121,14 @@ fn words_for_no_slot_send_all_to_the_lock(rt: HostRuntime) {
     assert!(&rt; is_sent(&looks, &mut looker, b"/a"));
     assert!(&rt; is_sent(&looks, &mut looker, b"/"));
 }
+
+#[test]
+fn a_reader_is_told_again(rt: HostRuntime) {
+    let (looks, writer) = made(&rt, rt.alloc(), 2);
+    let looker = looks.looker();
+    let mut writer = chain(&rt, &looks, writer, 1, &named(&rt, b"a"), FILE);
+    let looker = looks.catch_up(&mut writer, looker);
+    let looker = looks.catch_up(&mut writer, looker);
+    let mut looker = looks.catch_up(&mut writer, looker);
+    assert_eq!(&rt; found(&rt, &looks, &mut looker, b"/a").found.key, key(1));
+}

@@ -122,3 +122,33 @@ fn look_ups_answer_beside_a_writer_and_never_go_back(rt: HostRuntime) {
     look_beside_a_writer(&rt, rt.alloc(), 2);
     look_beside_a_writer(&rt, rt.alloc(), 100_000);
 }
+
+/// What a lock may keep: a writer, and what those read who have a `&` to it.
+#[derive(Drop)]
+struct Kept {
+    _writer: Writer,
+    told: u32,
+}
+
+fn told_by(kept: &Kept) -> u32
+    ensures { result ≡ kept.now.told }
+{
+    kept.told
+}
+
+/// Two threads read side by side beside a writer that is kept.
+fn read_by_two<R: Threads + Sync>(rt: &R, kept: &Kept) -> (u32, u32)
+    ensures { result ≡ (kept.now.told, kept.now.told) }
+{
+    join(rt, || told_by(kept), || told_by(kept))
+}
+
+#[test]
+fn threads_share_what_keeps_a_writer(rt: HostRuntime) {
+    let (_looks, writer) = made(&rt, rt.alloc(), 2);
+    let kept = Kept {
+        _writer: writer,
+        told: 7,
+    };
+    assert_eq!(&rt; read_by_two(&rt, &kept), (7, 7));
+}
