@@ -1,9 +1,7 @@
 //! Telling the words what became of nodes.
-ghost use Rattle.std.specs.Prelude.{◌≡◌, ◌∷◌, ◌⊎◌, List, Some, None, IfSome, IfNone};
+ghost use Rattle.std.specs.Prelude.{◌≡◌, ◌∷◌, List, Some, None, IfSome, IfNone};
 ghost use Rattle.kf_core.specs.declared.key.Key.{Key};
 ghost use Rattle.kf_core.specs.declared.records.Record.{Record};
-ghost use Rattle.kf_core.specs.Tree.{record_at};
-ghost use Rattle.kf_core.specs.Lawful.{Lawful};
 ghost use Rattle.kf_looks.specs.Lines.{bytes_in};
 ghost use Rattle.kf_looks.specs.Links.{IsOfSlot};
 ghost use Rattle.kf_looks.specs.Writing.{links_of};

@@ -1,6 +1,6 @@
 //! Where a name is looked for: in which line it may stand. Nobody believes a hint: what the line itself says
 //! is compared.
-ghost use Rattle.std.specs.Prelude.{◌≡◌, ◌+◌, ◌*◌, ◌<◌, ◌≤◌, ⊤, IfSome};
+ghost use Rattle.std.specs.Prelude.{◌≡◌, ◌+◌, ◌*◌, ◌<◌, ◌≤◌, ⊤};
 ghost use Rattle.kf_looks.specs.Lines.{words_for};
 ghost use Rattle.kf_looks.specs.Reading.{IsSameSeat, Follows};
 

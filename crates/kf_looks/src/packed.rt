@@ -1,5 +1,5 @@
 //! Keys and nodes as words.
-ghost use Rattle.std.specs.Prelude.{◌≡◌, ◌≢◌, ◌+◌, ◌*◌, Some, None, IfSome};
+ghost use Rattle.std.specs.Prelude.{◌≡◌, ◌≢◌, ◌+◌, ◌*◌, Some, None};
 ghost use Rattle.kf_looks.specs.Packed.{key_of, node_of, child_by};
 
 use crate::found::Found;

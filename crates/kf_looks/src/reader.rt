@@ -2,7 +2,7 @@
 ghost use Rattle.std.specs.Prelude.{◌≡◌, ◌+◌, ◌<◌, ◌*◌, [], ℕ, length, slice_index};
 ghost use Rattle.kf_looks.specs.Lines.{words_for, word_at};
 ghost use Rattle.kf_looks.specs.Reading.{IsSameSeat, Follows};
-ghost use Rattle.kf_looks.specs.Steps.{Begun, Passed, grown, view};
+ghost use Rattle.kf_looks.specs.Steps.{Begun, Passed, grown};
 
 use crate::looks::Looks;
 use crate::plays::{Begins, Checks, Peeks};

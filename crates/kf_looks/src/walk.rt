@@ -1,7 +1,7 @@
 //! Look-ups: where a path leads, without the lock.
-ghost use Rattle.std.specs.Prelude.{◌≡◌, ◌<◌, true, false, List, ℕ, Some, IfSome, slice_index};
+ghost use Rattle.std.specs.Prelude.{◌≡◌, ◌<◌, true, false, List, Some, IfSome, slice_index};
 ghost use Rattle.std.specs.List.{list_any, slice_split};
-ghost use Rattle.kf_looks.specs.Lines.{bytes_in, link_by, words_for};
+ghost use Rattle.kf_looks.specs.Lines.{bytes_in, link_by};
 ghost use Rattle.kf_looks.specs.Links.{top, walked, child_of, IsLater};
 ghost use Rattle.kf_looks.specs.Lookers.{seen};
 ghost use Rattle.kf_looks.specs.Paths.{is_slash, is_empty, led};

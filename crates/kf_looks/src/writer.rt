@@ -1,6 +1,6 @@
 //! The one who changes the words.
-ghost use Rattle.std.specs.Prelude.{◌≡◌, ◌+◌, ◌*◌, ◌%◌, ◌<◌, ◌∷◌, Some, None, IfSome, ◌≤◌, length, slice_set};
-ghost use Rattle.kf_looks.specs.Lines.{bytes_in, link_at, words_for, SaysTrue};
+ghost use Rattle.std.specs.Prelude.{◌≡◌, ◌+◌, ◌*◌, ◌%◌, ◌<◌, ◌∷◌, Some, None, IfSome, ◌≤◌, length};
+ghost use Rattle.kf_looks.specs.Lines.{bytes_in, words_for, SaysTrue};
 ghost use Rattle.kf_looks.specs.Links.{link, IsOfSlot};
 ghost use Rattle.kf_looks.specs.Steps.{entered, moved, put};
 ghost use Rattle.kf_looks.specs.Writing.{plan, links_of, IsWriter, WritesTrue, Plans, Keeps, IsFilled, SameLines};

@@ -1,6 +1,5 @@
 //! What the tests of look-ups build on: each helper stops the test where its call does not answer as asked.
-ghost use Rattle.std.specs.Prelude.{◌≡◌, ◌≤◌, ◌<◌, []};
-ghost use Rattle.kf_core.specs.Limits.{most_slots};
+ghost use Rattle.std.specs.Prelude.{◌≡◌, ◌<◌, []};
 ghost use Rattle.kf_looks.specs.Writing.{links_of};
 ghost use Rattle.kf_looks_tests.specs.Chains.{NoneFrom};
 

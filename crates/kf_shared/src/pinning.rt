@@ -1,5 +1,5 @@
 //! Holds of several nodes.
-ghost use Rattle.std.specs.Prelude.{◌≡◌, ◌⊎◌, ◌<◌, ◌≤◌, ◌+◌, All, is_some, true, false, [], ◌∷◌, length, IfOk, IfErr, Contains, vec_capacity, vec_len};
+ghost use Rattle.std.specs.Prelude.{◌≡◌, ◌⊎◌, ◌<◌, ◌≤◌, ◌+◌, All, is_some, true, [], ◌∷◌, length, IfOk, IfErr, Contains, vec_capacity, vec_len};
 ghost use Rattle.kf_core.specs.declared.key.Key.{Key};
 ghost use Rattle.kf_core.specs.declared.refusal.Refusal.TheVariants as refusal_of;
 ghost use Rattle.kf_words.specs.Nodes.{KeepsNodes, KeepsRooms, FoundFull};

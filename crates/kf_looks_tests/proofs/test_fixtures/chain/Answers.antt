@@ -1,4 +1,4 @@
-use Rattle.std.proofs.Common.{rules, ◌≡◌, ℕ, ◌+◌, ◌≤◌, List, ◌∷◌, Some, ap, ◌∙◌, arith}
+use Rattle.std.proofs.Common.{rules, ◌≡◌, List, ◌∷◌, Some, ap, ◌∙◌, arith}
 use Rattle.kf_core.specs.declared.key.Key.{Key}
 use Rattle.kf_looks.specs.declared.view.Link.{Link}
 use Rattle.kf_looks.specs.Lines.{bytes_in}
