@@ -30,7 +30,7 @@ impl<N: Naming> Locked<N> {
         ensures state { self.new.state ≡ self.old.state }
         ensures same { Unchanged self.old self.new }
     {
-        full_or_no_memory(&self.state, &mut self.master, key)
+        full_or_no_memory(self.state.state(), &mut self.master, key)
     }
 
     /// The refusal that a self-removal answers: want of memory only where no node of the subtree, its own
@@ -48,7 +48,7 @@ impl<N: Naming> Locked<N> {
         if !self.master.room(key) {
             return Refusal::TooManyHolds;
         }
-        full_or_no_memory(&self.state, &mut self.master, key)
+        full_or_no_memory(self.state.state(), &mut self.master, key)
     }
 
     /// The refusal that the doom of a linked node answers: want of memory only where no node below is found

@@ -1,5 +1,5 @@
 //! The guard of the tree lock.
-ghost use Rattle.std.specs.Prelude.{◌≡◌, ◌+◌, IfOk, IfErr, OnOk, OnErr, None, true, false, not, slice_set, length, List};
+ghost use Rattle.std.specs.Prelude.{◌≡◌, ◌+◌, ◌<◌, IfOk, IfErr, OnOk, OnErr, None, true, false, not, slice_set, length, List};
 ghost use Rattle.kf_core.specs.declared.key.Key.{Key};
 ghost use Rattle.kf_core.specs.declared.command.Command.{Command};
 ghost use Rattle.kf_core.specs.declared.command.Command.TheVariants.{Activate, Rename, Hide};
@@ -14,6 +14,8 @@ ghost use Rattle.kf_tree.specs.TreeLogs.{IsAccepted, IsRefused, IsCompacted};
 ghost use Rattle.kf_words.specs.Callers.{Handle, IsSameSeat, WasHidden, WasShown, seat_view};
 ghost use Rattle.kf_words.specs.Nodes.{KeepsNodes, IsVacant, UnlinkAnswer, WasPinned};
 ghost use Rattle.kf_words.specs.Runs.{WasAHide, WasAShow};
+ghost use Rattle.kf_live.specs.Live.{Say};
+ghost use Rattle.kf_live.specs.Lookers.{links_seen};
 ghost use Rattle.kf_shared.specs.Locked.{IsWhole, Created, CreateRefused, BornLowest, move_cause, IsHoldOfNode, HoldRefused, Unchanged, UnlinkDone, UnlinkRefused, is_claimed};
 ghost use Rattle.kf_shared.specs.Hiding.{hold_cause, HideRefused, ShowDone};
 ghost use Rattle.kf_shared.specs.Removal.{IsNew, AreHolds, DoomHolds, DoomDone, DoomMarked, DoomRefused, SelfRemovalRefused};
@@ -23,6 +25,7 @@ use crate::naming::Naming;
 use crate::removing::Removing;
 use crate::tree::SharedTree;
 use kf_core::{Key, Node, Refusal};
+use kf_live::Looker;
 use kf_tree::State;
 use kf_words::{Call, Drained, Hidden, Hiding, Hold};
 use std::marker::Model;
@@ -52,6 +55,20 @@ impl<'a, N: Naming> Editor<'a, N> {
         ensures whole { IsWhole N.table self.now }
     {
         self.guard.state()
+    }
+
+    /// One who looks names up without the lock, and was told of all that the tree says now: none of its
+    /// look-ups goes back behind that.
+    ///
+    /// Refusal: NoMemory, where the words of look-ups may have no owner more.
+    pub fn looker(&mut self) -> Result<Looker, Refusal>
+        ensures told { IfOk result
+            (λ looker. 0 < looker.slots → Say (links_seen looker) self.old.state.tree) }
+        ensures root { IfOk result (λ looker. looker.root ≡ self.old.state.root) }
+        ensures same { self.new ≡ self.old }
+        ensures refused { IfErr result (λ refusal. refusal ≡ refusal_of.NoMemory) }
+    {
+        self.guard.looker()
     }
 
     /// How many commands are stored. Each accepted one adds one, and only [`Editor::compact`] takes any away.

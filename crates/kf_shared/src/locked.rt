@@ -1,5 +1,5 @@
 //! What the tree lock keeps, and its commands on one node.
-ghost use Rattle.std.specs.Prelude.{◌≡◌, IfOk, IfErr, OnOk, OnErr, Some, None, true, false, not, slice_set};
+ghost use Rattle.std.specs.Prelude.{◌≡◌, ◌<◌, IfOk, IfErr, OnOk, OnErr, Some, None, true, false, not, slice_set};
 ghost use Rattle.kf_core.specs.declared.key.Key.{Key};
 ghost use Rattle.kf_core.specs.declared.command.Command.TheVariants.{Activate, Rename};
 ghost use Rattle.kf_core.specs.declared.refusal.Refusal.TheVariants as refusal_of;
@@ -8,11 +8,14 @@ ghost use Rattle.kf_tree.specs.Causes.{linked_cause};
 ghost use Rattle.kf_table.specs.Children.{is_there_already};
 ghost use Rattle.kf_tree.specs.TreeLogs.{IsAccepted, IsRefused};
 ghost use Rattle.kf_words.specs.Nodes.{KeepsNodes, IsVacant, UnlinkAnswer, WasPinned};
+ghost use Rattle.kf_live.specs.Live.{Say};
+ghost use Rattle.kf_live.specs.Lookers.{links_seen};
 ghost use Rattle.kf_shared.specs.Locked.{IsWhole, Created, CreateRefused, BornLowest, move_cause, IsHoldOfNode, HoldRefused, Unchanged, UnlinkDone, UnlinkRefused, is_claimed, was_given};
 
 use crate::marking::rise_each;
 use crate::naming::Naming;
 use kf_core::{Key, Node, Refusal};
+use kf_live::{LiveTree, Looker};
 use kf_tree::State;
 use kf_words::{Drained, Hold, Master};
 use std::alloc::Global;
@@ -23,7 +26,7 @@ use std::marker::{Model, PhantomData};
 #[derive(Drop)]
 pub struct Locked<N: Naming> {
     pub(crate) alloc: Global,
-    pub(crate) state: State,
+    pub(crate) state: LiveTree,
     pub(crate) master: Master,
     pub(crate) claims: Vec<u32>,
     pub(crate) name: PhantomData<N>,
@@ -47,7 +50,21 @@ impl<N: Naming> Locked<N> {
         ensures whole { IsWhole N.table self.now }
     {
         let _ = self.state.root();
-        &self.state
+        self.state.state()
+    }
+
+    /// One who looks names up without the lock, and was told of all that the tree says now: none of its
+    /// look-ups goes back behind that.
+    ///
+    /// Refusal: NoMemory, where the words of look-ups may have no owner more.
+    pub fn looker(&mut self) -> Result<Looker, Refusal>
+        ensures told { IfOk result
+            (λ looker. 0 < looker.slots → Say (links_seen looker) self.old.state.tree) }
+        ensures root { IfOk result (λ looker. looker.root ≡ self.old.state.root) }
+        ensures same { self.new ≡ self.old }
+        ensures refused { IfErr result (λ refusal. refusal ≡ refusal_of.NoMemory) }
+    {
+        self.state.looker()
     }
 
     /// Links a node in the slot that the search for a free one found. Where there is a cause against it

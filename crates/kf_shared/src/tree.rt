@@ -1,6 +1,7 @@
 //! The tree that threads share: how it is made, named and locked.
 ghost use Rattle.std.specs.Prelude.{◌≡◌, ◌+◌, ◌≤◌, IfErr, IfOk, replicate};
 ghost use Rattle.kf_core.specs.declared.refusal.Refusal.TheVariants as refusal_of;
+ghost use Rattle.kf_core.specs.Limits.{most_slots};
 ghost use Rattle.kf_tree.specs.TreeLogs.{IsNew};
 ghost use Rattle.kf_words.specs.Steps.{opened};
 ghost use Rattle.kf_shared.specs.Locked.{IsWhole};
@@ -10,6 +11,7 @@ use crate::locked::Locked;
 use crate::naming::Naming;
 use crate::reader::Reader;
 use kf_core::{Key, Limits, Refusal};
+use kf_live::LiveTree;
 use kf_tree::State;
 use kf_words::{Master, Words};
 use std::alloc::{AllocError, Global};
@@ -20,7 +22,7 @@ use std::sync::{RwLock, Wait};
 #[derive(Drop)]
 pub struct NewTree {
     alloc: Global,
-    state: State,
+    state: LiveTree,
     master: Master,
     claims: Vec<u32>,
 }
@@ -48,7 +50,7 @@ impl NewTree {
     pub fn state(&self) -> &State
         ensures same { result.now ≡ self.now.state }
     {
-        &self.state
+        self.state.state()
     }
 
     /// The tree without a lock, under the name of its table, for one owner or for a lock of the caller's own.
@@ -139,7 +141,7 @@ impl SharedTree<Brand> {
         ensures claims { IfOk result (λ tree. tree.claims ≡ replicate limits.slots 0) }
         ensures refused { IfErr result (λ refusal. refusal ≡ refusal_of.NoMemory) }
     {
-        SharedTree::new_at(alloc, limits, 0)
+        SharedTree::with_looks(alloc, limits, 0, 0)
     }
 
     /// The same, where each slot has already had `start` generations. The root has the next.
@@ -155,12 +157,35 @@ impl SharedTree<Brand> {
         ensures claims { IfOk result (λ tree. tree.claims ≡ replicate limits.slots 0) }
         ensures refused { IfErr result (λ refusal. refusal ≡ refusal_of.NoMemory) }
     {
+        SharedTree::with_looks(alloc, limits, start, 0)
+    }
+
+    /// The same, with words for the look-ups of so many slots, which take 88 bytes each: nodes of higher
+    /// slots are found under the lock alone.
+    ///
+    /// Conditions: `start` is at most 4294967294; `looks` is at most [`kf_core::MOST_SLOTS`].
+    ///
+    /// Refusal: NoMemory.
+    pub fn with_looks(
+        alloc: Global,
+        limits: Limits,
+        start: u32,
+        looks: u32,
+    ) -> Result<NewTree, Refusal>
+        requires start { start ≤ 4294967294 }
+        requires few { looks ≤ most_slots }
+        ensures tree { IfOk result
+            (λ tree. IsNew limits.slots (record { slot = 0; generation = start + 1 }) tree.state) }
+        ensures words { IfOk result (λ tree. tree.master.view ≡ opened limits.holds limits.slots start) }
+        ensures claims { IfOk result (λ tree. tree.claims ≡ replicate limits.slots 0) }
+        ensures refused { IfErr result (λ refusal. refusal ≡ refusal_of.NoMemory) }
+    {
         let (_words, master) = Words::new_at(alloc, limits, start)?;
         let root = Key {
             slot: 0,
             generation: start + 1,
         };
-        let state = State::new(alloc, limits, root)?;
+        let state = LiveTree::new(alloc, limits, root, looks)?;
         let claims = no_claims(alloc, limits.slots())?;
         Ok(NewTree {
             alloc,

@@ -1,4 +1,5 @@
 use Rattle.std.proofs.Common.{rules, sym, subst}
+use Rattle.kf_tree.specs.TreeLogs.{TreeLog}
 use Rattle.kf_words.specs.Nodes.{IsLastKey}
 use Rattle.kf_shared.specs.Locked.{Locked}
 use Rattle.kf_shared.specs.Removal.{HoldsBelowRefused}
@@ -20,4 +21,5 @@ pub returns-clause-memory : goal.returns-clause-memory
 returns-clause-memory g c e =
     in_refused c.args.self.now.state.tree c.args.key c.room.new.self.view c.full_or_no_memory.new.master.view c.full_or_no_memory.result
     (c.room.ensures.room (search rules)) c.full_or_no_memory.ensures.rooms
-    (subst (λ (l : Locked). HoldsBelowRefused l.state.tree c.args.key c.full_or_no_memory.new.master.view c.full_or_no_memory.result) c.self.view_is c.full_or_no_memory.ensures.refused)
+    (subst (λ (l : Locked). HoldsBelowRefused l.state.tree c.args.key c.full_or_no_memory.new.master.view c.full_or_no_memory.result) c.self.view_is
+    (subst (λ (t : TreeLog). HoldsBelowRefused t.tree c.args.key c.full_or_no_memory.new.master.view c.full_or_no_memory.result) c.state.ensures.same c.full_or_no_memory.ensures.refused))

@@ -1,6 +1,6 @@
 use Rattle.std.proofs.Common.{ap, replicate, ◌∙◌}
 use Rattle.kf_shared.proofs.Opening.{tied_opening}
-use Rattle.kf_shared.proofs.tree.SharedTree+Brand.new_at.Goals as goal
+use Rattle.kf_shared.proofs.tree.SharedTree+Brand.with_looks.Goals as goal
 
 pub invariant_of-result : goal.invariant_of-result
 invariant_of-result c =
