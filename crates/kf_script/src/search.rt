@@ -102,3 +102,17 @@ pub fn place_of(byte: u8, bytes: &[u8]) -> Option<usize>
         _ => place_in_many(byte, bytes),
     }
 }
+
+/// The same, where one byte is likely to be all that stands before it. Inlined, it then makes no call.
+#[inline(always)]
+pub fn place_behind_one(byte: u8, bytes: &[u8]) -> Option<usize>
+    ensures place { result ≡ position (λ b. b == byte) bytes.now }
+{
+    if bytes.len() == 1 && bytes[0] != byte {
+        return None;
+    }
+    if bytes.len() > 1 && bytes[0] != byte && bytes[1] == byte {
+        return Some(1);
+    }
+    place_of(byte, bytes)
+}

@@ -1,11 +1,11 @@
 //! The words of a line, taken one by one. All are inlined, for the sake of the rows.
 
-ghost use Rattle.std.specs.Prelude.{◌≡◌, ◌≤◌, ◌<◌, ℕ, List, Option, Some, None, IfSome, if◌then◌else◌};
+ghost use Rattle.std.specs.Prelude.{◌≡◌, ◌≤◌, ◌<◌, ℕ, List, Option, Some, None, IfSome, position, if◌then◌else◌};
 ghost use Rattle.std.specs.Option.{option_map, option_and_then};
-ghost use Rattle.kf_script.specs.Requests.{next_word, behind_next, is_over, last_word, whole_text, path_of, mode_of, file_of, offset_of, length_of, want_of};
+ghost use Rattle.kf_script.specs.Requests.{is_space, first_word, behind, next_word, behind_next, is_over, last_word, whole_text, path_of, mode_of, file_of, offset_of, length_of, want_of};
 
 use super::kinds::{file_in, length_in, mode_in, offset_in, path_in, want_in};
-use super::search::place_of;
+use super::search::{place_behind_one, place_of};
 use super::spelling::spells;
 use std::marker::Model;
 
@@ -30,6 +30,25 @@ impl<'a> Words<'a> {
         Words { later: Some(line) }
     }
 
+    /// Takes the first word of all that comes, where its first space is known.
+    #[inline(always)]
+    fn cut(&mut self, text: &'a [u8], space: Option<usize>) -> &'a [u8]
+        requires space { space ≡ position is_space text.now }
+        ensures word { result.now ≡ first_word text.now }
+        ensures later { self.new ≡ behind text.now }
+    {
+        match space {
+            Some(at) => {
+                self.later = Some(&text[at + 1..]);
+                &text[..at]
+            }
+            None => {
+                self.later = None;
+                text
+            }
+        }
+    }
+
     /// Takes the next word, which may be empty: what stands before the next space.
     #[inline(always)]
     pub fn next(&mut self) -> Option<&'a [u8]>
@@ -37,16 +56,17 @@ impl<'a> Words<'a> {
         ensures later { self.new ≡ behind_next self.old }
     {
         let text = self.later?;
-        match place_of(b' ', text) {
-            Some(at) => {
-                self.later = Some(&text[at + 1..]);
-                Some(&text[..at])
-            }
-            None => {
-                self.later = None;
-                Some(text)
-            }
-        }
+        Some(self.cut(text, place_of(b' ', text)))
+    }
+
+    /// The same, where a word of one letter is likely.
+    #[inline(always)]
+    fn next_letter(&mut self) -> Option<&'a [u8]>
+        ensures word { option_map (λ word. word.now) result ≡ next_word self.old }
+        ensures later { self.new ≡ behind_next self.old }
+    {
+        let text = self.later?;
+        Some(self.cut(text, place_behind_one(b' ', text)))
     }
 
     /// Takes a path or a name.
@@ -75,7 +95,7 @@ impl<'a> Words<'a> {
         ensures later { self.new ≡ behind_next self.old }
         ensures range { IfSome result (λ file. file < 26) }
     {
-        file_in(self.next()?)
+        file_in(self.next_letter()?)
     }
 
     /// Takes an offset.
