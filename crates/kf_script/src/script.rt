@@ -15,7 +15,7 @@ use super::grammar::parse_into;
 use super::line::{LINE_LIMIT, LineBuffer};
 use super::output::{KEPT_LIMIT, Output};
 use super::reply::Reply;
-use super::search::place_of;
+use super::search::newline_in;
 use super::streams::{READ_LIMIT, Streams};
 use std::alloc::Global;
 use std::io::{Read, Write};
@@ -133,7 +133,7 @@ fn take_bytes<B: Board, W: Write>(
     ensures fault { IfErr result (λ fault. fault ≡ RunFault.Write) }
 {
     let mut rest = bytes;
-    while let Some(at) = place_of(b'\n', rest) {
+    while let Some(at) = newline_in(rest) {
         take_line(board, reply, line, output, &rest[..at])?;
         rest = &rest[at + 1..];
     }

@@ -3,6 +3,8 @@
 ghost use Rattle.std.specs.Prelude.{◌≡◌, ◌≤◌, ◌<◌, ◌+◌, ◌==◌, not, length, position};
 ghost use Rattle.std.specs.List.{prefix_len};
 ghost use Rattle.std.specs.Simd.Lanes.{chunk};
+ghost use Rattle.kf_script.specs.Lines.{is_newline};
+ghost use Rattle.kf_script.specs.Requests.{is_space};
 
 use memchr::memchr;
 use std::simd::prelude::*;
@@ -37,6 +39,39 @@ fn before_in_8(byte: u8, bytes: &[u8], from: usize) -> usize
     } else {
         marks.trailing_zeros() as usize
     }
+}
+
+/// The same of 4 bytes.
+#[inline(always)]
+fn before_in_4(byte: u8, bytes: &[u8], from: usize) -> usize
+    requires { from + 4 ≤ length bytes.now }
+    ensures { result ≡ prefix_len (λ b. not (b == byte)) (chunk from 4 bytes.now) }
+{
+    let marks = u8x4::from_slice(&bytes[from..])
+        .simd_eq(u8x4::splat(byte))
+        .to_bitmask();
+    if marks == 0 {
+        4
+    } else {
+        marks.trailing_zeros() as usize
+    }
+}
+
+/// Where the byte stands first in 4 to 8 bytes: the first 4 are looked at, and then the last 4.
+#[inline(always)]
+fn place_by_4(byte: u8, bytes: &[u8]) -> Option<usize>
+    requires length { (4 ≤ length bytes.now) × (length bytes.now ≤ 8) }
+    ensures place { result ≡ position (λ b. b == byte) bytes.now }
+{
+    let first = before_in_4(byte, bytes, 0);
+    if first < 4 {
+        return Some(first);
+    }
+    let last = before_in_4(byte, bytes, bytes.len() - 4);
+    if last < 4 {
+        return Some(bytes.len() - 4 + last);
+    }
+    None
 }
 
 /// Where the byte stands first in 8 to 16 bytes: the first 8 are looked at, and then the last 8.
@@ -90,29 +125,57 @@ fn place_in_many(byte: u8, bytes: &[u8]) -> Option<usize>
     memchr(byte, bytes)
 }
 
-/// Where the byte stands first. Words and lines are short: so 8 or 16 bytes are looked at together, where
+/// Where the byte stands first. Words and lines are short: so 4, 8 or 16 bytes are looked at together, where
 /// `memchr` looks at fewer than 32 one by one.
-pub fn place_of(byte: u8, bytes: &[u8]) -> Option<usize>
+#[inline(always)]
+fn place_of(byte: u8, bytes: &[u8]) -> Option<usize>
     ensures { result ≡ position (λ b. b == byte) bytes.now }
 {
     match bytes.len() {
-        0..=7 => memchr(byte, bytes),
+        0..=3 => memchr(byte, bytes),
+        4..=7 => place_by_4(byte, bytes),
         8..=15 => place_by_8(byte, bytes),
         16..=32 => place_by_16(byte, bytes),
         _ => place_in_many(byte, bytes),
     }
 }
 
+/// Where the first newline stands.
+#[inline(always)]
+pub fn newline_in(bytes: &[u8]) -> Option<usize>
+    ensures { result ≡ position is_newline bytes.now }
+{
+    place_of(b'\n', bytes)
+}
+
+/// Where the first space stands. (Its byte is known in a function of its own, which all words call.)
+pub fn space_in(bytes: &[u8]) -> Option<usize>
+    ensures { result ≡ position is_space bytes.now }
+{
+    place_of(b' ', bytes)
+}
+
 /// The same, where one byte is likely to be all that stands before it. Inlined, it then makes no call.
 #[inline(always)]
-pub fn place_behind_one(byte: u8, bytes: &[u8]) -> Option<usize>
-    ensures place { result ≡ position (λ b. b == byte) bytes.now }
+pub fn space_behind_letter(bytes: &[u8]) -> Option<usize>
+    ensures place { result ≡ position is_space bytes.now }
 {
-    if bytes.len() == 1 && bytes[0] != byte {
+    if bytes.len() == 1 && bytes[0] != b' ' {
         return None;
     }
-    if bytes.len() > 1 && bytes[0] != byte && bytes[1] == byte {
+    if bytes.len() > 1 && bytes[0] != b' ' && bytes[1] == b' ' {
         return Some(1);
     }
-    place_of(byte, bytes)
+    space_in(bytes)
+}
+
+/// The same, where one or two bytes are likely to be all.
+#[inline(always)]
+pub fn space_in_two(bytes: &[u8]) -> Option<usize>
+    ensures place { result ≡ position is_space bytes.now }
+{
+    if bytes.len() == 2 && bytes[0] != b' ' && bytes[1] != b' ' {
+        return None;
+    }
+    space_behind_letter(bytes)
 }

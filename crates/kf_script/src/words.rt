@@ -5,7 +5,7 @@ ghost use Rattle.std.specs.Option.{option_map, option_and_then};
 ghost use Rattle.kf_script.specs.Requests.{is_space, first_word, behind, next_word, behind_next, is_over, last_word, whole_text, path_of, mode_of, file_of, offset_of, length_of, want_of};
 
 use super::kinds::{file_in, length_in, mode_in, offset_in, path_in, want_in};
-use super::search::{place_behind_one, place_of};
+use super::search::{space_behind_letter, space_in, space_in_two};
 use super::spelling::spells;
 use std::marker::Model;
 
@@ -56,7 +56,7 @@ impl<'a> Words<'a> {
         ensures later { self.new ≡ behind_next self.old }
     {
         let text = self.later?;
-        Some(self.cut(text, place_of(b' ', text)))
+        Some(self.cut(text, space_in(text)))
     }
 
     /// The same, where a word of one letter is likely.
@@ -66,7 +66,17 @@ impl<'a> Words<'a> {
         ensures later { self.new ≡ behind_next self.old }
     {
         let text = self.later?;
-        Some(self.cut(text, place_behind_one(b' ', text)))
+        Some(self.cut(text, space_behind_letter(text)))
+    }
+
+    /// The same, where a last word of one or two letters is likely.
+    #[inline(always)]
+    fn next_of_two(&mut self) -> Option<&'a [u8]>
+        ensures word { option_map (λ word. word.now) result ≡ next_word self.old }
+        ensures later { self.new ≡ behind_next self.old }
+    {
+        let text = self.later?;
+        Some(self.cut(text, space_in_two(text)))
     }
 
     /// Takes a path or a name.
@@ -124,7 +134,7 @@ impl<'a> Words<'a> {
         ensures value { result ≡ option_and_then want_of (next_word self.old) }
         ensures later { self.new ≡ behind_next self.old }
     {
-        want_in(self.next()?)
+        want_in(self.next_of_two()?)
     }
 
     /// Whether nothing more comes.
