@@ -18,6 +18,8 @@ mod large_tests;
 #[cfg(test)]
 mod left_behind;
 #[cfg(test)]
+mod look_tests;
+#[cfg(test)]
 mod reading_tests;
 #[cfg(test)]
 mod self_tests;
