@@ -2,6 +2,8 @@
 #![tactic(auto)]
 
 #[cfg(test)]
+mod binary_tests;
+#[cfg(test)]
 mod callback_tests;
 #[cfg(test)]
 mod number_tests;

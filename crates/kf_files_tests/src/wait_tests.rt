@@ -1,11 +1,12 @@
 //! Waiting for a change: who waits sleeps, and a notify, a removal and a hiding wake it.
-ghost use Rattle.std.specs.Prelude.{◌≡◌, ◌<◌};
+ghost use Rattle.std.specs.Prelude.{◌≡◌};
 
 use crate::waiting_fixtures::{
-    Before, close, file_of, first_wrong, made, new_driver, opened, post_of, posts_of, release_all,
+    BOTH, Before, ROOT, close, file_of, first_wrong, made, new_driver, opened, post_at, post_of,
+    posts_of, release_all,
 };
 use kf_core::Key;
-use kf_files::{WaitingFile, hide_and_tell, remove_and_tell};
+use kf_files::{BoxedFile, PageApart, WaitingFile, hide_and_tell, remove_and_tell};
 use kf_notify::Posts;
 use kf_shared::{Naming, NewTree, SharedTree};
 use std::alloc::Global;
@@ -13,14 +14,11 @@ use std::marker::Brand;
 use std::process::Abort;
 use std::sync::Wait;
 use std::sync::atomic::{AtomicU64, Ordering};
-use std::thread::{Threads, join, sleep, yield_now};
+use std::thread::{Threads, for_each_mut, join, sleep};
 use std::time::{Clock, CpuClock, Duration};
 
-/// How often each of four threads waits for a notify.
-const NOTIFIES: u64 = 2_000;
-
-/// How often a file is made, waited for by four threads, and removed or hidden.
-const ROUNDS: u32 = 200;
+/// How often four threads wait for a notify, how often for a hiding, and how often for a removal.
+const CHANGES: u64 = 10_000;
 
 // ---- one thread
 
@@ -32,7 +30,7 @@ fn ends_by_a_limit<N: Naming, R: Abort + Wait + Clock>(rt: &R, alloc: Global, ne
     let key = file_of(rt, &tree, b"t");
     let mut posts = posts_of(rt, alloc);
     let mut post = post_of(rt, &mut posts);
-    let mut file = opened(rt, &tree, key, post_of(rt, &mut posts));
+    let mut file = opened(rt, &tree, key, &mut posts);
     let quiet = new_driver(Before::Nothing, b"v");
     let limit = Duration::from_millis(2);
     let answers = [
@@ -41,7 +39,7 @@ fn ends_by_a_limit<N: Naming, R: Abort + Wait + Clock>(rt: &R, alloc: Global, ne
         !file.wait_changed_for(rt, limit),
         post.wait_past_for(rt, 1, limit) == None,
         post.wait_past(rt, 7) == 1,
-        posts.notify(1) == Ok(2),
+        tells(&mut posts, 1),
         post.wait_past(rt, 1) == 2,
         post.wait_past_for(rt, 1, limit) == Some(2),
         file.wait_changed_for(rt, limit),
@@ -60,158 +58,11 @@ fn a_wait_ends_by_its_limit_or_by_a_change(rt: HostRuntime) {
     ends_by_a_limit::<Brand, _>(&rt, rt.alloc(), new);
 }
 
-// ---- four threads that wait
-
-/// Four open files of one node, each for a thread of its own.
-#[derive(Drop)]
-struct Four<N: Naming> {
-    files: (
-        WaitingFile<N>,
-        WaitingFile<N>,
-        WaitingFile<N>,
-        WaitingFile<N>,
-    ),
+fn tells(posts: &mut Posts, slot: u32) -> bool {
+    slot < posts.slots() && posts.notify(slot).is_ok()
 }
 
-fn open_four<N: Naming, R: Abort + Wait>(
-    rt: &R,
-    tree: &SharedTree<N>,
-    key: Key,
-    posts: &mut Posts,
-) -> Four<N>
-    requires { posts.old.slots ≡ 4 }
-    ensures { posts.new.slots ≡ 4 }
-{
-    let first = opened(rt, tree, key, post_of(rt, posts));
-    let second = opened(rt, tree, key, post_of(rt, posts));
-    let third = opened(rt, tree, key, post_of(rt, posts));
-    let fourth = opened(rt, tree, key, post_of(rt, posts));
-    Four {
-        files: (first, second, third, fourth),
-    }
-}
-
-/// Reads the file and waits until it has changed, so often, and counts each read. Afterwards it has changed.
-fn waits<N: Naming, R: Wait>(
-    rt: &R,
-    tree: &SharedTree<N>,
-    file: &mut WaitingFile<N>,
-    times: u64,
-    reads: &AtomicU64,
-) -> bool {
-    let quiet = new_driver(Before::Nothing, b"v");
-    let mut right = true;
-    for _ in 0..times {
-        right = right && file.read(rt, tree, &quiet, 0, &mut [0u8; 4]) == Ok(1);
-        reads.fetch_add(1, Ordering::SeqCst);
-        file.wait_changed(rt);
-    }
-    right && file.poll()
-}
-
-fn two_wait<N: Naming + Send + Sync, R: Threads + Wait + Sync>(
-    rt: &R,
-    tree: &SharedTree<N>,
-    one: &mut WaitingFile<N>,
-    other: &mut WaitingFile<N>,
-    times: u64,
-    reads: &AtomicU64,
-) -> bool {
-    let (first, second) = join(
-        rt,
-        || waits(rt, tree, one, times, reads),
-        || waits(rt, tree, other, times, reads),
-    );
-    first && second
-}
-
-fn four_wait<N: Naming + Send + Sync, R: Threads + Wait + Sync>(
-    rt: &R,
-    tree: &SharedTree<N>,
-    four: Four<N>,
-    times: u64,
-    reads: &AtomicU64,
-) -> bool {
-    let Four {
-        files: (mut first, mut second, mut third, mut fourth),
-    } = four;
-    let (front, back) = join(
-        rt,
-        || two_wait(rt, tree, &mut first, &mut second, times, reads),
-        || two_wait(rt, tree, &mut third, &mut fourth, times, reads),
-    );
-    close(first);
-    close(second);
-    close(third);
-    close(fourth);
-    front && back
-}
-
-fn await_reads<R: Wait>(rt: &R, count: u64, reads: &AtomicU64) {
-    for _ in rt.forever() {
-        if reads.load(Ordering::SeqCst) >= count {
-            return;
-        }
-        yield_now();
-    }
-}
-
-// ---- who waits uses no processor, and none misses a notify
-
-/// The processor time that passes in the process while four threads wait, in the time of a sleep.
-fn time_asleep<R: Wait + Clock + CpuClock>(rt: &R, reads: &AtomicU64) -> Option<Duration> {
-    await_reads(rt, 4, reads);
-    let before = rt.process_cpu_time().ok()?;
-    sleep(rt, Duration::from_millis(500));
-    rt.process_cpu_time().ok()?.checked_sub(before)
-}
-
-fn tells(posts: &mut Posts, number: u64) -> bool {
-    1 < posts.slots() && posts.notify(1) == Ok(number)
-}
-
-/// Notifies so often, each time once all four have read again.
-fn notifies<R: Wait>(rt: &R, posts: &mut Posts, reads: &AtomicU64) -> bool {
-    let mut right = true;
-    for round in 1..NOTIFIES + 1 {
-        await_reads(rt, 4 * round, reads);
-        right = tells(posts, round + 1) && right;
-    }
-    right
-}
-
-fn sleeps_and_misses_none<
-    N: Naming + Send + Sync,
-    R: Abort + Threads + Wait + Clock + CpuClock + Sync,
->(rt: &R, alloc: Global, new: NewTree)
-    requires { new.master.table ≡ N.table }
-{
-    let tree = new.named::<N>();
-    let key = file_of(rt, &tree, b"t");
-    let mut posts = posts_of(rt, alloc);
-    let four = open_four(rt, &tree, key, &mut posts);
-    let reads = AtomicU64::new(0);
-    let (woken, (used, told)) = join(
-        rt,
-        || four_wait(rt, &tree, four, NOTIFIES, &reads),
-        || (time_asleep(rt, &reads), notifies(rt, &mut posts, &reads)),
-    );
-    let limit = Duration::from_millis(100);
-    assert!(rt; woken && told, "four threads saw each notify");
-    assert!(rt; used.is_some_and(|used| used < limit), "who waits sleeps");
-}
-
-#[test]
-fn four_threads_that_wait_sleep_and_miss_no_notify(rt: HostRuntime) {
-    let new = made(&rt, rt.alloc());
-    sleeps_and_misses_none::<Brand, _>(&rt, rt.alloc(), new);
-}
-
-// ---- a removal and a hiding wake them all
-
-fn removes<N: Naming, R: Wait>(rt: &R, tree: &SharedTree<N>, posts: &mut Posts, key: Key) -> bool
-    ensures { posts.new.slots ≡ posts.old.slots }
-{
+fn removes<N: Naming, R: Wait>(rt: &R, tree: &SharedTree<N>, posts: &mut Posts, key: Key) -> bool {
     match remove_and_tell(tree.edit(rt), rt, posts, key) {
         Ok(receipts) => {
             let one = receipts.len() == 1;
@@ -222,9 +73,7 @@ fn removes<N: Naming, R: Wait>(rt: &R, tree: &SharedTree<N>, posts: &mut Posts, 
     }
 }
 
-fn hides<N: Naming, R: Wait>(rt: &R, tree: &SharedTree<N>, posts: &mut Posts, key: Key) -> bool
-    ensures { posts.new.slots ≡ posts.old.slots }
-{
+fn hides<N: Naming, R: Wait>(rt: &R, tree: &SharedTree<N>, posts: &mut Posts, key: Key) -> bool {
     let held = tree.edit(rt).hold(key);
     let Ok(hold) = held else {
         return false;
@@ -241,66 +90,211 @@ fn hides<N: Naming, R: Wait>(rt: &R, tree: &SharedTree<N>, posts: &mut Posts, ke
     }
 }
 
-/// Hides or removes the file, once four have read it.
-fn ends<N: Naming, R: Wait>(
+// ---- four wait while a fifth changes the file: each notify, hiding and removal wakes them all
+
+/// What becomes of a file that all five have read.
+#[derive(Clone, Copy)]
+enum Change {
+    Told,
+    /// It is hidden, and shown again.
+    Hidden,
+    /// It is removed, and another made in its place.
+    Removed,
+}
+
+/// What one of five threads has.
+#[derive(Drop)]
+struct Reader {
+    posts: Posts,
+    /// How often it has seen the change that it waited for, and none before it.
+    seen: u64,
+}
+
+fn changes<N: Naming, R: Abort + Wait>(
     rt: &R,
     tree: &SharedTree<N>,
     posts: &mut Posts,
     key: Key,
-    by_hiding: bool,
-    reads: &AtomicU64,
+    name: &[u8],
+    change: Change,
 ) -> bool {
-    await_reads(rt, 4, reads);
-    if by_hiding {
-        hides(rt, tree, posts, key)
-    } else {
-        removes(rt, tree, posts, key)
+    match change {
+        Change::Told => tells(posts, key.slot),
+        Change::Hidden => hides(rt, tree, posts, key),
+        Change::Removed => {
+            let removed = removes(rt, tree, posts, key);
+            file_of(rt, tree, name);
+            removed
+        }
     }
 }
 
-/// Four threads wait for a new file, which is hidden or removed under them. At the end it is removed.
-fn ends_under_four<N: Naming + Send + Sync, R: Abort + Threads + Wait + Sync>(
+fn opened_on<N: Naming, R: Abort + Wait>(
     rt: &R,
     tree: &SharedTree<N>,
     posts: &mut Posts,
-    by_hiding: bool,
-) -> bool
-    requires { posts.old.slots ≡ 4 }
-    ensures { posts.new.slots ≡ 4 }
-{
-    let key = file_of(rt, tree, b"t");
-    let four = open_four(rt, tree, key, posts);
-    let reads = AtomicU64::new(0);
-    let Ok(mut teller) = posts.another() else {
-        panic!(rt; "no memory")
+    name: &[u8],
+    page: Box<PageApart>,
+) -> (Key, BoxedFile<N>) {
+    let mut editor = tree.edit(rt);
+    let Ok(key) = editor.state().find(ROOT, name) else {
+        panic!(rt; "not there")
     };
-    let (woken, done) = join(
-        rt,
-        || four_wait(rt, tree, four, 1, &reads),
-        || ends(rt, tree, &mut teller, key, by_hiding, &reads),
-    );
-    woken && done && (!by_hiding || removes(rt, tree, posts, key))
+    let held = editor.hold(key);
+    drop(editor);
+    let Ok(hold) = held else {
+        panic!(rt; "no hold")
+    };
+    let node = hold.node();
+    let post = post_at(rt, posts, key.slot);
+    match WaitingFile::open_on(hold, node, BOTH, post, page) {
+        Ok(file) => (key, file),
+        Err((hold, _, _, _)) => {
+            hold.release();
+            panic!(rt; "not opened")
+        }
+    }
 }
 
-fn ends_wake_all<N: Naming + Send + Sync, R: Abort + Threads + Wait + Sync>(
+/// Opens the file and reads it, and sleeps until it has changed. The last of five to read changes it, while
+/// four wait. Gives the page back.
+fn sees<N: Naming, R: Abort + Wait>(
+    rt: &R,
+    tree: &SharedTree<N>,
+    (posts, page): (&mut Posts, Box<PageApart>),
+    name: &[u8],
+    change: Change,
+    reads: &AtomicU64,
+) -> (bool, Box<PageApart>) {
+    let quiet = new_driver(Before::Nothing, b"v");
+    let (key, mut file) = opened_on(rt, tree, posts, name, page);
+    let mut right = file.read(rt, tree, &quiet, 0, &mut [0u8; 4]) == Ok(1) && !file.poll();
+    if reads.fetch_add(1, Ordering::SeqCst) % 5 == 4 {
+        right = changes(rt, tree, posts, key, name, change) && right;
+    }
+    file.wait_changed(rt);
+    right = right && file.poll();
+    let (hold, _, page) = file.into_parts();
+    hold.release();
+    (right, page)
+}
+
+/// Sees changes of `s` and `t` in turn: who changed the one has done so before the other is read by all.
+fn sees_all<N: Naming, R: Abort + Wait>(
+    rt: &R,
+    alloc: Global,
+    tree: &SharedTree<N>,
+    reader: &mut Reader,
+    change: Change,
+    reads: &AtomicU64,
+) {
+    let Ok(mut page) = Box::new(alloc, PageApart::new()) else {
+        panic!(rt; "no memory")
+    };
+    let mut seen = 0u64;
+    for round in 0..CHANGES {
+        let name: &[u8] = if round % 2 == 0 { b"s" } else { b"t" };
+        let (right, back) = sees(rt, tree, (&mut reader.posts, page), name, change, reads);
+        page = back;
+        if right {
+            seen = seen.saturating_add(1);
+        }
+    }
+    reader.seen = seen;
+}
+
+/// The processor time that passes in the process while four threads wait, in a second.
+fn time_asleep<R: Wait + Clock + CpuClock>(rt: &R, reads: &AtomicU64) -> Option<Duration> {
+    for _ in rt.forever() {
+        if reads.load(Ordering::SeqCst) == 4 {
+            break;
+        }
+        sleep(rt, Duration::from_millis(1));
+    }
+    let before = rt.process_cpu_time().ok()?;
+    sleep(rt, Duration::from_secs(1));
+    rt.process_cpu_time().ok()?.checked_sub(before)
+}
+
+fn new_reader<R: Abort>(rt: &R, posts: &mut Posts) -> Reader {
+    match posts.another() {
+        Ok(posts) => Reader { posts, seen: 0 },
+        Err(_) => panic!(rt; "no memory"),
+    }
+}
+
+fn new_readers<R: Abort>(rt: &R, alloc: Global, posts: &mut Posts) -> Vec<Reader> {
+    let mut readers = Vec::new(alloc);
+    for _ in 0..4u32 {
+        let pushed = readers.push(new_reader(rt, posts));
+        assert!(rt; pushed.is_ok(), "no memory");
+    }
+    readers
+}
+
+fn four_see<N: Naming + Send + Sync, R: Abort + Threads + Wait + Sync>(
+    rt: &R,
+    alloc: Global,
+    tree: &SharedTree<N>,
+    readers: &mut Vec<Reader>,
+    change: Change,
+    reads: &AtomicU64,
+) {
+    for_each_mut(
+        rt,
+        readers.as_mut_slice(),
+        4,
+        &|_, reader| sees_all(rt, alloc, tree, reader, change, reads),
+    );
+}
+
+fn four_are_woken<N: Naming + Send + Sync, R: Abort + Threads + Wait + Clock + CpuClock + Sync>(
     rt: &R,
     alloc: Global,
     new: NewTree,
+    change: Change,
 )
     requires { new.master.table ≡ N.table }
 {
     let tree = new.named::<N>();
+    file_of(rt, &tree, b"s");
+    file_of(rt, &tree, b"t");
     let mut posts = posts_of(rt, alloc);
-    for round in 0..ROUNDS {
-        assert!(rt;
-            ends_under_four(rt, &tree, &mut posts, round % 2 == 0),
-            "all woke, and saw the end"
-        );
-    }
+    let mut readers = new_readers(rt, alloc, &mut posts);
+    let mut fifth = new_reader(rt, &mut posts);
+    let reads = AtomicU64::new(0);
+    let ((), used) = join(
+        rt,
+        || four_see(rt, alloc, &tree, &mut readers, change, &reads),
+        || {
+            let used = time_asleep(rt, &reads);
+            sees_all(rt, alloc, &tree, &mut fifth, change, &reads);
+            used
+        },
+    );
+    let limit = Duration::from_millis(100);
+    assert!(rt;
+        used.is_some_and(|used| used < limit),
+        "who waits uses no processor"
+    );
+    let all_seen = readers.iter().all(|reader| reader.seen == CHANGES);
+    assert!(rt; all_seen && fifth.seen == CHANGES, "all saw each change");
 }
 
 #[test]
-fn a_removal_and_a_hiding_wake_all_who_wait(rt: HostRuntime) {
+fn four_threads_sleep_and_each_notify_wakes_them_all(rt: HostRuntime) {
     let new = made(&rt, rt.alloc());
-    ends_wake_all::<Brand, _>(&rt, rt.alloc(), new);
+    four_are_woken::<Brand, _>(&rt, rt.alloc(), new, Change::Told);
+}
+
+#[test]
+fn four_threads_sleep_and_each_hiding_wakes_them_all(rt: HostRuntime) {
+    let new = made(&rt, rt.alloc());
+    four_are_woken::<Brand, _>(&rt, rt.alloc(), new, Change::Hidden);
+}
+
+#[test]
+fn four_threads_sleep_and_each_removal_wakes_them_all(rt: HostRuntime) {
+    let new = made(&rt, rt.alloc());
+    four_are_woken::<Brand, _>(&rt, rt.alloc(), new, Change::Removed);
 }

@@ -198,7 +198,7 @@ pub(crate) fn made<R: Abort>(rt: &R, alloc: Global) -> NewTree {
     }
 }
 
-const ROOT: Key = Key {
+pub(crate) const ROOT: Key = Key {
     slot: 0,
     generation: 1,
 };
@@ -229,41 +229,40 @@ pub(crate) fn held<N: Naming, R: Abort + Wait>(
     }
 }
 
-pub(crate) fn posts_of<R: Abort>(rt: &R, alloc: Global) -> Posts
-    ensures { result.slots ≡ 4 }
-{
+pub(crate) fn posts_of<R: Abort>(rt: &R, alloc: Global) -> Posts {
     match Posts::new(alloc, 4) {
         Ok(posts) => posts,
         Err(_) => panic!(rt; "no memory"),
     }
 }
 
-/// A post of slot 1, which is that of a test's first file.
-pub(crate) fn post_of<R: Abort>(rt: &R, posts: &mut Posts) -> Post
-    requires { posts.old.slots ≡ 4 }
-    ensures posts { posts.new.slots ≡ 4 }
-    ensures slot { result.slot ≡ 1 }
+pub(crate) fn post_at<R: Abort>(rt: &R, posts: &mut Posts, slot: u32) -> Post
+    ensures { result.slot ≡ slot }
 {
-    match posts.post(1) {
+    assert!(rt; slot < posts.slots(), "the slot has a number");
+    match posts.post(slot) {
         Ok(post) => post,
         Err(_) => panic!(rt; "no memory"),
     }
+}
+
+/// A post of slot 1, which is that of a test's first file.
+pub(crate) fn post_of<R: Abort>(rt: &R, posts: &mut Posts) -> Post {
+    post_at(rt, posts, 1)
 }
 
 pub(crate) fn opened<N: Naming, R: Abort + Wait>(
     rt: &R,
     tree: &SharedTree<N>,
     key: Key,
-    post: Post,
-) -> WaitingFile<N>
-    requires slot { post.slot ≡ 1 }
-{
-    assert_eq!(rt; key.slot, 1, "the post is of slot 1");
+    posts: &mut Posts,
+) -> WaitingFile<N> {
     let held = tree.edit(rt).hold(key);
     let Ok(hold) = held else {
         panic!(rt; "no hold")
     };
     let node = hold.node();
+    let post = post_at(rt, posts, key.slot);
     match WaitingFile::open(hold, node, BOTH, post) {
         Ok(file) => file,
         Err((hold, _, _)) => {
@@ -281,7 +280,7 @@ pub(crate) fn opened_alone<N: Naming, R: Abort + Wait>(
 ) -> WaitingFile<N> {
     let key = file_of(rt, tree, b"t");
     let mut posts = posts_of(rt, alloc);
-    opened(rt, tree, key, post_of(rt, &mut posts))
+    opened(rt, tree, key, &mut posts)
 }
 
 pub(crate) fn close<N: Naming>(file: WaitingFile<N>) {

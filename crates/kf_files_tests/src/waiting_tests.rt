@@ -26,7 +26,7 @@ fn notifies_itself<N: Naming, R: Abort + Wait>(rt: &R, alloc: Global, new: NewTr
     let tree = new.named::<N>();
     let key = file_of(rt, &tree, b"t");
     let mut posts = posts_of(rt, alloc);
-    let mut file = opened(rt, &tree, key, post_of(rt, &mut posts));
+    let mut file = opened(rt, &tree, key, &mut posts);
     let quiet = new_driver(Before::Nothing, b"v");
     let loud = new_driver(Before::Notifies(Mutex::new(post_of(rt, &mut posts))), b"v");
     let mut out = [0u8; 4];
@@ -53,7 +53,7 @@ fn outlives_its_node<N: Naming, R: Abort + Wait>(rt: &R, alloc: Global, new: New
     let tree = new.named::<N>();
     let key = file_of(rt, &tree, b"t");
     let mut posts = posts_of(rt, alloc);
-    let mut file = opened(rt, &tree, key, post_of(rt, &mut posts));
+    let mut file = opened(rt, &tree, key, &mut posts);
     let quiet = new_driver(Before::Nothing, b"v");
     let mut out = [0u8; 4];
     let gone = Err(FileError::Refused(Refusal::NoDevice));
@@ -233,7 +233,7 @@ fn waits_for_a_show<N: Naming + Send + Sync, R: Abort + Threads + Wait + Sync>(
     let tree = new.named::<N>();
     let key = file_of(rt, &tree, b"t");
     let mut posts = posts_of(rt, alloc);
-    let mut file = opened(rt, &tree, key, post_of(rt, &mut posts));
+    let mut file = opened(rt, &tree, key, &mut posts);
     let second = held(rt, &tree, key).into_hold();
     let mut removal = removal_by(held(rt, &tree, key));
     let ops = new_driver(Before::Waits(new_latch()), b"v");
