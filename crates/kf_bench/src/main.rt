@@ -5,7 +5,8 @@
 //! set up it says so, and ends with 1.
 #![tactic(auto)]
 
-ghost use Rattle.std.specs.Prelude.{◌≡◌};
+ghost use Rattle.std.specs.Prelude.{◌≡◌, ◌≤◌};
+ghost use Rattle.kf_core.specs.Limits.{most_slots};
 
 mod clock;
 mod files;
@@ -48,6 +49,16 @@ fn asked<R: Env + Alloc>(rt: &R) -> io::Result<Option<Part>> {
     })
 }
 
+/// For the look-ups of how many slots the tree of a part has words.
+fn looks_for(part: Part) -> u32
+    ensures few { result ≤ most_slots }
+{
+    match part {
+        Part::Tree => grown::SLOTS,
+        _ => 0,
+    }
+}
+
 /// Measures a part in a tree that was made for it.
 fn run<N: Naming + Send + Sync, R: Threads + Wait + Clock + Print + Sync>(
     rt: &R,
@@ -74,6 +85,6 @@ fn main(rt: HostRuntime) -> anyhow::Result<()> {
     let limits = Limits::new(grown::SLOTS, 16).context(
         "so many slots and holds are within the limits",
     )?;
-    let new = SharedTree::<Brand>::new(rt.alloc(), limits)?;
+    let new = SharedTree::<Brand>::with_looks(rt.alloc(), limits, 0, looks_for(part))?;
     run::<Brand, _>(&rt, rt.alloc(), new, part)
 }
