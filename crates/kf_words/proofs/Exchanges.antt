@@ -20,7 +20,8 @@ use Rattle.kf_words.specs.History.{SeenTable, erased, Kept, after_sharing, share
 use Rattle.kf_words.specs.Made.{WasMade, MakesMiss, MakesExchange, after_exchange}
 use Rattle.kf_words.proofs.Seating.{caller_seat}
 use Rattle.kf_words.proofs.Keeps.{view_there, between, now_seen, is_now, step_kept, split_kept, led_here, shown_here}
-use Rattle.kf_words.proofs.Made.{put}
+use Rattle.kf_words.proofs.Noted.{put}
+use Rattle.kf_words.proofs.Made.{IsQuiet}
 
 either_same : (b : Bool) (n : ℕ) → either b n n ≡ n
 either_same true n = refl
@@ -35,10 +36,10 @@ module _ (o : Opening) (homes id : ℕ) (me : Sighted) (is : plain me ≡ (seat.
   my = caller_of me.0.view
 
   -- where a table that meets the rule allows a step of the caller, it is the next of the one run
-  one_made : (t : SeenTable) (h : Kept o t) (at : get_elem? t.views id ≡ some me.0) (i n : ℕ) (kind : ℕ → StepKind) (c' : CallerView)
+  one_made : (t : SeenTable) (h : Kept o t) (at : get_elem? t.views id ≡ some me.0) (i n : ℕ) (kind : ℕ → StepKind) → IsQuiet kind → (c' : CallerView)
       → ((j : ℕ) → IsSeated (erased t) j my → WordStep (erased t) (kind j) (stepped (erased t) i n (suc j) [] (seat.Caller c') keeps))
       → (after : Sight) × (after.view ≡ seat.Caller c') × Kept o (stepped t i n id [] after keeps) × WasMade kind (caller_sight me.0) (caller_sight after)
-  one_made t h at i n kind c' makes =
+  one_made t h at i n kind quiet c' makes =
       let e : Table = erased t in
       let own : get_elem? e.views id ≡ some me.0.view = view_there t.views id me.0 at in
       let at' : get_elem? e.views id ≡ some (seat.Caller my) = own ∙ ap (λ (x : Seated). some x.0) is in
@@ -52,7 +53,8 @@ module _ (o : Opening) (homes id : ℕ) (me : Sighted) (is : plain me ≡ (seat.
         refl,
         step_kept o t h id me.0 at i n after (kind j)
             (subst (λ (k : ℕ). WordStep e (kind j) (stepped e i n k [] (seat.Caller c') keeps)) (sym p.1) made)
-            (is_now o t h id me.0 at (kind j)),
+            (is_now o t h id me.0 at (kind j))
+            (λ _. quiet j),
         record {
           between = between o t h id me.0 at;
           found = e;
@@ -81,7 +83,7 @@ module _ (o : Opening) (homes id : ℕ) (me : Sighted) (is : plain me ≡ (seat.
       let n : ℕ = slice_index t.words i in
       let c' : CallerView = after_miss n my in
       let stays : either (eqb n most) most n ≡ n = either_at (eqb n most) most n (eqb-true n most) in
-      let r = one_made t h at i n misses c' (λ j there. (my, rests, record { there = there; fits = small; becomes = refl })) in (
+      let r = one_made t h at i n misses (λ j. refl) c' (λ j there. (my, rests, record { there = there; fits = small; becomes = refl })) in (
         r.0,
         keeps,
         tt,
@@ -98,7 +100,7 @@ module _ (o : Opening) (homes id : ℕ) (me : Sighted) (is : plain me ≡ (seat.
       (λ hit.
       let place : HasSpare (master_in (erased t).views).limit n = subst (λ (k : ℕ). HasSpare k n) (sym (limit_is t h)) (subst (λ (k : ℕ). HasSpare o.holds k) (sym hit) spare) in
       let one : either (eqb n old) new n ≡ plus 1 n = ap (λ (b : Bool). either b new n) (eq-eqb n old hit) ∙ (let e : new ≡ (n + 1) % 18446744073709551616 = omega arith in e) in
-      let r = one_made t h at i (plus 1 n) counts (after_count n my) (λ j there. (my, (rests, single, place), record { there = there; fits = small; becomes = refl })) in
+      let r = one_made t h at i (plus 1 n) counts (λ j. refl) (after_count n my) (λ j there. (my, (rests, single, place), record { there = there; fits = small; becomes = refl })) in
       let told : after_exchange old n my ≡ after_count n my = ap (λ (b : Bool). if b then after_count n my else after_miss n my) (eq-eqb n old hit) in (
         r.0,
         keeps,
@@ -108,7 +110,7 @@ module _ (o : Opening) (homes id : ℕ) (me : Sighted) (is : plain me ≡ (seat.
       ))
       (λ miss.
       let stays : either (eqb n old) new n ≡ n = ap (λ (b : Bool). either b new n) (ne_eqb n old miss) in
-      let r = one_made t h at i n misses (after_miss n my) (λ j there. (my, rests, record { there = there; fits = small; becomes = refl })) in
+      let r = one_made t h at i n misses (λ j. refl) (after_miss n my) (λ j there. (my, rests, record { there = there; fits = small; becomes = refl })) in
       let told : after_exchange old n my ≡ after_miss n my = ap (λ (b : Bool). if b then after_count n my else after_miss n my) (ne_eqb n old miss) in (
         r.0,
         keeps,
@@ -125,7 +127,7 @@ module _ (o : Opening) (homes id : ℕ) (me : Sighted) (is : plain me ≡ (seat.
       let at' : get_elem? e.views id ≡ some (seat.Caller my) = own ∙ ap (λ (x : Seated). some x.0) is in
       let p = caller_seat h.shown.master h.shown.callers id my (subst (λ (l : List View). get_elem? l id ≡ some (seat.Caller my)) h.shown.views at') in
       let there : IsSeated e p.0 my = subst (λ (k : ℕ). get_elem? e.views k ≡ some (seat.Caller my)) p.1 at' in
-      split_kept o t h id me.0 at (after_sharing me.0) (shared_out me.0) (shares p.0) refl refl
+      split_kept o t h id me.0 at (after_sharing me.0) (shared_out me.0) (shares p.0) refl refl refl
       (my, (rests, pinned), there, ap (λ (k : ℕ). let x : Table = record { words = t.words; homes = t.homes; views = set e.views k (seat.Caller (after_share my)) ++ seat.Caller (new_hold my.key) ∷ [] } in x) p.1)
 
   module _ (i : ℕ) (its : hold_index my.key.slot ≡ i) where

@@ -9,7 +9,7 @@ use Rattle.kf_words.specs.declared.sight.Sight.{Sight}
 use Rattle.kf_words.specs.Layout.{opening_words}
 use Rattle.kf_words.specs.TableSteps.{Table, StepKind, world, WordRun}
 use Rattle.kf_core.specs.Bare.{IsCaller}
-use Rattle.kf_words.specs.History.{erased, opened_as, IsBeginning, Kept, first_sight, EndsARun, SeenLeadsHere, DrainedEverAfter, OneRunIsSeen}
+use Rattle.kf_words.specs.History.{erased, opened_as, IsBeginning, Kept, first_sight, EndsARun, SeenLeadsHere, DrainedEverAfter, OneRunIsSeen, HistoryIsSeen, OneHistory, NotesStay}
 use Rattle.kf_words.specs.Life.{life_opening, lived, word_life, saw_life, LifeIsKept}
 use Rattle.kf_words.specs.Rule.{Shown}
 use Rattle.kf_words.proofs.Seating.{map_at}
@@ -17,6 +17,8 @@ use Rattle.kf_words.proofs.Life.{lives}
 use Rattle.kf_words.proofs.Runs.{rule_kept, run_is_run, drained_for_good}
 use Rattle.kf_words.proofs.OneEnds.{one_end}
 use Rattle.kf_words.proofs.Keeps.{prefix_self, run_parts}
+use Rattle.kf_words.proofs.Noted.{tail_of, notes_more}
+use Rattle.kf_words.specs.Notes.{notes_of, history_of}
 use Rattle.kf_words.proofs.Opening.{opening_shown}
 
 pub opening_kept : (o : Opening) → 1 ≤ o.slots → o.holds ≤ 65535 → Kept o (opening (opening_words o.slots o.start) [] (first_sight o))
@@ -25,6 +27,7 @@ opening_kept o some_slot few = record {
   log = [];
   run = refl;
   seen = first;
+  notes = λ m e. sym (ap (λ (x : Sight). history_of x.seen) (some-injective (first_sight o) m e));
   shown = opening_shown o.slots o.holds o.start some_slot few;
 }
   where
@@ -46,10 +49,6 @@ abbrev head_of : {A : Type 0} → A → List A → A
 head_of d [] = d
 head_of d (x ∷ xs) = x
 
-abbrev tail_of : {A : Type 0} → List A → List A
-tail_of [] = []
-tail_of (x ∷ xs) = xs
-
 -- of two beginnings of one list, one is a beginning of the other
 beginnings : {A : Type 0} (xs ys p q : List A) → xs ++ p ≡ ys ++ q → IsPrefix xs ys ⊎ IsPrefix ys xs
 beginnings [] ys p q e = inl (ys, refl)
@@ -66,6 +65,24 @@ one_run_is_seen o t kept i j a b at there =
     let x = (kept.seen i a at).1 in
     let y = (kept.seen j b there).1 in
     beginnings a.seen.steps b.seen.steps x.0 y.0 (x.1 ∙ sym y.1)
+
+-- the notes of a beginning are a beginning of the notes
+notes_begin : (first log : List StepKind) → IsPrefix first log → IsPrefix (notes_of first) (notes_of log)
+notes_begin first log p = (notes_of p.0, sym (notes_more first p.0) ∙ ap notes_of p.1)
+
+pub history_is_seen : HistoryIsSeen
+history_is_seen o t kept place m s first there =
+    let all = kept.notes m first in
+    (all, subst (λ l. IsPrefix (history_of s.seen) l) (sym all) (notes_begin s.seen.steps kept.log (kept.seen place s there).1))
+
+pub one_history : OneHistory
+one_history o t kept i j a b at there = ⊎_elim
+    (λ (x : IsPrefix a.seen.steps b.seen.steps). inl (notes_begin a.seen.steps b.seen.steps x))
+    (λ (x : IsPrefix b.seen.steps a.seen.steps). inr (notes_begin b.seen.steps a.seen.steps x))
+    (one_run_is_seen o t kept i j a b at there)
+
+pub notes_stay : NotesStay
+notes_stay first more = (notes_of more, sym (notes_more first more))
 
 pub drained_ever_after : DrainedEverAfter
 drained_ever_after o t kept first mid p r c key phase there past =
@@ -87,5 +104,8 @@ life_is_kept =
       seen = λ place s e.
           let a = map_at saw_life lived.views place s e in
           subst (λ (x : Sight). IsBeginning o x.seen word_life) a.2 (refl, prefix_self word_life);
+      notes = λ m e.
+          let a = map_at saw_life lived.views 0 m e in
+          sym (ap (λ (x : Sight). history_of x.seen) a.2);
       shown = rule_kept 2 3 (opened_as o) lived word_life begins run;
     }

@@ -12,6 +12,8 @@ use Rattle.kf_words.specs.declared.sight.Seen.{Seen}
 use Rattle.kf_words.specs.declared.sight.Sight.{Sight}
 use Rattle.kf_words.specs.declared.view.View.{View}
 use Rattle.kf_words.specs.Rule.{Shown}
+use Rattle.kf_words.specs.Notes.{note_of, notes_of, history_of}
+use Rattle.kf_words.proofs.Noted.{quiet_after, notes_more, nothing_more, first_stays, put}
 use Rattle.kf_words.specs.TableSteps.{Table, StepKind, WordStep, WordRun}
 use Rattle.kf_words.specs.History.{SeenTable, erased, opened_as, IsBeginning, Kept}
 use Rattle.kf_words.proofs.WordSteps.{word_step}
@@ -50,11 +52,29 @@ module _ (o : Opening) (t : SeenTable) (h : Kept o t) (id : ℕ) (before : Sight
   abbrev pub now_seen : StepKind → Seen
   now_seen kind = record { opening = before.seen.opening; steps = (before.seen.steps ++ between) ++ kind ∷ [] }
 
-  pub is_now : (kind : StepKind) → IsBeginning o (now_seen kind) (h.log ++ kind ∷ [])
-  is_now kind = ((h.seen id before at).0, subst (λ (l : List StepKind). IsPrefix (l ++ kind ∷ []) (h.log ++ kind ∷ [])) (sym so_far) (prefix_self (h.log ++ kind ∷ [])))
+  -- a beginning of the run after such a step, with all notes where it is the Master's
+  abbrev IsNow : StepKind → Seen → Type 0
+  IsNow kind seen = IsBeginning o seen (h.log ++ kind ∷ []) × (id ≡ 0 → history_of seen ≡ notes_of (h.log ++ kind ∷ []))
 
-  pub still_before : (kind : StepKind) → IsBeginning o before.seen (h.log ++ kind ∷ [])
-  still_before kind = let b = h.seen id before at in (b.0, prefix_more before.seen.steps h.log (kind ∷ []) b.1)
+  pub is_now : (kind : StepKind) → IsNow kind (now_seen kind)
+  is_now kind = (
+    ((h.seen id before at).0, subst (λ (l : List StepKind). IsPrefix (l ++ kind ∷ []) (h.log ++ kind ∷ [])) (sym so_far) (prefix_self (h.log ++ kind ∷ []))),
+    λ _. ap (λ (l : List StepKind). notes_of (l ++ kind ∷ [])) so_far,
+  )
+
+  -- what the Master had seen, it had seen with all notes
+  all_notes : id ≡ 0 → history_of before.seen ≡ notes_of h.log
+  all_notes first = h.notes before (subst (λ (k : ℕ). get_elem? t.views k ≡ some before) first at)
+
+  pub still_before : (kind : StepKind) → note_of kind ≡ [] → IsNow kind before.seen
+  still_before kind quiet = let b = h.seen id before at in (
+    (b.0, prefix_more before.seen.steps h.log (kind ∷ []) b.1),
+    λ first. all_notes first ∙ sym (quiet_after h.log kind quiet),
+  )
+
+  -- nobody but the Master adds notes
+  pub alone : id ≡ 0 → notes_of between ≡ []
+  alone first = nothing_more (notes_of before.seen.steps) (notes_of between) (sym (notes_more before.seen.steps between) ∙ ap notes_of so_far ∙ sym (all_notes first))
 
   -- the table that the step leads to, without what was seen
   same_erased : (i n : ℕ) (after : Sight) → erased (stepped t i n id [] after keeps) ≡ stepped (erased t) i n id [] after.view keeps
@@ -68,16 +88,24 @@ module _ (o : Opening) (t : SeenTable) (h : Kept o t) (id : ℕ) (before : Sight
       (λ (x : (place ≢ id) × (get_elem? t.views place ≡ some s)). let b = h.seen place s x.1 in (b.0, prefix_more s.seen.steps h.log (kind ∷ []) b.1))
       (at_set t.views id place after s (ap (λ (l : List Sight). get_elem? l place) (sym is) ∙ e))
 
-  pub step_kept : (i n : ℕ) (after : Sight) (kind : StepKind) → WordStep (erased t) kind (stepped (erased t) i n id [] after.view keeps) → IsBeginning o after.seen (h.log ++ kind ∷ [])
+  -- the Master has seen the notes of the longer run
+  noted : (kind : StepKind) (after : Sight) → IsNow kind after.seen → (id ≢ 0 → note_of kind ≡ []) → (m : Sight) → get_elem? (set t.views id after) 0 ≡ some m → history_of m.seen ≡ notes_of (h.log ++ kind ∷ [])
+  noted kind after mine others m e = ⊎_elim
+      (λ (x : (0 ≡ id) × (after ≡ m)). subst (λ (y : Sight). history_of y.seen ≡ notes_of (h.log ++ kind ∷ [])) x.1 (mine.1 (sym x.0)))
+      (λ (x : (0 ≢ id) × (get_elem? t.views 0 ≡ some m)). h.notes m x.1 ∙ sym (quiet_after h.log kind (others (λ f. x.0 (sym f)))))
+      (at_set t.views id 0 after m e)
+
+  pub step_kept : (i n : ℕ) (after : Sight) (kind : StepKind) → WordStep (erased t) kind (stepped (erased t) i n id [] after.view keeps) → IsNow kind after.seen → (id ≢ 0 → note_of kind ≡ [])
       → Kept o (stepped t i n id [] after keeps)
-  step_kept i n after kind step mine =
+  step_kept i n after kind step mine others =
       let t' : Table = stepped (erased t) i n id [] after.view keeps in
       let is : erased (stepped t i n id [] after keeps) ≡ t' = same_erased i n after in
       record {
         begins = h.begins;
         log = h.log ++ kind ∷ [];
         run = subst (λ (x : Table). WordRun (opened_as o) (h.log ++ kind ∷ []) x) (sym is) (run_snoc h.log (opened_as o) (erased t) t' kind h.run step);
-        seen = see kind after mine (set t.views id after) refl;
+        seen = see kind after mine.0 (set t.views id after) refl;
+        notes = noted kind after mine others;
         shown = subst (λ (x : Table). Shown o.slots o.holds x) (sym is) (word_step o.slots o.holds (erased t) kind t' h.shown step).0;
       }
 
@@ -90,10 +118,12 @@ module _ (o : Opening) (t : SeenTable) (h : Kept o t) (id : ℕ) (before : Sight
   shown_here = subst (λ (x : Opening). Shown x.slots x.holds (erased t)) (sym (h.seen id before at).0) h.shown
 
   -- a new seat, which has seen as much
-  pub split_kept : (left right : Sight) (kind : StepKind) → left.seen ≡ before.seen → right.seen ≡ before.seen
+  pub split_kept : (left right : Sight) (kind : StepKind) → note_of kind ≡ [] → left.seen ≡ before.seen → right.seen ≡ before.seen
       → WordStep (erased t) kind (record { words = t.words; homes = t.homes; views = set (erased t).views id left.view ++ right.view ∷ [] })
       → Kept o (record { words = t.words; homes = t.homes; views = set t.views id left ++ right ∷ [] })
-  split_kept left right kind same same' step =
+  split_kept left right kind quiet same same' step =
+      let was = still_before kind quiet in
+      let left_now : IsNow kind left.seen = subst (λ (x : Seen). IsNow kind x) (sym same) was in
       let views : map (λ (s : Sight). s.view) (set t.views id left ++ right ∷ []) ≡ set (erased t).views id left.view ++ right.view ∷ [] =
       map-append (λ (s : Sight). s.view) (set t.views id left) (right ∷ []) ∙ ap (λ (l : List View). l ++ right.view ∷ []) (map-set (λ (s : Sight). s.view) t.views id left) in
       let t' : Table = record { words = t.words; homes = t.homes; views = set (erased t).views id left.view ++ right.view ∷ [] } in
@@ -104,8 +134,9 @@ module _ (o : Opening) (t : SeenTable) (h : Kept o t) (id : ℕ) (before : Sight
         log = h.log ++ kind ∷ [];
         run = subst (λ (x : Table). WordRun (opened_as o) (h.log ++ kind ∷ []) x) (sym is) (run_snoc h.log (opened_as o) (erased t) t' kind h.run step);
         seen = λ place s e. ⊎_elim
-            (λ (old : get_elem? (set t.views id left) place ≡ some s). see kind left (subst (λ (x : Seen). IsBeginning o x (h.log ++ kind ∷ [])) (sym same) (still_before kind)) (set t.views id left) refl place s old)
-            (λ (new : right ≡ s). subst (λ (y : Sight). IsBeginning o y.seen (h.log ++ kind ∷ [])) new (subst (λ (x : Seen). IsBeginning o x (h.log ++ kind ∷ [])) (sym same') (still_before kind)))
+            (λ (old : get_elem? (set t.views id left) place ≡ some s). see kind left left_now.0 (set t.views id left) refl place s old)
+            (λ (new : right ≡ s). subst (λ (y : Sight). IsBeginning o y.seen (h.log ++ kind ∷ [])) new (subst (λ (x : Seen). IsBeginning o x (h.log ++ kind ∷ [])) (sym same') was.0))
             (at_snoc (set t.views id left) right s place e);
+        notes = λ m e. noted kind left left_now (λ _. quiet) m (first_stays (set t.views id left) right m e id left (put t.views id before left at));
         shown = subst (λ (x : Table). Shown o.slots o.holds x) (sym is) (word_step o.slots o.holds (erased t) kind t' h.shown step).0;
       }

@@ -20,11 +20,13 @@ pub mod Tells
 pub mod Events
 pub mod WordSteps
 pub mod Attended
+pub mod Noted
 pub mod Keeps
 pub mod OneEnds
 pub mod Runs
 pub mod Made
 pub mod Exchanges
+pub mod Added
 pub mod MasterMade
 pub mod Waits
 pub mod Life

@@ -1,8 +1,10 @@
 -- A run with every kind of step on words: each step is as its table says.
 use Rattle.std.proofs.Common.{◌≡◌, ◌≢◌, inl, inr, true, false, [], ◌∷◌, refl, ltb-true}
 use Rattle.std.specs.Prelude.{Some, None}
+use Rattle.kf_core.specs.declared.command.Command.TheVariants.{Doom}
+use Rattle.kf_words.specs.declared.note.Note.TheVariants.{Did}
 use Rattle.kf_core.specs.declared.caller.Phase.TheVariants.{Still, Turned, Running, Broken, Restored, Drained, Parted, Hiding, Hidden, Spent}
-use Rattle.kf_words.specs.TableSteps.{Table, births, breaks, hides, leaves, loads_hold, looks, looks_hidden, looks_over, marks_node, parts, pins_hold, releases, misses, counts, shares, restores, shows, sleeps, awakes, splits, stores_fresh, takes_bias, tries, undoes, unlinks, unpins_hold, WordStep}
+use Rattle.kf_words.specs.TableSteps.{Table, births, breaks, hides, leaves, loads_hold, looks, looks_hidden, looks_over, marks_node, parts, pins_hold, releases, misses, counts, shares, restores, shows, sleeps, awakes, splits, stores_fresh, takes_bias, tries, undoes, unlinks, unpins_hold, notes, WordStep}
 use Rattle.kf_words.specs.Life.{with_marks_of, caller_at, master_at, table_at, table_with, with_one_more, WordLife}
 
 still_holds : Still ≢ Spent
@@ -205,6 +207,9 @@ s17 = (caller_at Hidden 3 0 17179869184 false, (refl, refl), record { there = re
 s18 : WordStep t18 (tries 0) t19
 s18 = (caller_at Turned 4 2 17179869184 false, (refl, refl), record { there = refl; fits = ltb-true 0 18446744073709551616 refl; becomes = refl })
 
+n19 : WordStep t19 (notes (Did (Doom (record { slot = 1; generation = 1 })))) t19
+n19 = ((master_at 1 (Some (with_marks_of true false)) (None) (None) ([]) (record { slot = 1; word = 0 } ∷ []) (None), refl), refl)
+
 s19 : WordStep t19 (marks_node 1) t20
 s19 = (with_marks_of true false, (master_at 1 (Some (with_marks_of true false)) (None) (None) ([]) (record { slot = 1; word = 0 } ∷ []) (None), ((record { generation = 1; marks = Some (with_marks_of true false) }, refl, refl), refl), record { there = refl; fits = ltb-true 1 18446744073709551616 refl; becomes = refl }))
 
@@ -284,4 +289,4 @@ s38 : WordStep t38 (unpins_hold 1) t39
 s38 = (master_at 2 (Some (with_marks_of false false)) (Some 1) (None) ([]) (record { slot = 1; word = 4294967296 } ∷ []) (None), (ltb-true 1 2 refl, refl), record { there = refl; fits = ltb-true 10737418241 18446744073709551616 refl; becomes = refl })
 
 pub lives : WordLife
-lives = (t1, tt, s0, (t2, tt, s1, (t3, tt, s2, (t4, tt, s3, (t5, tt, s4, (t6, tt, s5, (t7, inl refl, s6, (t8, tt, s7, (t9, tt, s8, (t10, inr (0, (caller_at Still 0 0 0 false, refl, refl, still_holds)), s9, (t11, tt, s10, (t12, tt, s11, (t13, tt, s12, (t14, tt, s13, (t15, tt, s14, (t16, tt, s15, (t17, tt, s16, (t18, tt, s17, (t19, tt, s18, (t20, tt, s19, (t21, tt, s20, (t22, tt, s21, (a22, tt, s22, (a23, tt, a_breaks, (t23, tt, awake, (t24, tt, s23, (t25, tt, s24, (t26, tt, s25, (t27, tt, s26, (t28, tt, s27, (t29, tt, s28, (t30, (1, (caller_at Drained 8 1 6442450946 false, refl, refl, refl, refl)), s29, (t31, tt, s30, (b31, tt, s31, (t32, tt, b_releases, (c32, tt, c_counts, (d32, tt, d_shares, (e32, tt, e_releases, (t33, tt, s32, (t34, tt, s33, (t35, tt, s34, (t36, tt, s35, (t37, tt, s36, (t38, tt, s37, (t39, tt, s38, refl)))))))))))))))))))))))))))))))))))))))))))))
+lives = (t1, tt, s0, (t2, tt, s1, (t3, tt, s2, (t4, tt, s3, (t5, tt, s4, (t6, tt, s5, (t7, inl refl, s6, (t8, tt, s7, (t9, tt, s8, (t10, inr (0, (caller_at Still 0 0 0 false, refl, refl, still_holds)), s9, (t11, tt, s10, (t12, tt, s11, (t13, tt, s12, (t14, tt, s13, (t15, tt, s14, (t16, tt, s15, (t17, tt, s16, (t18, tt, s17, (t19, tt, s18, (t19, tt, n19, (t20, tt, s19, (t21, tt, s20, (t22, tt, s21, (a22, tt, s22, (a23, tt, a_breaks, (t23, tt, awake, (t24, tt, s23, (t25, tt, s24, (t26, tt, s25, (t27, tt, s26, (t28, tt, s27, (t29, tt, s28, (t30, (1, (caller_at Drained 8 1 6442450946 false, refl, refl, refl, refl)), s29, (t31, tt, s30, (b31, tt, s31, (t32, tt, b_releases, (c32, tt, c_counts, (d32, tt, d_shares, (e32, tt, e_releases, (t33, tt, s32, (t34, tt, s33, (t35, tt, s34, (t36, tt, s35, (t37, tt, s36, (t38, tt, s37, (t39, tt, s38, refl))))))))))))))))))))))))))))))))))))))))))))))

@@ -25,12 +25,13 @@ use Rattle.kf_words.proofs.Seating.{caller_seat}
 use Rattle.kf_words.proofs.WordSteps.{word_step, world_is, at_seat, in_world}
 use Rattle.kf_words.proofs.Runs.{let_in_live}
 use Rattle.kf_words.proofs.Keeps.{view_there, between, now_seen, is_now, still_before, step_kept, led_here, shown_here}
+use Rattle.kf_words.proofs.Noted.{put}
+use Rattle.kf_words.specs.Notes.{note_of}
 use Rattle.kf_words.proofs.CallerAllowed.{no_step, show_allowed}
 
-pub put : {A : Type 0} (l : List A) (k : ℕ) (a b : A) → get_elem? l k ≡ some a → get_elem? (set l k b) k ≡ some b
-put [] k a b e = absurd (some-ne-none a (sym e))
-put (x ∷ xs) zero a b e = refl
-put (x ∷ xs) (suc k) a b e = put xs k a b e
+-- a step of this kind adds no note
+abbrev pub IsQuiet : (ℕ → StepKind) → Type 0
+IsQuiet kind = (j : ℕ) → note_of (kind j) ≡ []
 
 -- what a step on the word i tells, where that is the word of this index of the caller's slot
 abbrev pub MadeAt : (ℕ → ℕ) → ℕ → Sighted → (ℕ → StepKind) → (ℕ → Seated → Type 0) → ℕ → Sighted → Type 0
@@ -49,10 +50,10 @@ module _ (o : Opening) (homes id : ℕ) (me : Sighted) (i : ℕ) (is : plain me 
   Tells aft told = (t : Table) → Shown o.slots o.holds t → length t.homes ≡ homes → get_elem? t.views id ≡ some me.0.view → slice_index t.words i < 18446744073709551616
       → told (slice_index t.words i) (seat.Caller (aft (slice_index t.words i) me_c), me.1)
 
-  finding : (kind : ℕ → StepKind) (f : ℕ → ℕ) (aft : ℕ → CallerView → CallerView) (told : ℕ → Seated → Type 0) → Tells aft told
+  finding : (kind : ℕ → StepKind) → IsQuiet kind → (f : ℕ → ℕ) (aft : ℕ → CallerView → CallerView) (told : ℕ → Seated → Type 0) → Tells aft told
       → ((t t' : Table) (j : ℕ) → Plays t (suc j) i f (seat.Caller me_c) (seat.Caller (aft (slice_index t.words i) me_c)) t' → WordStep t (kind j) t')
       → Allows (Kept o) homes id me i f (λ n me'. told n (plain me') × MadeFinding kind n (caller_sight me'.0))
-  finding kind f aft told tells makes t h far at small =
+  finding kind quiet f aft told tells makes t h far at small =
       let e : Table = erased t in
       let n : ℕ = slice_index t.words i in
       let c' : CallerView = aft n me_c in
@@ -69,7 +70,8 @@ module _ (o : Opening) (homes id : ℕ) (me : Sighted) (i : ℕ) (is : plain me 
         tt,
         step_kept o t h id me.0 at i (f n) after (kind j)
             (subst (λ (k : ℕ). WordStep e (kind j) (stepped e i (f n) k [] (seat.Caller c') keeps)) (sym p.1) step)
-            (is_now o t h id me.0 at (kind j)),
+            (is_now o t h id me.0 at (kind j))
+            (λ _. quiet j),
         (
           tells e h.shown far own small,
           (
@@ -90,17 +92,17 @@ module _ (o : Opening) (homes id : ℕ) (me : Sighted) (i : ℕ) (is : plain me 
         ),
       )
 
-  made : (kind : ℕ → StepKind) (f : ℕ → ℕ) (aft : ℕ → CallerView → CallerView) (told : ℕ → Seated → Type 0) → Tells aft told
+  made : (kind : ℕ → StepKind) → IsQuiet kind → (f : ℕ → ℕ) (aft : ℕ → CallerView → CallerView) (told : ℕ → Seated → Type 0) → Tells aft told
       → ((t t' : Table) (j : ℕ) → Plays t (suc j) i f (seat.Caller me_c) (seat.Caller (aft (slice_index t.words i) me_c)) t' → WordStep t (kind j) t')
       → Allows (Kept o) homes id me i f (λ n me'. told n (plain me') × WasMade kind (caller_sight me.0) (caller_sight me'.0))
-  made kind f aft told tells makes t h far at small =
-      let r = finding kind f aft told tells makes t h far at small in
+  made kind quiet f aft told tells makes t h far at small =
+      let r = finding kind quiet f aft told tells makes t h far at small in
       (r.0, r.1, r.2, r.3, (r.4.0, r.4.1.0))
 
   -- a step on the count of sleepers is one of the run, and its seat learns nothing by it
-  pub sleep_kept : (kind : ℕ → StepKind) (f : ℕ → ℕ) → ((t t' : Table) (j : ℕ) → Plays t (suc j) i f (seat.Caller me_c) (seat.Caller me_c) t' → WordStep t (kind j) t')
+  pub sleep_kept : (kind : ℕ → StepKind) → IsQuiet kind → (f : ℕ → ℕ) → ((t t' : Table) (j : ℕ) → Plays t (suc j) i f (seat.Caller me_c) (seat.Caller me_c) t' → WordStep t (kind j) t')
       → Allows (Kept o) homes id me i f (λ n me'. me' ≡ me)
-  sleep_kept kind f makes t h far at small =
+  sleep_kept kind quiet f makes t h far at small =
       let e : Table = erased t in
       let n : ℕ = slice_index t.words i in
       let own : get_elem? e.views id ≡ some me.0.view = view_there t.views id me.0 at in
@@ -113,7 +115,7 @@ module _ (o : Opening) (homes id : ℕ) (me : Sighted) (i : ℕ) (is : plain me 
       let mine : WordStep e (kind j) (stepped e i (f n) id [] me.0.view keeps) =
       subst (λ (v : View). WordStep e (kind j) (stepped e i (f n) id [] v keeps)) (sym (ap (λ (x : Seated). x.0) is))
       (subst (λ (k : ℕ). WordStep e (kind j) (stepped e i (f n) k [] (seat.Caller me_c) keeps)) (sym p.1) step) in
-      (me.0, keeps, tt, step_kept o t h id me.0 at i (f n) me.0 (kind j) mine (still_before o t h id me.0 at (kind j)), refl)
+      (me.0, keeps, tt, step_kept o t h id me.0 at i (f n) me.0 (kind j) mine (still_before o t h id me.0 at (kind j) (quiet j)) (λ _. quiet j), refl)
 
 -- a step may tell besides what holds of its word
 on_kept : (o : Opening) (homes id : ℕ) (me : Sighted) (i : ℕ) (f : ℕ → ℕ) (told : ℕ → Sighted → Type 0) (Is : Type 0) → Is
@@ -122,14 +124,14 @@ on_kept o homes id me i f told Is is allowed t h far at small = let r = allowed 
 
 -- the same of a step on a word of the caller's slot, by the word's index
 step_made : (o : Opening) (homes id : ℕ) (me : Sighted) (i : ℕ) (is : plain me ≡ (seat.Caller (caller_of me.0.view), [])) (index : ℕ → ℕ) → index (caller_of me.0.view).key.slot ≡ i
-    → (kind : ℕ → StepKind) (f : ℕ → ℕ) (aft : ℕ → CallerView → CallerView) (told : ℕ → Seated → Type 0) → Tells o homes id me (index (caller_of me.0.view).key.slot) is aft told
+    → (kind : ℕ → StepKind) → IsQuiet kind → (f : ℕ → ℕ) (aft : ℕ → CallerView → CallerView) (told : ℕ → Seated → Type 0) → Tells o homes id me (index (caller_of me.0.view).key.slot) is aft told
     → ((t t' : Table) (j : ℕ) → (let k : ℕ = index (caller_of me.0.view).key.slot in Plays t (suc j) k f (seat.Caller (caller_of me.0.view)) (seat.Caller (aft (slice_index t.words k) (caller_of me.0.view))) t') → WordStep t (kind j) t')
     → Allows (Kept o) homes id me i f (MadeAt index i me kind told)
-step_made o homes id me i is index its kind f aft told tells makes =
+step_made o homes id me i is index its kind quiet f aft told tells makes =
     let k : ℕ = index (caller_of me.0.view).key.slot in
     let Told : ℕ → Sighted → Type 0 = λ n me'. told n (plain me') × WasMade kind (caller_sight me.0) (caller_sight me'.0) in
     on_kept o homes id me i f Told (i ≡ k) (sym its)
-    (subst (λ (x : ℕ). Allows (Kept o) homes id me x f Told) its (made o homes id me k is kind f aft told tells makes))
+    (subst (λ (x : ℕ). Allows (Kept o) homes id me x f Told) its (made o homes id me k is kind quiet f aft told tells makes))
 
 -- each step on the active word
 module _ (o : Opening) (homes id : ℕ) (me : Sighted) (i : ℕ) (is : plain me ≡ (seat.Caller (caller_of me.0.view), [])) (its : active_index (caller_of me.0.view).key.slot ≡ i) where
@@ -137,7 +139,7 @@ module _ (o : Opening) (homes id : ℕ) (me : Sighted) (i : ℕ) (is : plain me 
   at_c = caller_of me.0.view
 
   pub try_made : IsAtRest at_c → Allows (Kept o) homes id me i (plus 1) (MadeAt active_index i me tries (CallerBecomes after_try no_step (plain me)))
-  try_made may = step_made o homes id me i is active_index its tries (plus 1) after_try (CallerBecomes after_try no_step (plain me))
+  try_made may = step_made o homes id me i is active_index its tries (λ j. refl) (plus 1) after_try (CallerBecomes after_try no_step (plain me))
       (λ t h far at small. refl) (λ t t' j p. (at_c, may, p))
 
   pub undo_made : at_c.phase ≡ Turned → at_c.undo_due ≡ true → Allows (Kept o) homes id me i (minus 1)
@@ -148,34 +150,34 @@ module _ (o : Opening) (homes id : ℕ) (me : Sighted) (i : ℕ) (is : plain me 
       let Told : ℕ → Sighted → Type 0 = λ n me'. told n (plain me') × WasUndone (caller_sight me.0) (caller_sight me'.0) n in
       on_kept o homes id me i (minus 1) Told (i ≡ at) (sym its)
       (subst (λ (k : ℕ). Allows (Kept o) homes id me k (minus 1) Told) its
-      (finding o homes id me at is undoes (minus 1) (λ _. after_undo) told (λ t h far at small. refl) (λ t t' j p. (at_c, (turned, due), p))))
+      (finding o homes id me at is undoes (λ j. refl) (minus 1) (λ _. after_undo) told (λ t h far at small. refl) (λ t t' j p. (at_c, (turned, due), p))))
 
   pub leave_made : HasReference at_c → Allows (Kept o) homes id me i (minus 1) (MadeAt active_index i me leaves (CallerBecomes after_leave no_step (plain me)))
-  leave_made may = step_made o homes id me i is active_index its leaves (minus 1) after_leave (CallerBecomes after_leave no_step (plain me))
+  leave_made may = step_made o homes id me i is active_index its leaves (λ j. refl) (minus 1) after_leave (CallerBecomes after_leave no_step (plain me))
       (λ t h far at small. refl) (λ t t' j p. (at_c, may, p))
 
   pub break_made : IsInPhase Running at_c → Allows (Kept o) homes id me i (minus 1) (MadeAt active_index i me breaks (CallerBecomes after_break no_step (plain me)))
-  break_made may = step_made o homes id me i is active_index its breaks (minus 1) after_break (CallerBecomes after_break no_step (plain me))
+  break_made may = step_made o homes id me i is active_index its breaks (λ j. refl) (minus 1) after_break (CallerBecomes after_break no_step (plain me))
       (λ t h far at small. refl) (λ t t' j p. (at_c, may, p))
 
   pub restore_made : IsInPhase Broken at_c → Allows (Kept o) homes id me i (plus 1) (MadeAt active_index i me restores (CallerBecomes after_restore no_step (plain me)))
-  restore_made may = step_made o homes id me i is active_index its restores (plus 1) after_restore (CallerBecomes after_restore no_step (plain me))
+  restore_made may = step_made o homes id me i is active_index its restores (λ j. refl) (plus 1) after_restore (CallerBecomes after_restore no_step (plain me))
       (λ t h far at small. refl) (λ t t' j p. (at_c, may, p))
 
   pub look_made : IsAtRest at_c → Allows (Kept o) homes id me i same (MadeAt active_index i me looks (CallerBecomes after_look no_step (plain me)))
-  look_made may = step_made o homes id me i is active_index its looks same after_look (CallerBecomes after_look no_step (plain me))
+  look_made may = step_made o homes id me i is active_index its looks (λ j. refl) same after_look (CallerBecomes after_look no_step (plain me))
       (λ t h far at small. refl) (λ t t' j p. (at_c, may, p))
 
   pub hide_made : IsAtRest at_c → Allows (Kept o) homes id me i with_hide (MadeAt active_index i me hides (CallerBecomes after_hide no_step (plain me)))
-  hide_made may = step_made o homes id me i is active_index its hides with_hide after_hide (CallerBecomes after_hide no_step (plain me))
+  hide_made may = step_made o homes id me i is active_index its hides (λ j. refl) with_hide after_hide (CallerBecomes after_hide no_step (plain me))
       (λ t h far at small. refl) (λ t t' j p. (at_c, may, p))
 
   pub look_hidden_made : IsInPhase Hiding at_c → Allows (Kept o) homes id me i same (MadeAt active_index i me looks_hidden (CallerBecomes after_look_hidden no_step (plain me)))
-  look_hidden_made may = step_made o homes id me i is active_index its looks_hidden same after_look_hidden (CallerBecomes after_look_hidden no_step (plain me))
+  look_hidden_made may = step_made o homes id me i is active_index its looks_hidden (λ j. refl) same after_look_hidden (CallerBecomes after_look_hidden no_step (plain me))
       (λ t h far at small. refl) (λ t t' j p. (at_c, may, p))
 
   pub show_made : IsInPhase Hidden at_c → Allows (Kept o) homes id me i (minus hide) (MadeAt active_index i me shows (ShowsKey no_step (plain me)))
-  show_made may = step_made o homes id me i is active_index its shows (minus hide) after_show (ShowsKey no_step (plain me))
+  show_made may = step_made o homes id me i is active_index its shows (λ j. refl) (minus hide) after_show (ShowsKey no_step (plain me))
       (λ t h far at small. (refl, (show_allowed o.slots o.holds homes id (plain me) (active_index at_c.key.slot) is refl may t h far at small).4.1)) (λ t t' j p. (at_c, may, p))
 
 -- each step on the hold word
@@ -184,11 +186,11 @@ module _ (o : Opening) (homes id : ℕ) (me : Sighted) (i : ℕ) (is : plain me 
   on_c = caller_of me.0.view
 
   pub part_made : IsInPhase Drained on_c → Allows (Kept o) homes id me i same (MadeAt hold_index i me parts (CallerBecomes after_part no_step (plain me)))
-  part_made may = step_made o homes id me i is hold_index its parts same after_part (CallerBecomes after_part no_step (plain me))
+  part_made may = step_made o homes id me i is hold_index its parts (λ j. refl) same after_part (CallerBecomes after_part no_step (plain me))
       (λ t h far at small. refl) (λ t t' j p. (on_c, may, p))
 
   pub release_made : may_release on_c.phase ≡ true → on_c.undo_due ≡ false → Allows (Kept o) homes id me i (minus 1) (MadeAt hold_index i me releases (CallerBecomes after_release no_step (plain me)))
-  release_made idles settled = step_made o homes id me i is hold_index its releases (minus 1) after_release (CallerBecomes after_release no_step (plain me))
+  release_made idles settled = step_made o homes id me i is hold_index its releases (λ j. refl) (minus 1) after_release (CallerBecomes after_release no_step (plain me))
       (λ t h far at small. refl) (λ t t' j p. (on_c, (idles, settled), p))
 
 -- a step on the count of its slot's sleepers
@@ -196,15 +198,15 @@ module _ (o : Opening) (homes id : ℕ) (me : Sighted) (i : ℕ) (is : plain me 
   abbrev by_c : CallerView
   by_c = caller_of me.0.view
 
-  asleep : (kind : ℕ → StepKind) (f : ℕ → ℕ) → ((t t' : Table) (j : ℕ) → Plays t (suc j) (sleepers_index by_c.key.slot) f (seat.Caller by_c) (seat.Caller by_c) t' → WordStep t (kind j) t')
+  asleep : (kind : ℕ → StepKind) → IsQuiet kind → (f : ℕ → ℕ) → ((t t' : Table) (j : ℕ) → Plays t (suc j) (sleepers_index by_c.key.slot) f (seat.Caller by_c) (seat.Caller by_c) t' → WordStep t (kind j) t')
       → Allows (Kept o) homes id me i f (λ n me'. me' ≡ me)
-  asleep kind f makes = subst (λ (k : ℕ). Allows (Kept o) homes id me k f (λ n me'. me' ≡ me)) its (sleep_kept o homes id me (sleepers_index by_c.key.slot) is kind f makes)
+  asleep kind quiet f makes = subst (λ (k : ℕ). Allows (Kept o) homes id me k f (λ n me'. me' ≡ me)) its (sleep_kept o homes id me (sleepers_index by_c.key.slot) is kind quiet f makes)
 
   pub sleep_made : Allows (Kept o) homes id me i (plus 1) (λ n me'. me' ≡ me)
-  sleep_made = asleep sleeps (plus 1) (λ t t' j p. (by_c, tt, p))
+  sleep_made = asleep sleeps (λ j. refl) (plus 1) (λ t t' j p. (by_c, tt, p))
 
   pub awake_made : Allows (Kept o) homes id me i (minus 1) (λ n me'. me' ≡ me)
-  awake_made = asleep awakes (minus 1) (λ t t' j p. (by_c, tt, p))
+  awake_made = asleep awakes (λ j. refl) (minus 1) (λ t t' j p. (by_c, tt, p))
 
 -- what a caller's step finds goes into its view
 module _ (before after : CallerSight) (kind : ℕ → StepKind) (x : WasMade kind before after) where

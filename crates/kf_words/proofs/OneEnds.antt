@@ -12,7 +12,7 @@ use Rattle.kf_core.specs.Marks.{fresh_marks}
 use Rattle.kf_words.specs.declared.view.CallerView.{CallerView}
 use Rattle.kf_words.specs.declared.view.MasterView.{MasterView}
 use Rattle.kf_words.specs.declared.view.View.TheVariants as seat
-use Rattle.kf_words.specs.TableSteps.{Table, StepKind, CallerPlays, MasterPlays, MasterSplits, CallerShares, WordStep, WordRun, tries, undoes, leaves, breaks, restores, looks, parts, hides, looks_hidden, shows, releases, misses, counts, shares, sleeps, awakes, loads_hold, pins_hold, unpins_hold, splits, stores_fresh, births, takes_bias, marks_node, looks_over, unlinks, plus, minus, same, with_hide, HasUndoDue, MayRelease, MayCount, MaySleep, SeesRoom, HasPin, SeesFree, HasFresh, IsUndoomed, SeesDrained}
+use Rattle.kf_words.specs.TableSteps.{Table, StepKind, CallerPlays, MasterPlays, MasterSplits, CallerShares, WordStep, WordRun, tries, undoes, leaves, breaks, restores, looks, parts, hides, looks_hidden, shows, releases, misses, counts, shares, sleeps, awakes, loads_hold, pins_hold, unpins_hold, splits, stores_fresh, births, takes_bias, marks_node, looks_over, unlinks, notes, plus, minus, same, with_hide, HasUndoDue, MayRelease, MayCount, MaySleep, SeesRoom, HasPin, SeesFree, HasFresh, IsUndoomed, SeesDrained}
 use Rattle.kf_words.specs.Steps.{after_try, after_undo, after_leave, after_break, after_restore, after_look, after_part, after_hide, after_look_hidden, after_show, after_release, after_miss, after_count, after_share, new_hold, unmoved, with_load, with_pin, without_pin, after_store, with_birth, with_look, without_node, unread, with_marks, activated_marks, doomed_marks, after_split, hold_for}
 use Rattle.kf_words.specs.Layout.{bit, bias, doom, hide, linked, one_generation, active_index, hold_index, sleepers_index}
 use Rattle.kf_words.specs.Callers.{IsAtRest, HasReference, IsInPhase}
@@ -81,6 +81,7 @@ one_step t u v (births slot) p q = by_master t u v (unread with_birth) (HasFresh
 one_step t u v (takes_bias slot) p q = by_master t u v (unread (with_marks activated_marks)) (λ m. HasMarks m slot fresh_marks) active_index (minus bias) slot p q
 one_step t u v (looks_over slot) p q = by_master t u v with_look (λ m. slot < length m.slots) active_index same slot p q
 one_step t u v (unlinks slot) p q = by_master t u v (unread without_node) (SeesDrained slot) hold_index (minus linked) slot p q
+one_step t u v (notes note) p q = p.1 ∙ sym q.1
 one_step t u v (marks_node slot) p q =
     let master : p.1.0 ≡ q.1.0 = one_master t u v p.1.0 q.1.0 p.1.2.there q.1.2.there in
     let marks : p.0 ≡ q.0 = one_marks slot p.1.0 q.1.0 p.0 q.0 p.1.1 q.1.1 master in

@@ -27,7 +27,7 @@ use Rattle.kf_words.specs.Layout.{bit, bias, doom, hide, linked, one_generation,
 use Rattle.kf_words.specs.Rule.{Shows, Shown, seats, bare_world, caller, last_key}
 use Rattle.kf_words.specs.Steps.{Seated, no_state, state_at, after_try, after_undo, after_leave, after_break, after_restore, after_look, after_part, after_hide, after_look_hidden, after_show, after_release, after_miss, after_count, after_share, unmoved, after_split, new_hold, hold_for, with_load, with_pin, without_pin, after_store, with_birth, with_marks, activated_marks, doomed_marks, with_look, without_node, unread, CallerBecomes, On, MasterBecomes, LoadsHold, ShowsKey}
 use Rattle.kf_words.specs.Nodes.{marks_of}
-use Rattle.kf_words.specs.TableSteps.{Table, StepKind, tries, undoes, leaves, breaks, restores, looks, parts, hides, looks_hidden, shows, releases, misses, counts, shares, sleeps, awakes, loads_hold, pins_hold, unpins_hold, splits, stores_fresh, births, takes_bias, marks_node, looks_over, unlinks, plus, minus, same, with_hide, master_in, world, IsSeated, HoldsSlot, MayCount, WordStep}
+use Rattle.kf_words.specs.TableSteps.{Table, StepKind, tries, undoes, leaves, breaks, restores, looks, parts, hides, looks_hidden, shows, releases, misses, counts, shares, sleeps, awakes, loads_hold, pins_hold, unpins_hold, splits, stores_fresh, births, takes_bias, marks_node, looks_over, unlinks, notes, plus, minus, same, with_hide, master_in, world, IsSeated, HoldsSlot, MayCount, WordStep}
 use Rattle.kf_words.proofs.Bits.{bool_cases, waiting_is}
 use Rattle.kf_words.proofs.Seating.{caller_seat, master_seat, seats-set, seats-push}
 use Rattle.kf_words.proofs.CallerAllowed.{no_step, try_allowed, undo_allowed, leave_allowed, break_allowed, restore_allowed, look_allowed, release_allowed, part_allowed, miss_allowed, hide_allowed, look_hidden_allowed, show_allowed}
@@ -395,3 +395,4 @@ word_step slots limit t (unlinks slot) t' g s =
     (hold_allows slots limit (length t.homes) 0 (seat.Master m, []) slot (hold_index slot) (minus linked) (unread without_node) refl refl (unlink_owes m slot state x looked.0 its had looked.1 looked.2))
     (λ me' e. slot_view (unread without_node) m (slice_index t.words (hold_index slot)) (hold_index slot) slot me' (hold_slot slot (hold_index slot) refl) e.1) s.2.fits s.2.becomes
     (inr (inr (inl (record { slot = slot; kind_is = refl; key = key; had = x; linked = linked_is; doomed = doomed; is = out }))))
+word_step slots limit t (notes note) t' g s = (subst (λ (x : Table). Shown slots limit x) (sym s.1) g, inl (ap world s.1))

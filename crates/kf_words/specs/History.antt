@@ -14,6 +14,7 @@ use Rattle.kf_words.specs.declared.sight.Seen.{Seen}
 use Rattle.kf_words.specs.declared.sight.Sight.{Sight}
 use Rattle.kf_words.specs.declared.view.View.TheVariants as seat
 use Rattle.kf_words.specs.Rule.{Shown}
+use Rattle.kf_words.specs.Notes.{notes_of, history_of}
 use Rattle.kf_words.specs.Steps.{opened, master_of, caller_of, after_split, hold_for, after_share, new_hold}
 use Rattle.kf_words.specs.TableSteps.{Table, StepKind, world, WordRun, opened_table}
 
@@ -59,13 +60,14 @@ shared_out s = record { view = seat.Caller (new_hold (caller_of s.view).key); se
 abbrev pub IsBeginning : Opening → Seen → List StepKind → Type 0
 IsBeginning o seen log = (seen.opening ≡ o) × IsPrefix seen.steps log
 
--- one run leads here from the opening, each seat has seen a beginning of it, and the words show the views of
--- all seats
+-- one run leads here from the opening, each seat has seen a beginning of it, the Master's seat all notes, and
+-- the words show the views of all seats
 pub record Kept (o : Opening) (t : SeenTable) : Type 0 where
   pub begins : Shown o.slots o.holds (opened_as o)
   pub log : List StepKind
   pub run : WordRun (opened_as o) log (erased t)
   pub seen : (place : ℕ) (s : Sight) → get_elem? t.views place ≡ some s → IsBeginning o s.seen log
+  pub notes : (m : Sight) → get_elem? t.views 0 ≡ some m → history_of m.seen ≡ notes_of log
   pub shown : Shown o.slots o.holds (erased t)
 
 -- in each table that meets the rule
@@ -98,6 +100,22 @@ abbrev pub OneRunIsSeen : Type 0
 OneRunIsSeen = OfEachKept
     (λ o t log. (i j : ℕ) (a b : Sight) → get_elem? t.views i ≡ some a → get_elem? t.views j ≡ some b
     → IsPrefix a.seen.steps b.seen.steps ⊎ IsPrefix b.seen.steps a.seen.steps)
+
+-- the Master, who has the first seat, has seen the whole history. What any seat has seen is a beginning of it
+abbrev pub HistoryIsSeen : Type 0
+HistoryIsSeen = OfEachKept
+    (λ o t log. (place : ℕ) (m s : Sight) → get_elem? t.views 0 ≡ some m → get_elem? t.views place ≡ some s
+    → (history_of m.seen ≡ notes_of log) × IsPrefix (history_of s.seen) (history_of m.seen))
+
+-- of two seats, one has seen as much of the one history as the other, or more
+abbrev pub OneHistory : Type 0
+OneHistory = OfEachKept
+    (λ o t log. (i j : ℕ) (a b : Sight) → get_elem? t.views i ≡ some a → get_elem? t.views j ≡ some b
+    → IsPrefix (history_of a.seen) (history_of b.seen) ⊎ IsPrefix (history_of b.seen) (history_of a.seen))
+
+-- where one run goes on from another, no note is taken away
+abbrev pub NotesStay : Type 0
+NotesStay = (first more : List StepKind) → IsPrefix (notes_of first) (notes_of (first ++ more))
 
 -- a run of the same steps from the same table ends at the same table
 abbrev pub OneEnd : Type 0

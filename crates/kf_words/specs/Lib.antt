@@ -1,6 +1,7 @@
 pub mod Layout
 pub mod Rule
 pub mod Steps
+pub mod Notes
 pub mod Callers
 pub mod Nodes
 pub mod Searches

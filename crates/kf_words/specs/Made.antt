@@ -4,6 +4,7 @@ use mathlib.Core.Option.{some}
 use lib.ListN.{get_elem?}
 use Rattle.atomic_table.specs.Table.{Step}
 use Rattle.kf_core.specs.Bare.{is_live}
+use Rattle.kf_words.specs.declared.note.Note.{Note}
 use Rattle.kf_words.specs.declared.sight.Seen.{Seen}
 use Rattle.kf_words.specs.declared.view.View.TheVariants as seat
 use Rattle.kf_words.specs.Layout.{active_index, hold_index, slot_of}
@@ -12,7 +13,8 @@ use Rattle.kf_words.specs.Steps.{Seated, Sighted, plain, caller_of, after_try, a
 use Rattle.kf_words.specs.declared.view.CallerView.{CallerView}
 use Rattle.kf_words.specs.Callers.{Handle, Owed, CallerSight, caller_sight, seat_view}
 use Rattle.kf_words.specs.Nodes.{MasterSight, master_sight}
-use Rattle.kf_words.specs.TableSteps.{Table, world, StepKind, IsSeated, WordStep, WordRun, tries, undoes, leaves, breaks, restores, looks, parts, hides, looks_hidden, shows, releases, misses, counts, loads_hold, pins_hold, stores_fresh, births, looks_over, unlinks}
+use Rattle.kf_words.specs.TableSteps.{Table, world, StepKind, IsSeated, WordStep, WordRun, tries, undoes, leaves, breaks, restores, looks, parts, hides, looks_hidden, shows, releases, misses, counts, loads_hold, pins_hold, stores_fresh, births, looks_over, unlinks, notes}
+use Rattle.kf_words.specs.Notes.{notes_of}
 use Rattle.kf_words.specs.History.{opened_as}
 
 -- the run that was seen before went on by the steps between, then by this one, and so far it is seen after
@@ -240,7 +242,8 @@ FoundInHold before after =
     WasFound (seat_view before) (seat_view after) (hold_index before.key.slot) after.found
 
 -- the Master's step was the next of the one run, which had gone on from all that the Master had seen before
--- to the table that it found. That met the rule, and had the Master's view before it
+-- to the table that it found. That met the rule, and had the Master's view before it. Nobody else had added a
+-- note
 pub record WasMadeByMaster (kind : StepKind) (before after : MasterSight) : Type 0 where
   pub between : List StepKind
   pub found : Table
@@ -250,6 +253,7 @@ pub record WasMadeByMaster (kind : StepKind) (before after : MasterSight) : Type
   pub step : WordStep found kind left
   pub was : get_elem? found.views 0 ≡ some (seat.Master before.view)
   pub is : get_elem? left.views 0 ≡ some (seat.Master after.view)
+  pub alone : notes_of between ≡ []
   pub seen : SawNext before.seen between kind after.seen
 
 -- a node was born: its new active word was stored, and then its slot got the generation and the bit of a node
@@ -280,3 +284,8 @@ abbrev pub MasterMakes : (ℕ → ℕ) → (ℕ → StepKind) → (Step (Unit {0
 MasterMakes index kind tells st me found me' = (st.word ≡ index (slot_of st.word))
     × (tells st (plain me) found (plain me')
     × WasMadeByMaster (kind (slot_of st.word)) (master_sight me.0) (master_sight me'.0))
+
+-- what a step of the Master tells that adds a note to the run, on whatever word: it changes no view
+abbrev pub MakesNote : Note → Step (Unit {0}) → Sighted → ℕ → Sighted → Type 0
+MakesNote note st me found me' =
+    (plain me' ≡ plain me) × WasMadeByMaster (notes note) (master_sight me.0) (master_sight me'.0)

@@ -17,6 +17,7 @@ use Rattle.kf_words.specs.declared.sight.Sight.{Sight}
 use Rattle.kf_words.specs.Layout.{is_drained, holds_in, IsFree, HasRoom}
 use Rattle.kf_words.specs.Steps.{master_of, with_load, with_pin, without_pin, after_split, with_look, without_node}
 use Rattle.kf_words.specs.Callers.{TableId, Handle}
+use Rattle.kf_words.specs.Notes.{history_of}
 
 -- the Master's table, its view, and by slot the node that was born there last
 pub record MasterState : Type 0 where
@@ -54,12 +55,13 @@ last_of m slot = option_map (λ (state : SlotState). state.generation) (slice_ge
 abbrev pub slots_with : List SlotState → Key → Option Marks → List SlotState
 slots_with slots key marks = slice_set slots key.slot (record { generation = key.generation; marks = marks })
 
--- the same table with the same limit of holds, and nothing about nodes changed
+-- the same table with the same limit of holds, nothing about nodes changed, and no note added
 pub record KeepsNodes (old new : MasterState) : Type 0 where
   pub table : new.table ≡ old.table
   pub limit : new.view.limit ≡ old.view.limit
   pub nodes : new.nodes ≡ old.nodes
   pub slots : new.view.slots ≡ old.view.slots
+  pub history : history_of new.seen ≡ history_of old.seen
 
 -- a load of the slot's hold word, since the Master's last other step on a hold word, found such a word
 abbrev pub Found : (ℕ → Type 0) → MasterView → ℕ → Type 0

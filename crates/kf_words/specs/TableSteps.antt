@@ -14,7 +14,7 @@ use Rattle.kf_words.specs.declared.view.MasterView.{MasterView}
 use Rattle.kf_words.specs.declared.view.View.{View}
 use Rattle.kf_words.specs.declared.view.View.TheVariants as seat
 pub use Rattle.kf_words.specs.declared.sight.StepKind.{StepKind}
-pub use Rattle.kf_words.specs.declared.sight.StepKind.TheVariants.{Tries as tries, Undoes as undoes, Leaves as leaves, Breaks as breaks, Restores as restores, Looks as looks, Parts as parts, Hides as hides, LooksHidden as looks_hidden, Shows as shows, Releases as releases, Misses as misses, Counts as counts, Shares as shares, Sleeps as sleeps, Awakes as awakes, LoadsHold as loads_hold, PinsHold as pins_hold, UnpinsHold as unpins_hold, Splits as splits, StoresFresh as stores_fresh, Births as births, TakesBias as takes_bias, MarksNode as marks_node, LooksOver as looks_over, Unlinks as unlinks}
+pub use Rattle.kf_words.specs.declared.sight.StepKind.TheVariants.{Tries as tries, Undoes as undoes, Leaves as leaves, Breaks as breaks, Restores as restores, Looks as looks, Parts as parts, Hides as hides, LooksHidden as looks_hidden, Shows as shows, Releases as releases, Misses as misses, Counts as counts, Shares as shares, Sleeps as sleeps, Awakes as awakes, LoadsHold as loads_hold, PinsHold as pins_hold, UnpinsHold as unpins_hold, Splits as splits, StoresFresh as stores_fresh, Births as births, TakesBias as takes_bias, MarksNode as marks_node, LooksOver as looks_over, Unlinks as unlinks, Notes as notes}
 use Rattle.kf_words.specs.Layout.{bit, bias, doom, hide, linked, one_generation, active_index, hold_index, sleepers_index, opening_words, HasSpare}
 use Rattle.kf_words.specs.Rule.{bare_world}
 use Rattle.kf_words.specs.Steps.{caller_of, no_master, master_of, state_at, after_try, after_undo, after_leave, after_break, after_restore, after_look, after_part, after_hide, after_look_hidden, after_show, after_release, after_miss, after_count, after_share, new_hold, unmoved, after_split, hold_for, with_load, with_pin, without_pin, after_store, with_birth, with_marks, activated_marks, doomed_marks, with_look, without_node, unread, opened}
@@ -154,6 +154,10 @@ IsUndoomed slot x m = HasMarks m slot x × (x.doomed ≡ false)
 abbrev pub SeesDrained : ℕ → MasterView → Type 0
 SeesDrained slot m = ((x : Marks) × HasMarks m slot x) × HasLooked m slot
 
+-- the Master adds a note to the run, which changes no word and no view
+abbrev pub MasterNotes : Table → Table → Type 0
+MasterNotes t t' = ((m : MasterView) × (get_elem? t.views 0 ≡ some (seat.Master m))) × (t' ≡ t)
+
 -- one atomic step of the table, by any seat: what it makes of the view, what the view must say before it,
 -- which of the slot's words it is on, and what it makes of that
 abbrev pub WordStep : Table → StepKind → Table → Type 0
@@ -192,6 +196,7 @@ WordStep t (looks_over slot) t' =
     MasterPlays with_look (λ m. slot < length m.slots) active_index same t slot t'
 WordStep t (unlinks slot) t' =
     MasterPlays (unread without_node) (SeesDrained slot) hold_index (minus linked) t slot t'
+WordStep t (notes note) t' = MasterNotes t t'
 
 -- these steps, one after another
 abbrev pub WordRun : Table → List StepKind → Table → Type 0
@@ -235,6 +240,7 @@ IsAttended t (births j) = Unit {0}
 IsAttended t (takes_bias j) = Unit {0}
 IsAttended t (marks_node j) = Unit {0}
 IsAttended t (looks_over j) = Unit {0}
+IsAttended t (notes note) = Unit {0}
 IsAttended t (splits slot) = IsPinnable t slot
 IsAttended t (unlinks slot) = (j : ℕ) × IsDrainedOn t slot j
 

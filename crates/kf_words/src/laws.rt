@@ -1,7 +1,7 @@
 //! What the words tell at every moment, and which event each step is.
 ghost use Rattle.kf_words.specs.Laws.{AlwaysSafe, LetsInTheLive, DrainedIsUnused, FreeIsUnheld, TellsTheLinked, TellsTheHidden, HiddenIsRefused, ShownLetsIn};
 ghost use Rattle.kf_words.specs.Events.{TryIsEnter, UndoIsUndo, LookIsLook, PartIsPart, LeaveIsLeave, BreakIsBreak, RestoreIsRestore, ReleaseIsRelease, HideIsHide, LookHiddenIsLook, ShowIsShow, MissIsNothing, RiseIsRise, MarkIsMark, BirthIsBorn, UnlinkIsUnlink, SplitIsPin, HeldSplitIsPin, ShareIsPin, RestIsNothing};
-ghost use Rattle.kf_words.specs.History.{EndsARun, SeenLeadsHere, DrainedEverAfter, OneRunIsSeen, OneEnd};
+ghost use Rattle.kf_words.specs.History.{EndsARun, SeenLeadsHere, DrainedEverAfter, OneRunIsSeen, OneEnd, HistoryIsSeen, OneHistory, NotesStay};
 ghost use Rattle.kf_words.specs.Life.{WordLife, LifeIsKept};
 ghost use Rattle.kf_words.specs.Runs.{OpensWell, RuleKept, RunIsRun, RunIsSafe, MarkedKeepsOut, DrainedForGood, HiddenKeepsOut, PassedForGood, BornUnheld, LetInLive, TakenLive};
 
@@ -98,12 +98,18 @@ pub fn words_run()
 /// as it is. Where a caller was drained or parted on a key at any moment of the run so far, nobody is running
 /// on that key now. Of two seats, one has seen as much as the other or more. Steps of one list lead to one
 /// table, so what a seat has seen names that table.
+///
+/// The Master has seen every note of the run, and what any seat has seen of these is a beginning. Of two
+/// seats, one has seen as much of the one history as the other or more, and no step takes a note away.
 pub fn words_kept()
     ensures ends_a_run { EndsARun }
     ensures seen_leads_here { SeenLeadsHere }
     ensures drained_ever_after { DrainedEverAfter }
     ensures one_run_is_seen { OneRunIsSeen }
     ensures one_end { OneEnd }
+    ensures history_is_seen { HistoryIsSeen }
+    ensures one_history { OneHistory }
+    ensures notes_stay { NotesStay }
 {}
 
 /// A run of words in which every kind of step stands: a call, a hiding, a removal seen through, and the next

@@ -1,14 +1,17 @@
 //! The Master: the one seat that makes and unmakes nodes. Whoever owns it, as the tree lock does, gives the
 //! tree's commands.
-ghost use Rattle.std.specs.Prelude.{◌≡◌, ◌<◌, ◌≤◌, true, false, length, is_some, IfOk, IfErr, OnOk};
+ghost use Rattle.std.specs.Prelude.{◌≡◌, ◌<◌, ◌≤◌, [], ◌∷◌, ◌++◌, true, false, length, is_some, IfOk, IfErr, OnOk};
 ghost use Rattle.kf_core.specs.declared.refusal.Refusal.TheVariants as refusal_of;
 ghost use Rattle.kf_words.specs.Nodes.{KeepsNodes, KeepsRooms, IsNewHold, IsLastKey, WasPinned, PinRefused, HeldPinRefused, RoomFound, FoundRoom, FoundFull, last_of, marks_of, sight_in};
-ghost use Rattle.kf_words.specs.Made.{WasCounted};
+ghost use Rattle.kf_words.specs.Notes.{history_of};
+ghost use Rattle.kf_words.specs.Made.{WasCounted, WasMadeByMaster};
+ghost use Rattle.kf_words.specs.TableSteps.{notes};
 
 use crate::call::Call;
 use crate::hold::Hold;
 use crate::layout::has_room;
 use crate::master_seat::MasterSeat;
+use crate::note::Said;
 use crate::seat::CallerSeat;
 use kf_core::{Key, Marks, Node, Refusal, SlotState};
 use std::marker::Model;
@@ -159,5 +162,18 @@ impl Master {
         Ok(Hold {
             seat: CallerSeat::new(table, key, node, most, token),
         })
+    }
+
+    /// Adds a note to the history: what was done, while whoever has the Master did it. The call picks it by
+    /// what it is told, of which nothing is kept. One word step, which changes nothing.
+    pub fn note<E: Said, T>(&mut self, told: &T)
+        ensures table { self.new.table ≡ self.old.table }
+        ensures nodes { self.new.nodes ≡ self.old.nodes }
+        ensures view { self.new.view ≡ self.old.view }
+        ensures made { WasMadeByMaster (notes E.note) (sight_in self.old) (sight_in self.new) }
+        ensures history { history_of self.new.seen ≡ history_of self.old.seen ++ E.note ∷ [] }
+    {
+        let _ = told; // the pick alone reads it
+        self.steps.note::<E>();
     }
 }

@@ -1,5 +1,5 @@
 //! The steps of the Master's seat, one by one.
-ghost use Rattle.std.specs.Prelude.{◌≡◌, ◌<◌, [], length, Some, None, false};
+ghost use Rattle.std.specs.Prelude.{◌≡◌, ◌<◌, [], ◌∷◌, ◌++◌, length, Some, None, false};
 ghost use Rattle.std.specs.Arc.{arc_value};
 ghost use Rattle.kf_core.specs.Marks.{fresh_marks};
 ghost use Rattle.kf_words.specs.Layout.{active_index, hold_index};
@@ -7,15 +7,17 @@ ghost use Rattle.kf_words.specs.Rule.{last_key};
 ghost use Rattle.kf_words.specs.Steps.{with_load, with_pin, without_pin, after_split, new_hold, state_at, with_look, without_node, after_store, with_birth, TellsSlot, with_marks, activated_marks, doomed_marks, plain};
 ghost use Rattle.kf_core.specs.declared.slot.Marks.{Marks};
 ghost use Rattle.kf_words.specs.Nodes.{HasMarks, HasLooked, FoundRoom, FoundFree, master_sight, master_view};
-ghost use Rattle.kf_words.specs.TableSteps.{loads_hold, pins_hold, stores_fresh, births, takes_bias, marks_node, looks_over, unlinks};
+ghost use Rattle.kf_words.specs.TableSteps.{loads_hold, pins_hold, stores_fresh, births, takes_bias, marks_node, looks_over, unlinks, notes};
 ghost use Rattle.kf_words.specs.Made.{WasMadeByMaster};
+ghost use Rattle.kf_words.specs.Notes.{history_of};
 ghost use Rattle.kf_words.specs.declared.view.View.TheVariants as seat_of;
 
 use crate::layout::{BIAS, GENERATION, LINKED, active_index, hold_index, mark_bits};
 use crate::master_seat::MasterSeat;
+use crate::note::Said;
 use crate::plays::{
-    Births, LoadsHold, LooksOver, MarksNode, PinsHold, SplitsHold, StoresFresh, TakesBias, Unlinks,
-    UnpinsHold,
+    Births, LoadsHold, LooksOver, MarksNode, Notes, PinsHold, SplitsHold, StoresFresh, TakesBias,
+    Unlinks, UnpinsHold,
 };
 use crate::sight::Sight;
 use atomic_table::Seat;
@@ -45,6 +47,7 @@ impl MasterSeat {
         requires { slot < length (master_view self.old).slots }
         ensures table { self.new.token.table_id ≡ self.old.token.table_id }
         ensures view { master_view self.new ≡ with_load slot result (master_view self.old) }
+        ensures history { history_of self.new.token.me.0.seen ≡ history_of self.old.token.me.0.seen }
         ensures made { WasMadeByMaster (loads_hold slot) (master_sight self.old.token.me.0)
             (master_sight self.new.token.me.0) }
         ensures slot { TellsSlot (master_view self.old) slot result }
@@ -61,6 +64,7 @@ impl MasterSeat {
         requires room { FoundRoom (master_view self.old) slot }
         ensures table { self.new.token.table_id ≡ self.old.token.table_id }
         ensures view { master_view self.new ≡ with_pin slot (master_view self.old) }
+        ensures history { history_of self.new.token.me.0.seen ≡ history_of self.old.token.me.0.seen }
         ensures made { WasMadeByMaster (pins_hold slot) (master_sight self.old.token.me.0)
             (master_sight self.new.token.me.0) }
     {
@@ -77,6 +81,7 @@ impl MasterSeat {
         requires one { (master_view self.old).pinning ≡ Some slot }
         ensures table { self.new.token.table_id ≡ self.old.token.table_id }
         ensures view { master_view self.new ≡ without_pin slot (master_view self.old) }
+        ensures history { history_of self.new.token.me.0.seen ≡ history_of self.old.token.me.0.seen }
     {
         let word = self.hold_index(slot);
         let token = &mut self.token;
@@ -91,6 +96,7 @@ impl MasterSeat {
         requires one { (master_view self.old).pinning ≡ Some slot }
         ensures table { self.new.token.table_id ≡ self.old.token.table_id }
         ensures view { master_view self.new ≡ after_split (master_view self.old) }
+        ensures history { history_of self.new.token.me.0.seen ≡ history_of self.old.token.me.0.seen }
         ensures seen { self.new.token.me.0.seen ≡ self.old.token.me.0.seen }
         ensures same_table { result.table_id ≡ self.old.token.table_id }
         ensures told { result.me.0.seen ≡ self.old.token.me.0.seen }
@@ -108,6 +114,7 @@ impl MasterSeat {
         requires free { FoundFree (master_view self.old) slot }
         ensures table { self.new.token.table_id ≡ self.old.token.table_id }
         ensures view { master_view self.new ≡ after_store slot (master_view self.old) }
+        ensures history { history_of self.new.token.me.0.seen ≡ history_of self.old.token.me.0.seen }
         ensures made { WasMadeByMaster (stores_fresh slot) (master_sight self.old.token.me.0)
             (master_sight self.new.token.me.0) }
     {
@@ -124,6 +131,7 @@ impl MasterSeat {
         requires fresh { (master_view self.old).fresh ≡ Some slot }
         ensures table { self.new.token.table_id ≡ self.old.token.table_id }
         ensures view { master_view self.new ≡ with_birth slot (master_view self.old) }
+        ensures history { history_of self.new.token.me.0.seen ≡ history_of self.old.token.me.0.seen }
         ensures made { WasMadeByMaster (births slot) (master_sight self.old.token.me.0)
             (master_sight self.new.token.me.0) }
     {
@@ -139,6 +147,7 @@ impl MasterSeat {
         requires { HasMarks (master_view self.old) slot fresh_marks }
         ensures table { self.new.token.table_id ≡ self.old.token.table_id }
         ensures view { master_view self.new ≡ with_marks activated_marks slot (master_view self.old) }
+        ensures history { history_of self.new.token.me.0.seen ≡ history_of self.old.token.me.0.seen }
         ensures made { WasMadeByMaster (takes_bias slot) (master_sight self.old.token.me.0)
             (master_sight self.new.token.me.0) }
     {
@@ -156,6 +165,7 @@ impl MasterSeat {
         requires undoomed { marks.doomed ≡ false }
         ensures table { self.new.token.table_id ≡ self.old.token.table_id }
         ensures view { master_view self.new ≡ with_marks doomed_marks slot (master_view self.old) }
+        ensures history { history_of self.new.token.me.0.seen ≡ history_of self.old.token.me.0.seen }
         ensures made { WasMadeByMaster (marks_node slot) (master_sight self.old.token.me.0)
             (master_sight self.new.token.me.0) }
     {
@@ -172,6 +182,7 @@ impl MasterSeat {
         requires { slot < length (master_view self.old).slots }
         ensures table { self.new.token.table_id ≡ self.old.token.table_id }
         ensures view { master_view self.new ≡ with_look slot result (master_view self.old) }
+        ensures history { history_of self.new.token.me.0.seen ≡ history_of self.old.token.me.0.seen }
         ensures made { WasMadeByMaster (looks_over slot) (master_sight self.old.token.me.0)
             (master_sight self.new.token.me.0) }
     {
@@ -186,6 +197,7 @@ impl MasterSeat {
         requires drained { HasLooked (master_view self.old) slot }
         ensures table { self.new.token.table_id ≡ self.old.token.table_id }
         ensures view { master_view self.new ≡ without_node slot (master_view self.old) }
+        ensures history { history_of self.new.token.me.0.seen ≡ history_of self.old.token.me.0.seen }
         ensures made { WasMadeByMaster (unlinks slot) (master_sight self.old.token.me.0)
             (master_sight self.new.token.me.0) }
     {
@@ -194,5 +206,19 @@ impl MasterSeat {
         self.table
             .shared
             .fetch_sub::<Unlinks>(&mut token.seat, word, LINKED);
+    }
+
+    /// Adds a note to the run, in one word step that changes nothing.
+    pub(crate) fn note<E: Said>(&mut self)
+        requires { 0 < length (master_view self.old).slots }
+        ensures table { self.new.token.table_id ≡ self.old.token.table_id }
+        ensures view { master_view self.new ≡ master_view self.old }
+        ensures made { WasMadeByMaster (notes E.note) (master_sight self.old.token.me.0)
+            (master_sight self.new.token.me.0) }
+        ensures history { history_of self.new.token.me.0.seen
+            ≡ history_of self.old.token.me.0.seen ++ E.note ∷ [] }
+    {
+        let token = &mut self.token;
+        self.table.shared.load::<Notes<E>>(&mut token.seat, 0);
     }
 }

@@ -6,6 +6,7 @@ ghost use Rattle.kf_core.specs.Marks.{fresh_marks, live_marks, are_doomed};
 ghost use Rattle.kf_words.specs.Steps.{with_birth, after_store, with_marks, activated_marks, doomed_marks};
 ghost use Rattle.kf_words.specs.TableSteps.{takes_bias, marks_node};
 ghost use Rattle.kf_words.specs.Made.{WasMadeByMaster, WasBorn, WasUnlinked};
+ghost use Rattle.kf_words.specs.Notes.{history_of};
 ghost use Rattle.kf_words.specs.Nodes.{KeepsNodes, MayBear, Searched, UnlinkAnswer, marks_of, sight_in, slots_with};
 
 use crate::blocks::{block_of, group_of};
@@ -42,6 +43,7 @@ impl Master {
         ensures nodes { self.new.nodes ≡ slice_set self.old.nodes key.slot node }
         ensures view { self.new.view ≡ with_birth key.slot (after_store key.slot self.old.view) }
         ensures made { WasBorn key.slot (sight_in self.old) (sight_in self.new) }
+        ensures history { history_of self.new.seen ≡ history_of self.old.seen }
         ensures slots { self.new.view.slots ≡ slots_with self.old.view.slots key (Some fresh_marks) }
     {
         self.steps.store_fresh(key.slot);
@@ -65,6 +67,7 @@ impl Master {
         ensures nodes { self.new.nodes ≡ self.old.nodes }
         ensures view { self.new.view ≡ with_marks activated_marks key.slot self.old.view }
         ensures made { WasMadeByMaster (takes_bias key.slot) (sight_in self.old) (sight_in self.new) }
+        ensures history { history_of self.new.seen ≡ history_of self.old.seen }
         ensures slots { self.new.view.slots ≡ slots_with self.old.view.slots key (Some live_marks) }
     {
         self.steps.take_bias(key.slot);
@@ -87,6 +90,7 @@ impl Master {
         ensures nodes { self.new.nodes ≡ self.old.nodes }
         ensures view { self.new.view ≡ with_marks doomed_marks key.slot self.old.view }
         ensures made { WasMadeByMaster (marks_node key.slot) (sight_in self.old) (sight_in self.new) }
+        ensures history { history_of self.new.seen ≡ history_of self.old.seen }
         ensures slots { (x : Marks) → marks_of self.old.view key ≡ Some x →
             self.new.view.slots ≡ slots_with self.old.view.slots key (Some (doomed_marks x)) }
     {
@@ -118,6 +122,7 @@ impl Master {
         ensures nodes { self.new.nodes ≡ self.old.nodes }
         ensures answer { UnlinkAnswer self.old.view drained.now.key.slot result self.new.view }
         ensures made { WasUnlinked drained.now.key.slot result (sight_in self.old) (sight_in self.new) }
+        ensures history { history_of self.new.seen ≡ history_of self.old.seen }
         ensures slots { self.new.view.slots
             ≡ (if result then slots_with self.old.view.slots drained.now.key None else self.old.view.slots) }
     {

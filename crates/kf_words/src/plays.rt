@@ -1,6 +1,8 @@
 //! The kinds of step on the table of words: what each makes of the view of the seat that steps.
+use crate::note::Said;
 use crate::sight::Sight;
 use atomic_table::{Play, Split};
+use std::marker::PhantomData;
 
 /// A caller counts itself in the active word.
 pub(crate) struct Tries;
@@ -255,6 +257,17 @@ impl Play<(), Sight> for Unlinks {
     ghost use Rattle.kf_words.specs.Made.{MasterMakes};
 
     ghost then = { MasterMakes hold_index unlinks (MasterBecomes (unread without_node)) };
+}
+
+/// The Master adds a note to the run, and changes nothing.
+pub(crate) struct Notes<E: Said> {
+    of: PhantomData<E>,
+}
+
+impl<E: Said> Play<(), Sight> for Notes<E> {
+    ghost use Rattle.kf_words.specs.Made.{MakesNote};
+
+    ghost then = { MakesNote E.note };
 }
 
 /// The hold that has no seat yet goes to a new one.

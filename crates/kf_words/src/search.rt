@@ -2,6 +2,7 @@
 ghost use Rattle.std.specs.Prelude.{◌≡◌, ◌<◌, ◌≤◌, ◌+◌, ◌*◌, ◌/◌, IfSome, length};
 ghost use Rattle.kf_core.specs.Limits.{most_slots};
 ghost use Rattle.kf_words.specs.Nodes.{FoundFree, Searched, HasNext, master_view};
+ghost use Rattle.kf_words.specs.Notes.{history_of};
 ghost use Rattle.kf_words.specs.Searches.{AreFull, AreMarked, SearchesOn};
 
 use crate::blocks::{BLOCK, GROUP, is_unlinked};
@@ -19,6 +20,7 @@ impl MasterSeat {
         requires full { AreFull 64 full.old slots.now }
         ensures table { self.new.token.table_id ≡ self.old.token.table_id }
         ensures slots { (master_view self.new).slots ≡ (master_view self.old).slots }
+        ensures history { history_of self.new.token.me.0.seen ≡ history_of self.old.token.me.0.seen }
         ensures searched { SearchesOn (master_view self.old) (block * 64) (block * 64 + 64) result
             (master_view self.new) }
         ensures next { IfSome result (λ slot. HasNext (master_view self.new) slot) }
@@ -57,6 +59,7 @@ impl MasterSeat {
         requires marked { AreMarked full.old full_groups.old slots.now }
         ensures table { self.new.token.table_id ≡ self.old.token.table_id }
         ensures slots { (master_view self.new).slots ≡ (master_view self.old).slots }
+        ensures history { history_of self.new.token.me.0.seen ≡ history_of self.old.token.me.0.seen }
         ensures searched { SearchesOn (master_view self.old) (group * 8192) (group * 8192 + 8192) result
             (master_view self.new) }
         ensures next { IfSome result (λ slot. HasNext (master_view self.new) slot) }
@@ -93,6 +96,7 @@ impl MasterSeat {
         ensures next { IfSome result (λ slot. HasNext (master_view self.new) slot) }
         ensures free { IfSome result (λ slot. FoundFree (master_view self.new) slot) }
         ensures slots { (master_view self.new).slots ≡ (master_view self.old).slots }
+        ensures history { history_of self.new.token.me.0.seen ≡ history_of self.old.token.me.0.seen }
         ensures limit { (master_view self.new).limit ≡ (master_view self.old).limit }
         ensures pinning { (master_view self.new).pinning ≡ (master_view self.old).pinning }
         ensures marked { AreMarked full.new full_groups.new slots.now }

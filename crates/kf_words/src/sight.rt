@@ -1,6 +1,7 @@
 //! The one run of all steps at a table of words, and what each seat has seen of it. The rule of the table
 //! speaks of these types, so they are types of the code, but no value of a `Sight` or a
 //! `StepKind` is ever made.
+use crate::note::Note;
 use crate::view::View;
 use std::collections::LinkedList;
 
@@ -13,7 +14,7 @@ pub struct Opening {
     pub start: u32,
 }
 
-/// What a step does: of a caller, by its number, or of the Master, on a slot.
+/// What a step does: of a caller, by its number, or of the Master, on a slot. A note alone is on no slot.
 pub enum StepKind {
     Tries(u64),
     Undoes(u64),
@@ -41,6 +42,7 @@ pub enum StepKind {
     MarksNode(u64),
     LooksOver(u64),
     Unlinks(u64),
+    Notes(Note),
 }
 
 /// A beginning of the one run: the steps of all seats from the opening on, in their order.

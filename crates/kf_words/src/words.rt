@@ -1,5 +1,5 @@
 //! Making a table of words with its Master.
-ghost use Rattle.std.specs.Prelude.{◌≡◌, ◌≤◌, IfOk, IfErr, List, length, replicate};
+ghost use Rattle.std.specs.Prelude.{◌≡◌, ◌≤◌, IfOk, IfErr, List, [], length, replicate};
 ghost use Rattle.std.specs.Arc.{arc_value};
 ghost use Rattle.kf_core.specs.declared.key.Node.TheVariants as node_of;
 ghost use Rattle.kf_core.specs.declared.refusal.Refusal.TheVariants as refusal_of;
@@ -7,6 +7,7 @@ ghost use Rattle.kf_core.specs.declared.slot.SlotState.{SlotState};
 ghost use Rattle.kf_core.specs.Limits.{most_slots};
 ghost use Rattle.kf_words.specs.Layout.{opening_words};
 ghost use Rattle.kf_words.specs.Nodes.{master_view};
+ghost use Rattle.kf_words.specs.Notes.{history_of};
 ghost use Rattle.kf_words.specs.Searches.{AreMarked};
 ghost use Rattle.kf_words.specs.Steps.{opened};
 
@@ -113,6 +114,7 @@ fn open_table(
     ensures table { IfOk result (λ r. r.0 ≡ r.1.token.table_id) }
     ensures view { IfOk result
         (λ r. master_view r.1 ≡ opened opening.holds opening.slots opening.start) }
+    ensures history { IfOk result (λ r. history_of r.1.token.me.0.seen ≡ []) }
 {
     let (table, token) = WordTable::of_words(alloc, words, &opening)?;
     let table = Arc::new(alloc, table)?;
@@ -126,13 +128,15 @@ fn open_table(
 }
 
 impl Words {
-    /// A table of words with its Master: only the root has a node, a live directory of generation 1.
+    /// A table of words with its Master: only the root has a node, a live directory of generation 1, and the
+    /// history has no note.
     ///
     /// Refusal: NoMemory.
     pub fn new(alloc: Global, limits: Limits) -> Result<(Words, Master), Refusal>
         ensures table { IfOk result (λ r. r.0 ≡ r.1.table) }
         ensures view { IfOk result (λ r. r.1.view ≡ opened limits.holds limits.slots 0) }
         ensures nodes { IfOk result (λ r. r.1.nodes ≡ replicate limits.slots node_of.Dir) }
+        ensures history { IfOk result (λ r. history_of r.1.seen ≡ []) }
         ensures refused { IfErr result (λ why. why ≡ refusal_of.NoMemory) }
     {
         Words::new_at(alloc, limits, 0)
@@ -148,6 +152,7 @@ impl Words {
         ensures table { IfOk result (λ r. r.0 ≡ r.1.table) }
         ensures view { IfOk result (λ r. r.1.view ≡ opened limits.holds limits.slots start) }
         ensures nodes { IfOk result (λ r. r.1.nodes ≡ replicate limits.slots node_of.Dir) }
+        ensures history { IfOk result (λ r. history_of r.1.seen ≡ []) }
         ensures refused { IfErr result (λ why. why ≡ refusal_of.NoMemory) }
     {
         match Words::open(alloc, limits, start) {
@@ -162,6 +167,7 @@ impl Words {
         ensures table { IfOk result (λ r. r.0 ≡ r.1.table) }
         ensures view { IfOk result (λ r. r.1.view ≡ opened limits.holds limits.slots start) }
         ensures nodes { IfOk result (λ r. r.1.nodes ≡ replicate limits.slots node_of.Dir) }
+        ensures history { IfOk result (λ r. history_of r.1.seen ≡ []) }
     {
         let count = limits.slots();
         let holds = limits.holds();

@@ -8,6 +8,8 @@ mod hider_tests;
 #[cfg(test)]
 mod hiding_tests;
 #[cfg(test)]
+mod note_tests;
+#[cfg(test)]
 mod search_tests;
 #[cfg(test)]
 mod test_fixtures;

@@ -1,5 +1,5 @@
 -- The clauses on the one run, each by the lemma of its name.
-use Rattle.kf_words.proofs.Histories.{ends_a_run, seen_leads_here, drained_ever_after, one_run_is_seen}
+use Rattle.kf_words.proofs.Histories.{ends_a_run, seen_leads_here, drained_ever_after, one_run_is_seen, history_is_seen, one_history, notes_stay}
 use Rattle.kf_words.proofs.OneEnds.{one_end}
 use Rattle.kf_words.proofs.laws.words_kept.Goals as goal
 
@@ -17,3 +17,12 @@ returns-clause-one_end c = one_end
 
 pub returns-clause-drained_ever_after : goal.returns-clause-drained_ever_after
 returns-clause-drained_ever_after c = drained_ever_after
+
+pub returns-clause-history_is_seen : goal.returns-clause-history_is_seen
+returns-clause-history_is_seen c = history_is_seen
+
+pub returns-clause-one_history : goal.returns-clause-one_history
+returns-clause-one_history c = one_history
+
+pub returns-clause-notes_stay : goal.returns-clause-notes_stay
+returns-clause-notes_stay c = notes_stay

@@ -37,6 +37,7 @@ loop-group-preserved c =
     let next : from + 8192 ≡ (c.loop-group.group + 1) * 8192 = omega arith in
     record {
       table = c.free_in_group.ensures.table ∙ c.loop-group.invariant.table;
+      history = c.free_in_group.ensures.history ∙ c.loop-group.invariant.history;
       searching = subst (λ (n : ℕ). HasPassed first n m') next
           (subst (λ (o : Option ℕ). SearchesOn m from (from + 8192) o m') c.in_default.is c.free_in_group.ensures.searched first c.loop-group.invariant.searching);
       marked = c.free_in_group.ensures.marked;

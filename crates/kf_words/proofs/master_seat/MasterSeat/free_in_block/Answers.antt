@@ -6,6 +6,7 @@ use Rattle.kf_words.specs.declared.view.MasterView.{MasterView}
 use Rattle.kf_words.specs.declared.master_seat.MasterSeat.{MasterSeat}
 use Rattle.kf_words.specs.Layout.{IsFree}
 use Rattle.kf_words.specs.Nodes.{HasNext, is_unlinked, master_view}
+use Rattle.kf_words.specs.Notes.{history_of}
 use Rattle.kf_words.specs.Searches.{SearchesOn}
 use Rattle.kf_words.proofs.MasterAllowed.{found_by}
 use Rattle.kf_words.proofs.Keys.{next_there}
@@ -60,6 +61,7 @@ loop-slot-preserved c =
           let is = ap (λ (s : MasterSeat). master_view s) w.self-is ∙ w.load_hold-found.ensures.view in
           record {
             table = ap (λ (s : MasterSeat). s.token.table_id) w.self-is ∙ w.load_hold-found.ensures.table ∙ c.loop-slot.invariant.table;
+            history = ap (λ (s : MasterSeat). history_of s.token.me.0.seen) w.self-is ∙ w.load_hold-found.ensures.history ∙ c.loop-slot.invariant.history;
             same_slots = ap (λ (x : MasterView). x.slots) is ∙ c.loop-slot.invariant.same_slots;
             searching = on_loads first from m (master_view c.if-is_unlinked.self) slot w.load_hold-found.result (own ∙ w.if-is_unlinked.true)
                 (λ f. (let y : true ≡ false = sym (w.is_free.ensures.1 f) ∙ w.if-is_free.false in cc)) is c.loop-slot.invariant.searching;
@@ -69,6 +71,7 @@ loop-slot-preserved c =
           let is = ap (λ (s : MasterSeat). master_view s) w.self-is in
           record {
             table = ap (λ (s : MasterSeat). s.token.table_id) w.self-is ∙ c.loop-slot.invariant.table;
+            history = ap (λ (s : MasterSeat). history_of s.token.me.0.seen) w.self-is ∙ c.loop-slot.invariant.history;
             same_slots = ap (λ (x : MasterView). x.slots) is ∙ c.loop-slot.invariant.same_slots;
             searching = subst (λ (x : MasterView). SearchesOn first from (slot + 1) None x) (sym is) (on_skips first from m slot (own ∙ w.if-is_unlinked.false) c.loop-slot.invariant.searching);
             seen = λ all i low high. last_or c.args.slots.now from slot i (c.loop-slot.invariant.seen (sym w.all_linked-is ∙ all)) (sym c.is_unlinked.ensures ∙ w.if-is_unlinked.false) low high;

@@ -34,6 +34,7 @@ loop-block-preserved c =
     let near : block < length c.free_in_block.new.full = omega (arith, c.loop-block-test.true, c.requires.group, c.loop-block.auto.full, c.free_in_block.auto.full) in
     record {
       table = c.free_in_block.ensures.table ∙ c.loop-block.invariant.table;
+      history = c.free_in_block.ensures.history ∙ c.loop-block.invariant.history;
       same_slots = c.free_in_block.ensures.slots ∙ c.loop-block.invariant.same_slots;
       searching = subst (λ (n : ℕ). SearchesOn first from n None m') next (on_then first from m m' (block * 64) (block * 64 + 64) c.loop-block.invariant.searching passed);
       marked = marked_on c.loop-block.full c.free_in_block.new.full c.args.full_groups.now slots c.loop-block.invariant.marked c.free_in_block.ensures.full c.free_in_block.auto.full;

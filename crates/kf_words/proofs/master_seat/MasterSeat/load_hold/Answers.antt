@@ -1,4 +1,4 @@
-use Rattle.std.proofs.Common.{◌≡◌, ℕ, length, rules, arith, sym, ap, ◌∙◌, subst}
+use Rattle.std.proofs.Common.{◌≡◌, ℕ, length, rules, arith, sym, ap, ◌∙◌, subst, refl}
 use Rattle.std.specs.Arc.{arc_value}
 use Rattle.kf_words.specs.declared.view.MasterView.{MasterView}
 use Rattle.kf_words.specs.Layout.{hold_index, slot_of}
@@ -8,6 +8,7 @@ use Rattle.kf_words.specs.TableSteps.{loads_hold}
 use Rattle.kf_words.specs.Nodes.{MasterSight, master_sight}
 use Rattle.kf_words.specs.Made.{MasterMakes, WasMadeByMaster}
 use Rattle.kf_words.proofs.MasterMade.{load_made}
+use Rattle.kf_words.proofs.Added.{no_note}
 use Rattle.kf_words.proofs.Tokens.{asked, told_of, of_master, made_of}
 use Rattle.kf_words.proofs.master_seat.MasterSeat.load_hold.Goals as goal
 
@@ -50,3 +51,6 @@ returns-clause-made c =
     subst (λ (k : ℕ). WasMadeByMaster (loads_hold k) (master_sight self.token.me.0) after)
     (hold_slot c.args.slot c.hold_index-word.result (sym c.hold_index-word.ensures.here))
     (made_of _ _ c.token.view_is (λ (x : MasterSight). WasMadeByMaster (loads_hold (slot_of c.hold_index-word.result)) x after) c.load.ensures.2.1.1)
+
+pub returns-clause-history : goal.returns-clause-history
+returns-clause-history c = no_note (loads_hold c.args.slot) refl _ _ (returns-clause-made c)

@@ -1,4 +1,4 @@
-use Rattle.std.proofs.Common.{◌≡◌, ◌+◌, ◌%◌, ◌^◌, length, rules, arith, sym, ap, ◌∙◌, ℕ, subst}
+use Rattle.std.proofs.Common.{◌≡◌, ◌+◌, ◌%◌, ◌^◌, length, rules, arith, sym, ap, ◌∙◌, ℕ, subst, refl}
 use Rattle.std.specs.Arc.{arc_value}
 use Rattle.kf_words.specs.Layout.{hold_index, slot_of}
 use Rattle.kf_words.specs.Steps.{Seated, master_of, unread, with_pin, MasterBecomes}
@@ -7,6 +7,7 @@ use Rattle.kf_words.specs.TableSteps.{pins_hold}
 use Rattle.kf_words.specs.Nodes.{MasterSight, master_sight}
 use Rattle.kf_words.specs.Made.{MasterMakes, WasMadeByMaster}
 use Rattle.kf_words.proofs.MasterMade.{pin_made}
+use Rattle.kf_words.proofs.Added.{no_note}
 use Rattle.kf_words.proofs.Tokens.{asked, told_of, made_of}
 use Rattle.kf_words.proofs.master_seat.MasterSeat.pin_hold.Goals as goal
 
@@ -43,3 +44,6 @@ returns-clause-made c =
     subst (λ (k : ℕ). WasMadeByMaster (pins_hold k) (master_sight self.token.me.0) after)
     (hold_slot c.args.slot c.hold_index-word.result (sym c.hold_index-word.ensures.here))
     (made_of _ _ c.token.view_is (λ (x : MasterSight). WasMadeByMaster (pins_hold (slot_of c.hold_index-word.result)) x after) c.fetch_add.ensures.2.1.1)
+
+pub returns-clause-history : goal.returns-clause-history
+returns-clause-history c = no_note (pins_hold c.args.slot) refl _ _ (returns-clause-made c)

@@ -1,4 +1,4 @@
-use Rattle.std.proofs.Common.{◌≡◌, length, rules, arith, sym, ap, ◌∙◌, ℕ, subst}
+use Rattle.std.proofs.Common.{◌≡◌, length, rules, arith, sym, ap, ◌∙◌, ℕ, subst, refl}
 use Rattle.std.specs.Arc.{arc_value}
 use Rattle.kf_words.specs.Layout.{bias, active_index, slot_of}
 use Rattle.kf_words.specs.Steps.{Seated, master_of, unread, after_store, MasterBecomes}
@@ -7,6 +7,7 @@ use Rattle.kf_words.specs.TableSteps.{stores_fresh}
 use Rattle.kf_words.specs.Nodes.{MasterSight, master_sight}
 use Rattle.kf_words.specs.Made.{MasterMakes, WasMadeByMaster}
 use Rattle.kf_words.proofs.MasterMade.{store_made}
+use Rattle.kf_words.proofs.Added.{no_note}
 use Rattle.kf_words.proofs.Tokens.{asked, told_of, made_of}
 use Rattle.kf_words.proofs.master_seat.MasterSeat.store_fresh.Goals as goal
 
@@ -44,3 +45,6 @@ returns-clause-made c =
     subst (λ (k : ℕ). WasMadeByMaster (stores_fresh k) (master_sight self.token.me.0) after)
     (active_slot c.args.slot c.active_index-word.result (sym c.active_index-word.ensures.here))
     (made_of _ _ c.token.view_is (λ (x : MasterSight). WasMadeByMaster (stores_fresh (slot_of c.active_index-word.result)) x after) c.store.ensures.2.1.1)
+
+pub returns-clause-history : goal.returns-clause-history
+returns-clause-history c = no_note (stores_fresh c.args.slot) refl _ _ (returns-clause-made c)

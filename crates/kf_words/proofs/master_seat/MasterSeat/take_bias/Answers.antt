@@ -1,4 +1,4 @@
-use Rattle.std.proofs.Common.{◌≡◌, length, length-set, rules, arith, sym, ap, ◌∙◌, ℕ, subst}
+use Rattle.std.proofs.Common.{◌≡◌, length, length-set, rules, arith, sym, ap, ◌∙◌, ℕ, subst, refl}
 use Rattle.std.proofs.lemmas.Option.{slice_get_within}
 use Rattle.std.specs.Arc.{arc_value}
 use Rattle.kf_words.specs.Layout.{bias, active_index, slot_of}
@@ -8,6 +8,7 @@ use Rattle.kf_words.specs.Nodes.{MasterSight, master_sight}
 use Rattle.kf_words.specs.Made.{MasterMakes, WasMadeByMaster}
 use Rattle.kf_words.proofs.MasterAllowed.{active_slot, keeps_master}
 use Rattle.kf_words.proofs.MasterMade.{rise_made}
+use Rattle.kf_words.proofs.Added.{no_note}
 use Rattle.kf_words.proofs.Tokens.{asked, told_of, made_of}
 use Rattle.kf_words.proofs.master_seat.MasterSeat.take_bias.Goals as goal
 
@@ -48,3 +49,6 @@ returns-clause-made c =
     subst (λ (k : ℕ). WasMadeByMaster (takes_bias k) (master_sight self.token.me.0) after)
     (active_slot c.args.slot c.active_index-word.result (sym c.active_index-word.ensures.here))
     (made_of _ _ c.token.view_is (λ (x : MasterSight). WasMadeByMaster (takes_bias (slot_of c.active_index-word.result)) x after) c.fetch_sub.ensures.2.1.1)
+
+pub returns-clause-history : goal.returns-clause-history
+returns-clause-history c = no_note (takes_bias c.args.slot) refl _ _ (returns-clause-made c)

@@ -1,12 +1,14 @@
-use Rattle.std.proofs.Common.{◌≡◌, ◌+◌, ◌-◌, ◌%◌, ◌^◌, length, rules, arith, sym, ap, ◌∙◌}
+use Rattle.std.proofs.Common.{◌≡◌, ◌+◌, ◌-◌, ◌%◌, ◌^◌, length, rules, arith, refl, sym, ap, ◌∙◌}
 use Rattle.std.specs.Arc.{arc_value}
-use Rattle.kf_words.specs.Layout.{hold_index}
+use Rattle.kf_words.specs.Layout.{hold_index, slot_of}
+use Rattle.kf_words.specs.Nodes.{MasterSight, master_sight}
 use Rattle.kf_words.specs.Steps.{Seated, master_of, unread, without_pin, MasterBecomes}
 use Rattle.kf_words.proofs.MasterAllowed.{hold_slot, keeps_master}
 use Rattle.kf_words.specs.TableSteps.{unpins_hold}
-use Rattle.kf_words.specs.Made.{MasterMakes}
+use Rattle.kf_words.specs.Made.{MasterMakes, WasMadeByMaster}
+use Rattle.kf_words.proofs.Added.{no_note}
 use Rattle.kf_words.proofs.MasterMade.{unpin_made}
-use Rattle.kf_words.proofs.Tokens.{asked, told_of}
+use Rattle.kf_words.proofs.Tokens.{asked, told_of, made_of}
 use Rattle.kf_words.proofs.master_seat.MasterSeat.unpin_hold.Goals as goal
 
 pub fetch_sub-requires : goal.fetch_sub-requires
@@ -34,3 +36,10 @@ pub returns-clause-view : goal.returns-clause-view
 returns-clause-view c =
     let self = c.args.self.now in
     ap (λ (x : Seated). master_of x.0) (told_of _ _ c.token.view_is c.fetch_sub.new.seat.me c.args.slot c.hold_index-word.result c.fetch_sub.result (unread without_pin) self.a_master (hold_slot c.args.slot c.hold_index-word.result (sym c.hold_index-word.ensures.here)) c.fetch_sub.ensures.2.1.0)
+
+pub returns-clause-history : goal.returns-clause-history
+returns-clause-history c =
+    let self = c.args.self.now in
+    let after : MasterSight = master_sight c.fetch_sub.new.seat.me.0 in
+    no_note (unpins_hold (slot_of c.hold_index-word.result)) refl (master_sight self.token.me.0) after
+    (made_of _ _ c.token.view_is (λ (x : MasterSight). WasMadeByMaster (unpins_hold (slot_of c.hold_index-word.result)) x after) c.fetch_sub.ensures.2.1.1)
