@@ -25,12 +25,14 @@ use Rattle.kf_words.specs.declared.view.MasterView.{MasterView}
 use Rattle.kf_words.specs.declared.view.View.{View}
 use Rattle.kf_words.specs.Layout.{active_word, hold_word, keeps_out, is_drained, has_hide, is_unused, has_linked}
 use Rattle.kf_words.specs.Rule.{Shown, caller, bare_world, last_key}
-use Rattle.kf_words.specs.Steps.{after_step, with_try, no_state, state_at, remarked, new_hold, hold_for, after_split, activated_marks, doomed_marks, after_count, after_share}
+use Rattle.kf_words.specs.Steps.{after_step, with_try, no_state, state_at, remarked, new_hold, spent_hold, hold_for, after_split, activated_marks, doomed_marks, after_count, after_share}
 use Rattle.kf_words.specs.Nodes.{marks_of}
-use Rattle.kf_words.specs.Events.{Moves, TryIsEnter, UndoIsUndo, LookIsLook, PartIsPart, LeaveIsLeave, BreakIsBreak, RestoreIsRestore, ReleaseIsRelease, HideIsHide, LookHiddenIsLook, ShowIsShow, MissIsNothing, RiseIsRise, MarkIsMark, BirthIsBorn, UnlinkIsUnlink, SplitIsPin, HeldSplitIsPin, ShareIsPin, RestIsNothing}
+use Rattle.kf_words.specs.Events.{Moves, TryIsEnter, UndoIsUndo, LookIsLook, PartIsPart, LeaveIsLeave, BreakIsBreak, RestoreIsRestore, ReleaseIsRelease, HideIsHide, LookHiddenIsLook, ShowIsShow, MissIsNothing, RiseIsRise, MarkIsMark, BirthIsBorn, UnlinkIsUnlink, SplitIsPin, HeldSplitIsPin, ShareIsPin, RestIsNothing, Passes, ReportPasses, AnswerPasses}
 use Rattle.kf_words.proofs.Bits.{bool_cases, waiting_is, not_not}
 use Rattle.kf_words.proofs.Answered.{try_enters, try_refused, look_hits, look_misses, part_gone, part_linked, hide_sets, hide_found, look_hidden_hits, look_hidden_misses}
 use Rattle.kf_words.proofs.Keys.{linked_state}
+use Rattle.kf_words.proofs.Coming.{passes, spent_world}
+use Rattle.kf_words.proofs.Seating.{caller_at}
 use Rattle.kf_words.proofs.Sharing.{is_pinned}
 use Rattle.kf_words.proofs.Tells.{lets_in_the_live, tells_the_hidden, drained_is_unused, unused_is_unused, free_is_unheld, tells_the_linked}
 
@@ -267,3 +269,17 @@ share_is_pin slots limit t shown j c at holding =
 
 pub rest_is_nothing : RestIsNothing
 rest_is_nothing slots limit t shown slot found = (refl, refl, refl, refl, refl)
+
+passes_as : (m : MasterView) (cs : List CallerView) (key : Key) → core.MayPin (bare_world m cs) key → Passes m cs key
+passes_as m cs key may =
+    subst (λ (n : ℕ). core.BareRun (bare_world m cs) (Pin n key ∷ Release n ∷ []) (bare_world m (cs ++ spent_hold key ∷ [])))
+    (length-map cs caller) (passes (bare_world m cs) key may (bare_world m (cs ++ spent_hold key ∷ [])) (spent_world m cs key))
+
+pub report_passes : ReportPasses
+report_passes slots limit t shown j c at holding =
+    let m : MasterView = shown.master in
+    let cs : List CallerView = shown.callers in
+    passes_as m cs c.key (inr (record { caller = j; phase = c.phase; there = caller_at cs j c (seated_at cs j c at); holds = holding }))
+
+pub answer_passes : AnswerPasses
+answer_passes slots limit t shown key may = passes_as shown.master shown.callers key may

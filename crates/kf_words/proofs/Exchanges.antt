@@ -48,13 +48,14 @@ module _ (o : Opening) (homes id : ℕ) (me : Sighted) (is : plain me ≡ (seat.
       let there : IsSeated e j my = subst (λ (k : ℕ). get_elem? e.views k ≡ some (seat.Caller my)) p.1 at' in
       let e' : Table = stepped e i n (suc j) [] (seat.Caller c') keeps in
       let made : WordStep e (kind j) e' = makes j there in
-      let after : Sight = record { view = seat.Caller c'; seen = now_seen o t h id me.0 at (kind j) } in (
+      let after : Sight = record { view = seat.Caller c'; seen = now_seen o t h id me.0 at (kind j); shown = me.0.shown } in (
         after,
         refl,
         step_kept o t h id me.0 at i n after (kind j)
             (subst (λ (k : ℕ). WordStep e (kind j) (stepped e i n k [] (seat.Caller c') keeps)) (sym p.1) made)
             (is_now o t h id me.0 at (kind j))
-            (λ _. quiet j),
+            (λ _. quiet j)
+            refl,
         record {
           between = between o t h id me.0 at;
           found = e;
@@ -127,7 +128,7 @@ module _ (o : Opening) (homes id : ℕ) (me : Sighted) (is : plain me ≡ (seat.
       let at' : get_elem? e.views id ≡ some (seat.Caller my) = own ∙ ap (λ (x : Seated). some x.0) is in
       let p = caller_seat h.shown.master h.shown.callers id my (subst (λ (l : List View). get_elem? l id ≡ some (seat.Caller my)) h.shown.views at') in
       let there : IsSeated e p.0 my = subst (λ (k : ℕ). get_elem? e.views k ≡ some (seat.Caller my)) p.1 at' in
-      split_kept o t h id me.0 at (after_sharing me.0) (shared_out me.0) (shares p.0) refl refl refl
+      split_kept o t h id me.0 at (after_sharing me.0) (shared_out me.0) (shares p.0) refl refl refl refl refl
       (my, (rests, pinned), there, ap (λ (k : ℕ). let x : Table = record { words = t.words; homes = t.homes; views = set e.views k (seat.Caller (after_share my)) ++ seat.Caller (new_hold my.key) ∷ [] } in x) p.1)
 
   module _ (i : ℕ) (its : hold_index my.key.slot ≡ i) where

@@ -17,7 +17,7 @@ use Rattle.kf_words.proofs.Life.{lives}
 use Rattle.kf_words.proofs.Runs.{rule_kept, run_is_run, drained_for_good}
 use Rattle.kf_words.proofs.OneEnds.{one_end}
 use Rattle.kf_words.proofs.Keeps.{prefix_self, run_parts}
-use Rattle.kf_words.proofs.Noted.{tail_of, notes_more}
+use Rattle.kf_words.proofs.Noted.{tail_of, notes_more, notes_begin}
 use Rattle.kf_words.specs.Notes.{notes_of, history_of}
 use Rattle.kf_words.proofs.Opening.{opening_shown}
 
@@ -27,6 +27,7 @@ opening_kept o some_slot few = record {
   log = [];
   run = refl;
   seen = first;
+  told = untold;
   notes = λ m e. sym (ap (λ (x : Sight). history_of x.seen) (some-injective (first_sight o) m e));
   shown = opening_shown o.slots o.holds o.start some_slot few;
 }
@@ -34,6 +35,10 @@ opening_kept o some_slot few = record {
     first : (place : ℕ) (s : Sight) → get_elem? (first_sight o ∷ []) place ≡ some s → IsBeginning o s.seen []
     first zero s e = subst (λ (x : Sight). IsBeginning o x.seen []) (some-injective (first_sight o) s e) (refl, ([], refl))
     first (suc place) s e = absurd (some-ne-none s (sym e))
+
+    untold : (place : ℕ) (s : Sight) → get_elem? (first_sight o ∷ []) place ≡ some s → IsPrefix s.shown []
+    untold zero s e = subst (λ (x : Sight). IsPrefix x.shown []) (some-injective (first_sight o) s e) ([], refl)
+    untold (suc place) s e = absurd (some-ne-none s (sym e))
 
 pub ends_a_run : EndsARun
 ends_a_run o t kept = (kept.begins, kept.run, kept.shown)
@@ -65,10 +70,6 @@ one_run_is_seen o t kept i j a b at there =
     let x = (kept.seen i a at).1 in
     let y = (kept.seen j b there).1 in
     beginnings a.seen.steps b.seen.steps x.0 y.0 (x.1 ∙ sym y.1)
-
--- the notes of a beginning are a beginning of the notes
-notes_begin : (first log : List StepKind) → IsPrefix first log → IsPrefix (notes_of first) (notes_of log)
-notes_begin first log p = (notes_of p.0, sym (notes_more first p.0) ∙ ap notes_of p.1)
 
 pub history_is_seen : HistoryIsSeen
 history_is_seen o t kept place m s first there =
@@ -104,6 +105,9 @@ life_is_kept =
       seen = λ place s e.
           let a = map_at saw_life lived.views place s e in
           subst (λ (x : Sight). IsBeginning o x.seen word_life) a.2 (refl, prefix_self word_life);
+      told = λ place s e.
+          let a = map_at saw_life lived.views place s e in
+          subst (λ (x : Sight). IsPrefix x.shown word_life) a.2 (word_life, refl);
       notes = λ m e.
           let a = map_at saw_life lived.views 0 m e in
           sym (ap (λ (x : Sight). history_of x.seen) a.2);

@@ -6,7 +6,7 @@ use mathlib.Core.List.{IsPrefix, map-append}
 use lib.ListN.{get_elem?}
 use lib.Seq.{map-set}
 use Rattle.atomic_table.specs.Table.{stepped, keeps}
-use Rattle.atomic_table.proofs.Lists.{at_set, at_snoc}
+use Rattle.atomic_table.proofs.Lists.{at_set, at_snoc, set_again}
 use Rattle.kf_words.specs.declared.sight.Opening.{Opening}
 use Rattle.kf_words.specs.declared.sight.Seen.{Seen}
 use Rattle.kf_words.specs.declared.sight.Sight.{Sight}
@@ -63,7 +63,7 @@ module _ (o : Opening) (t : SeenTable) (h : Kept o t) (id : ℕ) (before : Sight
   )
 
   -- what the Master had seen, it had seen with all notes
-  all_notes : id ≡ 0 → history_of before.seen ≡ notes_of h.log
+  pub all_notes : id ≡ 0 → history_of before.seen ≡ notes_of h.log
   all_notes first = h.notes before (subst (λ (k : ℕ). get_elem? t.views k ≡ some before) first at)
 
   pub still_before : (kind : StepKind) → note_of kind ≡ [] → IsNow kind before.seen
@@ -95,9 +95,17 @@ module _ (o : Opening) (t : SeenTable) (h : Kept o t) (id : ℕ) (before : Sight
       (λ (x : (0 ≢ id) × (get_elem? t.views 0 ≡ some m)). h.notes m x.1 ∙ sym (quiet_after h.log kind (others (λ f. x.0 (sym f)))))
       (at_set t.views id 0 after m e)
 
+  -- what each seat was told is a beginning of the longer run
+  still_told : (kind : StepKind) (after : Sight) → after.shown ≡ before.shown → (place : ℕ) (s : Sight) → get_elem? (set t.views id after) place ≡ some s → IsPrefix s.shown (h.log ++ kind ∷ [])
+  still_told kind after same place s e = ⊎_elim
+      (λ (x : (place ≡ id) × (after ≡ s)). subst (λ (y : Sight). IsPrefix y.shown (h.log ++ kind ∷ [])) x.1
+      (subst (λ (l : List StepKind). IsPrefix l (h.log ++ kind ∷ [])) (sym same) (prefix_more before.shown h.log (kind ∷ []) (h.told id before at))))
+      (λ (x : (place ≢ id) × (get_elem? t.views place ≡ some s)). prefix_more s.shown h.log (kind ∷ []) (h.told place s x.1))
+      (at_set t.views id place after s e)
+
   pub step_kept : (i n : ℕ) (after : Sight) (kind : StepKind) → WordStep (erased t) kind (stepped (erased t) i n id [] after.view keeps) → IsNow kind after.seen → (id ≢ 0 → note_of kind ≡ [])
-      → Kept o (stepped t i n id [] after keeps)
-  step_kept i n after kind step mine others =
+      → after.shown ≡ before.shown → Kept o (stepped t i n id [] after keeps)
+  step_kept i n after kind step mine others untold =
       let t' : Table = stepped (erased t) i n id [] after.view keeps in
       let is : erased (stepped t i n id [] after keeps) ≡ t' = same_erased i n after in
       record {
@@ -105,6 +113,7 @@ module _ (o : Opening) (t : SeenTable) (h : Kept o t) (id : ℕ) (before : Sight
         log = h.log ++ kind ∷ [];
         run = subst (λ (x : Table). WordRun (opened_as o) (h.log ++ kind ∷ []) x) (sym is) (run_snoc h.log (opened_as o) (erased t) t' kind h.run step);
         seen = see kind after mine.0 (set t.views id after) refl;
+        told = still_told kind after untold;
         notes = noted kind after mine others;
         shown = subst (λ (x : Table). Shown o.slots o.holds x) (sym is) (word_step o.slots o.holds (erased t) kind t' h.shown step).0;
       }
@@ -118,10 +127,10 @@ module _ (o : Opening) (t : SeenTable) (h : Kept o t) (id : ℕ) (before : Sight
   shown_here = subst (λ (x : Opening). Shown x.slots x.holds (erased t)) (sym (h.seen id before at).0) h.shown
 
   -- a new seat, which has seen as much
-  pub split_kept : (left right : Sight) (kind : StepKind) → note_of kind ≡ [] → left.seen ≡ before.seen → right.seen ≡ before.seen
+  pub split_kept : (left right : Sight) (kind : StepKind) → note_of kind ≡ [] → left.seen ≡ before.seen → right.seen ≡ before.seen → left.shown ≡ before.shown → right.shown ≡ []
       → WordStep (erased t) kind (record { words = t.words; homes = t.homes; views = set (erased t).views id left.view ++ right.view ∷ [] })
       → Kept o (record { words = t.words; homes = t.homes; views = set t.views id left ++ right ∷ [] })
-  split_kept left right kind quiet same same' step =
+  split_kept left right kind quiet same same' untold none step =
       let was = still_before kind quiet in
       let left_now : IsNow kind left.seen = subst (λ (x : Seen). IsNow kind x) (sym same) was in
       let views : map (λ (s : Sight). s.view) (set t.views id left ++ right ∷ []) ≡ set (erased t).views id left.view ++ right.view ∷ [] =
@@ -137,6 +146,50 @@ module _ (o : Opening) (t : SeenTable) (h : Kept o t) (id : ℕ) (before : Sight
             (λ (old : get_elem? (set t.views id left) place ≡ some s). see kind left left_now.0 (set t.views id left) refl place s old)
             (λ (new : right ≡ s). subst (λ (y : Sight). IsBeginning o y.seen (h.log ++ kind ∷ [])) new (subst (λ (x : Seen). IsBeginning o x (h.log ++ kind ∷ [])) (sym same') was.0))
             (at_snoc (set t.views id left) right s place e);
+        told = λ place s e. ⊎_elim
+            (λ (old : get_elem? (set t.views id left) place ≡ some s). still_told kind left untold place s old)
+            (λ (new : right ≡ s). subst (λ (y : Sight). IsPrefix y.shown (h.log ++ kind ∷ [])) new (subst (λ (l : List StepKind). IsPrefix l (h.log ++ kind ∷ [])) (sym none) (h.log ++ kind ∷ [], refl)))
+            (at_snoc (set t.views id left) right s place e);
         notes = λ m e. noted kind left left_now (λ _. quiet) m (first_stays (set t.views id left) right m e id left (put t.views id before left at));
         shown = subst (λ (x : Table). Shown o.slots o.holds x) (sym is) (word_step o.slots o.holds (erased t) kind t' h.shown step).0;
       }
+
+  -- what the seat was told is a beginning of the run after such a step
+  pub told_now : (kind : StepKind) → IsPrefix before.shown (now_seen kind).steps
+  told_now kind = subst (λ (l : List StepKind). IsPrefix before.shown (l ++ kind ∷ [])) (sym so_far) (prefix_more before.shown h.log (kind ∷ []) (h.told id before at))
+
+  -- the seat took in what another has seen, or was told it, and nothing else changed
+  pub join_kept : (other : ℕ) (w both : Sight) → both.view ≡ before.view → IsBeginning o both.seen h.log → IsPrefix both.shown h.log → (id ≡ 0 → history_of both.seen ≡ notes_of h.log)
+      → get_elem? (set t.views id both) other ≡ some w → Kept o (record { words = t.words; homes = t.homes; views = set (set t.views id both) other w })
+  join_kept other w both same begins told first there =
+      let again : set (set t.views id both) other w ≡ set t.views id both = set_again (set t.views id both) other w there in
+      let views : map (λ (s : Sight). s.view) (set (set t.views id both) other w) ≡ (erased t).views =
+      ap (λ (l : List Sight). map (λ (s : Sight). s.view) l) again ∙ map-set (λ (s : Sight). s.view) t.views id both ∙ ap (λ (v : View). set (erased t).views id v) same
+      ∙ set_again (erased t).views id before.view (view_there t.views id before at) in
+      let is : erased (record { words = t.words; homes = t.homes; views = set (set t.views id both) other w }) ≡ erased t =
+      ap (λ (l : List View). let x : Table = record { words = t.words; homes = t.homes; views = l } in x) views in
+      record {
+        begins = h.begins;
+        log = h.log;
+        run = subst (λ (x : Table). WordRun (opened_as o) h.log x) (sym is) h.run;
+        seen = λ place s e. ⊎_elim
+            (λ (x : (place ≡ id) × (both ≡ s)). subst (λ (y : Sight). IsBeginning o y.seen h.log) x.1 begins)
+            (λ (x : (place ≢ id) × (get_elem? t.views place ≡ some s)). h.seen place s x.1)
+            (at_set t.views id place both s (ap (λ (l : List Sight). get_elem? l place) (sym again) ∙ e));
+        told = λ place s e. ⊎_elim
+            (λ (x : (place ≡ id) × (both ≡ s)). subst (λ (y : Sight). IsPrefix y.shown h.log) x.1 told)
+            (λ (x : (place ≢ id) × (get_elem? t.views place ≡ some s)). h.told place s x.1)
+            (at_set t.views id place both s (ap (λ (l : List Sight). get_elem? l place) (sym again) ∙ e));
+        notes = λ m e. ⊎_elim
+            (λ (x : (0 ≡ id) × (both ≡ m)). subst (λ (y : Sight). history_of y.seen ≡ notes_of h.log) x.1 (first (sym x.0)))
+            (λ (x : (0 ≢ id) × (get_elem? t.views 0 ≡ some m)). h.notes m x.1)
+            (at_set t.views id 0 both m (ap (λ (l : List Sight). get_elem? l 0) (sym again) ∙ e));
+        shown = subst (λ (x : Table). Shown o.slots o.holds x) (sym is) h.shown;
+      }
+
+  -- what another seat has seen, or was told, is of this run too
+  pub from_there : (other : ℕ) (w both : Sight) → (¬ (other ≡ id)) → get_elem? (set t.views id both) other ≡ some w → IsBeginning o w.seen h.log
+  from_there other w both apart there = ⊎_elim
+      (λ (x : (other ≡ id) × (both ≡ w)). absurd (apart x.0))
+      (λ (x : (other ≢ id) × (get_elem? t.views other ≡ some w)). h.seen other w x.1)
+      (at_set t.views id other both w there)

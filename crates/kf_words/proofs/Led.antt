@@ -1,14 +1,15 @@
 -- What a step of the words makes of the world: nothing, an event, or a change by the Master alone.
-use Rattle.std.proofs.Common.{◌≡◌, ◌⊎◌, inl, inr, ℕ, true}
+use Rattle.std.proofs.Common.{◌≡◌, ◌⊎◌, inl, inr, ℕ, true, [], ◌∷◌, ◌++◌}
 use Rattle.std.specs.Prelude.{Some, None}
 use Rattle.kf_core.specs.declared.key.Key.{Key}
+use Rattle.kf_core.specs.declared.caller.Phase.TheVariants.{Spent}
 use Rattle.kf_core.specs.declared.event.Event.{Event}
 use Rattle.kf_core.specs.declared.event.Event.TheVariants.{Enter}
 use Rattle.kf_core.specs.declared.slot.Marks.{Marks}
 use Rattle.kf_core.specs.Bare.{BareWorld, marks}
 use Rattle.kf_core.specs.Steps.{BareStep}
 use Rattle.kf_core.specs.Steps as core
-use Rattle.kf_words.specs.TableSteps.{StepKind, tries, splits, unlinks}
+use Rattle.kf_words.specs.TableSteps.{StepKind, tries, splits, unlinks, answers}
 
 -- a doomed node on which nobody runs was taken out, with no caller that is drained there
 pub record TakenOut (kind : StepKind) (w w' : BareWorld) : Type 0 where
@@ -27,9 +28,19 @@ pub record Came (kind : StepKind) (w w' : BareWorld) : Type 0 where
   pub key : Key
   pub is : w' ≡ core.with_caller w key
 
--- what an unattended step of the Master makes of the world
+-- the world with one caller more, which has given its hold back
+abbrev pub with_spent : BareWorld → Key → BareWorld
+with_spent w key = record { slots = w.slots; callers = w.callers ++ record { key = key; phase = Spent } ∷ [] }
+
+-- a caller came to a key and gave its hold back at once. The key may be pinned, where it is not the Master's to say
+pub record Passed (kind : StepKind) (w w' : BareWorld) : Type 0 where
+  pub key : Key
+  pub may : core.MayPin w key ⊎ (kind ≡ answers)
+  pub is : w' ≡ with_spent w key
+
+-- what an unattended step of the Master makes of the world, or a seat that holds nothing
 abbrev pub Alone : StepKind → BareWorld → BareWorld → Type 0
-Alone kind w w' = TakenOut kind w w' ⊎ Came kind w w'
+Alone kind w w' = TakenOut kind w w' ⊎ (Came kind w w' ⊎ Passed kind w w')
 
 -- an event that only a try makes an Enter
 pub record IsEvent (kind : StepKind) (w w' : BareWorld) : Type 0 where

@@ -17,6 +17,7 @@ pub mod Keys
 pub mod Searching
 pub mod Opening
 pub mod Tells
+pub mod Coming
 pub mod Events
 pub mod WordSteps
 pub mod Attended
@@ -26,6 +27,7 @@ pub mod OneEnds
 pub mod Runs
 pub mod Made
 pub mod Exchanges
+pub mod Telling
 pub mod Added
 pub mod MasterMade
 pub mod Waits

@@ -64,14 +64,15 @@ module _ (o : Opening) (homes id : ℕ) (me : Sighted) (i : ℕ) (is : plain me 
       let there : IsSeated e j me_c = subst (λ (k : ℕ). get_elem? e.views k ≡ some (seat.Caller me_c)) p.1 at' in
       let e' : Table = stepped e i (f n) (suc j) [] (seat.Caller c') keeps in
       let step : WordStep e (kind j) e' = makes e e' j (record { there = there; fits = small; becomes = refl }) in
-      let after : Sight = record { view = seat.Caller c'; seen = now_seen o t h id me.0 at (kind j) } in (
+      let after : Sight = record { view = seat.Caller c'; seen = now_seen o t h id me.0 at (kind j); shown = me.0.shown } in (
         after,
         keeps,
         tt,
         step_kept o t h id me.0 at i (f n) after (kind j)
             (subst (λ (k : ℕ). WordStep e (kind j) (stepped e i (f n) k [] (seat.Caller c') keeps)) (sym p.1) step)
             (is_now o t h id me.0 at (kind j))
-            (λ _. quiet j),
+            (λ _. quiet j)
+            refl,
         (
           tells e h.shown far own small,
           (
@@ -115,7 +116,7 @@ module _ (o : Opening) (homes id : ℕ) (me : Sighted) (i : ℕ) (is : plain me 
       let mine : WordStep e (kind j) (stepped e i (f n) id [] me.0.view keeps) =
       subst (λ (v : View). WordStep e (kind j) (stepped e i (f n) id [] v keeps)) (sym (ap (λ (x : Seated). x.0) is))
       (subst (λ (k : ℕ). WordStep e (kind j) (stepped e i (f n) k [] (seat.Caller me_c) keeps)) (sym p.1) step) in
-      (me.0, keeps, tt, step_kept o t h id me.0 at i (f n) me.0 (kind j) mine (still_before o t h id me.0 at (kind j) (quiet j)) (λ _. quiet j), refl)
+      (me.0, keeps, tt, step_kept o t h id me.0 at i (f n) me.0 (kind j) mine (still_before o t h id me.0 at (kind j) (quiet j)) (λ _. quiet j) refl, refl)
 
 -- a step may tell besides what holds of its word
 on_kept : (o : Opening) (homes id : ℕ) (me : Sighted) (i : ℕ) (f : ℕ → ℕ) (told : ℕ → Sighted → Type 0) (Is : Type 0) → Is

@@ -167,7 +167,7 @@ state_there (x ∷ xs) (suc slot) h = state_there xs slot (omega arith)
 pub keeps_master : (me' : Seated) (m : MasterView) → me' ≡ (seat.Master m, []) → me' ≡ (seat.Master (master_of me'.0), [])
 keeps_master me' m e = e ∙ ap (λ (x : MasterView). let y : Seated = (seat.Master x, []) in y) (sym (ap (λ (x : Seated). master_of x.0) e))
 
-at_end : {A : Type 0} (l : List A) (x : A) → slice_get (l ++ x ∷ []) (length l) ≡ Some x
+pub at_end : {A : Type 0} (l : List A) (x : A) → slice_get (l ++ x ∷ []) (length l) ≡ Some x
 at_end [] x = refl
 at_end (y ∷ ys) x = at_end ys x
 

@@ -2,8 +2,9 @@
 use Rattle.std.proofs.Common.{◌≡◌, ℕ, ◌+◌, ◌<◌, false, List, [], ◌∷◌, ◌++◌, length, set, refl, sym, ap, ◌∙◌, subst}
 use Rattle.std.specs.Prelude.{slice_index, Some, None}
 use mathlib.Core.Option.{some, none}
+use mathlib.Core.List.{IsPrefix}
 use lib.ListN.{get_elem?}
-use Rattle.atomic_table.specs.Table.{Allows, Splits, step, stepped, keeps}
+use Rattle.atomic_table.specs.Table.{Allows, Splits, Joins, step, stepped, keeps}
 use Rattle.kf_core.specs.declared.slot.Marks.{Marks}
 use Rattle.kf_core.specs.Marks.{fresh_marks}
 use Rattle.kf_words.specs.declared.note.Note.{Note}
@@ -16,11 +17,11 @@ use Rattle.kf_words.specs.Layout.{bit, bias, doom, linked, one_generation, activ
 use Rattle.kf_words.specs.Rule.{Shown}
 use Rattle.kf_words.specs.Steps.{Seated, Sighted, plain, master_of, with_load, with_pin, without_pin, after_store, with_birth, with_look, without_node, with_marks, activated_marks, doomed_marks, after_split, hold_for, unread, LoadsHold, MasterBecomes}
 use Rattle.kf_words.specs.Nodes.{FoundRoom, FoundFree, HasMarks, HasLooked, master_sight}
-use Rattle.kf_words.specs.TableSteps.{Table, StepKind, loads_hold, pins_hold, unpins_hold, splits, stores_fresh, births, takes_bias, marks_node, looks_over, unlinks, notes, plus, minus, same, Plays, WordStep}
-use Rattle.kf_words.specs.History.{erased, Kept, after_giving, given}
-use Rattle.kf_words.specs.Made.{WasMadeByMaster, MasterMakes, MakesNote}
+use Rattle.kf_words.specs.TableSteps.{Table, StepKind, loads_hold, pins_hold, unpins_hold, splits, stores_fresh, births, takes_bias, marks_node, looks_over, unlinks, notes, answers, compares, plus, minus, same, Plays, WordStep}
+use Rattle.kf_words.specs.History.{erased, Kept, after_giving, given, answered, hears}
+use Rattle.kf_words.specs.Made.{WasMadeByMaster, MasterMakes, MakesNote, MakesCompare}
 use Rattle.kf_words.proofs.Seating.{master_seat}
-use Rattle.kf_words.proofs.Keeps.{view_there, between, now_seen, is_now, alone, step_kept, split_kept, led_here, shown_here}
+use Rattle.kf_words.proofs.Keeps.{view_there, between, now_seen, is_now, alone, all_notes, told_now, step_kept, split_kept, join_kept, from_there, led_here, shown_here}
 use Rattle.kf_words.proofs.MasterAllowed.{active_slot, hold_slot, load_allowed}
 use Rattle.atomic_table.proofs.Lists.{set_again}
 use Rattle.kf_words.proofs.Noted.{put, same_word}
@@ -52,14 +53,15 @@ module _ (o : Opening) (homes id : ℕ) (me : Sighted) (slot : ℕ) (is : plain 
       let e' : Table = stepped e i (f n) 0 [] (seat.Master m') keeps in
       let fits : e' ≡ stepped e i (f n) 0 [] (seat.Master (after slot n m)) keeps = ap (λ (j : ℕ). stepped e i (f n) 0 [] (seat.Master (after j n m)) keeps) back in
       let step : WordStep e (kind k) e' = subst (λ (j : ℕ). WordStep e (kind j) e') (sym back) (makes e e' (record { there = there; fits = small; becomes = fits })) in
-      let w : Sight = record { view = seat.Master m'; seen = now_seen o t h id me.0 at (kind k) } in (
+      let w : Sight = record { view = seat.Master m'; seen = now_seen o t h id me.0 at (kind k); shown = me.0.shown } in (
         w,
         keeps,
         tt,
         step_kept o t h id me.0 at i (f n) w (kind k)
             (subst (λ (j : ℕ). WordStep e (kind k) (stepped e i (f n) j [] (seat.Master m') keeps)) (sym p.0) step)
             (is_now o t h id me.0 at (kind k))
-            (λ _. quiet k),
+            (λ _. quiet k)
+            refl,
         (
           ap index (sym back),
           (
@@ -143,39 +145,67 @@ module _ (o : Opening) (homes id : ℕ) (me : Sighted) (slot : ℕ) (is : plain 
       let at' : get_elem? e.views id ≡ some (seat.Master m) = own ∙ ap (λ (x : Seated). some x.0) is in
       let p = master_seat h.shown.master m h.shown.callers id (subst (λ (l : List View). get_elem? l id ≡ some (seat.Master m)) h.shown.views at') in
       let there : get_elem? e.views 0 ≡ some (seat.Master m) = subst (λ (j : ℕ). get_elem? e.views j ≡ some (seat.Master m)) p.0 at' in
-      split_kept o t h id me.0 at (after_giving me.0) (given me.0) (splits slot) refl refl refl
+      split_kept o t h id me.0 at (after_giving me.0) (given me.0) (splits slot) refl refl refl refl refl
       (m, there, near, pins, ap (λ (j : ℕ). let x : Table = record { words = t.words; homes = t.homes; views = set e.views j (seat.Master (after_split m)) ++ seat.Caller (hold_for m m.pinning) ∷ [] } in x) p.0)
 
-  -- a note is added, by a load of any word
+  -- a step that changes no word and no view, by a load of any word
+  module _ (kind : StepKind) (stays : (e : Table) → get_elem? e.views 0 ≡ some (seat.Master m) → WordStep e kind e) (i : ℕ) where
+    stay_made : Allows (Kept o) homes id me i same (λ n me'. (plain me' ≡ plain me) × WasMadeByMaster kind (master_sight me.0) (master_sight me'.0) × IsPrefix me.0.shown me'.0.seen.steps)
+    stay_made t h far at small =
+        let e : Table = erased t in
+        let n : ℕ = slice_index t.words i in
+        let own : get_elem? e.views id ≡ some me.0.view = view_there t.views id me.0 at in
+        let at' : get_elem? e.views id ≡ some (seat.Master m) = own ∙ ap (λ (x : Seated). some x.0) is in
+        let p = master_seat h.shown.master m h.shown.callers id (subst (λ (l : List View). get_elem? l id ≡ some (seat.Master m)) h.shown.views at') in
+        let there : get_elem? e.views 0 ≡ some (seat.Master m) = subst (λ (j : ℕ). get_elem? e.views j ≡ some (seat.Master m)) p.0 at' in
+        let unmoved : stepped e i n id [] me.0.view keeps ≡ e =
+        ap (λ (l : List ℕ). let x : Table = record { words = l; homes = e.homes; views = set e.views id me.0.view } in x) (same_word e.words i)
+        ∙ ap (λ (l : List View). let x : Table = record { words = e.words; homes = e.homes; views = l } in x) (set_again e.views id me.0.view own) in
+        let w : Sight = record { view = me.0.view; seen = now_seen o t h id me.0 at kind; shown = me.0.shown } in (
+          w,
+          keeps,
+          tt,
+          step_kept o t h id me.0 at i n w kind (subst (λ (x : Table). WordStep e kind x) (sym unmoved) (stays e there)) (is_now o t h id me.0 at kind) (λ other. absurd (other p.0)) refl,
+          (
+            refl,
+            record {
+              between = between o t h id me.0 at;
+              found = e;
+              left = e;
+              run = led_here o t h id me.0 at;
+              shown = shown_here o t h id me.0 at;
+              step = stays e there;
+              was = there;
+              is = there;
+              alone = alone o t h id me.0 at p.0;
+              seen = refl;
+            },
+            told_now o t h id me.0 at kind,
+          ),
+        )
+
+  -- a note is added
   pub note_made : (note : Note) (i : ℕ) → Allows (Kept o) homes id me i same (MakesNote note (step 0 i 0 0 none) me)
   note_made note i t h far at small =
+      let r = stay_made (notes note) (λ e there. ((m, there), refl)) i t h far at small in
+      (r.0, r.1, r.2, r.3, (r.4.0, r.4.1))
+
+  -- what was told is compared
+  pub compare_made : (i : ℕ) → Allows (Kept o) homes id me i same (MakesCompare (step 0 i 0 0 none) me)
+  compare_made i = stay_made compares (λ e there. ((m, there), refl)) i
+
+  -- a new seat has seen what the Master has
+  pub answer_splits : 0 < length m.slots → Splits (Kept o) id me.0 me.0 (answered me.0)
+  answer_splits some_slot t h at =
       let e : Table = erased t in
-      let n : ℕ = slice_index t.words i in
       let own : get_elem? e.views id ≡ some me.0.view = view_there t.views id me.0 at in
       let at' : get_elem? e.views id ≡ some (seat.Master m) = own ∙ ap (λ (x : Seated). some x.0) is in
       let p = master_seat h.shown.master m h.shown.callers id (subst (λ (l : List View). get_elem? l id ≡ some (seat.Master m)) h.shown.views at') in
       let there : get_elem? e.views 0 ≡ some (seat.Master m) = subst (λ (j : ℕ). get_elem? e.views j ≡ some (seat.Master m)) p.0 at' in
-      let stays : stepped e i n id [] me.0.view keeps ≡ e =
-      ap (λ (l : List ℕ). let x : Table = record { words = l; homes = e.homes; views = set e.views id me.0.view } in x) (same_word e.words i)
-      ∙ ap (λ (l : List View). let x : Table = record { words = e.words; homes = e.homes; views = l } in x) (set_again e.views id me.0.view own) in
-      let w : Sight = record { view = me.0.view; seen = now_seen o t h id me.0 at (notes note) } in (
-        w,
-        keeps,
-        tt,
-        step_kept o t h id me.0 at i n w (notes note) ((m, there), stays) (is_now o t h id me.0 at (notes note)) (λ other. absurd (other p.0)),
-        (
-          refl,
-          record {
-            between = between o t h id me.0 at;
-            found = e;
-            left = e;
-            run = led_here o t h id me.0 at;
-            shown = shown_here o t h id me.0 at;
-            step = ((m, there), refl);
-            was = there;
-            is = there;
-            alone = alone o t h id me.0 at p.0;
-            seen = refl;
-          },
-        ),
-      )
+      split_kept o t h id me.0 at me.0 (answered me.0) answers refl refl refl refl refl
+      (m, there, some_slot, ap (λ (l : List View). let x : Table = record { words = t.words; homes = t.homes; views = l ++ (answered me.0).view ∷ [] } in x) (set_again e.views id me.0.view own))
+
+-- a seat is shown what another has seen
+pub hear_joins : (o : Opening) (id : ℕ) (v : Sight) (other : ℕ) (w : Sight) → Joins (Kept o) id v other w (hears v w) w
+hear_joins o id v other w t h at apart there =
+    join_kept o t h id v at other w (hears v w) refl (h.seen id v at) (from_there o t h id v at other w (hears v w) apart there).1 (all_notes o t h id v at) there

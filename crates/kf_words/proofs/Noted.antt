@@ -3,6 +3,7 @@ use Rattle.std.proofs.Common.{◌≡◌, ℕ, zero, suc, List, [], ◌∷◌, �
 use Rattle.std.specs.Prelude.{slice_index}
 use Rattle.std.proofs.lemmas.List.{append-nil}
 use mathlib.Core.Option.{some, some-ne-none}
+use mathlib.Core.List.{IsPrefix}
 use lib.ListN.{get_elem?}
 use Rattle.kf_words.specs.TableSteps.{StepKind}
 use Rattle.kf_words.specs.Notes.{note_of, notes_of}
@@ -11,6 +12,10 @@ use Rattle.kf_words.specs.Notes.{note_of, notes_of}
 pub notes_more : (kinds more : List StepKind) → notes_of (kinds ++ more) ≡ notes_of kinds ++ notes_of more
 notes_more [] more = refl
 notes_more (kind ∷ kinds) more = ap (λ l. note_of kind ++ l) (notes_more kinds more) ∙ sym (append_assoc (note_of kind) (notes_of kinds) (notes_of more))
+
+-- the notes of a beginning are a beginning of the notes
+pub notes_begin : (first log : List StepKind) → IsPrefix first log → IsPrefix (notes_of first) (notes_of log)
+notes_begin first log p = (notes_of p.0, sym (notes_more first p.0) ∙ ap notes_of p.1)
 
 -- the same of one step more
 pub note_more : (kinds : List StepKind) (kind : StepKind) → notes_of (kinds ++ kind ∷ []) ≡ notes_of kinds ++ note_of kind

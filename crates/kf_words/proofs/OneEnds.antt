@@ -12,8 +12,9 @@ use Rattle.kf_core.specs.Marks.{fresh_marks}
 use Rattle.kf_words.specs.declared.view.CallerView.{CallerView}
 use Rattle.kf_words.specs.declared.view.MasterView.{MasterView}
 use Rattle.kf_words.specs.declared.view.View.TheVariants as seat
-use Rattle.kf_words.specs.TableSteps.{Table, StepKind, CallerPlays, MasterPlays, MasterSplits, CallerShares, WordStep, WordRun, tries, undoes, leaves, breaks, restores, looks, parts, hides, looks_hidden, shows, releases, misses, counts, shares, sleeps, awakes, loads_hold, pins_hold, unpins_hold, splits, stores_fresh, births, takes_bias, marks_node, looks_over, unlinks, notes, plus, minus, same, with_hide, HasUndoDue, MayRelease, MayCount, MaySleep, SeesRoom, HasPin, SeesFree, HasFresh, IsUndoomed, SeesDrained}
-use Rattle.kf_words.specs.Steps.{after_try, after_undo, after_leave, after_break, after_restore, after_look, after_part, after_hide, after_look_hidden, after_show, after_release, after_miss, after_count, after_share, new_hold, unmoved, with_load, with_pin, without_pin, after_store, with_birth, with_look, without_node, unread, with_marks, activated_marks, doomed_marks, after_split, hold_for}
+use Rattle.kf_words.specs.TableSteps.{Table, StepKind, CallerPlays, MasterPlays, MasterSplits, CallerShares, WordStep, WordRun, tries, undoes, leaves, breaks, restores, looks, parts, hides, looks_hidden, shows, releases, misses, counts, shares, sleeps, awakes, loads_hold, pins_hold, unpins_hold, splits, stores_fresh, births, takes_bias, marks_node, looks_over, unlinks, notes, reports, answers, compares, CallerReports, MasterAnswers, plus, minus, same, with_hide, HasUndoDue, MayRelease, MayCount, MaySleep, SeesRoom, HasPin, SeesFree, HasFresh, IsUndoomed, SeesDrained}
+use Rattle.kf_words.specs.Steps.{after_try, after_undo, after_leave, after_break, after_restore, after_look, after_part, after_hide, after_look_hidden, after_show, after_release, after_miss, after_count, after_share, new_hold, unmoved, with_load, with_pin, without_pin, after_store, with_birth, with_look, without_node, unread, with_marks, activated_marks, doomed_marks, after_split, hold_for, spent_hold, state_at}
+use Rattle.kf_words.specs.Rule.{last_key}
 use Rattle.kf_words.specs.Layout.{bit, bias, doom, hide, linked, one_generation, active_index, hold_index, sleepers_index}
 use Rattle.kf_words.specs.Callers.{IsAtRest, HasReference, IsInPhase}
 use Rattle.kf_words.specs.Nodes.{HasMarks}
@@ -46,6 +47,16 @@ module _ (t u v : Table) where
       let seats : seat.Caller p.0 ≡ seat.Caller q.0 = some-injective _ _ (sym p.2 ∙ q.2) in
       let one : p.0 ≡ q.0 = cc in
       p.3 ∙ ap (λ (c : CallerView). let x : Table = record { words = t.words; homes = t.homes; views = set t.views (suc j) (seat.Caller (after_share c)) ++ seat.Caller (new_hold c.key) ∷ [] } in x) one ∙ sym q.3
+
+  by_report : (j : ℕ) → CallerReports t j u → CallerReports t j v → u ≡ v
+  by_report j p q =
+      let seats : seat.Caller p.0 ≡ seat.Caller q.0 = some-injective _ _ (sym p.2 ∙ q.2) in
+      let one : p.0 ≡ q.0 = cc in
+      p.3 ∙ ap (λ (c : CallerView). let x : Table = record { words = t.words; homes = t.homes; views = t.views ++ seat.Caller (spent_hold c.key) ∷ [] } in x) one ∙ sym q.3
+
+  by_answer : MasterAnswers t u → MasterAnswers t v → u ≡ v
+  by_answer p q =
+      p.3 ∙ ap (λ (m : MasterView). let x : Table = record { words = t.words; homes = t.homes; views = t.views ++ seat.Caller (spent_hold (last_key 0 (state_at m 0))) ∷ [] } in x) (one_master p.0 q.0 p.1 q.1) ∙ sym q.3
 
 -- the marks of a slot are one
 one_marks : (slot : ℕ) (m m' : MasterView) (x y : Marks) → IsUndoomed slot x m → IsUndoomed slot y m' → m ≡ m' → x ≡ y
@@ -82,6 +93,9 @@ one_step t u v (takes_bias slot) p q = by_master t u v (unread (with_marks activ
 one_step t u v (looks_over slot) p q = by_master t u v with_look (λ m. slot < length m.slots) active_index same slot p q
 one_step t u v (unlinks slot) p q = by_master t u v (unread without_node) (SeesDrained slot) hold_index (minus linked) slot p q
 one_step t u v (notes note) p q = p.1 ∙ sym q.1
+one_step t u v compares p q = p.1 ∙ sym q.1
+one_step t u v answers p q = by_answer t u v p q
+one_step t u v (reports j) p q = by_report t u v j p q
 one_step t u v (marks_node slot) p q =
     let master : p.1.0 ≡ q.1.0 = one_master t u v p.1.0 q.1.0 p.1.2.there q.1.2.there in
     let marks : p.0 ≡ q.0 = one_marks slot p.1.0 q.1.0 p.0 q.0 p.1.1 q.1.1 master in

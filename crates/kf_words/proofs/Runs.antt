@@ -1,12 +1,12 @@
 -- What holds over every run of steps of the table.
-use Rattle.std.proofs.Common.{◌≡◌, ◌⊎◌, inl, inr, ℕ, suc, ◌+◌, arith, Bool, true, false, List, [], ◌∷◌, set, if◌then◌else◌, refl, sym, ap, ◌∙◌, subst, ⊎_elim}
+use Rattle.std.proofs.Common.{◌≡◌, ◌⊎◌, inl, inr, ℕ, suc, ◌+◌, arith, Bool, true, false, List, [], ◌∷◌, ◌++◌, set, if◌then◌else◌, refl, sym, ap, ◌∙◌, subst, ⊎_elim}
 use Rattle.std.specs.Prelude.{slice_get, slice_index, Some, None}
 use Rattle.std.proofs.lemmas.Option.{same_Some, slice_get_within}
 use Rattle.kf_core.specs.declared.key.Key.{Key}
 use Rattle.kf_core.specs.declared.key.Node.TheVariants.{Dir}
 use Rattle.kf_core.specs.declared.caller.Caller.{Caller}
 use Rattle.kf_core.specs.declared.caller.Phase.{Phase}
-use Rattle.kf_core.specs.declared.caller.Phase.TheVariants.{Still, Turned, Running}
+use Rattle.kf_core.specs.declared.caller.Phase.TheVariants.{Still, Turned, Running, Spent}
 use Rattle.kf_core.specs.declared.event.Event.{Event}
 use Rattle.kf_core.specs.declared.event.Event.TheVariants.{Enter}
 use Rattle.kf_core.specs.Bare.{BareWorld, IsCaller, is_live}
@@ -30,7 +30,7 @@ use Rattle.kf_words.proofs.Seating.{seats-set}
 use Rattle.kf_words.proofs.MasterAllowed.{state_there}
 use Rattle.kf_words.proofs.Opening.{opening_shown}
 use Rattle.kf_words.proofs.Events.{try_is_enter, birth_is_born}
-use Rattle.kf_words.proofs.WordSteps.{Led, IsEvent, Alone, TakenOut, Came, at, met, world_is, word_step}
+use Rattle.kf_words.proofs.WordSteps.{Led, IsEvent, Alone, TakenOut, Came, Passed, with_spent, at, met, world_is, word_step}
 use Rattle.kf_words.proofs.Attended.{attended_event}
 
 -- a run keeps the rule
@@ -57,21 +57,32 @@ run_holds P events alone slots limit (kind ∷ kinds) t u h r p =
 pub alone_come : (k : Key) (kind : StepKind) (w w' : BareWorld) → Alone kind w w' → HasCome w k → HasCome w' k
 alone_come k kind w w' a h = ⊎_elim
     (λ (o : TakenOut kind w w'). subst (λ (x : BareWorld). HasCome x k) (sym o.is) (linked_come w o.key k o.had None o.linked h))
+    (λ (m : Came kind w w' ⊎ Passed kind w w'). ⊎_elim
     (λ (c : Came kind w w'). subst (λ (x : BareWorld). HasCome x k) (sym c.is) (record { last = h.last; there = h.there; come = h.come }))
+    (λ (p : Passed kind w w'). subst (λ (x : BareWorld). HasCome x k) (sym p.is) (record { last = h.last; there = h.there; come = h.come }))
+    m)
     a
 
 alone_lost : (k : Key) (kind : StepKind) (w w' : BareWorld) → Alone kind w w' → Lost w k → Lost w' k
 alone_lost k kind w w' a f = ⊎_elim
     (λ (o : TakenOut kind w w'). subst (λ (x : BareWorld). Lost x k) (sym o.is) (linked_lost w o.key k o.had None o.linked (λ _. refl) f))
+    (λ (m : Came kind w w' ⊎ Passed kind w w'). ⊎_elim
     (λ (c : Came kind w w'). subst (λ (x : BareWorld). Lost x k) (sym c.is)
     (record { doomed = f.doomed; come = record { last = f.come.last; there = f.come.there; come = f.come.come } }))
+    (λ (p : Passed kind w w'). subst (λ (x : BareWorld). Lost x k) (sym p.is)
+    (record { doomed = f.doomed; come = record { last = f.come.last; there = f.come.there; come = f.come.come } }))
+    m)
     a
 
 alone_finished : (k : Key) (kind : StepKind) (w w' : BareWorld) → Alone kind w w' → Finished w k → Finished w' k
 alone_finished k kind w w' a f = ⊎_elim
     (λ (o : TakenOut kind w w'). subst (λ (x : BareWorld). Finished x k) (sym o.is) (linked_finished w o.key k o.had None o.linked (λ _. refl) f))
+    (λ (m : Came kind w w' ⊎ Passed kind w w'). ⊎_elim
     (λ (c : Came kind w w'). subst (λ (x : BareWorld). Finished x k) (sym c.is)
     (caller_finished w (with_caller w c.key).callers c.key Still k (λ d y h. after_push w.callers d (record { key = c.key; phase = Still }) y h) (λ e. absurd (let x : Still ≡ Running = e in cc)) f))
+    (λ (p : Passed kind w w'). subst (λ (x : BareWorld). Finished x k) (sym p.is)
+    (caller_finished w (with_spent w p.key).callers p.key Spent k (λ d y h. after_push w.callers d (record { key = p.key; phase = Spent }) y h) (λ e. absurd (let x : Spent ≡ Running = e in cc)) f))
+    m)
     a
 
 -- a slot that has come to a key's generation stays there, and what is lost or finished stays so
@@ -90,6 +101,11 @@ opens_well slots limit start some_slot few = (opening_shown slots limit start so
 pub rule_kept : RuleKept
 rule_kept slots limit t u kinds h r = word_run slots limit kinds t u h r
 
+-- events of two runs, one after the other
+both_runs : (es fs : List Event) (a b c : BareWorld) → BareRun a es b → BareRun b fs c → BareRun a (es ++ fs) c
+both_runs [] fs a b c p q = subst (λ (w : BareWorld). BareRun w fs c) p q
+both_runs (e ∷ es) fs a b c p q = (p.0, p.1, both_runs es fs p.0 b c p.2 q)
+
 -- an attended run is a run, and one of events
 pub run_is_run : RunIsRun
 run_is_run slots limit t u [] h r = (r, [], ap (λ (x : Table). world x) r)
@@ -99,7 +115,7 @@ run_is_run slots limit t u (kind ∷ kinds) h r =
     let events : List Event = q.1 in
     let all : (es : List Event) × BareRun (world t) es (world u) = ⊎_elim
     (λ (stays : world v ≡ world t). (events, subst (λ (w : BareWorld). BareRun w events (world u)) stays q.2))
-    (λ (x : (e : Event) × BareStep (world t) e (world v)). (x.0 ∷ events, (world v, x.1, q.2)))
+    (λ (x : (es : List Event) × BareRun (world t) es (world v)). (x.0 ++ events, both_runs x.0 events (world t) (world v) (world u) x.1 q.2))
     (attended_event slots limit t kind v h r.2 r.1) in
     ((v, r.2, q.0), all.0, all.1)
 
@@ -204,10 +220,16 @@ started kind w w' c key l runs = ⊎_elim
     (step_starts w x.event w' x.step c key runs))
     (λ (a : Alone kind w w'). inl (⊎_elim
     (λ (o : TakenOut kind w w'). subst (λ (x : BareWorld). slice_get x.callers c ≡ Some (record { key = key; phase = Running })) o.is runs)
+    (λ (m : Came kind w w' ⊎ Passed kind w w'). ⊎_elim
     (λ (p : Came kind w w'). ⊎_elim
     (λ (new : ◌≡◌ {A = Caller} (record { key = p.key; phase = Still }) (record { key = key; phase = Running })). absurd (let x : Still ≡ Running = ap (λ (y : Caller). y.phase) new in cc))
     (λ (old : slice_get w.callers c ≡ Some (record { key = key; phase = Running })). old)
     (after_push w.callers c (record { key = p.key; phase = Still }) (record { key = key; phase = Running }) (subst (λ (x : BareWorld). slice_get x.callers c ≡ Some (record { key = key; phase = Running })) p.is runs)))
+    (λ (p : Passed kind w w'). ⊎_elim
+    (λ (new : ◌≡◌ {A = Caller} (record { key = p.key; phase = Spent }) (record { key = key; phase = Running })). absurd (let x : Spent ≡ Running = ap (λ (y : Caller). y.phase) new in cc))
+    (λ (old : slice_get w.callers c ≡ Some (record { key = key; phase = Running })). old)
+    (after_push w.callers c (record { key = p.key; phase = Spent }) (record { key = key; phase = Running }) (subst (λ (x : BareWorld). slice_get x.callers c ≡ Some (record { key = key; phase = Running })) p.is runs)))
+    m)
     a))
     more)
     l

@@ -1,7 +1,7 @@
 -- The seat in the Master's token is the token as contracts see it: what a step asks or tells of one, it does of both.
 use Rattle.std.proofs.Common.{◌≡◌, ℕ, [], sym, ap, ◌∙◌, subst}
 use mathlib.Core.Option.{none}
-use Rattle.atomic_table.specs.Table.{State, Step, step, Allows, Splits}
+use Rattle.atomic_table.specs.Table.{State, Step, step, Allows, Splits, Joins}
 use Rattle.atomic_table.specs.declared.shared.Seat.{Seat}
 use Rattle.kf_words.specs.declared.view.MasterView.{MasterView}
 use Rattle.kf_words.specs.declared.sight.Sight.{Sight}
@@ -9,7 +9,7 @@ use Rattle.kf_words.specs.declared.view.View.TheVariants as seat
 use Rattle.kf_words.specs.Layout.{slot_of}
 use Rattle.kf_words.specs.Steps.{Seated, Sighted, plain, master_of}
 use Rattle.kf_words.specs.Nodes.{MasterSight, master_sight}
-use Rattle.kf_words.specs.History.{after_giving, given}
+use Rattle.kf_words.specs.History.{after_giving, given, answered, hears}
 use Rattle.kf_words.proofs.MasterAllowed.{told}
 
 module _ (s t : Seat (Unit {0}) Sight) (is : s ≡ t) where
@@ -31,3 +31,10 @@ module _ (s t : Seat (Unit {0}) Sight) (is : s ≡ t) where
   pub parted : (holds : State (Unit {0}) Sight → Type 0) → Splits holds t.id t.me.0 (after_giving t.me.0) (given t.me.0)
       → Splits holds s.id s.me.0 (after_giving s.me.0) (given s.me.0)
   parted holds = subst (λ (x : Seat (Unit {0}) Sight). Splits holds x.id x.me.0 (after_giving x.me.0) (given x.me.0)) (sym is)
+
+  pub answering : (holds : State (Unit {0}) Sight → Type 0) → Splits holds t.id t.me.0 t.me.0 (answered t.me.0) → Splits holds s.id s.me.0 s.me.0 (answered s.me.0)
+  answering holds = subst (λ (x : Seat (Unit {0}) Sight). Splits holds x.id x.me.0 x.me.0 (answered x.me.0)) (sym is)
+
+  pub hearing : (holds : State (Unit {0}) Sight → Type 0) (other : ℕ) (w spent : Sight) → w ≡ spent → Joins holds t.id t.me.0 other w (hears t.me.0 w) w → Joins holds s.id s.me.0 other w (hears s.me.0 w) spent
+  hearing holds other w spent one joins = subst (λ (x : Sight). Joins holds s.id s.me.0 other w (hears s.me.0 w) x) one
+      (subst (λ (x : Seat (Unit {0}) Sight). Joins holds x.id x.me.0 other w (hears x.me.0 w) w) (sym is) joins)

@@ -25,9 +25,9 @@ use Rattle.kf_words.specs.declared.view.View.{View}
 use Rattle.kf_words.specs.declared.view.View.TheVariants as seat
 use Rattle.kf_words.specs.Layout.{bit, bias, doom, hide, linked, one_generation, active_index, hold_index, sleepers_index, slot_of, is_drained, has_hide, is_unused, has_linked, HasSpare}
 use Rattle.kf_words.specs.Rule.{Shows, Shown, seats, bare_world, caller, last_key}
-use Rattle.kf_words.specs.Steps.{Seated, no_state, state_at, after_try, after_undo, after_leave, after_break, after_restore, after_look, after_part, after_hide, after_look_hidden, after_show, after_release, after_miss, after_count, after_share, unmoved, after_split, new_hold, hold_for, with_load, with_pin, without_pin, after_store, with_birth, with_marks, activated_marks, doomed_marks, with_look, without_node, unread, CallerBecomes, On, MasterBecomes, LoadsHold, ShowsKey}
+use Rattle.kf_words.specs.Steps.{Seated, no_state, state_at, after_try, after_undo, after_leave, after_break, after_restore, after_look, after_part, after_hide, after_look_hidden, after_show, after_release, after_miss, after_count, after_share, unmoved, after_split, new_hold, hold_for, with_load, with_pin, without_pin, after_store, with_birth, with_marks, activated_marks, doomed_marks, with_look, without_node, unread, CallerBecomes, On, MasterBecomes, LoadsHold, ShowsKey, spent_hold}
 use Rattle.kf_words.specs.Nodes.{marks_of}
-use Rattle.kf_words.specs.TableSteps.{Table, StepKind, tries, undoes, leaves, breaks, restores, looks, parts, hides, looks_hidden, shows, releases, misses, counts, shares, sleeps, awakes, loads_hold, pins_hold, unpins_hold, splits, stores_fresh, births, takes_bias, marks_node, looks_over, unlinks, notes, plus, minus, same, with_hide, master_in, world, IsSeated, HoldsSlot, MayCount, WordStep}
+use Rattle.kf_words.specs.TableSteps.{Table, StepKind, tries, undoes, leaves, breaks, restores, looks, parts, hides, looks_hidden, shows, releases, misses, counts, shares, sleeps, awakes, loads_hold, pins_hold, unpins_hold, splits, stores_fresh, births, takes_bias, marks_node, looks_over, unlinks, notes, reports, answers, compares, Comes, plus, minus, same, with_hide, master_in, world, IsSeated, HoldsSlot, MayCount, WordStep}
 use Rattle.kf_words.proofs.Bits.{bool_cases, waiting_is}
 use Rattle.kf_words.proofs.Seating.{caller_seat, master_seat, seats-set, seats-push}
 use Rattle.kf_words.proofs.CallerAllowed.{no_step, try_allowed, undo_allowed, leave_allowed, break_allowed, restore_allowed, look_allowed, release_allowed, part_allowed, miss_allowed, hide_allowed, look_hidden_allowed, show_allowed}
@@ -38,9 +38,28 @@ use Rattle.kf_words.proofs.MasterAllowed.{active_slot, hold_slot, hold_allows, p
 use Rattle.kf_words.proofs.Events.{try_is_enter, undo_is_undo, look_is_look, part_is_part, leave_is_leave, break_is_break, restore_is_restore, release_is_release, hide_is_hide, look_hidden_is_look, show_is_show, miss_is_nothing, rise_is_rise, mark_is_mark, birth_is_born, split_is_pin, share_is_pin}
 use Rattle.kf_words.proofs.Led.{Led}
 use Rattle.kf_words.proofs.Led.{happens}
-pub use Rattle.kf_words.proofs.Led.{TakenOut, Came, Alone, IsEvent, Led}
+pub use Rattle.kf_words.proofs.Led.{TakenOut, Came, Passed, Alone, IsEvent, Led, with_spent}
 pub use Rattle.kf_words.proofs.OneStep.{at_seat, in_world, world_is}
 use Rattle.kf_words.proofs.OneStep.{Goes, led, by_play}
+use Rattle.kf_words.proofs.Coming.{come_kept, spent_world}
+
+-- a seat that holds nothing comes, of a key that may be pinned
+come_goes : (slots limit : ℕ) (t t' : Table) (h : Shown slots limit t) (kind : StepKind) (key : Key) → Comes t key t' → MayPin (bare_world h.master h.callers) key ⊎ (kind ≡ answers) → Goes kind slots limit t t'
+come_goes slots limit t t' h kind key becomes may =
+    let cs : List CallerView = h.callers ++ spent_hold key ∷ [] in
+    let views : t'.views ≡ seats h.master cs =
+    ap (λ (x : Table). x.views) becomes ∙ ap (λ (l : List View). l ++ seat.Caller (spent_hold key) ∷ []) h.views ∙ seats-push h.master h.callers (spent_hold key) in (
+      record {
+        master = h.master;
+        callers = cs;
+        views = views;
+        all_slots = h.all_slots;
+        most_holds = h.most_holds;
+        shows = subst (λ (l : List ℕ). Shows l h.master cs) (sym (ap (λ (x : Table). x.words) becomes)) (come_kept h.master h.callers key t.words h.shows);
+      },
+      led kind t t' (bare_world h.master h.callers) (bare_world h.master cs) (world_is t h.master h.callers h.views) (world_is t' h.master cs views)
+          (inr (inr (inr (inr (record { key = key; may = may; is = spent_world h.master h.callers key }))))),
+    )
 
 -- a step of the caller of this number
 module _ (slots limit : ℕ) (t t' : Table) (h : Shown slots limit t) (j : ℕ) (c : CallerView) (there : IsSeated t j c) where
@@ -189,7 +208,7 @@ module _ (slots limit : ℕ) (t t' : Table) (h0 : Shown slots limit t) (m : Mast
       (map-append caller cs (new ∷ []) ∙ ap (λ (y : CallerView). map caller cs ++ caller y ∷ []) who) in (
         subst (λ (x : Table). Shown slots limit x) (sym becomes) (splits_shown slots limit 0 (seat.Master m) slot state refl its pins t met there),
         led (splits slot) t t' (bare_world m cs) (bare_world (after_split m) (cs ++ new ∷ [])) (world_is t m cs met.views) (world_is t' (after_split m) (cs ++ new ∷ []) views)
-            (inr (inr (inr (record { slot = slot; kind_is = refl; key = key; is = came })))),
+            (inr (inr (inr (inl (record { slot = slot; kind_is = refl; key = key; is = came }))))),
       )
 
   -- where it was attended, it is a Pin
@@ -396,3 +415,9 @@ word_step slots limit t (unlinks slot) t' g s =
     (λ me' e. slot_view (unread without_node) m (slice_index t.words (hold_index slot)) (hold_index slot) slot me' (hold_slot slot (hold_index slot) refl) e.1) s.2.fits s.2.becomes
     (inr (inr (inl (record { slot = slot; kind_is = refl; key = key; had = x; linked = linked_is; doomed = doomed; is = out }))))
 word_step slots limit t (notes note) t' g s = (subst (λ (x : Table). Shown slots limit x) (sym s.1) g, inl (ap world s.1))
+word_step slots limit t compares t' g s = (subst (λ (x : Table). Shown slots limit x) (sym s.1) g, inl (ap world s.1))
+word_step slots limit t answers t' g s = come_goes slots limit t t' g answers (last_key 0 (state_at s.0 0)) s.3 (inr refl)
+word_step slots limit t (reports j) t' h s =
+    let c : CallerView = s.0 in
+    let holds : core.IsHeld (bare_world h.master h.callers) c.key = record { caller = j; phase = c.phase; there = in_world h.callers j c (at slots limit t t' h j c s.2); holds = s.1 } in
+    come_goes slots limit t t' h (reports j) c.key s.3 (inl (inr holds))

@@ -88,6 +88,10 @@ pub record IsSameSeat (old new : Handle) : Type 0 where
   pub key : new.key ≡ old.key
   pub node : new.node ≡ old.node
 
+-- the same seat, which has seen this beginning of the run and is else as it was
+abbrev pub having_seen : Seen → Handle → Handle
+having_seen seen h = record h { seen = seen }
+
 -- the phases of a call
 abbrev pub is_in_call : Phase → Bool
 is_in_call Still = false

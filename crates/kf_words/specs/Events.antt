@@ -11,13 +11,13 @@ use Rattle.kf_core.specs.declared.slot.Marks.{Marks}
 use Rattle.kf_core.specs.declared.slot.SlotState.{SlotState}
 use Rattle.kf_core.specs.Marks.{fresh_marks}
 use Rattle.kf_core.specs.Phases.{may_release}
-use Rattle.kf_core.specs.Steps.{BareStep, MayPin}
+use Rattle.kf_core.specs.Steps.{BareStep, BareRun, MayPin}
 use Rattle.kf_words.specs.declared.view.CallerView.{CallerView}
 use Rattle.kf_words.specs.declared.view.MasterView.{MasterView}
 use Rattle.kf_words.specs.declared.view.View.{View}
 use Rattle.kf_words.specs.Layout.{active_word, hold_word, is_drained, has_hide, is_unused, has_linked}
 use Rattle.kf_words.specs.Rule.{Shown, bare_world, last_key}
-use Rattle.kf_words.specs.Steps.{after_try, after_undo, after_leave, after_break, after_restore, after_look, after_part, after_hide, after_look_hidden, after_show, after_release, after_miss, after_count, after_share, new_hold, with_load, with_pin, without_pin, with_look, after_store, after_split, hold_for, with_birth, with_marks, activated_marks, doomed_marks, without_node}
+use Rattle.kf_words.specs.Steps.{after_try, after_undo, after_leave, after_break, after_restore, after_look, after_part, after_hide, after_look_hidden, after_show, after_release, after_miss, after_count, after_share, new_hold, spent_hold, with_load, with_pin, without_pin, with_look, after_store, after_split, hold_for, with_birth, with_marks, activated_marks, doomed_marks, without_node}
 use Rattle.kf_words.specs.Callers.{IsAtRest, HasReference, IsInPhase}
 use Rattle.kf_words.specs.Nodes.{marks_of}
 
@@ -171,3 +171,16 @@ RestIsNothing = OfTheMaster
     × (bare_world (with_pin slot m) cs ≡ bare_world m cs)
     × (bare_world (without_pin slot m) cs ≡ bare_world m cs)
     × (bare_world (after_store slot m) cs ≡ bare_world m cs))
+
+-- a seat that holds nothing came to this key: that is a Pin of it, and at once its Release
+abbrev pub Passes : MasterView → List CallerView → Key → Type 0
+Passes m cs key = BareRun (bare_world m cs) (Pin (length cs) key ∷ Release (length cs) ∷ [])
+    (bare_world m (cs ++ spent_hold key ∷ []))
+
+-- so is the seat that carries what a caller has seen, of the caller's key
+abbrev pub ReportPasses : Type 0
+ReportPasses = OfEachCaller (λ words m cs j c. c.phase ≢ Spent → Passes m cs c.key)
+
+-- so is the seat that carries what the Master has seen, of a key that may be pinned
+abbrev pub AnswerPasses : Type 0
+AnswerPasses = OfTheMaster (λ m cs. (key : Key) → MayPin (bare_world m cs) key → Passes m cs key)

@@ -13,9 +13,9 @@ use Rattle.kf_words.specs.declared.sight.Opening.{Opening}
 use Rattle.kf_words.specs.declared.sight.Seen.{Seen}
 use Rattle.kf_words.specs.declared.sight.Sight.{Sight}
 use Rattle.kf_words.specs.declared.view.View.TheVariants as seat
-use Rattle.kf_words.specs.Rule.{Shown}
+use Rattle.kf_words.specs.Rule.{Shown, last_key}
 use Rattle.kf_words.specs.Notes.{notes_of, history_of}
-use Rattle.kf_words.specs.Steps.{opened, master_of, caller_of, after_split, hold_for, after_share, new_hold}
+use Rattle.kf_words.specs.Steps.{opened, master_of, caller_of, state_at, after_split, hold_for, after_share, new_hold, spent_hold}
 use Rattle.kf_words.specs.TableSteps.{Table, StepKind, world, WordRun, opened_table}
 
 -- the words, and what each seat knows
@@ -35,38 +35,68 @@ abbrev pub first_sight : Opening → Sight
 first_sight o = record {
   view = seat.Master (opened o.holds o.slots o.start);
   seen = record { opening = o; steps = [] };
+  shown = [];
 }
+
+-- what a seat of a table of no slots knows
+abbrev pub no_sight : Sight
+no_sight = first_sight (record { holds = 0; slots = 0; start = 0 })
 
 -- what the Master knows after it gave a hold its seat
 abbrev pub after_giving : Sight → Sight
-after_giving s = record { view = seat.Master (after_split (master_of s.view)); seen = s.seen }
+after_giving s =
+    record { view = seat.Master (after_split (master_of s.view)); seen = s.seen; shown = s.shown }
 
 -- what the new seat of a pinned hold knows: as much of the run as the Master who gave it
 abbrev pub given : Sight → Sight
 given s = record {
   view = seat.Caller (hold_for (master_of s.view) (master_of s.view).pinning);
   seen = s.seen;
+  shown = [];
 }
 
 -- what a caller knows after the hold that it counted went to a new seat
 abbrev pub after_sharing : Sight → Sight
-after_sharing s = record { view = seat.Caller (after_share (caller_of s.view)); seen = s.seen }
+after_sharing s =
+    record { view = seat.Caller (after_share (caller_of s.view)); seen = s.seen; shown = s.shown }
 
 -- what the new seat of that hold knows: as much of the run as the caller
 abbrev pub shared_out : Sight → Sight
-shared_out s = record { view = seat.Caller (new_hold (caller_of s.view).key); seen = s.seen }
+shared_out s =
+    record { view = seat.Caller (new_hold (caller_of s.view).key); seen = s.seen; shown = [] }
+
+-- what a new seat knows that holds nothing, of this key: as much of the run as this seat
+abbrev pub messenger : Key → Sight → Sight
+messenger key s = record { view = seat.Caller (spent_hold key); seen = s.seen; shown = [] }
+
+-- what the new seat knows that a caller sends to the Master
+abbrev pub reported : Sight → Sight
+reported s = messenger (caller_of s.view).key s
+
+-- what the new seat knows that the Master sends
+abbrev pub answered : Sight → Sight
+answered s = messenger (last_key 0 (state_at (master_of s.view) 0)) s
+
+-- what a seat knows once it is shown what another has seen
+abbrev pub hears : Sight → Sight → Sight
+hears s from = record { view = s.view; seen = s.seen; shown = from.seen.steps }
+
+-- what a seat knows that has seen just as much as another from then on
+abbrev pub takes_over : Sight → Sight → Sight
+takes_over s from = record { view = s.view; seen = from.seen; shown = s.shown }
 
 -- a beginning of the run of these steps, from this opening
 abbrev pub IsBeginning : Opening → Seen → List StepKind → Type 0
 IsBeginning o seen log = (seen.opening ≡ o) × IsPrefix seen.steps log
 
--- one run leads here from the opening, each seat has seen a beginning of it, the Master's seat all notes, and
--- the words show the views of all seats
+-- one run leads here from the opening, each seat has seen a beginning of it and was told one, the Master's seat
+-- has seen all notes, and the words show the views of all seats
 pub record Kept (o : Opening) (t : SeenTable) : Type 0 where
   pub begins : Shown o.slots o.holds (opened_as o)
   pub log : List StepKind
   pub run : WordRun (opened_as o) log (erased t)
   pub seen : (place : ℕ) (s : Sight) → get_elem? t.views place ≡ some s → IsBeginning o s.seen log
+  pub told : (place : ℕ) (s : Sight) → get_elem? t.views place ≡ some s → IsPrefix s.shown log
   pub notes : (m : Sight) → get_elem? t.views 0 ≡ some m → history_of m.seen ≡ notes_of log
   pub shown : Shown o.slots o.holds (erased t)
 

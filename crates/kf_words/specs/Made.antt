@@ -4,6 +4,7 @@ use mathlib.Core.Option.{some}
 use lib.ListN.{get_elem?}
 use Rattle.atomic_table.specs.Table.{Step}
 use Rattle.kf_core.specs.Bare.{is_live}
+use mathlib.Core.List.{IsPrefix}
 use Rattle.kf_words.specs.declared.note.Note.{Note}
 use Rattle.kf_words.specs.declared.sight.Seen.{Seen}
 use Rattle.kf_words.specs.declared.view.View.TheVariants as seat
@@ -13,7 +14,7 @@ use Rattle.kf_words.specs.Steps.{Seated, Sighted, plain, caller_of, after_try, a
 use Rattle.kf_words.specs.declared.view.CallerView.{CallerView}
 use Rattle.kf_words.specs.Callers.{Handle, Owed, CallerSight, caller_sight, seat_view}
 use Rattle.kf_words.specs.Nodes.{MasterSight, master_sight}
-use Rattle.kf_words.specs.TableSteps.{Table, world, StepKind, IsSeated, WordStep, WordRun, tries, undoes, leaves, breaks, restores, looks, parts, hides, looks_hidden, shows, releases, misses, counts, loads_hold, pins_hold, stores_fresh, births, looks_over, unlinks, notes}
+use Rattle.kf_words.specs.TableSteps.{Table, world, StepKind, IsSeated, WordStep, WordRun, tries, undoes, leaves, breaks, restores, looks, parts, hides, looks_hidden, shows, releases, misses, counts, loads_hold, pins_hold, stores_fresh, births, looks_over, unlinks, notes, compares}
 use Rattle.kf_words.specs.Notes.{notes_of}
 use Rattle.kf_words.specs.History.{opened_as}
 
@@ -289,3 +290,9 @@ MasterMakes index kind tells st me found me' = (st.word ≡ index (slot_of st.wo
 abbrev pub MakesNote : Note → Step (Unit {0}) → Sighted → ℕ → Sighted → Type 0
 MakesNote note st me found me' =
     (plain me' ≡ plain me) × WasMadeByMaster (notes note) (master_sight me.0) (master_sight me'.0)
+
+-- what a step of the Master tells that compares what it was told with the run so far: that is a beginning. It
+-- changes no view
+abbrev pub MakesCompare : Step (Unit {0}) → Sighted → ℕ → Sighted → Type 0
+MakesCompare st me found me' = (plain me' ≡ plain me) × WasMadeByMaster compares (master_sight me.0)
+    (master_sight me'.0) × IsPrefix me.0.shown me'.0.seen.steps

@@ -34,6 +34,9 @@ note_of (step.MarksNode slot) = []
 note_of (step.LooksOver slot) = []
 note_of (step.Unlinks slot) = []
 note_of (step.Notes note) = note ∷ []
+note_of (step.Reports j) = []
+note_of step.Answers = []
+note_of step.Compares = []
 
 -- the notes that these steps add, in their order
 abbrev pub notes_of : List StepKind → List Note

@@ -210,6 +210,18 @@ new_hold key = record {
   pinning = false;
 }
 
+-- the view of a seat that holds nothing: it came to this key, and gave its hold back at once
+abbrev pub spent_hold : Key → CallerView
+spent_hold key = record {
+  key = key;
+  phase = Spent;
+  steps = 0;
+  tries = 0;
+  found = 0;
+  undo_due = false;
+  pinning = false;
+}
+
 -- the view of the seat that a split makes
 abbrev pub hold_for : MasterView → Option ℕ → CallerView
 hold_for m None = no_caller

@@ -4,6 +4,7 @@ use mathlib.Core.Option.{some}
 use lib.ListN.{get_elem?}
 use Rattle.atomic_table.specs.Table.{State, stepped, keeps}
 use Rattle.atomic_table.specs.Table.{opening as table_opening}
+use Rattle.kf_core.specs.declared.key.Key.{Key}
 use Rattle.kf_core.specs.declared.caller.Phase.TheVariants.{Turned, Running, Broken, Drained, Hiding, Hidden, Spent}
 use Rattle.kf_core.specs.declared.slot.Marks.{Marks}
 use Rattle.kf_core.specs.Marks.{fresh_marks}
@@ -14,10 +15,10 @@ use Rattle.kf_words.specs.declared.view.MasterView.{MasterView}
 use Rattle.kf_words.specs.declared.view.View.{View}
 use Rattle.kf_words.specs.declared.view.View.TheVariants as seat
 pub use Rattle.kf_words.specs.declared.sight.StepKind.{StepKind}
-pub use Rattle.kf_words.specs.declared.sight.StepKind.TheVariants.{Tries as tries, Undoes as undoes, Leaves as leaves, Breaks as breaks, Restores as restores, Looks as looks, Parts as parts, Hides as hides, LooksHidden as looks_hidden, Shows as shows, Releases as releases, Misses as misses, Counts as counts, Shares as shares, Sleeps as sleeps, Awakes as awakes, LoadsHold as loads_hold, PinsHold as pins_hold, UnpinsHold as unpins_hold, Splits as splits, StoresFresh as stores_fresh, Births as births, TakesBias as takes_bias, MarksNode as marks_node, LooksOver as looks_over, Unlinks as unlinks, Notes as notes}
+pub use Rattle.kf_words.specs.declared.sight.StepKind.TheVariants.{Tries as tries, Undoes as undoes, Leaves as leaves, Breaks as breaks, Restores as restores, Looks as looks, Parts as parts, Hides as hides, LooksHidden as looks_hidden, Shows as shows, Releases as releases, Misses as misses, Counts as counts, Shares as shares, Sleeps as sleeps, Awakes as awakes, LoadsHold as loads_hold, PinsHold as pins_hold, UnpinsHold as unpins_hold, Splits as splits, StoresFresh as stores_fresh, Births as births, TakesBias as takes_bias, MarksNode as marks_node, LooksOver as looks_over, Unlinks as unlinks, Notes as notes, Reports as reports, Answers as answers, Compares as compares}
 use Rattle.kf_words.specs.Layout.{bit, bias, doom, hide, linked, one_generation, active_index, hold_index, sleepers_index, opening_words, HasSpare}
-use Rattle.kf_words.specs.Rule.{bare_world}
-use Rattle.kf_words.specs.Steps.{caller_of, no_master, master_of, state_at, after_try, after_undo, after_leave, after_break, after_restore, after_look, after_part, after_hide, after_look_hidden, after_show, after_release, after_miss, after_count, after_share, new_hold, unmoved, after_split, hold_for, with_load, with_pin, without_pin, after_store, with_birth, with_marks, activated_marks, doomed_marks, with_look, without_node, unread, opened}
+use Rattle.kf_words.specs.Rule.{bare_world, last_key}
+use Rattle.kf_words.specs.Steps.{caller_of, no_master, master_of, state_at, after_try, after_undo, after_leave, after_break, after_restore, after_look, after_part, after_hide, after_look_hidden, after_show, after_release, after_miss, after_count, after_share, new_hold, spent_hold, unmoved, after_split, hold_for, with_load, with_pin, without_pin, after_store, with_birth, with_marks, activated_marks, doomed_marks, with_look, without_node, unread, opened}
 use Rattle.kf_words.specs.Callers.{IsAtRest, HasReference, IsInPhase}
 use Rattle.kf_words.specs.Nodes.{FoundRoom, FoundFree, HasMarks, HasLooked, marks_of}
 
@@ -154,9 +155,26 @@ IsUndoomed slot x m = HasMarks m slot x × (x.doomed ≡ false)
 abbrev pub SeesDrained : ℕ → MasterView → Type 0
 SeesDrained slot m = ((x : Marks) × HasMarks m slot x) × HasLooked m slot
 
--- the Master adds a note to the run, which changes no word and no view
-abbrev pub MasterNotes : Table → Table → Type 0
-MasterNotes t t' = ((m : MasterView) × (get_elem? t.views 0 ≡ some (seat.Master m))) × (t' ≡ t)
+-- the Master's step changes no word and no view
+abbrev pub MasterStays : Table → Table → Type 0
+MasterStays t t' = ((m : MasterView) × (get_elem? t.views 0 ≡ some (seat.Master m))) × (t' ≡ t)
+
+-- a seat that holds nothing came to this key, behind all others
+abbrev pub Comes : Table → Key → Table → Type 0
+Comes t key t' = t' ≡ record {
+  words = t.words;
+  homes = t.homes;
+  views = t.views ++ seat.Caller (spent_hold key) ∷ [];
+}
+
+-- a new seat has seen what this caller has, who holds its slot
+abbrev pub CallerReports : Table → ℕ → Table → Type 0
+CallerReports t j t' = (c : CallerView) × (c.phase ≢ Spent) × IsSeated t j c × Comes t c.key t'
+
+-- a new seat, of the root's key, has seen what the Master has
+abbrev pub MasterAnswers : Table → Table → Type 0
+MasterAnswers t t' = (m : MasterView) × (get_elem? t.views 0 ≡ some (seat.Master m)) × (0 < length m.slots)
+    × Comes t (last_key 0 (state_at m 0)) t'
 
 -- one atomic step of the table, by any seat: what it makes of the view, what the view must say before it,
 -- which of the slot's words it is on, and what it makes of that
@@ -196,7 +214,10 @@ WordStep t (looks_over slot) t' =
     MasterPlays with_look (λ m. slot < length m.slots) active_index same t slot t'
 WordStep t (unlinks slot) t' =
     MasterPlays (unread without_node) (SeesDrained slot) hold_index (minus linked) t slot t'
-WordStep t (notes note) t' = MasterNotes t t'
+WordStep t (notes note) t' = MasterStays t t'
+WordStep t (reports j) t' = CallerReports t j t'
+WordStep t answers t' = MasterAnswers t t'
+WordStep t compares t' = MasterStays t t'
 
 -- these steps, one after another
 abbrev pub WordRun : Table → List StepKind → Table → Type 0
@@ -241,6 +262,9 @@ IsAttended t (takes_bias j) = Unit {0}
 IsAttended t (marks_node j) = Unit {0}
 IsAttended t (looks_over j) = Unit {0}
 IsAttended t (notes note) = Unit {0}
+IsAttended t (reports j) = Unit {0}
+IsAttended t compares = Unit {0}
+IsAttended t answers = IsPinnable t 0
 IsAttended t (splits slot) = IsPinnable t slot
 IsAttended t (unlinks slot) = (j : ℕ) × IsDrainedOn t slot j
 

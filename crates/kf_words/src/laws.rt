@@ -1,6 +1,6 @@
 //! What the words tell at every moment, and which event each step is.
 ghost use Rattle.kf_words.specs.Laws.{AlwaysSafe, LetsInTheLive, DrainedIsUnused, FreeIsUnheld, TellsTheLinked, TellsTheHidden, HiddenIsRefused, ShownLetsIn};
-ghost use Rattle.kf_words.specs.Events.{TryIsEnter, UndoIsUndo, LookIsLook, PartIsPart, LeaveIsLeave, BreakIsBreak, RestoreIsRestore, ReleaseIsRelease, HideIsHide, LookHiddenIsLook, ShowIsShow, MissIsNothing, RiseIsRise, MarkIsMark, BirthIsBorn, UnlinkIsUnlink, SplitIsPin, HeldSplitIsPin, ShareIsPin, RestIsNothing};
+ghost use Rattle.kf_words.specs.Events.{TryIsEnter, UndoIsUndo, LookIsLook, PartIsPart, LeaveIsLeave, BreakIsBreak, RestoreIsRestore, ReleaseIsRelease, HideIsHide, LookHiddenIsLook, ShowIsShow, MissIsNothing, RiseIsRise, MarkIsMark, BirthIsBorn, UnlinkIsUnlink, SplitIsPin, HeldSplitIsPin, ShareIsPin, RestIsNothing, ReportPasses, AnswerPasses};
 ghost use Rattle.kf_words.specs.History.{EndsARun, SeenLeadsHere, DrainedEverAfter, OneRunIsSeen, OneEnd, HistoryIsSeen, OneHistory, NotesStay};
 ghost use Rattle.kf_words.specs.Life.{WordLife, LifeIsKept};
 ghost use Rattle.kf_words.specs.Runs.{OpensWell, RuleKept, RunIsRun, RunIsSafe, MarkedKeepsOut, DrainedForGood, HiddenKeepsOut, PassedForGood, BornUnheld, LetInLive, TakenLive};
@@ -39,7 +39,8 @@ pub fn words_tell()
 /// out is an Unlink of any drained caller of it. A hold that gets its seat is a Pin of a new caller, on a
 /// linked key or one that somebody holds. A caller that counts one hold more leaves the world as it is, and
 /// the seat that gets it is a Pin of the caller's key, linked or not. The Master's other steps leave the
-/// world as it is.
+/// world as it is. A seat that carries to the Master what a caller has seen, or the Master's answer, holds
+/// nothing: it is a Pin and at once a Release.
 pub fn words_step()
     ensures try_is_enter { TryIsEnter }
     ensures undo_is_undo { UndoIsUndo }
@@ -61,6 +62,8 @@ pub fn words_step()
     ensures held_split_is_pin { HeldSplitIsPin }
     ensures share_is_pin { ShareIsPin }
     ensures rest_is_nothing { RestIsNothing }
+    ensures report_passes { ReportPasses }
+    ensures answer_passes { AnswerPasses }
 {}
 
 /// What holds over every run of steps of any number of seats, in any order, from any table that meets the

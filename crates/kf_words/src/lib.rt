@@ -25,6 +25,7 @@ mod master;
 mod master_seat;
 mod master_steps;
 mod master_token;
+mod meeting;
 mod nodes;
 mod note;
 mod plays;

@@ -1,6 +1,7 @@
 //! The steps of the Master's seat, one by one.
 ghost use Rattle.std.specs.Prelude.{◌≡◌, ◌<◌, [], ◌∷◌, ◌++◌, length, Some, None, false};
 ghost use Rattle.std.specs.Arc.{arc_value};
+ghost use mathlib.Core.List.{IsPrefix};
 ghost use Rattle.kf_core.specs.Marks.{fresh_marks};
 ghost use Rattle.kf_words.specs.Layout.{active_index, hold_index};
 ghost use Rattle.kf_words.specs.Rule.{last_key};
@@ -16,8 +17,8 @@ use crate::layout::{BIAS, GENERATION, LINKED, active_index, hold_index, mark_bit
 use crate::master_seat::MasterSeat;
 use crate::note::Said;
 use crate::plays::{
-    Births, LoadsHold, LooksOver, MarksNode, Notes, PinsHold, SplitsHold, StoresFresh, TakesBias,
-    Unlinks, UnpinsHold,
+    Answers, Births, Compares, Hears, Knowing, LoadsHold, LooksOver, MarksNode, Notes, PinsHold,
+    SplitsHold, StoresFresh, TakesBias, Unlinks, UnpinsHold,
 };
 use crate::sight::Sight;
 use atomic_table::Seat;
@@ -220,5 +221,47 @@ impl MasterSeat {
     {
         let token = &mut self.token;
         self.table.shared.load::<Notes<E>>(&mut token.seat, 0);
+    }
+
+    /// It is told what the other seat has seen, which ends.
+    pub(crate) fn hear<E: Knowing>(&mut self, other: Seat<(), Sight>)
+        requires slot { 0 < length (master_view self.old).slots }
+        requires table { other.table_id ≡ self.old.token.table_id }
+        requires bare { other.me.1 ≡ [] }
+        requires picked { other.me.0 ≡ E.sight }
+        ensures table { self.new.token.table_id ≡ self.old.token.table_id }
+        ensures view { master_view self.new ≡ master_view self.old }
+        ensures seen { self.new.token.me.0.seen ≡ self.old.token.me.0.seen }
+        ensures told { self.new.token.me.0.shown ≡ other.me.0.seen.steps }
+    {
+        let token = &mut self.token;
+        self.table
+            .shared
+            .join_seat::<Hears<E>>(&mut token.seat, other);
+    }
+
+    /// Compares what it was told with the run so far, in one word step that changes nothing.
+    pub(crate) fn compare(&mut self)
+        requires { 0 < length (master_view self.old).slots }
+        ensures table { self.new.token.table_id ≡ self.old.token.table_id }
+        ensures view { master_view self.new ≡ master_view self.old }
+        ensures history { history_of self.new.token.me.0.seen ≡ history_of self.old.token.me.0.seen }
+        ensures told { IsPrefix self.old.token.me.0.shown self.new.token.me.0.seen.steps }
+    {
+        let token = &mut self.token;
+        self.table.shared.load::<Compares>(&mut token.seat, 0);
+    }
+
+    /// A new seat, which holds nothing and has seen what the Master has.
+    pub(crate) fn answer(&mut self) -> Seat<(), Sight>
+        requires { 0 < length (master_view self.old).slots }
+        ensures table { self.new.token.table_id ≡ self.old.token.table_id }
+        ensures me { self.new.token.me ≡ self.old.token.me }
+        ensures same_table { result.table_id ≡ self.old.token.table_id }
+        ensures bare { result.me.1 ≡ [] }
+        ensures seen { result.me.0.seen ≡ self.old.token.me.0.seen }
+    {
+        let token = &mut self.token;
+        self.table.shared.split_seat::<Answers>(&mut token.seat)
     }
 }

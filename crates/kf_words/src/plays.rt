@@ -1,8 +1,8 @@
 //! The kinds of step on the table of words: what each makes of the view of the seat that steps.
 use crate::note::Said;
 use crate::sight::Sight;
-use atomic_table::{Play, Split};
-use std::marker::PhantomData;
+use atomic_table::{Join, Play, Split};
+use std::marker::{Brand, PhantomData};
 
 /// A caller counts itself in the active word.
 pub(crate) struct Tries;
@@ -279,4 +279,74 @@ impl Split<Sight> for SplitsHold {
     ghost left = { after_giving };
 
     ghost right = { given };
+}
+
+/// The Master compares what it was told with the run so far, and changes nothing.
+pub(crate) struct Compares;
+
+impl Play<(), Sight> for Compares {
+    ghost use Rattle.kf_words.specs.Made.{MakesCompare};
+
+    ghost then = { MakesCompare };
+}
+
+/// A new seat, which holds nothing, has seen what a caller has.
+pub(crate) struct Reports;
+
+impl Split<Sight> for Reports {
+    ghost use Rattle.kf_words.specs.History.{reported};
+
+    ghost left = { λ s. s };
+
+    ghost right = { reported };
+}
+
+/// A new seat, which holds nothing, has seen what the Master has.
+pub(crate) struct Answers;
+
+impl Split<Sight> for Answers {
+    ghost use Rattle.kf_words.specs.History.{answered};
+
+    ghost left = { λ s. s };
+
+    ghost right = { answered };
+}
+
+/// What a seat knows, which a call picks.
+pub(crate) trait Knowing {
+    ghost use Rattle.kf_words.specs.declared.sight.Sight.{Sight};
+
+    ghost sight: { Sight };
+}
+
+impl Knowing for Brand {
+    ghost use Rattle.kf_words.specs.History.{no_sight};
+
+    ghost sight = { no_sight };
+}
+
+/// A seat is told what another has seen, which stays as it was.
+pub(crate) struct Hears<E: Knowing> {
+    of: PhantomData<E>,
+}
+
+impl<E: Knowing> Join<Sight> for Hears<E> {
+    ghost use Rattle.kf_words.specs.History.{hears};
+
+    ghost both = { hears };
+
+    ghost spent = { E.sight };
+}
+
+/// A seat has from now on seen just what another has, which stays as it was.
+pub(crate) struct TakesOver<E: Knowing> {
+    of: PhantomData<E>,
+}
+
+impl<E: Knowing> Join<Sight> for TakesOver<E> {
+    ghost use Rattle.kf_words.specs.History.{takes_over};
+
+    ghost both = { takes_over };
+
+    ghost spent = { E.sight };
 }

@@ -43,6 +43,9 @@ pub enum StepKind {
     LooksOver(u64),
     Unlinks(u64),
     Notes(Note),
+    Reports(u64),
+    Answers,
+    Compares,
 }
 
 /// A beginning of the one run: the steps of all seats from the opening on, in their order.
@@ -51,8 +54,10 @@ pub struct Seen {
     pub steps: LinkedList<StepKind>,
 }
 
-/// What a seat knows: its view, and the beginning of the run that it has seen.
+/// What a seat knows: its view, the beginning of the run that it has seen, and one that another seat had seen
+/// which was told to it.
 pub struct Sight {
     pub view: View,
     pub seen: Seen,
+    pub shown: LinkedList<StepKind>,
 }

@@ -1,0 +1,87 @@
+//! The Master and a hold tell each other what they have seen, while both are in hand.
+ghost use Rattle.std.specs.Prelude.{◌≡◌, ◌≢◌};
+ghost use mathlib.Core.List.{IsPrefix};
+ghost use Rattle.kf_core.specs.declared.caller.Phase.TheVariants as phase_of;
+ghost use Rattle.kf_words.specs.Callers.{handle_of, having_seen, view_of};
+ghost use Rattle.kf_words.specs.Nodes.{KeepsNodes};
+ghost use Rattle.kf_words.specs.Notes.{history_of};
+
+use crate::call::Call;
+use crate::hiding::Hidden;
+use crate::hold::Hold;
+use crate::master::Master;
+use crate::receipt::Drained;
+use crate::seat::CallerSeat;
+use std::marker::Brand;
+
+impl Master {
+    /// As `meet`, of any seat that holds its slot.
+    fn meet_seat(&mut self, seat: &mut CallerSeat)
+        requires table { seat.old.token.table_id ≡ self.old.table }
+        requires holds { (view_of seat.old).phase ≢ phase_of.Spent }
+        ensures kept { KeepsNodes self.old self.new }
+        ensures view { self.new.view ≡ self.old.view }
+        ensures seat_view { view_of seat.new ≡ view_of seat.old }
+        ensures seat { handle_of seat.new ≡ having_seen self.new.seen (handle_of seat.old) }
+        ensures met { IsPrefix (handle_of seat.old).seen.steps self.new.seen.steps }
+        ensures after { IsPrefix (history_of (handle_of seat.old).seen) (history_of self.old.seen) }
+    {
+        let report = seat.report();
+        self.steps.hear::<Brand>(report);
+        self.steps.compare();
+        let answer = self.steps.answer();
+        seat.take_over::<Brand>(answer);
+    }
+
+    /// A hold tells the Master what it has seen of the history, and has from now on seen all that the Master
+    /// has. So what it had seen is a beginning of the history that whoever has the Master finds. Five word
+    /// steps, which change nothing.
+    ///
+    /// Condition: the hold is of this table.
+    pub fn meet(&mut self, hold: &mut Hold)
+        requires table { hold.old.table ≡ self.old.table }
+        ensures kept { KeepsNodes self.old self.new }
+        ensures view { self.new.view ≡ self.old.view }
+        ensures hold { hold.new ≡ having_seen self.new.seen hold.old }
+        ensures met { IsPrefix hold.old.seen.steps self.new.seen.steps }
+        ensures after { IsPrefix (history_of hold.old.seen) (history_of self.old.seen) }
+    {
+        self.meet_seat(&mut hold.seat);
+    }
+
+    /// As `meet`, of a call.
+    pub fn meet_call(&mut self, call: &mut Call)
+        requires table { call.old.table ≡ self.old.table }
+        ensures kept { KeepsNodes self.old self.new }
+        ensures view { self.new.view ≡ self.old.view }
+        ensures call { call.new ≡ having_seen self.new.seen call.old }
+        ensures met { IsPrefix call.old.seen.steps self.new.seen.steps }
+        ensures after { IsPrefix (history_of call.old.seen) (history_of self.old.seen) }
+    {
+        self.meet_seat(&mut call.seat);
+    }
+
+    /// As `meet`, of a caller that saw its node drained.
+    pub fn meet_drained(&mut self, drained: &mut Drained)
+        requires table { drained.old.table ≡ self.old.table }
+        ensures kept { KeepsNodes self.old self.new }
+        ensures view { self.new.view ≡ self.old.view }
+        ensures drained { drained.new ≡ having_seen self.new.seen drained.old }
+        ensures met { IsPrefix drained.old.seen.steps self.new.seen.steps }
+        ensures after { IsPrefix (history_of drained.old.seen) (history_of self.old.seen) }
+    {
+        self.meet_seat(&mut drained.seat);
+    }
+
+    /// As `meet`, of a hidden file's token.
+    pub fn meet_hidden(&mut self, hidden: &mut Hidden)
+        requires table { hidden.old.table ≡ self.old.table }
+        ensures kept { KeepsNodes self.old self.new }
+        ensures view { self.new.view ≡ self.old.view }
+        ensures hidden { hidden.new ≡ having_seen self.new.seen hidden.old }
+        ensures met { IsPrefix hidden.old.seen.steps self.new.seen.steps }
+        ensures after { IsPrefix (history_of hidden.old.seen) (history_of self.old.seen) }
+    {
+        self.meet_seat(&mut hidden.seat);
+    }
+}
