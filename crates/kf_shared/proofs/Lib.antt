@@ -1,5 +1,7 @@
 pub mod Nodes
+pub mod Notes
 pub mod Ties
+pub mod Told
 pub mod Creating
 pub mod Unlinked
 pub mod Ends

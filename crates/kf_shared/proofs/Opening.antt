@@ -33,7 +33,7 @@ nodes_opening (suc n) start key r h =
 
 module _ (count limit start : ℕ) (log : TreeLog) (m : MasterState) (claims : List ℕ) (some : 1 ≤ count) (new : IsNew count (record { slot = 0; generation = start + 1 }) log)
     (view : m.view ≡ opened limit count start) (nodes : m.nodes ≡ replicate count (let d : Node = Dir in d)) (none : claims ≡ replicate count 0) where
-  slots_of : length log.tree ≡ count
+  pub slots_of : length log.tree ≡ count
   slots_of = ap length new.tree ∙ length_set (replicate count (let o : Option Record = None in o)) 0 _ ∙ length-replicate count _
 
   pub tied_opening : IsTied m.table (record { state = log; master = m; claims = claims })

@@ -11,7 +11,7 @@ use Rattle.kf_shared.specs.Removal.{keys_of, IsNew}
 use Rattle.kf_shared.proofs.Pins.{keys_more}
 
 pub kept_after : (a b c : MasterState) → KeepsNodes a b → KeepsNodes b c → KeepsNodes a c
-kept_after a b c x y = record { table = y.table ∙ x.table; limit = y.limit ∙ x.limit; nodes = y.nodes ∙ x.nodes; slots = y.slots ∙ x.slots }
+kept_after a b c x y = record { table = y.table ∙ x.table; limit = y.limit ∙ x.limit; nodes = y.nodes ∙ x.nodes; slots = y.slots ∙ x.slots; history = y.history ∙ x.history }
 
 -- the keys of the holds are those of the first nodes
 pub keys_pinned : (keys : List Key) (i : ℕ) (d : Key) (old new : List Handle) (hold : Handle) → new ≡ old ++ hold ∷ [] → keys_of old ≡ take i keys → hold.key ≡ get_or keys i d → i < length keys → keys_of new ≡ take (i + 1) keys

@@ -181,4 +181,4 @@ tied_unlinked table s s' m m' claims key cause t linked a same_table nodes slots
     (subst (λ ns. HasNodes ns (after s.tree (Unlink key))) (sym nodes) (nodes_unlinked m.nodes s.tree key linked t.nodes))
 
 pub only_after : (a b c : MasterState) → OnlyMarks a b → OnlyMarks b c → OnlyMarks a c
-only_after a b c x y = record { table = y.table ∙ x.table; nodes = y.nodes ∙ x.nodes; slots = y.slots ∙ x.slots }
+only_after a b c x y = record { table = y.table ∙ x.table; nodes = y.nodes ∙ x.nodes; slots = y.slots ∙ x.slots; history = y.history ∙ x.history }

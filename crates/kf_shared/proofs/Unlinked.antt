@@ -11,6 +11,7 @@ use Rattle.kf_tree.specs.TreeLogs.{TreeLog, IsAccepted}
 use Rattle.kf_tree.specs.Causes.{unlink_cause}
 use Rattle.kf_words.specs.Callers.{TableId}
 use Rattle.kf_words.specs.declared.view.MasterView.{MasterView}
+use Rattle.kf_words.specs.Notes.{history_of}
 use Rattle.kf_words.specs.Nodes.{MasterState, KeepsNodes, UnlinkAnswer, slots_with}
 use Rattle.kf_shared.specs.Locked.{Locked, IsTied, UnlinkRefused}
 use Rattle.kf_shared.proofs.Ties.{locked, tied_unlinked}
@@ -20,13 +21,13 @@ pub refused_by_tree : (s : TreeLog) (old : Locked) (key seen : Key) (refusal : R
 refused_by_tree s old key seen refusal same is cause = inl (subst (λ k. unlink_cause old.state.tree k ≡ Some refusal) is (subst (λ (l : TreeLog). unlink_cause l.tree seen ≡ Some refusal) same cause), refl)
 
 -- a word that was found in use was looked at alone
-still_there : (m m' : MasterState) (slot : ℕ) → m'.table ≡ m.table → m'.nodes ≡ m.nodes → UnlinkAnswer m.view slot false m'.view → KeepsNodes m m'
-still_there m m' slot table nodes told = record { table = table; limit = ap (λ (v : MasterView). v.limit) told.2; nodes = nodes; slots = ap (λ (v : MasterView). v.slots) told.2 }
+still_there : (m m' : MasterState) (slot : ℕ) → m'.table ≡ m.table → m'.nodes ≡ m.nodes → history_of m'.seen ≡ history_of m.seen → UnlinkAnswer m.view slot false m'.view → KeepsNodes m m'
+still_there m m' slot table nodes unnoted told = record { history = unnoted; table = table; limit = ap (λ (v : MasterView). v.limit) told.2; nodes = nodes; slots = ap (λ (v : MasterView). v.slots) told.2 }
 
 -- the tree has nothing against it, but the word was found in use
 pub refused_by_word : (s : TreeLog) (m m' : MasterState) (claims : List ℕ) (old : Locked) (key seen : Key) (answer : Bool) → locked s m claims ≡ old → seen ≡ key → unlink_cause s.tree seen ≡ None → answer ≡ false →
-    m'.table ≡ m.table → m'.nodes ≡ m.nodes → UnlinkAnswer m.view key.slot answer m'.view → UnlinkRefused old (locked s m' claims) key Busy
-refused_by_word s m m' claims old key seen answer same is no_cause in_use table nodes told = inr (
+    m'.table ≡ m.table → m'.nodes ≡ m.nodes → history_of m'.seen ≡ history_of m.seen → UnlinkAnswer m.view key.slot answer m'.view → UnlinkRefused old (locked s m' claims) key Busy
+refused_by_word s m m' claims old key seen answer same is no_cause in_use table nodes unnoted told = inr (
   subst (λ k. unlink_cause old.state.tree k ≡ None) is (subst (λ (l : Locked). unlink_cause l.state.tree seen ≡ None) same no_cause),
   refl,
   subst (λ (l : Locked). UnlinkAnswer l.master.view key.slot false m'.view) same (subst (λ b. UnlinkAnswer m.view key.slot b m'.view) in_use told),
@@ -35,7 +36,7 @@ refused_by_word s m m' claims old key seen answer same is no_cause in_use table 
     tree = ap (λ (l : Locked). l.state.tree) same;
     commands = ap (λ (l : Locked). l.state.commands) same;
     claims = ap (λ (l : Locked). l.claims) same;
-    master = subst (λ (l : Locked). KeepsNodes l.master m') same (still_there m m' key.slot table nodes (subst (λ b. UnlinkAnswer m.view key.slot b m'.view) in_use told));
+    master = subst (λ (l : Locked). KeepsNodes l.master m') same (still_there m m' key.slot table nodes unnoted (subst (λ b. UnlinkAnswer m.view key.slot b m'.view) in_use told));
   },
 )
 

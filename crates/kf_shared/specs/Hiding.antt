@@ -13,7 +13,8 @@ use Rattle.kf_tree.specs.TreeLogs.{IsAccepted}
 use Rattle.kf_words.specs.Callers.{CallerSight}
 use Rattle.kf_words.specs.Callers.{Handle, IsSameSeat, FoundHidden, seat_view}
 use Rattle.kf_words.specs.Runs.{WasAHide, OnlyLookedHidden}
-use Rattle.kf_shared.specs.Locked.{Locked}
+use Rattle.kf_words.specs.declared.note.Note.TheVariants.{Did}
+use Rattle.kf_shared.specs.Locked.{Locked, Adds, history}
 
 -- why a node of this kind is not hidden: files alone are
 abbrev pub kind_cause : Node → Option Refusal
@@ -37,6 +38,11 @@ HideRefused t hold back refusal =
 abbrev pub ShowDone : Locked → Locked → Key → Type 0
 ShowDone old new key = MatchBool (hidden_in old.state.tree key)
     (IsAccepted old.state new.state None (Show key)) (new.state ≡ old.state)
+
+-- that the key is shown was noted, where it is linked and hidden; else no note was added
+abbrev pub ShowNoted : Locked → Locked → Key → Type 0
+ShowNoted old new key = MatchBool (hidden_in old.state.tree key)
+    (Adds old new (Did (Show key))) (history new ≡ history old)
 
 -- one step hid the key, and all others were looks
 abbrev pub HidAndLooked : CallerSight → CallerSight → Type 0

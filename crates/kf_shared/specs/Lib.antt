@@ -1,4 +1,5 @@
 pub mod Agreement
+pub mod Noted
 pub mod Locked
 pub mod Removal
 pub mod Receipts

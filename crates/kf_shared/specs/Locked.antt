@@ -1,5 +1,5 @@
 -- What the tree lock keeps, and what the calls on one node make of it.
-use Rattle.std.specs.Prelude.{◌≡◌, ◌⊎◌, ℕ, Bool, false, ◌==◌, ◌&&◌, nat_lt, nat_le, slice_get, List, length, Option, None, Some, MatchBool, IfSome}
+use Rattle.std.specs.Prelude.{◌≡◌, ◌⊎◌, ℕ, Bool, false, ◌==◌, ◌&&◌, nat_lt, nat_le, slice_get, List, [], ◌∷◌, ◌++◌, length, Option, None, Some, MatchBool, IfSome}
 use Rattle.std.specs.Option.{option_map}
 use Rattle.kf_core.specs.declared.key.Key.{Key}
 use Rattle.kf_core.specs.declared.key.Node.{Node}
@@ -13,8 +13,11 @@ use Rattle.kf_tree.specs.TreeLogs.{TreeLog, IsKept, IsAccepted, IsRefused}
 use Rattle.kf_words.specs.declared.view.MasterView.{MasterView}
 use Rattle.kf_words.specs.Callers.{TableId, Handle}
 use Rattle.kf_words.specs.Nodes.{MasterState, last_of, KeepsNodes, IsVacant, Searched, FoundFirst, PinRefused, UnlinkAnswer}
+use Rattle.kf_words.specs.declared.note.Note.{Note}
+use Rattle.kf_words.specs.Notes.{history_of}
 use Rattle.kf_tree.specs.SlotMarks.{SameMarks}
 use Rattle.kf_shared.specs.Agreement.{HasNodes}
+use Rattle.kf_shared.specs.Noted.{IsNoted}
 
 -- the tree with its commands, the Master of the words, and by slot the generation that was last claimed
 pub record Locked : Type 0 where
@@ -32,11 +35,24 @@ pub record IsTied (table : TableId) (s : Locked) : Type 0 where
   pub all_nodes : length s.master.nodes ≡ length s.state.tree
   pub claims : length s.claims ≡ length s.state.tree
 
--- what holds whenever the lock is free: the tree is lawful and the replay of its commands, and the Master
--- names the same keys
+-- the history that the Master has seen, which is all of it
+abbrev pub history : Locked → List Note
+history s = history_of s.master.seen
+
+-- tree, claims and stored commands are those of the history
+abbrev pub IsToldBy : Locked → List Note → Type 0
+IsToldBy s notes = IsNoted s.state s.claims notes
+
+-- what holds whenever the lock is free: the tree is lawful and the replay of its commands, the Master names the
+-- same keys, and tree, claims and stored commands are those of the whole history
 pub record IsWhole (table : TableId) (s : Locked) : Type 0 where
   pub kept : IsKept s.state
   pub tied : IsTied table s
+  pub told : IsToldBy s (history s)
+
+-- one note came next in the history
+abbrev pub Adds : Locked → Locked → Note → Type 0
+Adds old new note = history new ≡ history old ++ note ∷ []
 
 -- this call's search for a free slot answered this key, the next of its slot
 pub record HasFound (m : MasterView) (next : Option Key) (m' : MasterView) : Type 0 where

@@ -12,7 +12,8 @@ use Rattle.kf_tree.specs.TreeLogs.{TreeLog, IsAccepted}
 use Rattle.kf_words.specs.declared.view.MasterView.{MasterView}
 use Rattle.kf_words.specs.Callers.{Handle}
 use Rattle.kf_words.specs.Nodes.{MasterState, FoundFull, FoundRoom, IsLastKey, IsNewHold}
-use Rattle.kf_shared.specs.Locked.{Locked}
+use Rattle.kf_words.specs.declared.note.Note.TheVariants.{Did, Claimed}
+use Rattle.kf_shared.specs.Locked.{Locked, Adds, history}
 
 -- the keys of these holds, in their order
 abbrev pub keys_of : List Handle → List Key
@@ -44,6 +45,17 @@ DoomMarked old new key = MatchBool (is_linked old.state.tree key)
 abbrev pub DoomDone : Locked → Locked → Key → Type 0
 DoomDone old new key = MatchBool (is_linked old.state.tree key)
     (IsAccepted old.state new.state (doom_cause old.state.tree old.state.root key) (Doom key)) (new ≡ old)
+
+-- the doom was noted, where the node is linked; else no note was added
+abbrev pub DoomNoted : Locked → Locked → Key → Type 0
+DoomNoted old new key =
+    MatchBool (is_linked old.state.tree key) (Adds old new (Did (Doom key))) (history new ≡ history old)
+
+-- the same, and then the claim of the node
+abbrev pub SelfDoomNoted : Locked → Locked → Key → Type 0
+SelfDoomNoted old new key = MatchBool (is_linked old.state.tree key)
+    (history new ≡ (history old ++ Did (Doom key) ∷ []) ++ Claimed key ∷ [])
+    (history new ≡ history old ++ Claimed key ∷ [])
 
 -- a load found as many holds of a node of the subtree as there may be
 abbrev pub FoundFullIn : Tree → Key → MasterView → Type 0

@@ -10,12 +10,14 @@ ghost use Rattle.kf_tree.specs.Causes.{doom_cause};
 ghost use Rattle.kf_tree.specs.TreeLogs.{IsAccepted};
 ghost use Rattle.kf_words.specs.Callers.{Handle, IsSameSeat};
 ghost use Rattle.kf_words.specs.Nodes.{IsLastKey, KeepsNodes};
-ghost use Rattle.kf_shared.specs.Locked.{Unchanged, is_claimed};
-ghost use Rattle.kf_shared.specs.Removal.{keys_of, IsNew, AreHolds, DoomHolds, DoomDone, DoomMarked, DoomGivenUp, DoomRefused, HoldsInRefused, SelfRemovalRefused};
+ghost use Rattle.kf_words.specs.declared.note.Note.TheVariants.{Did};
+ghost use Rattle.kf_shared.specs.Locked.{Adds, Unchanged, is_claimed};
+ghost use Rattle.kf_shared.specs.Removal.{keys_of, IsNew, AreHolds, DoomHolds, DoomDone, DoomMarked, DoomNoted, SelfDoomNoted, DoomGivenUp, DoomRefused, HoldsInRefused, SelfRemovalRefused};
 
 use crate::locked::Locked;
 use crate::marking::doom_each;
 use crate::naming::Naming;
+use crate::noting::note_last;
 use crate::pinning::{alone, alone_with_room, full_or_no_memory, pin_each, release_each};
 use kf_core::{Key, Refusal};
 use kf_words::{Call, Hold, Parted};
@@ -101,6 +103,7 @@ impl<N: Naming> Locked<N> {
         ensures done { IfOk result
             (λ _. IsAccepted self.old.state self.new.state
             (doom_cause self.old.state.tree self.old.state.root hold.key) (Doom hold.key)) }
+        ensures noted { OnOk result (Adds self.old self.new (Did (Doom hold.key))) }
         ensures back { IfErr result (λ r. (r.0 ≡ hold) × (r.1 ≡ refusal_of.NoMemory)) }
         ensures same { OnErr result (self.new ≡ self.old) }
         ensures claims { self.new.claims ≡ self.old.claims }
@@ -108,6 +111,7 @@ impl<N: Naming> Locked<N> {
         let key = hold.key();
         match self.state.doom_in_order(key, order) {
             Ok(()) => {
+                note_last(&mut self.master, &self.state);
                 doom_each(&mut self.master, order);
                 pins.push_reserved(hold);
                 Ok(pins)
@@ -127,6 +131,7 @@ impl<N: Naming> Locked<N> {
         ensures holds { IfOk result (λ holds. AreHolds self.old.master hold holds.items) }
         ensures done { OnOk result (IsAccepted self.old.state self.new.state
             (doom_cause self.old.state.tree self.old.state.root hold.key) (Doom hold.key)) }
+        ensures noted { OnOk result (Adds self.old self.new (Did (Doom hold.key))) }
         ensures back { IfErr result (λ r. r.0 ≡ hold) }
         ensures given_up { IfErr result
             (λ r. DoomGivenUp self.old.state hold.key self.new.master.view r.1) }
@@ -150,6 +155,7 @@ impl<N: Naming> Locked<N> {
         ensures order { IfOk result (λ holds. DoomHolds self.old.state.tree hold holds.items) }
         ensures holds { IfOk result (λ holds. AreHolds self.old.master hold holds.items) }
         ensures done { IfOk result (λ _. DoomDone self.old self.new hold.key) }
+        ensures noted { OnOk result (DoomNoted self.old self.new hold.key) }
         ensures back { IfErr result (λ r. r.0 ≡ hold) }
         ensures refused { IfErr result (λ r. DoomRefused self.old self.new hold.key r.1) }
         ensures same { OnErr result (Unchanged self.old self.new) }
@@ -177,6 +183,7 @@ impl<N: Naming> Locked<N> {
         ensures holds { IfOk result (λ holds. AreHolds self.old.master hold holds.items) }
         ensures done { OnOk result (IsAccepted self.old.state self.new.state
             (doom_cause self.old.state.tree self.old.state.root hold.key) (Doom hold.key)) }
+        ensures noted { OnOk result (Adds self.old self.new (Did (Doom hold.key))) }
         ensures room { IfOk result
             (λ holds. vec_len receipts.new + vec_len holds ≤ vec_capacity receipts.new) }
         ensures receipts { receipts.new.items ≡ receipts.old.items }
@@ -212,6 +219,7 @@ impl<N: Naming> Locked<N> {
         ensures order { IfOk result (λ holds. DoomHolds self.old.state.tree hold holds.items) }
         ensures holds { IfOk result (λ holds. AreHolds self.old.master hold holds.items) }
         ensures done { IfOk result (λ _. DoomDone self.old self.new hold.key) }
+        ensures noted { OnOk result (DoomNoted self.old self.new hold.key) }
         ensures room { IfOk result
             (λ holds. vec_len receipts.new + vec_len holds ≤ vec_capacity receipts.new) }
         ensures receipts { receipts.new.items ≡ receipts.old.items }
@@ -239,6 +247,7 @@ impl<N: Naming> Locked<N> {
             (λ holds. (hold : Handle) × (hold.key ≡ call.now.key) × IsNew self.old.master hold
             × AreHolds self.old.master hold holds.items × DoomHolds self.old.state.tree hold holds.items) }
         ensures done { OnOk result (DoomMarked self.old self.new call.now.key) }
+        ensures noted { OnOk result (DoomNoted self.old self.new call.now.key) }
         ensures room { IfOk result
             (λ holds. vec_len receipts.new + vec_len holds ≤ vec_capacity receipts.new) }
         ensures receipts { receipts.new.items ≡ receipts.old.items }
@@ -277,6 +286,7 @@ impl<N: Naming> Locked<N> {
         ensures claimed { OnOk result
             (self.new.claims ≡ slice_set self.old.claims call.old.key.slot call.old.key.generation) }
         ensures done { IfOk result (λ _. DoomMarked self.old self.new call.old.key) }
+        ensures noted { OnOk result (SelfDoomNoted self.old self.new call.old.key) }
         ensures room { IfOk result (λ r. vec_len receipts.new + vec_len r.1 ≤ vec_capacity receipts.new) }
         ensures receipts { receipts.new.items ≡ receipts.old.items }
         ensures refused { IfErr result

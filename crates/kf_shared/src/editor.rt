@@ -2,7 +2,9 @@
 ghost use Rattle.std.specs.Prelude.{◌≡◌, ◌+◌, ◌<◌, IfOk, IfErr, OnOk, OnErr, None, true, false, not, slice_set, length, List};
 ghost use Rattle.kf_core.specs.declared.key.Key.{Key};
 ghost use Rattle.kf_core.specs.declared.command.Command.{Command};
-ghost use Rattle.kf_core.specs.declared.command.Command.TheVariants.{Activate, Rename, Hide};
+ghost use Rattle.kf_core.specs.declared.command.Command.TheVariants.{Create, Activate, Unlink, Rename, Hide, Show};
+ghost use Rattle.kf_words.specs.declared.note.Note.TheVariants.{Did, Compacted};
+ghost use Rattle.kf_shared.specs.Noted.{KeepsWords};
 ghost use Rattle.kf_core.specs.declared.refusal.Refusal.TheVariants as refusal_of;
 ghost use Rattle.kf_core.specs.declared.caller.Phase.TheVariants as phase_of;
 ghost use Rattle.kf_core.specs.Tree.{is_linked};
@@ -16,9 +18,9 @@ ghost use Rattle.kf_words.specs.Nodes.{KeepsNodes, IsVacant, UnlinkAnswer, WasPi
 ghost use Rattle.kf_words.specs.Runs.{WasAHide, WasAShow};
 ghost use Rattle.kf_live.specs.Live.{Say};
 ghost use Rattle.kf_live.specs.Lookers.{links_seen};
-ghost use Rattle.kf_shared.specs.Locked.{IsWhole, Created, CreateRefused, BornLowest, move_cause, IsHoldOfNode, HoldRefused, Unchanged, UnlinkDone, UnlinkRefused, is_claimed};
-ghost use Rattle.kf_shared.specs.Hiding.{hold_cause, HideRefused, ShowDone};
-ghost use Rattle.kf_shared.specs.Removal.{IsNew, AreHolds, DoomHolds, DoomDone, DoomMarked, DoomRefused, SelfRemovalRefused};
+ghost use Rattle.kf_shared.specs.Locked.{IsWhole, Adds, Created, CreateRefused, BornLowest, move_cause, IsHoldOfNode, HoldRefused, Unchanged, UnlinkDone, UnlinkRefused, is_claimed};
+ghost use Rattle.kf_shared.specs.Hiding.{hold_cause, HideRefused, ShowDone, ShowNoted};
+ghost use Rattle.kf_shared.specs.Removal.{IsNew, AreHolds, DoomHolds, DoomDone, DoomMarked, DoomNoted, SelfDoomNoted, DoomRefused, SelfRemovalRefused};
 
 use crate::locked::Locked;
 use crate::naming::Naming;
@@ -104,6 +106,8 @@ impl<'a, N: Naming> Editor<'a, N> {
         ensures accepted { IfOk result (λ key. Created self.old self.new parent name.now node live key) }
         ensures next { IfOk result (λ key. IsVacant self.old.master.view key) }
         ensures lowest { IfOk result (λ key. BornLowest self.old.master.view self.new.master.view key.slot) }
+        ensures noted { IfOk result
+            (λ key. Adds self.old self.new (Did (Create key parent name.now node live))) }
         ensures refused { IfErr result
             (λ refusal. CreateRefused self.old self.new parent name.now node refusal) }
         ensures same { OnErr result (Unchanged self.old self.new) }
@@ -119,6 +123,7 @@ impl<'a, N: Naming> Editor<'a, N> {
         ensures accepted { IfOk result
             (λ _. IsAccepted self.old.state self.new.state (linked_cause self.old.state.tree key)
             (Activate key)) }
+        ensures noted { OnOk result (Adds self.old self.new (Did (Activate key))) }
         ensures refused { IfErr result
             (λ refusal. IsRefused self.old.state self.new.state
             (linked_cause self.old.state.tree key) refusal) }
@@ -142,13 +147,17 @@ impl<'a, N: Naming> Editor<'a, N> {
         ensures accepted { IfOk result (λ _. is_there_already self.old.state.tree key dir name.now ≡ false →
             IsAccepted self.old.state self.new.state (move_cause self.old key dir name.now)
             (Rename key dir name.now)) }
+        ensures noted { IfOk result (λ _. is_there_already self.old.state.tree key dir name.now ≡ false →
+            Adds self.old self.new (Did (Rename key dir name.now))) }
+        ensures unnoted { IfOk result (λ _. is_there_already self.old.state.tree key dir name.now ≡ true →
+            self.new.master ≡ self.old.master) }
         ensures refused { IfErr result
             (λ refusal. IsRefused self.old.state self.new.state
             (move_cause self.old key dir name.now) refusal) }
         ensures same_place { IfErr result (λ refusal. refusal ≡ refusal_of.NoMemory →
             is_there_already self.old.state.tree key dir name.now ≡ false) }
         ensures claims { self.new.claims ≡ self.old.claims }
-        ensures words { self.new.master ≡ self.old.master }
+        ensures words { KeepsWords self.old.master self.new.master }
     {
         self.guard.rename(key, dir, name)
     }
@@ -182,6 +191,7 @@ impl<'a, N: Naming> Editor<'a, N> {
         ensures order { IfOk result (λ holds. DoomHolds self.old.state.tree hold holds.items) }
         ensures holds { IfOk result (λ holds. AreHolds self.old.master hold holds.items) }
         ensures done { IfOk result (λ _. DoomDone self.old self.new hold.key) }
+        ensures noted { OnOk result (DoomNoted self.old self.new hold.key) }
         ensures back { IfErr result (λ r. r.0 ≡ hold) }
         ensures refused { IfErr result (λ r. DoomRefused self.old self.new hold.key r.1) }
         ensures same { OnErr result (Unchanged self.old self.new) }
@@ -203,6 +213,8 @@ impl<'a, N: Naming> Editor<'a, N> {
         ensures drained { IfOk result
             (λ unlinked. unlinked ≡ true →
             UnlinkAnswer self.old.master.view drained.now.key.slot true self.new.master.view) }
+        ensures noted { IfOk result
+            (λ unlinked. unlinked ≡ true → Adds self.old self.new (Did (Unlink drained.now.key))) }
         ensures still_linked { IfErr result (λ _. is_linked self.old.state.tree drained.now.key ≡ true) }
         ensures refused { IfErr result (λ refusal. UnlinkRefused self.old self.new drained.now.key refusal) }
         ensures claims { self.new.claims ≡ self.old.claims }
@@ -226,9 +238,10 @@ impl<'a, N: Naming> Editor<'a, N> {
         ensures accepted { IfOk result
             (λ _. IsAccepted self.old.state self.new.state (hold_cause self.old.state.tree hold)
             (Hide hold.key)) }
+        ensures noted { OnOk result (Adds self.old self.new (Did (Hide hold.key))) }
         ensures refused { IfErr result (λ r. HideRefused self.old.state.tree hold r.0 r.1) }
         ensures same { OnErr result (Unchanged self.old self.new) }
-        ensures words { self.new.master ≡ self.old.master }
+        ensures words { KeepsWords self.old.master self.new.master }
         ensures claims { self.new.claims ≡ self.old.claims }
     {
         self.guard.hide(hold)
@@ -244,7 +257,8 @@ impl<'a, N: Naming> Editor<'a, N> {
         ensures hold { IsSameSeat hidden result × WasShown hidden result }
         ensures made { WasAShow (seat_view hidden) (seat_view result) }
         ensures done { ShowDone self.old self.new hidden.key }
-        ensures words { self.new.master ≡ self.old.master }
+        ensures noted { ShowNoted self.old self.new hidden.key }
+        ensures words { KeepsWords self.old.master self.new.master }
         ensures claims { self.new.claims ≡ self.old.claims }
     {
         self.guard.show(hidden)
@@ -256,9 +270,10 @@ impl<'a, N: Naming> Editor<'a, N> {
     /// Refusal: NoMemory. Then nothing is changed.
     pub fn compact(&mut self) -> Result<(), Refusal>
         ensures compacted { IfOk result (λ _. IsCompacted self.old.state self.new.state) }
+        ensures noted { OnOk result (Adds self.old self.new Compacted) }
         ensures refused { IfErr result (λ refusal. refusal ≡ refusal_of.NoMemory) }
         ensures same { OnErr result (self.new ≡ self.old) }
-        ensures words { self.new.master ≡ self.old.master }
+        ensures words { KeepsWords self.old.master self.new.master }
         ensures claims { self.new.claims ≡ self.old.claims }
     {
         self.guard.compact()
@@ -283,6 +298,7 @@ impl<'a, N: Naming> Editor<'a, N> {
         ensures order { IfOk result (λ removing. DoomHolds self.old.state.tree hold removing) }
         ensures holds { IfOk result (λ removing. AreHolds self.old.master hold removing) }
         ensures done { IfOk result (λ _. DoomDone self.old self.new hold.key) }
+        ensures noted { OnOk result (DoomNoted self.old self.new hold.key) }
         ensures was_whole { IsWhole N.table self.old }
         ensures whole { IsWhole N.table self.new }
         ensures back { IfErr result (λ r. r.0 ≡ hold) }
@@ -324,6 +340,7 @@ impl<'a, N: Naming> Editor<'a, N> {
         ensures claimed { OnOk result
             (self.new.claims ≡ slice_set self.old.claims call.old.key.slot call.old.key.generation) }
         ensures done { IfOk result (λ _. DoomMarked self.old self.new call.old.key) }
+        ensures noted { OnOk result (SelfDoomNoted self.old self.new call.old.key) }
         ensures was_whole { IsWhole N.table self.old }
         ensures whole { IsWhole N.table self.new }
         ensures refused { IfErr result

@@ -1,15 +1,18 @@
 //! Files that are hidden and shown again: the tree's part and the words' part of each, under the lock.
-ghost use Rattle.std.specs.Prelude.{◌≡◌, IfOk, IfErr, OnErr, Option};
+ghost use Rattle.std.specs.Prelude.{◌≡◌, IfOk, IfErr, OnOk, OnErr, Option};
 ghost use Rattle.kf_core.specs.declared.command.Command.TheVariants.{Hide};
 ghost use Rattle.kf_core.specs.declared.refusal.Refusal.TheVariants as refusal_of;
 ghost use Rattle.kf_tree.specs.TreeLogs.{IsAccepted, IsCompacted};
 ghost use Rattle.kf_words.specs.Callers.{IsSameSeat, WasHidden, WasShown, seat_view};
 ghost use Rattle.kf_words.specs.Runs.{WasAHide, WasAShow};
-ghost use Rattle.kf_shared.specs.Locked.{Unchanged};
-ghost use Rattle.kf_shared.specs.Hiding.{kind_cause, hold_cause, HideRefused, ShowDone};
+ghost use Rattle.kf_words.specs.declared.note.Note.TheVariants.{Did, Compacted};
+ghost use Rattle.kf_shared.specs.Locked.{Adds, Unchanged};
+ghost use Rattle.kf_shared.specs.Noted.{KeepsWords};
+ghost use Rattle.kf_shared.specs.Hiding.{kind_cause, hold_cause, HideRefused, ShowDone, ShowNoted};
 
 use crate::locked::Locked;
 use crate::naming::Naming;
+use crate::noting::{note_compaction, note_last};
 use kf_core::{Node, Refusal};
 use kf_words::{Hidden, Hiding, Hold};
 
@@ -33,9 +36,10 @@ impl<N: Naming> Locked<N> {
         ensures accepted { IfOk result
             (λ _. IsAccepted self.old.state self.new.state (hold_cause self.old.state.tree hold)
             (Hide hold.key)) }
+        ensures noted { OnOk result (Adds self.old self.new (Did (Hide hold.key))) }
         ensures refused { IfErr result (λ r. HideRefused self.old.state.tree hold r.0 r.1) }
         ensures same { OnErr result (Unchanged self.old self.new) }
-        ensures words { self.new.master ≡ self.old.master }
+        ensures words { KeepsWords self.old.master self.new.master }
         ensures claims { self.new.claims ≡ self.old.claims }
     {
         if let Some(refusal) = kind_fault(hold.node()) {
@@ -48,6 +52,7 @@ impl<N: Naming> Locked<N> {
         match hold.hide() {
             Ok(hiding) => {
                 self.state.hide(key);
+                note_last(&mut self.master, &self.state);
                 Ok(hiding)
             }
             Err(back) => Err((back, Refusal::Busy)),
@@ -60,23 +65,29 @@ impl<N: Naming> Locked<N> {
         ensures hold { IsSameSeat hidden result × WasShown hidden result }
         ensures made { WasAShow (seat_view hidden) (seat_view result) }
         ensures done { ShowDone self.old self.new hidden.key }
-        ensures words { self.new.master ≡ self.old.master }
+        ensures noted { ShowNoted self.old self.new hidden.key }
+        ensures words { KeepsWords self.old.master self.new.master }
         ensures claims { self.new.claims ≡ self.old.claims }
     {
         let key = hidden.key();
         let hold = hidden.show();
-        self.state.show(key);
+        if self.state.show(key) {
+            note_last(&mut self.master, &self.state);
+        }
         hold
     }
 
     /// Puts the canonical list of this tree in place of the stored commands.
     pub fn compact(&mut self) -> Result<(), Refusal>
         ensures compacted { IfOk result (λ _. IsCompacted self.old.state self.new.state) }
+        ensures noted { OnOk result (Adds self.old self.new Compacted) }
         ensures refused { IfErr result (λ refusal. refusal ≡ refusal_of.NoMemory) }
         ensures same { OnErr result (self.new ≡ self.old) }
-        ensures words { self.new.master ≡ self.old.master }
+        ensures words { KeepsWords self.old.master self.new.master }
         ensures claims { self.new.claims ≡ self.old.claims }
     {
-        self.state.compact()
+        self.state.compact()?;
+        note_compaction(&mut self.master);
+        Ok(())
     }
 }

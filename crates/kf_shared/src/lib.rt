@@ -23,6 +23,7 @@ mod laws;
 mod locked;
 mod marking;
 mod naming;
+mod noting;
 mod pinning;
 mod reader;
 mod remove;

@@ -1,7 +1,9 @@
 //! What the tree lock keeps, and its commands on one node.
 ghost use Rattle.std.specs.Prelude.{◌≡◌, ◌<◌, IfOk, IfErr, OnOk, OnErr, Some, None, true, false, not, slice_set};
 ghost use Rattle.kf_core.specs.declared.key.Key.{Key};
-ghost use Rattle.kf_core.specs.declared.command.Command.TheVariants.{Activate, Rename};
+ghost use Rattle.kf_core.specs.declared.command.Command.TheVariants.{Create, Activate, Rename, Unlink};
+ghost use Rattle.kf_words.specs.declared.note.Note.TheVariants.{Did, Claimed};
+ghost use Rattle.kf_shared.specs.Noted.{KeepsWords};
 ghost use Rattle.kf_core.specs.declared.refusal.Refusal.TheVariants as refusal_of;
 ghost use Rattle.kf_core.specs.Tree.{is_linked};
 ghost use Rattle.kf_tree.specs.Causes.{linked_cause};
@@ -10,10 +12,11 @@ ghost use Rattle.kf_tree.specs.TreeLogs.{IsAccepted, IsRefused};
 ghost use Rattle.kf_words.specs.Nodes.{KeepsNodes, IsVacant, UnlinkAnswer, WasPinned};
 ghost use Rattle.kf_live.specs.Live.{Say};
 ghost use Rattle.kf_live.specs.Lookers.{links_seen};
-ghost use Rattle.kf_shared.specs.Locked.{IsWhole, Created, CreateRefused, BornLowest, move_cause, IsHoldOfNode, HoldRefused, Unchanged, UnlinkDone, UnlinkRefused, is_claimed, was_given};
+ghost use Rattle.kf_shared.specs.Locked.{IsWhole, Adds, Created, CreateRefused, BornLowest, move_cause, IsHoldOfNode, HoldRefused, Unchanged, UnlinkDone, UnlinkRefused, is_claimed, was_given};
 
 use crate::marking::rise_each;
 use crate::naming::Naming;
+use crate::noting::{note_claim, note_last};
 use kf_core::{Key, Node, Refusal};
 use kf_live::{LiveTree, Looker};
 use kf_tree::State;
@@ -33,14 +36,32 @@ pub struct Locked<N: Naming> {
 }
 
 impl<N: Naming> Model for Locked<N> {
+    ghost use Rattle.kf_words.specs.Notes.{history_of};
     ghost use Rattle.kf_shared.specs.Locked.{Locked, IsTied};
+    ghost use Rattle.kf_shared.specs.Noted.{IsNoted};
 
     ghost Value = { Locked };
 
     ghost view = { λ s. record { state = s.state; master = s.master; claims = s.claims.items } };
 
     ghost invariant = { λ s. IsTied N.table
-        (record { state = s.state; master = s.master; claims = s.claims.items }) };
+        (record { state = s.state; master = s.master; claims = s.claims.items })
+        × IsNoted s.state s.claims.items (history_of s.master.seen) };
+}
+
+/// Puts the claim of a key into the claims by slot. False where it was there.
+fn put_claim(claims: &mut Vec<u32>, key: Key) -> bool
+    ensures first { result ≡ not (is_claimed claims.old.items key) }
+    ensures claimed { claims.new.items ≡ slice_set claims.old.items key.slot key.generation }
+{
+    match claims.get_mut(key.slot as usize) {
+        Some(last) => {
+            let first = *last != key.generation;
+            *last = key.generation;
+            first
+        }
+        None => true,
+    }
 }
 
 impl<N: Naming> Locked<N> {
@@ -79,6 +100,8 @@ impl<N: Naming> Locked<N> {
         ensures accepted { IfOk result (λ key. Created self.old self.new parent name.now node live key) }
         ensures next { IfOk result (λ key. IsVacant self.old.master.view key) }
         ensures lowest { IfOk result (λ key. BornLowest self.old.master.view self.new.master.view key.slot) }
+        ensures noted { IfOk result
+            (λ key. Adds self.old self.new (Did (Create key parent name.now node live))) }
         ensures refused { IfErr result
             (λ refusal. CreateRefused self.old self.new parent name.now node refusal) }
         ensures same { OnErr result (Unchanged self.old self.new) }
@@ -93,6 +116,7 @@ impl<N: Naming> Locked<N> {
             return Err(Refusal::NoSpace);
         };
         self.state.create_at(key, parent, name, node, live)?;
+        note_last(&mut self.master, &self.state);
         self.master.born(key, node);
         if live {
             self.master.activate(key);
@@ -105,6 +129,7 @@ impl<N: Naming> Locked<N> {
         ensures accepted { IfOk result
             (λ _. IsAccepted self.old.state self.new.state (linked_cause self.old.state.tree key)
             (Activate key)) }
+        ensures noted { OnOk result (Adds self.old self.new (Did (Activate key))) }
         ensures refused { IfErr result
             (λ refusal. IsRefused self.old.state self.new.state
             (linked_cause self.old.state.tree key) refusal) }
@@ -113,6 +138,7 @@ impl<N: Naming> Locked<N> {
     {
         let order = self.state.post_order(key)?;
         self.state.activate_in_order(key, order.as_slice())?;
+        note_last(&mut self.master, &self.state);
         rise_each(&mut self.master, order.as_slice());
         Ok(())
     }
@@ -126,15 +152,25 @@ impl<N: Naming> Locked<N> {
         ensures accepted { IfOk result (λ _. is_there_already self.old.state.tree key dir name.now ≡ false →
             IsAccepted self.old.state self.new.state (move_cause self.old key dir name.now)
             (Rename key dir name.now)) }
+        ensures noted { IfOk result (λ _. is_there_already self.old.state.tree key dir name.now ≡ false →
+            Adds self.old self.new (Did (Rename key dir name.now))) }
+        ensures unnoted { IfOk result (λ _. is_there_already self.old.state.tree key dir name.now ≡ true →
+            self.new.master ≡ self.old.master) }
         ensures refused { IfErr result
             (λ refusal. IsRefused self.old.state self.new.state
             (move_cause self.old key dir name.now) refusal) }
         ensures same_place { IfErr result (λ refusal. refusal ≡ refusal_of.NoMemory →
             is_there_already self.old.state.tree key dir name.now ≡ false) }
         ensures claims { self.new.claims ≡ self.old.claims }
-        ensures words { self.new.master ≡ self.old.master }
+        ensures words { KeepsWords self.old.master self.new.master }
+        ensures kept { OnErr result (self.new.master ≡ self.old.master) }
     {
-        self.state.rename(key, dir, name)
+        let before = self.state.state().stored();
+        self.state.rename(key, dir, name)?;
+        if self.state.state().stored() != before {
+            note_last(&mut self.master, &self.state);
+        }
+        Ok(())
     }
 
     /// A new hold of a linked node.
@@ -160,6 +196,8 @@ impl<N: Naming> Locked<N> {
         ensures drained { IfOk result
             (λ unlinked. unlinked ≡ true →
             UnlinkAnswer self.old.master.view drained.now.key.slot true self.new.master.view) }
+        ensures noted { IfOk result
+            (λ unlinked. unlinked ≡ true → Adds self.old self.new (Did (Unlink drained.now.key))) }
         ensures still_linked { IfErr result (λ _. is_linked self.old.state.tree drained.now.key ≡ true) }
         ensures refused { IfErr result (λ refusal. UnlinkRefused self.old self.new drained.now.key refusal) }
         ensures claims { self.new.claims ≡ self.old.claims }
@@ -172,6 +210,7 @@ impl<N: Naming> Locked<N> {
             return Err(Refusal::Busy);
         }
         self.state.unlink(key)?;
+        note_last(&mut self.master, &self.state);
         Ok(true)
     }
 
@@ -180,16 +219,12 @@ impl<N: Naming> Locked<N> {
         ensures first { result ≡ not (is_claimed self.old.claims key) }
         ensures claimed { self.new.claims ≡ slice_set self.old.claims key.slot key.generation }
         ensures state { self.new.state ≡ self.old.state }
-        ensures master { self.new.master ≡ self.old.master }
+        ensures master { KeepsWords self.old.master self.new.master }
+        ensures noted { Adds self.old self.new (Claimed key) }
     {
-        match self.claims.get_mut(key.slot as usize) {
-            Some(last) => {
-                let first = *last != key.generation;
-                *last = key.generation;
-                first
-            }
-            None => true,
-        }
+        let first = put_claim(&mut self.claims, key);
+        note_claim(&mut self.master, key);
+        first
     }
 
     /// Whether a key was given in this tree, so that it names a node that is linked, or was. It makes no word

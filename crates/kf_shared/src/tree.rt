@@ -28,14 +28,17 @@ pub struct NewTree {
 }
 
 impl Model for NewTree {
+    ghost use Rattle.kf_words.specs.Notes.{history_of};
     ghost use Rattle.kf_shared.specs.Locked.{Locked, IsTied};
+    ghost use Rattle.kf_shared.specs.Noted.{IsNoted};
 
     ghost Value = { Locked };
 
     ghost view = { λ s. record { state = s.state; master = s.master; claims = s.claims.items } };
 
     ghost invariant = { λ s. IsTied s.master.table
-        (record { state = s.state; master = s.master; claims = s.claims.items }) };
+        (record { state = s.state; master = s.master; claims = s.claims.items })
+        × IsNoted s.state s.claims.items (history_of s.master.seen) };
 }
 
 /// No slot's node is claimed: generation 0 is that of no node.

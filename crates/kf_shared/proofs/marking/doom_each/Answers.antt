@@ -6,7 +6,7 @@ use Rattle.kf_shared.proofs.Ties.{only_after}
 use Rattle.kf_shared.proofs.marking.doom_each.Goals as goal
 
 pub loop-key-init : goal.loop-key-init
-loop-key-init c = (changed_none doomed_if doomed_marking c.args.master.now.view.slots, record { table = refl; nodes = refl; slots = refl })
+loop-key-init c = (changed_none doomed_if doomed_marking c.args.master.now.view.slots, record { table = refl; nodes = refl; slots = refl; history = refl })
 
 pub doom_one-requires : goal.doom_one-requires
 doom_one-requires c = record {

@@ -6,7 +6,7 @@ use Rattle.kf_shared.proofs.Ties.{only_after}
 use Rattle.kf_shared.proofs.marking.rise_each.Goals as goal
 
 pub loop-key-init : goal.loop-key-init
-loop-key-init c = (changed_none risen_if risen_marking c.args.master.now.view.slots, record { table = refl; nodes = refl; slots = refl })
+loop-key-init c = (changed_none risen_if risen_marking c.args.master.now.view.slots, record { table = refl; nodes = refl; slots = refl; history = refl })
 
 pub rise_one-requires : goal.rise_one-requires
 rise_one-requires c = record {

@@ -4,7 +4,7 @@ use Rattle.kf_words.specs.Nodes.{IsLastKey}
 use Rattle.kf_shared.specs.Locked.{Locked}
 use Rattle.kf_shared.specs.Removal.{HoldsBelowRefused}
 use Rattle.kf_shared.proofs.Rooms.{in_refused, top_full, last_within}
-use Rattle.kf_shared.proofs.Ties.{tied_master}
+use Rattle.kf_shared.proofs.Told.{held_master}
 use Rattle.kf_shared.proofs.locked.Locked.memory_last.Goals as goal
 
 pub returns-then-not-room-clause-memory : goal.returns-then-not-room-clause-memory
@@ -14,8 +14,8 @@ returns-then-not-room-clause-memory g c e =
 
 pub invariant_of-self-2 : goal.invariant_of-self-2
 invariant_of-self-2 g c =
-    tied_master g.N.Naming.table c.self.inside.state c.room.new.self c.full_or_no_memory.new.master c.self.inside.claims.items
-    (tied_master g.N.Naming.table c.self.inside.state c.self.inside.master c.room.new.self c.self.inside.claims.items c.self.invariant c.room.ensures.kept) c.full_or_no_memory.ensures.kept
+    held_master g.N.Naming.table c.self.inside.state c.room.new.self c.full_or_no_memory.new.master c.self.inside.claims.items
+    (held_master g.N.Naming.table c.self.inside.state c.self.inside.master c.room.new.self c.self.inside.claims.items c.self.invariant c.room.ensures.kept) c.full_or_no_memory.ensures.kept
 
 pub returns-clause-memory : goal.returns-clause-memory
 returns-clause-memory g c e =

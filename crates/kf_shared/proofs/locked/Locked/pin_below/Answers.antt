@@ -1,22 +1,23 @@
 use Rattle.std.proofs.Common.{rules, ap, take, [], ◌∷◌, ◌-◌}
 use Rattle.std.proofs.lemmas.Result.{err_from_is_err_and}
 use Rattle.kf_shared.specs.Locked.{Locked}
-use Rattle.kf_shared.proofs.Ties.{tied_master, linked_in_words}
+use Rattle.kf_shared.proofs.Ties.{linked_in_words}
+use Rattle.kf_shared.proofs.Told.{held_master}
 use Rattle.kf_shared.proofs.Ends.{all_but_last}
 use Rattle.kf_shared.proofs.Pins.{pins_given_up}
 use Rattle.kf_shared.proofs.locked.Locked.pin_below.Goals as goal
 
 pub pin_each-requires : goal.pin_each-requires
 pin_each-requires g c = record {
-  linked = linked_in_words c.self.inside.master.view.slots c.self.inside.state.tree c.args.key c.in_ok-order.order.items c.in_ok-order.ensures.last.0 (c.args.key ∷ []) _ c.self.invariant.marks c.in_ok-order.ensures.ordered
+  linked = linked_in_words c.self.inside.master.view.slots c.self.inside.state.tree c.args.key c.in_ok-order.order.items c.in_ok-order.ensures.last.0 (c.args.key ∷ []) _ c.self.invariant.0.marks c.in_ok-order.ensures.ordered
       c.in_ok-order.ensures.last.1 (all_but_last c.in_ok-order.order.items c.in_ok-order.ensures.last.0 c.as_slice.result.now c.args.key c.len.result c.in_ok-order.ensures.last.1 c.as_slice.ensures.value (search rules));
 }
 
 pub invariant_of-self : goal.invariant_of-self
-invariant_of-self g c = tied_master g.N.Naming.table c.self.inside.state c.self.inside.master c.pin_each.new.master c.self.inside.claims.items c.self.invariant c.pin_each.ensures.kept
+invariant_of-self g c = held_master g.N.Naming.table c.self.inside.state c.self.inside.master c.pin_each.new.master c.self.inside.claims.items c.self.invariant c.pin_each.ensures.kept
 
 pub invariant_of-self-2 : goal.invariant_of-self-2
-invariant_of-self-2 g c = tied_master g.N.Naming.table c.self.inside.state c.self.inside.master c.pin_each.new.master c.self.inside.claims.items c.self.invariant c.pin_each.ensures.kept
+invariant_of-self-2 g c = held_master g.N.Naming.table c.self.inside.state c.self.inside.master c.pin_each.new.master c.self.inside.claims.items c.self.invariant c.pin_each.ensures.kept
 
 pub returns-in_err-pins-clause-given_up : goal.returns-in_err-pins-clause-given_up
 returns-in_err-pins-clause-given_up g c =

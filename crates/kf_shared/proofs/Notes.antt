@@ -1,0 +1,157 @@
+-- One note more in the history: the tree, the claims and the stored commands are still those of it.
+use Rattle.std.proofs.Common.{◌≡◌, ◌⊎◌, inl, inr, ℕ, Bool, true, false, List, [], ◌∷◌, ◌++◌, length, refl, sym, ap, ◌∙◌, subst, ⊎_elim, append_assoc, slice_set, replicate}
+use Rattle.std.proofs.lemmas.List.{append-nil}
+use Rattle.std.specs.Prelude.{Option}
+use Rattle.kf_core.specs.declared.key.Key.{Key}
+use Rattle.kf_core.specs.declared.command.Command.{Command}
+use Rattle.kf_core.specs.declared.refusal.Refusal.{Refusal}
+use Rattle.kf_core.specs.Commands.{after, replay, root_alone}
+use Rattle.kf_core.specs.Tree.{Tree}
+use Rattle.kf_tree.specs.Canonical.{IsCanonical}
+use Rattle.kf_tree.specs.TreeLogs.{TreeLog, IsAccepted, IsCompacted, IsNew}
+use Rattle.kf_tree.proofs.Opening.{length_after}
+use Rattle.kf_words.specs.declared.note.Note.{Note}
+use Rattle.kf_words.specs.declared.note.Note.TheVariants.{Did, Claimed, Compacted}
+use Rattle.kf_shared.specs.Noted.{commands_of, tree_of, claims_after, claims_from, claims_of, compacts, IsStored, IsStoredSince, IsNoted, last_stored}
+
+commands_did : (notes : List Note) (c : Command) → commands_of (notes ++ Did c ∷ []) ≡ commands_of notes ++ c ∷ []
+commands_did [] c = refl
+commands_did (Did d ∷ notes) c = ap (λ l. d ∷ l) (commands_did notes c)
+commands_did (Claimed key ∷ notes) c = commands_did notes c
+commands_did (Compacted ∷ notes) c = commands_did notes c
+
+commands_claimed : (notes : List Note) (key : Key) → commands_of (notes ++ Claimed key ∷ []) ≡ commands_of notes
+commands_claimed [] key = refl
+commands_claimed (Did d ∷ notes) key = ap (λ l. d ∷ l) (commands_claimed notes key)
+commands_claimed (Claimed k ∷ notes) key = commands_claimed notes key
+commands_claimed (Compacted ∷ notes) key = commands_claimed notes key
+
+commands_compacted : (notes : List Note) → commands_of (notes ++ Compacted ∷ []) ≡ commands_of notes
+commands_compacted [] = refl
+commands_compacted (Did d ∷ notes) = ap (λ l. d ∷ l) (commands_compacted notes)
+commands_compacted (Claimed k ∷ notes) = commands_compacted notes
+commands_compacted (Compacted ∷ notes) = commands_compacted notes
+
+compacts_did : (notes : List Note) (c : Command) → compacts (notes ++ Did c ∷ []) ≡ compacts notes
+compacts_did [] c = refl
+compacts_did (Did d ∷ notes) c = compacts_did notes c
+compacts_did (Claimed key ∷ notes) c = compacts_did notes c
+compacts_did (Compacted ∷ notes) c = refl
+
+compacts_claimed : (notes : List Note) (key : Key) → compacts (notes ++ Claimed key ∷ []) ≡ compacts notes
+compacts_claimed [] key = refl
+compacts_claimed (Did d ∷ notes) key = compacts_claimed notes key
+compacts_claimed (Claimed k ∷ notes) key = compacts_claimed notes key
+compacts_claimed (Compacted ∷ notes) key = refl
+
+claims_more : (claims : List ℕ) (notes : List Note) (note : Note) → claims_from claims (notes ++ note ∷ []) ≡ claims_after (claims_from claims notes) note
+claims_more claims [] note = refl
+claims_more claims (n ∷ notes) note = claims_more (claims_after claims n) notes note
+
+replay_more : (t : Tree) (cs : List Command) (c : Command) → replay t (cs ++ c ∷ []) ≡ after (replay t cs) c
+replay_more t [] c = refl
+replay_more t (d ∷ cs) c = replay_more (after t d) cs c
+
+pub last_stored_more : (cs : List Command) (c : Command) → last_stored (cs ++ c ∷ []) ≡ Did c
+last_stored_more [] c = refl
+last_stored_more (d ∷ []) c = refl
+last_stored_more (d ∷ e ∷ cs) c = last_stored_more (e ∷ cs) c
+
+-- a longer history of which the tree is the same
+module _ (s s' : TreeLog) (root : s'.root ≡ s.root) (long : length s'.tree ≡ length s.tree) where
+  tree_here : (notes : List Note) → tree_of (length s.tree) s.root notes ≡ tree_of (length s'.tree) s'.root notes
+  tree_here notes = ap (λ n. tree_of n s.root notes) (sym long) ∙ ap (λ k. tree_of (length s'.tree) k notes) (sym root)
+
+  claims_here : (notes : List Note) → claims_of (length s.tree) notes ≡ claims_of (length s'.tree) notes
+  claims_here notes = ap (λ n. claims_of n notes) (sym long)
+
+pub noted_did : (s s' : TreeLog) (claims : List ℕ) (notes : List Note) (cause : Option Refusal) (c : Command) → IsNoted s claims notes → IsAccepted s s' cause c → IsNoted s' claims (notes ++ Did c ∷ [])
+noted_did s s' claims notes cause c t a = record {
+  tree = a.changed ∙ ap (λ x. after x c) t.tree ∙ sym (replay_more (root_alone (length s.tree) s.root) (commands_of notes) c)
+      ∙ ap (replay (root_alone (length s.tree) s.root)) (sym (commands_did notes c)) ∙ tree_here s s' a.same_root long (notes ++ Did c ∷ []);
+  claimed = t.claimed ∙ sym (claims_more (replicate (length s.tree) 0) notes (Did c)) ∙ claims_here s s' a.same_root long (notes ++ Did c ∷ []);
+  stored = ⊎_elim
+      (λ (all : (compacts notes ≡ false) × (s.commands ≡ commands_of notes)).
+      inl (compacts_did notes c ∙ all.0, a.stored ∙ ap (λ l. l ++ c ∷ []) all.1 ∙ sym (commands_did notes c)))
+      (λ (x : IsStoredSince s notes). inr (record {
+        before = x.before;
+        later = x.later ++ Did c ∷ [];
+        canonical = x.canonical;
+        history = ap (λ l. l ++ Did c ∷ []) x.history ∙ append_assoc x.before (Compacted ∷ x.later) (Did c ∷ []);
+        last = compacts_did x.later c ∙ x.last;
+        lists = subst (λ y. IsCanonical y x.canonical) (tree_here s s' a.same_root long x.before) x.lists;
+        stored = a.stored ∙ ap (λ l. l ++ c ∷ []) x.stored ∙ append_assoc x.canonical (commands_of x.later) (c ∷ []) ∙ ap (λ l. x.canonical ++ l) (sym (commands_did x.later c));
+      }))
+      t.stored;
+}
+  where
+    long : length s'.tree ≡ length s.tree
+    long = ap length a.changed ∙ length_after s.tree c
+
+pub noted_claimed : (s : TreeLog) (claims : List ℕ) (notes : List Note) (key : Key) → IsNoted s claims notes → IsNoted s (slice_set claims key.slot key.generation) (notes ++ Claimed key ∷ [])
+noted_claimed s claims notes key t = record {
+  tree = t.tree ∙ ap (replay (root_alone (length s.tree) s.root)) (sym (commands_claimed notes key));
+  claimed = ap (λ l. slice_set l key.slot key.generation) t.claimed ∙ sym (claims_more (replicate (length s.tree) 0) notes (Claimed key));
+  stored = ⊎_elim
+      (λ (all : (compacts notes ≡ false) × (s.commands ≡ commands_of notes)). inl (compacts_claimed notes key ∙ all.0, all.1 ∙ sym (commands_claimed notes key)))
+      (λ (x : IsStoredSince s notes). inr (record {
+        before = x.before;
+        later = x.later ++ Claimed key ∷ [];
+        canonical = x.canonical;
+        history = ap (λ l. l ++ Claimed key ∷ []) x.history ∙ append_assoc x.before (Compacted ∷ x.later) (Claimed key ∷ []);
+        last = compacts_claimed x.later key ∙ x.last;
+        lists = x.lists;
+        stored = x.stored ∙ ap (λ l. x.canonical ++ l) (sym (commands_claimed x.later key));
+      }))
+      t.stored;
+}
+
+pub noted_compacted : (s s' : TreeLog) (claims : List ℕ) (notes : List Note) → IsNoted s claims notes → IsCompacted s s' → IsNoted s' claims (notes ++ Compacted ∷ [])
+noted_compacted s s' claims notes t a = record {
+  tree = now ∙ ap (replay (root_alone (length s'.tree) s'.root)) (sym (commands_compacted notes));
+  claimed = t.claimed ∙ sym (claims_more (replicate (length s.tree) 0) notes Compacted) ∙ claims_here s s' a.same_root long (notes ++ Compacted ∷ []);
+  stored = inr (record {
+    before = notes;
+    later = [];
+    canonical = s'.commands;
+    history = refl;
+    last = refl;
+    lists = subst (λ y. IsCanonical y s'.commands) now a.canonical;
+    stored = sym (append-nil s'.commands);
+  });
+}
+  where
+    long : length s'.tree ≡ length s.tree
+    long = ap length a.same_tree
+
+    now : s'.tree ≡ tree_of (length s'.tree) s'.root notes
+    now = a.same_tree ∙ t.tree ∙ tree_here s s' a.same_root long notes
+
+-- the tree's root, tree and commands are as before
+pub noted_same : (s s' : TreeLog) (claims : List ℕ) (notes : List Note) → IsNoted s claims notes → s'.root ≡ s.root → s'.tree ≡ s.tree → s'.commands ≡ s.commands → IsNoted s' claims notes
+noted_same s s' claims notes t root tree commands = record {
+  tree = tree ∙ t.tree ∙ tree_here s s' root long notes;
+  claimed = t.claimed ∙ claims_here s s' root long notes;
+  stored = ⊎_elim
+      (λ (all : (compacts notes ≡ false) × (s.commands ≡ commands_of notes)). inl (all.0, commands ∙ all.1))
+      (λ (x : IsStoredSince s notes). inr (record {
+        before = x.before;
+        later = x.later;
+        canonical = x.canonical;
+        history = x.history;
+        last = x.last;
+        lists = subst (λ y. IsCanonical y x.canonical) (tree_here s s' root long x.before) x.lists;
+        stored = commands ∙ x.stored;
+      }))
+      t.stored;
+}
+  where
+    long : length s'.tree ≡ length s.tree
+    long = ap length tree
+
+pub noted_opening : (slots : ℕ) (root : Key) (s : TreeLog) (claims : List ℕ) → IsNew slots root s → length s.tree ≡ slots → claims ≡ replicate slots 0 → IsNoted s claims []
+noted_opening slots root s claims new long none = record {
+  tree = new.tree ∙ ap (λ n. root_alone n root) (sym long) ∙ ap (root_alone (length s.tree)) (sym new.root);
+  claimed = none ∙ ap (λ n. replicate n 0) (sym long);
+  stored = inl (refl, new.commands);
+}

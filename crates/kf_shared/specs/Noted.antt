@@ -1,0 +1,83 @@
+-- What a history makes of the tree, of the claims, and of the stored commands.
+use Rattle.std.specs.Prelude.{◌≡◌, ◌⊎◌, ℕ, Bool, true, false, List, [], ◌∷◌, ◌++◌, length, replicate, slice_set}
+use Rattle.kf_core.specs.declared.key.Key.{Key}
+use Rattle.kf_core.specs.declared.command.Command.{Command}
+use Rattle.kf_core.specs.Commands.{replay, root_alone}
+use Rattle.kf_core.specs.Tree.{Tree}
+use Rattle.kf_tree.specs.Canonical.{IsCanonical}
+use Rattle.kf_tree.specs.TreeLogs.{TreeLog}
+use Rattle.kf_words.specs.declared.note.Note.{Note}
+use Rattle.kf_words.specs.declared.note.Note.TheVariants.{Did, Claimed, Compacted}
+use Rattle.kf_words.specs.Nodes.{MasterState}
+use Rattle.kf_words.specs.Notes.{history_of}
+
+-- the commands of a history, in their order
+abbrev pub commands_of : List Note → List Command
+commands_of [] = []
+commands_of (Did command ∷ notes) = command ∷ commands_of notes
+commands_of (Claimed key ∷ notes) = commands_of notes
+commands_of (Compacted ∷ notes) = commands_of notes
+
+-- the tree of so many slots that a history made of the root alone
+abbrev pub tree_of : ℕ → Key → List Note → Tree
+tree_of slots root notes = replay (root_alone slots root) (commands_of notes)
+
+-- by slot the generation that was claimed last, after one note more
+abbrev pub claims_after : List ℕ → Note → List ℕ
+claims_after claims (Did command) = claims
+claims_after claims (Claimed key) = slice_set claims key.slot key.generation
+claims_after claims Compacted = claims
+
+-- the same after these notes, one after the other
+abbrev pub claims_from : List ℕ → List Note → List ℕ
+claims_from claims [] = claims
+claims_from claims (note ∷ notes) = claims_from (claims_after claims note) notes
+
+-- the claims that a history made in so many slots, of which none was claimed
+abbrev pub claims_of : ℕ → List Note → List ℕ
+claims_of slots notes = claims_from (replicate slots 0) notes
+
+-- one of these notes is of a compaction
+abbrev pub compacts : List Note → Bool
+compacts [] = false
+compacts (Did command ∷ notes) = compacts notes
+compacts (Claimed key ∷ notes) = compacts notes
+compacts (Compacted ∷ notes) = true
+
+-- the stored commands are the canonical list of the tree at the last compaction, and what came after
+pub record IsStoredSince (log : TreeLog) (notes : List Note) : Type 0 where
+  pub before : List Note
+  pub later : List Note
+  pub canonical : List Command
+  pub history : notes ≡ before ++ Compacted ∷ later
+  pub last : compacts later ≡ false
+  pub lists : IsCanonical (tree_of (length log.tree) log.root before) canonical
+  pub stored : log.commands ≡ canonical ++ commands_of later
+
+-- the stored commands are all of the history, or what a compaction left of them and what came after
+abbrev pub IsStored : TreeLog → List Note → Type 0
+IsStored log notes =
+    ((compacts notes ≡ false) × (log.commands ≡ commands_of notes)) ⊎ IsStoredSince log notes
+
+-- the tree, the claims and the stored commands are those of the history
+pub record IsNoted (log : TreeLog) (claims : List ℕ) (notes : List Note) : Type 0 where
+  pub tree : log.tree ≡ tree_of (length log.tree) log.root notes
+  pub claimed : claims ≡ claims_of (length log.tree) notes
+  pub stored : IsStored log notes
+
+-- the command that was stored last, as a note
+abbrev pub last_stored : List Command → Note
+last_stored [] = Compacted
+last_stored (command ∷ []) = Did command
+last_stored (command ∷ next ∷ commands) = last_stored (next ∷ commands)
+
+-- of the Master's table, nodes and view nothing changed
+pub record KeepsWords (old new : MasterState) : Type 0 where
+  pub table : new.table ≡ old.table
+  pub nodes : new.nodes ≡ old.nodes
+  pub view : new.view ≡ old.view
+
+-- this note came next in the history, and nothing else changed of the Master
+pub record WasNoted (note : Note) (old new : MasterState) : Type 0 where
+  pub words : KeepsWords old new
+  pub history : history_of new.seen ≡ history_of old.seen ++ note ∷ []

@@ -1,0 +1,29 @@
+//! What is done under the lock, noted in the history that the words keep.
+ghost use Rattle.kf_words.specs.declared.note.Note.TheVariants.{Claimed, Compacted};
+ghost use Rattle.kf_shared.specs.Noted.{WasNoted, last_stored};
+
+use kf_core::Key;
+use kf_live::LiveTree;
+use kf_words::Master;
+use std::marker::Brand;
+
+/// Notes the command that was stored last.
+pub(crate) fn note_last(master: &mut Master, state: &LiveTree)
+    ensures { WasNoted (last_stored state.now.commands) master.old master.new }
+{
+    master.note::<Brand, LiveTree>(state);
+}
+
+/// Notes that a removal of a node by itself was claimed.
+pub(crate) fn note_claim(master: &mut Master, key: Key)
+    ensures { WasNoted (Claimed key) master.old master.new }
+{
+    master.note::<Brand, Key>(&key);
+}
+
+/// Notes that the stored commands gave way to the canonical list.
+pub(crate) fn note_compaction(master: &mut Master)
+    ensures { WasNoted Compacted master.old master.new }
+{
+    master.note::<Brand, bool>(&true);
+}
