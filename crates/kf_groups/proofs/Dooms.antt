@@ -31,6 +31,7 @@ module _ (old held : Locked) (key : Key) (same : held.state ≡ old.state) (word
         limit = still.master.limit ∙ words.limit;
         nodes = still.master.nodes ∙ words.nodes;
         slots = still.master.slots ∙ words.slots;
+        history = still.master.history ∙ words.history;
       };
     },
     refusal,

@@ -6,6 +6,7 @@ ghost use Rattle.kf_table.specs.Children.{is_there_already};
 ghost use Rattle.kf_tree.specs.TreeLogs.{IsAccepted};
 ghost use Rattle.kf_tree.specs.Causes.{linked_cause};
 ghost use Rattle.kf_shared.specs.Locked.{move_cause};
+ghost use Rattle.kf_shared.specs.Noted.{KeepsWords};
 ghost use Rattle.kf_uevents.specs.declared.uevent.Action.TheVariants as action_of;
 ghost use Rattle.kf_uevents.specs.Moves.{IsToMove, MoveTold, path_in};
 ghost use Rattle.kf_uevents.specs.News.{TellRefused};
@@ -75,7 +76,7 @@ pub fn rename_and_tell<N: Naming>(
     ensures same { OnErr result (editor.new.state ≡ editor.old.state) }
     ensures quiet { OnErr result (log.new ≡ log.old) }
     ensures claims { editor.new.claims ≡ editor.old.claims }
-    ensures words { editor.new.master ≡ editor.old.master }
+    ensures words { KeepsWords editor.old.master editor.new.master }
 {
     let state = editor.state();
     if !may_rename(state, key, dir, name)? {
