@@ -15,6 +15,8 @@ use Rattle.kf_tree.specs.TreeLogs.{TreeLog, IsKept}
 use Rattle.kf_words.specs.declared.view.MasterView.{MasterView}
 use Rattle.kf_words.specs.Callers.{TableId, Handle}
 use Rattle.kf_words.specs.Nodes.{KeepsNodes, PinRefused}
+use Rattle.kf_words.specs.Notes.{history_of}
+use Rattle.kf_shared.specs.Noted.{IsNoted}
 use Rattle.kf_shared.specs.Locked.{Locked, IsTied, IsWhole, HoldRefused}
 use Rattle.kf_shared.specs.Removal.{keys_of, DoomHolds, DoomRefused}
 use Rattle.kf_shared.specs.Receipts.{HasBelow, HoldsRefusal, KeyRefused}
@@ -80,4 +82,6 @@ whole_kept table old new whole state words claims = record {
   kept = subst IsKept (sym state) whole.kept;
   tied = subst (λ (s : TreeLog). IsTied table (locked s new.master new.claims)) (sym state)
       (subst (λ (l : List ℕ). IsTied table (locked old.state new.master l)) (sym claims) (tied_master table old.state old.master new.master old.claims whole.tied words));
+  told = subst (λ (s : TreeLog). IsNoted s new.claims (history_of new.master.seen)) (sym state)
+      (subst (λ (l : List ℕ). IsNoted old.state l (history_of new.master.seen)) (sym claims) (subst (IsNoted old.state old.claims) (sym words.history) whole.told));
 }

@@ -26,12 +26,15 @@ use Rattle.kf_words.proofs.Runs.{safe_now, rule_kept, run_holds, come_for_good, 
 use Rattle.kf_words.specs.Runs.{Table, world, opened_table, WasLetIn}
 use Rattle.kf_words.specs.declared.view.MasterView.{MasterView}
 use Rattle.kf_shared.specs.Locked.{Locked}
-use Rattle.kf_shared.specs.Running.{IsFreeLock, StartsWell, IsReplay, TreeAgrees, lets_in, StartsLive, RunsLinked, MarkedForGood, RemovedForGood, PartedForGood, HiddenIsStill, HeldNotGiven, HeldIsLast, GoneForGood, TakenWhileLive}
+use Rattle.kf_shared.specs.Running.{IsFreeLock, StartsWell, IsReplay, IsOfHistory, TreeAgrees, lets_in, StartsLive, RunsLinked, MarkedForGood, RemovedForGood, PartedForGood, HiddenIsStill, HeldNotGiven, HeldIsLast, GoneForGood, TakenWhileLive}
 use Rattle.kf_shared.proofs.Gone.{Gone, step_gone, alone_gone, parted_gone}
 
 pub starts_well : StartsWell
 starts_well slots limit start s table some_slot few whole opens =
     ((opens_well slots limit start some_slot few).0, record { table = table; whole = whole; its_master = sym opens })
+
+pub is_of_history : IsOfHistory
+is_of_history slots limit t u kinds s h r free = free.whole.told
 
 pub is_replay : IsReplay
 is_replay slots limit t u kinds s h r free = free.whole.kept.replayed

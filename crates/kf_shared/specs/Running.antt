@@ -18,7 +18,7 @@ use Rattle.kf_words.specs.Callers.{TableId}
 use Rattle.kf_words.specs.declared.sight.StepKind.{StepKind}
 use Rattle.kf_words.specs.declared.sight.StepKind.TheVariants.{Tries as tries, Births as births}
 use Rattle.kf_words.specs.Runs.{Table, WordStep, WordRun, WasLetIn, TryIsRefused, OverRuns, world, master_in, opened_table}
-use Rattle.kf_shared.specs.Locked.{Locked, IsWhole}
+use Rattle.kf_shared.specs.Locked.{Locked, IsToldBy, IsWhole, history}
 
 -- the lock is free: its value has all that it keeps, and its Master is the one of this table
 pub record IsFreeLock (u : Table) (s : Locked) : Type 0 where
@@ -42,6 +42,10 @@ abbrev pub IsReplay : Type 0
 IsReplay = WhileFree
     (λ slots limit t u s. s.state.tree
     ≡ replay (root_alone (length s.state.tree) s.state.root) s.state.commands)
+
+-- the tree, the claims and the stored commands are those of the history
+abbrev pub IsOfHistory : Type 0
+IsOfHistory = WhileFree (λ slots limit t u s. IsToldBy s (history s))
 
 -- the tree and the words tell the same of each key: whether it is linked, activated, doomed
 abbrev pub TreeAgrees : Type 0

@@ -1,11 +1,12 @@
 //! What holds of the running tree and of all who call into it.
-ghost use Rattle.kf_shared.specs.Running.{StartsWell, IsReplay, TreeAgrees, StartsLive, TakenWhileLive, RunsLinked, MarkedForGood, RemovedForGood, PartedForGood, HiddenIsStill, HeldNotGiven, HeldIsLast, GoneForGood};
+ghost use Rattle.kf_shared.specs.Running.{StartsWell, IsReplay, IsOfHistory, TreeAgrees, StartsLive, TakenWhileLive, RunsLinked, MarkedForGood, RemovedForGood, PartedForGood, HiddenIsStill, HeldNotGiven, HeldIsLast, GoneForGood};
 
 /// What holds over every run of atomic steps of any number of seats, in any order, whenever at its end the
 /// tree lock is free. It does nothing: its clauses say what follows from what the lock keeps and from the
 /// rule of the words, which a new tree meets.
 ///
-/// The tree is the replay of its stored commands, and tells of each key what the words tell. A try lets its
+/// The tree is the replay of its stored commands. Tree, claims and stored commands are those of the history
+/// that the Master has seen, which is all of it (`words_kept`). The tree tells of each key what the words tell. A try lets its
 /// caller run exactly where the tree has the node live and nobody hides it. Whoever runs, from a new tree on,
 /// was let in by a try that found the key live in the words. Nobody runs on a node that is out of the tree.
 /// Once a node was marked, each try on it is refused ever after, and the tree never has it live. Once a
@@ -20,6 +21,7 @@ ghost use Rattle.kf_shared.specs.Running.{StartsWell, IsReplay, TreeAgrees, Star
 pub fn running_tree()
     ensures starts_well { StartsWell }
     ensures is_replay { IsReplay }
+    ensures is_of_history { IsOfHistory }
     ensures tree_agrees { TreeAgrees }
     ensures starts_live { StartsLive }
     ensures taken_while_live { TakenWhileLive }

@@ -1,9 +1,12 @@
 -- The clauses of the running tree, each by the lemma of its name.
-use Rattle.kf_shared.proofs.Running.{starts_well, is_replay, tree_agrees, starts_live, taken_while_live, runs_linked, marked_for_good, removed_for_good, parted_for_good, hidden_is_still, held_not_given, held_is_last, gone_for_good}
+use Rattle.kf_shared.proofs.Running.{starts_well, is_replay, is_of_history, tree_agrees, starts_live, taken_while_live, runs_linked, marked_for_good, removed_for_good, parted_for_good, hidden_is_still, held_not_given, held_is_last, gone_for_good}
 use Rattle.kf_shared.proofs.laws.running_tree.Goals as goal
 
 pub returns-clause-starts_well : goal.returns-clause-starts_well
 returns-clause-starts_well c = starts_well
+
+pub returns-clause-is_of_history : goal.returns-clause-is_of_history
+returns-clause-is_of_history c = is_of_history
 
 pub returns-clause-is_replay : goal.returns-clause-is_replay
 returns-clause-is_replay c = is_replay
