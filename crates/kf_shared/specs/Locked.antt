@@ -43,8 +43,8 @@ history s = history_of s.master.seen
 abbrev pub IsToldBy : Locked → List Note → Type 0
 IsToldBy s notes = IsNoted s.state s.claims notes
 
--- what holds whenever the lock is free: the tree is lawful and the replay of its commands, the Master names the
--- same keys, and tree, claims and stored commands are those of the whole history
+-- what holds whenever the lock is free: the tree is lawful and the replay of its commands, the Master names
+-- the same keys, and tree, claims and stored commands are those of the whole history
 pub record IsWhole (table : TableId) (s : Locked) : Type 0 where
   pub kept : IsKept s.state
   pub tied : IsTied table s

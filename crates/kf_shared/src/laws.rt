@@ -6,15 +6,15 @@ ghost use Rattle.kf_shared.specs.Running.{StartsWell, IsReplay, IsOfHistory, Tre
 /// rule of the words, which a new tree meets.
 ///
 /// The tree is the replay of its stored commands. Tree, claims and stored commands are those of the history
-/// that the Master has seen, which is all of it (`words_kept`). The tree tells of each key what the words tell. A try lets its
-/// caller run exactly where the tree has the node live and nobody hides it. Whoever runs, from a new tree on,
-/// was let in by a try that found the key live in the words. Nobody runs on a node that is out of the tree.
-/// Once a node was marked, each try on it is refused ever after, and the tree never has it live. Once a
-/// removal's receipt was there, nobody runs on its node ever after and the tree does not have it live. Once
-/// the receipt was parted, the tree never has it again. While a caller is Hidden on a file nobody runs on it.
-/// A birth finds nobody who holds its slot, so in the slot of a key that somebody holds the tree has no other
-/// key. Once a slot was given again, nobody holds an earlier key of it, and no such key is linked, ever
-/// after.
+/// that the Master has seen, which is all of it (`words_kept`). The tree tells of each key what the words
+/// tell. A try lets its caller run exactly where the tree has the node live and nobody hides it. Whoever
+/// runs, from a new tree on, was let in by a try that found the key live in the words. Nobody runs on a node
+/// that is out of the tree. Once a node was marked, each try on it is refused ever after, and the tree never
+/// has it live. Once a removal's receipt was there, nobody runs on its node ever after and the tree does not
+/// have it live. Once the receipt was parted, the tree never has it again. While a caller is Hidden on a
+/// file nobody runs on it. A birth finds nobody who holds its slot, so in the slot of a key that somebody
+/// holds the tree has no other key. Once a slot was given again, nobody holds an earlier key of it, and no
+/// such key is linked, ever after.
 ///
 /// Running is a caller that has a reference taken while the node was live. A caller that broke its protection
 /// is not: it may be in its callback past a removal, and can start none.

@@ -89,8 +89,8 @@ takes_over s from = record { view = s.view; seen = from.seen; shown = s.shown }
 abbrev pub IsBeginning : Opening → Seen → List StepKind → Type 0
 IsBeginning o seen log = (seen.opening ≡ o) × IsPrefix seen.steps log
 
--- one run leads here from the opening, each seat has seen a beginning of it and was told one, the Master's seat
--- has seen all notes, and the words show the views of all seats
+-- one run leads here from the opening, each seat has seen a beginning of it and was told one, the Master's
+-- seat has seen all notes, and the words show the views of all seats
 pub record Kept (o : Opening) (t : SeenTable) : Type 0 where
   pub begins : Shown o.slots o.holds (opened_as o)
   pub log : List StepKind

@@ -87,7 +87,8 @@ lived = table_at 4294967296 10737418241
     (record { slot = 1; word = 4294967296 } ∷ []) (None))
     ((caller_at Spent 11 3 4294967297 false) ∷ (caller_at Spent 10 1 4294967298 false)
     ∷ (caller_at Spent 1 0 4294967298 false) ∷ new_hold (record { slot = 1; generation = 2 })
-    ∷ spent_hold (record { slot = 1; generation = 2 }) ∷ spent_hold (record { slot = 0; generation = 1 }) ∷ [])
+    ∷ spent_hold (record { slot = 1; generation = 2 })
+    ∷ spent_hold (record { slot = 0; generation = 1 }) ∷ [])
 
 -- there is an attended run of all these steps from the opening of two slots
 abbrev pub WordLife : Type 0

@@ -31,8 +31,8 @@ fn noted_and_pinned<R: Abort>(rt: &R, master: &mut Master, key: Key) -> Hold
     }
 }
 
-/// A hold that has seen some of the history comes back to the Master, who notes a claim. What it had seen came
-/// before that, and it has then seen the claim.
+/// A hold that has seen some of the history comes back to the Master, who notes a claim. What it had seen
+/// came before that, and it has then seen the claim.
 fn noted_between(master: &mut Master, hold: &mut Hold)
     requires { hold.old.table ≡ master.old.table }
     ensures table { master.new.table ≡ master.old.table }
