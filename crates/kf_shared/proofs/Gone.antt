@@ -1,5 +1,5 @@
 -- A key that was linked and is no more is never linked again.
-use Rattle.std.proofs.Common.{◌≡◌, ◌≢◌, inl, inr, ℕ, ◌+◌, ◌≤◌, refl, ap, arith, ⊎_elim, sym, ◌∙◌, subst, true, false, cond}
+use Rattle.std.proofs.Common.{◌≡◌, ◌≢◌, ◌⊎◌, inl, inr, ℕ, ◌+◌, ◌≤◌, refl, ap, arith, ⊎_elim, sym, ◌∙◌, subst, true, false, cond}
 use Rattle.std.specs.Prelude.{Option, None, Some, slice_get, is_some}
 use Rattle.std.proofs.lemmas.Option.{none-some, same_Some, slice_get_within}
 use Rattle.std.proofs.lemmas.Bool.Decides.{eqb_tells}
@@ -17,7 +17,7 @@ use Rattle.kf_core.proofs.Climbs.{same_parts}
 use Rattle.kf_core.proofs.Lists.{slice_get-set_same, slice_get-set_other}
 use Rattle.kf_core.proofs.Passing.{HasCome, step_come}
 use Rattle.kf_words.specs.declared.sight.StepKind.{StepKind}
-use Rattle.kf_words.proofs.WordSteps.{Alone, TakenOut, Came}
+use Rattle.kf_words.proofs.WordSteps.{Alone, TakenOut, Came, Passed}
 use Rattle.kf_words.proofs.Runs.{alone_come}
 
 -- the key is not linked, and its slot has come to its generation
@@ -88,7 +88,10 @@ pub alone_gone : (k : Key) (kind : StepKind) (w w' : BareWorld) → Alone kind w
 alone_gone k kind w w' a g = record {
   unlinked = ⊎_elim
       (λ (o : TakenOut kind w w'). subst (λ (x : BareWorld). marks x k ≡ None) (sym o.is) (linked_else w o.key k o.had None o.linked g.unlinked))
+      (λ (m : Came kind w w' ⊎ Passed kind w w'). ⊎_elim
       (λ (c : Came kind w w'). subst (λ (x : BareWorld). marks x k ≡ None) (sym c.is) g.unlinked)
+      (λ (p : Passed kind w w'). subst (λ (x : BareWorld). marks x k ≡ None) (sym p.is) g.unlinked)
+      m)
       a;
   come = alone_come k kind w w' a g.come;
 }
