@@ -2,6 +2,7 @@ pub mod Limits
 pub mod Refusals
 pub mod Names
 pub mod Keys
+pub mod Paths
 pub mod Marks
 pub mod Phases
 pub mod Bare

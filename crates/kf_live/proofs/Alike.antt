@@ -1,50 +1,25 @@
 -- A walk by links is a walk in the tree among its live records.
-use Rattle.std.proofs.Common.{◌≡◌, inl, inr, refl, ap, sym, ◌∙◌, true, false, cond, List, [], ◌∷◌, ℕ}
-use Rattle.std.specs.Prelude.{Option, None, Some, Ok, map, ◌||◌, ◌==◌, if◌then◌else◌}
-use Rattle.std.specs.List.{list_any}
+use Rattle.std.proofs.Common.{◌≡◌, inl, inr, refl, ap, sym, ◌∙◌, true, cond, List, [], ◌∷◌, ℕ}
+use Rattle.std.specs.Prelude.{Option, None, Some, Ok, map}
 use Rattle.std.specs.Option.{option_and_then, ok_or}
 use Rattle.std.proofs.lemmas.Option.{same_Some, none-some}
 use Rattle.kf_core.specs.declared.key.Key.{Key}
 use Rattle.kf_core.specs.declared.records.Record.{Record}
 use Rattle.kf_core.specs.declared.refusal.Refusal.TheVariants.{Invalid}
 use Rattle.kf_core.specs.Lawful.{Lawful, root_record}
+use Rattle.kf_core.specs.Paths.{names_of}
 use Rattle.kf_core.specs.Tree.{Tree, IsIn, record_at, is_dir}
 use Rattle.kf_core.proofs.FoundRecords.{found_in, in_found}
 use Rattle.kf_table.specs.Children.{child}
 use Rattle.kf_table.specs.Live.{lives}
-use Rattle.kf_tree.specs.Paths.{only_live, and_then, walk, found as next_key, names_of as tree_names, all_named as tree_named, parts as tree_parts, is_empty as tree_empty}
+use Rattle.kf_tree.specs.Paths.{only_live, and_then, walk, found as next_key}
 use Rattle.kf_tree.proofs.Listed.{child_known}
 use Rattle.kf_tree.proofs.LiveOnly.{in_shown, found_shown}
 use Rattle.kf_looks.specs.declared.found.Found.{Found}
 use Rattle.kf_looks.specs.declared.view.Link.{Link}
 use Rattle.kf_looks.specs.Links.{child_of, walked, top}
-use Rattle.kf_looks.specs.Paths.{names_of, all_named, parts, is_empty}
 use Rattle.kf_live.specs.Laws.{LeadAlike}
 use Rattle.kf_live.specs.Live.{Say, StandsAt, found_of}
-
--- ---- both cut paths alike
-
-same_any : (xs : List (List ℕ)) → list_any is_empty xs ≡ list_any tree_empty xs
-same_any [] = refl
-same_any ([] ∷ xs) = ap (λ b. true || b) (same_any xs)
-same_any ((b ∷ bs) ∷ xs) = ap (λ b. false || b) (same_any xs)
-
-same_named : (xs : List (List ℕ)) → all_named xs ≡ tree_named xs
-same_named xs = ap (λ b. if b then None else Some xs) (same_any xs)
-
-same_parts : (bytes : List ℕ) → parts bytes ≡ tree_parts bytes
-same_parts [] = refl
-same_parts (b ∷ bs) = refl
-
-pub same_names : (path : List ℕ) → names_of path ≡ tree_names path
-same_names [] = refl
-same_names (b ∷ bs) = both (if b == 47 then Some bs else None)
-  where
-    both : (o : Option (List ℕ)) → option_and_then (λ bytes. all_named (parts bytes)) o ≡ option_and_then (λ bytes. tree_named (tree_parts bytes)) o
-    both None = refl
-    both (Some bytes) = ap all_named (same_parts bytes) ∙ same_named (tree_parts bytes)
-
--- ---- and walk alike
 
 module _ (links : List Link) (t : Tree) (root : Key) (says : Say links t) (lawful : Lawful t root) where
   abbrev Leads : Key → List (List ℕ) → Found → Type 0
@@ -80,8 +55,8 @@ pub lead_alike : LeadAlike
 lead_alike links t root path f says lawful is = go (names_of path) refl is
   where
     go : (o : Option (List (List ℕ))) → names_of path ≡ o → option_and_then (walked links (top root)) o ≡ Some f
-        → (and_then (ok_or (tree_names path) Invalid) (walk (map only_live t) root) ≡ Ok f.key) × ((r : Record) × (record_at t f.key ≡ Some r) × (lives r ≡ true) × (f ≡ found_of r))
+        → (and_then (ok_or (names_of path) Invalid) (walk (map only_live t) root) ≡ Ok f.key) × ((r : Record) × (record_at t f.key ≡ Some r) × (lives r ≡ true) × (f ≡ found_of r))
     go None e g = absurd (none-some f g)
     go (Some names) e g =
         let leads = walks_alike links t root says lawful names (root_record root) f (in_found t (root_record root) lawful.rooted) refl g in
-        (ap (λ o. and_then (ok_or o Invalid) (walk (map only_live t) root)) (sym (same_names path) ∙ e) ∙ leads.0, leads.1)
+        (ap (λ o. and_then (ok_or o Invalid) (walk (map only_live t) root)) e ∙ leads.0, leads.1)

@@ -6,7 +6,8 @@ use Rattle.kf_core.specs.declared.key.Key.{Key}
 use Rattle.kf_looks.specs.declared.found.Found.{Found}
 use Rattle.kf_looks.specs.declared.view.Link.{Link}
 use Rattle.kf_looks.specs.Links.{top, walked}
-use Rattle.kf_looks.specs.Paths.{is_slash, is_empty, led}
+use Rattle.kf_core.specs.Paths.{is_slash, is_empty}
+use Rattle.kf_looks.specs.Paths.{led}
 
 -- the names of a path whose parts are none of them empty lead where the path does
 from_parts : (links : List Link) (root : Key) (rest : List ℕ) (last : Found) → (length rest ≡ 0 → ⊥)

@@ -2,7 +2,7 @@
 ghost use Rattle.std.specs.Prelude.{◌≡◌, ◌∷◌, ◌<◌, position, IfSome, length};
 ghost use Rattle.std.specs.Option.{option_map};
 ghost use Rattle.std.specs.List.{slice_split};
-ghost use Rattle.kf_looks.specs.Paths.{is_slash, later_parts};
+ghost use Rattle.kf_core.specs.Paths.{is_slash, later_parts};
 
 fn find_slash(text: &[u8]) -> Option<usize>
     ensures first { result ≡ position is_slash text.now }

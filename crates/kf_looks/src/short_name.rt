@@ -2,7 +2,7 @@
 ghost use Rattle.std.specs.Prelude.{◌≡◌, ◌≤◌, ◌<◌, ◌↔◌, List, ℕ, length, IsSome, IfSome, ◌++◌, false};
 ghost use Rattle.kf_looks.specs.ShortNames.{bytes_before};
 ghost use Rattle.kf_looks.specs.Lines.{bytes_in};
-ghost use Rattle.kf_looks.specs.Paths.{is_empty};
+ghost use Rattle.kf_core.specs.Paths.{is_empty};
 
 use std::cmp::min;
 

@@ -4,7 +4,8 @@ ghost use Rattle.std.specs.List.{list_any, slice_split};
 ghost use Rattle.kf_looks.specs.Lines.{bytes_in, link_by};
 ghost use Rattle.kf_looks.specs.Links.{top, walked, child_of, IsLater};
 ghost use Rattle.kf_looks.specs.Lookers.{seen};
-ghost use Rattle.kf_looks.specs.Paths.{is_slash, is_empty, led};
+ghost use Rattle.kf_core.specs.Paths.{is_slash, is_empty};
+ghost use Rattle.kf_looks.specs.Paths.{led};
 ghost use Rattle.kf_looks.specs.Reading.{IsSameSeat, Follows, Tells, Stands};
 
 use crate::found::{Found, Sight};

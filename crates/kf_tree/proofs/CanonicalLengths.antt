@@ -1,6 +1,6 @@
 -- How long each canonical list of a tree is.
 use Rattle.std.proofs.Common.{◌≡◌, ◌≢◌, inl, inr, ℕ, zero, suc, ◌+◌, ◌-◌, ◌≤◌, refl, ap, arith, sym, ◌∙◌, subst, Bool, true, false, cond, List, [], ◌∷◌, ◌++◌, length, length-append, slice_set, get_or}
-use Rattle.std.specs.Prelude.{Option, None, Some, is_some, not, ◌&&◌, ◌↔◌, IsTrue, Contains, AllPairs, slice_get, count_by}
+use Rattle.std.specs.Prelude.{Option, None, Some, is_some, not, ◌&&◌, ◌↔◌, IsTrue, Contains, slice_get, count_by}
 use Rattle.std.specs.List.{sum_by}
 use Rattle.std.specs.Option.{option_map_or}
 use Rattle.std.proofs.lemmas.Option.{none-some, same_Some, slice_get_within, get_or_from_slice_get}

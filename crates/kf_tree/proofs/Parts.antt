@@ -4,7 +4,8 @@ use Rattle.std.proofs.Common.{inl, inr}
 use Rattle.std.proofs.lemmas.Bool.Decides.{eqb_tells}
 use borrow.Author.Tests.{ltb-true, ltb-false}
 use Rattle.std.specs.List.{position_or_len, slice_split, onto_first}
-use Rattle.kf_tree.specs.Paths.{front, final, is_slash, is_empty}
+use Rattle.kf_core.specs.Paths.{is_slash, is_empty}
+use Rattle.kf_tree.specs.Paths.{front, final}
 use Rattle.std.proofs.lemmas.List.{take_rest}
 use Rattle.std.proofs.lemmas.List.Sums.{fails_before_first}
 use Rattle.std.proofs.lemmas.List.Splits.{slice_split_first, slice_split_none}

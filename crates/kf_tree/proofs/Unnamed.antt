@@ -7,7 +7,8 @@ use Rattle.kf_core.specs.declared.records.Record.{Record}
 use Rattle.kf_core.specs.declared.refusal.Refusal.TheVariants.{NoEntry, NotDir}
 use Rattle.kf_core.specs.Tree.{Tree, record_at, is_dir}
 use Rattle.kf_core.specs.Lawful.{Lawful}
-use Rattle.kf_tree.specs.Paths.{and_then, entry_key, found, walk, is_empty}
+use Rattle.kf_core.specs.Paths.{is_empty}
+use Rattle.kf_tree.specs.Paths.{and_then, entry_key, found, walk}
 use Rattle.kf_table.specs.Children.{child}
 use Rattle.kf_tree.specs.Shown.{shown, shown_record}
 use Rattle.kf_tree.proofs.Listed.{child_is}

@@ -1,11 +1,12 @@
 -- What a name in a directory leads to, and what a path does.
-use Rattle.std.specs.Prelude.{ℕ, Bool, true, false, ◌==◌, List, [], ◌∷◌, map, Option, None, Some, Result, Ok, Err, if◌then◌else◌}
-use Rattle.std.specs.List.{list_any, slice_split}
+use Rattle.std.specs.Prelude.{ℕ, List, [], ◌∷◌, map, Option, None, Some, Result, Ok, Err, if◌then◌else◌}
+use Rattle.std.specs.List.{list_any}
 use Rattle.std.specs.Option.{option_and_then, ok_or}
 use Rattle.kf_core.specs.declared.key.Key.{Key}
 use Rattle.kf_core.specs.declared.records.Record.{Record}
 use Rattle.kf_core.specs.declared.refusal.Refusal.{Refusal}
 use Rattle.kf_core.specs.declared.refusal.Refusal.TheVariants.{NoEntry, NotDir, Invalid}
+use Rattle.kf_core.specs.Paths.{is_empty, parts, after_slash, names_of}
 use Rattle.kf_core.specs.Tree.{Tree, record_at, is_dir}
 use Rattle.kf_table.specs.Children.{child}
 use Rattle.kf_table.specs.Live.{lives}
@@ -33,33 +34,6 @@ walk t key [] = Ok key
 walk t key (name ∷ names) = and_then (found t key name) (λ next. walk t next names)
 
 -- ---- paths
-
--- whether the byte is a slash
-abbrev pub is_slash : ℕ → Bool
-is_slash byte = byte == 47
-
--- whether a name has no byte
-abbrev pub is_empty : List ℕ → Bool
-is_empty [] = true
-is_empty (byte ∷ bytes) = false
-
--- the parts of a text, which stand between its slashes; an empty text has no parts
-abbrev pub parts : List ℕ → List (List ℕ)
-parts [] = []
-parts (byte ∷ bytes) = slice_split is_slash (byte ∷ bytes)
-
--- the bytes after the slash with which a path begins
-abbrev pub after_slash : List ℕ → Option (List ℕ)
-after_slash [] = None
-after_slash (byte ∷ bytes) = if is_slash byte then Some bytes else None
-
--- the names, where none is empty
-abbrev pub all_named : List (List ℕ) → Option (List (List ℕ))
-all_named names = if list_any is_empty names then None else Some names
-
--- the names of a path, where it has the right form
-abbrev pub names_of : List ℕ → Option (List (List ℕ))
-names_of path = option_and_then (λ bytes. all_named (parts bytes)) (after_slash path)
 
 -- the node that a path names, live or not
 abbrev pub walked : Tree → Key → List ℕ → Result Key Refusal

@@ -1,16 +1,11 @@
--- Parts of a path, and names along a way up or down.
-use Rattle.std.specs.Prelude.{◌≡◌, ℕ, ◌<◌, ◌-◌, List, [], ◌∷◌, ◌++◌, length, slice_index_or, Option, None, Some, Ok}
-use Rattle.std.specs.List.{join_with_byte, slice_split}
+-- Names along a way up or down.
+use Rattle.std.specs.Prelude.{◌≡◌, ℕ, ◌<◌, ◌-◌, List, [], ◌∷◌, ◌++◌, length, slice_index_or, Option, Some, Ok}
+use Rattle.std.specs.List.{join_with_byte}
 use Rattle.std.specs.Option.{option_map_or}
 use Rattle.kf_core.specs.declared.key.Key.{Key}
 use Rattle.kf_core.specs.Tree.{Tree, record_at, ancestor}
-use Rattle.kf_tree.specs.Paths.{is_slash, walk}
+use Rattle.kf_tree.specs.Paths.{walk}
 use Rattle.kf_tree.specs.Links.{IsOver, ups}
-
--- the parts that are left, where a slash came before
-abbrev pub later_parts : Option (List ℕ) → List (List ℕ)
-later_parts None = []
-later_parts (Some text) = slice_split is_slash text
 
 -- the name of a key's record
 abbrev pub name_at : Tree → Key → List ℕ

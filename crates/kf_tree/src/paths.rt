@@ -6,9 +6,9 @@ ghost use Rattle.std.specs.List.{list_any, slice_split};
 ghost use Rattle.kf_core.specs.declared.key.Key.{Key};
 ghost use Rattle.kf_core.specs.Tree.{IsIn};
 ghost use Rattle.kf_core.specs.Lawful.{Lawful};
-ghost use Rattle.kf_tree.specs.Paths.{is_slash, is_empty, walk, walked, walked_parent, front, final};
+ghost use Rattle.kf_core.specs.Paths.{is_slash, is_empty, later_parts};
+ghost use Rattle.kf_tree.specs.Paths.{walk, walked, walked_parent, front, final};
 ghost use Rattle.kf_tree.specs.Shown.{shown};
-ghost use Rattle.kf_tree.specs.Ways.{later_parts};
 
 use crate::find::step;
 use kf_core::{Key, Record, Refusal};

@@ -1,4 +1,4 @@
-use Rattle.kf_looks.specs.Paths.{is_slash}
+use Rattle.kf_core.specs.Paths.{is_slash}
 use Rattle.kf_looks.proofs.Parts.{split_found, split_none}
 use Rattle.kf_looks.proofs.path.first_part.Goals as goal
 

@@ -1,4 +1,4 @@
-use Rattle.kf_tree.specs.Paths.{is_slash}
+use Rattle.kf_core.specs.Paths.{is_slash}
 use Rattle.kf_tree.proofs.Parts.{split_found, split_none}
 use Rattle.kf_tree.proofs.paths.first_part.Goals as goal
 

@@ -1,8 +1,8 @@
 use Rattle.std.proofs.Common.{◌≡◌, ℕ, List, ◌∷◌, true, ap, sym, ◌∙◌, refl}
 use Rattle.std.specs.Option.{option_map}
 use Rattle.std.specs.List.{list_any, slice_split}
-use Rattle.kf_tree.specs.Paths.{is_slash, is_empty, front}
-use Rattle.kf_tree.specs.Ways.{later_parts}
+use Rattle.kf_core.specs.Paths.{is_slash, is_empty, later_parts}
+use Rattle.kf_tree.specs.Paths.{front}
 use Rattle.kf_tree.proofs.Parts.{front_is, is_empty-length}
 use Rattle.kf_tree.proofs.paths.has_empty_front.Goals as goal
 

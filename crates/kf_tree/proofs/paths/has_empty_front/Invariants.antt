@@ -1,6 +1,7 @@
 use Rattle.std.proofs.Common.{◌≡◌, length}
 use Rattle.std.specs.List.{list_any, slice_split}
-use Rattle.kf_tree.specs.Paths.{is_slash, is_empty, front}
+use Rattle.kf_core.specs.Paths.{is_slash, is_empty}
+use Rattle.kf_tree.specs.Paths.{front}
 use Rattle.kf_tree.proofs.paths.has_empty_front.Given as goal
 
 abbrev pub invariant-loop-name : goal.invariant-loop-name

@@ -1,8 +1,7 @@
 use Rattle.std.proofs.Common.{◌≡◌, ◌+◌, length}
 use Rattle.std.specs.Option.{option_map, option_map_or}
 use Rattle.std.specs.List.{list_any, slice_split}
-use Rattle.kf_tree.specs.Paths.{is_slash, is_empty}
-use Rattle.kf_tree.specs.Ways.{later_parts}
+use Rattle.kf_core.specs.Paths.{is_slash, is_empty, later_parts}
 use Rattle.kf_tree.proofs.paths.has_empty_part.Given as goal
 
 -- none was empty so far

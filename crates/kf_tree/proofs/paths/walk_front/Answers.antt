@@ -4,8 +4,8 @@ use Rattle.std.specs.List.{slice_split}
 use Rattle.kf_core.specs.Tree.{Tree}
 use Rattle.kf_core.specs.declared.key.Key.{Key}
 use Rattle.kf_core.specs.declared.refusal.Refusal.{Refusal}
-use Rattle.kf_tree.specs.Paths.{is_slash, front, final, walk, and_then, found}
-use Rattle.kf_tree.specs.Ways.{later_parts}
+use Rattle.kf_core.specs.Paths.{is_slash, later_parts}
+use Rattle.kf_tree.specs.Paths.{front, final, walk, and_then, found}
 use Rattle.kf_tree.proofs.Parts.{front_is, final_more}
 use Rattle.kf_tree.proofs.Unnamed.{walked_named}
 use Rattle.kf_tree.proofs.paths.walk_front.Goals as goal

@@ -1,7 +1,8 @@
 use Rattle.std.proofs.Common.{◌≡◌, length}
 use Rattle.std.specs.List.{slice_split}
 use Rattle.kf_core.specs.Tree.{IsIn}
-use Rattle.kf_tree.specs.Paths.{is_slash, walk, front, final}
+use Rattle.kf_core.specs.Paths.{is_slash}
+use Rattle.kf_tree.specs.Paths.{walk, front, final}
 use Rattle.kf_tree.proofs.paths.walk_front.Given as goal
 
 -- the rest of the walk is the whole walk, to the same last name, and leads on from a record of the tree

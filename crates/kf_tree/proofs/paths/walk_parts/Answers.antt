@@ -2,7 +2,7 @@ use Rattle.std.proofs.Common.{ap, sym, ◌∙◌}
 use Rattle.std.specs.Option.{option_map}
 use Rattle.kf_tree.specs.Paths.{walk}
 use Rattle.kf_tree.specs.Shown.{shown}
-use Rattle.kf_tree.specs.Ways.{later_parts}
+use Rattle.kf_core.specs.Paths.{later_parts}
 use Rattle.kf_tree.proofs.Unnamed.{walked_named}
 use Rattle.kf_tree.proofs.paths.walk_parts.Goals as goal
 

@@ -2,9 +2,9 @@ use Rattle.std.proofs.Common.{◌≡◌, ◌+◌, length}
 use Rattle.std.specs.Option.{option_map, option_map_or}
 use Rattle.std.specs.List.{slice_split}
 use Rattle.kf_core.specs.Tree.{IsIn}
-use Rattle.kf_tree.specs.Paths.{is_slash, walk}
+use Rattle.kf_core.specs.Paths.{is_slash, later_parts}
+use Rattle.kf_tree.specs.Paths.{walk}
 use Rattle.kf_tree.specs.Shown.{shown}
-use Rattle.kf_tree.specs.Ways.{later_parts}
 use Rattle.kf_tree.proofs.paths.walk_parts.Given as goal
 
 -- the rest of the walk is the whole walk, and leads on from a record that is shown

@@ -5,7 +5,7 @@ use Rattle.kf_looks.specs.declared.found.Found.{Found}
 use Rattle.kf_looks.specs.declared.view.Link.{Link}
 use Rattle.kf_looks.specs.Lines.{bytes_in}
 use Rattle.kf_looks.specs.Links.{top, walked, child_of}
-use Rattle.kf_looks.specs.Paths.{is_slash, is_empty, later_parts}
+use Rattle.kf_core.specs.Paths.{is_slash, is_empty, later_parts}
 use Rattle.kf_looks.specs.Reading.{Tells}
 use Rattle.kf_looks.proofs.Following.{goes_on, tells_on}
 use Rattle.kf_looks.proofs.Seats.{same_again}

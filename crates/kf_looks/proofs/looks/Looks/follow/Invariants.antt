@@ -2,7 +2,7 @@ use Rattle.std.proofs.Common.{◌≡◌, ◌+◌, length}
 use Rattle.std.specs.Option.{option_map, option_map_or}
 use Rattle.std.specs.List.{list_any, slice_split}
 use Rattle.kf_looks.specs.Links.{top, walked}
-use Rattle.kf_looks.specs.Paths.{is_slash, is_empty, later_parts}
+use Rattle.kf_core.specs.Paths.{is_slash, is_empty, later_parts}
 use Rattle.kf_looks.specs.Reading.{IsSameSeat, Follows, Tells}
 use Rattle.kf_looks.proofs.looks.Looks.follow.Given as goal
 

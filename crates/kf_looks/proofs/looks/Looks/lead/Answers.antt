@@ -1,7 +1,8 @@
 use Rattle.std.proofs.Common.{rules, ◌≡◌, ℕ, ◌-◌, List, length, take, drop, Some, true, false, get_or, sym, ◌∙◌, eq-eqb}
 use Rattle.std.specs.List.{slice_split}
 use Rattle.kf_looks.specs.Links.{top, walked}
-use Rattle.kf_looks.specs.Paths.{is_slash, led}
+use Rattle.kf_core.specs.Paths.{is_slash}
+use Rattle.kf_looks.specs.Paths.{led}
 use Rattle.kf_looks.specs.Reading.{Tells}
 use Rattle.kf_looks.proofs.Leading.{led_on}
 use Rattle.kf_looks.proofs.Following.{tells_on}
