@@ -60,6 +60,7 @@ impl Guard for World {
         }
     }
 
+    #[inline(always)]
     fn leave(&mut self, call: WorldCall) -> usize {
         let WorldCall { caller, key: _ } = call;
         self.leave(caller);
