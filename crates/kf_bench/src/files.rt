@@ -25,12 +25,6 @@ const PAGED_OPENINGS: u32 = 10_000;
 /// How many reads each thread makes in one round.
 const READS: u32 = 1_000_000;
 
-/// For reading and for writing.
-const BOTH: Want = Want {
-    read: true,
-    write: true,
-};
-
 /// Each show gives a text of four bytes.
 #[derive(Clone, Copy)]
 struct FourBytes;
@@ -85,7 +79,7 @@ fn open<N: Naming, P: PageHolder + Drop>(
     ensures slot { IfOk result (λ file. file.post.slot ≡ file.hold.key.slot) }
 {
     let node = hold.node();
-    match WaitingFile::open_on(hold, node, BOTH, post, page) {
+    match WaitingFile::open_on(hold, node, Want::BOTH, post, page) {
         Ok(file) => Ok(file),
         Err((hold, _post, _page, refusal)) => {
             hold.release();

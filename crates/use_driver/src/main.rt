@@ -101,13 +101,9 @@ fn run<N: Naming + Send + Sync, R: Threads + Wait + Print + Sync>(
     create_group(&mut editor, device, &Group::new(None, &[input, max]))?;
     create_group(&mut editor, device, &Group::new(Some(b"power"), &[label]))?;
     editor.activate(device)?; // now all of it is live
-    let wanted = Want {
-        read: true,
-        write: true,
-    };
-    let mut first = open_path(&mut editor, &mut posts, b"/hwmon0/temp1_max", wanted)?;
-    let mut second = open_path(&mut editor, &mut posts, b"/hwmon0/temp1_max", wanted)?;
-    let mut limit = open_path(&mut editor, &mut posts, b"/hwmon0/temp1_max", wanted)?;
+    let mut first = open_path(&mut editor, &mut posts, b"/hwmon0/temp1_max", Want::BOTH)?;
+    let mut second = open_path(&mut editor, &mut posts, b"/hwmon0/temp1_max", Want::BOTH)?;
+    let mut limit = open_path(&mut editor, &mut posts, b"/hwmon0/temp1_max", Want::BOTH)?;
     let (raised, _) = notify(editor.state(), &mut posts, device, b"temp1_max")?;
     let event = raised
         .ok()

@@ -20,11 +20,6 @@ use std::marker::Brand;
 use std::sync::{Mutex, Wait};
 use std::thread::{Threads, join};
 
-const BOTH: Want = Want {
-    read: true,
-    write: true,
-};
-
 const NAMES: [&[u8]; 8] = [b"l0", b"l1", b"l2", b"l3", b"l4", b"l5", b"l6", b"l7"];
 
 /// The 64 registers of a line, which a lock keeps whole, and the runtime, which takes locks.
@@ -70,8 +65,8 @@ fn stores<N: Naming, T: DriverTable, R: Wait>(
     posts: &mut Posts,
 ) -> Result<bool, Refusal> {
     let mut editor = tree.edit(rt);
-    let mut value = open_path(&mut editor, posts, b"/gpio0/l3/value", BOTH)?;
-    let mut config = open_path(&mut editor, posts, b"/gpio0/l3/config", BOTH)?;
+    let mut value = open_path(&mut editor, posts, b"/gpio0/l3/value", Want::BOTH)?;
+    let mut config = open_path(&mut editor, posts, b"/gpio0/l3/config", Want::BOTH)?;
     drop(editor);
     let mut right = true;
     for _ in 0..500u32 {
@@ -97,7 +92,7 @@ fn uses<N: Naming + Send + Sync, T: DriverTable + Sync, R: Threads + Wait + Prin
     lines: &[T],
 ) -> anyhow::Result<()> {
     let driver = Driver::new(Lines::new(tags, lines, End));
-    let mut watched = open_path(&mut tree.edit(rt), posts, b"/gpio0/l3/value", BOTH)?;
+    let mut watched = open_path(&mut tree.edit(rt), posts, b"/gpio0/l3/value", Want::BOTH)?;
     let (levels, stored) = join(
         rt,
         || waits(rt, tree, &driver, &mut watched),

@@ -14,12 +14,6 @@ use std::sync::Wait;
 
 const SLOTS: u32 = 32;
 
-/// For writing alone.
-const WRITE: Want = Want {
-    read: false,
-    write: true,
-};
-
 /// Prints the names in a directory.
 fn print_names<N: Naming, R: Wait + Print>(
     rt: &R,
@@ -68,7 +62,7 @@ fn delete<N: Naming, R: Wait>(
             return Err(refusal);
         }
     };
-    let mut file = match WaitingFile::<N>::open(hold, node, WRITE, post) {
+    let mut file = match WaitingFile::<N>::open(hold, node, Want::WRITE, post) {
         Ok(file) => file,
         Err((hold, _, refusal)) => {
             hold.release();

@@ -14,12 +14,6 @@ use std::alloc::Global;
 use std::marker::Brand;
 use std::sync::Wait;
 
-/// For reading and for writing.
-const BOTH: Want = Want {
-    read: true,
-    write: true,
-};
-
 /// What a store of no number answers (`EINVAL`).
 const NO_NUMBER: Fault = Fault { number: 22 };
 
@@ -67,7 +61,7 @@ fn open<N: Naming, R: Wait>(
     };
     let key = editor.create(root, b"limit", node, true)?;
     let hold = editor.hold(key)?;
-    match OpenFile::open(&mut Seats, hold, node, BOTH, post) {
+    match OpenFile::open(&mut Seats, hold, node, Want::BOTH, post) {
         Ok(file) => Ok(file),
         Err((hold, _, refusal)) => {
             hold.release();
