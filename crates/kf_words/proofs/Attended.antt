@@ -3,6 +3,9 @@
 use Rattle.std.proofs.Common.{◌≡◌, ◌⊎◌, inl, inr, ℕ, true, List, [], ◌∷◌, ◌++◌, length, set, refl, sym, ap, ◌∙◌, subst, ⊎_elim}
 use Rattle.std.proofs.lemmas.Option.{get_or_from_slice_get}
 use Rattle.std.specs.Prelude.{is_some}
+use Rattle.std.proofs.lemmas.Option.{same_Some}
+use mathlib.Core.Option.{some-injective}
+use Rattle.kf_core.specs.declared.key.Key.{Key}
 use Rattle.kf_core.specs.declared.event.Event.{Event}
 use Rattle.kf_core.specs.declared.event.Event.TheVariants.{Pin, Release, Unlink}
 use Rattle.kf_core.specs.Bare.{BareWorld}
@@ -14,14 +17,13 @@ use Rattle.kf_words.specs.declared.view.View.TheVariants as seat
 use Rattle.kf_words.specs.Rule.{Shown, seats, bare_world, last_key}
 use Rattle.kf_words.specs.Steps.{no_state, state_at, spent_hold, without_node}
 use Rattle.kf_words.proofs.Seating.{seats-push}
-use Rattle.kf_core.specs.declared.key.Key.{Key}
 use Rattle.kf_core.specs.declared.slot.SlotState.{SlotState}
 use Rattle.kf_words.specs.Nodes.{marks_of}
-use Rattle.kf_words.specs.TableSteps.{Table, StepKind, splits, unlinks, master_in, world, HoldsSlot, IsDrainedOn, IsPinnable, IsAttended, answers, WordStep}
+use Rattle.kf_words.specs.TableSteps.{Table, StepKind, splits, unlinks, master_in, world, HoldsSlot, IsDrainedOn, IsPinnable, IsAttended, answers, WordStep, hands_on, IsHandable}
 use Rattle.kf_words.proofs.MasterAllowed.{state_there}
 use Rattle.kf_words.proofs.Coming.{passes, spent_world}
 use Rattle.kf_words.proofs.Events.{unlink_is_unlink}
-use Rattle.kf_words.proofs.WordSteps.{IsEvent, Alone, TakenOut, Came, Passed, at, met, world_is, split_pins, linked_pins, held_pins, word_step}
+use Rattle.kf_words.proofs.WordSteps.{IsEvent, Alone, TakenOut, Came, Passed, at, met, world_is, split_pins, linked_pins, held_pins, word_step, hand_pins}
 
 -- a node taken out while a caller is drained on it is an Unlink by that caller
 pub unlink_event : (slots limit : ℕ) (t : Table) (slot : ℕ) (t' : Table) → Shown slots limit t → WordStep t (unlinks slot) t' → (j : ℕ) → IsDrainedOn t slot j → BareStep (world t) (Unlink j) (world t')
@@ -52,6 +54,19 @@ pin_event slots limit t slot t' g s may =
           (λ (node : is_some (state_at (master_in t.views) slot).marks ≡ true). linked_pins slots limit t t' g m s.1 slot p.0 p.1 (ap (λ (l : List View). is_some (state_at (master_in l) slot).marks) (sym k.views) ∙ node))
           (λ (held : (j : ℕ) × HoldsSlot t slot j). held_pins slots limit t t' g m s.1 slot p.0 p.1 held.0 held.1)
           may) s.4,
+    )
+
+-- so is a hold that a caller counted, of any key that is linked or held then
+pub hand_event : (slots limit : ℕ) (t : Table) (j : ℕ) (t' : Table) → Shown slots limit t → WordStep t (hands_on j) t' → IsHandable t j → (e : Event) × BareStep (world t) e (world t')
+hand_event slots limit t j t' g s lent =
+    let c : CallerView = s.0 in
+    let key : Key = s.1 in
+    let seats_are : seat.Caller lent.0 ≡ seat.Caller c = some-injective _ _ (sym lent.2 ∙ s.4) in
+    let same : lent.0 ≡ c = cc in
+    let its : lent.1 ≡ key = same_Some lent.1 key (sym lent.3 ∙ ap (λ (x : CallerView). x.pinning) same ∙ s.3) in
+    let may : MayPin (world t) key = subst (λ (k : Key). MayPin (world t) k) its lent.4 in (
+      Pin (length g.callers) key,
+      hand_pins slots limit t t' g j c s.4 key s.3 may s.5,
     )
 
 -- a seat of the root's key that holds nothing is a Pin and a Release, while the root is linked or held
@@ -92,9 +107,14 @@ attended_event slots limit t kind t' h s may = ⊎_elim
     let drained : (j : ℕ) × IsDrainedOn t o.slot j = subst (λ (k : StepKind). IsAttended t k) o.kind_is may in
     inr (one_event (world t) (world t') (Unlink drained.0) (unlink_event slots limit t o.slot t' h (subst (λ (k : StepKind). WordStep t k t') o.kind_is s) drained.0 drained.1)))
     (λ (m : Came kind (world t) (world t') ⊎ Passed kind (world t) (world t')). ⊎_elim
-    (λ (c : Came kind (world t) (world t')).
-    let e = pin_event slots limit t c.slot t' h (subst (λ (k : StepKind). WordStep t k t') c.kind_is s) (subst (λ (k : StepKind). IsAttended t k) c.kind_is may) in
+    (λ (c : Came kind (world t) (world t')). ⊎_elim
+    (λ (x : (slot : ℕ) × (kind ≡ splits slot)).
+    let e = pin_event slots limit t x.0 t' h (subst (λ (k : StepKind). WordStep t k t') x.1 s) (subst (λ (k : StepKind). IsAttended t k) x.1 may) in
     inr (one_event (world t) (world t') e.0 e.1))
+    (λ (x : (j : ℕ) × (kind ≡ hands_on j)).
+    let e = hand_event slots limit t x.0 t' h (subst (λ (k : StepKind). WordStep t k t') x.1 s) (subst (λ (k : StepKind). IsAttended t k) x.1 may) in
+    inr (one_event (world t) (world t') e.0 e.1))
+    c.kind_is)
     (λ (p : Passed kind (world t) (world t')). inr (⊎_elim
     (λ (pinned : MayPin (world t) p.key). (Pin (length (world t).callers) p.key ∷ Release (length (world t).callers) ∷ [], passes (world t) p.key pinned (world t') p.is))
     (λ (its : kind ≡ answers). answer_event slots limit t t' h (subst (λ (k : StepKind). WordStep t k t') its s) (subst (λ (k : StepKind). IsAttended t k) its may))

@@ -125,4 +125,4 @@ module _ (count limit homes id : ℕ) (me : Seated) (i : ℕ) (is : me ≡ (seat
   part_allowed is_in = hold_step (λ n. n) after_part (λ words m cs j shows at small. part_owes words m cs j me_c shows at (λ e. let x : Drained ≡ Spent = sym is_in.0 ∙ e in cc) is_in.0 is_in.1)
 
   pub miss_allowed : IsAtRest me_c → Allows (Shown count limit) homes id me i (λ n. n) (CallerBecomes after_miss no_step me)
-  miss_allowed waits = hold_step (λ n. n) after_miss (λ words m cs j shows at small. miss_owes words m cs j me_c shows at (waiting_is me_c.phase waits.0).0 waits.0 waits.1)
+  miss_allowed waits = hold_step (λ n. n) after_miss (λ words m cs j shows at small. miss_owes words m cs j me_c shows at (waiting_is me_c.phase waits.0).0 waits.0 waits.1 (hold_index me_c.key.slot))

@@ -1,6 +1,6 @@
 -- A step of a caller changes its view and one word of its slot, and the rule stays.
 use Rattle.std.proofs.Common.{◌&&◌, ◌||◌, ◌≡◌, ◌≢◌, ℕ, zero, suc, ◌+◌, ◌-◌, ◌%◌, ◌^◌, ◌<◌, ◌≤◌, eqb, length, Bool, true, false, not, List, [], ◌∷◌, map, set, if◌then◌else◌, refl, sym, ap, ◌∙◌, subst, ⊎_elim, arith, length-set, get_or-set_same, get_or-set_other, eq-eqb, ne_eqb}
-use Rattle.std.specs.Prelude.{slice_get, Some, None}
+use Rattle.std.specs.Prelude.{slice_get, Option, Some, None}
 use Rattle.std.proofs.lemmas.Option.{slice_get_within}
 use mathlib.Core.Logic.{dite}
 use mathlib.Core.Option.{some}
@@ -25,7 +25,7 @@ use Rattle.atomic_table.proofs.Lists.{at_set}
 use Rattle.kf_words.specs.declared.view.CallerView.{CallerView}
 use Rattle.kf_words.specs.declared.view.MasterView.{MasterView}
 use Rattle.kf_words.specs.Layout.{bit, active_index, hold_index, active_word, hold_word, IsFree}
-use Rattle.kf_words.specs.Rule.{tally, is_user, is_hider, is_holder, is_pinner, users, hiders, holders, pins_in, ShowsMarks, ShowsHolds, StillHolds, last_key, caller, bare_world, Shows}
+use Rattle.kf_words.specs.Rule.{tally, is_user, is_hider, is_holder, is_in, is_pinner, users, hiders, holders, pins_in, ShowsMarks, ShowsHolds, StillHolds, last_key, caller, bare_world, Shows}
 use Rattle.kf_words.proofs.Bits.{one_more, one_less, counted_unspent, not_spent, held_not_free}
 use Rattle.kf_words.proofs.Seating.{caller_at, at_caller, tally-set, tally≤, tally-one}
 
@@ -98,6 +98,10 @@ module _ {words : List ℕ} {m : MasterView} {cs : List CallerView} (j : ℕ) {c
   pub off : (k : ℕ) (x : CallerView) (b : Bool) → x.key.slot ≢ k → ((eqb x.key.slot k) && b) ≡ false
   off k x b ne = ap (λ (a : Bool). a && b) (ne_eqb x.key.slot k ne)
 
+  -- a free slot is another
+  pub elsewhere : (k : ℕ) → IsFree (hold_word words k) → k ≡ slot → ⊥
+  elsewhere k free its = not_free (subst (λ (x : ℕ). IsFree (hold_word words x)) its free)
+
   module _ (c' : CallerView) (same : c'.key ≡ c.key) where
     pub in_other : (p : ℕ → CallerView → Bool) (k : ℕ) → k ≢ slot → ((x : CallerView) → x.key.slot ≢ k → p k x ≡ false) → tally (p k) (set cs j c') ≡ tally (p k) cs
     in_other p k apart none_there =
@@ -113,20 +117,45 @@ module _ {words : List ℕ} {m : MasterView} {cs : List CallerView} (j : ℕ) {c
         let y : bit (p slot c') 1 ≡ bit b' 1 = ap (λ (y : Bool). bit y 1) now in
         omega arith
 
-    -- in another slot nobody comes to hold, and none of its holds goes
-    pub held_in_other : (k : ℕ) → k ≢ slot → holders k (set cs j c') ≡ holders k cs
-    held_in_other k ne =
-        let a = in_other is_holder k ne (λ x. off k x (not (is_spent x.phase))) in
-        let b = in_other is_pinner k ne (λ x. off k x x.pinning) in
+    -- the seats of holds change by its phase
+    seats_in_other : (k : ℕ) → k ≢ slot → tally (is_holder k) (set cs j c') ≡ tally (is_holder k) cs
+    seats_in_other k ne = in_other is_holder k ne (λ x. off k x (not (is_spent x.phase)))
+
+    seats_in_this : (b b' : Bool) → not (is_spent c.phase) ≡ b → not (is_spent c'.phase) ≡ b' → tally (is_holder slot) (set cs j c') + bit b 1 ≡ tally (is_holder slot) cs + bit b' 1
+    seats_in_this b b' was now = in_this is_holder b b' (ap (λ (s : Bool). s && not (is_spent c.phase)) (in_its_slot c refl) ∙ was) (ap (λ (s : Bool). s && not (is_spent c'.phase)) (in_its_slot c' same) ∙ now)
+
+    pub seats_stay : c'.phase ≢ Spent → (k : ℕ) → tally (is_holder k) (set cs j c') ≡ tally (is_holder k) cs
+    seats_stay holds' k = dite (ℕ_discrete k slot)
+        (λ e. subst (λ (x : ℕ). tally (is_holder x) (set cs j c') ≡ tally (is_holder x) cs) (sym e)
+        (let r = seats_in_this true true (ap not (not_spent c.phase holding)) (ap not (not_spent c'.phase holds')) in omega arith))
+        (λ ne. seats_in_other k ne)
+
+    -- what it counted stays, or is one hold more in the slot of a key
+    pinners_stay : c'.pinning ≡ c.pinning → (k : ℕ) → tally (is_pinner k) (set cs j c') ≡ tally (is_pinner k) cs
+    pinners_stay pins k =
+        let r = tally-set (is_pinner k) cs j c c' at in
+        let e : bit (is_pinner k c') 1 ≡ bit (is_pinner k c) 1 = ap (λ (o : Option Key). bit (is_in k o) 1) pins in
         omega arith
 
-    -- in its own slot the holds change by its phase and by what it counted
-    pub held_in_this : (b b' p p' : Bool) → not (is_spent c.phase) ≡ b → not (is_spent c'.phase) ≡ b' → c.pinning ≡ p → c'.pinning ≡ p'
-        → holders slot (set cs j c') + (bit b 1 + bit p 1) ≡ holders slot cs + (bit b' 1 + bit p' 1)
-    held_in_this b b' p p' was now counted counts =
-        let x = in_this is_holder b b' (ap (λ (s : Bool). s && not (is_spent c.phase)) (in_its_slot c refl) ∙ was) (ap (λ (s : Bool). s && not (is_spent c'.phase)) (in_its_slot c' same) ∙ now) in
-        let y = in_this is_pinner p p' (ap (λ (s : Bool). s && c.pinning) (in_its_slot c refl) ∙ counted) (ap (λ (s : Bool). s && c'.pinning) (in_its_slot c' same) ∙ counts) in
+    pub pinners_more : (key : Key) → c.pinning ≡ None → c'.pinning ≡ Some key → (k : ℕ) → tally (is_pinner k) (set cs j c') ≡ tally (is_pinner k) cs + bit (eqb key.slot k) 1
+    pinners_more key none some_key k =
+        let r = tally-set (is_pinner k) cs j c c' at in
+        let a : bit (is_pinner k c) 1 ≡ 0 = ap (λ (o : Option Key). bit (is_in k o) 1) none in
+        let b : bit (is_pinner k c') 1 ≡ bit (eqb key.slot k) 1 = ap (λ (o : Option Key). bit (is_in k o) 1) some_key in
         omega arith
+
+    pub held_in_other : c'.pinning ≡ c.pinning → (k : ℕ) → k ≢ slot → holders k (set cs j c') ≡ holders k cs
+    held_in_other pins k ne = let a = seats_in_other k ne in let b = pinners_stay pins k in omega arith
+
+    pub held_in_this : c'.pinning ≡ c.pinning → (b b' : Bool) → not (is_spent c.phase) ≡ b → not (is_spent c'.phase) ≡ b' → holders slot (set cs j c') + bit b 1 ≡ holders slot cs + bit b' 1
+    held_in_this pins b b' was now = let x = seats_in_this b b' was now in let y = pinners_stay pins slot in omega arith
+
+    pub held_stay : c'.pinning ≡ c.pinning → c'.phase ≢ Spent → (k : ℕ) → holders k (set cs j c') ≡ holders k cs
+    held_stay pins holds' k = let a = seats_stay holds' k in let b = pinners_stay pins k in omega arith
+
+    -- the key that it counted is the last of its slot still
+    pub pinned_stays : c'.pinning ≡ c.pinning → (key : Key) → c'.pinning ≡ Some key → IsLast world key.slot key.generation
+    pinned_stays pins key p = shows.pinned j c key at (sym pins ∙ p)
 
     same_world : with_phase world j c.key c'.phase ≡ bare_world m (set cs j c')
     same_world =
@@ -138,11 +167,12 @@ module _ {words : List ℕ} {m : MasterView} {cs : List CallerView} (j : ℕ) {c
         → ((k : ℕ) (state : SlotState) → slice_get m.slots k ≡ Some state → ShowsMarks (active_word words' k) state.marks (users k (set cs j c')) (hiders k (set cs j c')))
         → ((k : ℕ) (state : SlotState) → slice_get m.slots k ≡ Some state → ShowsHolds m.limit (hold_word words' k) state (holders k (set cs j c') + pins_in m.pinning k))
         → (c'.undo_due ≡ true → c'.phase ≡ Turned)
+        → ((key : Key) → c'.pinning ≡ Some key → IsLast world key.slot key.generation)
         → ((k found : ℕ) → StillHolds m.limit found (hold_word words k) → StillHolds m.limit found (hold_word words' k))
-        → ((k : ℕ) → k ≢ slot → k < length m.slots → (active_word words' k ≡ active_word words k) × (hold_word words' k ≡ hold_word words k))
+        → ((k : ℕ) → k < length m.slots → IsFree (hold_word words k) → (active_word words' k ≡ active_word words k) × (hold_word words' k ≡ hold_word words k))
         → (c'.phase ≡ Running → are_live last.0.marks ≡ true)
         → (e : Event) → BareStep world e (with_phase world j c.key c'.phase) → Shows words' m (set cs j c')
-    moves words' wide marks' holds' undo_due still apart runs e event = record {
+    moves words' wide marks' holds' undo_due pinned' still apart runs e event = record {
       wide = wide ∙ shows.wide;
       few = shows.few;
       marks = marks';
@@ -151,10 +181,12 @@ module _ {words : List ℕ} {m : MasterView} {cs : List CallerView} (j : ℕ) {c
           (λ (h : (i ≡ j) × (c' ≡ x)). subst (λ (y : CallerView). y.undo_due ≡ true → y.phase ≡ Turned) h.1 undo_due)
           (λ (h : (i ≢ j) × (get_elem? cs i ≡ some x)). shows.tries i x h.1)
           (at_set cs j i c' x e);
+      pinned = λ i x key e. ⊎_elim
+          (λ (h : (i ≡ j) × (c' ≡ x)). subst (λ (y : CallerView). y.pinning ≡ Some key → IsLast world key.slot key.generation) h.1 (pinned' key))
+          (λ (h : (i ≢ j) × (get_elem? cs i ≡ some x)). shows.pinned i x key h.1)
+          (at_set cs j i c' x e);
       loads = λ i load e. still load.slot load.word (shows.loads i load e);
-      fresh = λ k e. let f = shows.fresh k e in dite (ℕ_discrete k slot)
-          (λ its. absurd (not_free (subst (λ (x : ℕ). IsFree (hold_word words x)) its f.2)))
-          (λ ne. let p = apart k ne f.0 in (f.0, p.0 ∙ f.1, subst IsFree (sym p.1) f.2));
+      fresh = λ k e. let f = shows.fresh k e in let p = apart k f.0 f.2 in (f.0, p.0 ∙ f.1, subst IsFree (sym p.1) f.2);
       looked = λ load state e hit its. let d = shows.looked load state e hit its in let k : ℕ = load.slot in (
         d.0,
         λ i there'. ⊎_elim
@@ -189,17 +221,12 @@ module _ {words : List ℕ} {m : MasterView} {cs : List CallerView} (j : ℕ) {c
         (λ k state its.
         let n = near in
         subst (λ (x : ℕ). ShowsHolds m.limit x state (holders k (set cs j c') + pins_in m.pinning k)) (sym (get_or-set_other words (active_index slot) (hold_index k) new 0 (λ e. omega arith)))
-        (subst (λ (x : ℕ). ShowsHolds m.limit (hold_word words k) state (x + pins_in m.pinning k)) (sym (stays k)) (shows.holds k state its)))
+        (subst (λ (x : ℕ). ShowsHolds m.limit (hold_word words k) state (x + pins_in m.pinning k)) (sym (held_stay pins holds' k)) (shows.holds k state its)))
         undo_due
+        (pinned_stays pins)
         (λ k found s. let n = near in subst (λ (x : ℕ). StillHolds m.limit found x) (sym (get_or-set_other words (active_index slot) (hold_index k) new 0 (λ e. omega arith))) s)
-        (λ k ne short. let n = near in (get_or-set_other words (active_index slot) (active_index k) new 0 (λ e. ne (omega arith)), get_or-set_other words (active_index slot) (hold_index k) new 0 (λ e. omega arith)))
+        (λ k short free. let n = near in (get_or-set_other words (active_index slot) (active_index k) new 0 (λ e. elsewhere k free (omega arith)), get_or-set_other words (active_index slot) (hold_index k) new 0 (λ e. omega arith)))
         runs
-      where
-        stays : (k : ℕ) → holders k (set cs j c') ≡ holders k cs
-        stays k = dite (ℕ_discrete k slot)
-            (λ e. subst (λ (x : ℕ). holders x (set cs j c') ≡ holders x cs) (sym e)
-            (let r = held_in_this true true c.pinning c.pinning (ap not (not_spent c.phase holding)) (ap not (not_spent c'.phase holds')) refl pins in omega arith))
-            (λ ne. held_in_other k ne)
 
     pub users_now : (b b' : Bool) → (has_reference c.phase || c.undo_due) ≡ b → (has_reference c'.phase || c'.undo_due) ≡ b' → users slot (set cs j c') + bit b 1 ≡ users slot cs + bit b' 1
     users_now b b' was now = in_this is_user b b' (ap (λ (s : Bool). s && (has_reference c.phase || c.undo_due)) (in_its_slot c refl) ∙ was) (ap (λ (s : Bool). s && (has_reference c'.phase || c'.undo_due)) (in_its_slot c' same) ∙ now)

@@ -1,6 +1,7 @@
 -- A seat comes that holds nothing: the rule stays, and the world gets a spent caller.
 use Rattle.std.proofs.Common.{◌&&◌, ◌≡◌, ◌≢◌, ◌⊎◌, inl, inr, ℕ, zero, suc, ◌+◌, Bool, true, false, true≢false, eqb, List, [], ◌∷◌, ◌++◌, length, map, set, refl, sym, ap, ◌∙◌, subst, ⊎_elim, arith}
 use Rattle.std.specs.Prelude.{slice_get, Some, IsTrue}
+use Rattle.std.proofs.lemmas.Option.{none-some}
 use mathlib.Core.Option.{some}
 use mathlib.Core.List.{map-append}
 use lib.ListN.{get_elem?}
@@ -127,7 +128,7 @@ module _ (m : MasterView) (cs : List CallerView) (key : Key) where
   no_holder : (k : ℕ) → holders k with_it ≡ holders k cs
   no_holder k =
       let a = uncounted (is_holder k) (off (eqb key.slot k)) in
-      let b = uncounted (is_pinner k) (off (eqb key.slot k)) in
+      let b = uncounted (is_pinner k) refl in
       omega arith
 
   pub come_kept : (words : List ℕ) → Shows words m cs → Shows words m with_it
@@ -140,6 +141,10 @@ module _ (m : MasterView) (cs : List CallerView) (key : Key) where
     tries = λ i y e. ⊎_elim
         (λ (old : get_elem? cs i ≡ some y). shows.tries i y old)
         (λ (last : new ≡ y). λ t. absurd (let a : false ≡ true = ap (λ (z : CallerView). z.undo_due) last ∙ t in cc))
+        (at_snoc cs new y i e);
+    pinned = λ i y k e. ⊎_elim
+        (λ (old : get_elem? cs i ≡ some y). shows.pinned i y k old)
+        (λ (last : new ≡ y). λ p. absurd (none-some k (ap (λ (z : CallerView). z.pinning) last ∙ p)))
         (at_snoc cs new y i e);
     loads = shows.loads;
     fresh = shows.fresh;

@@ -25,9 +25,9 @@ use Rattle.kf_words.specs.declared.view.MasterView.{MasterView}
 use Rattle.kf_words.specs.declared.view.View.{View}
 use Rattle.kf_words.specs.Layout.{active_word, hold_word, keeps_out, is_drained, has_hide, is_unused, has_linked}
 use Rattle.kf_words.specs.Rule.{Shown, caller, bare_world, last_key}
-use Rattle.kf_words.specs.Steps.{after_step, with_try, no_state, state_at, remarked, new_hold, spent_hold, hold_for, after_split, activated_marks, doomed_marks, after_count, after_share}
+use Rattle.kf_words.specs.Steps.{after_step, with_try, no_state, state_at, remarked, new_hold, spent_hold, hold_for, after_split, activated_marks, doomed_marks, after_count, after_share, after_count_at}
 use Rattle.kf_words.specs.Nodes.{marks_of}
-use Rattle.kf_words.specs.Events.{Moves, TryIsEnter, UndoIsUndo, LookIsLook, PartIsPart, LeaveIsLeave, BreakIsBreak, RestoreIsRestore, ReleaseIsRelease, HideIsHide, LookHiddenIsLook, ShowIsShow, MissIsNothing, RiseIsRise, MarkIsMark, BirthIsBorn, UnlinkIsUnlink, SplitIsPin, HeldSplitIsPin, ShareIsPin, RestIsNothing, Passes, ReportPasses, AnswerPasses}
+use Rattle.kf_words.specs.Events.{Moves, TryIsEnter, UndoIsUndo, LookIsLook, PartIsPart, LeaveIsLeave, BreakIsBreak, RestoreIsRestore, ReleaseIsRelease, HideIsHide, LookHiddenIsLook, ShowIsShow, MissIsNothing, RiseIsRise, MarkIsMark, BirthIsBorn, UnlinkIsUnlink, SplitIsPin, HeldSplitIsPin, ShareIsPin, RestIsNothing, Passes, ReportPasses, AnswerPasses, HandOnIsPin}
 use Rattle.kf_words.proofs.Bits.{bool_cases, waiting_is, not_not}
 use Rattle.kf_words.proofs.Answered.{try_enters, try_refused, look_hits, look_misses, part_gone, part_linked, hide_sets, hide_found, look_hidden_hits, look_hidden_misses}
 use Rattle.kf_words.proofs.Keys.{linked_state}
@@ -192,6 +192,8 @@ miss_is_nothing slots limit t shown j c at found =
       stays m cs j c at c.undo_due found,
       ap (λ (l : List Caller). let w : BareWorld = record { slots = m.slots; callers = l } in w) (map-set caller cs j (after_count found c) ∙ sym (map-set caller cs j (after_step c.phase c.undo_due found c)))
           ∙ stays m cs j c at c.undo_due found,
+      λ slot. ap (λ (l : List Caller). let w : BareWorld = record { slots = m.slots; callers = l } in w) (map-set caller cs j (after_count_at slot found c) ∙ sym (map-set caller cs j (after_step c.phase c.undo_due found c)))
+          ∙ stays m cs j c at c.undo_due found,
     )
 
 -- the Master writes a slot's state
@@ -265,7 +267,14 @@ share_is_pin slots limit t shown j c at holding =
     let m : MasterView = shown.master in
     let cs : List CallerView = shown.callers in
     subst (λ (n : ℕ). core.BareStep (bare_world m cs) (Pin n c.key) (bare_world m (set cs j (after_share c) ++ new_hold c.key ∷ [])))
-    (length-map cs caller) (is_pinned m cs j c (seated_at cs j c at) holding)
+    (length-map cs caller) (is_pinned m cs j c (seated_at cs j c at) c.key (inr (record { caller = j; phase = c.phase; there = there m cs j c at; holds = holding })))
+
+pub hand_on_is_pin : HandOnIsPin
+hand_on_is_pin slots limit t shown j c at key pinned may =
+    let m : MasterView = shown.master in
+    let cs : List CallerView = shown.callers in
+    subst (λ (n : ℕ). core.BareStep (bare_world m cs) (Pin n key) (bare_world m (set cs j (after_share c) ++ new_hold key ∷ [])))
+    (length-map cs caller) (is_pinned m cs j c (seated_at cs j c at) key may)
 
 pub rest_is_nothing : RestIsNothing
 rest_is_nothing slots limit t shown slot found = (refl, refl, refl, refl, refl)

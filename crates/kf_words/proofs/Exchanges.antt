@@ -1,6 +1,6 @@
 -- A caller's exchange on its hold word, and the split that follows it, are the next steps of the one run.
 use Rattle.std.proofs.Common.{◌≡◌, ◌≢◌, ℕ, suc, ◌+◌, ◌%◌, ◌<◌, Bool, true, false, eqb, List, [], ◌∷◌, ◌++◌, set, if◌then◌else◌, refl, sym, ap, ◌∙◌, subst, arith, eq-eqb, ne_eqb, eqb-true}
-use Rattle.std.specs.Prelude.{slice_index}
+use Rattle.std.specs.Prelude.{slice_index, Some, None}
 use prog.Atomic.{either}
 use mathlib.Core.Logic.{dite}
 use mathlib.Core.Option.{some, none}
@@ -27,7 +27,7 @@ either_same : (b : Bool) (n : ℕ) → either b n n ≡ n
 either_same true n = refl
 either_same false n = refl
 
-either_at : (b : Bool) (k n : ℕ) → (b ≡ true → n ≡ k) → either b k n ≡ n
+pub either_at : (b : Bool) (k n : ℕ) → (b ≡ true → n ≡ k) → either b k n ≡ n
 either_at true k n e = sym (e refl)
 either_at false k n e = refl
 
@@ -36,7 +36,7 @@ module _ (o : Opening) (homes id : ℕ) (me : Sighted) (is : plain me ≡ (seat.
   my = caller_of me.0.view
 
   -- where a table that meets the rule allows a step of the caller, it is the next of the one run
-  one_made : (t : SeenTable) (h : Kept o t) (at : get_elem? t.views id ≡ some me.0) (i n : ℕ) (kind : ℕ → StepKind) → IsQuiet kind → (c' : CallerView)
+  pub one_made : (t : SeenTable) (h : Kept o t) (at : get_elem? t.views id ≡ some me.0) (i n : ℕ) (kind : ℕ → StepKind) → IsQuiet kind → (c' : CallerView)
       → ((j : ℕ) → IsSeated (erased t) j my → WordStep (erased t) (kind j) (stepped (erased t) i n (suc j) [] (seat.Caller c') keeps))
       → (after : Sight) × (after.view ≡ seat.Caller c') × Kept o (stepped t i n id [] after keeps) × WasMade kind (caller_sight me.0) (caller_sight after)
   one_made t h at i n kind quiet c' makes =
@@ -71,10 +71,10 @@ module _ (o : Opening) (homes id : ℕ) (me : Sighted) (is : plain me ≡ (seat.
       )
 
   -- the most holds of the table are those of the opening that the caller has seen
-  opening_is : (t : SeenTable) (h : Kept o t) → get_elem? t.views id ≡ some me.0 → o.holds ≡ me.0.seen.opening.holds
+  pub opening_is : (t : SeenTable) (h : Kept o t) → get_elem? t.views id ≡ some me.0 → o.holds ≡ me.0.seen.opening.holds
   opening_is t h at = ap (λ (x : Opening). x.holds) (sym (h.seen id me.0 at).0)
 
-  limit_is : (t : SeenTable) (h : Kept o t) → (master_in (erased t).views).limit ≡ o.holds
+  pub limit_is : (t : SeenTable) (h : Kept o t) → (master_in (erased t).views).limit ≡ o.holds
   limit_is t h = ap (λ (l : List View). (master_in l).limit) h.shown.views ∙ h.shown.most_holds
 
   miss_here : IsAtRest my → (most : ℕ) → most ≡ o.holds
@@ -92,7 +92,7 @@ module _ (o : Opening) (homes id : ℕ) (me : Sighted) (is : plain me ≡ (seat.
         ((refl, (ap (λ (v : View). let x : Seated = (v, me.1) in x) r.1, r.3)), named ∙ opening_is t h at),
       )
 
-  exchange_here : IsAtRest my → my.pinning ≡ false → (old new : ℕ) → new ≡ old + 1 → new < 18446744073709551616 → HasSpare o.holds old
+  exchange_here : IsAtRest my → my.pinning ≡ None → (old new : ℕ) → new ≡ old + 1 → new < 18446744073709551616 → HasSpare o.holds old
       → Allows (Kept o) homes id me (hold_index my.key.slot) (λ n. either (eqb n old) new n) (MakesExchange (step homes (hold_index my.key.slot) old new none) me)
   exchange_here rests single old new more fits spare t h far at small =
       let i : ℕ = hold_index my.key.slot in
@@ -121,7 +121,7 @@ module _ (o : Opening) (homes id : ℕ) (me : Sighted) (is : plain me ≡ (seat.
       ))
 
   -- the hold that the caller counted gets its seat
-  pub share_splits : IsAtRest my → my.pinning ≡ true → Splits (Kept o) id me.0 (after_sharing me.0) (shared_out me.0)
+  pub share_splits : IsAtRest my → my.pinning ≡ Some my.key → Splits (Kept o) id me.0 (after_sharing me.0) (shared_out me.0)
   share_splits rests pinned t h at =
       let e : Table = erased t in
       let own : get_elem? e.views id ≡ some me.0.view = view_there t.views id me.0 at in
@@ -135,7 +135,7 @@ module _ (o : Opening) (homes id : ℕ) (me : Sighted) (is : plain me ≡ (seat.
     pub miss_made : IsAtRest my → (most : ℕ) → most ≡ o.holds → Allows (Kept o) homes id me i (λ n. either (eqb n most) most n) (MakesMiss (step homes i most most none) me)
     miss_made rests most named = subst (λ (k : ℕ). Allows (Kept o) homes id me k (λ n. either (eqb n most) most n) (MakesMiss (step homes k most most none) me)) its (miss_here rests most named)
 
-    pub exchange_made : IsAtRest my → my.pinning ≡ false → (old new : ℕ) → new ≡ old + 1 → new < 18446744073709551616 → HasSpare o.holds old
+    pub exchange_made : IsAtRest my → my.pinning ≡ None → (old new : ℕ) → new ≡ old + 1 → new < 18446744073709551616 → HasSpare o.holds old
         → Allows (Kept o) homes id me i (λ n. either (eqb n old) new n) (MakesExchange (step homes i old new none) me)
     exchange_made rests single old new more fits spare =
         subst (λ (k : ℕ). Allows (Kept o) homes id me k (λ n. either (eqb n old) new n) (MakesExchange (step homes k old new none) me)) its (exchange_here rests single old new more fits spare)

@@ -9,7 +9,7 @@ use Rattle.kf_core.specs.declared.slot.Marks.{Marks}
 use Rattle.kf_core.specs.Bare.{BareWorld, marks}
 use Rattle.kf_core.specs.Steps.{BareStep}
 use Rattle.kf_core.specs.Steps as core
-use Rattle.kf_words.specs.TableSteps.{StepKind, tries, splits, unlinks, answers}
+use Rattle.kf_words.specs.TableSteps.{StepKind, tries, splits, unlinks, answers, hands_on}
 
 -- a doomed node on which nobody runs was taken out, with no caller that is drained there
 pub record TakenOut (kind : StepKind) (w w' : BareWorld) : Type 0 where
@@ -23,8 +23,7 @@ pub record TakenOut (kind : StepKind) (w w' : BareWorld) : Type 0 where
 
 -- a caller came to a key, with no other that holds it
 pub record Came (kind : StepKind) (w w' : BareWorld) : Type 0 where
-  pub slot : ℕ
-  pub kind_is : kind ≡ splits slot
+  pub kind_is : ((slot : ℕ) × (kind ≡ splits slot)) ⊎ ((j : ℕ) × (kind ≡ hands_on j))
   pub key : Key
   pub is : w' ≡ core.with_caller w key
 

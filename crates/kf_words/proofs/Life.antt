@@ -1,15 +1,16 @@
 -- A run with every kind of step on words: each step is as its table says.
-use Rattle.std.proofs.Common.{◌≡◌, ◌≢◌, inl, inr, true, false, List, [], ◌∷◌, refl, ltb-true}
-use Rattle.std.specs.Prelude.{Some, None}
+use Rattle.std.proofs.Common.{◌≡◌, ◌≢◌, inl, inr, true, false, List, [], ◌∷◌, refl, ltb-true, ℕ, ◌++◌}
+use Rattle.std.specs.Prelude.{Some, None, Option}
 use Rattle.kf_core.specs.declared.command.Command.TheVariants.{Doom}
 use Rattle.kf_words.specs.declared.note.Note.TheVariants.{Did}
 use Rattle.kf_core.specs.declared.caller.Phase.TheVariants.{Still, Turned, Running, Broken, Restored, Drained, Parted, Hiding, Hidden, Spent}
-use Rattle.kf_words.specs.TableSteps.{Table, births, breaks, hides, leaves, loads_hold, looks, looks_hidden, looks_over, marks_node, parts, pins_hold, releases, misses, counts, shares, restores, shows, sleeps, awakes, splits, stores_fresh, takes_bias, tries, undoes, unlinks, unpins_hold, notes, reports, answers, compares, WordStep}
+use Rattle.kf_words.specs.TableSteps.{Table, births, breaks, hides, leaves, loads_hold, looks, looks_hidden, looks_over, marks_node, parts, pins_hold, releases, misses, counts, shares, restores, shows, sleeps, awakes, splits, stores_fresh, takes_bias, tries, undoes, unlinks, unpins_hold, notes, reports, answers, compares, WordStep, misses_at, counts_at, hands_on, stores_node, reads_node}
 use Rattle.kf_core.specs.declared.key.Key.{Key}
 use Rattle.kf_words.specs.declared.view.CallerView.{CallerView}
 use Rattle.kf_words.specs.declared.view.MasterView.{MasterView}
 use Rattle.kf_words.specs.Steps.{new_hold, spent_hold}
-use Rattle.kf_words.specs.Life.{with_marks_of, caller_at, master_at, table_at, table_with, with_one_more, WordLife}
+use Rattle.kf_words.specs.Life.{with_marks_of, caller_at, master_at, table_at, table_with, with_one_more, WordLife, next_caller}
+use Rattle.kf_words.specs.declared.view.Load.{Load}
 
 still_holds : Still ≢ Spent
 still_holds e = let x : Still ≡ Spent = e in cc
@@ -292,54 +293,77 @@ s37 = (master_at 2 (Some (with_marks_of false false)) (None) (None) (record { sl
 s38 : WordStep t38 (unpins_hold 1) t39
 s38 = (master_at 2 (Some (with_marks_of false false)) (Some 1) (None) ([]) (record { slot = 1; word = 4294967296 } ∷ []) (None), (ltb-true 1 2 refl, refl), record { there = refl; fits = ltb-true 10737418241 18446744073709551616 refl; becomes = refl })
 
--- a hold of the next node meets the Master
-abbrev second : Key
-second = record { slot = 1; generation = 2 }
+-- of the next node the Master gives a hold to caller 3, which makes one more by the node's key
+abbrev past : List CallerView
+past = (caller_at Spent 11 3 4294967297 false) ∷ (caller_at Spent 10 1 4294967298 false) ∷ (caller_at Spent 1 0 4294967298 false) ∷ []
 
-abbrev callers_of_it : List CallerView → List CallerView
-callers_of_it more = (caller_at Spent 11 3 4294967297 false) ∷ (caller_at Spent 10 1 4294967298 false) ∷ (caller_at Spent 1 0 4294967298 false) ∷ more
-
-abbrev m_found : MasterView
-m_found = master_at 2 (Some (with_marks_of false false)) (None) (None) (record { slot = 1; word = 10737418240 } ∷ []) (record { slot = 1; word = 4294967296 } ∷ []) (None)
-
-abbrev m_pins : MasterView
-m_pins = master_at 2 (Some (with_marks_of false false)) (Some 1) (None) ([]) (record { slot = 1; word = 4294967296 } ∷ []) (None)
-
-abbrev m_gave : MasterView
-m_gave = master_at 2 (Some (with_marks_of false false)) (None) (None) ([]) (record { slot = 1; word = 4294967296 } ∷ []) (None)
+abbrev next_master : Option ℕ → List Load → MasterView
+next_master pinning loads = master_at 2 (Some (with_marks_of false false)) pinning (None) loads (record { slot = 1; word = 4294967296 } ∷ []) (None)
 
 abbrev t40 : Table
-t40 = table_at 4294967296 10737418240 m_found (callers_of_it [])
+t40 = table_at 4294967296 10737418240 (next_master (None) (record { slot = 1; word = 10737418240 } ∷ [])) past
 
 abbrev t41 : Table
-t41 = table_at 4294967296 10737418241 m_pins (callers_of_it [])
+t41 = table_at 4294967296 10737418241 (next_master (Some 1) []) past
 
 abbrev t42 : Table
-t42 = table_at 4294967296 10737418241 m_gave (callers_of_it (new_hold second ∷ []))
+t42 = table_at 4294967296 10737418241 (next_master (None) []) (past ++ next_caller Still 0 0 0 false ∷ [])
 
 abbrev t43 : Table
-t43 = table_at 4294967296 10737418241 m_gave (callers_of_it (new_hold second ∷ spent_hold second ∷ []))
+t43 = table_at 4294967296 10737418241 (next_master (None) []) (past ++ next_caller Still 1 0 10737418241 false ∷ [])
 
 abbrev t44 : Table
-t44 = table_at 4294967296 10737418241 m_gave (callers_of_it (new_hold second ∷ spent_hold second ∷ spent_hold (record { slot = 0; generation = 1 }) ∷ []))
+t44 = table_at 4294967296 10737418242 (next_master (None) []) (past ++ with_one_more (next_caller Still 2 0 10737418241 false) ∷ [])
+
+abbrev t45 : Table
+t45 = table_at 4294967296 10737418242 (next_master (None) []) (past ++ next_caller Still 2 0 10737418241 false ∷ next_caller Still 0 0 0 false ∷ [])
 
 s39 : WordStep t39 (loads_hold 1) t40
-s39 = (m_gave, ltb-true 1 2 refl, record { there = refl; fits = ltb-true 10737418240 18446744073709551616 refl; becomes = refl })
+s39 = (next_master (None) [], ltb-true 1 2 refl, record { there = refl; fits = ltb-true 10737418240 18446744073709551616 refl; becomes = refl })
 
 s40 : WordStep t40 (pins_hold 1) t41
-s40 = (m_found, (ltb-true 1 2 refl, refl, (0, record { slot = 1; word = 10737418240 }, refl, refl, ltb-true 0 3 refl)), record { there = refl; fits = ltb-true 10737418240 18446744073709551616 refl; becomes = refl })
+s40 = (next_master (None) (record { slot = 1; word = 10737418240 } ∷ []), (ltb-true 1 2 refl, refl, (0, record { slot = 1; word = 10737418240 }, refl, refl, ltb-true 0 3 refl)), record { there = refl; fits = ltb-true 10737418240 18446744073709551616 refl; becomes = refl })
 
 s41 : WordStep t41 (splits 1) t42
-s41 = (m_pins, refl, ltb-true 1 2 refl, refl, refl)
+s41 = (next_master (Some 1) [], refl, ltb-true 1 2 refl, refl, refl)
 
-s42 : WordStep t42 (reports 3) t43
-s42 = (new_hold second, still_holds, refl, refl)
+s42 : WordStep t42 (misses_at 1 3) t43
+s42 = (next_caller Still 0 0 0 false, (refl, refl), record { there = refl; fits = ltb-true 10737418241 18446744073709551616 refl; becomes = refl })
 
-s43 : WordStep t43 compares t43
-s43 = ((m_gave, refl), refl)
+s43 : WordStep t43 (counts_at 1 3) t44
+s43 = (next_caller Still 1 0 10737418241 false, ((refl, refl), refl, (refl, ltb-true 2 3 refl)), record { there = refl; fits = ltb-true 10737418241 18446744073709551616 refl; becomes = refl })
 
-s44 : WordStep t43 answers t44
-s44 = (m_gave, refl, ltb-true 0 2 refl, refl)
+s44 : WordStep t44 (hands_on 3) t45
+s44 = (with_one_more (next_caller Still 2 0 10737418241 false), record { slot = 1; generation = 2 }, (refl, refl), refl, refl, refl)
+
+abbrev t46 : Table
+t46 = table_at 4294967296 10737418242 (next_master (None) []) (past ++ next_caller Still 3 0 0 false ∷ next_caller Still 0 0 0 false ∷ [])
+
+s45 : WordStep t45 (reads_node 1 0 3) t46
+s45 = (next_caller Still 2 0 10737418241 false, (refl, refl), record { there = refl; fits = ltb-true 0 18446744073709551616 refl; becomes = refl })
+
+-- it meets the Master
+abbrev met_by : List CallerView → List CallerView
+met_by more = past ++ next_caller Still 3 0 0 false ∷ next_caller Still 0 0 0 false ∷ spent_hold (record { slot = 1; generation = 2 }) ∷ more
+
+abbrev t47 : Table
+t47 = table_at 4294967296 10737418242 (next_master (None) []) (met_by [])
+
+abbrev t48 : Table
+t48 = table_at 4294967296 10737418242 (next_master (None) []) (met_by (spent_hold (record { slot = 0; generation = 1 }) ∷ []))
+
+s46 : WordStep t46 (reports 3) t47
+s46 = (next_caller Still 3 0 0 false, still_holds, refl, refl)
+
+s47 : WordStep t47 compares t47
+s47 = ((next_master (None) [], refl), refl)
+
+s48 : WordStep t47 answers t48
+s48 = (next_master (None) [], refl, ltb-true 0 2 refl, refl)
+
+-- the first word of the next node is put, which is a directory
+s_node : WordStep t35 (stores_node 1 0 0) t35
+s_node = (master_at 1 (None) (None) (Some 1) (record { slot = 1; word = 4294967296 } ∷ []) (record { slot = 1; word = 0 } ∷ []) (None), ((ltb-true 1 2 refl, refl), ltb-true 0 5 refl), record { there = refl; fits = ltb-true 0 18446744073709551616 refl; becomes = refl })
 
 pub lives : WordLife
-lives = (t1, tt, s0, (t2, tt, s1, (t3, tt, s2, (t4, tt, s3, (t5, tt, s4, (t6, tt, s5, (t7, inl refl, s6, (t8, tt, s7, (t9, tt, s8, (t10, inr (0, (caller_at Still 0 0 0 false, refl, refl, still_holds)), s9, (t11, tt, s10, (t12, tt, s11, (t13, tt, s12, (t14, tt, s13, (t15, tt, s14, (t16, tt, s15, (t17, tt, s16, (t18, tt, s17, (t19, tt, s18, (t19, tt, n19, (t20, tt, s19, (t21, tt, s20, (t22, tt, s21, (a22, tt, s22, (a23, tt, a_breaks, (t23, tt, awake, (t24, tt, s23, (t25, tt, s24, (t26, tt, s25, (t27, tt, s26, (t28, tt, s27, (t29, tt, s28, (t30, (1, (caller_at Drained 8 1 6442450946 false, refl, refl, refl, refl)), s29, (t31, tt, s30, (b31, tt, s31, (t32, tt, b_releases, (c32, tt, c_counts, (d32, tt, d_shares, (e32, tt, e_releases, (t33, tt, s32, (t34, tt, s33, (t35, tt, s34, (t36, tt, s35, (t37, tt, s36, (t38, tt, s37, (t39, tt, s38, (t40, tt, s39, (t41, tt, s40, (t42, inl refl, s41, (t43, tt, s42, (t43, tt, s43, (t44, inl refl, s44, refl))))))))))))))))))))))))))))))))))))))))))))))))))))
+lives = (t1, tt, s0, (t2, tt, s1, (t3, tt, s2, (t4, tt, s3, (t5, tt, s4, (t6, tt, s5, (t7, inl refl, s6, (t8, tt, s7, (t9, tt, s8, (t10, inr (0, (caller_at Still 0 0 0 false, refl, refl, still_holds)), s9, (t11, tt, s10, (t12, tt, s11, (t13, tt, s12, (t14, tt, s13, (t15, tt, s14, (t16, tt, s15, (t17, tt, s16, (t18, tt, s17, (t19, tt, s18, (t19, tt, n19, (t20, tt, s19, (t21, tt, s20, (t22, tt, s21, (a22, tt, s22, (a23, tt, a_breaks, (t23, tt, awake, (t24, tt, s23, (t25, tt, s24, (t26, tt, s25, (t27, tt, s26, (t28, tt, s27, (t29, tt, s28, (t30, (1, (caller_at Drained 8 1 6442450946 false, refl, refl, refl, refl)), s29, (t31, tt, s30, (b31, tt, s31, (t32, tt, b_releases, (c32, tt, c_counts, (d32, tt, d_shares, (e32, tt, e_releases, (t33, tt, s32, (t34, tt, s33, (t35, tt, s34, (t35, tt, s_node, (t36, tt, s35, (t37, tt, s36, (t38, tt, s37, (t39, tt, s38, (t40, tt, s39, (t41, tt, s40, (t42, inl refl, s41, (t43, tt, s42, (t44, tt, s43, (t45, (with_one_more (next_caller Still 2 0 10737418241 false), record { slot = 1; generation = 2 }, refl, refl, inl refl), s44, (t46, tt, s45, (t47, tt, s46, (t47, tt, s47, (t48, inl refl, s48, refl)))))))))))))))))))))))))))))))))))))))))))))))))))))))))

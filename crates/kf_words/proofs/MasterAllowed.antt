@@ -194,7 +194,7 @@ pub fresh_allowed : (count limit homes id : ℕ) (me : Seated) (slot i : ℕ) �
     → Allows (Shown count limit) homes id me i (λ _. bias) (On active_index (MasterBecomes (unread after_store)) (step 0 i 0 0 none) me)
 fresh_allowed count limit homes id me slot i is its near found = active_allows count limit homes id me slot i (λ _. bias) (unread after_store) is its (fresh_owes (master_of me.0) slot near found)
 
-generation_of : (b : Bool) (g n : ℕ) → n ≤ 65535 → (g * 4294967296 + bit b linked + n) / 4294967296 ≡ g
+pub generation_of : (b : Bool) (g n : ℕ) → n ≤ 65535 → (g * 4294967296 + bit b linked + n) / 4294967296 ≡ g
 generation_of true g n h = omega arith
 generation_of false g n h = omega arith
 

@@ -82,7 +82,7 @@ module _ (o : Opening) (homes id : ℕ) (me : Sighted) (slot : ℕ) (is : plain 
         ),
       )
 
-  master_made : (i : ℕ) (index : ℕ → ℕ) → index slot ≡ i → slot_of (index slot) ≡ slot → (kind : ℕ → StepKind) → IsQuiet kind → (f : ℕ → ℕ) (after : ℕ → ℕ → MasterView → MasterView)
+  pub master_made : (i : ℕ) (index : ℕ → ℕ) → index slot ≡ i → slot_of (index slot) ≡ slot → (kind : ℕ → StepKind) → IsQuiet kind → (f : ℕ → ℕ) (after : ℕ → ℕ → MasterView → MasterView)
       → ((t t' : Table) → Plays t 0 (index slot) f (seat.Master m) (seat.Master (after slot (slice_index t.words (index slot)) m)) t' → WordStep t (kind slot) t')
       → Allows (Kept o) homes id me i f (MasterMakes index kind (MasterBecomes after) (step 0 i 0 0 none) me)
   master_made i index its back kind quiet f after makes =

@@ -1,5 +1,5 @@
 -- Each step of the Master keeps the rule.
-use Rattle.std.proofs.Common.{◌&&◌, ◌||◌, ◌≡◌, ◌≢◌, inl, ℕ, zero, suc, ◌+◌, ◌-◌, ◌*◌, ◌%◌, ◌^◌, ◌<◌, ◌≤◌, Bool, true, false, not, eqb, List, [], ◌∷◌, map, length, set, refl, sym, ap, ◌∙◌, subst, arith, length-set, get_or-set_same, get_or-set_other, eq-eqb, ne_eqb}
+use Rattle.std.proofs.Common.{◌&&◌, ◌||◌, ◌≡◌, ◌≢◌, ◌⊎◌, inl, inr, ℕ, zero, suc, ◌+◌, ◌-◌, ◌*◌, ◌%◌, ◌^◌, ◌<◌, ◌≤◌, Bool, true, false, not, eqb, List, [], ◌∷◌, map, length, set, refl, sym, ap, ◌∙◌, subst, ⊎_elim, arith, length-set, get_or-set_same, get_or-set_other, eq-eqb, ne_eqb}
 use Rattle.std.specs.Prelude.{slice_get, Option, Some, None, is_some}
 use Rattle.std.proofs.lemmas.Option.{slice_get_within, none-some}
 use mathlib.Core.Logic.{dite}
@@ -24,7 +24,7 @@ use Rattle.kf_words.specs.declared.view.CallerView.{CallerView}
 use Rattle.kf_words.specs.declared.view.MasterView.{MasterView}
 use Rattle.kf_words.specs.declared.view.Load.{Load}
 use Rattle.kf_words.specs.Layout.{bit, bias, doom, hide, linked, one_generation, line_words, active_index, hold_index, active_word, hold_word, is_drained, holds_in, HasRoom, IsFree}
-use Rattle.kf_words.specs.Rule.{is_user, is_hider, is_holder, users, hiders, holders, pins_in, ShowsMarks, ShowsHolds, StillHolds, last_key, caller, bare_world, Shows}
+use Rattle.kf_words.specs.Rule.{is_user, is_hider, is_holder, is_in, is_pinner, users, hiders, holders, pins_in, ShowsMarks, ShowsHolds, StillHolds, last_key, caller, bare_world, Shows}
 use Rattle.kf_words.specs.Steps.{on_active, on_hold, activated_marks, doomed_marks}
 use Rattle.kf_words.proofs.Bits.{counted_unspent, hiding_unspent, free_shows, count_shows, hold_less, hold_more}
 use Rattle.kf_words.proofs.Seating.{at_caller, tally≤, tally-one}
@@ -64,7 +64,9 @@ module _ (words : List ℕ) (m : MasterView) (cs : List CallerView) (shows : Sho
       abbrev next : MasterView
       next = record { limit = m.limit; slots = set m.slots slot state'; pinning = p'; fresh = f'; loads = l'; at_birth = b'; looked = k' }
 
-      changed : length words' ≡ length words
+      -- the slot keeps its generation, or nobody holds it
+      changed : (state'.generation ≡ state.generation) ⊎ (holders slot cs ≡ 0)
+          → length words' ≡ length words
           → ShowsMarks (active_word words' slot) state'.marks (users slot cs) (hiders slot cs)
           → ShowsHolds m.limit (hold_word words' slot) state' (holders slot cs + pins_in p' slot)
           → ((k : ℕ) → k ≢ slot → k < length m.slots → (active_word words' k ≡ active_word words k) × (hold_word words' k ≡ hold_word words k) × (pins_in p' k ≡ pins_in m.pinning k))
@@ -72,7 +74,7 @@ module _ (words : List ℕ) (m : MasterView) (cs : List CallerView) (shows : Sho
           → ((k : ℕ) → f' ≡ Some k → (k < length m.slots) × (active_word words' k ≡ bias) × IsFree (hold_word words' k))
           → ((load : Load) (x : SlotState) → k' ≡ Some load → is_drained load.word ≡ true → slice_get (set m.slots slot state') load.slot ≡ Some x → (are_doomed x.marks ≡ true) × NoneRunning (bare_world next cs) (last_key load.slot x))
           → Safe (bare_world next cs) → Shows words' next cs
-      changed wide marks' holds' others loads' fresh' looked' safe' = record {
+      changed older wide marks' holds' others loads' fresh' looked' safe' = record {
         wide = wide ∙ shows.wide ∙ ap (λ (n : ℕ). n * line_words) (sym (length-set m.slots slot state'));
         few = shows.few;
         marks = λ k x at. dite (ℕ_discrete k slot)
@@ -86,6 +88,19 @@ module _ (words : List ℕ) (m : MasterView) (cs : List CallerView) (shows : Sho
             subst (λ (n : ℕ). ShowsHolds m.limit n x (holders k cs + pins_in p' k)) (sym o.1)
             (subst (λ (n : ℕ). ShowsHolds m.limit (hold_word words k) x (holders k cs + n)) (sym o.2) (shows.holds k x at')));
         tries = shows.tries;
+        pinned = λ j c key at p.
+            let l = shows.pinned j c key at p in
+            dite (ℕ_discrete key.slot slot)
+            (λ (e : key.slot ≡ slot).
+            let one : state ≡ l.0 = here_was l.0 (subst (λ (i : ℕ). slice_get m.slots i ≡ Some l.0) e l.1) in
+            ⊎_elim
+            (λ (kept : state'.generation ≡ state.generation).
+            (state', ap (λ (i : ℕ). slice_get (set m.slots slot state') i) e ∙ slice_get-set_same m.slots slot state' near, kept ∙ ap (λ (x : SlotState). x.generation) one ∙ l.2))
+            (λ (nobody : holders slot cs ≡ 0).
+            let counts = tally-one (is_pinner slot) cs j c at (ap (λ (o : Option Key). is_in slot o) p ∙ eq-eqb key.slot slot e) in
+            absurd (omega arith))
+            older)
+            (λ ne. (l.0, slice_get-set_other m.slots slot key.slot state' ne ∙ l.1, l.2));
         loads = loads';
         fresh = λ k e. let f = fresh' k e in let l = length-set m.slots slot state' in (omega (arith, f.0), f.1, f.2);
         looked = looked';
@@ -96,6 +111,9 @@ module _ (words : List ℕ) (m : MasterView) (cs : List CallerView) (shows : Sho
           here k x e at =
               let at' : slice_get (set m.slots slot state') slot ≡ Some x = subst (λ (i : ℕ). slice_get (set m.slots slot state') i ≡ Some x) e at in
               let both : Some state' ≡ Some x = sym (slice_get-set_same m.slots slot state' near) ∙ at' in cc
+
+          here_was : (x : SlotState) → slice_get m.slots slot ≡ Some x → state ≡ x
+          here_was x at = let both : Some state ≡ Some x = sym its ∙ at in cc
 
           there : (k : ℕ) (x : SlotState) → k ≢ slot → slice_get (set m.slots slot state') k ≡ Some x → slice_get m.slots k ≡ Some x
           there k x ne at = sym (slice_get-set_other m.slots slot k state' ne) ∙ at
@@ -151,7 +169,7 @@ module _ (words : List ℕ) (m : MasterView) (cs : List CallerView) (shows : Sho
         let more : holders slot cs + pins_in (Some slot) slot ≡ n + 1 = omega arith in
         let new : ℕ = (hold + 1) % 2 ^ 64 in
         subst (λ (ps : List SlotState). Shows (set words (hold_index slot) new) (record (on_hold m) { pinning = Some slot; slots = ps }) cs) same_slots
-        (changed (set words (hold_index slot) new) state (Some slot) None [] m.at_birth None
+        (changed (set words (hold_index slot) new) state (Some slot) None [] m.at_birth None (inl refl)
         (length-set words (hold_index slot) new)
         (subst (λ (x : ℕ). ShowsMarks x state.marks (users slot cs) (hiders slot cs)) (sym (active_kept slot new near)) (shows.marks slot state its))
         (subst (λ (x : ℕ). ShowsHolds m.limit x state (holders slot cs + pins_in (Some slot) slot)) (sym (this_hold new))
@@ -168,7 +186,7 @@ module _ (words : List ℕ) (m : MasterView) (cs : List CallerView) (shows : Sho
         let had : pins_in m.pinning slot ≡ 1 = ap (λ o. pins_in o slot) has_pin ∙ one_pin in
         let new : ℕ = (hold + (2 ^ 64 - 1)) % 2 ^ 64 in
         subst (λ (ps : List SlotState). Shows (set words (hold_index slot) new) (record (on_hold m) { pinning = None; slots = ps }) cs) same_slots
-        (changed (set words (hold_index slot) new) state None None [] m.at_birth None
+        (changed (set words (hold_index slot) new) state None None [] m.at_birth None (inl refl)
         (length-set words (hold_index slot) new)
         (subst (λ (x : ℕ). ShowsMarks x state.marks (users slot cs) (hiders slot cs)) (sym (active_kept slot new near)) (shows.marks slot state its))
         (subst (λ (x : ℕ). ShowsHolds m.limit x state (holders slot cs + 0)) (sym (this_hold new))
@@ -198,7 +216,7 @@ module _ (words : List ℕ) (m : MasterView) (cs : List CallerView) (shows : Sho
         let n = near in let wide = shows.wide in
         let stored : active_word (set words (active_index slot) bias) slot ≡ bias = get_or-set_same words (active_index slot) bias 0 (omega arith) in
         subst (λ (ps : List SlotState). Shows (set words (active_index slot) bias) (record (on_active m) { fresh = Some slot; slots = ps }) cs) same_slots
-        (changed (set words (active_index slot) bias) state m.pinning (Some slot) m.loads m.at_birth None
+        (changed (set words (active_index slot) bias) state m.pinning (Some slot) m.loads m.at_birth None (inl refl)
         (length-set words (active_index slot) bias)
         (subst (λ (x : ℕ). ShowsMarks x state.marks (users slot cs) (hiders slot cs)) (sym stored)
         (subst (λ (o : Option Marks). ShowsMarks bias o (users slot cs) (hiders slot cs)) (sym gone)
@@ -249,7 +267,7 @@ module _ (words : List ℕ) (m : MasterView) (cs : List CallerView) (shows : Sho
         let was : hold ≡ g * 4294967296 + bit (is_some state.marks) linked + (holders slot cs + pins_in m.pinning slot) = shown_holds.0 in
         let now : (hold + 6442450944) % 18446744073709551616 ≡ (g + 1) * 4294967296 + 2147483648 + (holders slot cs + pins_in m.pinning slot) = omega arith in
         let key : Key = record { slot = slot; generation = g + 1 } in
-        changed (set words (hold_index slot) new) node m.pinning None [] m.loads None
+        changed (set words (hold_index slot) new) node m.pinning None [] m.loads None (inr nobody)
         (length-set words (hold_index slot) new)
         (subst (λ (x : ℕ). ShowsMarks x (Some fresh_marks) (users slot cs) (hiders slot cs)) (sym (active_kept slot new near ∙ f.1))
         (subst (λ (x : ℕ). ShowsMarks bias (Some fresh_marks) x (hiders slot cs)) (sym u.4) (subst (λ (x : ℕ). ShowsMarks bias (Some fresh_marks) 0 x) (sym u.5) (false, refl, (λ _. refl), omega arith))))
@@ -279,7 +297,7 @@ module _ (words : List ℕ) (m : MasterView) (cs : List CallerView) (shows : Sho
         let dead : are_live state.marks ≡ false = not_both state.marks d.0 in
         let key : Key = last_key slot state in
         let known : marks (bare_world m cs) key ≡ Some x = ap (λ o. marks_in o g) its ∙ shown g state.marks ∙ there in
-        changed (set words (hold_index slot) new) node m.pinning None [] m.at_birth None
+        changed (set words (hold_index slot) new) node m.pinning None [] m.at_birth None (inl refl)
         (length-set words (hold_index slot) new)
         (s.0, active_kept slot new near ∙ s.1 ∙ ap (λ (b : Bool). users slot cs + bit (not b) bias + bit s.0 doom + hiders slot cs * hide) dead, (λ e. absurd (let y : false ≡ true = e in cc)), s.3)
         (subst (λ (y : ℕ). ShowsHolds m.limit y node (holders slot cs + pins_in m.pinning slot)) (sym (this_hold new)) (now, shown_holds.1))
@@ -304,7 +322,7 @@ module _ (words : List ℕ) (m : MasterView) (cs : List CallerView) (shows : Sho
     remark x change new there is e event =
         let node : SlotState = record { generation = state.generation; marks = Some (change x) } in
         let n = near in let wide = shows.wide in
-        changed (set words (active_index slot) new) node m.pinning None m.loads m.at_birth None
+        changed (set words (active_index slot) new) node m.pinning None m.loads m.at_birth None (inl refl)
         (length-set words (active_index slot) new)
         (subst (λ (y : ℕ). ShowsMarks y (Some (change x)) (users slot cs) (hiders slot cs)) (sym (get_or-set_same words (active_index slot) new 0 (omega arith))) is)
         (subst (λ (y : ℕ). ShowsHolds m.limit y node (holders slot cs + pins_in m.pinning slot)) (sym (hold_kept slot new))

@@ -3,6 +3,8 @@ use Rattle.std.proofs.Common.{◌&&◌, ◌||◌, ◌≡◌, ℕ, ◌+◌, Bool,
 use Rattle.std.specs.Prelude.{slice_get, Some, None}
 use Rattle.std.proofs.lemmas.Option.{same_Some, none-some}
 use mathlib.Core.List.{map-append}
+use mathlib.Core.Option.{some}
+use lib.ListN.{get_elem?}
 use Rattle.atomic_table.proofs.Lists.{at_snoc}
 use Rattle.kf_core.specs.declared.caller.Caller.{Caller}
 use Rattle.kf_core.specs.declared.slot.SlotState.{SlotState}
@@ -32,6 +34,10 @@ module _ (words : List ℕ) (m : MasterView) (cs : List CallerView) (shows : Sho
   give slot state its pins = record {
     wide = shows.wide;
     few = shows.few;
+    pinned = λ i y key e. ⊎_elim
+        (λ (old : get_elem? cs i ≡ some y). shows.pinned i y key old)
+        (λ (new : new_hold (last_key slot state) ≡ y). λ p. absurd (none-some key (ap (λ (z : CallerView). z.pinning) new ∙ p)))
+        (at_snoc cs (new_hold (last_key slot state)) y i e);
     marks = λ k y at. subst (λ (n : ℕ). ShowsMarks (active_word words k) y.marks n (hiders k (cs ++ new_hold (last_key slot state) ∷ []))) (sym (no_user k))
         (subst (λ (n : ℕ). ShowsMarks (active_word words k) y.marks (users k cs) n) (sym (no_hider k)) (shows.marks k y at));
     holds = λ k y at. subst (λ (n : ℕ). ShowsHolds m.limit (hold_word words k) y n) (sym (same_holds k)) (shows.holds k y at);
@@ -72,13 +78,14 @@ module _ (words : List ℕ) (m : MasterView) (cs : List CallerView) (shows : Sho
           let a = tally-push (is_holder k) cs (new_hold (last_key slot state)) in
           let b : bit (is_holder k (new_hold (last_key slot state))) 1 ≡ bit (eqb slot k) 1 = one_of (eqb slot k) in
           let p = tally-push (is_pinner k) cs (new_hold (last_key slot state)) in
-          let q : bit (is_pinner k (new_hold (last_key slot state))) 1 ≡ 0 = off (eqb slot k) in
+          let q : bit (is_pinner k (new_hold (last_key slot state))) 1 ≡ 0 = refl in
           let d : pins_in m.pinning k ≡ bit (eqb slot k) 1 = ap (λ o. pins_in o k) pins in
           omega arith
 
   -- a load of a hold word, and one of an active word
   pub load_kept : (k : ℕ) → Shows words (record (on_active m) { loads = m.loads ++ record { slot = k; word = hold_word words k } ∷ [] }) cs
   load_kept k = record {
+    pinned = shows.pinned;
     wide = shows.wide;
     few = shows.few;
     marks = shows.marks;
@@ -95,6 +102,7 @@ module _ (words : List ℕ) (m : MasterView) (cs : List CallerView) (shows : Sho
 
   pub look_kept : (slot : ℕ) → Shows words (with_look slot (active_word words slot) m) cs
   look_kept slot = record {
+    pinned = shows.pinned;
     wide = shows.wide;
     few = shows.few;
     marks = shows.marks;

@@ -5,6 +5,7 @@ use Rattle.std.proofs.lemmas.Option.{same_Some}
 use mathlib.Core.Option.{some, some-injective}
 use lib.ListN.{get_elem?}
 use Rattle.atomic_table.specs.Table.{stepped, keeps}
+use Rattle.kf_core.specs.declared.key.Key.{Key}
 use Rattle.kf_core.specs.declared.slot.Marks.{Marks}
 use Rattle.kf_core.specs.declared.slot.SlotState.{SlotState}
 use Rattle.kf_core.specs.declared.caller.Phase.TheVariants.{Running, Broken, Drained, Hiding, Hidden}
@@ -12,10 +13,10 @@ use Rattle.kf_core.specs.Marks.{fresh_marks}
 use Rattle.kf_words.specs.declared.view.CallerView.{CallerView}
 use Rattle.kf_words.specs.declared.view.MasterView.{MasterView}
 use Rattle.kf_words.specs.declared.view.View.TheVariants as seat
-use Rattle.kf_words.specs.TableSteps.{Table, StepKind, CallerPlays, MasterPlays, MasterSplits, CallerShares, WordStep, WordRun, tries, undoes, leaves, breaks, restores, looks, parts, hides, looks_hidden, shows, releases, misses, counts, shares, sleeps, awakes, loads_hold, pins_hold, unpins_hold, splits, stores_fresh, births, takes_bias, marks_node, looks_over, unlinks, notes, reports, answers, compares, CallerReports, MasterAnswers, plus, minus, same, with_hide, HasUndoDue, MayRelease, MayCount, MaySleep, SeesRoom, HasPin, SeesFree, HasFresh, IsUndoomed, SeesDrained}
-use Rattle.kf_words.specs.Steps.{after_try, after_undo, after_leave, after_break, after_restore, after_look, after_part, after_hide, after_look_hidden, after_show, after_release, after_miss, after_count, after_share, new_hold, unmoved, with_load, with_pin, without_pin, after_store, with_birth, with_look, without_node, unread, with_marks, activated_marks, doomed_marks, after_split, hold_for, spent_hold, state_at}
+use Rattle.kf_words.specs.TableSteps.{Table, StepKind, CallerPlays, MasterPlays, MasterSplits, CallerShares, WordStep, WordRun, tries, undoes, leaves, breaks, restores, looks, parts, hides, looks_hidden, shows, releases, misses, counts, shares, sleeps, awakes, loads_hold, pins_hold, unpins_hold, splits, stores_fresh, births, takes_bias, marks_node, looks_over, unlinks, notes, reports, answers, compares, CallerReports, MasterAnswers, plus, minus, same, with_hide, HasUndoDue, MayRelease, MayCount, MaySleep, SeesRoom, HasPin, SeesFree, HasFresh, IsUndoomed, SeesDrained, CallerPlaysAt, CallerLoads, CallerHandsOn, misses_at, counts_at, hands_on, stores_node, reads_node, MayCountAt, MayNote}
+use Rattle.kf_words.specs.Steps.{after_try, after_undo, after_leave, after_break, after_restore, after_look, after_part, after_hide, after_look_hidden, after_show, after_release, after_miss, after_count, after_share, new_hold, unmoved, with_load, with_pin, without_pin, after_store, with_birth, with_look, without_node, unread, with_marks, activated_marks, doomed_marks, after_split, hold_for, spent_hold, state_at, after_count_at, kept}
 use Rattle.kf_words.specs.Rule.{last_key}
-use Rattle.kf_words.specs.Layout.{bit, bias, doom, hide, linked, one_generation, active_index, hold_index, sleepers_index}
+use Rattle.kf_words.specs.Layout.{bit, bias, doom, hide, linked, one_generation, active_index, hold_index, sleepers_index, node_index}
 use Rattle.kf_words.specs.Callers.{IsAtRest, HasReference, IsInPhase}
 use Rattle.kf_words.specs.Nodes.{HasMarks}
 use Rattle.kf_words.specs.History.{OneEnd}
@@ -58,6 +59,32 @@ module _ (t u v : Table) where
   by_answer p q =
       p.3 ∙ ap (λ (m : MasterView). let x : Table = record { words = t.words; homes = t.homes; views = t.views ++ seat.Caller (spent_hold (last_key 0 (state_at m 0))) ∷ [] } in x) (one_master p.0 q.0 p.1 q.1) ∙ sym q.3
 
+  by_caller_at : (slot : ℕ) (after : ℕ → CallerView → CallerView) (May : CallerView → Type 0) (f : ℕ → ℕ) (j : ℕ) → CallerPlaysAt slot after May f t j u → CallerPlaysAt slot after May f t j v → u ≡ v
+  by_caller_at slot after May f j p q =
+      let seats : seat.Caller p.0 ≡ seat.Caller q.0 = some-injective _ _ (sym p.2.there ∙ q.2.there) in
+      let one : p.0 ≡ q.0 = cc in
+      p.2.becomes
+      ∙ ap (λ (c : CallerView). stepped t (hold_index slot) (f (slice_index t.words (hold_index slot))) (suc j) [] (seat.Caller (after (slice_index t.words (hold_index slot)) c)) keeps) one
+      ∙ sym q.2.becomes
+
+  by_load : (i j : ℕ) → CallerLoads i t j u → CallerLoads i t j v → u ≡ v
+  by_load i j p q =
+      let seats : seat.Caller p.0 ≡ seat.Caller q.0 = some-injective _ _ (sym p.2.there ∙ q.2.there) in
+      let one : p.0 ≡ q.0 = cc in
+      p.2.becomes
+      ∙ ap (λ (c : CallerView). stepped t i (slice_index t.words i) (suc j) [] (seat.Caller (after_miss (slice_index t.words i) c)) keeps) one
+      ∙ sym q.2.becomes
+
+  by_hand : (j : ℕ) → CallerHandsOn t j u → CallerHandsOn t j v → u ≡ v
+  by_hand j p q =
+      let seats : seat.Caller p.0 ≡ seat.Caller q.0 = some-injective _ _ (sym p.4 ∙ q.4) in
+      let one : p.0 ≡ q.0 = cc in
+      let key : p.1 ≡ q.1 = same_Some p.1 q.1 (sym p.3 ∙ ap (λ (c : CallerView). c.pinning) one ∙ q.3) in
+      p.5
+      ∙ ap (λ (c : CallerView). let x : Table = record { words = t.words; homes = t.homes; views = set t.views (suc j) (seat.Caller (after_share c)) ++ seat.Caller (new_hold p.1) ∷ [] } in x) one
+      ∙ ap (λ (k : Key). let x : Table = record { words = t.words; homes = t.homes; views = set t.views (suc j) (seat.Caller (after_share q.0)) ++ seat.Caller (new_hold k) ∷ [] } in x) key
+      ∙ sym q.5
+
 -- the marks of a slot are one
 one_marks : (slot : ℕ) (m m' : MasterView) (x y : Marks) → IsUndoomed slot x m → IsUndoomed slot y m' → m ≡ m' → x ≡ y
 one_marks slot m m' x y a b is =
@@ -96,6 +123,11 @@ one_step t u v (notes note) p q = p.1 ∙ sym q.1
 one_step t u v compares p q = p.1 ∙ sym q.1
 one_step t u v answers p q = by_answer t u v p q
 one_step t u v (reports j) p q = by_report t u v j p q
+one_step t u v (misses_at slot j) p q = by_caller_at t u v slot after_miss IsAtRest same j p q
+one_step t u v (counts_at slot j) p q = by_caller_at t u v slot (after_count_at slot) (MayCountAt t slot) (plus 1) j p q
+one_step t u v (hands_on j) p q = by_hand t u v j p q
+one_step t u v (stores_node slot place n) p q = by_master t u v kept (MayNote slot place) (node_index place) (λ _. n) slot p q
+one_step t u v (reads_node slot place j) p q = by_load t u v (node_index place slot) j p q
 one_step t u v (marks_node slot) p q =
     let master : p.1.0 ≡ q.1.0 = one_master t u v p.1.0 q.1.0 p.1.2.there q.1.2.there in
     let marks : p.0 ≡ q.0 = one_marks slot p.1.0 q.1.0 p.0 q.0 p.1.1 q.1.1 master in

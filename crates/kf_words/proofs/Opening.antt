@@ -155,6 +155,7 @@ module _ (slots limit start : ℕ) (some_slot : 1 ≤ slots) (few : limit ≤ 65
       marks = marks;
       holds = holds;
       tries = λ j c e. absurd (some-ne-none c (sym e));
+      pinned = λ j c key e. absurd (some-ne-none c (sym e));
       loads = λ i load e. absurd (none-some load e);
       fresh = λ k e. absurd (none-some k e);
       looked = λ load state e. absurd (none-some load e);

@@ -1,32 +1,37 @@
--- A hold that a caller counted goes to a new seat, and the rule stays.
-use Rattle.std.proofs.Common.{◌&&◌, ◌≡◌, ◌≢◌, inr, ℕ, zero, suc, ◌+◌, Bool, true, false, eqb, List, [], ◌∷◌, ◌++◌, length, map, set, refl, sym, ap, ◌∙◌, subst, ⊎_elim, arith}
-use Rattle.std.specs.Prelude.{slice_get, Some}
+-- A hold that a caller counted, of its own key or another, goes to a new seat, and the rule stays.
+use Rattle.std.proofs.Common.{◌&&◌, ◌≡◌, ◌≢◌, ℕ, zero, suc, ◌+◌, Bool, true, false, eqb, List, [], ◌∷◌, ◌++◌, length, map, set, refl, sym, ap, ◌∙◌, subst, ⊎_elim, arith}
+use Rattle.std.specs.Prelude.{slice_get, Option, Some, None}
+use Rattle.std.proofs.lemmas.Option.{none-some}
 use mathlib.Core.Option.{some}
 use mathlib.Core.List.{map-append}
 use lib.ListN.{get_elem?}
 use lib.Seq.{map-set}
 use Rattle.atomic_table.proofs.Lists.{at_set, at_snoc}
+use Rattle.kf_core.specs.declared.key.Key.{Key}
 use Rattle.kf_core.specs.declared.caller.Caller.{Caller}
-use Rattle.kf_core.specs.declared.caller.Phase.TheVariants.{Still, Running, Spent}
+use Rattle.kf_core.specs.declared.caller.Phase.TheVariants.{Still, Running, Parted}
 use Rattle.kf_core.specs.declared.event.Event.TheVariants.{Pin}
 use Rattle.kf_core.specs.Bare.{BareWorld}
 use Rattle.kf_core.specs.Steps as core
-use Rattle.kf_core.proofs.Keeping.{step_keeps}
+use Rattle.kf_core.specs.Phases.{saw_drain, saw_unused}
+use Rattle.kf_core.specs.Safe.{Safe}
+use Rattle.kf_core.proofs.Hiding.{one_after_push}
+use Rattle.kf_core.proofs.Keeping.{caller_keeps}
 use Rattle.kf_core.proofs.Lists.{after_push}
 use Rattle.kf_words.specs.declared.view.CallerView.{CallerView}
 use Rattle.kf_words.specs.declared.view.MasterView.{MasterView}
 use Rattle.kf_words.specs.Layout.{bit, active_word, hold_word}
-use Rattle.kf_words.specs.Rule.{tally, is_user, is_hider, is_holder, is_pinner, users, hiders, holders, pins_in, ShowsMarks, ShowsHolds, last_key, caller, bare_world, Shows}
+use Rattle.kf_words.specs.Rule.{tally, is_user, is_hider, is_holder, is_in, is_pinner, users, hiders, holders, pins_in, ShowsMarks, ShowsHolds, last_key, caller, bare_world, Shows}
 use Rattle.kf_words.specs.Steps.{after_share, new_hold}
 use Rattle.kf_words.proofs.Seating.{caller_at, tally-set, tally-push}
 
-module _ (m : MasterView) (cs : List CallerView) (j : ℕ) (c : CallerView) (at : get_elem? cs j ≡ some c) where
+module _ (m : MasterView) (cs : List CallerView) (j : ℕ) (c : CallerView) (at : get_elem? cs j ≡ some c) (key : Key) where
   abbrev pub new : CallerView
-  new = new_hold c.key
+  new = new_hold key
 
   -- all callers after it
   abbrev pub shared : List CallerView
-  shared = set cs j (after_share c) ++ new_hold c.key ∷ []
+  shared = set cs j (after_share c) ++ new_hold key ∷ []
 
   there : slice_get (map caller cs) j ≡ Some (caller c)
   there = caller_at cs j c at
@@ -41,25 +46,21 @@ module _ (m : MasterView) (cs : List CallerView) (j : ℕ) (c : CallerView) (at 
   one_more_caller = map-append caller (set cs j (after_share c)) (new ∷ [])
       ∙ ap (λ (l : List Caller). l ++ caller new ∷ []) (map-set caller cs j (after_share c) ∙ put_same (map caller cs) j (caller c) there)
 
-  pub shared_world : bare_world m shared ≡ core.with_caller (bare_world m cs) c.key
+  pub shared_world : bare_world m shared ≡ core.with_caller (bare_world m cs) key
   shared_world = ap (λ (l : List Caller). let w : BareWorld = record { slots = m.slots; callers = l } in w) one_more_caller
 
-  -- the caller holds its key
-  pub holds_it : c.phase ≢ Spent → core.IsHeld (bare_world m cs) c.key
-  holds_it holding = record { caller = j; phase = c.phase; there = there; holds = holding }
+  -- it is a Pin of a key that is linked, or held
+  pub is_pinned : core.MayPin (bare_world m cs) key → core.BareStep (bare_world m cs) (Pin (length (bare_world m cs).callers) key) (bare_world m shared)
+  is_pinned may = (refl, may, shared_world)
 
-  pub is_pinned : c.phase ≢ Spent → core.BareStep (bare_world m cs) (Pin (length (bare_world m cs).callers) c.key) (bare_world m shared)
-  is_pinned holding = (refl, inr (holds_it holding), shared_world)
-
-  module _ (words : List ℕ) (shows : Shows words m cs) (holding : c.phase ≢ Spent) (pinned : c.pinning ≡ true) where
+  module _ (words : List ℕ) (shows : Shows words m cs) (pinned : c.pinning ≡ Some key) where
     off : (b : Bool) → bit (b && false) 1 ≡ 0
     off true = refl
     off false = refl
 
-    on : (b p : Bool) → p ≡ true → bit (b && p) 1 ≡ bit b 1
-    on true true e = refl
-    on false true e = refl
-    on b false e = absurd (let x : false ≡ true = e in cc)
+    on : (b : Bool) → bit (b && true) 1 ≡ bit b 1
+    on true = refl
+    on false = refl
 
     -- who is counted but for what the caller counted is so still, and the new seat besides
     counted : (p : CallerView → Bool) → p (after_share c) ≡ p c → tally p shared ≡ tally p cs + bit (p new) 1
@@ -70,20 +71,20 @@ module _ (m : MasterView) (cs : List CallerView) (j : ℕ) (c : CallerView) (at 
         omega arith
 
     no_user : (k : ℕ) → users k shared ≡ users k cs
-    no_user k = let a = counted (is_user k) refl in let b : bit (is_user k new) 1 ≡ 0 = off (eqb c.key.slot k) in omega arith
+    no_user k = let a = counted (is_user k) refl in let b : bit (is_user k new) 1 ≡ 0 = off (eqb key.slot k) in omega arith
 
     no_hider : (k : ℕ) → hiders k shared ≡ hiders k cs
-    no_hider k = let a = counted (is_hider k) refl in let b : bit (is_hider k new) 1 ≡ 0 = off (eqb c.key.slot k) in omega arith
+    no_hider k = let a = counted (is_hider k) refl in let b : bit (is_hider k new) 1 ≡ 0 = off (eqb key.slot k) in omega arith
 
     same_holds : (k : ℕ) → holders k shared ≡ holders k cs
     same_holds k =
         let a = counted (is_holder k) refl in
-        let b : bit (is_holder k new) 1 ≡ bit (eqb c.key.slot k) 1 = on (eqb c.key.slot k) true refl in
+        let b : bit (is_holder k new) 1 ≡ bit (eqb key.slot k) 1 = on (eqb key.slot k) in
         let d = tally-set (is_pinner k) cs j c (after_share c) at in
-        let e : bit (is_pinner k (after_share c)) 1 ≡ 0 = off (eqb c.key.slot k) in
-        let f : bit (is_pinner k c) 1 ≡ bit (eqb c.key.slot k) 1 = on (eqb c.key.slot k) c.pinning pinned in
+        let e : bit (is_pinner k (after_share c)) 1 ≡ 0 = refl in
+        let f : bit (is_pinner k c) 1 ≡ bit (eqb key.slot k) 1 = ap (λ (o : Option Key). bit (is_in k o) 1) pinned in
         let g = tally-push (is_pinner k) (set cs j (after_share c)) new in
-        let h : bit (is_pinner k new) 1 ≡ 0 = off (eqb c.key.slot k) in
+        let h : bit (is_pinner k new) 1 ≡ 0 = refl in
         omega arith
 
     pub share_kept : Shows words m shared
@@ -101,6 +102,13 @@ module _ (m : MasterView) (cs : List CallerView) (j : ℕ) (c : CallerView) (at 
           (at_set cs j i (after_share c) y old))
           (λ (last : new ≡ y). λ t. absurd (let a : false ≡ true = ap (λ (z : CallerView). z.undo_due) last ∙ t in cc))
           (at_snoc (set cs j (after_share c)) new y i e);
+      pinned = λ i y k e. ⊎_elim
+          (λ (old : get_elem? (set cs j (after_share c)) i ≡ some y). ⊎_elim
+          (λ (its : (i ≡ j) × (after_share c ≡ y)). λ p. absurd (none-some k (ap (λ (z : CallerView). z.pinning) its.1 ∙ p)))
+          (λ (other : (i ≢ j) × (get_elem? cs i ≡ some y)). shows.pinned i y k other.1)
+          (at_set cs j i (after_share c) y old))
+          (λ (last : new ≡ y). λ p. absurd (none-some k (ap (λ (z : CallerView). z.pinning) last ∙ p)))
+          (at_snoc (set cs j (after_share c)) new y i e);
       loads = shows.loads;
       fresh = shows.fresh;
       looked = λ load state e hit its. let d = shows.looked load state e hit its in (
@@ -110,5 +118,13 @@ module _ (m : MasterView) (cs : List CallerView) (j : ℕ) (c : CallerView) (at 
             (λ (old : slice_get (map caller cs) i ≡ Some (record { key = last_key load.slot state; phase = Running })). d.1 i old)
             (after_push (map caller cs) i (caller new) (record { key = last_key load.slot state; phase = Running }) (subst (λ (l : List Caller). slice_get l i ≡ Some (record { key = last_key load.slot state; phase = Running })) one_more_caller h)),
       );
-      safe = step_keeps (bare_world m cs) (Pin (length (bare_world m cs).callers) c.key) (bare_world m shared) shows.safe (is_pinned holding);
+      safe = subst Safe (sym shared_world)
+          (caller_keeps (bare_world m cs) (core.with_caller (bare_world m cs) key).callers key Still shows.safe
+          (λ d y h. after_push (map caller cs) d (caller new) y h)
+          (λ e. absurd (let x : Still ≡ Running = e in cc))
+          (λ e. absurd (let x : saw_drain Still ≡ true = e in cc))
+          (λ e. absurd (let x : saw_unused Still ≡ true = e in cc))
+          (λ e. absurd (let x : Still ≡ Parted = e in cc))
+          (λ _. shows.pinned j c key at pinned)
+          (one_after_push (map caller cs) (caller new) refl shows.safe.one_hides));
     }

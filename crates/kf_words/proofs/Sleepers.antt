@@ -34,6 +34,7 @@ module _ (words : List ℕ) (m : MasterView) (cs : List CallerView) (shows : Sho
     marks = λ k state its. subst (λ (x : ℕ). ShowsMarks x state.marks (users k cs) (hiders k cs)) (sym (active_stays k)) (shows.marks k state its);
     holds = λ k state its. subst (λ (x : ℕ). ShowsHolds m.limit x state (holders k cs + pins_in m.pinning k)) (sym (hold_stays k)) (shows.holds k state its);
     tries = shows.tries;
+    pinned = shows.pinned;
     loads = λ i load e. subst (λ (x : ℕ). StillHolds m.limit load.word x) (sym (hold_stays load.slot)) (shows.loads i load e);
     fresh = λ k e. let f = shows.fresh k e in (f.0, active_stays k ∙ f.1, subst IsFree (sym (hold_stays k)) f.2);
     looked = shows.looked;

@@ -23,218 +23,29 @@ use Rattle.kf_words.specs.declared.view.CallerView.{CallerView}
 use Rattle.kf_words.specs.declared.view.MasterView.{MasterView}
 use Rattle.kf_words.specs.declared.view.View.{View}
 use Rattle.kf_words.specs.declared.view.View.TheVariants as seat
-use Rattle.kf_words.specs.Layout.{bit, bias, doom, hide, linked, one_generation, active_index, hold_index, sleepers_index, slot_of, is_drained, has_hide, is_unused, has_linked, HasSpare}
+use Rattle.kf_words.specs.Layout.{bit, bias, doom, hide, linked, one_generation, active_index, hold_index, sleepers_index, node_index, slot_of, is_drained, has_hide, is_unused, has_linked, HasSpare, MayPinAt}
 use Rattle.kf_words.specs.Rule.{Shows, Shown, seats, bare_world, caller, last_key}
-use Rattle.kf_words.specs.Steps.{Seated, no_state, state_at, after_try, after_undo, after_leave, after_break, after_restore, after_look, after_part, after_hide, after_look_hidden, after_show, after_release, after_miss, after_count, after_share, unmoved, after_split, new_hold, hold_for, with_load, with_pin, without_pin, after_store, with_birth, with_marks, activated_marks, doomed_marks, with_look, without_node, unread, CallerBecomes, On, MasterBecomes, LoadsHold, ShowsKey, spent_hold}
+use Rattle.kf_words.specs.Steps.{Seated, no_state, state_at, after_try, after_undo, after_leave, after_break, after_restore, after_look, after_part, after_hide, after_look_hidden, after_show, after_release, after_miss, after_count, after_share, unmoved, after_split, new_hold, hold_for, with_load, with_pin, without_pin, after_store, with_birth, with_marks, activated_marks, doomed_marks, with_look, without_node, unread, CallerBecomes, On, MasterBecomes, LoadsHold, ShowsKey, spent_hold, after_count_at}
 use Rattle.kf_words.specs.Nodes.{marks_of}
-use Rattle.kf_words.specs.TableSteps.{Table, StepKind, tries, undoes, leaves, breaks, restores, looks, parts, hides, looks_hidden, shows, releases, misses, counts, shares, sleeps, awakes, loads_hold, pins_hold, unpins_hold, splits, stores_fresh, births, takes_bias, marks_node, looks_over, unlinks, notes, reports, answers, compares, Comes, plus, minus, same, with_hide, master_in, world, IsSeated, HoldsSlot, MayCount, WordStep}
+use Rattle.kf_words.specs.TableSteps.{Table, StepKind, tries, undoes, leaves, breaks, restores, looks, parts, hides, looks_hidden, shows, releases, misses, counts, shares, sleeps, awakes, loads_hold, pins_hold, unpins_hold, splits, stores_fresh, births, takes_bias, marks_node, looks_over, unlinks, notes, reports, answers, compares, Comes, plus, minus, same, with_hide, master_in, world, IsSeated, HoldsSlot, MayCount, WordStep, misses_at, counts_at, hands_on, stores_node, reads_node, MayCountAt}
 use Rattle.kf_words.proofs.Bits.{bool_cases, waiting_is}
 use Rattle.kf_words.proofs.Seating.{caller_seat, master_seat, seats-set, seats-push}
 use Rattle.kf_words.proofs.CallerAllowed.{no_step, try_allowed, undo_allowed, leave_allowed, break_allowed, restore_allowed, look_allowed, release_allowed, part_allowed, miss_allowed, hide_allowed, look_hidden_allowed, show_allowed}
-use Rattle.kf_words.proofs.HoldSteps.{count_owes}
-use Rattle.kf_words.proofs.Sharing.{share_kept}
+use Rattle.kf_words.proofs.HoldSteps.{miss_owes, count_owes}
+use Rattle.kf_words.proofs.PinSteps.{count_at_owes}
+use Rattle.kf_words.proofs.NodeSteps.{noted}
+use Rattle.kf_words.proofs.Sharing.{shared_world, share_kept}
 use Rattle.kf_words.proofs.Sleepers.{put_same, sleep_allowed}
 use Rattle.kf_words.proofs.MasterAllowed.{active_slot, hold_slot, hold_allows, pin_owes, unpin_owes, birth_owes, unlink_owes, splits as splits_shown, state_there, look_allowed as look_over_allowed, fresh_allowed, load_allowed, rise_allowed, mark_allowed}
-use Rattle.kf_words.proofs.Events.{try_is_enter, undo_is_undo, look_is_look, part_is_part, leave_is_leave, break_is_break, restore_is_restore, release_is_release, hide_is_hide, look_hidden_is_look, show_is_show, miss_is_nothing, rise_is_rise, mark_is_mark, birth_is_born, split_is_pin, share_is_pin}
+use Rattle.kf_words.proofs.Events.{try_is_enter, undo_is_undo, look_is_look, part_is_part, leave_is_leave, break_is_break, restore_is_restore, release_is_release, hide_is_hide, look_hidden_is_look, show_is_show, miss_is_nothing, rise_is_rise, mark_is_mark, birth_is_born, split_is_pin, share_is_pin, hand_on_is_pin}
 use Rattle.kf_words.proofs.Led.{Led}
 use Rattle.kf_words.proofs.Led.{happens}
 pub use Rattle.kf_words.proofs.Led.{TakenOut, Came, Passed, Alone, IsEvent, Led, with_spent}
 pub use Rattle.kf_words.proofs.OneStep.{at_seat, in_world, world_is}
+pub use Rattle.kf_words.proofs.Going.{at, met, split_pins, hand_pins, linked_pins, held_pins}
+use Rattle.kf_words.proofs.Going.{come_goes, caller_goes, sleeper_goes, count_goes, share_goes, load_goes, count_at_goes, hand_goes, slot_view, master_goes, note_goes, last_marks, split_goes}
 use Rattle.kf_words.proofs.OneStep.{Goes, led, by_play}
 use Rattle.kf_words.proofs.Coming.{come_kept, spent_world}
-
--- a seat that holds nothing comes, of a key that may be pinned
-come_goes : (slots limit : ℕ) (t t' : Table) (h : Shown slots limit t) (kind : StepKind) (key : Key) → Comes t key t' → MayPin (bare_world h.master h.callers) key ⊎ (kind ≡ answers) → Goes kind slots limit t t'
-come_goes slots limit t t' h kind key becomes may =
-    let cs : List CallerView = h.callers ++ spent_hold key ∷ [] in
-    let views : t'.views ≡ seats h.master cs =
-    ap (λ (x : Table). x.views) becomes ∙ ap (λ (l : List View). l ++ seat.Caller (spent_hold key) ∷ []) h.views ∙ seats-push h.master h.callers (spent_hold key) in (
-      record {
-        master = h.master;
-        callers = cs;
-        views = views;
-        all_slots = h.all_slots;
-        most_holds = h.most_holds;
-        shows = subst (λ (l : List ℕ). Shows l h.master cs) (sym (ap (λ (x : Table). x.words) becomes)) (come_kept h.master h.callers key t.words h.shows);
-      },
-      led kind t t' (bare_world h.master h.callers) (bare_world h.master cs) (world_is t h.master h.callers h.views) (world_is t' h.master cs views)
-          (inr (inr (inr (inr (record { key = key; may = may; is = spent_world h.master h.callers key }))))),
-    )
-
--- a step of the caller of this number
-module _ (slots limit : ℕ) (t t' : Table) (h : Shown slots limit t) (j : ℕ) (c : CallerView) (there : IsSeated t j c) where
-  abbrev me : Seated
-  me = (seat.Caller c, [])
-
-  pub at : slice_get h.callers j ≡ Some c
-  at = at_seat h.callers j c (subst (λ (l : List View). get_elem? l (suc j) ≡ some (seat.Caller c)) h.views there)
-
-  caller_goes : (kind : StepKind) (word : ℕ) (f : ℕ → ℕ) (aft : ℕ → CallerView → CallerView) (told : ℕ → Seated → Type 0)
-      → Allows (Shown slots limit) (length t.homes) (suc j) me word f told
-      → ((me' : Seated) → told (slice_index t.words word) me' → me'.0 ≡ seat.Caller (aft (slice_index t.words word) c))
-      → slice_index t.words word < 18446744073709551616
-      → t' ≡ stepped t word (f (slice_index t.words word)) (suc j) [] (seat.Caller (aft (slice_index t.words word) c)) keeps
-      → Led kind (bare_world h.master h.callers) (bare_world h.master (set h.callers j (aft (slice_index t.words word) c))) → Goes kind slots limit t t'
-  caller_goes kind word f aft told allowed one fits becomes l =
-      let c' : CallerView = aft (slice_index t.words word) c in
-      let views : t'.views ≡ seats h.master (set h.callers j c') =
-      ap (λ (x : Table). x.views) becomes ∙ ap (λ (l : List View). set l (suc j) (seat.Caller c')) h.views ∙ seats-set h.master h.callers j c' in (
-        by_play slots limit (suc j) word f t t' (seat.Caller c) (seat.Caller c') told allowed h there fits becomes one,
-        led kind t t' (bare_world h.master h.callers) (bare_world h.master (set h.callers j c')) (world_is t h.master h.callers h.views) (world_is t' h.master (set h.callers j c') views) l,
-      )
-
-  -- a step on the count of its slot's sleepers
-  sleeper_goes : (kind : StepKind) (f : ℕ → ℕ) → slice_index t.words (sleepers_index c.key.slot) < 18446744073709551616
-      → t' ≡ stepped t (sleepers_index c.key.slot) (f (slice_index t.words (sleepers_index c.key.slot))) (suc j) [] (seat.Caller c) keeps
-      → Goes kind slots limit t t'
-  sleeper_goes kind f fits becomes =
-      let p = caller_seat h.master h.callers (suc j) c (subst (λ (l : List View). get_elem? l (suc j) ≡ some (seat.Caller c)) h.views there) in
-      let here : p.0 ≡ j = (let e = p.1 in omega arith) in
-      let same : set h.callers j c ≡ h.callers = put_same h.callers j c (subst (λ (k : ℕ). get_elem? h.callers k ≡ some c) here p.2) in
-      caller_goes kind (sleepers_index c.key.slot) f unmoved (CallerBecomes unmoved no_step me)
-      (sleep_allowed slots limit (length t.homes) (suc j) me (sleepers_index c.key.slot) f refl refl)
-      (λ me' e. ap (λ (x : Seated). x.0) e) fits becomes (inl (ap (bare_world h.master) same))
-
-  -- where the rule is met by what the step makes of the word and of the caller's view
-  caller_shown : (word n : ℕ) (c' : CallerView) → Shows (set t.words word n) h.master (set h.callers j c') → t' ≡ stepped t word n (suc j) [] (seat.Caller c') keeps → Shown slots limit t'
-  caller_shown word n c' shown_so becomes = record {
-    master = h.master;
-    callers = set h.callers j c';
-    views = ap (λ (x : Table). x.views) becomes ∙ ap (λ (l : List View). set l (suc j) (seat.Caller c')) h.views ∙ seats-set h.master h.callers j c';
-    all_slots = h.all_slots;
-    most_holds = h.most_holds;
-    shows = subst (λ (l : List ℕ). Shows l h.master (set h.callers j c')) (sym (ap (λ (x : Table). x.words) becomes)) shown_so;
-  }
-
-  seated : get_elem? h.callers j ≡ some c
-  seated =
-      let p = caller_seat h.master h.callers (suc j) c (subst (λ (l : List View). get_elem? l (suc j) ≡ some (seat.Caller c)) h.views there) in
-      let here : p.0 ≡ j = (let e = p.1 in omega arith) in
-      subst (λ (k : ℕ). get_elem? h.callers k ≡ some c) here p.2
-
-  -- one hold more is counted
-  count_goes : MayCount t c → slice_index t.words (hold_index c.key.slot) < 18446744073709551616
-      → t' ≡ stepped t (hold_index c.key.slot) (plus 1 (slice_index t.words (hold_index c.key.slot))) (suc j) [] (seat.Caller (after_count (slice_index t.words (hold_index c.key.slot)) c)) keeps
-      → Goes (counts j) slots limit t t'
-  count_goes may fits becomes =
-      let n : ℕ = slice_index t.words (hold_index c.key.slot) in
-      let c' : CallerView = after_count n c in
-      let limit_is : (master_in t.views).limit ≡ h.master.limit = ap (λ (l : List View). (master_in l).limit) h.views in
-      let spare : HasSpare h.master.limit n = subst (λ (k : ℕ). HasSpare k n) limit_is may.2 in
-      let views : t'.views ≡ seats h.master (set h.callers j c') =
-      ap (λ (x : Table). x.views) becomes ∙ ap (λ (l : List View). set l (suc j) (seat.Caller c')) h.views ∙ seats-set h.master h.callers j c' in (
-        caller_shown (hold_index c.key.slot) (plus 1 n) c' (count_owes t.words h.master h.callers j c h.shows seated (waiting_is c.phase may.0.0).0 may.0.0 may.0.1 may.1 spare fits) becomes,
-        led (counts j) t t' (bare_world h.master h.callers) (bare_world h.master (set h.callers j c')) (world_is t h.master h.callers h.views) (world_is t' h.master (set h.callers j c') views)
-            (inl (miss_is_nothing slots limit t h j c at n).5),
-      )
-
-  -- the hold that was counted gets its seat
-  share_goes : is_waiting c.phase ≡ true → c.pinning ≡ true
-      → t' ≡ record { words = t.words; homes = t.homes; views = set t.views (suc j) (seat.Caller (after_share c)) ++ seat.Caller (new_hold c.key) ∷ [] }
-      → Goes (shares j) slots limit t t'
-  share_goes waits pinned becomes =
-      let cs' : List CallerView = set h.callers j (after_share c) ++ new_hold c.key ∷ [] in
-      let holding = (waiting_is c.phase waits).0 in
-      let views : t'.views ≡ seats h.master cs' =
-      ap (λ (x : Table). x.views) becomes ∙ ap (λ (l : List View). set l (suc j) (seat.Caller (after_share c)) ++ seat.Caller (new_hold c.key) ∷ []) h.views
-      ∙ ap (λ (l : List View). l ++ seat.Caller (new_hold c.key) ∷ []) (seats-set h.master h.callers j (after_share c))
-      ∙ seats-push h.master (set h.callers j (after_share c)) (new_hold c.key) in (
-        record {
-          master = h.master;
-          callers = cs';
-          views = views;
-          all_slots = h.all_slots;
-          most_holds = h.most_holds;
-          shows = subst (λ (l : List ℕ). Shows l h.master cs') (sym (ap (λ (x : Table). x.words) becomes)) (share_kept h.master h.callers j c seated t.words h.shows holding pinned);
-        },
-        led (shares j) t t' (bare_world h.master h.callers) (bare_world h.master cs') (world_is t h.master h.callers h.views) (world_is t' h.master cs' views)
-            (happens _ _ _ (Pin (length h.callers) c.key) (share_is_pin slots limit t h j c at holding) (λ k e. absurd (let x : Pin (length h.callers) c.key ≡ Enter k = e in cc))),
-      )
-
--- what a step of the Master tells, by its slot
-slot_view : (after : ℕ → ℕ → MasterView → MasterView) (m : MasterView) (n i slot : ℕ) (me' : Seated) → slot_of i ≡ slot → me' ≡ (seat.Master (after (slot_of i) n m), []) → me'.0 ≡ seat.Master (after slot n m)
-slot_view after m n i slot me' back e = ap (λ (x : Seated). x.0) e ∙ ap (λ (k : ℕ). seat.Master (after k n m)) back
-
--- a step of the Master
-module _ (slots limit : ℕ) (t t' : Table) (h0 : Shown slots limit t) (m : MasterView) (there : get_elem? t.views 0 ≡ some (seat.Master m)) where
-  abbrev cs : List CallerView
-  cs = h0.callers
-
-  pub is_m : h0.master ≡ m
-  is_m = (master_seat h0.master m cs 0 (subst (λ (l : List View). get_elem? l 0 ≡ some (seat.Master m)) h0.views there)).1
-
-  -- the rule, with the view that the Master's seat has
-  abbrev pub met : Shown slots limit t
-  met = record {
-    master = m;
-    callers = cs;
-    views = h0.views ∙ ap (λ (x : MasterView). seats x cs) is_m;
-    all_slots = ap (λ (x : MasterView). length x.slots) (sym is_m) ∙ h0.all_slots;
-    most_holds = ap (λ (x : MasterView). x.limit) (sym is_m) ∙ h0.most_holds;
-    shows = subst (λ (x : MasterView). Shows t.words x cs) is_m h0.shows;
-  }
-
-  master_goes : (kind : StepKind) (slot word : ℕ) (f : ℕ → ℕ) (after : ℕ → ℕ → MasterView → MasterView) (told : ℕ → Seated → Type 0)
-      → Allows (Shown slots limit) (length t.homes) 0 (seat.Master m, []) word f told
-      → ((me' : Seated) → told (slice_index t.words word) me' → me'.0 ≡ seat.Master (after slot (slice_index t.words word) m))
-      → slice_index t.words word < 18446744073709551616
-      → t' ≡ stepped t word (f (slice_index t.words word)) 0 [] (seat.Master (after slot (slice_index t.words word) m)) keeps
-      → Led kind (bare_world m cs) (bare_world (after slot (slice_index t.words word) m) cs) → Goes kind slots limit t t'
-  master_goes kind slot word f after told allowed one fits becomes l =
-      let m' : MasterView = after slot (slice_index t.words word) m in
-      let views : t'.views ≡ seats m' cs = ap (λ (x : Table). x.views) becomes ∙ ap (λ (l : List View). set l 0 (seat.Master m')) met.views in (
-        by_play slots limit 0 word f t t' (seat.Master m) (seat.Master m') told allowed met there fits becomes one,
-        led kind t t' (bare_world m cs) (bare_world m' cs) (world_is t m cs met.views) (world_is t' m' cs views) l,
-      )
-
-  -- marks of a slot's last key
-  last_marks : (slot : ℕ) (state : SlotState) (o : Option Marks) → slice_get m.slots slot ≡ Some state → state.marks ≡ o → marks_of m (last_key slot state) ≡ o
-  last_marks slot state o its is = ap (λ (x : Option SlotState). marks_in x state.generation) its ∙ shown state.generation state.marks ∙ is
-
-  split_views : t' ≡ record { words = t.words; homes = t.homes; views = set t.views 0 (seat.Master (after_split m)) ++ seat.Caller (hold_for m m.pinning) ∷ [] }
-      → t'.views ≡ seats (after_split m) (cs ++ hold_for m m.pinning ∷ [])
-  split_views becomes =
-      ap (λ (x : Table). x.views) becomes ∙ ap (λ (l : List View). set l 0 (seat.Master (after_split m)) ++ seat.Caller (hold_for m m.pinning) ∷ []) met.views ∙ seats-push (after_split m) cs (hold_for m m.pinning)
-
-  split_goes : (slot : ℕ) (state : SlotState) → slice_get m.slots slot ≡ Some state → m.pinning ≡ Some slot
-      → t' ≡ record { words = t.words; homes = t.homes; views = set t.views 0 (seat.Master (after_split m)) ++ seat.Caller (hold_for m m.pinning) ∷ [] } → Goes (splits slot) slots limit t t'
-  split_goes slot state its pins becomes =
-      let new : CallerView = hold_for m m.pinning in
-      let views : t'.views ≡ seats (after_split m) (cs ++ new ∷ []) = split_views becomes in
-      let key : Key = last_key slot state in
-      let who : new ≡ new_hold key = ap (hold_for m) pins ∙ ap (λ (y : SlotState). new_hold (last_key slot y)) (get_or_from_slice_get m.slots slot state no_state its) in
-      let came : bare_world (after_split m) (cs ++ new ∷ []) ≡ core.with_caller (bare_world m cs) key =
-      ap (λ (l : List Caller). let w : BareWorld = record { slots = m.slots; callers = l } in w)
-      (map-append caller cs (new ∷ []) ∙ ap (λ (y : CallerView). map caller cs ++ caller y ∷ []) who) in (
-        subst (λ (x : Table). Shown slots limit x) (sym becomes) (splits_shown slots limit 0 (seat.Master m) slot state refl its pins t met there),
-        led (splits slot) t t' (bare_world m cs) (bare_world (after_split m) (cs ++ new ∷ [])) (world_is t m cs met.views) (world_is t' (after_split m) (cs ++ new ∷ []) views)
-            (inr (inr (inr (inl (record { slot = slot; kind_is = refl; key = key; is = came }))))),
-      )
-
-  -- where it was attended, it is a Pin
-  pub split_pins : (slot : ℕ) (state : SlotState) → slice_get m.slots slot ≡ Some state → m.pinning ≡ Some slot → MayPin (bare_world m cs) (last_key slot state)
-      → t' ≡ record { words = t.words; homes = t.homes; views = set t.views 0 (seat.Master (after_split m)) ++ seat.Caller (hold_for m m.pinning) ∷ [] }
-      → BareStep (world t) (Pin (length cs) (last_key slot state)) (world t')
-  split_pins slot state its pins may becomes =
-      let new : CallerView = hold_for m m.pinning in
-      let is = world_is t m cs met.views in
-      let is' = world_is t' (after_split m) (cs ++ new ∷ []) (split_views becomes) in
-      subst (λ (w : BareWorld). BareStep w (Pin (length cs) (last_key slot state)) (world t')) (sym is)
-      (subst (λ (w : BareWorld). BareStep (bare_world m cs) (Pin (length cs) (last_key slot state)) w) (sym is') (split_is_pin slots limit t met slot state pins its may))
-
-  -- a linked node, or a holder of its slot, lets it be pinned
-  pub linked_pins : (slot : ℕ) (state : SlotState) → slice_get m.slots slot ≡ Some state → is_some (state_at m slot).marks ≡ true → MayPin (bare_world m cs) (last_key slot state)
-  linked_pins slot state its linked_is =
-      inl (ap is_some (last_marks slot state state.marks its refl) ∙ ap (λ (x : SlotState). is_some x.marks) (sym (get_or_from_slice_get m.slots slot state no_state its)) ∙ linked_is)
-
-  pub held_pins : (slot : ℕ) (state : SlotState) → slice_get m.slots slot ≡ Some state → (j : ℕ) → HoldsSlot t slot j → MayPin (bare_world m cs) (last_key slot state)
-  held_pins slot state its j holder =
-      let c : CallerView = holder.0 in
-      let in_w = in_world cs j c (at slots limit t t h0 j c holder.1) in
-      let last = met.shows.safe.held_last j c.key c.phase in_w holder.3 in
-      let one : last.0 ≡ state = same_Some last.0 state (sym last.1 ∙ ap (λ (k : ℕ). slice_get m.slots k) holder.2 ∙ its) in
-      let key : c.key ≡ last_key slot state = same_key c.key (last_key slot state) holder.2 (sym last.2 ∙ ap (λ (x : SlotState). x.generation) one) in
-      inr (record { caller = j; phase = c.phase; there = subst (λ (k : Key). IsCaller (bare_world m cs) j k c.phase) key in_w; holds = holder.3 })
 
 -- each step of the table
 pub word_step : (slots limit : ℕ) (t : Table) (kind : StepKind) (t' : Table) → Shown slots limit t → WordStep t kind t' → Goes kind slots limit t t'
@@ -332,6 +143,14 @@ word_step slots limit t (misses j) t' h s =
     (λ me' e. ap (λ (x : Seated). x.0) e) s.2.fits s.2.becomes
     (inl (miss_is_nothing slots limit t h j c (at slots limit t t' h j c s.2.there) n).4)
 word_step slots limit t (counts j) t' h s = count_goes slots limit t t' h j s.0 s.2.there s.1 s.2.fits s.2.becomes
+word_step slots limit t (misses_at slot j) t' h s = load_goes slots limit t t' h j s.0 s.2.there (misses_at slot j) (hold_index slot) s.1.0 s.1.1 s.2.becomes
+word_step slots limit t (counts_at slot j) t' h s = count_at_goes slots limit t t' h j s.0 s.2.there slot s.1 s.2.fits s.2.becomes
+word_step slots limit t (hands_on j) t' h s = hand_goes slots limit t t' h j s.0 s.4 s.1 s.3 s.5
+word_step slots limit t (reads_node slot place j) t' h s = load_goes slots limit t t' h j s.0 s.2.there (reads_node slot place j) (node_index place slot) s.1.0 s.1.1 s.2.becomes
+word_step slots limit t (stores_node slot place n) t' g s =
+    let m : MasterView = s.0 in
+    note_goes slots limit t t' g m s.2.there (stores_node slot place n) (node_index place slot) n
+    (noted t.words m g.callers (met slots limit t t' g m s.2.there).shows slot place n s.1.1) s.2.becomes
 word_step slots limit t (shares j) t' h s = share_goes slots limit t t' h j s.0 s.2 s.1.0.0 s.1.1 s.3
 word_step slots limit t (sleeps j) t' h s = sleeper_goes slots limit t t' h j s.0 s.2.there (sleeps j) (plus 1) s.2.fits s.2.becomes
 word_step slots limit t (awakes j) t' h s = sleeper_goes slots limit t t' h j s.0 s.2.there (awakes j) (minus 1) s.2.fits s.2.becomes

@@ -10,8 +10,8 @@ use Rattle.kf_words.specs.declared.view.View.TheVariants as seat
 use Rattle.kf_words.specs.Layout.{holds_in, HasSpare}
 use Rattle.kf_words.specs.Steps.{plain, new_hold}
 use Rattle.kf_words.specs.Callers.{Handle, CallerSight, seat_view}
-use Rattle.kf_words.specs.TableSteps.{misses}
-use Rattle.kf_words.specs.Made.{WasAMiss, WereMade, WasDoubled}
+use Rattle.kf_words.specs.TableSteps.{StepKind, misses}
+use Rattle.kf_words.specs.Made.{WasMade, WereMade, WasDoubled}
 
 -- the hold is as it was, but for how many steps it made, what the last found, and what it has seen
 pub record StaysAs (old new : Handle) : Type 0 where
@@ -31,21 +31,21 @@ pub record IsAnother (hold other : Handle) : Type 0 where
   pub still : other.phase ≡ Still
   pub steps : other.steps ≡ 0
 
--- steps on the hold word that counted nothing, from so many to so many, and no other
-abbrev pub Missed : ℕ → ℕ → CallerSight → CallerSight → Type 0
-Missed least most before after =
-    (count : ℕ) × (least ≤ count) × (count ≤ most) × WereMade misses count before after
+-- steps on a hold word that counted nothing, from so many to so many, and no other
+abbrev pub Missed : (ℕ → StepKind) → ℕ → ℕ → CallerSight → CallerSight → Type 0
+Missed kind least most before after =
+    (count : ℕ) × (least ≤ count) × (count ≤ most) × WereMade kind count before after
 
 -- after 63 such steps at most one step counted one hold more, and a new seat got it
 abbrev pub WasCountedFor : CallerSight → CallerSight → Seen → Type 0
 WasCountedFor before after seen =
-    (missed : CallerSight) × Missed 0 63 before missed × WasDoubled missed after seen
+    (missed : CallerSight) × Missed misses 0 63 before missed × WasDoubled missed after seen
 
 -- so many such steps, and each but the first found another word than the one before it
-abbrev pub WereOutrun : ℕ → CallerSight → CallerSight → Type 0
-WereOutrun zero before after = after ≡ before
-WereOutrun (suc count) before after = (between : CallerSight) × WereOutrun count before between
-    × WasAMiss between after × (count ≢ 0 → after.view.found ≢ between.view.found)
+abbrev pub WereOutrun : (ℕ → StepKind) → ℕ → CallerSight → CallerSight → Type 0
+WereOutrun kind zero before after = after ≡ before
+WereOutrun kind (suc count) before after = (between : CallerSight) × WereOutrun kind count before between
+    × WasMade kind between after × (count ≢ 0 → after.view.found ≢ between.view.found)
 
 -- the last step found a word without a spare place
 abbrev pub HasNoSpare : Handle → Type 0
@@ -57,7 +57,7 @@ HasNoSpare h = h.seen.opening.holds ≤ holds_in h.found + 1
 abbrev pub AnotherRefused : Handle → Handle → Refusal → Type 0
 AnotherRefused before after TooManyHolds = HasNoSpare after
 AnotherRefused before after NoMemory = HasSpare after.seen.opening.holds after.found
-AnotherRefused before after Busy = WereOutrun 64 (seat_view before) (seat_view after)
+AnotherRefused before after Busy = WereOutrun misses 64 (seat_view before) (seat_view after)
 AnotherRefused before after NoEntry = ⊥
 AnotherRefused before after Access = ⊥
 AnotherRefused before after Exists = ⊥

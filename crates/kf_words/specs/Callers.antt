@@ -1,5 +1,5 @@
 -- What contracts see of a caller's seat, and what each call tells of it.
-use Rattle.std.specs.Prelude.{◌≡◌, ℕ, ◌+◌, Bool, true, false}
+use Rattle.std.specs.Prelude.{◌≡◌, ℕ, ◌+◌, Bool, true, false, Option}
 pub use Rattle.atomic_table.specs.Seated.{TableId}
 use Rattle.kf_core.specs.declared.key.Key.{Key}
 use Rattle.kf_core.specs.declared.key.Node.{Node}
@@ -29,7 +29,7 @@ pub record Handle : Type 0 where
   pub tries : ℕ  -- how many of them were tries
   pub found : ℕ  -- the word that its last step found, the second step of a refused try left out
   pub undo_due : Bool  -- it is between the two steps of a refused try, as no hold, call or receipt is
-  pub pinning : Bool  -- it counted one hold more that has no seat yet, as no hold, call or receipt did
+  pub pinning : Option Key  -- what it counted one hold more of that has no seat yet, as no hold or call did
   pub seen : Seen  -- the beginning of the one run of all steps at the table that it has seen
 
 -- which seat of which table, and the node that was born with its key

@@ -17,7 +17,7 @@ use Rattle.kf_words.specs.declared.view.MasterView.{MasterView}
 use Rattle.kf_words.specs.declared.view.View.{View}
 use Rattle.kf_words.specs.Layout.{active_word, hold_word, is_drained, has_hide, is_unused, has_linked}
 use Rattle.kf_words.specs.Rule.{Shown, bare_world, last_key}
-use Rattle.kf_words.specs.Steps.{after_try, after_undo, after_leave, after_break, after_restore, after_look, after_part, after_hide, after_look_hidden, after_show, after_release, after_miss, after_count, after_share, new_hold, spent_hold, with_load, with_pin, without_pin, with_look, after_store, after_split, hold_for, with_birth, with_marks, activated_marks, doomed_marks, without_node}
+use Rattle.kf_words.specs.Steps.{after_try, after_undo, after_leave, after_break, after_restore, after_look, after_part, after_hide, after_look_hidden, after_show, after_release, after_miss, after_count, after_share, new_hold, spent_hold, with_load, with_pin, without_pin, with_look, after_store, after_split, hold_for, with_birth, with_marks, activated_marks, doomed_marks, without_node, after_count_at}
 use Rattle.kf_words.specs.Callers.{IsAtRest, HasReference, IsInPhase}
 use Rattle.kf_words.specs.Nodes.{marks_of}
 
@@ -111,6 +111,14 @@ ShareIsPin = OfEachCaller
     → BareStep (bare_world m cs) (Pin (length cs) c.key)
     (bare_world m (slice_set cs j (after_share c) ++ new_hold c.key ∷ [])))
 
+-- a hold that a caller counted, of whatever key, is a Pin of that key where it gets its seat, if the node is
+-- linked then or held
+abbrev pub HandOnIsPin : Type 0
+HandOnIsPin = OfEachCaller
+    (λ words m cs j c. (key : Key) → c.pinning ≡ Some key → MayPin (bare_world m cs) key
+    → BareStep (bare_world m cs) (Pin (length cs) key)
+    (bare_world m (slice_set cs j (after_share c) ++ new_hold key ∷ [])))
+
 -- a look that finds another word, a load that finds a node linked, and a hold more that has no seat yet leave
 -- the world as it is
 abbrev pub MissIsNothing : Type 0
@@ -121,7 +129,8 @@ MissIsNothing = OfEachCaller
     × (has_hide found ≡ true → bare_world m (slice_set cs j (after_hide found c)) ≡ bare_world m cs)
     × (is_unused found ≡ false → bare_world m (slice_set cs j (after_look_hidden found c)) ≡ bare_world m cs)
     × (bare_world m (slice_set cs j (after_miss found c)) ≡ bare_world m cs)
-    × (bare_world m (slice_set cs j (after_count found c)) ≡ bare_world m cs))
+    × (bare_world m (slice_set cs j (after_count found c)) ≡ bare_world m cs)
+    × ((slot : ℕ) → bare_world m (slice_set cs j (after_count_at slot found c)) ≡ bare_world m cs))
 
 -- the bias taken off the active word of a fresh node is a Rise
 abbrev pub RiseIsRise : Type 0

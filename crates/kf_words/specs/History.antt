@@ -15,7 +15,7 @@ use Rattle.kf_words.specs.declared.sight.Sight.{Sight}
 use Rattle.kf_words.specs.declared.view.View.TheVariants as seat
 use Rattle.kf_words.specs.Rule.{Shown, last_key}
 use Rattle.kf_words.specs.Notes.{notes_of, history_of}
-use Rattle.kf_words.specs.Steps.{opened, master_of, caller_of, state_at, after_split, hold_for, after_share, new_hold, spent_hold}
+use Rattle.kf_words.specs.Steps.{opened, master_of, caller_of, state_at, after_split, hold_for, after_share, new_hold, spent_hold, hold_on}
 use Rattle.kf_words.specs.TableSteps.{Table, StepKind, world, WordRun, opened_table}
 
 -- the words, and what each seat knows
@@ -84,6 +84,11 @@ hears s from = record { view = s.view; seen = s.seen; shown = from.seen.steps }
 -- what a seat knows that has seen just as much as another from then on
 abbrev pub takes_over : Sight → Sight → Sight
 takes_over s from = record { view = s.view; seen = from.seen; shown = s.shown }
+
+-- what the new seat of a hold of any key knows, which a caller counted: as much of the run as the caller
+abbrev pub handed_on : Sight → Sight
+handed_on s =
+    record { view = seat.Caller (hold_on (caller_of s.view).pinning); seen = s.seen; shown = [] }
 
 -- a beginning of the run of these steps, from this opening
 abbrev pub IsBeginning : Opening → Seen → List StepKind → Type 0

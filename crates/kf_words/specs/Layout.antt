@@ -1,6 +1,6 @@
 -- The two words of a slot: where they stand, where their bits stand, and what is tested of a word that was
 -- found.
-use Rattle.std.specs.Prelude.{◌≡◌, ℕ, ◌+◌, ◌*◌, ◌/◌, ◌%◌, ◌<◌, ◌||◌, ◌&&◌, Bool, true, false, ◌==◌, List, [], ◌∷◌, slice_index, slice_set}
+use Rattle.std.specs.Prelude.{◌≡◌, ℕ, ◌+◌, ◌-◌, ◌*◌, ◌/◌, ◌%◌, ◌<◌, ◌||◌, ◌&&◌, Bool, true, false, ◌==◌, List, [], ◌∷◌, slice_index, slice_set}
 use Rattle.std.specs.List.{repeat}
 
 -- each slot has a cache line of eight words to itself: its active word, behind that its hold word, then the
@@ -19,6 +19,14 @@ hold_index slot = slot * line_words + 1
 -- where the count of a slot's sleepers stands: right behind its hold word. The rule says nothing of it
 abbrev pub sleepers_index : ℕ → ℕ
 sleepers_index slot = slot * line_words + 2
+
+-- where a word of a slot's node stands, which is told when the node is born: one of the five last in its line
+abbrev pub node_index : ℕ → ℕ → ℕ
+node_index place slot = slot * line_words + 3 + place
+
+-- which of a node's words stands here
+abbrev pub place_of : ℕ → ℕ
+place_of index = index % line_words - 3
 
 -- the slot of the word that stands here
 abbrev pub slot_of : ℕ → ℕ
@@ -101,6 +109,14 @@ HasRoom limit word = holds_in word < limit
 -- the slot may have one hold more, and then has room still for one of the Master's
 abbrev pub HasSpare : ℕ → ℕ → Type 0
 HasSpare limit word = holds_in word + 1 < limit
+
+-- a node is linked in the slot, and it is of this generation
+abbrev pub IsOf : ℕ → ℕ → Type 0
+IsOf generation word = (has_linked word ≡ true) × (word / one_generation ≡ generation)
+
+-- any caller may count one hold more of the node that is linked in the slot
+abbrev pub MayPinAt : ℕ → ℕ → Type 0
+MayPinAt limit word = (has_linked word ≡ true) × HasSpare limit word
 
 -- the line of a slot that has had `start` generations, and has no node
 abbrev pub empty_line : ℕ → List ℕ

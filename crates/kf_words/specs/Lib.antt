@@ -11,5 +11,8 @@ pub mod TableSteps
 pub mod History
 pub mod Made
 pub mod Another
+pub mod Pins
+pub mod NodeWords
+pub mod NodeReads
 pub mod Runs
 pub mod Life

@@ -2,18 +2,18 @@
 use Rattle.std.specs.Prelude.{ℕ, Bool, true, false, List, [], ◌∷◌, map, Option, None, Some}
 use Rattle.kf_core.specs.declared.command.Command.TheVariants.{Doom}
 use Rattle.kf_core.specs.declared.caller.Phase.{Phase}
-use Rattle.kf_core.specs.declared.caller.Phase.TheVariants.{Spent}
+use Rattle.kf_core.specs.declared.caller.Phase.TheVariants.{Still, Spent}
 use Rattle.kf_core.specs.declared.slot.Marks.{Marks}
 use Rattle.kf_words.specs.declared.view.CallerView.{CallerView}
 use Rattle.kf_words.specs.declared.view.MasterView.{MasterView}
 use Rattle.kf_words.specs.declared.view.Load.{Load}
 use Rattle.kf_words.specs.declared.view.View.TheVariants as seat
 use Rattle.kf_words.specs.declared.note.Note.TheVariants.{Did}
-use Rattle.kf_words.specs.TableSteps.{Table, StepKind, births, breaks, hides, leaves, loads_hold, looks, looks_hidden, looks_over, marks_node, parts, pins_hold, releases, misses, counts, shares, restores, shows, sleeps, awakes, splits, stores_fresh, takes_bias, tries, undoes, unlinks, unpins_hold, notes, reports, answers, compares}
+use Rattle.kf_words.specs.TableSteps.{Table, StepKind, births, breaks, hides, leaves, loads_hold, looks, looks_hidden, looks_over, marks_node, parts, pins_hold, releases, misses, counts, shares, restores, shows, sleeps, awakes, splits, stores_fresh, takes_bias, tries, undoes, unlinks, unpins_hold, notes, reports, answers, compares, misses_at, counts_at, hands_on, stores_node, reads_node}
 use Rattle.kf_words.specs.declared.view.View.{View}
 use Rattle.kf_words.specs.declared.sight.Opening.{Opening}
 use Rattle.kf_words.specs.declared.sight.Sight.{Sight}
-use Rattle.kf_words.specs.Steps.{new_hold, spent_hold}
+use Rattle.kf_words.specs.Steps.{spent_hold}
 use Rattle.kf_words.specs.Runs.{AttendedRun}
 use Rattle.kf_words.specs.History.{Kept, opened_as}
 
@@ -30,12 +30,17 @@ caller_at phase steps tried found due = record {
   tries = tried;
   found = found;
   undo_due = due;
-  pinning = false;
+  pinning = None;
 }
+
+-- a caller that came for the next node there
+abbrev pub next_caller : Phase → ℕ → ℕ → ℕ → Bool → CallerView
+next_caller phase steps tried found due =
+    record (caller_at phase steps tried found due) { key = record { slot = 1; generation = 2 } }
 
 -- the same after it counted one hold more, which has no seat yet
 abbrev pub with_one_more : CallerView → CallerView
-with_one_more c = record c { pinning = true }
+with_one_more c = record c { pinning = Some c.key }
 
 -- the Master of two slots, with three holds at most, by what it knows of slot 1
 abbrev pub master_at : ℕ → Option Marks → Option ℕ → Option ℕ → List Load → List Load → Option Load
@@ -64,7 +69,8 @@ abbrev pub table_at : ℕ → ℕ → MasterView → List CallerView → Table
 table_at active hold m cs = table_with active hold 0 m cs
 
 -- caller 0 calls into the node, caller 1 hides it, shows it, and removes it. Of the node that is out caller 0
--- makes another hold, once there is room. Of the next node there a hold is pinned, which meets the Master
+-- makes another hold, once there is room. Of the next node there caller 3 makes one by its key, and meets the
+-- Master
 abbrev pub word_life : List StepKind
 word_life = loads_hold 1 ∷ stores_fresh 1 ∷ births 1 ∷ takes_bias 1 ∷ loads_hold 1 ∷ pins_hold 1
     ∷ splits 1 ∷ loads_hold 1 ∷ pins_hold 1 ∷ splits 1 ∷ tries 0 ∷ hides 1
@@ -73,8 +79,9 @@ word_life = loads_hold 1 ∷ stores_fresh 1 ∷ births 1 ∷ takes_bias 1 ∷ lo
     ∷ marks_node 1 ∷ tries 1 ∷ undoes 1 ∷ sleeps 1 ∷ breaks 0 ∷ awakes 1 ∷ looks 1 ∷ restores 0
     ∷ parts 1 ∷ looks_over 1 ∷ leaves 0 ∷ looks_over 1 ∷ unlinks 1 ∷ parts 1 ∷ misses 0 ∷ releases 1
     ∷ counts 0 ∷ shares 0 ∷ releases 2 ∷ releases 0
-    ∷ loads_hold 1 ∷ stores_fresh 1 ∷ births 1 ∷ loads_hold 1 ∷ pins_hold 1 ∷ unpins_hold 1
-    ∷ loads_hold 1 ∷ pins_hold 1 ∷ splits 1 ∷ reports 3 ∷ compares ∷ answers ∷ []
+    ∷ loads_hold 1 ∷ stores_fresh 1 ∷ stores_node 1 0 0 ∷ births 1 ∷ loads_hold 1 ∷ pins_hold 1 ∷ unpins_hold 1
+    ∷ loads_hold 1 ∷ pins_hold 1 ∷ splits 1 ∷ misses_at 1 3 ∷ counts_at 1 3 ∷ hands_on 3 ∷ reads_node 1 0 3
+    ∷ reports 3 ∷ compares ∷ answers ∷ []
 
 -- how the table opens there
 abbrev pub life_opening : Opening
@@ -82,12 +89,12 @@ life_opening = record { holds = 3; slots = 2; start = 0 }
 
 -- the table after all these steps
 abbrev pub lived : Table
-lived = table_at 4294967296 10737418241
+lived = table_at 4294967296 10737418242
     (master_at 2 (Some (with_marks_of false false)) (None) (None) ([])
     (record { slot = 1; word = 4294967296 } ∷ []) (None))
     ((caller_at Spent 11 3 4294967297 false) ∷ (caller_at Spent 10 1 4294967298 false)
-    ∷ (caller_at Spent 1 0 4294967298 false) ∷ new_hold (record { slot = 1; generation = 2 })
-    ∷ spent_hold (record { slot = 1; generation = 2 })
+    ∷ (caller_at Spent 1 0 4294967298 false) ∷ (next_caller Still 3 0 0 false)
+    ∷ (next_caller Still 0 0 0 false) ∷ spent_hold (record { slot = 1; generation = 2 })
     ∷ spent_hold (record { slot = 0; generation = 1 }) ∷ [])
 
 -- there is an attended run of all these steps from the opening of two slots

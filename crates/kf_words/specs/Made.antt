@@ -3,20 +3,22 @@ use Rattle.std.specs.Prelude.{◌≡◌, ℕ, zero, suc, ◌≢◌, Bool, true, 
 use mathlib.Core.Option.{some}
 use lib.ListN.{get_elem?}
 use Rattle.atomic_table.specs.Table.{Step}
+use Rattle.kf_core.specs.declared.key.Node.{Node}
 use Rattle.kf_core.specs.Bare.{is_live}
 use mathlib.Core.List.{IsPrefix}
 use Rattle.kf_words.specs.declared.note.Note.{Note}
 use Rattle.kf_words.specs.declared.sight.Seen.{Seen}
 use Rattle.kf_words.specs.declared.view.View.TheVariants as seat
-use Rattle.kf_words.specs.Layout.{active_index, hold_index, slot_of}
+use Rattle.kf_words.specs.Layout.{active_index, hold_index, node_index, place_of, slot_of}
 use Rattle.kf_words.specs.Rule.{Shown}
-use Rattle.kf_words.specs.Steps.{Seated, Sighted, plain, caller_of, after_try, after_undo, after_leave, after_break, after_restore, after_look, after_part, after_hide, after_look_hidden, after_release, after_miss, after_count, after_share, CallerBecomes, ShowsKey}
+use Rattle.kf_words.specs.Steps.{Seated, Sighted, plain, caller_of, after_try, after_undo, after_leave, after_break, after_restore, after_look, after_part, after_hide, after_look_hidden, after_release, after_miss, after_count, after_share, kept, CallerBecomes, MasterBecomes, ShowsKey}
 use Rattle.kf_words.specs.declared.view.CallerView.{CallerView}
 use Rattle.kf_words.specs.Callers.{Handle, Owed, CallerSight, caller_sight, seat_view}
 use Rattle.kf_words.specs.Nodes.{MasterSight, master_sight}
-use Rattle.kf_words.specs.TableSteps.{Table, world, StepKind, IsSeated, WordStep, WordRun, tries, undoes, leaves, breaks, restores, looks, parts, hides, looks_hidden, shows, releases, misses, counts, loads_hold, pins_hold, stores_fresh, births, looks_over, unlinks, notes, compares}
+use Rattle.kf_words.specs.TableSteps.{Table, world, StepKind, IsSeated, WordStep, WordRun, tries, undoes, leaves, breaks, restores, looks, parts, hides, looks_hidden, shows, releases, misses, counts, loads_hold, pins_hold, stores_fresh, births, looks_over, unlinks, notes, compares, stores_node}
 use Rattle.kf_words.specs.Notes.{notes_of}
 use Rattle.kf_words.specs.History.{opened_as}
+use Rattle.kf_words.specs.NodeWords.{kind_word, first_word, second_word}
 
 -- the run that was seen before went on by the steps between, then by this one, and so far it is seen after
 abbrev pub SawNext : Seen → List StepKind → StepKind → Seen → Type 0
@@ -257,10 +259,19 @@ pub record WasMadeByMaster (kind : StepKind) (before after : MasterSight) : Type
   pub alone : notes_of between ≡ []
   pub seen : SawNext before.seen between kind after.seen
 
--- a node was born: its new active word was stored, and then its slot got the generation and the bit of a node
-abbrev pub WasBorn : ℕ → MasterSight → MasterSight → Type 0
-WasBorn slot before after = (stored : MasterSight) × WasMadeByMaster (stores_fresh slot) before stored
-    × WasMadeByMaster (births slot) stored after
+-- the three words of a node were put
+abbrev pub WasNoted : ℕ → Node → MasterSight → MasterSight → Type 0
+WasNoted slot node before after = (one : MasterSight) × (two : MasterSight)
+    × WasMadeByMaster (stores_node slot 0 (kind_word node)) before one
+    × WasMadeByMaster (stores_node slot 1 (first_word node)) one two
+    × WasMadeByMaster (stores_node slot 2 (second_word node)) two after
+
+-- a node was born: its new active word was stored, its words were put, and then its slot got the generation
+-- and the bit of a node
+abbrev pub WasBorn : ℕ → Node → MasterSight → MasterSight → Type 0
+WasBorn slot node before after = (stored : MasterSight) × (noted : MasterSight)
+    × WasMadeByMaster (stores_fresh slot) before stored × WasNoted slot node stored noted
+    × WasMadeByMaster (births slot) noted after
 
 -- the active word of a node was looked at, and where it was drained the node was taken out
 abbrev pub WasUnlinked : ℕ → Bool → MasterSight → MasterSight → Type 0
@@ -277,6 +288,13 @@ pub record WasCounted (slot : ℕ) (before : MasterSight) (seat after : Seen) : 
   pub pin : WasMadeByMaster (pins_hold slot) loaded counted
   pub told : seat ≡ counted.seen
   pub same : after ≡ counted.seen
+
+-- what a word of a node that is put tells: which of them, and the number
+abbrev pub MakesNote : Step (Unit {0}) → Sighted → ℕ → Sighted → Type 0
+MakesNote st me found me' = (st.word ≡ node_index (place_of st.word) (slot_of st.word))
+    × (MasterBecomes kept st (plain me) found (plain me')
+    × WasMadeByMaster (stores_node (slot_of st.word) (place_of st.word) st.first) (master_sight me.0)
+    (master_sight me'.0))
 
 -- what a step of the Master tells: that it is on the word that this index has of some slot, the view after
 -- it, and that it was the next of the one run

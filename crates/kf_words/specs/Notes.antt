@@ -37,6 +37,11 @@ note_of (step.Notes note) = note ∷ []
 note_of (step.Reports j) = []
 note_of step.Answers = []
 note_of step.Compares = []
+note_of (step.MissesAt slot j) = []
+note_of (step.CountsAt slot j) = []
+note_of (step.HandsOn j) = []
+note_of (step.StoresNode slot place n) = []
+note_of (step.ReadsNode slot place j) = []
 
 -- the notes that these steps add, in their order
 abbrev pub notes_of : List StepKind → List Note

@@ -1,5 +1,5 @@
 -- The rule of the table: what its words show of the views of all seats.
-use Rattle.std.specs.Prelude.{◌≡◌, ℕ, ◌+◌, ◌*◌, ◌≤◌, ◌<◌, Bool, true, List, [], ◌∷◌, map, length, not, ◌&&◌, ◌||◌, ◌==◌, slice_get, Option, Some, None, is_some, IsTrue}
+use Rattle.std.specs.Prelude.{◌≡◌, ℕ, ◌+◌, ◌*◌, ◌≤◌, ◌<◌, Bool, true, false, List, [], ◌∷◌, map, length, not, ◌&&◌, ◌||◌, ◌==◌, slice_get, Option, Some, None, is_some, IsTrue}
 use mathlib.Core.Option.{some}
 use lib.ListN.{get_elem?}
 use Rattle.atomic_table.specs.Table.{State}
@@ -8,7 +8,7 @@ use Rattle.kf_core.specs.declared.caller.Caller.{Caller}
 use Rattle.kf_core.specs.declared.caller.Phase.TheVariants.{Turned}
 use Rattle.kf_core.specs.declared.slot.Marks.{Marks}
 use Rattle.kf_core.specs.declared.slot.SlotState.{SlotState}
-use Rattle.kf_core.specs.Bare.{BareWorld}
+use Rattle.kf_core.specs.Bare.{BareWorld, IsLast}
 use Rattle.kf_core.specs.Marks.{are_live, are_doomed}
 use Rattle.kf_core.specs.Phases.{has_reference, is_hiding, is_spent}
 use Rattle.kf_core.specs.Safe.{Safe, NoneRunning}
@@ -37,9 +37,14 @@ is_hider slot c = (c.key.slot == slot) && is_hiding c.phase
 abbrev pub is_holder : ℕ → CallerView → Bool
 is_holder slot c = (c.key.slot == slot) && not (is_spent c.phase)
 
+-- this key has this slot
+abbrev pub is_in : ℕ → Option Key → Bool
+is_in slot None = false
+is_in slot (Some key) = key.slot == slot
+
 -- the caller counted one hold more in the hold word of this slot, which has no seat yet
 abbrev pub is_pinner : ℕ → CallerView → Bool
-is_pinner slot c = (c.key.slot == slot) && c.pinning
+is_pinner slot c = is_in slot c.pinning
 
 -- how many callers count in the active word of this slot
 abbrev pub users : ℕ → List CallerView → ℕ
@@ -98,6 +103,9 @@ module _ (words : List ℕ) (m : MasterView) (cs : List CallerView) where
         → ShowsHolds m.limit (hold_word words slot) state (holders slot cs + pins_in m.pinning slot)
     -- who has a try to undo was turned away
     pub tries : (j : ℕ) (c : CallerView) → get_elem? cs j ≡ some c → c.undo_due ≡ true → c.phase ≡ Turned
+    -- the hold that a caller counted is of the last key of its slot
+    pub pinned : (j : ℕ) (c : CallerView) (key : Key) → get_elem? cs j ≡ some c → c.pinning ≡ Some key
+        → IsLast (bare_world m cs) key.slot key.generation
     -- what the Master found still holds
     pub loads : (i : ℕ) (load : Load) → slice_get m.loads i ≡ Some load
         → StillHolds m.limit load.word (hold_word words load.slot)

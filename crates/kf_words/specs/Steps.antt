@@ -37,7 +37,7 @@ no_caller = record {
   tries = 0;
   found = 0;
   undo_due = false;
-  pinning = false;
+  pinning = None;
 }
 
 -- the view of a caller's seat; the Master's seat has that of no caller
@@ -138,11 +138,20 @@ after_miss found c = after_step c.phase c.undo_due found c
 
 -- the caller's view after it counted one hold more, which has no seat yet
 abbrev pub after_count : ℕ → CallerView → CallerView
-after_count found c = record (after_step c.phase c.undo_due found c) { pinning = true }
+after_count found c = record (after_step c.phase c.undo_due found c) { pinning = Some c.key }
+
+-- the key that a slot had last, by its hold word
+abbrev pub key_in : ℕ → ℕ → Key
+key_in slot word = record { slot = slot; generation = word / one_generation }
+
+-- the caller's view after it counted one hold more of the last key of a slot, which has no seat yet
+abbrev pub after_count_at : ℕ → ℕ → CallerView → CallerView
+after_count_at slot found c =
+    record (after_step c.phase c.undo_due found c) { pinning = Some (key_in slot found) }
 
 -- the caller's view after the hold that it counted went to a new seat
 abbrev pub after_share : CallerView → CallerView
-after_share c = record c { pinning = false }
+after_share c = record c { pinning = None }
 
 -- the view after a step on the count of sleepers, which is no step on a word that the rule reads: as before
 abbrev pub unmoved : ℕ → CallerView → CallerView
@@ -207,7 +216,7 @@ new_hold key = record {
   tries = 0;
   found = 0;
   undo_due = false;
-  pinning = false;
+  pinning = None;
 }
 
 -- the view of a seat that holds nothing: it came to this key, and gave its hold back at once
@@ -219,8 +228,13 @@ spent_hold key = record {
   tries = 0;
   found = 0;
   undo_due = false;
-  pinning = false;
+  pinning = None;
 }
+
+-- the view of the seat that a split makes of the hold that a caller counted
+abbrev pub hold_on : Option Key → CallerView
+hold_on None = no_caller
+hold_on (Some key) = new_hold key
 
 -- the view of the seat that a split makes
 abbrev pub hold_for : MasterView → Option ℕ → CallerView
@@ -254,6 +268,10 @@ without_node slot m = record (on_hold m) {
 -- a step that does not read what it finds
 abbrev pub unread : (ℕ → MasterView → MasterView) → ℕ → ℕ → MasterView → MasterView
 unread after slot found m = after slot m
+
+-- the Master's view after a step that leaves it as it was
+abbrev pub kept : ℕ → ℕ → MasterView → MasterView
+kept slot found m = m
 
 -- what a step tells its caller: the view is that of before, changed in this way
 abbrev pub CallerBecomes : (ℕ → CallerView → CallerView) → Step (Unit {0}) → Seated → ℕ → Seated → Type 0

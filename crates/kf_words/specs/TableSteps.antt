@@ -10,15 +10,16 @@ use Rattle.kf_core.specs.declared.slot.Marks.{Marks}
 use Rattle.kf_core.specs.Marks.{fresh_marks}
 use Rattle.kf_core.specs.Phases.{may_release}
 use Rattle.kf_core.specs.Bare.{BareWorld}
+use Rattle.kf_core.specs.Steps.{MayPin}
 use Rattle.kf_words.specs.declared.view.CallerView.{CallerView}
 use Rattle.kf_words.specs.declared.view.MasterView.{MasterView}
 use Rattle.kf_words.specs.declared.view.View.{View}
 use Rattle.kf_words.specs.declared.view.View.TheVariants as seat
 pub use Rattle.kf_words.specs.declared.sight.StepKind.{StepKind}
-pub use Rattle.kf_words.specs.declared.sight.StepKind.TheVariants.{Tries as tries, Undoes as undoes, Leaves as leaves, Breaks as breaks, Restores as restores, Looks as looks, Parts as parts, Hides as hides, LooksHidden as looks_hidden, Shows as shows, Releases as releases, Misses as misses, Counts as counts, Shares as shares, Sleeps as sleeps, Awakes as awakes, LoadsHold as loads_hold, PinsHold as pins_hold, UnpinsHold as unpins_hold, Splits as splits, StoresFresh as stores_fresh, Births as births, TakesBias as takes_bias, MarksNode as marks_node, LooksOver as looks_over, Unlinks as unlinks, Notes as notes, Reports as reports, Answers as answers, Compares as compares}
-use Rattle.kf_words.specs.Layout.{bit, bias, doom, hide, linked, one_generation, active_index, hold_index, sleepers_index, opening_words, HasSpare}
+pub use Rattle.kf_words.specs.declared.sight.StepKind.TheVariants.{Tries as tries, Undoes as undoes, Leaves as leaves, Breaks as breaks, Restores as restores, Looks as looks, Parts as parts, Hides as hides, LooksHidden as looks_hidden, Shows as shows, Releases as releases, Misses as misses, Counts as counts, Shares as shares, Sleeps as sleeps, Awakes as awakes, LoadsHold as loads_hold, PinsHold as pins_hold, UnpinsHold as unpins_hold, Splits as splits, StoresFresh as stores_fresh, Births as births, TakesBias as takes_bias, MarksNode as marks_node, LooksOver as looks_over, Unlinks as unlinks, Notes as notes, Reports as reports, Answers as answers, Compares as compares, MissesAt as misses_at, CountsAt as counts_at, HandsOn as hands_on, StoresNode as stores_node, ReadsNode as reads_node}
+use Rattle.kf_words.specs.Layout.{bit, bias, doom, hide, linked, one_generation, active_index, hold_index, sleepers_index, opening_words, HasSpare, node_index, MayPinAt}
 use Rattle.kf_words.specs.Rule.{bare_world, last_key}
-use Rattle.kf_words.specs.Steps.{caller_of, no_master, master_of, state_at, after_try, after_undo, after_leave, after_break, after_restore, after_look, after_part, after_hide, after_look_hidden, after_show, after_release, after_miss, after_count, after_share, new_hold, spent_hold, unmoved, after_split, hold_for, with_load, with_pin, without_pin, after_store, with_birth, with_marks, activated_marks, doomed_marks, with_look, without_node, unread, opened}
+use Rattle.kf_words.specs.Steps.{caller_of, no_master, master_of, state_at, after_try, after_undo, after_leave, after_break, after_restore, after_look, after_part, after_hide, after_look_hidden, after_show, after_release, after_miss, after_count, after_share, new_hold, spent_hold, unmoved, after_split, hold_for, with_load, with_pin, without_pin, after_store, with_birth, with_marks, activated_marks, doomed_marks, with_look, without_node, unread, opened, after_count_at, kept}
 use Rattle.kf_words.specs.Callers.{IsAtRest, HasReference, IsInPhase}
 use Rattle.kf_words.specs.Nodes.{FoundRoom, FoundFree, HasMarks, HasLooked, marks_of}
 
@@ -102,12 +103,17 @@ MayRelease c = (may_release c.phase ≡ true) × (c.undo_due ≡ false)
 -- the caller may count one hold more: none that it counted waits for a seat, and its slot's hold word has a
 -- spare place
 abbrev pub MayCount : Table → CallerView → Type 0
-MayCount t c = IsAtRest c × (c.pinning ≡ false)
+MayCount t c = IsAtRest c × (c.pinning ≡ None)
     × HasSpare (master_in t.views).limit (slice_index t.words (hold_index c.key.slot))
 
--- the hold that the caller counted waits for its seat
+-- the hold that the caller counted of its own key waits for its seat
 abbrev pub MayShare : CallerView → Type 0
-MayShare c = IsAtRest c × (c.pinning ≡ true)
+MayShare c = IsAtRest c × (c.pinning ≡ Some c.key)
+
+-- the caller may count one hold more in the hold word of any slot that has a linked node and a spare place
+abbrev pub MayCountAt : Table → ℕ → CallerView → Type 0
+MayCountAt t slot c = IsAtRest c × (c.pinning ≡ None)
+    × MayPinAt (master_in t.views).limit (slice_index t.words (hold_index slot))
 
 -- the hold that a caller counted goes to a new seat of its key, behind all others
 abbrev pub CallerShares : Table → ℕ → Table → Type 0
@@ -116,6 +122,28 @@ CallerShares t j t' = (c : CallerView) × MayShare c × IsSeated t j c
       words = t.words;
       homes = t.homes;
       views = slice_set t.views (suc j) (seat.Caller (after_share c)) ++ seat.Caller (new_hold c.key) ∷ [];
+    })
+
+-- a step of the caller of this number on the hold word of any slot, where its own view allows it; what it
+-- finds goes into its view
+abbrev pub CallerPlaysAt : ℕ → (ℕ → CallerView → CallerView) → (CallerView → Type 0) → (ℕ → ℕ) → Table → ℕ
+    → Table → Type 0
+CallerPlaysAt slot after May f t j t' = (c : CallerView) × May c
+    × Plays t (suc j) (hold_index slot) f (seat.Caller c)
+    (seat.Caller (after (slice_index t.words (hold_index slot)) c)) t'
+
+-- a load by the caller of this number of any word
+abbrev pub CallerLoads : ℕ → Table → ℕ → Table → Type 0
+CallerLoads word t j t' = (c : CallerView) × IsAtRest c
+    × Plays t (suc j) word same (seat.Caller c) (seat.Caller (after_miss (slice_index t.words word) c)) t'
+
+-- the hold that a caller counted, of whatever key, goes to a new seat of that key, behind all others
+abbrev pub CallerHandsOn : Table → ℕ → Table → Type 0
+CallerHandsOn t j t' = (c : CallerView) × (key : Key) × IsAtRest c × (c.pinning ≡ Some key) × IsSeated t j c
+    × (t' ≡ record {
+      words = t.words;
+      homes = t.homes;
+      views = slice_set t.views (suc j) (seat.Caller (after_share c)) ++ seat.Caller (new_hold key) ∷ [];
     })
 
 -- the caller may step on the count of its slot's sleepers, whatever its view says
@@ -146,6 +174,11 @@ SeesFree slot m = (slot < length m.slots) × FoundFree m slot
 -- the Master's last step stored a new active word in this slot
 abbrev pub HasFresh : ℕ → MasterView → Type 0
 HasFresh slot m = (slot < length m.slots) × (m.fresh ≡ Some slot)
+
+-- a word of the node that is to be born in this slot may be put: the new active word is stored, and nobody is
+-- there
+abbrev pub MayNote : ℕ → ℕ → MasterView → Type 0
+MayNote slot place m = HasFresh slot m × (place < 5)
 
 -- the slot has a node with these marks, which is not doomed
 abbrev pub IsUndoomed : ℕ → Marks → MasterView → Type 0
@@ -218,6 +251,13 @@ WordStep t (notes note) t' = MasterStays t t'
 WordStep t (reports j) t' = CallerReports t j t'
 WordStep t answers t' = MasterAnswers t t'
 WordStep t compares t' = MasterStays t t'
+WordStep t (misses_at slot j) t' = CallerPlaysAt slot after_miss IsAtRest same t j t'
+WordStep t (counts_at slot j) t' =
+    CallerPlaysAt slot (after_count_at slot) (MayCountAt t slot) (plus 1) t j t'
+WordStep t (hands_on j) t' = CallerHandsOn t j t'
+WordStep t (stores_node slot place n) t' =
+    MasterPlays kept (MayNote slot place) (node_index place) (λ _. n) t slot t'
+WordStep t (reads_node slot place j) t' = CallerLoads (node_index place slot) t j t'
 
 -- these steps, one after another
 abbrev pub WordRun : Table → List StepKind → Table → Type 0
@@ -233,6 +273,11 @@ opened_table limit slots start =
 abbrev pub IsPinnable : Table → ℕ → Type 0
 IsPinnable t slot =
     (is_some (state_at (master_in t.views) slot).marks ≡ true) ⊎ ((j : ℕ) × HoldsSlot t slot j)
+
+-- the key of which this caller counted one hold more has a linked node, or a caller who holds it
+abbrev pub IsHandable : Table → ℕ → Type 0
+IsHandable t j = (c : CallerView) × (key : Key) × IsSeated t j c × (c.pinning ≡ Some key)
+    × MayPin (world t) key
 
 -- who gives a seat to a hold, or takes a node out, was shown a caller that lets it: one on the slot of a node
 -- that is no longer linked, and one that is drained on the node
@@ -267,6 +312,11 @@ IsAttended t compares = Unit {0}
 IsAttended t answers = IsPinnable t 0
 IsAttended t (splits slot) = IsPinnable t slot
 IsAttended t (unlinks slot) = (j : ℕ) × IsDrainedOn t slot j
+IsAttended t (misses_at slot j) = Unit {0}
+IsAttended t (counts_at slot j) = Unit {0}
+IsAttended t (hands_on j) = IsHandable t j
+IsAttended t (stores_node slot place n) = Unit {0}
+IsAttended t (reads_node slot place j) = Unit {0}
 
 -- a run in which each step of the Master was attended
 abbrev pub AttendedRun : Table → List StepKind → Table → Type 0

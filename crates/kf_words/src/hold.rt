@@ -3,6 +3,9 @@ ghost use Rattle.std.specs.Prelude.{◌≡◌, true, IfOk, IfErr, MatchResult};
 ghost use Rattle.kf_core.specs.Phases.{is_waiting};
 ghost use Rattle.kf_words.specs.Callers.{IsSameSeat, Entered, WasTurned, SawDrained, SawUse, WasHidden, FoundHidden, seat_view};
 ghost use Rattle.kf_words.specs.Another.{StaysAs, IsAnother, WasCountedFor, AnotherRefused, Missed};
+ghost use Rattle.kf_words.specs.Pins.{IsHoldOf, WasHeldFor, IsRefused, HasSlotOf};
+ghost use Rattle.kf_words.specs.TableSteps.{misses};
+ghost use Rattle.kf_core.specs.declared.refusal.Refusal.TheVariants as refusal_of;
 ghost use Rattle.kf_words.specs.Made.{FoundThere, WasATry, WasATryUndone, WasALook, WasAHide, WasLetInLive};
 
 use crate::call::Call;
@@ -117,9 +120,35 @@ impl Hold {
         ensures made { IfOk result
             (λ other. WasCountedFor (seat_view self.old) (seat_view self.new) other.seen) }
         ensures refused { IfErr result (λ why. AnotherRefused self.old self.new why) }
-        ensures missed { IfErr result (λ _. Missed 1 64 (seat_view self.old) (seat_view self.new)) }
+        ensures missed { IfErr result (λ _. Missed misses 1 64 (seat_view self.old) (seat_view self.new)) }
     {
         let seat = self.seat.another()?;
+        Ok(Hold { seat })
+    }
+
+    /// A hold of the node of a key (`kernfs_get`), with no lock of the tree: any hold of the same table makes
+    /// it, by exchanges on the hold word of the key's slot alone. The node was linked at the moment when the
+    /// hold was counted, and is read from the words of the slot. The last place of a slot is not taken: it is
+    /// for a hold that the tree's Master gives.
+    ///
+    /// Refusals, in order: NoEntry where the table has no such slot, or the key's node is linked there no
+    /// more; TooManyHolds where the slot has as many holds as there may be, or one fewer; Busy where other
+    /// holds came or went at each of 64 tries; NoMemory where the table can have no owner more (its `Arc` is
+    /// at its last count). After each the slot has the holds that it had.
+    pub fn pin(&mut self, key: Key) -> Result<Hold, Refusal>
+        ensures same { IsSameSeat self.old self.new }
+        ensures stays { StaysAs self.old self.new }
+        ensures other { IfOk result (λ other. IsHoldOf self.old key other) }
+        ensures made { IfOk result
+            (λ other. WasHeldFor key (seat_view self.old) (seat_view self.new) other) }
+        ensures refused { HasSlotOf self.old key → IfErr result (λ why. IsRefused key self.old self.new why) }
+        ensures beyond { (HasSlotOf self.old key → ⊥) → MatchResult result (λ _. ⊥)
+            (λ why. (why ≡ refusal_of.NoEntry) × (self.new ≡ self.old)) }
+    {
+        if !self.seat.has_slot_of(key) {
+            return Err(Refusal::NoEntry);
+        }
+        let seat = self.seat.pin(key)?;
         Ok(Hold { seat })
     }
 

@@ -1,8 +1,10 @@
 //! What the words tell at every moment, and which event each step is.
 ghost use Rattle.kf_words.specs.Laws.{AlwaysSafe, LetsInTheLive, DrainedIsUnused, FreeIsUnheld, TellsTheLinked, TellsTheHidden, HiddenIsRefused, ShownLetsIn};
-ghost use Rattle.kf_words.specs.Events.{TryIsEnter, UndoIsUndo, LookIsLook, PartIsPart, LeaveIsLeave, BreakIsBreak, RestoreIsRestore, ReleaseIsRelease, HideIsHide, LookHiddenIsLook, ShowIsShow, MissIsNothing, RiseIsRise, MarkIsMark, BirthIsBorn, UnlinkIsUnlink, SplitIsPin, HeldSplitIsPin, ShareIsPin, RestIsNothing, ReportPasses, AnswerPasses};
+ghost use Rattle.kf_words.specs.Events.{TryIsEnter, UndoIsUndo, LookIsLook, PartIsPart, LeaveIsLeave, BreakIsBreak, RestoreIsRestore, ReleaseIsRelease, HideIsHide, LookHiddenIsLook, ShowIsShow, MissIsNothing, RiseIsRise, MarkIsMark, BirthIsBorn, UnlinkIsUnlink, SplitIsPin, HeldSplitIsPin, ShareIsPin, RestIsNothing, ReportPasses, AnswerPasses, HandOnIsPin};
 ghost use Rattle.kf_words.specs.History.{EndsARun, SeenLeadsHere, DrainedEverAfter, OneRunIsSeen, OneEnd, HistoryIsSeen, OneHistory, NotesStay};
 ghost use Rattle.kf_words.specs.Life.{WordLife, LifeIsKept};
+ghost use Rattle.kf_words.specs.NodeReads.{ReadIsBorn};
+ghost use Rattle.kf_words.specs.NodeWords.{ReadAsBorn};
 ghost use Rattle.kf_words.specs.Runs.{OpensWell, RuleKept, RunIsRun, RunIsSafe, MarkedKeepsOut, DrainedForGood, HiddenKeepsOut, PassedForGood, BornUnheld, LetInLive, TakenLive};
 
 /// What the words tell between any two steps of any number of seats, for as long as the table lives. It does
@@ -38,7 +40,8 @@ pub fn words_tell()
 /// Master, a birth is a Born of the slot's next key, activation and mark are a Rise and a Mark. A node taken
 /// out is an Unlink of any drained caller of it. A hold that gets its seat is a Pin of a new caller, on a
 /// linked key or one that somebody holds. A caller that counts one hold more leaves the world as it is, and
-/// the seat that gets it is a Pin of the caller's key, linked or not. The Master's other steps leave the
+/// the seat that gets it is a Pin of the caller's key, linked or not. Where it counted one of another key, the
+/// seat that gets it is a Pin of that key if it is linked then, or held. The Master's other steps leave the
 /// world as it is. A seat that carries to the Master what a caller has seen, or the Master's answer, holds
 /// nothing: it is a Pin and at once a Release.
 pub fn words_step()
@@ -61,6 +64,7 @@ pub fn words_step()
     ensures split_is_pin { SplitIsPin }
     ensures held_split_is_pin { HeldSplitIsPin }
     ensures share_is_pin { ShareIsPin }
+    ensures hand_on_is_pin { HandOnIsPin }
     ensures rest_is_nothing { RestIsNothing }
     ensures report_passes { ReportPasses }
     ensures answer_passes { AnswerPasses }
@@ -100,7 +104,9 @@ pub fn words_run()
 /// beginning of that run: it leads to a table that met the rule, and from there the run went on to the table
 /// as it is. Where a caller was drained or parted on a key at any moment of the run so far, nobody is running
 /// on that key now. Of two seats, one has seen as much as the other or more. Steps of one list lead to one
-/// table, so what a seat has seen names that table.
+/// table, so what a seat has seen names that table. Where a key is linked in two tables of a run, the words of
+/// its node are, in every table between the two, those that stood there when it was born. So is what a caller
+/// reads of a node between a look that finds its key linked and a step that counts a hold of it.
 ///
 /// The Master has seen every note of the run, and what any seat has seen of these is a beginning. Of two
 /// seats, one has seen as much of the one history as the other or more, and no step takes a note away.
@@ -113,6 +119,8 @@ pub fn words_kept()
     ensures history_is_seen { HistoryIsSeen }
     ensures one_history { OneHistory }
     ensures notes_stay { NotesStay }
+    ensures read_as_born { ReadAsBorn }
+    ensures read_is_born { ReadIsBorn }
 {}
 
 /// A run of words in which every kind of step stands: a call, a hiding, a removal seen through, and the next

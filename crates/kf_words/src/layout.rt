@@ -1,7 +1,7 @@
 //! Where the words of a slot stand, the numbers of which active words and hold words are made, and the tests
 //! on a word that was found.
-ghost use Rattle.std.specs.Prelude.{◌≡◌, ◌+◌, ◌-◌, ◌↔◌, IsTrue};
-ghost use Rattle.kf_words.specs.Layout.{active_index, hold_index, sleepers_index, keeps_out, has_bias, has_hide, is_drained, is_unused, wants_wake, has_linked, bit, bias, doom, IsFree, HasRoom, HasSpare};
+ghost use Rattle.std.specs.Prelude.{◌≡◌, ◌<◌, ◌+◌, ◌-◌, ◌↔◌, IsTrue};
+ghost use Rattle.kf_words.specs.Layout.{active_index, hold_index, sleepers_index, node_index, keeps_out, has_bias, has_hide, is_drained, is_unused, wants_wake, has_linked, bit, bias, doom, IsFree, HasRoom, HasSpare};
 
 use kf_core::Marks;
 
@@ -50,6 +50,14 @@ pub(crate) fn sleepers_index(slot: u32) -> usize
     ensures { result ≡ sleepers_index slot }
 {
     slot as usize * LINE_WORDS + 2
+}
+
+/// Where a word of a slot's node stands.
+pub(crate) fn node_index(place: usize, slot: u32) -> usize
+    requires { place < 5 }
+    ensures { result ≡ node_index place slot }
+{
+    slot as usize * LINE_WORDS + 3 + place
 }
 
 #[tactic(auto, using(crate::proofs::Bits::has_bias_test))]

@@ -26,6 +26,7 @@ mod master_seat;
 mod master_steps;
 mod master_token;
 mod meeting;
+mod node_words;
 mod nodes;
 mod note;
 mod plays;

@@ -8,21 +8,22 @@ ghost use Rattle.kf_words.specs.Rule.{last_key};
 ghost use Rattle.kf_words.specs.Steps.{with_load, with_pin, without_pin, after_split, new_hold, state_at, with_look, without_node, after_store, with_birth, TellsSlot, with_marks, activated_marks, doomed_marks, plain};
 ghost use Rattle.kf_core.specs.declared.slot.Marks.{Marks};
 ghost use Rattle.kf_words.specs.Nodes.{HasMarks, HasLooked, FoundRoom, FoundFree, master_sight, master_view};
-ghost use Rattle.kf_words.specs.TableSteps.{loads_hold, pins_hold, stores_fresh, births, takes_bias, marks_node, looks_over, unlinks, notes};
-ghost use Rattle.kf_words.specs.Made.{WasMadeByMaster};
+ghost use Rattle.kf_words.specs.TableSteps.{loads_hold, pins_hold, stores_fresh, births, takes_bias, marks_node, looks_over, unlinks, notes, stores_node};
+ghost use Rattle.kf_words.specs.Made.{WasMadeByMaster, WasNoted};
 ghost use Rattle.kf_words.specs.Notes.{history_of};
 ghost use Rattle.kf_words.specs.declared.view.View.TheVariants as seat_of;
 
-use crate::layout::{BIAS, GENERATION, LINKED, active_index, hold_index, mark_bits};
+use crate::layout::{BIAS, GENERATION, LINKED, active_index, hold_index, mark_bits, node_index};
 use crate::master_seat::MasterSeat;
 use crate::note::Said;
+use crate::node_words::words_of;
 use crate::plays::{
     Answers, Births, Compares, Hears, Knowing, LoadsHold, LooksOver, MarksNode, Notes, PinsHold,
-    SplitsHold, StoresFresh, TakesBias, Unlinks, UnpinsHold,
+    SplitsHold, StoresFresh, StoresNode, TakesBias, Unlinks, UnpinsHold,
 };
 use crate::sight::Sight;
 use atomic_table::Seat;
-use kf_core::Marks;
+use kf_core::{Marks, Node};
 
 impl MasterSeat {
     /// Where the active word of a slot stands.
@@ -124,6 +125,40 @@ impl MasterSeat {
         self.table
             .shared
             .store::<StoresFresh>(&mut token.seat, word, BIAS);
+    }
+
+    /// Puts a word of the node that is to be born in a slot, whose active word was just stored.
+    fn store_node(&mut self, slot: u32, place: usize, word: u64)
+        requires slot { slot < length (master_view self.old).slots }
+        requires fresh { (master_view self.old).fresh ≡ Some slot }
+        requires place { place < 5 }
+        ensures table { self.new.token.table_id ≡ self.old.token.table_id }
+        ensures view { master_view self.new ≡ master_view self.old }
+        ensures history { history_of self.new.token.me.0.seen ≡ history_of self.old.token.me.0.seen }
+        ensures made { WasMadeByMaster (stores_node slot place word) (master_sight self.old.token.me.0)
+            (master_sight self.new.token.me.0) }
+    {
+        let index = node_index(place, slot);
+        let token = &mut self.token;
+        self.table
+            .shared
+            .store::<StoresNode>(&mut token.seat, index, word);
+    }
+
+    /// Puts the words of the node that is to be born in a slot.
+    pub(crate) fn note_node(&mut self, slot: u32, node: Node)
+        requires slot { slot < length (master_view self.old).slots }
+        requires fresh { (master_view self.old).fresh ≡ Some slot }
+        ensures table { self.new.token.table_id ≡ self.old.token.table_id }
+        ensures view { master_view self.new ≡ master_view self.old }
+        ensures history { history_of self.new.token.me.0.seen ≡ history_of self.old.token.me.0.seen }
+        ensures noted { WasNoted slot node (master_sight self.old.token.me.0)
+            (master_sight self.new.token.me.0) }
+    {
+        let (kind, first, second) = words_of(node);
+        self.store_node(slot, 0, kind);
+        self.store_node(slot, 1, first);
+        self.store_node(slot, 2, second);
     }
 
     /// Gives the slot its next generation, and links a node there.

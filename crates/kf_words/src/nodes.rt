@@ -42,11 +42,12 @@ impl Master {
         ensures table { self.new.table ≡ self.old.table }
         ensures nodes { self.new.nodes ≡ slice_set self.old.nodes key.slot node }
         ensures view { self.new.view ≡ with_birth key.slot (after_store key.slot self.old.view) }
-        ensures made { WasBorn key.slot (sight_in self.old) (sight_in self.new) }
+        ensures made { WasBorn key.slot node (sight_in self.old) (sight_in self.new) }
         ensures history { history_of self.new.seen ≡ history_of self.old.seen }
         ensures slots { self.new.view.slots ≡ slots_with self.old.view.slots key (Some fresh_marks) }
     {
         self.steps.store_fresh(key.slot);
+        self.steps.note_node(key.slot, node);
         self.steps.birth(key.slot);
         self.nodes[key.slot as usize] = node;
         self.slots[key.slot as usize] = SlotState {

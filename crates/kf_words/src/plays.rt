@@ -132,6 +132,44 @@ impl Split<Sight> for SharesHold {
     ghost right = { shared_out };
 }
 
+/// A caller loads the hold word of any slot, and names the most holds of a slot.
+pub(crate) struct MissesAt;
+
+impl Play<(), Sight> for MissesAt {
+    ghost use Rattle.kf_words.specs.Pins.{MakesMissAt};
+
+    ghost then = { MakesMissAt };
+}
+
+/// A caller loads a word of any slot's node.
+pub(crate) struct ReadsNode;
+
+impl Play<(), Sight> for ReadsNode {
+    ghost use Rattle.kf_words.specs.Pins.{MakesRead};
+
+    ghost then = { MakesRead };
+}
+
+/// A caller counts one hold more of any key, where the hold word is as it expects.
+pub(crate) struct CountsAt;
+
+impl Play<(), Sight> for CountsAt {
+    ghost use Rattle.kf_words.specs.Pins.{MakesExchangeAt};
+
+    ghost then = { MakesExchangeAt };
+}
+
+/// The hold of any key that a caller counted goes to a new seat.
+pub(crate) struct HandsOn;
+
+impl Split<Sight> for HandsOn {
+    ghost use Rattle.kf_words.specs.History.{after_sharing, handed_on};
+
+    ghost left = { after_sharing };
+
+    ghost right = { handed_on };
+}
+
 /// A caller counts itself among its slot's sleepers.
 pub(crate) struct Sleeps;
 
@@ -196,6 +234,15 @@ impl Play<(), Sight> for StoresFresh {
     ghost use Rattle.kf_words.specs.Made.{MasterMakes};
 
     ghost then = { MasterMakes active_index stores_fresh (MasterBecomes (unread after_store)) };
+}
+
+/// The Master puts a word of a node that is to be born.
+pub(crate) struct StoresNode;
+
+impl Play<(), Sight> for StoresNode {
+    ghost use Rattle.kf_words.specs.Made.{MakesNote};
+
+    ghost then = { MakesNote };
 }
 
 /// The Master gives a slot its next generation, and links a node there.

@@ -1,6 +1,6 @@
 //! A caller's seat at the table of words. Its fields are private: the files of this module alone read them,
 //! and `new`, `moved` and `end` alone take it apart.
-ghost use Rattle.std.specs.Prelude.{◌≡◌, ◌*◌, ◌<◌, ◌≤◌, false, []};
+ghost use Rattle.std.specs.Prelude.{◌≡◌, ◌*◌, ◌<◌, ◌≤◌, None, []};
 ghost use Rattle.std.specs.Arc.{arc_value};
 ghost use Rattle.kf_words.specs.Layout.{line_words};
 ghost use Rattle.kf_words.specs.Steps.{caller_of, plain};
@@ -8,6 +8,7 @@ ghost use Rattle.kf_words.specs.declared.view.View.TheVariants as seat_of;
 
 mod parts;
 mod reports;
+mod pin;
 mod share;
 mod sleep;
 mod steps;
@@ -50,5 +51,5 @@ pub struct CallerSeat {
     ghost in_table: { key.slot < (arc_value table).shared.key.slots },
     ghost limit: { (arc_value table).shared.key.holds ≡ most },
     ghost few: { most ≤ 65535 },
-    ghost single: { (caller_of token.me.0.view).pinning ≡ false },
+    ghost single: { (caller_of token.me.0.view).pinning ≡ None },
 }

@@ -46,6 +46,13 @@ pub enum StepKind {
     Reports(u64),
     Answers,
     Compares,
+    /// On the slot of any key, and the caller.
+    MissesAt(u64, u64),
+    CountsAt(u64, u64),
+    HandsOn(u64),
+    /// On the slot of any node, and which of its words: the word that is put, and the caller that loads it.
+    StoresNode(u64, u64, u64),
+    ReadsNode(u64, u64, u64),
 }
 
 /// A beginning of the one run: the steps of all seats from the opening on, in their order.

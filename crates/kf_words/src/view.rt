@@ -15,8 +15,8 @@ pub struct CallerView {
     pub found: u64,
     /// Whether that second step is still due.
     pub undo_due: bool,
-    /// Whether it counted one hold more of its slot, which has no seat yet.
-    pub pinning: bool,
+    /// The key of one hold more that it counted, which has no seat yet.
+    pub pinning: Option<Key>,
 }
 
 /// A load of a word of a slot, and what it found.

@@ -10,6 +10,8 @@ mod hiding_tests;
 #[cfg(test)]
 mod note_tests;
 #[cfg(test)]
+mod pin_tests;
+#[cfg(test)]
 mod search_tests;
 #[cfg(test)]
 mod test_fixtures;

@@ -1,5 +1,5 @@
 //! A seat made, moved and ended, part by part, and its key and node.
-ghost use Rattle.std.specs.Prelude.{◌≡◌, ◌*◌, ◌<◌, ◌≤◌, false, []};
+ghost use Rattle.std.specs.Prelude.{◌≡◌, ◌*◌, ◌<◌, ◌≤◌, None, []};
 ghost use Rattle.std.specs.Arc.{arc_value};
 ghost use Rattle.kf_core.specs.declared.caller.Phase.TheVariants as phase_of;
 ghost use Rattle.kf_words.specs.Callers.{node_of, handle_of, view_of};
@@ -31,7 +31,7 @@ impl CallerSeat {
         requires slot { key.slot < (arc_value table).shared.key.slots }
         requires limit { (arc_value table).shared.key.holds ≡ most }
         requires few { most ≤ 65535 }
-        requires single { (caller_of token.me.0.view).pinning ≡ false }
+        requires single { (caller_of token.me.0.view).pinning ≡ None }
         ensures token { result.token ≡ token }
         ensures node { (handle_of result).node ≡ node }
     {

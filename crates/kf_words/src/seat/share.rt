@@ -6,6 +6,7 @@ ghost use Rattle.kf_words.specs.Steps.{after_miss};
 ghost use Rattle.kf_words.specs.Callers.{IsSameSeat, IsAtRest, handle_of, sight_of, view_of};
 ghost use Rattle.kf_words.specs.Made.{WasAMiss, WasDoubled};
 ghost use Rattle.kf_words.specs.Another.{IsShared, StaysAs, IsAnother, AnotherRefused, HasNoSpare, WasCountedFor, Missed};
+ghost use Rattle.kf_words.specs.TableSteps.{misses};
 
 use crate::layout::has_spare;
 use crate::plays::{Counts, Misses, SharesHold};
@@ -106,7 +107,7 @@ impl CallerSeat {
             (λ token. WasCountedFor (sight_of self.old) (sight_of self.new) token.me.0.seen) }
         ensures refused { IfErr result
             (λ why. AnotherRefused (handle_of self.old) (handle_of self.new) why) }
-        ensures missed { IfErr result (λ _. Missed 1 64 (sight_of self.old) (sight_of self.new)) }
+        ensures missed { IfErr result (λ _. Missed misses 1 64 (sight_of self.old) (sight_of self.new)) }
     {
         let mut guess = self.peek_holds();
         for tries in 0..TRIES {
@@ -127,7 +128,7 @@ impl CallerSeat {
         ensures same { IsSameSeat (handle_of self.old) (handle_of self.new) }
         ensures stays { StaysAs (handle_of self.old) (handle_of self.new) }
         ensures refused { AnotherRefused (handle_of self.old) (handle_of self.new) result }
-        ensures missed { Missed 1 64 (sight_of self.old) (sight_of self.new) }
+        ensures missed { Missed misses 1 64 (sight_of self.old) (sight_of self.new) }
     {
         let found = self.see_holds();
         if has_spare(found, self.most) {
@@ -148,7 +149,7 @@ impl CallerSeat {
             (λ seat. WasCountedFor (sight_of self.old) (sight_of self.new) (handle_of seat).seen) }
         ensures refused { IfErr result
             (λ why. AnotherRefused (handle_of self.old) (handle_of self.new) why) }
-        ensures missed { IfErr result (λ _. Missed 1 64 (sight_of self.old) (sight_of self.new)) }
+        ensures missed { IfErr result (λ _. Missed misses 1 64 (sight_of self.old) (sight_of self.new)) }
     {
         let (key, node, most) = (self.key, self.node(), self.most);
         let Ok(table) = Arc::try_clone(&self.table) else {

@@ -1,6 +1,8 @@
 -- The clauses on the one run, each by the lemma of its name.
 use Rattle.kf_words.proofs.Histories.{ends_a_run, seen_leads_here, drained_ever_after, one_run_is_seen, history_is_seen, one_history, notes_stay}
 use Rattle.kf_words.proofs.OneEnds.{one_end}
+use Rattle.kf_words.proofs.NodeWords.{read_as_born}
+use Rattle.kf_words.proofs.NodeReads.{read_is_born}
 use Rattle.kf_words.proofs.laws.words_kept.Goals as goal
 
 pub returns-clause-ends_a_run : goal.returns-clause-ends_a_run
@@ -26,3 +28,9 @@ returns-clause-one_history c = one_history
 
 pub returns-clause-notes_stay : goal.returns-clause-notes_stay
 returns-clause-notes_stay c = notes_stay
+
+pub returns-clause-read_as_born : goal.returns-clause-read_as_born
+returns-clause-read_as_born c = read_as_born
+
+pub returns-clause-read_is_born : goal.returns-clause-read_is_born
+returns-clause-read_is_born c = read_is_born

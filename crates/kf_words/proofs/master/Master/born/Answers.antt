@@ -28,7 +28,7 @@ invariant_of-self c =
     let root = c.self.invariant.root in
     let few = c.self.invariant.few in
     let all = c.self.invariant.all_nodes in
-    let is = c.birth.ensures.view ∙ ap (λ (y : MasterView). with_birth key.slot y) c.store_fresh.ensures.view in
+    let is = c.birth.ensures.view ∙ ap (λ (y : MasterView). with_birth key.slot y) (c.note_node.ensures.view ∙ c.store_fresh.ensures.view) in
     record {
       root = omega arith;
       few = omega arith;
@@ -42,7 +42,7 @@ invariant_of-self c =
 pub returns-clause-slots : goal.returns-clause-slots
 returns-clause-slots c =
     ap (λ (y : MasterView). y.slots) c.birth.ensures.view
-    ∙ ap (λ (y : MasterView). (with_birth c.args.key.slot y).slots) c.store_fresh.ensures.view
+    ∙ ap (λ (y : MasterView). (with_birth c.args.key.slot y).slots) (c.note_node.ensures.view ∙ c.store_fresh.ensures.view)
     ∙ ap (λ (s : MasterState). (with_birth c.args.key.slot (after_store c.args.key.slot s.view)).slots) c.self.view_is
     ∙ slots_born c.args.self.now.view c.args.key c.requires.vacant
 
@@ -50,6 +50,8 @@ pub returns-clause-made : goal.returns-clause-made
 returns-clause-made c =
     let stored : MasterSight = master_sight c.store_fresh.new.self.token.me.0 in (
       stored,
+      master_sight c.note_node.new.self.token.me.0,
       subst (λ (s : MasterState). WasMadeByMaster (stores_fresh c.args.key.slot) (sight_in s) stored) c.self.view_is c.store_fresh.ensures.made,
+      c.note_node.ensures.noted,
       c.birth.ensures.made,
     )

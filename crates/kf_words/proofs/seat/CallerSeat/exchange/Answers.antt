@@ -1,4 +1,5 @@
 use Rattle.std.proofs.Common.{◌≡◌, ℕ, true, rules, arith, ap, sym, ◌∙◌, subst}
+use Rattle.std.specs.Prelude.{Some}
 use Rattle.std.specs.Arc.{arc_value}
 use Rattle.kf_core.specs.Phases.{is_waiting}
 use Rattle.kf_words.specs.declared.view.CallerView.{CallerView}
@@ -33,5 +34,5 @@ split_seat-requires c =
     let view = hit_view c.args.expected c.compare_exchange-found.result seat.token.me me seat.a_caller told hit in
     let waits : is_waiting (caller_of me.0.view).phase ≡ true = ap (λ (v : CallerView). is_waiting v.phase) view ∙ c.requires.rests.0 in
     let settled = ap (λ (v : CallerView). v.undo_due) view ∙ c.requires.rests.1 in
-    let pinned = ap (λ (v : CallerView). v.pinning) view in
+    let pinned = ap (λ (v : CallerView). v.pinning) view ∙ ap (λ (v : CallerView). Some v.key) (sym view) in
     (search rules, omega arith, share_splits _ 0 c.compare_exchange-found.new.seat.id me is (waits, settled) pinned)

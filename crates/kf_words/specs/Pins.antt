@@ -1,0 +1,148 @@
+-- What it tells to make a hold of the node of a key from any hold of the same table.
+use Rattle.std.specs.Prelude.{◌≡◌, ◌≢◌, ◌⊎◌, ◌≤◌, ◌<◌, ℕ, ◌+◌, true, [], Some, if◌then◌else◌, ◌==◌}
+use Rattle.atomic_table.specs.Table.{Step}
+use Rattle.atomic_table.specs.declared.shared.Seat.{Seat}
+use Rattle.kf_core.specs.declared.key.Key.{Key}
+use Rattle.kf_core.specs.declared.key.Node.{Node}
+use Rattle.kf_core.specs.declared.caller.Phase.TheVariants.{Still}
+use Rattle.kf_core.specs.declared.refusal.Refusal.{Refusal}
+use Rattle.kf_core.specs.declared.refusal.Refusal.TheVariants.{NoEntry, NoMemory, Access, Busy, Exists, NoDevice, NotDir, IsDir, Invalid, TooManyHolds, NoSpace, NameTooLong}
+use Rattle.kf_core.specs.Bare.{is_linked}
+use Rattle.kf_words.specs.declared.sight.Seen.{Seen}
+use Rattle.kf_words.specs.declared.sight.Sight.{Sight}
+use Rattle.kf_words.specs.declared.view.CallerView.{CallerView}
+use Rattle.kf_words.specs.declared.view.View.TheVariants as seat
+use Rattle.kf_words.specs.Layout.{hold_index, node_index, place_of, slot_of, holds_in, IsOf, HasSpare}
+use Rattle.kf_words.specs.Steps.{Seated, Sighted, plain, caller_of, new_hold, after_miss, after_count_at, after_share, CallerBecomes}
+use Rattle.kf_words.specs.Callers.{Handle, CallerSight, caller_sight, seat_view}
+use Rattle.kf_words.specs.TableSteps.{world, misses_at, counts_at, reads_node}
+use Rattle.kf_words.specs.Made.{WasMade}
+use Rattle.kf_words.specs.NodeWords.{node_in, node_born}
+use Rattle.kf_words.specs.Another.{Missed, WereOutrun}
+
+-- what a load of the hold word of any slot tells, which names the most holds of a slot
+abbrev pub MakesMissAt : Step (Unit {0}) → Sighted → ℕ → Sighted → Type 0
+MakesMissAt st me found me' = (st.word ≡ hold_index (slot_of st.word))
+    × (CallerBecomes after_miss st (plain me) found (plain me')
+    × WasMade (misses_at (slot_of st.word)) (caller_sight me.0) (caller_sight me'.0))
+    × (st.first ≡ me.0.seen.opening.holds)
+
+-- the caller's view after an exchange on the hold word of a slot that expected this word: one hold more of the
+-- slot's last key is counted where it was found
+abbrev pub after_exchange_at : ℕ → ℕ → ℕ → CallerView → CallerView
+after_exchange_at slot old found c =
+    if found == old then after_count_at slot found c else after_miss found c
+
+-- the exchange counted one hold more where it found the word that it expected, and else nothing
+abbrev pub WasAnExchangeAt : ℕ → ℕ → ℕ → CallerSight → CallerSight → Type 0
+WasAnExchangeAt slot old found before after = (found ≡ old → WasMade (counts_at slot) before after)
+    × (found ≢ old → WasMade (misses_at slot) before after)
+
+-- what an exchange on the hold word of any slot tells
+abbrev pub MakesExchangeAt : Step (Unit {0}) → Sighted → ℕ → Sighted → Type 0
+MakesExchangeAt st me found me' = (st.word ≡ hold_index (slot_of st.word))
+    × (CallerBecomes (after_exchange_at (slot_of st.word) st.first) st (plain me) found (plain me')
+    × WasAnExchangeAt (slot_of st.word) st.first found (caller_sight me.0) (caller_sight me'.0))
+
+-- what a load of a word of any slot's node tells: which of them
+abbrev pub MakesRead : Step (Unit {0}) → Sighted → ℕ → Sighted → Type 0
+MakesRead st me found me' = (st.word ≡ node_index (place_of st.word) (slot_of st.word))
+    × (CallerBecomes after_miss st (plain me) found (plain me')
+    × WasMade (reads_node (slot_of st.word) (place_of st.word)) (caller_sight me.0) (caller_sight me'.0))
+
+-- a seat of the same table, on this key, which has made no step
+abbrev pub IsPin : Handle → Key → Seat (Unit {0}) Sight → Type 0
+IsPin h key token = (token.table_id ≡ h.table) × (plain token.me ≡ (seat.Caller (new_hold key), []))
+
+-- a hold of this key, of the same table, which has made no step. Its node is the one that was born with the key
+pub record IsHoldOf (hold : Handle) (key : Key) (other : Handle) : Type 0 where
+  pub table : other.table ≡ hold.table
+  pub key_is : other.key ≡ key
+  pub node_is : other.node ≡ node_born other.seen key.slot
+  pub still : other.phase ≡ Still
+  pub steps : other.steps ≡ 0
+
+-- one hold more of this key was counted, in a table of the one run where its node was linked, and went to a
+-- new seat, which has seen as much of the one run as the seat that counted it
+pub record WasPinnedBy (key : Key) (before after : CallerSight) (seen : Seen) : Type 0 where
+  pub counted : CallerSight
+  pub count : WasMade (counts_at key.slot) before counted
+  pub key_is : counted.view.pinning ≡ Some key
+  pub linked : is_linked (world count.found) key ≡ true
+  pub view : after.view ≡ after_share counted.view
+  pub same : after.seen ≡ counted.seen
+  pub told : seen ≡ counted.seen
+
+-- after 63 steps at most on the hold word of its slot that counted nothing, one step counted one hold more of
+-- this key, and a new seat got it
+abbrev pub WasPinnedFor : Key → CallerSight → CallerSight → Seen → Type 0
+WasPinnedFor key before after seen = (missed : CallerSight)
+    × Missed (misses_at key.slot) 0 63 before missed × WasPinnedBy key missed after seen
+
+-- a look at the hold word of the key's slot found its node linked, and the node's three words were read
+pub record WasRead (key : Key) (node : Node) (before after : CallerSight) : Type 0 where
+  pub looked : CallerSight
+  pub one : CallerSight
+  pub two : CallerSight
+  pub look : WasMade (misses_at key.slot) before looked
+  pub linked : IsOf key.generation looked.view.found
+  pub kind : WasMade (reads_node key.slot 0) looked one
+  pub first : WasMade (reads_node key.slot 1) one two
+  pub second : WasMade (reads_node key.slot 2) two after
+  pub node_is : node ≡ node_in one.view.found two.view.found after.view.found
+
+-- the node of a key was read, and then a hold of the key was made, as WasPinnedFor says
+abbrev pub WasHeldFor : Key → CallerSight → CallerSight → Handle → Type 0
+WasHeldFor key before after other = (read : CallerSight) × WasRead key other.node before read
+    × WasPinnedFor key read after other.seen
+
+-- why no hold is made of a key of this generation where its slot's hold word is so, by the most holds of a
+-- slot: the node is gone, or the slot has no spare place
+abbrev pub IsWhyNot : ℕ → ℕ → ℕ → Refusal → Type 0
+IsWhyNot generation limit word NoEntry = ¬ IsOf generation word
+IsWhyNot generation limit word TooManyHolds = IsOf generation word × (limit ≤ holds_in word + 1)
+IsWhyNot generation limit word NoMemory = ⊥
+IsWhyNot generation limit word Access = ⊥
+IsWhyNot generation limit word Busy = ⊥
+IsWhyNot generation limit word Exists = ⊥
+IsWhyNot generation limit word NoDevice = ⊥
+IsWhyNot generation limit word NotDir = ⊥
+IsWhyNot generation limit word IsDir = ⊥
+IsWhyNot generation limit word Invalid = ⊥
+IsWhyNot generation limit word NoSpace = ⊥
+IsWhyNot generation limit word NameTooLong = ⊥
+
+-- the last step found a word that refuses so
+abbrev pub FoundWhyNot : Key → Handle → Refusal → Type 0
+FoundWhyNot key h why = IsWhyNot key.generation h.seen.opening.holds h.found why
+
+-- a hold of a key is refused as the last step found its slot's hold word; for want of memory where that was of
+-- the key and had a spare place; as busy where others changed the word between each of 64 steps and the next;
+-- for no other cause
+abbrev pub HoldOfRefused : Key → Handle → Handle → Refusal → Type 0
+HoldOfRefused key before after NoEntry = FoundWhyNot key after NoEntry
+HoldOfRefused key before after TooManyHolds = FoundWhyNot key after TooManyHolds
+HoldOfRefused key before after NoMemory =
+    IsOf key.generation after.found × HasSpare after.seen.opening.holds after.found
+HoldOfRefused key before after Busy =
+    WereOutrun (misses_at key.slot) 64 (seat_view before) (seat_view after)
+HoldOfRefused key before after Access = ⊥
+HoldOfRefused key before after Exists = ⊥
+HoldOfRefused key before after NoDevice = ⊥
+HoldOfRefused key before after NotDir = ⊥
+HoldOfRefused key before after IsDir = ⊥
+HoldOfRefused key before after Invalid = ⊥
+HoldOfRefused key before after NoSpace = ⊥
+HoldOfRefused key before after NameTooLong = ⊥
+
+-- a hold of a key is refused by one look at the hold word of its slot, or after its node was read by 1 to 64
+-- steps there that counted nothing
+abbrev pub IsRefused : Key → Handle → Handle → Refusal → Type 0
+IsRefused key before after why =
+    (WasMade (misses_at key.slot) (seat_view before) (seat_view after) × HoldOfRefused key before after why)
+    ⊎ ((node : Node) × (read : Handle) × WasRead key node (seat_view before) (seat_view read)
+    × Missed (misses_at key.slot) 1 64 (seat_view read) (seat_view after) × HoldOfRefused key read after why)
+
+-- the table has the slot of this key
+abbrev pub HasSlotOf : Handle → Key → Type 0
+HasSlotOf h key = hold_index key.slot < h.table.words

@@ -1,0 +1,230 @@
+//! A hold of any key from a seat of the same table: one hold more is counted on the hold word of the key's
+//! slot, where that has the key's node linked and a spare place, and a new seat gets it. No lock is asked for.
+ghost use Rattle.std.specs.Prelude.{◌≡◌, ◌≢◌, ◌<◌, true, false, None, IfOk, IfErr, IfSome};
+ghost use Rattle.kf_words.specs.Layout.{IsOf, HasSpare};
+ghost use Rattle.kf_words.specs.Steps.{after_miss};
+ghost use Rattle.kf_words.specs.Callers.{IsSameSeat, IsAtRest, handle_of, sight_of, view_of};
+ghost use Rattle.kf_words.specs.TableSteps.{misses_at, reads_node};
+ghost use Rattle.kf_words.specs.Made.{WasMade};
+ghost use Rattle.kf_words.specs.Another.{StaysAs, Missed};
+ghost use Rattle.kf_words.specs.Pins.{IsPin, IsHoldOf, IsWhyNot, FoundWhyNot, HoldOfRefused, IsRefused, WasPinnedBy, WasPinnedFor, WasRead, WasHeldFor, HasSlotOf};
+
+use crate::layout::{GENERATION, has_linked, has_spare, hold_index, node_index};
+use crate::node_words::node_of;
+use crate::plays::{CountsAt, HandsOn, MissesAt, ReadsNode};
+use crate::seat::CallerSeat;
+use crate::sight::Sight;
+use atomic_table::Seat;
+use kf_core::{Key, Node, Refusal};
+use std::sync::Arc;
+
+/// How often an exchange is tried where other holds come and go between.
+const TRIES: u32 = 64;
+
+/// Why no hold is made of a key of this generation where its slot's hold word is so.
+fn why_not(word: u64, generation: u32, most: u32) -> Option<Refusal>
+    ensures refused { IfSome result (λ why. IsWhyNot generation most word why) }
+    ensures linked { result ≡ None → IsOf generation word }
+    ensures spare { result ≡ None → HasSpare most word }
+{
+    if !has_linked(word) || word / GENERATION != generation as u64 {
+        return Some(Refusal::NoEntry);
+    }
+    if has_spare(word, most) {
+        None
+    } else {
+        Some(Refusal::TooManyHolds)
+    }
+}
+
+impl CallerSeat {
+    /// Whether its table has the slot of a key.
+    pub(crate) fn has_slot_of(&self, key: Key) -> bool
+        ensures there { result ≡ true → HasSlotOf (handle_of self.now) key }
+        ensures beyond { result ≡ false → HasSlotOf (handle_of self.now) key → ⊥ }
+    {
+        hold_index(key.slot) < self.table.word_count()
+    }
+
+    /// Loads the hold word of a key's slot. The step names the most holds of a slot: it is an exchange of that
+    /// number by itself, which changes no word.
+    fn see_holds_of(&mut self, key: Key) -> u64
+        requires rests { IsAtRest (view_of self.old) }
+        requires there { HasSlotOf (handle_of self.old) key }
+        ensures same { IsSameSeat (handle_of self.old) (handle_of self.new) }
+        ensures view { view_of self.new ≡ after_miss result (view_of self.old) }
+        ensures made { WasMade (misses_at key.slot) (sight_of self.old) (sight_of self.new) }
+        ensures limit { (handle_of self.new).seen.opening.holds ≡ self.new.most }
+        ensures most { self.new.most ≡ self.old.most }
+    {
+        let word = hold_index(key.slot);
+        let most = self.most as u64;
+        self.table
+            .shared
+            .compare_exchange::<MissesAt>(&mut self.token, word, most, most)
+    }
+
+    /// Loads a word of the node that a key's slot has.
+    fn read_node_of(&mut self, key: Key, place: usize) -> u64
+        requires rests { IsAtRest (view_of self.old) }
+        requires there { HasSlotOf (handle_of self.old) key }
+        requires place { place < 5 }
+        ensures same { IsSameSeat (handle_of self.old) (handle_of self.new) }
+        ensures view { view_of self.new ≡ after_miss result (view_of self.old) }
+        ensures made { WasMade (reads_node key.slot place) (sight_of self.old) (sight_of self.new) }
+        ensures most { self.new.most ≡ self.old.most }
+    {
+        let word = node_index(place, key.slot);
+        self.table.shared.load::<ReadsNode>(&mut self.token, word)
+    }
+
+    /// Counts one hold more of a key where the hold word of its slot is as expected, and gives it a new seat.
+    /// Err is the word that was found instead.
+    fn exchange_for(&mut self, key: Key, expected: u64) -> Result<Seat<(), Sight>, u64>
+        requires rests { IsAtRest (view_of self.old) }
+        requires there { HasSlotOf (handle_of self.old) key }
+        requires linked { IsOf key.generation expected }
+        requires spare { HasSpare self.old.most expected }
+        ensures same { IsSameSeat (handle_of self.old) (handle_of self.new) }
+        ensures stays { StaysAs (handle_of self.old) (handle_of self.new) }
+        ensures pinned { IfOk result
+            (λ token. WasPinnedBy key (sight_of self.old) (sight_of self.new) token.me.0.seen) }
+        ensures token { IfOk result (λ token. IsPin (handle_of self.new) key token) }
+        ensures missed { IfErr result
+            (λ _. WasMade (misses_at key.slot) (sight_of self.old) (sight_of self.new)) }
+        ensures view { IfErr result (λ found. view_of self.new ≡ after_miss found (view_of self.old)) }
+        ensures other { IfErr result (λ found. found ≢ expected) }
+    {
+        let word = hold_index(key.slot);
+        let found = self
+            .table
+            .shared
+            .compare_exchange::<CountsAt>(&mut self.token, word, expected, expected + 1);
+        if found != expected {
+            return Err(found);
+        }
+        Ok(self.table.shared.split_seat::<HandsOn>(&mut self.token))
+    }
+
+    /// One try at a hold of a key, where the hold word of its slot is as guessed. Err is the word that was
+    /// found instead, or why no hold is made where it is so.
+    fn try_pin(&mut self, key: Key, guess: u64) -> Result<Seat<(), Sight>, Result<u64, Refusal>>
+        requires rests { IsAtRest (view_of self.old) }
+        requires there { HasSlotOf (handle_of self.old) key }
+        ensures same { IsSameSeat (handle_of self.old) (handle_of self.new) }
+        ensures stays { StaysAs (handle_of self.old) (handle_of self.new) }
+        ensures token { IfOk result (λ token. IsPin (handle_of self.new) key token) }
+        ensures pinned { IfOk result
+            (λ token. WasPinnedBy key (sight_of self.old) (sight_of self.new) token.me.0.seen) }
+        ensures missed { IfErr result
+            (λ _. WasMade (misses_at key.slot) (sight_of self.old) (sight_of self.new)) }
+        ensures outrun { IfErr result
+            (λ why. IfOk why (λ found. (found ≡ (view_of self.new).found) × (found ≢ guess))) }
+        ensures refused { IfErr result
+            (λ why. IfErr why (λ refusal. FoundWhyNot key (handle_of self.new) refusal)) }
+    {
+        if why_not(guess, key.generation, self.most).is_none() {
+            return match self.exchange_for(key, guess) {
+                Ok(token) => Ok(token),
+                Err(found) => Err(Ok(found)),
+            };
+        }
+        let found = self.see_holds_of(key);
+        match why_not(found, key.generation, self.most) {
+            None => Err(Ok(found)),
+            Some(why) => Err(Err(why)),
+        }
+    }
+
+    /// Counts one hold more of a key, and gives it a new seat. The first try expects the word that was last
+    /// seen.
+    ///
+    /// Refusals, in order: NoEntry, TooManyHolds, Busy.
+    fn count_pin(&mut self, key: Key, first: u64) -> Result<Seat<(), Sight>, Refusal>
+        requires rests { IsAtRest (view_of self.old) }
+        requires there { HasSlotOf (handle_of self.old) key }
+        ensures same { IsSameSeat (handle_of self.old) (handle_of self.new) }
+        ensures stays { StaysAs (handle_of self.old) (handle_of self.new) }
+        ensures token { IfOk result (λ token. IsPin (handle_of self.new) key token) }
+        ensures pinned { IfOk result
+            (λ token. WasPinnedFor key (sight_of self.old) (sight_of self.new) token.me.0.seen) }
+        ensures refused { IfErr result
+            (λ why. HoldOfRefused key (handle_of self.old) (handle_of self.new) why) }
+        ensures missed { IfErr result
+            (λ _. Missed (misses_at key.slot) 1 64 (sight_of self.old) (sight_of self.new)) }
+    {
+        let mut guess = first;
+        for tries in 0..TRIES {
+            let _ = tries; // the proof alone names it
+            match self.try_pin(key, guess) {
+                Ok(token) => return Ok(token),
+                Err(Err(why)) => return Err(why),
+                Err(Ok(found)) => guess = found,
+            }
+        }
+        Err(Refusal::Busy)
+    }
+
+    /// Why there is no hold of a key where the table can have no owner more: for want of memory only where the
+    /// node is linked and its slot has a place.
+    fn refuse_pin(&mut self, key: Key) -> Refusal
+        requires rests { IsAtRest (view_of self.old) }
+        requires there { HasSlotOf (handle_of self.old) key }
+        ensures same { IsSameSeat (handle_of self.old) (handle_of self.new) }
+        ensures stays { StaysAs (handle_of self.old) (handle_of self.new) }
+        ensures refused { HoldOfRefused key (handle_of self.old) (handle_of self.new) result }
+        ensures made { WasMade (misses_at key.slot) (sight_of self.old) (sight_of self.new) }
+    {
+        let found = self.see_holds_of(key);
+        match why_not(found, key.generation, self.most) {
+            None => Refusal::NoMemory,
+            Some(why) => why,
+        }
+    }
+
+    /// The hold word of a key's slot, and the node that is linked there.
+    ///
+    /// Refusals, in order: NoEntry, TooManyHolds.
+    fn read_linked(&mut self, key: Key) -> Result<(u64, Node), Refusal>
+        requires rests { IsAtRest (view_of self.old) }
+        requires there { HasSlotOf (handle_of self.old) key }
+        ensures same { IsSameSeat (handle_of self.old) (handle_of self.new) }
+        ensures stays { StaysAs (handle_of self.old) (handle_of self.new) }
+        ensures read { IfOk result (λ r. WasRead key r.1 (sight_of self.old) (sight_of self.new)) }
+        ensures refused { IfErr result
+            (λ why. HoldOfRefused key (handle_of self.old) (handle_of self.new) why) }
+        ensures made { IfErr result
+            (λ _. WasMade (misses_at key.slot) (sight_of self.old) (sight_of self.new)) }
+    {
+        let found = self.see_holds_of(key);
+        if let Some(why) = why_not(found, key.generation, self.most) {
+            return Err(why);
+        }
+        let kind = self.read_node_of(key, 0);
+        let first = self.read_node_of(key, 1);
+        let second = self.read_node_of(key, 2);
+        Ok((found, node_of(kind, first, second)))
+    }
+
+    /// A seat of a linked key of the same table, which holds its slot, with the node that was born there.
+    pub(crate) fn pin(&mut self, key: Key) -> Result<CallerSeat, Refusal>
+        requires rests { IsAtRest (view_of self.old) }
+        requires there { HasSlotOf (handle_of self.old) key }
+        ensures same { IsSameSeat (handle_of self.old) (handle_of self.new) }
+        ensures stays { StaysAs (handle_of self.old) (handle_of self.new) }
+        ensures other { IfOk result (λ seat. IsHoldOf (handle_of self.old) key (handle_of seat)) }
+        ensures rests { IfOk result (λ seat. IsAtRest (view_of seat)) }
+        ensures made { IfOk result
+            (λ seat. WasHeldFor key (sight_of self.old) (sight_of self.new) (handle_of seat)) }
+        ensures refused { IfErr result
+            (λ why. IsRefused key (handle_of self.old) (handle_of self.new) why) }
+    {
+        let Ok(table) = Arc::try_clone(&self.table) else {
+            return Err(self.refuse_pin(key));
+        };
+        let most = self.most;
+        let seen = self.read_linked(key)?;
+        let token = self.count_pin(key, seen.0)?;
+        Ok(CallerSeat::new(table, key, seen.1, most, token))
+    }
+}
