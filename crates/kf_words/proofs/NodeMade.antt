@@ -11,7 +11,7 @@ use Rattle.kf_words.specs.Steps.{Sighted, plain, master_of, kept, MasterBecomes}
 use Rattle.kf_words.specs.Nodes.{master_sight}
 use Rattle.kf_words.specs.TableSteps.{stores_node}
 use Rattle.kf_words.specs.History.{Kept}
-use Rattle.kf_words.specs.Made.{WasMadeByMaster, MakesNote}
+use Rattle.kf_words.specs.Made.{WasMadeByMaster, PutsNodeWord}
 use Rattle.kf_words.proofs.MasterMade.{master_made}
 
 pub node_slot : (place slot i : ℕ) → place < 5 → node_index place slot ≡ i → slot_of i ≡ slot
@@ -22,7 +22,7 @@ node_place place slot i few its = omega (arith, few, its)
 
 pub note_made : (o : Opening) (homes id : ℕ) (me : Sighted) (slot place i n : ℕ) → plain me ≡ (seat.Master (master_of me.0.view), []) → place < 5 → node_index place slot ≡ i
     → slot < length (master_of me.0.view).slots → (master_of me.0.view).fresh ≡ Some slot
-    → Allows (Kept o) homes id me i (λ _. n) (λ _ me'. MakesNote (step 0 i n 0 none) me n me')
+    → Allows (Kept o) homes id me i (λ _. n) (λ _ me'. PutsNodeWord (step 0 i n 0 none) me n me')
 note_made o homes id me slot place i n is few its near fresh t h far at small =
     let r = master_made o homes id me slot is i (node_index place) its (node_slot place slot (node_index place slot) few refl) (λ s. stores_node s place n) (λ j. refl) (λ _. n) kept
     (λ x x' p. (master_of me.0.view, ((near, fresh), few), p)) t h far at small in (

@@ -290,8 +290,8 @@ pub record WasCounted (slot : ℕ) (before : MasterSight) (seat after : Seen) : 
   pub same : after ≡ counted.seen
 
 -- what a word of a node that is put tells: which of them, and the number
-abbrev pub MakesNote : Step (Unit {0}) → Sighted → ℕ → Sighted → Type 0
-MakesNote st me found me' = (st.word ≡ node_index (place_of st.word) (slot_of st.word))
+abbrev pub PutsNodeWord : Step (Unit {0}) → Sighted → ℕ → Sighted → Type 0
+PutsNodeWord st me found me' = (st.word ≡ node_index (place_of st.word) (slot_of st.word))
     × (MasterBecomes kept st (plain me) found (plain me')
     × WasMadeByMaster (stores_node (slot_of st.word) (place_of st.word) st.first) (master_sight me.0)
     (master_sight me'.0))

@@ -240,9 +240,9 @@ impl Play<(), Sight> for StoresFresh {
 pub(crate) struct StoresNode;
 
 impl Play<(), Sight> for StoresNode {
-    ghost use Rattle.kf_words.specs.Made.{MakesNote};
+    ghost use Rattle.kf_words.specs.Made.{PutsNodeWord};
 
-    ghost then = { MakesNote };
+    ghost then = { PutsNodeWord };
 }
 
 /// The Master gives a slot its next generation, and links a node there.

@@ -4,7 +4,7 @@ use Rattle.kf_words.specs.Layout.{node_index, place_of, slot_of}
 use Rattle.kf_words.specs.Steps.{Seated, master_of, kept}
 use Rattle.kf_words.specs.TableSteps.{stores_node}
 use Rattle.kf_words.specs.Nodes.{MasterSight, master_sight}
-use Rattle.kf_words.specs.Made.{MakesNote, WasMadeByMaster}
+use Rattle.kf_words.specs.Made.{PutsNodeWord, WasMadeByMaster}
 use Rattle.atomic_table.specs.Table.{step}
 use mathlib.Core.Option.{none}
 use Rattle.kf_words.proofs.MasterAllowed.{keeps_master}
@@ -25,7 +25,7 @@ store-requires c =
     let i : ℕ = c.node_index-index.result in (
       search rules,
       omega arith,
-      asked _ _ c.token.view_is _ _ i (λ _. c.args.word) (λ _ me _ me'. MakesNote (step 0 i c.args.word 0 none) me c.args.word me')
+      asked _ _ c.token.view_is _ _ i (λ _. c.args.word) (λ _ me _ me'. PutsNodeWord (step 0 i c.args.word 0 none) me c.args.word me')
           (note_made c.deref.result.now.shared.key _ _ self.token.me c.args.slot c.args.place i c.args.word self.a_master few (sym at) near c.requires.fresh),
     )
 
