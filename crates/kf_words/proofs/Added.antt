@@ -1,11 +1,10 @@
 -- What a step of the Master makes of the history: its own note comes next, where it adds one.
-use Rattle.std.proofs.Common.{◌≡◌, [], ◌∷◌, ◌++◌, ap, ◌∙◌}
+use Rattle.std.proofs.Common.{◌≡◌, [], ◌++◌, ap, ◌∙◌}
 use Rattle.std.proofs.lemmas.List.{append-nil}
-use Rattle.kf_words.specs.declared.sight.Seen.{Seen}
 use Rattle.kf_words.specs.TableSteps.{StepKind}
 use Rattle.kf_words.specs.Nodes.{MasterSight}
 use Rattle.kf_words.specs.Made.{WasMadeByMaster}
-use Rattle.kf_words.specs.Notes.{note_of, notes_of, history_of}
+use Rattle.kf_words.specs.Notes.{note_of, history_of}
 use Rattle.kf_words.proofs.Noted.{notes_more, note_more}
 
 pub noted : (kind : StepKind) (before after : MasterSight) → WasMadeByMaster kind before after → history_of after.seen ≡ history_of before.seen ++ note_of kind

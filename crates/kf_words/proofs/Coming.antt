@@ -1,6 +1,6 @@
 -- A seat comes that holds nothing: the rule stays, and the world gets a spent caller.
-use Rattle.std.proofs.Common.{◌&&◌, ◌≡◌, ◌≢◌, ◌⊎◌, inl, inr, ℕ, zero, suc, ◌+◌, Bool, true, false, true≢false, eqb, List, [], ◌∷◌, ◌++◌, length, map, set, refl, sym, ap, ◌∙◌, subst, ⊎_elim, arith}
-use Rattle.std.specs.Prelude.{slice_get, Some, IsTrue}
+use Rattle.std.proofs.Common.{◌&&◌, ◌≡◌, ◌⊎◌, inl, inr, ℕ, ◌+◌, Bool, true, false, true≢false, eqb, List, [], ◌∷◌, ◌++◌, length, map, set, refl, sym, ap, ◌∙◌, subst, ⊎_elim, arith}
+use Rattle.std.specs.Prelude.{slice_get, Some}
 use Rattle.std.proofs.lemmas.Option.{none-some}
 use mathlib.Core.Option.{some}
 use mathlib.Core.List.{map-append}
@@ -14,7 +14,7 @@ use Rattle.kf_core.specs.declared.event.Event.TheVariants.{Pin, Release}
 use Rattle.kf_core.specs.Bare.{BareWorld, IsCaller}
 use Rattle.kf_core.specs.Phases.{saw_drain, saw_unused, is_hiding}
 use Rattle.kf_core.specs.Safe.{Safe, NoneRunning}
-use Rattle.kf_core.specs.Steps.{BareRun, MayPin, with_caller, with_phase}
+use Rattle.kf_core.specs.Steps.{BareRun, MayPin, with_caller}
 use Rattle.kf_core.proofs.Lists.{after_push}
 use Rattle.kf_words.specs.declared.view.CallerView.{CallerView}
 use Rattle.kf_words.specs.declared.view.MasterView.{MasterView}

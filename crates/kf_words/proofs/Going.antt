@@ -1,17 +1,15 @@
 -- What each class of steps makes of the rule and of the world: a step of a caller, a step of the Master, a new seat.
-use Rattle.std.proofs.Common.{◌≡◌, ◌⊎◌, inl, inr, ℕ, suc, ◌+◌, ◌<◌, true, false, List, [], ◌∷◌, ◌++◌, map, length, set, refl, sym, ap, ◌∙◌, subst, ⊎_elim, arith}
-use Rattle.std.specs.Prelude.{slice_get, slice_index, Option, Some, None, is_some}
+use Rattle.std.proofs.Common.{◌≡◌, ◌⊎◌, inl, inr, ℕ, suc, ◌<◌, true, false, List, [], ◌∷◌, ◌++◌, map, length, set, refl, sym, ap, ◌∙◌, subst, arith}
+use Rattle.std.specs.Prelude.{slice_get, slice_index, Option, Some, is_some}
 use Rattle.std.proofs.lemmas.Option.{same_Some, get_or_from_slice_get}
-use mathlib.Core.Option.{some, none}
+use mathlib.Core.Option.{some}
 use lib.ListN.{get_elem?}
-use Rattle.atomic_table.specs.Table.{Allows, step, stepped, keeps}
+use Rattle.atomic_table.specs.Table.{Allows, stepped, keeps}
 use Rattle.kf_core.specs.declared.key.Key.{Key}
-use Rattle.kf_core.specs.declared.key.Node.TheVariants.{Dir}
-use Rattle.kf_core.specs.declared.event.Event.TheVariants.{Born, Rise, Mark, Pin, Enter, Leave, Break, Restore, Look, Part, Hide, LookHidden, Show, Release, Undo}
+use Rattle.kf_core.specs.declared.event.Event.TheVariants.{Pin, Enter}
 use Rattle.kf_core.specs.declared.slot.Marks.{Marks}
 use Rattle.kf_core.specs.declared.slot.SlotState.{SlotState}
-use Rattle.kf_core.specs.Bare.{BareWorld, IsCaller, marks, marks_in}
-use Rattle.kf_core.specs.Marks.{fresh_marks, are_doomed}
+use Rattle.kf_core.specs.Bare.{BareWorld, IsCaller, marks_in}
 use Rattle.kf_core.specs.Phases.{is_waiting}
 use Rattle.kf_core.specs.Steps.{BareStep, MayPin}
 use Rattle.kf_core.specs.Steps as core
@@ -23,21 +21,20 @@ use Rattle.kf_words.specs.declared.view.CallerView.{CallerView}
 use Rattle.kf_words.specs.declared.view.MasterView.{MasterView}
 use Rattle.kf_words.specs.declared.view.View.{View}
 use Rattle.kf_words.specs.declared.view.View.TheVariants as seat
-use Rattle.kf_words.specs.Layout.{bit, bias, doom, hide, linked, one_generation, active_index, hold_index, sleepers_index, node_index, slot_of, is_drained, has_hide, is_unused, has_linked, HasSpare, MayPinAt}
+use Rattle.kf_words.specs.Layout.{hold_index, sleepers_index, slot_of, HasSpare, MayPinAt}
 use Rattle.kf_words.specs.Rule.{Shows, Shown, seats, bare_world, caller, last_key}
-use Rattle.kf_words.specs.Steps.{Seated, no_state, state_at, after_try, after_undo, after_leave, after_break, after_restore, after_look, after_part, after_hide, after_look_hidden, after_show, after_release, after_miss, after_count, after_share, unmoved, after_split, new_hold, hold_for, with_load, with_pin, without_pin, after_store, with_birth, with_marks, activated_marks, doomed_marks, with_look, without_node, unread, CallerBecomes, On, MasterBecomes, LoadsHold, ShowsKey, spent_hold, after_count_at}
+use Rattle.kf_words.specs.Steps.{Seated, no_state, state_at, after_miss, after_count, after_share, unmoved, after_split, new_hold, hold_for, CallerBecomes, spent_hold, after_count_at}
 use Rattle.kf_words.specs.Nodes.{marks_of}
-use Rattle.kf_words.specs.TableSteps.{Table, StepKind, tries, undoes, leaves, breaks, restores, looks, parts, hides, looks_hidden, shows, releases, misses, counts, shares, sleeps, awakes, loads_hold, pins_hold, unpins_hold, splits, stores_fresh, births, takes_bias, marks_node, looks_over, unlinks, notes, reports, answers, compares, Comes, plus, minus, same, with_hide, master_in, world, IsSeated, HoldsSlot, MayCount, WordStep, misses_at, counts_at, hands_on, stores_node, reads_node, MayCountAt}
-use Rattle.kf_words.proofs.Bits.{bool_cases, waiting_is}
+use Rattle.kf_words.specs.TableSteps.{Table, StepKind, counts, shares, splits, answers, Comes, plus, master_in, world, IsSeated, HoldsSlot, MayCount, counts_at, hands_on, MayCountAt}
+use Rattle.kf_words.proofs.Bits.{waiting_is}
 use Rattle.kf_words.proofs.Seating.{caller_seat, master_seat, seats-set, seats-push}
-use Rattle.kf_words.proofs.CallerAllowed.{no_step, try_allowed, undo_allowed, leave_allowed, break_allowed, restore_allowed, look_allowed, release_allowed, part_allowed, miss_allowed, hide_allowed, look_hidden_allowed, show_allowed}
+use Rattle.kf_words.proofs.CallerAllowed.{no_step}
 use Rattle.kf_words.proofs.HoldSteps.{miss_owes, count_owes}
 use Rattle.kf_words.proofs.PinSteps.{count_at_owes}
-use Rattle.kf_words.proofs.NodeSteps.{noted}
 use Rattle.kf_words.proofs.Sharing.{shared_world, share_kept}
 use Rattle.kf_words.proofs.Sleepers.{put_same, sleep_allowed}
-use Rattle.kf_words.proofs.MasterAllowed.{active_slot, hold_slot, hold_allows, pin_owes, unpin_owes, birth_owes, unlink_owes, splits as splits_shown, state_there, look_allowed as look_over_allowed, fresh_allowed, load_allowed, rise_allowed, mark_allowed}
-use Rattle.kf_words.proofs.Events.{try_is_enter, undo_is_undo, look_is_look, part_is_part, leave_is_leave, break_is_break, restore_is_restore, release_is_release, hide_is_hide, look_hidden_is_look, show_is_show, miss_is_nothing, rise_is_rise, mark_is_mark, birth_is_born, split_is_pin, share_is_pin, hand_on_is_pin}
+use Rattle.kf_words.proofs.MasterAllowed.{splits as splits_shown}
+use Rattle.kf_words.proofs.Events.{miss_is_nothing, split_is_pin, share_is_pin, hand_on_is_pin}
 use Rattle.kf_words.proofs.Led.{Led}
 use Rattle.kf_words.proofs.Led.{happens}
 pub use Rattle.kf_words.proofs.Led.{TakenOut, Came, Passed, Alone, IsEvent, Led, with_spent}

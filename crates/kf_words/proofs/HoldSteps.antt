@@ -14,7 +14,7 @@ use Rattle.kf_core.specs.declared.caller.Phase.TheVariants.{Running, Drained, Pa
 use Rattle.kf_core.specs.declared.event.Event.{Event}
 use Rattle.kf_core.specs.declared.event.Event.TheVariants.{Undo, Part, Release}
 use Rattle.kf_core.specs.Bare.{BareWorld, IsLast}
-use Rattle.kf_core.specs.Phases.{has_reference, is_hiding, is_waiting, may_release, is_spent}
+use Rattle.kf_core.specs.Phases.{has_reference, is_hiding, is_waiting, may_release}
 use Rattle.kf_core.specs.Steps.{BareStep, with_phase}
 use Rattle.kf_words.specs.declared.view.CallerView.{CallerView}
 use Rattle.kf_words.specs.declared.view.MasterView.{MasterView}

@@ -5,10 +5,9 @@ use Rattle.kf_core.specs.declared.command.Command.TheVariants.{Doom}
 use Rattle.kf_words.specs.declared.note.Note.TheVariants.{Did}
 use Rattle.kf_core.specs.declared.caller.Phase.TheVariants.{Still, Turned, Running, Broken, Restored, Drained, Parted, Hiding, Hidden, Spent}
 use Rattle.kf_words.specs.TableSteps.{Table, births, breaks, hides, leaves, loads_hold, looks, looks_hidden, looks_over, marks_node, parts, pins_hold, releases, misses, counts, shares, restores, shows, sleeps, awakes, splits, stores_fresh, takes_bias, tries, undoes, unlinks, unpins_hold, notes, reports, answers, compares, WordStep, misses_at, counts_at, hands_on, stores_node, reads_node}
-use Rattle.kf_core.specs.declared.key.Key.{Key}
 use Rattle.kf_words.specs.declared.view.CallerView.{CallerView}
 use Rattle.kf_words.specs.declared.view.MasterView.{MasterView}
-use Rattle.kf_words.specs.Steps.{new_hold, spent_hold}
+use Rattle.kf_words.specs.Steps.{spent_hold}
 use Rattle.kf_words.specs.Life.{with_marks_of, caller_at, master_at, table_at, table_with, with_one_more, WordLife, next_caller}
 use Rattle.kf_words.specs.declared.view.Load.{Load}
 

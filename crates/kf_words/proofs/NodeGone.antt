@@ -1,14 +1,9 @@
 -- A key whose node is out, or whose slot has come to a later generation, is not linked again.
-use Rattle.std.proofs.Common.{◌&&◌, ◌≡◌, ◌≢◌, ◌⊎◌, inl, inr, ℕ, zero, suc, ◌+◌, ◌-◌, ◌*◌, ◌<◌, ◌≤◌, Bool, true, false, eqb, List, [], ◌∷◌, ◌++◌, length, set, get_or, replicate, if◌then◌else◌, refl, sym, ap, ◌∙◌, subst, ⊎_elim, arith, append_assoc, length-set, get_or-set_same, get_or-set_other, eq-eqb, ne_eqb}
-use Rattle.std.specs.Prelude.{slice_get, slice_index, Option, Some, None, is_some}
-use Rattle.std.specs.List.{repeat}
-use Rattle.std.proofs.lemmas.List.{set-get_or}
-use Rattle.std.proofs.lemmas.Option.{slice_get_within, same_Some, none-some, get_or_from_slice_get}
+use Rattle.std.proofs.Common.{◌≡◌, ◌⊎◌, ℕ, ◌<◌, ◌≤◌, Bool, true, false, List, if◌then◌else◌, refl, sym, ap, ◌∙◌, subst, ⊎_elim, arith, eq-eqb}
+use Rattle.std.specs.Prelude.{slice_get, Option, Some, None, is_some}
+use Rattle.std.proofs.lemmas.Option.{slice_get_within, same_Some, none-some}
 use mathlib.Core.Logic.{dite}
-use mathlib.Core.Option.{some, some-ne-none, some-injective}
 use native.Mathlib.Decide.{ℕ_discrete}
-use lib.ListN.{get_elem?}
-use Rattle.atomic_table.specs.Table.{stepped, keeps}
 use Rattle.kf_core.specs.declared.key.Key.{Key}
 use Rattle.kf_core.specs.declared.event.Event.{Event}
 use Rattle.kf_core.specs.declared.event.Event.TheVariants.{Born, Rise, Mark, Move, Pin, Enter, Leave, Break, Restore, Look, Unlink, Part, Hide, LookHidden, Show, Release, Undo}
@@ -21,24 +16,10 @@ use Rattle.kf_core.proofs.Lists.{slice_get-set_same, slice_get-set_other}
 use Rattle.kf_core.proofs.SlotStates.{in_place}
 use Rattle.kf_core.proofs.Keeping.{linked_marks, slot_state}
 use Rattle.kf_core.proofs.Passing.{HasCome}
-use Rattle.kf_words.specs.declared.sight.Opening.{Opening}
-use Rattle.kf_words.specs.declared.view.CallerView.{CallerView}
-use Rattle.kf_words.specs.declared.view.MasterView.{MasterView}
-use Rattle.kf_words.specs.declared.view.View.{View}
-use Rattle.kf_words.specs.declared.view.View.TheVariants as seat
-use Rattle.kf_words.specs.Layout.{line_words, linked, one_generation, active_index, hold_index, sleepers_index, node_index, empty_line, IsFree, hold_word}
-use Rattle.kf_words.specs.Rule.{Shown, Shows, seats, bare_world}
-use Rattle.kf_words.specs.Steps.{master_of, state_at, no_state, after_split, new_hold, after_share}
-use Rattle.kf_words.specs.TableSteps.{Table, StepKind, master_in, callers_in, world, IsSeated, WordStep, WordRun, opened_table, tries, undoes, leaves, breaks, restores, looks, parts, hides, looks_hidden, shows, releases, misses, counts, shares, sleeps, awakes, loads_hold, pins_hold, unpins_hold, splits, stores_fresh, births, takes_bias, marks_node, looks_over, unlinks, misses_at, counts_at, hands_on, stores_node, reads_node, notes, reports, answers, compares}
-use Rattle.kf_words.specs.History.{opened_as}
-use Rattle.kf_words.specs.NodeWords.{NodeNotes, no_notes, with_note, with_born, noted_by, notes_after, ReadAsBorn}
-use Rattle.kf_words.proofs.Bits.{bool_cases}
-use Rattle.kf_words.proofs.MasterSteps.{unheld}
-use Rattle.kf_words.proofs.MasterAllowed.{state_there}
-use Rattle.kf_words.proofs.Opening.{opening_shown}
+use Rattle.kf_words.specs.Rule.{Shown}
+use Rattle.kf_words.specs.TableSteps.{Table, StepKind, world, WordRun}
 use Rattle.kf_words.proofs.Led.{Alone, TakenOut, Came, Passed}
-use Rattle.kf_words.proofs.WordSteps.{met, word_step}
-use Rattle.kf_words.proofs.Runs.{rule_kept, run_holds, come_for_good}
+use Rattle.kf_words.proofs.Runs.{run_holds}
 
 -- the key's node is out, or its slot has come to a later generation
 pub record Gone (w : BareWorld) (k : Key) : Type 0 where

@@ -1,12 +1,11 @@
 -- The node of a hold that a caller made of a key is the one that was born with the key.
-use Rattle.std.proofs.Common.{◌≡◌, ℕ, zero, suc, ◌<◌, List, [], ◌∷◌, ◌++◌, sym, ap, ◌∙◌, subst, arith, append_assoc, append-nil}
+use Rattle.std.proofs.Common.{◌≡◌, ℕ, zero, suc, List, [], ◌∷◌, ◌++◌, sym, ap, ◌∙◌, subst, arith, append_assoc, append-nil}
 use Rattle.kf_core.specs.declared.key.Key.{Key}
 use Rattle.kf_core.specs.declared.key.Node.{Node}
 use Rattle.kf_words.specs.declared.sight.Seen.{Seen}
 use Rattle.kf_words.specs.Callers.{CallerSight}
 use Rattle.kf_words.specs.TableSteps.{StepKind, misses_at}
 use Rattle.kf_words.specs.Made.{WasMade, WereMade}
-use Rattle.kf_words.specs.Another.{Missed}
 use Rattle.kf_words.specs.NodeWords.{no_notes, notes_after, node_in, node_born}
 use Rattle.kf_words.specs.NodeReads.{GoesOn}
 use Rattle.kf_words.specs.Pins.{WasRead, WasPinnedBy, WasPinnedFor}

@@ -1,10 +1,9 @@
 -- A word of a node that the Master puts is the next step of the one run, and tells which word, and the number.
-use Rattle.std.proofs.Common.{◌≡◌, ℕ, ◌+◌, ◌-◌, ◌*◌, ◌/◌, ◌%◌, ◌<◌, [], length, refl, sym, subst, arith}
+use Rattle.std.proofs.Common.{◌≡◌, ℕ, ◌<◌, [], length, refl, sym, subst, arith}
 use Rattle.std.specs.Prelude.{Some}
 use mathlib.Core.Option.{none}
 use Rattle.atomic_table.specs.Table.{Allows, step, carried_after}
 use Rattle.kf_words.specs.declared.sight.Opening.{Opening}
-use Rattle.kf_words.specs.declared.view.MasterView.{MasterView}
 use Rattle.kf_words.specs.declared.view.View.TheVariants as seat
 use Rattle.kf_words.specs.Layout.{node_index, place_of, slot_of}
 use Rattle.kf_words.specs.Steps.{Sighted, plain, master_of, kept, MasterBecomes}

@@ -1,5 +1,5 @@
 -- A load of a word of any slot's node is the next step of the one run, and tells which word.
-use Rattle.std.proofs.Common.{◌≡◌, ℕ, suc, ◌<◌, List, [], refl, sym, ap, ◌∙◌, subst}
+use Rattle.std.proofs.Common.{◌≡◌, ℕ, ◌<◌, List, [], refl, sym, ap, ◌∙◌, subst}
 use Rattle.std.specs.Prelude.{slice_index}
 use mathlib.Core.Option.{none}
 use Rattle.atomic_table.specs.Table.{Allows, step, stepped, keeps}
@@ -7,7 +7,7 @@ use Rattle.kf_words.specs.declared.sight.Opening.{Opening}
 use Rattle.kf_words.specs.declared.view.CallerView.{CallerView}
 use Rattle.kf_words.specs.declared.view.View.{View}
 use Rattle.kf_words.specs.declared.view.View.TheVariants as seat
-use Rattle.kf_words.specs.Layout.{node_index, place_of, slot_of}
+use Rattle.kf_words.specs.Layout.{node_index, place_of}
 use Rattle.kf_words.specs.Steps.{Seated, Sighted, plain, caller_of, after_miss}
 use Rattle.kf_words.specs.Callers.{caller_sight, IsAtRest}
 use Rattle.kf_words.specs.TableSteps.{reads_node, same}

@@ -1,7 +1,6 @@
 -- What a caller reads of a node is what stood there at the node's birth.
-use Rattle.std.proofs.Common.{◌≡◌, ℕ, suc, ◌+◌, ◌/◌, ◌<◌, ◌≤◌, true, List, [], ◌∷◌, ◌++◌, length, set, refl, sym, ap, ◌∙◌, subst, arith, append_assoc}
-use Rattle.std.specs.Prelude.{slice_index, slice_get, Some}
-use Rattle.std.proofs.lemmas.Option.{slice_get_within}
+use Rattle.std.proofs.Common.{◌≡◌, ℕ, suc, ◌≤◌, true, List, [], ◌∷◌, ◌++◌, refl, sym, ap, ◌∙◌, subst, arith, append_assoc}
+use Rattle.std.specs.Prelude.{slice_index}
 use mathlib.Core.Option.{some, some-injective}
 use lib.ListN.{get_elem?}
 use Rattle.atomic_table.specs.Table.{stepped, keeps}
@@ -13,14 +12,14 @@ use Rattle.kf_words.specs.declared.sight.Seen.{Seen}
 use Rattle.kf_words.specs.declared.view.CallerView.{CallerView}
 use Rattle.kf_words.specs.declared.view.View.TheVariants as seat
 use Rattle.kf_words.specs.Layout.{hold_index, node_index, IsOf}
-use Rattle.kf_words.specs.Rule.{Shown, bare_world}
+use Rattle.kf_words.specs.Rule.{bare_world}
 use Rattle.kf_words.specs.Steps.{after_miss, key_in}
 use Rattle.kf_words.specs.Callers.{CallerSight}
-use Rattle.kf_words.specs.TableSteps.{Table, StepKind, world, WordRun, WordStep, misses_at, counts_at, reads_node}
+use Rattle.kf_words.specs.TableSteps.{Table, StepKind, world, WordRun, misses_at, counts_at, reads_node}
 use Rattle.kf_words.specs.History.{opened_as}
 use Rattle.kf_words.specs.Made.{WasMade}
 use Rattle.kf_words.specs.NodeWords.{NodeNotes, no_notes, notes_after}
-use Rattle.kf_words.specs.NodeReads.{GoesOn, ReadIsBorn}
+use Rattle.kf_words.specs.NodeReads.{ReadIsBorn}
 use Rattle.kf_words.proofs.Keeps.{run_parts}
 use Rattle.kf_words.proofs.OneEnds.{one_end}
 use Rattle.kf_words.proofs.Noted.{put}

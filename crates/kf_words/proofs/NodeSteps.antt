@@ -1,5 +1,5 @@
 -- A word of a slot's node that is put keeps the rule, which does not read it.
-use Rattle.std.proofs.Common.{◌≡◌, ℕ, ◌+◌, ◌*◌, ◌<◌, List, set, get_or, sym, ◌∙◌, subst, arith, length-set, get_or-set_other}
+use Rattle.std.proofs.Common.{◌≡◌, ℕ, ◌+◌, ◌<◌, List, set, get_or, sym, ◌∙◌, subst, arith, length-set, get_or-set_other}
 use Rattle.kf_words.specs.declared.view.CallerView.{CallerView}
 use Rattle.kf_words.specs.declared.view.MasterView.{MasterView}
 use Rattle.kf_words.specs.Layout.{active_index, hold_index, node_index, IsFree}

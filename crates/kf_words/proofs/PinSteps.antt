@@ -1,10 +1,9 @@
 -- One hold more of any slot keeps the rule, where the slot's hold word has the bit of a linked node.
-use Rattle.std.proofs.Common.{◌≡◌, ◌≢◌, ℕ, zero, suc, ◌+◌, ◌*◌, ◌/◌, ◌%◌, ◌^◌, ◌<◌, ◌≤◌, true, false, List, length, set, get_or, refl, sym, ap, ◌∙◌, arith}
+use Rattle.std.proofs.Common.{◌≡◌, ◌≢◌, ℕ, zero, suc, ◌+◌, ◌/◌, ◌%◌, ◌^◌, ◌<◌, ◌≤◌, true, false, List, length, set, refl, sym, ap, ◌∙◌, arith}
 use Rattle.std.specs.Prelude.{slice_get, Some, None, is_some}
 use Rattle.std.proofs.lemmas.List.{get_or_past}
 use mathlib.Core.Option.{some}
 use lib.ListN.{get_elem?}
-use Rattle.kf_core.specs.declared.key.Key.{Key}
 use Rattle.kf_core.specs.declared.slot.SlotState.{SlotState}
 use Rattle.kf_core.specs.declared.caller.Phase.TheVariants.{Spent}
 use Rattle.kf_core.specs.Bare.{IsLast, is_linked, marks_in}
@@ -12,8 +11,8 @@ use Rattle.kf_core.specs.Phases.{is_waiting}
 use Rattle.kf_core.proofs.SlotStates.{shown}
 use Rattle.kf_words.specs.declared.view.CallerView.{CallerView}
 use Rattle.kf_words.specs.declared.view.MasterView.{MasterView}
-use Rattle.kf_words.specs.Layout.{bit, linked, one_generation, hold_index, hold_word, has_linked, IsFree, MayPinAt}
-use Rattle.kf_words.specs.Rule.{holders, pins_in, last_key, bare_world, Shows}
+use Rattle.kf_words.specs.Layout.{one_generation, hold_index, hold_word, has_linked, IsFree, MayPinAt}
+use Rattle.kf_words.specs.Rule.{holders, pins_in, bare_world, Shows}
 use Rattle.kf_words.specs.Steps.{after_count_at, key_in}
 use Rattle.kf_words.proofs.Bits.{linked_shows, free_shows}
 use Rattle.kf_words.proofs.MasterAllowed.{state_there, generation_of}

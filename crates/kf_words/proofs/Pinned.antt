@@ -16,18 +16,17 @@ use Rattle.kf_words.specs.declared.sight.Sight.{Sight}
 use Rattle.kf_words.specs.declared.view.CallerView.{CallerView}
 use Rattle.kf_words.specs.declared.view.View.{View}
 use Rattle.kf_words.specs.declared.view.View.TheVariants as seat
-use Rattle.kf_words.specs.Layout.{one_generation, hold_index, slot_of, IsOf, HasSpare, MayPinAt}
+use Rattle.kf_words.specs.Layout.{hold_index, slot_of, IsOf, MayPinAt}
 use Rattle.kf_words.specs.Rule.{bare_world}
-use Rattle.kf_words.specs.Steps.{Seated, Sighted, plain, caller_of, after_miss, after_count_at, after_share, new_hold, hold_on, key_in}
-use Rattle.kf_words.specs.Callers.{CallerSight, caller_sight, IsAtRest}
-use Rattle.kf_words.specs.TableSteps.{Table, StepKind, misses_at, counts_at, hands_on, plus, master_in, world, IsSeated, WordStep}
+use Rattle.kf_words.specs.Steps.{Seated, Sighted, plain, caller_of, after_miss, after_count_at, after_share, hold_on, key_in}
+use Rattle.kf_words.specs.Callers.{CallerSight, IsAtRest}
+use Rattle.kf_words.specs.TableSteps.{Table, StepKind, misses_at, counts_at, hands_on, plus, master_in, world, IsSeated}
 use Rattle.kf_words.specs.History.{SeenTable, erased, Kept, after_sharing, handed_on}
 use Rattle.kf_words.specs.Made.{WasMade}
-use Rattle.kf_words.specs.Pins.{MakesMissAt, MakesExchangeAt, after_exchange_at, WasPinnedBy}
+use Rattle.kf_words.specs.Pins.{MakesMissAt, MakesExchangeAt, after_exchange_at}
 use Rattle.kf_words.proofs.Seating.{caller_seat}
 use Rattle.kf_words.proofs.Keeps.{view_there, split_kept}
 use Rattle.kf_words.proofs.Noted.{put}
-use Rattle.kf_words.proofs.MasterAllowed.{hold_slot}
 use Rattle.kf_words.proofs.PinSteps.{linked_key}
 use Rattle.kf_words.proofs.WordSteps.{world_is}
 use Rattle.kf_words.proofs.Exchanges.{either_at, one_made, opening_is, limit_is}

@@ -13,7 +13,7 @@ use Rattle.kf_words.specs.declared.sight.Sight.{Sight}
 use Rattle.kf_words.specs.declared.view.CallerView.{CallerView}
 use Rattle.kf_words.specs.declared.view.View.TheVariants as seat
 use Rattle.kf_words.specs.Layout.{hold_index, node_index, place_of, slot_of, holds_in, IsOf, HasSpare}
-use Rattle.kf_words.specs.Steps.{Seated, Sighted, plain, caller_of, new_hold, after_miss, after_count_at, after_share, CallerBecomes}
+use Rattle.kf_words.specs.Steps.{Sighted, plain, new_hold, after_miss, after_count_at, after_share, CallerBecomes}
 use Rattle.kf_words.specs.Callers.{Handle, CallerSight, caller_sight, seat_view}
 use Rattle.kf_words.specs.TableSteps.{world, misses_at, counts_at, reads_node}
 use Rattle.kf_words.specs.Made.{WasMade}

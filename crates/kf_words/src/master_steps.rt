@@ -15,8 +15,8 @@ ghost use Rattle.kf_words.specs.declared.view.View.TheVariants as seat_of;
 
 use crate::layout::{BIAS, GENERATION, LINKED, active_index, hold_index, mark_bits, node_index};
 use crate::master_seat::MasterSeat;
-use crate::note::Said;
 use crate::node_words::words_of;
+use crate::note::Said;
 use crate::plays::{
     Answers, Births, Compares, Hears, Knowing, LoadsHold, LooksOver, MarksNode, Notes, PinsHold,
     SplitsHold, StoresFresh, StoresNode, TakesBias, Unlinks, UnpinsHold,

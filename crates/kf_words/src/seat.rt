@@ -7,8 +7,8 @@ ghost use Rattle.kf_words.specs.Steps.{caller_of, plain};
 ghost use Rattle.kf_words.specs.declared.view.View.TheVariants as seat_of;
 
 mod parts;
-mod reports;
 mod pin;
+mod reports;
 mod share;
 mod sleep;
 mod steps;

@@ -1,9 +1,6 @@
-use Rattle.std.proofs.Common.{◌≡◌, [], refl, rules, arith, ap, sym, ◌∙◌, subst}
+use Rattle.std.proofs.Common.{◌≡◌, refl, rules, arith, ap, subst}
 use mathlib.Core.List.{IsPrefix}
 use Rattle.std.specs.Arc.{arc_value}
-use Rattle.atomic_table.specs.declared.shared.Seat.{Seat}
-use Rattle.kf_words.specs.declared.sight.Sight.{Sight}
-use Rattle.kf_words.specs.Steps.{Seated, Sighted, plain, master_of}
 use Rattle.kf_words.specs.TableSteps.{compares, same}
 use Rattle.kf_words.specs.Nodes.{MasterSight, master_sight}
 use Rattle.kf_words.specs.Made.{MakesCompare, WasMadeByMaster}

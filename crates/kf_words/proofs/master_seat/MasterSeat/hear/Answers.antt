@@ -1,4 +1,4 @@
-use Rattle.std.proofs.Common.{◌≡◌, rules, arith, ap, ◌∙◌, sym}
+use Rattle.std.proofs.Common.{◌≡◌, rules, arith, ap}
 use Rattle.std.specs.Arc.{arc_value}
 use Rattle.kf_words.proofs.MasterMade.{hear_joins}
 use Rattle.kf_words.proofs.Tokens.{hearing}

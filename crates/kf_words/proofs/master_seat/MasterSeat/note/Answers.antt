@@ -1,6 +1,5 @@
-use Rattle.std.proofs.Common.{◌≡◌, length, rules, arith, sym, ap, ◌∙◌, subst}
+use Rattle.std.proofs.Common.{◌≡◌, rules, arith, ap}
 use Rattle.std.specs.Arc.{arc_value}
-use Rattle.kf_words.specs.Steps.{Seated, Sighted, plain, master_of}
 use Rattle.kf_words.specs.TableSteps.{notes, same}
 use Rattle.kf_words.specs.Nodes.{MasterSight, master_sight}
 use Rattle.kf_words.specs.Made.{MakesNote, WasMadeByMaster}

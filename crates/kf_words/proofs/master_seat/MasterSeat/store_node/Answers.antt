@@ -1,6 +1,6 @@
 use Rattle.std.proofs.Common.{◌≡◌, length, rules, arith, sym, ap, ◌∙◌, ℕ, subst, refl}
 use Rattle.std.specs.Arc.{arc_value}
-use Rattle.kf_words.specs.Layout.{node_index, place_of, slot_of}
+use Rattle.kf_words.specs.Layout.{place_of, slot_of}
 use Rattle.kf_words.specs.Steps.{Seated, master_of, kept}
 use Rattle.kf_words.specs.TableSteps.{stores_node}
 use Rattle.kf_words.specs.Nodes.{MasterSight, master_sight}

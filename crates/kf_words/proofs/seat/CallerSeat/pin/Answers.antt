@@ -1,4 +1,4 @@
-use Rattle.std.proofs.Common.{◌≡◌, inr, rules, sym, ap, ◌∙◌, subst}
+use Rattle.std.proofs.Common.{inr, rules, sym, ap, ◌∙◌, subst}
 use Rattle.std.proofs.lemmas.Result.{err_from_is_err_and}
 use Rattle.kf_core.specs.declared.refusal.Refusal.{Refusal}
 use Rattle.kf_words.specs.Callers.{handle_of, sight_of}

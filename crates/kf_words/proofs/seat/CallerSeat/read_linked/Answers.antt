@@ -1,4 +1,4 @@
-use Rattle.std.proofs.Common.{◌≡◌, ℕ, rules, sym, ap, ◌∙◌}
+use Rattle.std.proofs.Common.{ℕ, rules, sym, ap, ◌∙◌}
 use Rattle.kf_words.specs.declared.view.CallerView.{CallerView}
 use Rattle.kf_words.specs.Callers.{sight_of, view_of}
 use Rattle.kf_words.specs.NodeWords.{node_in}

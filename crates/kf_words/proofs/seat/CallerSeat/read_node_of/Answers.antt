@@ -1,5 +1,5 @@
-use Rattle.std.proofs.Common.{◌≡◌, ℕ, rules, arith, ap, sym, ◌∙◌, subst}
-use Rattle.kf_words.specs.Layout.{place_of, slot_of}
+use Rattle.std.proofs.Common.{ℕ, rules, arith, ap, sym, subst}
+use Rattle.kf_words.specs.Layout.{slot_of}
 use Rattle.kf_words.specs.TableSteps.{reads_node}
 use Rattle.kf_words.specs.Callers.{caller_sight}
 use Rattle.kf_words.specs.Made.{WasMade}

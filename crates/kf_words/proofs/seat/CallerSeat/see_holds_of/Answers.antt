@@ -1,4 +1,4 @@
-use Rattle.std.proofs.Common.{◌≡◌, rules, arith, ap, sym, ◌∙◌, subst}
+use Rattle.std.proofs.Common.{rules, arith, ap, sym, ◌∙◌, subst}
 use Rattle.kf_words.specs.TableSteps.{misses_at}
 use Rattle.kf_words.specs.Callers.{caller_sight}
 use Rattle.kf_words.specs.Made.{WasMade}
