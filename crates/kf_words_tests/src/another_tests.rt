@@ -111,7 +111,7 @@ fn others<R: Abort>(rt: &R, alloc: Global, hold: &mut Hold, count: u32) -> Vec<O
     holds
 }
 
-fn release_each(mut holds: Vec<Option<Hold>>) {
+pub(crate) fn release_each(mut holds: Vec<Option<Hold>>) {
     while let Some(place) = holds.pop() {
         if let Some(hold) = place {
             hold.release();

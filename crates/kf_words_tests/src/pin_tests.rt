@@ -2,6 +2,7 @@
 ghost use Rattle.std.specs.Prelude.{◌≡◌};
 ghost use Rattle.kf_words.specs.Callers.{IsSameSeat};
 
+use crate::another_tests::release_each;
 use crate::test_fixtures::{
     FILE, activate, born, doom, enter, look, made, part, pin, refused, unlink,
 };
@@ -158,15 +159,6 @@ fn make_of(place: &mut Option<Hold>, key: Key, count: &AtomicU64) {
             old.release();
         }
     }
-}
-
-fn release_each(mut holds: Vec<Option<Hold>>) {
-    while let Some(place) = holds.pop() {
-        if let Some(hold) = place {
-            hold.release();
-        }
-    }
-    holds.destroy_empty();
 }
 
 /// Two threads make holds of one node by holds of the root. No hold is lost, and none is left over.
