@@ -48,3 +48,4 @@ pub mod Tokens
 pub mod Crossing
 pub mod Led
 pub mod OneStep
+pub mod Owners

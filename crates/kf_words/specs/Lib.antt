@@ -12,6 +12,7 @@ pub mod History
 pub mod Made
 pub mod Another
 pub mod Pins
+pub mod Makers
 pub mod NodeWords
 pub mod NodeReads
 pub mod Runs

@@ -91,10 +91,14 @@ pub record WasRead (key : Key) (node : Node) (before after : CallerSight) : Type
   pub second : WasMade (reads_node key.slot 2) two after
   pub node_is : node ≡ node_in one.view.found two.view.found after.view.found
 
--- the node of a key was read, and then a hold of the key was made, as WasPinnedFor says
+-- the node of a key was read, and then a seat of the key was made, as WasPinnedFor says
+abbrev pub WasReadAndPinned : Key → Node → CallerSight → CallerSight → Seen → Type 0
+WasReadAndPinned key node before after seen = (read : CallerSight) × WasRead key node before read
+    × WasPinnedFor key read after seen
+
+-- the same of a hold of the key that was made
 abbrev pub WasHeldFor : Key → CallerSight → CallerSight → Handle → Type 0
-WasHeldFor key before after other = (read : CallerSight) × WasRead key other.node before read
-    × WasPinnedFor key read after other.seen
+WasHeldFor key before after other = WasReadAndPinned key other.node before after other.seen
 
 -- why no hold is made of a key of this generation where its slot's hold word is so, by the most holds of a
 -- slot: the node is gone, or the slot has no spare place

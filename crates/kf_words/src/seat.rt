@@ -1,11 +1,12 @@
-//! A caller's seat at the table of words. Its fields are private: the files of this module alone read them,
-//! and `new`, `moved` and `end` alone take it apart.
+//! A caller's seat at the table of words, and an owner of it without a seat. Their fields are private: the
+//! files of this module alone read them, and `new`, `moved`, `end_to_owner` and `end` alone take it apart.
 ghost use Rattle.std.specs.Prelude.{◌≡◌, ◌*◌, ◌<◌, ◌≤◌, None, []};
 ghost use Rattle.std.specs.Arc.{arc_value};
 ghost use Rattle.kf_words.specs.Layout.{line_words};
 ghost use Rattle.kf_words.specs.Steps.{caller_of, plain};
 ghost use Rattle.kf_words.specs.declared.view.View.TheVariants as seat_of;
 
+mod owners;
 mod parts;
 mod pin;
 mod reports;
@@ -52,4 +53,16 @@ pub struct CallerSeat {
     ghost limit: { (arc_value table).shared.key.holds ≡ most },
     ghost few: { most ≤ 65535 },
     ghost single: { (caller_of token.me.0.view).pinning ≡ None },
+}
+
+/// An owner of the table of words that has no seat, with the most holds of a slot there. The next seat that is
+/// made can have it, and then writes nothing to the count of owners, which all threads share.
+#[derive(Drop)]
+pub struct Owner {
+    table: Arc<WordTable>,
+    most: u32,
+    ghost lines: { (arc_value table).shared.table_id.words
+        ≡ (arc_value table).shared.key.slots * line_words },
+    ghost limit: { (arc_value table).shared.key.holds ≡ most },
+    ghost few: { most ≤ 65535 },
 }

@@ -99,15 +99,7 @@ impl CallerSeat {
     pub(crate) fn end(self)
         requires { (view_of self).phase ≡ phase_of.Spent }
     {
-        let CallerSeat {
-            table: _,
-            key: _,
-            kind: _,
-            most: _,
-            tag: _,
-            target: _,
-            token: _,
-        } = self;
+        let _owner = self.end_to_owner();
     }
 }
 

@@ -7,7 +7,9 @@ ghost use Rattle.kf_words.specs.Callers.{IsSameSeat, IsAtRest, handle_of, sight_
 ghost use Rattle.kf_words.specs.TableSteps.{misses_at, reads_node};
 ghost use Rattle.kf_words.specs.Made.{WasMade};
 ghost use Rattle.kf_words.specs.Another.{StaysAs, Missed};
-ghost use Rattle.kf_words.specs.Pins.{IsPin, IsHoldOf, IsWhyNot, FoundWhyNot, HoldOfRefused, IsRefused, WasPinnedBy, WasPinnedFor, WasRead, WasHeldFor, HasSlotOf};
+ghost use Rattle.kf_words.specs.NodeWords.{node_born};
+ghost use Rattle.kf_core.specs.declared.refusal.Refusal.TheVariants as refusal_of;
+ghost use Rattle.kf_words.specs.Pins.{IsPin, IsHoldOf, IsWhyNot, FoundWhyNot, HoldOfRefused, IsRefused, WasPinnedBy, WasPinnedFor, WasRead, WasReadAndPinned, WasHeldFor, HasSlotOf};
 
 use crate::layout::{GENERATION, has_linked, has_spare, hold_index, node_index};
 use crate::node_words::node_of;
@@ -16,7 +18,6 @@ use crate::seat::CallerSeat;
 use crate::sight::Sight;
 use atomic_table::Seat;
 use kf_core::{Key, Node, Refusal};
-use std::sync::Arc;
 
 /// How often an exchange is tried where other holds come and go between.
 const TRIES: u32 = 64;
@@ -152,6 +153,7 @@ impl CallerSeat {
             (λ why. HoldOfRefused key (handle_of self.old) (handle_of self.new) why) }
         ensures missed { IfErr result
             (λ _. Missed (misses_at key.slot) 1 64 (sight_of self.old) (sight_of self.new)) }
+        ensures owned { IfErr result (λ why. why ≢ refusal_of.NoMemory) }
     {
         let mut guess = first;
         for tries in 0..TRIES {
@@ -195,6 +197,7 @@ impl CallerSeat {
             (λ why. HoldOfRefused key (handle_of self.old) (handle_of self.new) why) }
         ensures made { IfErr result
             (λ _. WasMade (misses_at key.slot) (sight_of self.old) (sight_of self.new)) }
+        ensures owned { IfErr result (λ why. why ≢ refusal_of.NoMemory) }
     {
         let found = self.see_holds_of(key);
         if let Some(why) = why_not(found, key.generation, self.most) {
@@ -204,6 +207,27 @@ impl CallerSeat {
         let first = self.read_node_of(key, 1);
         let second = self.read_node_of(key, 2);
         Ok((found, node_of(kind, first, second)))
+    }
+
+    /// Counts one hold more of a linked key, and gives it a new seat, with the node that was born there.
+    ///
+    /// Refusals, in order: NoEntry, TooManyHolds, Busy.
+    pub(crate) fn pin_token(&mut self, key: Key) -> Result<(Node, Seat<(), Sight>), Refusal>
+        requires rests { IsAtRest (view_of self.old) }
+        requires there { HasSlotOf (handle_of self.old) key }
+        ensures same { IsSameSeat (handle_of self.old) (handle_of self.new) }
+        ensures stays { StaysAs (handle_of self.old) (handle_of self.new) }
+        ensures token { IfOk result (λ r. IsPin (handle_of self.new) key r.1) }
+        ensures node { IfOk result (λ r. r.0 ≡ node_born r.1.me.0.seen key.slot) }
+        ensures made { IfOk result
+            (λ r. WasReadAndPinned key r.0 (sight_of self.old) (sight_of self.new) r.1.me.0.seen) }
+        ensures refused { IfErr result
+            (λ why. IsRefused key (handle_of self.old) (handle_of self.new) why) }
+        ensures owned { IfErr result (λ why. why ≢ refusal_of.NoMemory) }
+    {
+        let (found, node) = self.read_linked(key)?;
+        let token = self.count_pin(key, found)?;
+        Ok((node, token))
     }
 
     /// A seat of a linked key of the same table, which holds its slot, with the node that was born there.
@@ -219,12 +243,10 @@ impl CallerSeat {
         ensures refused { IfErr result
             (λ why. IsRefused key (handle_of self.old) (handle_of self.new) why) }
     {
-        let Ok(table) = Arc::try_clone(&self.table) else {
+        let Ok(owner) = self.owner() else {
             return Err(self.refuse_pin(key));
         };
-        let most = self.most;
-        let seen = self.read_linked(key)?;
-        let token = self.count_pin(key, seen.0)?;
-        Ok(CallerSeat::new(table, key, seen.1, most, token))
+        let (node, token) = self.pin_token(key)?;
+        Ok(owner.seat(key, node, token))
     }
 }

@@ -1,0 +1,119 @@
+//! A maker of holds, for one thread: it keeps the owners of the table that come back with the holds which are
+//! released to it, and gives them to those that it makes next.
+ghost use Rattle.std.specs.Prelude.{◌≡◌, ◌≢◌, ◌<◌, ◌≤◌, ◌+◌, ◌-◌, true, if◌then◌else◌, is_ok, IfOk, IfErr, MatchResult};
+ghost use Rattle.kf_core.specs.Phases.{is_waiting};
+ghost use Rattle.kf_core.specs.declared.refusal.Refusal.TheVariants as refusal_of;
+ghost use Rattle.kf_words.specs.Callers.{IsSameSeat, seat_view};
+ghost use Rattle.kf_words.specs.Another.{StaysAs};
+ghost use Rattle.kf_words.specs.Pins.{IsHoldOf, WasHeldFor, IsRefused, HasSlotOf};
+ghost use Rattle.kf_words.specs.Makers.{most_spare};
+
+use crate::hold::Hold;
+use crate::seat::{CallerSeat, Owner, release_seat};
+use kf_core::{Key, Refusal};
+use std::alloc::Global;
+use std::marker::Model;
+
+/// The most owners that a maker keeps.
+const MOST_SPARE: usize = 16;
+
+/// Makes holds by a hold of its own. Each hold owns the table, and all threads share the count of its owners.
+/// A maker keeps up to 16 owners of the holds that are released to it, and a hold that it makes of one of them
+/// writes nothing to that count. It must be spent, by `end`.
+pub struct Holds {
+    by: CallerSeat,
+    spare: Vec<Owner>,
+}
+
+impl Model for Holds {
+    ghost use Rattle.std.specs.Prelude.{◌≤◌, vec_len, vec_capacity};
+    ghost use Rattle.kf_words.specs.Callers.{handle_of, view_of, IsAtRest};
+    ghost use Rattle.kf_words.specs.Makers.{Maker, AreOwnersOf, most_spare};
+
+    ghost Value = { Maker };
+
+    ghost view = { λ h. record { by = handle_of h.by; spare = vec_len h.spare } };
+
+    ghost invariant = { λ h. IsAtRest (view_of h.by) × AreOwnersOf h.by.token.table_id h.spare.items
+        × (most_spare ≤ vec_capacity h.spare) };
+}
+
+impl Holds {
+    /// A maker of holds by this one, with no owner to spare yet.
+    ///
+    /// Refusal: NoMemory, and the hold comes back.
+    pub fn new(alloc: Global, by: Hold) -> Result<Holds, (Hold, Refusal)>
+        ensures made { IfOk result (λ holds. (holds.by ≡ by) × (holds.spare ≡ 0)) }
+        ensures refused { IfErr result (λ r. (r.0 ≡ by) × (r.1 ≡ refusal_of.NoMemory)) }
+    {
+        match Vec::with_capacity(alloc, MOST_SPARE) {
+            Ok(spare) => {
+                let Hold { seat } = by;
+                Ok(Holds { by: seat, spare })
+            }
+            Err(_) => Err((by, Refusal::NoMemory)),
+        }
+    }
+
+    /// The key whose slot its own hold keeps.
+    pub fn key(&self) -> Key
+        ensures value { result ≡ self.now.by.key }
+        ensures waits { is_waiting self.now.by.phase ≡ true }
+    {
+        self.by.key()
+    }
+
+    /// A hold of the node of a key, as `Hold::pin` makes it. It takes an owner that is to spare, and is then
+    /// not refused for want of memory; after a refusal there are as many to spare as before.
+    pub fn pin(&mut self, key: Key) -> Result<Hold, Refusal>
+        ensures same { IsSameSeat self.old.by self.new.by }
+        ensures stays { StaysAs self.old.by self.new.by }
+        ensures other { IfOk result (λ other. IsHoldOf self.old.by key other) }
+        ensures made { IfOk result
+            (λ other. WasHeldFor key (seat_view self.old.by) (seat_view self.new.by) other) }
+        ensures refused { HasSlotOf self.old.by key
+            → IfErr result (λ why. IsRefused key self.old.by self.new.by why) }
+        ensures beyond { (HasSlotOf self.old.by key → ⊥) → MatchResult result (λ _. ⊥)
+            (λ why. (why ≡ refusal_of.NoEntry) × (self.new.by ≡ self.old.by)) }
+        ensures spare { self.new.spare ≡ (if is_ok result then self.old.spare - 1 else self.old.spare) }
+        ensures owned { 0 < self.old.spare → IfErr result (λ why. why ≢ refusal_of.NoMemory) }
+    {
+        if !self.by.has_slot_of(key) {
+            return Err(Refusal::NoEntry);
+        }
+        if self.spare.is_empty() {
+            let seat = self.by.pin(key)?;
+            return Ok(Hold { seat });
+        }
+        let (node, token) = self.by.pin_token(key)?;
+        let Some(owner) = self.spare.pop() else {
+            unreachable!()
+        };
+        let seat = owner.seat(key, node, token);
+        Ok(Hold { seat })
+    }
+
+    /// Gives a hold of the same table back, as `Hold::release` does, in one word step, and keeps its owner
+    /// where fewer than 16 are to spare.
+    pub fn release(&mut self, hold: Hold)
+        requires table { hold.table ≡ self.old.by.table }
+        ensures same { self.new.by ≡ self.old.by }
+        ensures kept { self.old.spare < most_spare → self.new.spare ≡ self.old.spare + 1 }
+        ensures full { most_spare ≤ self.old.spare → self.new.spare ≡ self.old.spare }
+    {
+        let Hold { mut seat } = hold;
+        release_seat(&mut seat);
+        let owner = seat.end_to_owner();
+        if self.spare.len() < MOST_SPARE {
+            self.spare.push_reserved(owner);
+        }
+    }
+
+    /// Its own hold. The owners that it had to spare go.
+    pub fn end(self) -> Hold
+        ensures { result ≡ self.by }
+    {
+        let Holds { by, spare: _ } = self;
+        Hold { seat: by }
+    }
+}
