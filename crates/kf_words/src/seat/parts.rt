@@ -94,8 +94,7 @@ impl CallerSeat {
         }
     }
 
-    /// The one way in which a seat ends, and only where its hold was given back: the view says Spent after
-    /// the step of `release_seat` alone.
+    /// Ends the seat, as `end_to_owner`, and its owner goes.
     pub(crate) fn end(self)
         requires { (view_of self).phase ≡ phase_of.Spent }
     {
