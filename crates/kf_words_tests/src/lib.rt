@@ -8,6 +8,8 @@ mod hider_tests;
 #[cfg(test)]
 mod hiding_tests;
 #[cfg(test)]
+mod holds_tests;
+#[cfg(test)]
 mod note_tests;
 #[cfg(test)]
 mod pin_tests;
