@@ -1,16 +1,14 @@
 //! An owner of the table of words, taken from a seat and given to the next.
-ghost use Rattle.std.specs.Prelude.{◌≡◌, ◌*◌, ◌<◌, ◌≤◌, None, [], IfOk};
-ghost use Rattle.std.specs.Arc.{arc_value};
+ghost use Rattle.std.specs.Prelude.{◌≡◌, ◌<◌, None, [], IfOk};
 ghost use Rattle.kf_core.specs.declared.caller.Phase.TheVariants as phase_of;
 ghost use Rattle.kf_words.specs.Callers.{handle_of, view_of};
-ghost use Rattle.kf_words.specs.Layout.{line_words, hold_index};
+ghost use Rattle.kf_words.specs.Layout.{hold_index};
 ghost use Rattle.kf_words.specs.Steps.{caller_of, plain};
 ghost use Rattle.kf_words.specs.Makers.{owned_table};
 ghost use Rattle.kf_words.specs.declared.view.View.TheVariants as seat_of;
 
 use crate::seat::{CallerSeat, Owner};
 use crate::sight::Sight;
-use crate::table::WordTable;
 use atomic_table::Seat;
 use kf_core::{Key, Node};
 use std::alloc::AllocError;
