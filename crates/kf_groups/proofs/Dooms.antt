@@ -1,5 +1,5 @@
 -- A hold of a node is taken, and then the node is doomed, or its doom is refused.
-use Rattle.std.proofs.Common.{◌≡◌, inr, refl, ap, subst, ◌∙◌, true}
+use Rattle.std.proofs.Common.{◌≡◌, inr, refl, ap, subst, ◌∙◌, true, List, [], ◌∷◌}
 use Rattle.std.specs.Prelude.{Option, None, Some, MatchBool, is_some}
 use Rattle.std.specs.Option.{option_map}
 use Rattle.std.proofs.lemmas.Option.{none-some}
@@ -8,11 +8,12 @@ use Rattle.kf_core.specs.declared.key.Key.{Key}
 use Rattle.kf_core.specs.declared.key.Node.{Node}
 use Rattle.kf_core.specs.declared.records.Record.{Record}
 use Rattle.kf_core.specs.declared.refusal.Refusal.{Refusal}
+use Rattle.kf_core.specs.PostOrder.{IsPostOrder}
 use Rattle.kf_core.specs.Tree.{is_linked, record_at}
 use Rattle.kf_tree.specs.Causes.{doom_cause}
 use Rattle.kf_tree.specs.TreeLogs.{TreeLog, IsAccepted}
 use Rattle.kf_shared.specs.Locked.{Locked, IsHoldOfNode, Unchanged}
-use Rattle.kf_shared.specs.Removal.{DoomDone, DoomRefused}
+use Rattle.kf_shared.specs.Removal.{DoomDone, DoomHolds, DoomRefused, keys_of}
 use Rattle.kf_words.specs.Callers.{Handle, TableId}
 use Rattle.kf_words.specs.Nodes.{KeepsNodes, WasPinned}
 use Rattle.kf_groups.specs.TakenBack.{TakeBackRefused}
@@ -55,3 +56,10 @@ module _ (table : TableId) (old held : Locked) (key : Key) (hold : Handle) (same
       (IsAccepted old.state new.state (doom_cause old.state.tree old.state.root key) (Doom key)) (new ≡ held) =
       subst (λ (s : TreeLog). MatchBool (is_linked s.tree key) (IsAccepted s new.state (doom_cause s.tree s.root key) (Doom key)) (new ≡ held)) same here in
       subst (λ b. MatchBool b (IsAccepted old.state new.state (doom_cause old.state.tree old.state.root key) (Doom key)) (new ≡ held)) linked now
+
+  pub ordered : (holds : List Handle) → DoomHolds held.state.tree hold holds → IsPostOrder old.state.tree key (keys_of holds)
+  ordered holds order =
+      let here : DoomHolds old.state.tree hold holds = subst (λ (s : TreeLog). DoomHolds s.tree hold holds) same order in
+      let now : MatchBool (is_linked old.state.tree key) (IsPostOrder old.state.tree key (keys_of holds)) (holds ≡ hold ∷ []) =
+      subst (λ k. MatchBool (is_linked old.state.tree k) (IsPostOrder old.state.tree k (keys_of holds)) (holds ≡ hold ∷ [])) of_node.key_is here in
+      subst (λ b. MatchBool b (IsPostOrder old.state.tree key (keys_of holds)) (holds ≡ hold ∷ [])) linked now

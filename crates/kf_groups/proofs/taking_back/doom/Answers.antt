@@ -1,10 +1,15 @@
-use Rattle.kf_groups.proofs.Dooms.{doom_refused, doomed}
+use Rattle.kf_groups.proofs.Dooms.{doom_refused, doomed, ordered}
 use Rattle.kf_groups.proofs.taking_back.doom.Goals as goal
 
 pub returns-in-Ok-clause-done : goal.returns-in-Ok-clause-done
 returns-in-Ok-clause-done g c =
     doomed g.N.Naming.table c.args.editor.now c.hold.new.self c.args.key c.in_ok-hold.hold
     c.in_ok-hold.ensures.state c.in_ok-hold.ensures.hold c.doom.new.self c.in-Ok.ensures.done
+
+pub returns-in-Ok-clause-ordered : goal.returns-in-Ok-clause-ordered
+returns-in-Ok-clause-ordered g c =
+    ordered g.N.Naming.table c.args.editor.now c.hold.new.self c.args.key c.in_ok-hold.hold
+    c.in_ok-hold.ensures.state c.in_ok-hold.ensures.hold c.in-Ok.holds.items c.in-Ok.ensures.order
 
 pub returns-in-Err-clause-refused : goal.returns-in-Err-clause-refused
 returns-in-Err-clause-refused g c =
