@@ -8,13 +8,14 @@
 //!   `remove_self`.
 //! - `Locked` is the same tree for who has a lock of another kind.
 //! - `SharedTree::with_looks` keeps words for look-ups too: an `Editor` gives a `Looker`, by which a thread
-//!   finds names without the lock (`kf_live`). Other trees store none.
+//!   finds names without the lock (`kf_live`), and takes holds of them (`hold_path`). Other trees store none.
 //!
 //! A caller shows that what it hands in is of this tree (`table`: kept by the types where one name `N` is
 //! used), and that a call that removes itself runs. `running_tree` is the law of words, tree and lock
 //! together.
 #![tactic(auto)]
 
+mod by_path;
 mod doom;
 mod editor;
 mod hide;
@@ -31,6 +32,7 @@ mod remove_by_key;
 mod removing;
 mod tree;
 
+pub use by_path::hold_path;
 pub use editor::Editor;
 pub use laws::running_tree;
 pub use locked::Locked;
