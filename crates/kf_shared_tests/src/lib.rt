@@ -10,6 +10,8 @@ mod expected;
 #[cfg(test)]
 mod fixtures;
 #[cfg(test)]
+mod held_path_tests;
+#[cfg(test)]
 mod hiding_tests;
 #[cfg(test)]
 mod kept_tests;

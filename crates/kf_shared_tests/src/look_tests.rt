@@ -14,7 +14,7 @@ use std::sync::Wait;
 use std::thread::{Threads, join};
 
 /// A tree with places for so many slots, and words for the look-ups of so many.
-fn made_with_looks<R: Abort>(rt: &R, alloc: Global, slots: u32, looks: u32) -> NewTree {
+pub(crate) fn made_with_looks<R: Abort>(rt: &R, alloc: Global, slots: u32, looks: u32) -> NewTree {
     let Some(limits) = Limits::new(slots, 8) else {
         panic!(rt; "no such limits")
     };
@@ -25,7 +25,7 @@ fn made_with_looks<R: Abort>(rt: &R, alloc: Global, slots: u32, looks: u32) -> N
     }
 }
 
-fn looker_of<N: Naming, R: Abort + Wait>(rt: &R, tree: &SharedTree<N>) -> Looker {
+pub(crate) fn looker_of<N: Naming, R: Abort + Wait>(rt: &R, tree: &SharedTree<N>) -> Looker {
     match tree.edit(rt).looker() {
         Ok(looker) => looker,
         Err(_) => panic!(rt; "no looker"),
