@@ -16,6 +16,14 @@ pub(crate) const LEAF: u32 = 63;
 /// The slots of the files.
 pub(crate) const FILES: [u32; 4] = [65, 66, 67, 68];
 
+/// The paths of the files.
+const PATHS: [&[u8]; 4] = [
+    b"/devices/virtual/network/adapter/queues0/streams/monitor/current/a",
+    b"/devices/virtual/network/adapter/queues0/streams/monitor/current/b",
+    b"/devices/virtual/network/adapter/queues0/streams/monitor/current/c",
+    b"/devices/virtual/network/adapter/queues0/streams/monitor/current/d",
+];
+
 /// The directories below one another, by name. All stand in the slots from 1 up.
 const NAMES: [&[u8]; 8] = [
     b"devices", b"virtual", b"network", b"adapter", b"queues0", b"streams", b"monitor", b"current",
@@ -66,6 +74,16 @@ pub(crate) fn key_in(slot: u32) -> Key
         slot,
         generation: 1,
     }
+}
+
+/// The path of the file in a slot; of another slot that of the first.
+pub(crate) fn path_of(slot: u32) -> &'static [u8] {
+    for (file, path) in FILES.iter().zip(PATHS.iter()) {
+        if *file == slot {
+            return path;
+        }
+    }
+    PATHS[0]
 }
 
 /// A hold of the first node of a slot.

@@ -1,8 +1,8 @@
 //! What the parts of the library cost on this machine, in nanoseconds at best: `kf_bench words` tells it of
-//! holds, `kf_bench tree` of look-ups of a path, and `kf_bench files` of opens, closes and reads of files.
-//! `kf_bench wait` has four waiters for a node that is hidden, unused and not marked, for a second: who runs
-//! it counts how often they sleep. With none of these words it does nothing. Where what is measured cannot be
-//! set up it says so, and ends with 1.
+//! calls, `kf_bench tree` of look-ups of a path and of holds of files, and `kf_bench files` of opens, closes
+//! and reads of files. `kf_bench wait` has four waiters for a node that is hidden, unused and not marked, for
+//! a second: who runs it counts how often they sleep. With none of these words it does nothing. Where what is
+//! measured cannot be set up it says so, and ends with 1.
 #![tactic(auto)]
 
 ghost use Rattle.std.specs.Prelude.{◌≡◌, ◌≤◌};
@@ -11,6 +11,7 @@ ghost use Rattle.kf_core.specs.Limits.{most_slots};
 mod clock;
 mod files;
 mod grown;
+mod holds;
 mod looks;
 mod waiters;
 mod words;
@@ -72,7 +73,10 @@ fn run<N: Naming + Send + Sync, R: Threads + Wait + Clock + Print + Sync>(
     grown::grow(rt, &tree)?;
     match part {
         Part::Words => words::tell(rt, alloc, &tree),
-        Part::Tree => Ok(looks::tell(rt, &tree)?),
+        Part::Tree => {
+            looks::tell(rt, &tree)?;
+            Ok(holds::tell(rt, alloc, &tree)?)
+        }
         Part::Files => files::tell(rt, alloc, &tree),
         Part::Wait => waiters::wait(rt, &tree),
     }
