@@ -1,13 +1,11 @@
 -- What reads tell of the words, and of links.
-use Rattle.std.proofs.Common.{◌≡◌, ℕ, ◌+◌, ◌<◌, List, ◌∷◌, get_or, set, length, sym, ap, ◌∙◌, subst, arith, Some, lit<, get_or-set_same, get_or-set_other}
-use mathlib.Core.Logic.{dite}
-use native.Mathlib.Decide.{ℕ_discrete}
+use Rattle.std.proofs.Common.{◌≡◌, ℕ, ◌<◌, List, ◌∷◌, get_or, sym, ap, ◌∙◌, Some, lit<}
 use Rattle.kf_core.specs.declared.key.Key.{Key}
 use Rattle.kf_looks.specs.declared.found.Found.{Found}
 use Rattle.kf_looks.specs.declared.view.Link.{Link}
 use Rattle.kf_looks.specs.declared.view.Role.{Role}
-use Rattle.kf_looks.specs.Links.{child_of}
-use Rattle.kf_looks.specs.Lines.{link_by, link_at, word_at}
+use Rattle.kf_looks.specs.Links.{link, child_of}
+use Rattle.kf_looks.specs.Lines.{link_by, link_at}
 use Rattle.kf_looks.specs.Packed.{key_of, child_by}
 use Rattle.kf_looks.specs.ShortNames.{bytes_of}
 use Rattle.kf_looks.specs.Reading.{Follows, Tells}
@@ -35,13 +33,6 @@ pub tells_on : (a b : Role) (Fact Then : List ℕ → Type 0) → ((content : Li
 tells_on a b Fact Then on ab at reads is = let f = ab at reads is in
     (f.0, f.1, λ content all. let x = f.2 content all in (x.0, on content x.1))
 
--- one word of a line more
-pub line_more : (content words : List ℕ) (line k x : ℕ) → k < length words → ((j : ℕ) → j < k → word_at content line j ≡ get_or words j 0)
-    → word_at content line k ≡ x → (j : ℕ) → j < k + 1 → word_at content line j ≡ get_or (set words k x) j 0
-line_more content words line k x inside before is j few = dite (ℕ_discrete j k)
-    (λ same. subst (λ (z : ℕ). word_at content line z ≡ get_or (set words k x) z 0) (sym same) (is ∙ sym (get_or-set_same words k x 0 inside)))
-    (λ other. before j (omega arith) ∙ sym (get_or-set_other words k j x 0 other))
-
 -- words alike tell the same link
 pub same_link : (f g : ℕ → ℕ) → ((k : ℕ) → k < 8 → f k ≡ g k) → link_by f ≡ link_by g
 same_link f g same = let at = λ (k : ℕ) (few : k < 8). same k few in λ i. record {
@@ -51,13 +42,8 @@ same_link f g same = let at = λ (k : ℕ) (few : k < 8). same k few in λ i. re
 }
 
 -- what a line that was read says of the links
-pub line_says : (slots at : ℕ) (line : List ℕ) (dir : Key) (name : List ℕ) (child : Found) (content : List ℕ)
-    → at < slots → (link_by (λ k. get_or line k 0)).dir ≡ dir → (link_by (λ k. get_or line k 0)).name ≡ name
-    → (link_by (λ k. get_or line k 0)).child ≡ Some child
-    → ((k : ℕ) → k < 8 → word_at content at k ≡ get_or line k 0)
+pub line_says : (slots line : ℕ) (dir : Key) (name : List ℕ) (child : Found) (content : List ℕ)
+    → line < slots → link_at content line ≡ link dir name (Some child)
     → Tells slots (λ links. child_of links dir name ≡ Some child) content
-line_says slots at line dir name child content inside d n c same links says =
-    let e : link_at content at ≡ link_by (λ k. get_or line k 0) = same_link (word_at content at) (λ k. get_or line k 0) same in
-    ap (λ (x : Key). child_of links x name) (sym (ap (λ (l : Link). l.dir) e ∙ d))
-    ∙ (ap (λ (x : List ℕ). child_of links (link_at content at).dir x) (sym (ap (λ (l : Link). l.name) e ∙ n))
-    ∙ says at inside child (ap (λ (l : Link). l.child) e ∙ c))
+line_says slots line dir name child content inside is links says =
+    sym (ap (λ (l : Link). child_of links l.dir l.name) is) ∙ says line inside child (ap (λ (l : Link). l.child) is)

@@ -8,4 +8,5 @@ pub mod Leading
 pub mod Naming
 pub mod Parts
 pub mod Seats
+pub mod Slashes
 pub mod Unpacked

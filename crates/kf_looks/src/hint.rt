@@ -13,7 +13,7 @@ pub(crate) const WAYS: usize = 16;
 
 const HALF: u64 = 4294967296;
 
-const BY_DIR: u64 = 11400714819323198485;
+const BY_NAME: u64 = 11400714819323198485;
 
 const BY_WORD: u64 = 7046029254386353131;
 
@@ -25,30 +25,36 @@ pub(crate) struct Place {
     pub(crate) tag: u64,
 }
 
-fn mixed(hash: u64, word: u64) -> u64 {
-    let all = hash.wrapping_add(word).wrapping_mul(BY_WORD);
+/// What the place of a name rests on, in whatever directory it stands.
+#[inline(always)]
+fn name_hash(name: &ShortName) -> u64 {
+    let last = name.third.wrapping_mul(BY_WORD).wrapping_add(name.second);
+    let all = last
+        .wrapping_mul(BY_WORD)
+        .wrapping_add(name.first)
+        .wrapping_mul(BY_WORD);
     all ^ (all / HALF)
 }
 
 impl Looks {
-    /// Where the hints of a name are.
+    /// Where the hints of a name are, by the slot of its directory. A walk gives the line that the directory's
+    /// own hint told: so it asks for the next hint before that line has come.
+    #[inline(always)]
     pub(crate) fn place(&self, dir: u64, name: &ShortName) -> Place
         ensures first { 8 * self.now.slots + 8 ≤ result.first }
         ensures inside { result.first + 16 ≤ words_for self.now.slots }
         ensures few { result.tag < 4294967296 }
     {
-        let hash = mixed(
-            mixed(mixed(dir.wrapping_mul(BY_DIR), name.first), name.second),
-            name.third,
-        );
+        let hash = name_hash(name).wrapping_add(dir).wrapping_mul(BY_NAME);
         let share = hash / HALF * (3 * self.slots + 1) / HALF;
         Place {
             first: 8 * self.slots as usize + 8 + share as usize,
-            tag: hash % (HALF - 1) + 1,
+            tag: hash % HALF / 2 * 2 + 1,
         }
     }
 
     /// The line of the first hint with the tag.
+    #[inline(always)]
     pub(crate) fn hinted(&self, seat: &mut LookSeat, place: Place) -> Option<usize>
         requires table { seat.old.table_id ≡ self.now.table.shared.table_id }
         requires inside { place.first + 16 ≤ words_for self.now.slots }

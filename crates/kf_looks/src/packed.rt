@@ -9,7 +9,7 @@ use kf_core::{Key, Node};
 const HALF: u64 = 4294967296;
 
 /// The shapes of nodes; 0 is that of none.
-const DIR: u64 = 1;
+pub(crate) const DIR: u64 = 1;
 
 const LINK: u64 = 2;
 

@@ -1,7 +1,7 @@
 //! A reader's single steps on the words.
-ghost use Rattle.std.specs.Prelude.{◌≡◌, ◌+◌, ◌<◌, ◌*◌, [], ℕ, length, slice_index};
-ghost use Rattle.kf_looks.specs.Lines.{words_for, word_at};
-ghost use Rattle.kf_looks.specs.Reading.{IsSameSeat, Follows};
+ghost use Rattle.std.specs.Prelude.{◌≡◌, ◌+◌, ◌<◌, []};
+ghost use Rattle.kf_looks.specs.Lines.{words_for};
+ghost use Rattle.kf_looks.specs.Reading.{IsSameSeat};
 ghost use Rattle.kf_looks.specs.Steps.{Begun, Passed, grown};
 
 use crate::looks::Looks;
@@ -18,6 +18,7 @@ pub struct Looker {
 
 impl Looks {
     /// Loads the version first.
+    #[inline(always)]
     pub(crate) fn begin(&self, seat: &mut LookSeat) -> u64
         requires table { seat.old.table_id ≡ self.now.table.shared.table_id }
         ensures table { seat.new.table_id ≡ seat.old.table_id }
@@ -28,6 +29,7 @@ impl Looks {
     }
 
     /// Loads a word behind the version.
+    #[inline(always)]
     pub(crate) fn word(&self, seat: &mut LookSeat, index: usize) -> u64
         requires table { seat.old.table_id ≡ self.now.table.shared.table_id }
         requires inside { index < words_for self.now.slots }
@@ -38,6 +40,7 @@ impl Looks {
     }
 
     /// Loads the version again. Where it is the one found first, all that was read stood there at once.
+    #[inline(always)]
     pub(crate) fn check(&self, seat: &mut LookSeat) -> u64
         requires table { seat.old.table_id ≡ self.now.table.shared.table_id }
         ensures table { seat.new.table_id ≡ seat.old.table_id }
@@ -45,21 +48,5 @@ impl Looks {
         ensures carried { seat.new.me.1 ≡ seat.old.me.1 }
     {
         self.table.shared.load::<Checks>(seat, 0)
-    }
-
-    /// The eight words of a line.
-    pub(crate) fn line(&self, seat: &mut LookSeat, line: usize) -> [u64; 8]
-        requires table { seat.old.table_id ≡ self.now.table.shared.table_id }
-        requires inside { line < self.now.slots }
-        ensures same { IsSameSeat seat.old seat.new }
-        ensures long { length result ≡ 8 }
-        ensures read { Follows seat.old.me.0.role seat.new.me.0.role
-            (λ content. (k : ℕ) → k < 8 → word_at content line k ≡ slice_index result k) }
-    {
-        let mut words = [0u64; 8];
-        for k in 0..8 {
-            words[k] = self.word(seat, 8 * line + k);
-        }
-        words
     }
 }

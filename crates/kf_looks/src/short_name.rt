@@ -1,5 +1,5 @@
 //! Names of at most 24 bytes, as the words hold them.
-ghost use Rattle.std.specs.Prelude.{◌≡◌, ◌≤◌, ◌<◌, ◌↔◌, List, ℕ, length, IsSome, IfSome, ◌++◌, false};
+ghost use Rattle.std.specs.Prelude.{◌≡◌, ◌+◌, ◌≤◌, ◌<◌, ◌↔◌, List, ℕ, length, take, drop, IsSome, IfSome, ◌++◌, false};
 ghost use Rattle.kf_looks.specs.ShortNames.{bytes_before};
 ghost use Rattle.kf_looks.specs.Lines.{bytes_in};
 ghost use Rattle.kf_core.specs.Paths.{is_empty};
@@ -30,7 +30,70 @@ pub(crate) fn word_of(bytes: &[u8]) -> u64
     word
 }
 
+/// Eight bytes of a text as one word, the first the highest.
+#[inline(always)]
+fn eight_at(text: &[u8], at: usize) -> u64
+    requires inside { at + 8 ≤ length text.now }
+    ensures bytes { (later : List ℕ) → bytes_before 8 result later ≡ take 8 (drop at text.now) ++ later }
+{
+    u64::from_be_bytes([
+        text[at],
+        text[at + 1],
+        text[at + 2],
+        text[at + 3],
+        text[at + 4],
+        text[at + 5],
+        text[at + 6],
+        text[at + 7],
+    ])
+}
+
+/// So many bytes of a text, up to eight, as one word. Where eight are there, all are read at once.
+#[inline(always)]
+fn word_at(text: &[u8], at: usize, count: usize) -> u64
+    requires few { count ≤ 8 }
+    requires inside { at + count ≤ length text.now }
+    ensures bytes { (later : List ℕ) → bytes_before count result later
+        ≡ take count (drop at text.now) ++ later }
+{
+    if count == 0 {
+        return 0;
+    }
+    if text.len() - at < 8 {
+        return word_of(&text[at..at + count]);
+    }
+    eight_at(text, at) >> (64 - 8 * count)
+}
+
 impl ShortName {
+    /// The first so many bytes of a text. None for no byte, and for more than 24.
+    #[inline(always)]
+    pub(crate) fn at_front(text: &[u8], count: usize) -> Option<ShortName>
+        requires inside { count ≤ length text.now }
+        ensures known { IsSome result ↔ ((1 ≤ count) × (count ≤ 24)) }
+        ensures same { IfSome result (λ name. bytes_in name ≡ take count text.now) }
+        ensures named { IfSome result (λ name. is_empty (take count text.now) ≡ false) }
+    {
+        if count == 0 || count > MOST_BYTES {
+            return None;
+        }
+        if count <= 8 {
+            return Some(ShortName {
+                count: count as u64,
+                first: word_at(text, 0, count),
+                second: 0,
+                third: 0,
+            });
+        }
+        let two = min(count, 16);
+        Some(ShortName {
+            count: count as u64,
+            first: word_at(text, 0, 8),
+            second: word_at(text, 8, two - 8),
+            third: word_at(text, two, count - two),
+        })
+    }
+
     /// None for no byte, and for more than 24.
     #[inline(always)]
     pub fn of(bytes: &[u8]) -> Option<ShortName>
@@ -38,16 +101,6 @@ impl ShortName {
         ensures same { IfSome result (λ name. bytes_in name ≡ bytes.now) }
         ensures named { IfSome result (λ name. is_empty bytes.now ≡ false) }
     {
-        if bytes.is_empty() || bytes.len() > MOST_BYTES {
-            return None;
-        }
-        let one = min(bytes.len(), 8);
-        let two = min(bytes.len(), 16);
-        Some(ShortName {
-            count: bytes.len() as u64,
-            first: word_of(&bytes[..one]),
-            second: word_of(&bytes[one..two]),
-            third: word_of(&bytes[two..]),
-        })
+        ShortName::at_front(bytes, bytes.len())
     }
 }

@@ -1,23 +1,47 @@
 //! Look-ups: where a path leads, without the lock.
-ghost use Rattle.std.specs.Prelude.{◌≡◌, ◌<◌, true, false, List, Some, IfSome, slice_index};
+ghost use Rattle.std.specs.Prelude.{◌≡◌, ◌≢◌, ◌<◌, true, false, List, Some, IfSome, slice_index};
 ghost use Rattle.std.specs.List.{list_any, slice_split};
-ghost use Rattle.kf_looks.specs.Lines.{bytes_in, link_by};
-ghost use Rattle.kf_looks.specs.Links.{top, walked, child_of, IsLater};
+ghost use Rattle.kf_looks.specs.Lines.{bytes_in, link_at, link_by};
+ghost use Rattle.kf_looks.specs.Links.{link, top, walked, child_of, IsLater};
 ghost use Rattle.kf_looks.specs.Lookers.{seen};
+ghost use Rattle.kf_looks.specs.Packed.{key_of, found_of};
 ghost use Rattle.kf_core.specs.Paths.{is_slash, is_empty};
 ghost use Rattle.kf_looks.specs.Paths.{led};
 ghost use Rattle.kf_looks.specs.Reading.{IsSameSeat, Follows, Tells, Stands};
 
 use crate::found::{Found, Sight};
 use crate::looks::Looks;
-use crate::packed::{child_in, key_in, key_word};
+use crate::packed::{DIR, child_in, key_in, key_word, node_in};
 use crate::path::first_part;
 use crate::reader::Looker;
 use crate::short_name::ShortName;
 use crate::table::LookSeat;
 use kf_core::{Key, Node};
 
+/// Where a walk is: what the words say of a node, and in which line the node may stand itself.
+#[derive(Clone, Copy)]
+struct Here {
+    line: u64,
+    key: u64,
+    more: u64,
+    shape: u64,
+}
+
+impl Here {
+    /// The node.
+    fn found(self) -> Found
+        requires some { self.shape ≢ 0 }
+        ensures same { result ≡ found_of self.key self.more self.shape }
+    {
+        Found {
+            key: key_in(self.key),
+            node: node_in(self.shape, self.more),
+        }
+    }
+}
+
 /// The child that a line gives this name in this directory.
+#[inline(always)]
 pub(crate) fn child_there(line: &[u64; 8], dir: u64, name: &ShortName) -> Option<Found>
     ensures dir { IfSome result (λ child. slice_index line.now 0 ≡ dir) }
     ensures name { IfSome result (λ child. (link_by (slice_index line.now)).name ≡ bytes_in name.now) }
@@ -35,21 +59,69 @@ pub(crate) fn child_there(line: &[u64; 8], dir: u64, name: &ShortName) -> Option
 }
 
 impl Looks {
-    /// The child of a name in a directory, as the words read say.
-    fn step(&self, seat: &mut LookSeat, dir: Key, name: &ShortName) -> Option<Found>
+    /// What a line says of its child, where it says that the child has this name in this directory.
+    #[inline(always)]
+    fn child_at(&self, seat: &mut LookSeat, line: usize, dir: u64, name: &ShortName) -> Option<Here>
+        requires table { seat.old.table_id ≡ self.now.table.shared.table_id }
+        requires inside { line < self.now.slots }
+        ensures same { IsSameSeat seat.old seat.new }
+        ensures some { IfSome result (λ child. child.shape ≢ 0) }
+        ensures read { IfSome result (λ child. Follows seat.old.me.0.role seat.new.me.0.role
+            (λ content. link_at content line ≡ link (key_of dir) (bytes_in name.now)
+            (Some (found_of child.key child.more child.shape)))) }
+    {
+        let at = 8 * line;
+        let its_dir = self.word(seat, at);
+        if its_dir != dir {
+            return None;
+        }
+        let count = self.word(seat, at + 1);
+        if count != name.count {
+            return None;
+        }
+        let first = self.word(seat, at + 2);
+        if first != name.first {
+            return None;
+        }
+        let second = self.word(seat, at + 3);
+        if second != name.second {
+            return None;
+        }
+        let third = self.word(seat, at + 4);
+        if third != name.third {
+            return None;
+        }
+        let key = self.word(seat, at + 5);
+        let more = self.word(seat, at + 6);
+        let shape = self.word(seat, at + 7);
+        if shape == 0 {
+            return None;
+        }
+        Some(Here {
+            line: line as u64,
+            key,
+            more,
+            shape,
+        })
+    }
+
+    /// The child of a name in a directory, as the words read say. Which line the directory may have is not
+    /// believed.
+    #[inline(always)]
+    fn step(&self, seat: &mut LookSeat, dir: &Here, name: &ShortName) -> Option<Here>
         requires table { seat.old.table_id ≡ self.now.table.shared.table_id }
         requires slots { seat.old.me.0.slots ≡ self.now.slots }
         ensures same { IsSameSeat seat.old seat.new }
+        ensures some { IfSome result (λ child. child.shape ≢ 0) }
         ensures found { IfSome result (λ child. Follows seat.old.me.0.role seat.new.me.0.role
-            (Tells self.now.slots (λ links. child_of links dir (bytes_in name.now) ≡ Some child))) }
+            (Tells self.now.slots (λ links. child_of links (key_of dir.now.key) (bytes_in name.now)
+            ≡ Some (found_of child.key child.more child.shape)))) }
     {
-        let dir_word = key_word(dir);
-        let at = self.hinted(seat, self.place(dir_word, name))?;
-        if at as u64 >= self.slots {
+        let line = self.hinted(seat, self.place(dir.line, name))?;
+        if line as u64 >= self.slots {
             return None;
         }
-        let line = self.line(seat, at);
-        let child = child_there(&line, dir_word, name)?;
+        let child = self.child_at(seat, line, dir.key, name)?;
         Some(child)
     }
 
@@ -63,18 +135,20 @@ impl Looks {
             (Tells self.now.slots
             (λ links. walked links (top from) (slice_split is_slash parts.now) ≡ Some last))) }
     {
-        let mut here = Found {
-            key: from,
-            node: Node::Dir,
+        let mut here = Here {
+            line: from.slot as u64,
+            key: key_word(from),
+            more: 0,
+            shape: DIR,
         };
         let mut rest = Some(parts);
         while let Some(text) = rest {
             let (part, more) = first_part(text);
-            let name = ShortName::of(part)?;
-            here = self.step(seat, here.key, &name)?;
+            let name = ShortName::at_front(text, part.len())?;
+            here = self.step(seat, &here, &name)?;
             rest = more;
         }
-        Some(here)
+        Some(here.found())
     }
 
     /// Where a path leads, as the words read say.

@@ -181,7 +181,7 @@ impl Looks {
         self.fill(seat, 8 * line, &words);
         self.enter(seat, 8 * line + 7, shape);
         let given = shape != 0 && (slot as u64) < self.slots;
-        self.note(seat, self.place(dir_word, name), slot, given);
+        self.note(seat, self.place(dir.slot as u64, name), slot, given);
     }
 
     /// Makes the link that the name has this child.
