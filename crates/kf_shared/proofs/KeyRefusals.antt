@@ -3,6 +3,7 @@ use Rattle.std.proofs.Common.{◌≡◌, ◌⊎◌, inl, inr, ℕ, refl, ap, sym
 use Rattle.std.specs.Prelude.{None, MatchBool, not}
 use Rattle.std.proofs.lemmas.Bool.{MatchBool-at_true, MatchBool-at_false}
 use Rattle.std.proofs.lemmas.Option.{none-some}
+use Rattle.kf_core.specs.declared.command.Command.TheVariants.{Doom}
 use Rattle.kf_core.specs.declared.key.Key.{Key}
 use Rattle.kf_core.specs.declared.refusal.Refusal.{Refusal}
 use Rattle.kf_core.specs.declared.refusal.Refusal.TheVariants.{NoEntry, NoMemory, Access, Busy, Exists, NoDevice, NotDir, IsDir, Invalid, TooManyHolds, NoSpace, NameTooLong}
@@ -11,14 +12,14 @@ use Rattle.kf_core.specs.Keys.{same_key}
 use Rattle.kf_core.specs.PostOrder.{IsPostOrder}
 use Rattle.kf_core.specs.Tree.{Tree, is_linked}
 use Rattle.kf_tree.specs.Causes.{doom_cause}
-use Rattle.kf_tree.specs.TreeLogs.{TreeLog, IsKept}
+use Rattle.kf_tree.specs.TreeLogs.{TreeLog, IsAccepted, IsKept}
 use Rattle.kf_words.specs.declared.view.MasterView.{MasterView}
 use Rattle.kf_words.specs.Callers.{TableId, Handle}
 use Rattle.kf_words.specs.Nodes.{KeepsNodes, PinRefused}
 use Rattle.kf_words.specs.Notes.{history_of}
 use Rattle.kf_shared.specs.Noted.{IsNoted}
 use Rattle.kf_shared.specs.Locked.{Locked, IsTied, IsWhole, HoldRefused}
-use Rattle.kf_shared.specs.Removal.{keys_of, DoomHolds, DoomRefused}
+use Rattle.kf_shared.specs.Removal.{keys_of, DoomDone, DoomHolds, DoomRefused}
 use Rattle.kf_shared.specs.Receipts.{HasBelow, HoldsRefusal, KeyRefused}
 use Rattle.kf_shared.proofs.Ties.{locked, tied_master}
 use Rattle.kf_shared.proofs.Pins.{doom_cause_of_root}
@@ -75,6 +76,15 @@ doom_key_ordered s old mid hold holds key same none between is order =
     let there : DoomHolds old.state.tree hold holds = subst (λ (l : TreeLog). DoomHolds l.tree hold holds) between order in
     MatchBool-at_true _ _ (linked_to_doom old.state.tree old.state.root key cause)
     (subst (λ (k : Key). MatchBool (is_linked old.state.tree k) (IsPostOrder old.state.tree k (keys_of holds)) (holds ≡ hold ∷ [])) is there)
+
+-- the doom of the hold's node was accepted, as one of the key
+pub doom_key_done : (s : TreeLog) (old mid new : Locked) (held key : Key) → s ≡ old.state → doom_cause s.tree s.root key ≡ None → mid.state ≡ old.state → held ≡ key → DoomDone mid new held
+    → IsAccepted old.state new.state (doom_cause old.state.tree old.state.root key) (Doom key)
+doom_key_done s old mid new held key same none between is done =
+    let cause : doom_cause old.state.tree old.state.root key ≡ None = subst (λ (l : TreeLog). doom_cause l.tree l.root key ≡ None) same none in
+    let there : DoomDone (locked old.state mid.master mid.claims) new key =
+    subst (λ k. DoomDone (locked old.state mid.master mid.claims) new k) is (subst (λ (l : TreeLog). DoomDone (locked l mid.master mid.claims) new held) between done) in
+    MatchBool-at_true _ _ (linked_to_doom old.state.tree old.state.root key cause) there
 
 -- the lock keeps what it kept, where the tree and what the Master knows of nodes stayed
 pub whole_kept : (table : TableId) (old new : Locked) → IsWhole table old → new.state ≡ old.state → KeepsNodes old.master new.master → new.claims ≡ old.claims → IsWhole table new

@@ -1,5 +1,5 @@
 -- One note more in the history: the tree, the claims and the stored commands are still those of it.
-use Rattle.std.proofs.Common.{◌≡◌, ◌⊎◌, inl, inr, ℕ, Bool, true, false, List, [], ◌∷◌, ◌++◌, length, refl, sym, ap, ◌∙◌, subst, ⊎_elim, append_assoc, slice_set, replicate}
+use Rattle.std.proofs.Common.{◌≡◌, ◌⊎◌, inl, inr, ℕ, false, List, [], ◌∷◌, ◌++◌, length, refl, sym, ap, ◌∙◌, subst, ⊎_elim, append_assoc, slice_set, replicate}
 use Rattle.std.proofs.lemmas.List.{append-nil}
 use Rattle.std.specs.Prelude.{Option}
 use Rattle.kf_core.specs.declared.key.Key.{Key}
@@ -12,7 +12,7 @@ use Rattle.kf_tree.specs.TreeLogs.{TreeLog, IsAccepted, IsCompacted, IsNew}
 use Rattle.kf_tree.proofs.Opening.{length_after}
 use Rattle.kf_words.specs.declared.note.Note.{Note}
 use Rattle.kf_words.specs.declared.note.Note.TheVariants.{Did, Claimed, Compacted}
-use Rattle.kf_shared.specs.Noted.{commands_of, tree_of, claims_after, claims_from, claims_of, compacts, IsStored, IsStoredSince, IsNoted, last_stored}
+use Rattle.kf_shared.specs.Noted.{commands_of, tree_of, claims_after, claims_from, claims_of, compacts, IsStoredSince, IsNoted, last_stored}
 
 commands_did : (notes : List Note) (c : Command) → commands_of (notes ++ Did c ∷ []) ≡ commands_of notes ++ c ∷ []
 commands_did [] c = refl

@@ -1,7 +1,7 @@
 -- What the lock keeps is tied, and is that of the whole history, after each of its commands and the note of it.
 use Rattle.std.proofs.lemmas.List.{length-append}
 use Rattle.std.proofs.Common.{◌≡◌, ◌≢◌, ℕ, ◌+◌, arith, List, [], ◌∷◌, ◌++◌, length, refl, sym, ap, ◌∙◌, subst, slice_set, true, false, Bool}
-use Rattle.std.specs.Prelude.{Option, IfSome, MatchBool}
+use Rattle.std.specs.Prelude.{Option}
 use Rattle.kf_core.specs.declared.key.Key.{Key}
 use Rattle.kf_core.specs.declared.command.Command.{Command}
 use Rattle.kf_core.specs.declared.refusal.Refusal.{Refusal}
@@ -12,13 +12,13 @@ use Rattle.kf_words.specs.declared.note.Note.{Note}
 use Rattle.kf_words.specs.declared.note.Note.TheVariants.{Did, Claimed, Compacted}
 use Rattle.kf_words.specs.declared.view.MasterView.{MasterView}
 use Rattle.kf_words.specs.Callers.{TableId}
-use Rattle.kf_words.specs.Nodes.{MasterState, KeepsNodes, MayBear}
+use Rattle.kf_words.specs.Nodes.{MasterState, KeepsNodes}
 use Rattle.kf_words.specs.Notes.{history_of}
 use Rattle.kf_shared.specs.Agreement.{HasNodes}
 use Rattle.kf_shared.specs.Noted.{IsNoted, KeepsWords, WasNoted, last_stored}
-use Rattle.kf_shared.specs.Locked.{Locked, IsTied}
+use Rattle.kf_shared.specs.Locked.{IsTied}
 use Rattle.kf_shared.proofs.Notes.{noted_did, noted_claimed, noted_compacted, noted_same, last_stored_more}
-use Rattle.kf_shared.proofs.Ties.{locked, tied_master, tied_state, tied_same}
+use Rattle.kf_shared.proofs.Ties.{locked, tied_master, tied_same}
 
 -- what holds of the lock's value
 abbrev pub Held : TableId → TreeLog → MasterState → List ℕ → Type 0

@@ -2,7 +2,7 @@
 ghost use Rattle.std.specs.Prelude.{◌≡◌, ◌+◌, ◌<◌, IfOk, IfErr, OnOk, OnErr, None, true, false, not, slice_set, length, List};
 ghost use Rattle.kf_core.specs.declared.key.Key.{Key};
 ghost use Rattle.kf_core.specs.declared.command.Command.{Command};
-ghost use Rattle.kf_core.specs.declared.command.Command.TheVariants.{Create, Activate, Unlink, Rename, Hide, Show};
+ghost use Rattle.kf_core.specs.declared.command.Command.TheVariants.{Create, Activate, Unlink, Rename, Hide};
 ghost use Rattle.kf_words.specs.declared.note.Note.TheVariants.{Did, Compacted};
 ghost use Rattle.kf_shared.specs.Noted.{KeepsWords};
 ghost use Rattle.kf_core.specs.declared.refusal.Refusal.TheVariants as refusal_of;

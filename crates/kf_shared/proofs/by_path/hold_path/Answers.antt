@@ -1,4 +1,4 @@
-use Rattle.std.proofs.Common.{◌≡◌, ◌∙◌, ◌++◌, sym, ap, List, append_assoc}
+use Rattle.std.proofs.Common.{◌∙◌, ◌++◌, sym, ap, List, append_assoc}
 use Rattle.kf_looks.specs.Links.{IsLater}
 use Rattle.kf_looks.specs.declared.view.Link.{Link}
 use Rattle.kf_shared.proofs.by_path.hold_path.Goals as goal

@@ -1,5 +1,5 @@
 use Rattle.std.proofs.lemmas.Result.{err_from_is_err_and}
-use Rattle.kf_shared.proofs.KeyRefusals.{hold_key_refused, doom_key_refused, doom_key_ordered, whole_kept}
+use Rattle.kf_shared.proofs.KeyRefusals.{hold_key_refused, doom_key_refused, doom_key_ordered, doom_key_done, whole_kept}
 use Rattle.kf_shared.proofs.editor.Editor.begin_removal_of.Goals as goal
 
 pub returns-in_err-hold-clause-whole : goal.returns-in_err-hold-clause-whole
@@ -17,3 +17,7 @@ returns-in-Err-clause-refused g c = doom_key_refused c.state.result.now c.args.s
 pub returns-in-Ok-clause-ordered : goal.returns-in-Ok-clause-ordered
 returns-in-Ok-clause-ordered g c = doom_key_ordered c.state.result.now c.args.self.now c.hold.new.self c.in_ok-hold.hold c.in-Ok.removing c.args.key c.state.ensures.same c.in_ok-may_doom.ensures.checked
     c.in_ok-hold.ensures.state c.in_ok-hold.ensures.hold.key_is c.in-Ok.ensures.order
+
+pub returns-in-Ok-clause-done : goal.returns-in-Ok-clause-done
+returns-in-Ok-clause-done g c = doom_key_done c.state.result.now c.args.self.now c.hold.new.self c.begin_removal.new.self c.in_ok-hold.hold.key c.args.key c.state.ensures.same c.in_ok-may_doom.ensures.checked
+    c.in_ok-hold.ensures.state c.in_ok-hold.ensures.hold.key_is c.in-Ok.ensures.done

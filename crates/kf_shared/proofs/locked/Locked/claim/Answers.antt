@@ -1,5 +1,3 @@
-use Rattle.std.proofs.Common.{sym, ap, ◌∙◌, subst}
-use Rattle.kf_shared.specs.Noted.{IsNoted}
 use Rattle.kf_shared.proofs.Told.{held_claimed}
 use Rattle.kf_shared.proofs.locked.Locked.claim.Goals as goal
 
