@@ -20,7 +20,7 @@ unchanged s = record {
   tree = refl;
   commands = refl;
   claims = refl;
-  master = record { table = refl; limit = refl; nodes = refl; slots = refl };
+  master = record { table = refl; limit = refl; nodes = refl; slots = refl; history = refl };
 }
 
 -- what is the same is unchanged
