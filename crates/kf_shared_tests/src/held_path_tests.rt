@@ -116,7 +116,13 @@ fn held_to_the_last_place<N: Naming, R: Abort + Wait>(rt: &R, alloc: Global, new
     let mut by = maker(rt, alloc, &tree);
     let file = add(rt, &tree, b"/f", FILE, true);
     for _ in 0..3 {
-        let [a, b, c, d, e, f, g] = [(); 7].map(|()| held(rt, &mut looker, &mut by, b"/f"));
+        let a = held(rt, &mut looker, &mut by, b"/f");
+        let b = held(rt, &mut looker, &mut by, b"/f");
+        let c = held(rt, &mut looker, &mut by, b"/f");
+        let d = held(rt, &mut looker, &mut by, b"/f");
+        let e = held(rt, &mut looker, &mut by, b"/f");
+        let f = held(rt, &mut looker, &mut by, b"/f");
+        let g = held(rt, &mut looker, &mut by, b"/f");
         is_sent(rt, &mut looker, &mut by, b"/f");
         hold(rt, &tree, file).release();
         let last = hold(rt, &tree, file);
