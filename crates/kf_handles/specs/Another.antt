@@ -3,7 +3,7 @@ use Rattle.std.specs.Prelude.{◌≡◌, ℤ, negsuc}
 use Rattle.kf_core.specs.declared.refusal.Refusal.{Refusal}
 use Rattle.kf_words.specs.Another.{AnotherRefused, IsAnother, Missed, StaysAs, WasCountedFor}
 use Rattle.kf_words.specs.Callers.{Handle, IsSameSeat, seat_view}
-use Rattle.kf_words.specs.TableSteps.{misses}
+use Rattle.kf_words.specs.declared.sight.StepKind.TheVariants.{Misses as misses}
 use Rattle.kf_handles.specs.declared.object.Seat.{Seat}
 use Rattle.kf_handles.specs.declared.object.Seat.TheVariants as seat
 use Rattle.kf_handles.specs.LookUps.{error_in_c}
