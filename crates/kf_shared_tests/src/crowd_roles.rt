@@ -1,10 +1,9 @@
-//! What each of a crowd does: one who calls, one who creates, one who hides and shows, one who moves, links
-//! and compacts.
+//! What each of a crowd does: one who calls, one who creates, one who hides and shows.
 ghost use Rattle.std.specs.Prelude.{◌<◌};
 
 use crate::fixtures::FILE;
-use crate::thread_fixtures::{Held, LOOKS, held_by, hold_of, put_back, tried};
-use kf_core::{Key, Node, Refusal};
+use crate::thread_fixtures::{Held, LOOKS, held_by, hold_of, is_taken, put_back, tried};
+use kf_core::{Key, Refusal};
 use kf_shared::{Naming, SharedTree};
 use kf_words::Hold;
 use std::process::Abort;
@@ -149,49 +148,6 @@ pub(crate) fn end_hider<N: Naming, R: Abort>(rt: &R, hider: Hider<N>) {
         turns: _,
         over,
     } = hider;
-    if let Some(held) = held {
-        let Held { hold, name: _ } = held;
-        hold.release();
-        panic!(rt; "it hid to the end");
-    }
+    is_taken(rt, held);
     assert_eq!(rt; over, Some(Refusal::NoEntry));
-}
-
-// ---- one who moves, links, activates and compacts
-
-/// A file, and the two directories between which it is moved.
-#[derive(Drop)]
-pub(crate) struct Changer {
-    pub(crate) file: Key,
-    pub(crate) dirs: (Key, Key),
-}
-
-/// Moves the file to the other directory, links to it, and compacts. False where it or a directory is no
-/// longer live.
-fn changes_once<N: Naming, R: Wait>(
-    rt: &R,
-    tree: &SharedTree<N>,
-    changer: &Changer,
-    turn: u32,
-) -> bool {
-    let file = changer.file;
-    let (first, second) = changer.dirs;
-    let mut editor = tree.edit(rt);
-    let dir = if turn % 2 == 0 { second } else { first };
-    if editor.rename(file, dir, b"moved") == Err(Refusal::NoEntry) {
-        return false;
-    }
-    let _ = editor.create(second, b"link", Node::Link { target: file }, false);
-    let _ = editor.activate(second);
-    let _ = editor.compact();
-    true
-}
-
-/// Moves the file to and fro, until it or a directory is no longer live.
-pub(crate) fn changes<N: Naming, R: Wait>(rt: &R, tree: &SharedTree<N>, changer: &Changer) {
-    for turn in 0..100_000u32 {
-        if !changes_once(rt, tree, changer, turn) {
-            return;
-        }
-    }
 }

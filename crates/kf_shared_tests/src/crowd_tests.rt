@@ -1,11 +1,11 @@
-//! Removals, calls, hidings and creations at once, and what they leave behind: a bare tree, one Unlink for
-//! each key that was created, and slots that are free again.
+//! Removals, calls, hidings and creations at once, and what they leave behind: a bare tree, and slots that
+//! are free again.
 ghost use Rattle.std.specs.Prelude.{◌≡◌};
 
-use crate::crowd_roles::{Changer, Hider, calls, changes, creates, end_hider, hider_of, hides};
+use crate::crowd_roles::{Hider, calls, creates, end_hider, hider_of, hides};
 use crate::expected::{bare, compacts, stored};
-use crate::fixtures::{FILE, add, hold, made, turned_away};
-use crate::left_behind::{each_left_once, every_slot_is_free};
+use crate::fixtures::{FILE, add, commands, hold, made, turned_away};
+use crate::left_behind::every_slot_is_free;
 use crate::thread_fixtures::{
     Removal, SelfRemoval, receipts, removal_of, run, run_self, self_ended, self_removal_of,
 };
@@ -19,15 +19,6 @@ use std::sync::Wait;
 use std::sync::atomic::{AtomicU64, Ordering};
 use std::thread::{Threads, for_each_mut};
 
-/// Who there is beside a caller and a creator.
-#[derive(Clone, Copy, PartialEq, Eq)]
-enum Crowd {
-    Removers,
-    RemoversAndHiders,
-    RemoversAndChanger,
-    SelfRemovers,
-}
-
 /// What one thread does.
 enum Role<N: Naming> {
     Removes(Removal<N>),
@@ -35,7 +26,6 @@ enum Role<N: Naming> {
     Calls(Key, Option<Hold>),
     Creates(Key),
     Hides(Hider<N>),
-    Changes(Changer),
 }
 
 // ---- all of them
@@ -50,7 +40,6 @@ fn act<N: Naming, R: Wait>(rt: &R, tree: &SharedTree<N>, role: &mut Role<N>, ans
         Role::Calls(key, place) => calls(rt, tree, *key, place),
         Role::Creates(dir) => creates(rt, tree, *dir),
         Role::Hides(hider) => hides(rt, tree, hider),
-        Role::Changes(changer) => changes(rt, tree, changer),
     }
 }
 
@@ -73,7 +62,7 @@ fn end<N: Naming, R: Abort>(rt: &R, role: Role<N>) {
         Role::RemovesItself(removal) => end_self_removal(rt, removal),
         Role::Calls(_, Some(hold)) => turned_away(rt, hold).release(),
         Role::Calls(_, None) => panic!(rt; "the hold is lost"),
-        Role::Creates(_) | Role::Changes(_) => {}
+        Role::Creates(_) => {}
         Role::Hides(hider) => end_hider(rt, hider),
     }
 }
@@ -89,10 +78,10 @@ fn add_remover<N: Naming, R: Abort + Wait>(
     rt: &R,
     tree: &SharedTree<N>,
     roles: &mut Vec<Role<N>>,
-    crowd: Crowd,
+    by_themselves: bool,
     key: Key,
 ) {
-    let role = if crowd == Crowd::SelfRemovers {
+    let role = if by_themselves {
         Role::RemovesItself(self_removal_of(rt, tree, key))
     } else {
         Role::Removes(removal_of(rt, tree, key))
@@ -119,40 +108,21 @@ fn branches_made<N: Naming, R: Abort + Wait>(rt: &R, tree: &SharedTree<N>) -> Br
     Branches { p, a, b, c, x }
 }
 
-fn add_those_beside<N: Naming, R: Abort + Wait>(
-    rt: &R,
-    tree: &SharedTree<N>,
-    roles: &mut Vec<Role<N>>,
-    crowd: Crowd,
-    at: Branches,
-) {
-    if crowd == Crowd::RemoversAndHiders {
-        add_role(rt, roles, Role::Hides(hider_of(rt, tree, at.x)));
-        add_role(rt, roles, Role::Hides(hider_of(rt, tree, at.x)));
-    }
-    if crowd == Crowd::RemoversAndChanger {
-        let changer = Changer {
-            file: at.x,
-            dirs: (at.a, at.c),
-        };
-        add_role(rt, roles, Role::Changes(changer));
-    }
-}
-
 fn add_removers<N: Naming, R: Abort + Wait>(
     rt: &R,
     tree: &SharedTree<N>,
     roles: &mut Vec<Role<N>>,
-    crowd: Crowd,
+    by_themselves: bool,
     at: Branches,
 ) {
-    add_remover(rt, tree, roles, crowd, at.p);
-    add_remover(rt, tree, roles, crowd, at.a);
-    add_remover(rt, tree, roles, crowd, at.b);
-    add_remover(rt, tree, roles, crowd, at.c);
+    add_remover(rt, tree, roles, by_themselves, at.p);
+    add_remover(rt, tree, roles, by_themselves, at.a);
+    add_remover(rt, tree, roles, by_themselves, at.b);
+    add_remover(rt, tree, roles, by_themselves, at.c);
 }
 
-fn add_caller_and_creator<N: Naming, R: Abort + Wait>(
+/// One who calls, one who creates, and two who hide.
+fn add_those_beside<N: Naming, R: Abort + Wait>(
     rt: &R,
     tree: &SharedTree<N>,
     roles: &mut Vec<Role<N>>,
@@ -161,6 +131,8 @@ fn add_caller_and_creator<N: Naming, R: Abort + Wait>(
     let caller = Role::Calls(at.x, Some(hold(rt, tree, at.x)));
     add_role(rt, roles, caller);
     add_role(rt, roles, Role::Creates(at.a));
+    add_role(rt, roles, Role::Hides(hider_of(rt, tree, at.x)));
+    add_role(rt, roles, Role::Hides(hider_of(rt, tree, at.x)));
 }
 
 /// All who are there, over a tree that is made for them.
@@ -168,13 +140,12 @@ fn gathered<N: Naming, R: Abort + Wait>(
     rt: &R,
     alloc: Global,
     tree: &SharedTree<N>,
-    crowd: Crowd,
+    by_themselves: bool,
 ) -> Vec<Role<N>> {
     let at = branches_made(rt, tree);
     let mut roles = Vec::new(alloc);
-    add_removers(rt, tree, &mut roles, crowd, at);
-    add_caller_and_creator(rt, tree, &mut roles, at);
-    add_those_beside(rt, tree, &mut roles, crowd, at);
+    add_removers(rt, tree, &mut roles, by_themselves, at);
+    add_those_beside(rt, tree, &mut roles, at);
     roles
 }
 
@@ -207,16 +178,14 @@ fn crowd_once<N: Naming + Send + Sync, R: Abort + Threads + Wait + Sync>(
     rt: &R,
     alloc: Global,
     tree: &SharedTree<N>,
-    crowd: Crowd,
+    by_themselves: bool,
 ) {
-    let mut roles = gathered(rt, alloc, tree, crowd);
+    let mut roles = gathered(rt, alloc, tree, by_themselves);
     all_act(rt, tree, &mut roles);
     end_all(rt, roles);
     bare(rt, tree);
     every_slot_is_free(rt, tree);
-    if crowd != Crowd::RemoversAndChanger {
-        assert!(rt; each_left_once(rt, tree) >= 20);
-    }
+    assert!(rt; commands(rt, tree) >= 42);
     compacts(rt, tree);
     stored(rt, tree, 0);
 }
@@ -225,26 +194,20 @@ fn crowds<N: Naming + Send + Sync, R: Abort + Threads + Wait + Sync>(
     rt: &R,
     alloc: Global,
     new: NewTree,
-    crowd: Crowd,
+    by_themselves: bool,
 )
     requires { new.master.table ≡ N.table }
 {
     let tree = new.named::<N>();
     for _ in 0..20 {
-        crowd_once(rt, alloc, &tree, crowd);
+        crowd_once(rt, alloc, &tree, by_themselves);
     }
 }
 
 #[test]
 fn crowds_leave_a_bare_tree(rt: HostRuntime) {
-    let all = [
-        Crowd::Removers,
-        Crowd::RemoversAndHiders,
-        Crowd::RemoversAndChanger,
-        Crowd::SelfRemovers,
-    ];
-    for crowd in all {
+    for by_themselves in [false, true] {
         let new = made(&rt, rt.alloc(), 16, 16, 0);
-        crowds::<Brand, _>(&rt, rt.alloc(), new, crowd);
+        crowds::<Brand, _>(&rt, rt.alloc(), new, by_themselves);
     }
 }

@@ -5,7 +5,7 @@ ghost use Rattle.std.specs.Prelude.{◌≡◌};
 use crate::fixtures::{commands, hold, is_bare, is_live, key_at, removed, told};
 use kf_core::{Key, Phase, Refusal};
 use kf_shared::{Naming, SharedTree};
-use kf_words::{Drained, Hold, Parted};
+use kf_words::{Hold, Parted};
 use std::process::Abort;
 use std::sync::Wait;
 
@@ -21,10 +21,6 @@ pub(crate) fn bare<N: Naming, R: Abort + Wait>(rt: &R, tree: &SharedTree<N>) {
 
 pub(crate) fn live<N: Naming, R: Abort + Wait>(rt: &R, tree: &SharedTree<N>, key: Key) {
     assert!(rt; is_live(rt, tree, key));
-}
-
-pub(crate) fn not_live<N: Naming, R: Abort + Wait>(rt: &R, tree: &SharedTree<N>, key: Key) {
-    assert!(rt; !is_live(rt, tree, key));
 }
 
 /// The key is of this slot and generation.
@@ -83,19 +79,6 @@ pub(crate) fn finishes<N: Naming, R: Abort + Wait>(
     let parted = tree.finish(rt, hold);
     same_key(rt, parted.key(), key);
     parted.release();
-}
-
-/// What an unlink answers.
-pub(crate) fn unlinks<N: Naming, R: Abort + Wait>(
-    rt: &R,
-    tree: &SharedTree<N>,
-    drained: &Drained,
-    wanted: Result<bool, Refusal>,
-)
-    requires { drained.now.table ≡ N.table }
-{
-    let answer = tree.edit(rt).unlink(drained);
-    assert_eq!(rt; answer, wanted);
 }
 
 /// There are as many receipts as asked. They are released.

@@ -71,13 +71,6 @@ pub(crate) fn is_doomed<N: Naming, R: Wait>(rt: &R, tree: &SharedTree<N>, key: K
     }
 }
 
-pub(crate) fn is_hidden<N: Naming, R: Wait>(rt: &R, tree: &SharedTree<N>, key: Key) -> bool {
-    match tree.read(rt).state().stat(key) {
-        Ok(stat) => stat.hidden,
-        Err(_) => false,
-    }
-}
-
 pub(crate) fn is_linked<N: Naming, R: Wait>(rt: &R, tree: &SharedTree<N>, key: Key) -> bool {
     tree.read(rt).state().stat(key).is_ok()
 }
@@ -124,11 +117,7 @@ pub(crate) fn no_slot<N: Naming, R: Abort + Wait>(rt: &R, tree: &SharedTree<N>) 
     assert_eq!(rt; beyond, Err(Refusal::NoSpace));
 }
 
-pub(crate) fn doom<N: Naming, R: Abort + Wait>(
-    rt: &R,
-    tree: &SharedTree<N>,
-    hold: Hold,
-) -> Vec<Hold>
+fn doom<N: Naming, R: Abort + Wait>(rt: &R, tree: &SharedTree<N>, hold: Hold) -> Vec<Hold>
     requires { hold.table ≡ N.table }
     ensures { AreOf N.table result.items }
 {
@@ -212,16 +201,6 @@ pub(crate) fn look<R: Abort>(rt: &R, hold: Hold) -> Drained
     }
 }
 
-pub(crate) fn part<R: Abort>(rt: &R, drained: Drained) {
-    match drained.parted() {
-        Ok(parted) => parted.release(),
-        Err(back) => {
-            back.release();
-            panic!(rt; "an unlinked node looked linked")
-        }
-    }
-}
-
 /// The receipts are of these keys, in this order, and are released.
 pub(crate) fn told<R: Abort>(rt: &R, mut receipts: Vec<Parted>, keys: &[Key]) {
     for key in keys.iter().rev() {
@@ -251,21 +230,6 @@ pub(crate) fn removed<N: Naming, R: Abort + Wait>(
             panic!(rt; "not removed")
         }
     }
-}
-
-/// A receipt of each hold, in their order.
-pub(crate) fn finished<N: Naming, R: Abort + Wait>(
-    rt: &R,
-    alloc: Global,
-    tree: &SharedTree<N>,
-    holds: Vec<Hold>,
-) -> Vec<Parted>
-    requires { AreOf N.table holds.items }
-{
-    let Ok(receipts) = Vec::with_capacity(alloc, holds.len()) else {
-        panic!(rt; "no memory")
-    };
-    tree.finish_each(rt, holds, receipts)
 }
 
 /// The removal is refused, and nothing is stored.
@@ -304,29 +268,6 @@ pub(crate) fn hidden<N: Naming, R: Abort + Wait>(rt: &R, tree: &SharedTree<N>, h
             panic!(rt; "not hidden")
         }
     }
-}
-
-/// The hiding is refused, and nothing is stored.
-pub(crate) fn not_hidden<N: Naming, R: Abort + Wait>(
-    rt: &R,
-    tree: &SharedTree<N>,
-    hold: Hold,
-    why: Refusal,
-)
-    requires { hold.table ≡ N.table }
-{
-    let before = commands(rt, tree);
-    match tree.hide(rt, hold) {
-        Ok(hidden) => {
-            hidden.show().release();
-            panic!(rt; "a hiding that should be refused")
-        }
-        Err((hold, refusal)) => {
-            same_refusal(rt, refusal, why);
-            hold.release();
-        }
-    }
-    stored(rt, tree, before);
 }
 
 /// The call removes its own node, as the first.

@@ -1,9 +1,8 @@
-//! Holds of what paths name, without the tree's lock: after each command, up to the last place of a slot, and
-//! beside an owner in threads.
+//! Holds of what paths name, without the tree's lock: after each command, and beside an owner in a thread.
 ghost use Rattle.std.specs.Prelude.{◌≡◌};
 
 use crate::expected::{activated, compacts, leaves, renamed, same_key};
-use crate::fixtures::{FILE, add, hidden, hold};
+use crate::fixtures::{FILE, add, enter, hidden, hold};
 use crate::look_tests::{looker_of, made_with_looks};
 use kf_core::{Key, Node};
 use kf_live::Looker;
@@ -34,24 +33,13 @@ fn held<R: Abort>(rt: &R, looker: &mut Looker, by: &mut Holds, path: &[u8]) -> H
     }
 }
 
-/// The hold lets its caller in; both are given back.
-fn enters<R: Abort>(rt: &R, held: Hold) {
-    match held.enter() {
-        Ok(call) => call.leave().release(),
-        Err(back) => {
-            back.release();
-            panic!(rt; "a live node refused a try")
-        }
-    }
-}
-
 /// The path gives a hold of the node, each time.
 fn holds<R: Abort>(rt: &R, looker: &mut Looker, by: &mut Holds, path: &[u8], key: Key) {
     for _ in 0..3 {
         let held = held(rt, looker, by, path);
         same_key(rt, held.key(), key);
         assert_eq!(rt; held.node(), FILE);
-        enters(rt, held);
+        enter(rt, held).leave().release();
     }
 }
 
@@ -105,41 +93,6 @@ fn held_after_each_command<N: Naming, R: Abort + Wait>(rt: &R, alloc: Global, ne
     by.end().release();
 }
 
-// ---- up to the last place of a slot
-
-/// Seven of its eight places are taken so, and the last one under the lock.
-fn held_to_the_last_place<N: Naming, R: Abort + Wait>(rt: &R, alloc: Global, new: NewTree)
-    requires { new.master.table ≡ N.table }
-{
-    let tree = new.named::<N>();
-    let mut looker = looker_of(rt, &tree);
-    let mut by = maker(rt, alloc, &tree);
-    let file = add(rt, &tree, b"/f", FILE, true);
-    for _ in 0..3 {
-        let a = held(rt, &mut looker, &mut by, b"/f");
-        let b = held(rt, &mut looker, &mut by, b"/f");
-        let c = held(rt, &mut looker, &mut by, b"/f");
-        let d = held(rt, &mut looker, &mut by, b"/f");
-        let e = held(rt, &mut looker, &mut by, b"/f");
-        let f = held(rt, &mut looker, &mut by, b"/f");
-        let g = held(rt, &mut looker, &mut by, b"/f");
-        is_sent(rt, &mut looker, &mut by, b"/f");
-        hold(rt, &tree, file).release();
-        let last = hold(rt, &tree, file);
-        is_sent(rt, &mut looker, &mut by, b"/f");
-        last.release();
-        enters(rt, a);
-        enters(rt, b);
-        enters(rt, c);
-        enters(rt, d);
-        enters(rt, e);
-        enters(rt, f);
-        enters(rt, g);
-        holds(rt, &mut looker, &mut by, b"/f", file);
-    }
-    by.end().release();
-}
-
 // ---- beside an owner who changes the tree
 
 fn file_of(tag: u64) -> Node {
@@ -181,6 +134,21 @@ fn keep_opening(looker: &mut Looker, by: &mut Holds, last: u64) -> bool {
     false
 }
 
+fn open_beside<N: Naming + Send + Sync, R: Abort + Threads + Wait + Sync>(
+    rt: &R,
+    tree: &SharedTree<N>,
+    looker: &mut Looker,
+    by: &mut Holds,
+    last: u64,
+) {
+    let ((), opened) = join(
+        rt,
+        || keep_changing(rt, tree, last),
+        || keep_opening(looker, by, last),
+    );
+    assert!(rt; opened);
+}
+
 fn opened_beside_the_owner<N: Naming + Send + Sync, R: Abort + Threads + Wait + Sync>(
     rt: &R,
     alloc: Global,
@@ -191,26 +159,15 @@ fn opened_beside_the_owner<N: Naming + Send + Sync, R: Abort + Threads + Wait + 
 {
     let tree = new.named::<N>();
     let _dir = add(rt, &tree, b"/d", Node::Dir, true);
-    let (mut one, mut by_one) = (looker_of(rt, &tree), maker(rt, alloc, &tree));
-    let (mut other, mut by_other) = (looker_of(rt, &tree), maker(rt, alloc, &tree));
-    let ((), (first, second)) = join(
-        rt,
-        || keep_changing(rt, &tree, last),
-        || join(
-            rt,
-            || keep_opening(&mut one, &mut by_one, last),
-            || keep_opening(&mut other, &mut by_other, last),
-        ),
-    );
-    assert!(rt; first && second);
-    by_one.end().release();
-    by_other.end().release();
+    let mut looker = looker_of(rt, &tree);
+    let mut by = maker(rt, alloc, &tree);
+    open_beside(rt, &tree, &mut looker, &mut by, last);
+    by.end().release();
 }
 
 #[test]
 fn holds_of_paths(rt: HostRuntime) {
     held_after_each_command::<Brand, _>(&rt, rt.alloc(), made_with_looks(&rt, rt.alloc(), 4, 4));
-    held_to_the_last_place::<Brand, _>(&rt, rt.alloc(), made_with_looks(&rt, rt.alloc(), 4, 4));
 }
 
 #[test]

@@ -14,10 +14,6 @@ mod held_path_tests;
 #[cfg(test)]
 mod hiding_tests;
 #[cfg(test)]
-mod kept_tests;
-#[cfg(test)]
-mod large_tests;
-#[cfg(test)]
 mod left_behind;
 #[cfg(test)]
 mod look_tests;

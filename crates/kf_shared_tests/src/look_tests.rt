@@ -1,9 +1,8 @@
-//! Look-ups beside the tree's lock: after each command, beside an owner in threads, and where there are no
-//! words.
+//! Look-ups beside the tree's lock: after each command, and beside an owner in threads.
 ghost use Rattle.std.specs.Prelude.{◌≡◌};
 
 use crate::expected::{activated, compacts, is_at, leaves, renamed, same_key};
-use crate::fixtures::{FILE, add, hidden, hold, made, removed, told};
+use crate::fixtures::{FILE, add, hidden, hold, removed, told};
 use kf_core::{Key, Limits, MOST_SLOTS, Node};
 use kf_live::Looker;
 use kf_shared::{Naming, NewTree, SharedTree};
@@ -112,27 +111,10 @@ fn seen_after_each_command<N: Naming, R: Abort + Wait>(rt: &R, new: NewTree)
     }
 }
 
-// ---- as many lookers as are asked for
-
 fn another<R: Abort>(rt: &R, looker: &mut Looker) -> Looker {
     match looker.another() {
         Ok(other) => other,
         Err(_) => panic!(rt; "no other looker"),
-    }
-}
-
-fn each_looker_finds<N: Naming, R: Abort + Wait>(rt: &R, new: NewTree)
-    requires { new.master.table ≡ N.table }
-{
-    let tree = new.named::<N>();
-    let key = add(rt, &tree, b"/f", FILE, true);
-    for _ in 0..3 {
-        let mut looker = looker_of(rt, &tree);
-        let mut other = another(rt, &mut looker);
-        let mut last = another(rt, &mut other);
-        finds(rt, &mut last, b"/f", key);
-        finds(rt, &mut other, b"/f", key);
-        finds(rt, &mut looker, b"/f", key);
     }
 }
 
@@ -147,26 +129,6 @@ fn some_have_words<N: Naming, R: Abort + Wait>(rt: &R, new: NewTree)
     let mut looker = looker_of(rt, &tree);
     finds(rt, &mut looker, b"/first", first);
     is_sent(rt, &mut looker, b"/second");
-}
-
-/// Where there are no words, each look-up is sent to the lock.
-fn none_have_words<N: Naming, R: Abort + Wait>(rt: &R, new: NewTree)
-    requires { new.master.table ≡ N.table }
-{
-    let tree = new.named::<N>();
-    let dir = add(rt, &tree, b"/d", Node::Dir, true);
-    let mut looker = looker_of(rt, &tree);
-    assert_eq!(rt; looker.slots(), 0);
-    is_sent(rt, &mut looker, b"/");
-    is_sent(rt, &mut looker, b"/d");
-    let file = add(rt, &tree, b"/d/f", FILE, true);
-    renamed(rt, &tree, file, dir, b"g");
-    is_sent(rt, &mut looker, b"/d/g");
-    let token = hidden(rt, &tree, hold(rt, &tree, file));
-    tree.show(rt, token).release();
-    is_sent(rt, &mut looker, b"/d/g");
-    told(rt, removed(rt, &tree, hold(rt, &tree, dir)), &[file, dir]);
-    is_sent(rt, &mut looker, b"/d");
 }
 
 // ---- beside an owner who changes the tree
@@ -235,20 +197,7 @@ fn looked_up_beside_the_owner<N: Naming + Send + Sync, R: Abort + Threads + Wait
 #[test]
 fn look_ups_without_the_lock(rt: HostRuntime) {
     seen_after_each_command::<Brand, _>(&rt, made_with_looks(&rt, rt.alloc(), 4, 4));
-    each_looker_finds::<Brand, _>(&rt, made_with_looks(&rt, rt.alloc(), 4, 4));
     some_have_words::<Brand, _>(&rt, made_with_looks(&rt, rt.alloc(), 4, 2));
-}
-
-#[test]
-fn look_ups_without_words(rt: HostRuntime) {
-    for asked in [false, true] {
-        let new = if asked {
-            made_with_looks(&rt, rt.alloc(), 4, 0)
-        } else {
-            made(&rt, rt.alloc(), 4, 8, 0)
-        };
-        none_have_words::<Brand, _>(&rt, new);
-    }
 }
 
 #[test]

@@ -1,20 +1,16 @@
-//! Who looks beside those who change the tree, and what needs no lock.
+//! Two who read at once, and a self-removal that restores its call under the lock.
 ghost use Rattle.std.specs.Prelude.{◌≡◌};
 
-use crate::expected::bare;
-use crate::fixtures::{FILE, add, enter, hold, is_linked, made, told};
-use crate::thread_fixtures::{
-    LOOKS, Removal, SelfRemoval, first_of, receipts, removal_of, run, run_self, self_removal_of,
-    wait_for,
-};
-use kf_core::{Key, Node, Refusal};
+use crate::fixtures::{FILE, add, hold, is_linked, made};
+use crate::thread_fixtures::{LOOKS, SelfRemoval, first_of, run_self, self_removal_of, wait_for};
+use kf_core::Key;
 use kf_shared::{Naming, NewTree, SharedTree};
 use kf_words::Hold;
 use std::marker::Brand;
 use std::process::Abort;
 use std::sync::Wait;
 use std::sync::atomic::{AtomicU64, Ordering};
-use std::thread::{self, Threads, for_each_mut, join};
+use std::thread::{self, Threads, join};
 use std::time::{Clock, Duration};
 
 // ---- two who read at once
@@ -40,87 +36,6 @@ fn read_side_by_side<N: Naming + Send + Sync, R: Abort + Threads + Wait + Sync>(
         || meet_reading(rt, &tree, &inside),
     );
     assert!(rt; one && other, "each has the tree while the other has it");
-}
-
-// ---- a file that is used while the lock is held
-
-fn used_under<N: Naming, R: Abort + Wait>(rt: &R, tree: &SharedTree<N>, other: Hold) {
-    let editor = tree.edit(rt);
-    enter(rt, other).leave().release();
-    assert_eq!(rt; editor.state().commands().len(), 2);
-}
-
-fn used_beside_an_editor<N: Naming, R: Abort + Wait>(rt: &R, new: NewTree)
-    requires { new.master.table ≡ N.table }
-{
-    let tree = new.named::<N>();
-    add(rt, &tree, b"/a", FILE, true);
-    let b = add(rt, &tree, b"/b", FILE, true);
-    used_under(rt, &tree, hold(rt, &tree, b));
-}
-
-// ---- look-ups beside a removal
-
-/// Looks a path up until it is not found. True where each look-up found the node, and the last nothing.
-fn looks_until_gone<N: Naming, R: Wait>(rt: &R, tree: &SharedTree<N>, key: Key) -> bool {
-    for _ in 0..LOOKS {
-        let found = tree.read(rt).state().lookup(b"/d/f");
-        if found != Ok(key) {
-            let again = tree.read(rt).state().lookup(b"/d/f");
-            return found == Err(Refusal::NoEntry) && again == found;
-        }
-    }
-    false
-}
-
-fn two_look<N: Naming + Send + Sync, R: Threads + Wait + Sync>(
-    rt: &R,
-    tree: &SharedTree<N>,
-    file: Key,
-    seen: &mut [bool; 2],
-) {
-    for_each_mut(
-        rt,
-        seen,
-        2,
-        &|_, place| *place = looks_until_gone(rt, tree, file),
-    );
-}
-
-fn looked_at_beside<N: Naming + Send + Sync, R: Threads + Wait + Sync>(
-    rt: &R,
-    tree: &SharedTree<N>,
-    file: Key,
-    seen: &mut [bool; 2],
-    removal: &mut Removal<N>,
-) {
-    let answered = AtomicU64::new(0);
-    join(
-        rt,
-        || two_look(rt, tree, file, seen),
-        || run(rt, tree, removal, &answered),
-    );
-}
-
-fn both_saw<R: Abort>(rt: &R, seen: [bool; 2]) {
-    assert_eq!(rt; seen, [true, true]);
-}
-
-fn looked_up_while_removed<N: Naming + Send + Sync, R: Abort + Threads + Wait + Sync>(
-    rt: &R,
-    new: NewTree,
-)
-    requires { new.master.table ≡ N.table }
-{
-    let tree = new.named::<N>();
-    let dir = add(rt, &tree, b"/d", Node::Dir, true);
-    let file = add(rt, &tree, b"/d/f", FILE, true);
-    let mut removal = removal_of(rt, &tree, dir);
-    let mut seen = [false; 2];
-    looked_at_beside(rt, &tree, file, &mut seen, &mut removal);
-    both_saw(rt, seen);
-    told(rt, receipts(rt, removal), &[file, dir]);
-    bare(rt, &tree);
 }
 
 // ---- a self-removal restores its call under the lock
@@ -203,10 +118,8 @@ fn restored_under_the_lock<N: Naming + Send + Sync, R: Abort + Threads + Wait + 
 
 #[test]
 fn readers_and_changes(rt: HostRuntime) {
-    used_beside_an_editor::<Brand, _>(&rt, made(&rt, rt.alloc(), 4, 8, 0));
     for _ in 0..20 {
         read_side_by_side::<Brand, _>(&rt, made(&rt, rt.alloc(), 2, 8, 0));
-        looked_up_while_removed::<Brand, _>(&rt, made(&rt, rt.alloc(), 4, 8, 0));
         restored_under_the_lock::<Brand, _>(&rt, made(&rt, rt.alloc(), 2, 8, 0));
     }
 }

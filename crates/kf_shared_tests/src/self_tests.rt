@@ -1,19 +1,14 @@
-//! Worked examples on the shared tree, in one thread: self-removals, unlinks that come too early, and what
-//! one turn of the lock does.
+//! Worked examples on the shared tree, in one thread: self-removals, and what one turn of the lock does.
 ghost use Rattle.std.specs.Prelude.{◌≡◌};
 ghost use Rattle.kf_core.specs.declared.caller.Phase.TheVariants as phase_of;
 
-use crate::expected::{
-    activated, bare, compacts, finishes, is_at, leaves, live, renamed, same_refusal, stored,
-    unlinks,
-};
+use crate::expected::{activated, bare, compacts, finishes, is_at, renamed, same_refusal, stored};
 use crate::fixtures::{
-    FILE, add, commands, doom, doom_alone, enter, hidden, hold, key_at, last, look, made, no_hold,
-    not_removed_self, part, removed_self, told,
+    FILE, add, doom_alone, enter, hidden, hold, key_at, made, not_removed_self, removed_self, told,
 };
 use kf_core::{Key, Node, Refusal};
 use kf_shared::{Naming, NewTree, SharedTree};
-use kf_words::{Call, Drained, Parted};
+use kf_words::{Call, Parted};
 use std::alloc::Global;
 use std::marker::Brand;
 use std::process::Abort;
@@ -21,16 +16,10 @@ use std::sync::Wait;
 
 // ---- self-removals
 
-/// A file that is removed by a call of its own.
-fn leaves_by_itself<N: Naming, R: Abort + Wait>(rt: &R, tree: &SharedTree<N>, key: Key) {
-    let call = enter(rt, hold(rt, tree, key));
-    removed_self(rt, tree, call, &[key]);
-}
-
-/// A directory that takes slot 1 as its second node, removed by a call of its own.
+/// A directory, removed with its file by a call of its own.
 fn directory_leaves_by_itself<N: Naming, R: Abort + Wait>(rt: &R, tree: &SharedTree<N>) {
     let d = add(rt, tree, b"/d", Node::Dir, true);
-    is_at(rt, d, 1, 2);
+    is_at(rt, d, 1, 1);
     let y = add(rt, tree, b"/d/y", FILE, false);
     let call = enter(rt, hold(rt, tree, d));
     removed_self(rt, tree, call, &[y, d]);
@@ -49,40 +38,9 @@ fn self_removals<N: Naming, R: Abort + Wait>(rt: &R, new: NewTree)
     requires { new.master.table ≡ N.table }
 {
     let tree = new.named::<N>();
-    let x = add(rt, &tree, b"/x", FILE, true);
-    leaves_by_itself(rt, &tree, x);
     directory_leaves_by_itself(rt, &tree);
     doomed_and_left(rt, &tree);
     bare(rt, &tree);
-}
-
-fn later_node_claimed<N: Naming, R: Abort + Wait>(rt: &R, new: NewTree)
-    requires { new.master.table ≡ N.table }
-{
-    let tree = new.named::<N>();
-    let x = add(rt, &tree, b"/x", FILE, true);
-    leaves(rt, &tree, x);
-    let y = add(rt, &tree, b"/y", FILE, true);
-    is_at(rt, y, 1, 2); // no self-removal of the slot so far
-    leaves_by_itself(rt, &tree, y);
-    bare(rt, &tree);
-}
-
-/// It is refused while there is no room for a hold of its own node.
-fn no_room_for_its_own<N: Naming, R: Abort + Wait>(
-    rt: &R,
-    tree: &SharedTree<N>,
-    call: Call,
-    d: Key,
-) -> Call
-    requires table { call.table ≡ N.table }
-    requires running { call.phase ≡ phase_of.Running }
-    ensures { result ≡ call }
-{
-    let other = hold(rt, tree, d);
-    let call = not_removed_self(rt, tree, call, Refusal::TooManyHolds);
-    other.release();
-    call
 }
 
 /// It is refused while there is no room for a hold of the file below, and gives its own hold back.
@@ -100,11 +58,7 @@ fn no_room_below<N: Naming, R: Abort + Wait>(
     let first = hold(rt, tree, x);
     let second = hold(rt, tree, x);
     let call = not_removed_self(rt, tree, call, Refusal::TooManyHolds);
-    live(rt, tree, d);
-    live(rt, tree, x);
-    let other = hold(rt, tree, d);
-    no_hold(rt, tree, d, Refusal::TooManyHolds);
-    other.release();
+    hold(rt, tree, d).release();
     first.release();
     second.release();
     call
@@ -117,72 +71,8 @@ fn refused_self_removal<N: Naming, R: Abort + Wait>(rt: &R, new: NewTree)
     let d = add(rt, &tree, b"/d", Node::Dir, true);
     let x = add(rt, &tree, b"/d/x", FILE, true);
     let call = enter(rt, hold(rt, &tree, d));
-    let call = no_room_for_its_own(rt, &tree, call, d);
     let call = no_room_below(rt, &tree, call, d, x);
     removed_self(rt, &tree, call, &[x, d]);
-    bare(rt, &tree);
-}
-
-// ---- unlinks that come too early
-
-/// A directory leaves after its file.
-fn child_first<N: Naming, R: Abort + Wait>(
-    rt: &R,
-    tree: &SharedTree<N>,
-    top: Drained,
-    below: Drained,
-)
-    requires top { top.table ≡ N.table }
-    requires below { below.table ≡ N.table }
-{
-    unlinks(rt, tree, &top, Err(Refusal::Busy));
-    unlinks(rt, tree, &below, Ok(true));
-    unlinks(rt, tree, &below, Ok(false));
-    unlinks(rt, tree, &top, Ok(true));
-    part(rt, below);
-    part(rt, top);
-}
-
-fn busy_with_a_child<N: Naming, R: Abort + Wait>(rt: &R, tree: &SharedTree<N>) {
-    let a = add(rt, tree, b"/a", Node::Dir, true);
-    let x = add(rt, tree, b"/a/x", FILE, true);
-    let mut holds = doom(rt, tree, hold(rt, tree, a));
-    let top = last(rt, tree, &mut holds, a);
-    let below = last(rt, tree, &mut holds, x);
-    assert!(rt; holds.is_empty());
-    holds.destroy_empty();
-    child_first(rt, tree, look(rt, top), look(rt, below));
-}
-
-/// An unlink that is refused stores nothing.
-fn refused_unlink<N: Naming, R: Abort + Wait>(rt: &R, tree: &SharedTree<N>, drained: &Drained)
-    requires { drained.now.table ≡ N.table }
-{
-    let before = commands(rt, tree);
-    unlinks(rt, tree, drained, Err(Refusal::Busy));
-    stored(rt, tree, before);
-}
-
-/// A call whose reference came back after the drain was seen.
-fn busy_with_a_call<N: Naming, R: Abort + Wait>(rt: &R, tree: &SharedTree<N>) {
-    let b = add(rt, tree, b"/b", FILE, true);
-    let mut call = enter(rt, hold(rt, tree, b));
-    let top = doom_alone(rt, tree, b);
-    call.break_protection();
-    let top = look(rt, top);
-    call.restore();
-    refused_unlink(rt, tree, &top);
-    call.leave().release();
-    unlinks(rt, tree, &top, Ok(true));
-    part(rt, top);
-}
-
-fn busy_unlinks<N: Naming, R: Abort + Wait>(rt: &R, new: NewTree)
-    requires { new.master.table ≡ N.table }
-{
-    let tree = new.named::<N>();
-    busy_with_a_child(rt, &tree);
-    busy_with_a_call(rt, &tree);
     bare(rt, &tree);
 }
 
@@ -221,18 +111,6 @@ fn held_and_removed<N: Naming, R: Abort + Wait>(rt: &R, tree: &SharedTree<N>, a:
     }
 }
 
-fn removed_by_itself<N: Naming, R: Abort + Wait>(rt: &R, tree: &SharedTree<N>, b: Key) {
-    let mut call = enter(rt, hold(rt, tree, b));
-    match tree.edit(rt).remove_self(rt, &mut call) {
-        Ok((first, receipts)) => {
-            assert!(rt; first);
-            told(rt, receipts, &[b]);
-        }
-        Err(_) => panic!(rt; "not removed by itself"),
-    }
-    call.leave().release();
-}
-
 /// What one turn of the lock finds is what it removes; the lock is let go before the wait.
 fn removed_in_its_turn<N: Naming, R: Abort + Wait>(rt: &R, new: NewTree)
     requires { new.master.table ≡ N.table }
@@ -241,9 +119,6 @@ fn removed_in_its_turn<N: Naming, R: Abort + Wait>(rt: &R, new: NewTree)
     let a = add(rt, &tree, b"/a", Node::Dir, true);
     let x = add(rt, &tree, b"/a/x", FILE, true);
     held_and_removed(rt, &tree, a, x);
-    bare(rt, &tree);
-    let b = add(rt, &tree, b"/b", FILE, true);
-    removed_by_itself(rt, &tree, b);
     bare(rt, &tree);
 }
 
@@ -308,12 +183,12 @@ fn gone_by_each_name<N: Naming, R: Abort + Wait>(rt: &R, tree: &SharedTree<N>, d
     stored(rt, tree, 12);
 }
 
-/// A call that is left while the lock is held, and a self-removal.
+/// A call that is entered and left while the lock is held, and a self-removal.
 fn left_beside_an_editor<N: Naming, R: Abort + Wait>(rt: &R, tree: &SharedTree<N>) {
     let s = add(rt, tree, b"/s", FILE, true);
-    let other = enter(rt, hold(rt, tree, s));
+    let other = hold(rt, tree, s);
     let editor = tree.edit(rt);
-    other.leave().release();
+    enter(rt, other).leave().release();
     drop(editor);
     let call = enter(rt, hold(rt, tree, s));
     removed_self(rt, tree, call, &[s]);
@@ -336,12 +211,10 @@ fn each_call_stores_its_own<N: Naming, R: Abort + Wait>(rt: &R, new: NewTree)
 
 pub(crate) fn self_removal_examples<R: Abort + Wait>(rt: &R, alloc: Global) {
     self_removals::<Brand, _>(rt, made(rt, alloc, 4, 4, 0));
-    later_node_claimed::<Brand, _>(rt, made(rt, alloc, 2, 4, 0));
     refused_self_removal::<Brand, _>(rt, made(rt, alloc, 4, 2, 0));
 }
 
 pub(crate) fn in_turn_examples<R: Abort + Wait>(rt: &R, alloc: Global) {
-    busy_unlinks::<Brand, _>(rt, made(rt, alloc, 4, 4, 0));
     removed_in_its_turn::<Brand, _>(rt, made(rt, alloc, 4, 4, 0));
     begun_and_finished::<Brand, _>(rt, made(rt, alloc, 4, 4, 0));
     each_call_stores_its_own::<Brand, _>(rt, made(rt, alloc, 4, 4, 0));

@@ -3,7 +3,7 @@
 ghost use Rattle.std.specs.Prelude.{◌≡◌};
 ghost use Rattle.kf_core.specs.declared.caller.Phase.TheVariants as phase_of;
 
-use crate::fixtures::{enter, hold, is_doomed, is_hidden, is_linked, told};
+use crate::fixtures::{enter, hold, is_doomed, is_linked, told};
 use kf_core::Key;
 use kf_shared::{Naming, SharedTree, release_all};
 use kf_words::{Call, Hold, Parted};
@@ -60,6 +60,15 @@ pub(crate) fn leave<N: Naming>(inside: Inside<N>) {
     call.leave().release();
 }
 
+/// The hold was taken by a thread.
+pub(crate) fn is_taken<N: Naming, R: Abort>(rt: &R, place: Option<Held<N>>) {
+    if let Some(held) = place {
+        let Held { hold, name: _ } = held;
+        hold.release();
+        panic!(rt; "the hold was not taken");
+    }
+}
+
 /// The call was ended by a thread.
 pub(crate) fn has_ended<N: Naming, R: Abort>(rt: &R, running: Option<Inside<N>>) {
     if let Some(inside) = running {
@@ -90,16 +99,6 @@ pub(crate) fn wait_for_mark<N: Naming, R: Wait>(rt: &R, tree: &SharedTree<N>, ke
         }
         if !is_linked(rt, tree, key) {
             return false;
-        }
-    }
-    false
-}
-
-/// Waits until the file is hidden, and answers whether it is.
-pub(crate) fn wait_for_hidden<N: Naming, R: Wait>(rt: &R, tree: &SharedTree<N>, key: Key) -> bool {
-    for _ in 0..100_000_000u64 {
-        if is_hidden(rt, tree, key) {
-            return true;
         }
     }
     false
@@ -157,18 +156,18 @@ pub(crate) fn run<N: Naming, R: Wait>(
     }
 }
 
-/// The receipts of a removal that has answered, whose last is of this key.
-pub(crate) fn receipts<N: Naming, R: Abort>(rt: &R, removal: Removal<N>) -> Vec<Parted> {
-    let Removal { held, receipts } = removal;
-    if let Some(held) = held {
-        let Held { hold, name: _ } = held;
-        hold.release();
-        panic!(rt; "the removal was not begun");
-    }
+fn kept<R: Abort>(rt: &R, receipts: Option<Vec<Parted>>) -> Vec<Parted> {
     match receipts {
         Some(receipts) => receipts,
         None => panic!(rt; "the removal was refused"),
     }
+}
+
+/// The receipts of a removal that has answered.
+pub(crate) fn receipts<N: Naming, R: Abort>(rt: &R, removal: Removal<N>) -> Vec<Parted> {
+    let Removal { held, receipts } = removal;
+    is_taken(rt, held);
+    kept(rt, receipts)
 }
 
 // ---- a thread that tries
@@ -184,18 +183,6 @@ pub(crate) fn tried(hold: Hold) -> (Hold, bool) {
 pub(crate) fn put_back(place: &mut Option<Hold>, hold: Hold) {
     if let Some(other) = place.replace(hold) {
         other.release();
-    }
-}
-
-/// Frees removals that were not woken, by refused tries, each of which wakes one sleeper as it is undone.
-pub(crate) fn free_the_rest(place: &mut Option<Hold>, count: u64, answered: &AtomicU64) {
-    for _ in 0..1_000_000u32 {
-        if answered.load(Ordering::SeqCst) >= count {
-            return;
-        }
-        if let Some(hold) = place.take() {
-            put_back(place, tried(hold).0);
-        }
     }
 }
 
@@ -248,14 +235,8 @@ pub(crate) fn self_ended<N: Naming, R: Abort>(
         first,
         receipts,
     } = removal;
-    if let Some(inside) = inside {
-        leave(inside);
-        panic!(rt; "the self-removal was not begun");
-    }
-    match receipts {
-        Some(receipts) => (first, receipts),
-        None => panic!(rt; "the self-removal was refused"),
-    }
+    has_ended(rt, inside);
+    (first, kept(rt, receipts))
 }
 
 /// The node's receipt, and whether it was the first.

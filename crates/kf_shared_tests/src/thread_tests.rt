@@ -2,18 +2,17 @@
 ghost use Rattle.std.specs.Prelude.{◌≡◌};
 
 use crate::expected::{bare, is_at};
-use crate::fixtures::{FILE, add, hold, is_linked, made, told, turned_away};
+use crate::fixtures::{FILE, add, hold, is_linked, made, told};
 use crate::thread_fixtures::{
-    Inside, Removal, SelfRemoval, call_of, first_of, free_the_rest, has_ended, leave, receipts,
-    removal_of, run, run_self, self_removal_of, stays_zero, wait_for, wait_for_mark,
+    Inside, Removal, SelfRemoval, call_of, first_of, has_ended, leave, receipts, removal_of, run,
+    run_self, self_removal_of, stays_zero, wait_for, wait_for_mark,
 };
-use kf_core::{Key, Node};
+use kf_core::Key;
 use kf_shared::{Naming, NewTree, SharedTree};
-use kf_words::Hold;
 use std::marker::Brand;
 use std::process::Abort;
 use std::sync::Wait;
-use std::sync::atomic::{AtomicU64, Ordering};
+use std::sync::atomic::AtomicU64;
 use std::thread::{Threads, join};
 
 // ---- a removal waits for a call
@@ -41,27 +40,14 @@ fn removed_under_a_call<N: Naming + Send + Sync, R: Threads + Wait + Sync>(
     key: Key,
     removal: &mut Removal<N>,
     running: &mut Option<Inside<N>>,
-    other: &mut Option<Hold>,
 ) -> bool {
     let answered = AtomicU64::new(0);
     let ((), waited) = join(
         rt,
         || run(rt, tree, removal, &answered),
-        || {
-            let waited = ends_the_call(rt, tree, key, running, &answered);
-            free_the_rest(other, 1, &answered);
-            waited
-        },
+        || ends_the_call(rt, tree, key, running, &answered),
     );
     waited
-}
-
-/// A second hold, which is there yet, gets no call.
-fn is_turned_away<R: Abort>(rt: &R, other: Option<Hold>) {
-    match other {
-        Some(hold) => turned_away(rt, hold).release(),
-        None => panic!(rt; "the second hold is lost"),
-    }
 }
 
 fn removal_waits<N: Naming + Send + Sync, R: Abort + Threads + Wait + Sync>(rt: &R, new: NewTree)
@@ -70,61 +56,12 @@ fn removal_waits<N: Naming + Send + Sync, R: Abort + Threads + Wait + Sync>(rt: 
     let tree = new.named::<N>();
     let key = add(rt, &tree, b"/t", FILE, true);
     let mut running = Some(call_of(rt, &tree, key));
-    let mut other = Some(hold(rt, &tree, key));
     let mut first = removal_of(rt, &tree, key);
-    let waited = removed_under_a_call(rt, &tree, key, &mut first, &mut running, &mut other);
+    let waited = removed_under_a_call(rt, &tree, key, &mut first, &mut running);
     assert!(rt; waited);
     told(rt, receipts(rt, first), &[key]);
-    is_turned_away(rt, other);
     has_ended(rt, running);
     bare(rt, &tree);
-}
-
-// ---- two removals that overlap
-
-fn run_both<N: Naming + Send + Sync, R: Abort + Threads + Wait + Sync>(
-    rt: &R,
-    tree: &SharedTree<N>,
-    one: &mut Removal<N>,
-    other: &mut Removal<N>,
-) {
-    let answered = AtomicU64::new(0);
-    join(
-        rt,
-        || run(rt, tree, one, &answered),
-        || run(rt, tree, other, &answered),
-    );
-    assert_eq!(rt; answered.load(Ordering::SeqCst), 2);
-}
-
-/// One thread removes a directory, and another its child.
-fn overlap_once<N: Naming + Send + Sync, R: Abort + Threads + Wait + Sync>(
-    rt: &R,
-    tree: &SharedTree<N>,
-) {
-    let p = add(rt, tree, b"/p", Node::Dir, false);
-    let a = add(rt, tree, b"/p/a", FILE, false);
-    let b = add(rt, tree, b"/p/b", FILE, false);
-    let mut whole = removal_of(rt, tree, p);
-    let mut part = removal_of(rt, tree, b);
-    run_both(rt, tree, &mut whole, &mut part);
-    told(rt, receipts(rt, part), &[b]);
-    let whole = receipts(rt, whole);
-    if whole.len() == 3 {
-        told(rt, whole, &[a, b, p]);
-    } else {
-        told(rt, whole, &[a, p]);
-    }
-    bare(rt, tree);
-}
-
-fn overlap<N: Naming + Send + Sync, R: Abort + Threads + Wait + Sync>(rt: &R, new: NewTree)
-    requires { new.master.table ≡ N.table }
-{
-    let tree = new.named::<N>();
-    for _ in 0..200 {
-        overlap_once(rt, &tree);
-    }
 }
 
 // ---- two self-removals of one node
@@ -152,44 +89,15 @@ fn meet_once<N: Naming + Send + Sync, R: Abort + Threads + Wait + Sync>(
     bare(rt, tree);
 }
 
-fn one_of_each<N: Naming + Send + Sync, R: Threads + Wait + Sync>(
-    rt: &R,
-    tree: &SharedTree<N>,
-    plain: &mut Removal<N>,
-    own: &mut SelfRemoval<N>,
-) {
-    let answered = AtomicU64::new(0);
-    join(
-        rt,
-        || run(rt, tree, plain, &answered),
-        || run_self(rt, tree, own),
-    );
-}
-
-/// A removal of the node, and a self-removal of it.
-fn against_once<N: Naming + Send + Sync, R: Abort + Threads + Wait + Sync>(
-    rt: &R,
-    tree: &SharedTree<N>,
-) {
-    let key = add(rt, tree, b"/delete", FILE, true);
-    let mut plain = removal_of(rt, tree, key);
-    let mut own = self_removal_of(rt, tree, key);
-    one_of_each(rt, tree, &mut plain, &mut own);
-    told(rt, receipts(rt, plain), &[key]);
-    assert!(rt; first_of(rt, own, key), "no other self-removal");
-    bare(rt, tree);
-}
-
 fn meet<N: Naming + Send + Sync, R: Abort + Threads + Wait + Sync>(rt: &R, new: NewTree)
     requires { new.master.table ≡ N.table }
 {
     let tree = new.named::<N>();
     for _ in 0..200 {
         meet_once(rt, &tree);
-        against_once(rt, &tree);
     }
     let key = add(rt, &tree, b"/last", FILE, true);
-    is_at(rt, key, 1, 401); // no hold is left
+    is_at(rt, key, 1, 201); // no hold is left
 }
 
 #[test]
@@ -197,6 +105,5 @@ fn two_threads(rt: HostRuntime) {
     for _ in 0..20 {
         removal_waits::<Brand, _>(&rt, made(&rt, rt.alloc(), 2, 8, 0));
     }
-    overlap::<Brand, _>(&rt, made(&rt, rt.alloc(), 4, 8, 0));
     meet::<Brand, _>(&rt, made(&rt, rt.alloc(), 2, 8, 0));
 }

@@ -1,193 +1,18 @@
-//! Removals that wait together, for a call that runs or for one that has its reference again.
+//! A finish that waits for a call that has its reference again.
 ghost use Rattle.std.specs.Prelude.{◌≡◌};
 
-use crate::expected::bare;
-use crate::fixtures::{FILE, add, commands, doom_alone, hold, is_linked, made, told, turned_away};
-use crate::thread_fixtures::{
-    Held, Inside, Removal, SelfRemoval, call_of, first_of, free_the_rest, held_by, leave, receipts,
-    removal_of, run, run_self, self_removal_of, stays_zero, wait_for, wait_for_mark,
-};
+use crate::expected::{bare, stored};
+use crate::fixtures::{FILE, add, doom_alone, hold, is_linked, made};
+use crate::thread_fixtures::{Held, Inside, call_of, held_by, leave, stays_zero, wait_for};
 use kf_core::{Key, Phase};
 use kf_shared::{Naming, NewTree, SharedTree};
-use kf_words::{Call, Hold};
-use std::alloc::Global;
+use kf_words::Call;
 use std::marker::Brand;
 use std::process::Abort;
 use std::sync::Wait;
 use std::sync::atomic::{AtomicU64, Ordering};
-use std::thread::{self, Threads, for_each_mut, join};
+use std::thread::{self, Threads, join};
 use std::time::{Clock, Duration};
-
-// ---- four removals of one node, and the one call that they wait for
-
-enum Role<N: Naming> {
-    Removes(Removal<N>),
-    Ends(End<N>),
-}
-
-/// Ends the call that runs, and tells whether nobody answered before and all did after.
-struct End<N: Naming> {
-    running: Option<Inside<N>>,
-    spare: Option<Hold>,
-    waited: bool,
-}
-
-/// Waits until so many commands are stored, and answers whether they are.
-fn wait_for_commands<N: Naming, R: Wait>(rt: &R, tree: &SharedTree<N>, count: usize) -> bool {
-    for _ in 0..100_000_000u64 {
-        if commands(rt, tree) >= count {
-            return true;
-        }
-    }
-    false
-}
-
-fn end_the_call<N: Naming, R: Wait>(
-    rt: &R,
-    tree: &SharedTree<N>,
-    end: &mut End<N>,
-    answered: &AtomicU64,
-) {
-    let doomed = wait_for_commands(rt, tree, 5);
-    let waits = stays_zero(10_000, answered);
-    if let Some(inside) = end.running.take() {
-        leave(inside);
-    }
-    let woken = wait_for(4, answered);
-    free_the_rest(&mut end.spare, 4, answered);
-    end.waited = doomed && waits && woken;
-}
-
-fn act<N: Naming, R: Wait>(rt: &R, tree: &SharedTree<N>, role: &mut Role<N>, answered: &AtomicU64) {
-    match role {
-        Role::Removes(removal) => run(rt, tree, removal, answered),
-        Role::Ends(end) => end_the_call(rt, tree, end, answered),
-    }
-}
-
-fn close_end<N: Naming, R: Abort>(rt: &R, end: End<N>) {
-    let End {
-        running,
-        spare,
-        waited,
-    } = end;
-    if let Some(inside) = running {
-        leave(inside);
-    }
-    if let Some(hold) = spare {
-        turned_away(rt, hold).release();
-    }
-    assert!(rt;
-        waited,
-        "all four wait for the call, and its end wakes them"
-    );
-}
-
-fn close<N: Naming, R: Abort>(rt: &R, role: Role<N>, key: Key) {
-    match role {
-        Role::Removes(removal) => told(rt, receipts(rt, removal), &[key]),
-        Role::Ends(end) => close_end(rt, end),
-    }
-}
-
-fn add_role<N: Naming, R: Abort>(rt: &R, roles: &mut Vec<Role<N>>, role: Role<N>, key: Key) {
-    if let Err(full) = roles.push(role) {
-        close(rt, full.value, key);
-        panic!(rt; "no memory");
-    }
-}
-
-/// Four removals of the node, and the end of the call that they wait for.
-fn four_and_an_end<N: Naming, R: Abort + Wait>(
-    rt: &R,
-    alloc: Global,
-    tree: &SharedTree<N>,
-    key: Key,
-) -> Vec<Role<N>> {
-    let end = End {
-        running: Some(call_of(rt, tree, key)),
-        spare: Some(hold(rt, tree, key)),
-        waited: false,
-    };
-    let mut roles = Vec::new(alloc);
-    for _ in 0..4u32 {
-        let removal = removal_of(rt, tree, key);
-        add_role(rt, &mut roles, Role::Removes(removal), key);
-    }
-    add_role(rt, &mut roles, Role::Ends(end), key);
-    roles
-}
-
-fn all_act<N: Naming + Send + Sync, R: Threads + Wait + Sync>(
-    rt: &R,
-    tree: &SharedTree<N>,
-    roles: &mut Vec<Role<N>>,
-) {
-    let answered = AtomicU64::new(0);
-    for_each_mut(
-        rt,
-        roles.as_mut_slice(),
-        5,
-        &|_, role| act(rt, tree, role, &answered),
-    );
-}
-
-fn four_wait<N: Naming + Send + Sync, R: Abort + Threads + Wait + Sync>(
-    rt: &R,
-    alloc: Global,
-    new: NewTree,
-)
-    requires { new.master.table ≡ N.table }
-{
-    let tree = new.named::<N>();
-    let key = add(rt, &tree, b"/t", FILE, true);
-    let mut roles = four_and_an_end(rt, alloc, &tree, key);
-    all_act(rt, &tree, &mut roles);
-    while let Some(role) = roles.pop() {
-        close(rt, role, key);
-    }
-    roles.destroy_empty();
-    bare(rt, &tree);
-}
-
-// ---- the first of two self-removals is the one that claimed first
-
-/// The second waits until the first has marked the node, and its own call runs on until then. True where the
-/// node was marked.
-fn claims_in_turn<N: Naming + Send + Sync, R: Threads + Wait + Sync>(
-    rt: &R,
-    tree: &SharedTree<N>,
-    key: Key,
-    one: &mut SelfRemoval<N>,
-    other: &mut SelfRemoval<N>,
-) -> bool {
-    let ((), marked) = join(
-        rt,
-        || run_self(rt, tree, one),
-        || {
-            let marked = wait_for_mark(rt, tree, key);
-            run_self(rt, tree, other);
-            marked
-        },
-    );
-    marked
-}
-
-fn second_claims<N: Naming + Send + Sync, R: Abort + Threads + Wait + Sync>(rt: &R, new: NewTree)
-    requires { new.master.table ≡ N.table }
-{
-    let tree = new.named::<N>();
-    let key = add(rt, &tree, b"/delete", FILE, true);
-    let mut one = self_removal_of(rt, &tree, key);
-    let mut other = self_removal_of(rt, &tree, key);
-    let marked = claims_in_turn(rt, &tree, key, &mut one, &mut other);
-    assert!(rt; marked);
-    assert!(rt; first_of(rt, one, key), "it claimed first");
-    assert!(rt; !first_of(rt, other, key), "it claimed second");
-    bare(rt, &tree);
-}
-
-// ---- a finish that finds the node in use again
 
 fn finish_in<N: Naming, R: Wait>(
     rt: &R,
@@ -303,16 +128,11 @@ fn restored_call<N: Naming + Send + Sync, R: Abort + Threads + Wait + Clock + Sy
     end_both(broken, place);
     assert!(rt; waits);
     bare(rt, &tree);
+    stored(rt, &tree, 3); // the finish stored its unlink alone
 }
 
 #[test]
-fn removals_that_wait_together(rt: HostRuntime) {
-    for _ in 0..20 {
-        four_wait::<Brand, _>(&rt, rt.alloc(), made(&rt, rt.alloc(), 2, 16, 0));
-    }
-    for _ in 0..20 {
-        second_claims::<Brand, _>(&rt, made(&rt, rt.alloc(), 2, 8, 0));
-    }
+fn a_call_that_is_restored_is_waited_for(rt: HostRuntime) {
     for _ in 0..5 {
         restored_call::<Brand, _>(&rt, made(&rt, rt.alloc(), 2, 8, 0));
     }

@@ -4,8 +4,5 @@ use Rattle.kf_shared_tests.proofs.look_tests.look_ups_without_the_lock.Given as 
 abbrev pub ghosts-seen_after_each_command : goal.ghosts-seen_after_each_command
 ghosts-seen_after_each_command g a = record { table = a.new.master.table }
 
-abbrev pub ghosts-each_looker_finds : goal.ghosts-each_looker_finds
-ghosts-each_looker_finds g a = record { table = a.new.master.table }
-
 abbrev pub ghosts-some_have_words : goal.ghosts-some_have_words
 ghosts-some_have_words g a = record { table = a.new.master.table }

@@ -1,9 +1,6 @@
 use Rattle.kf_shared_tests.proofs.self_tests.in_turn_examples.Given as goal
 
 -- each is of the tree that was just made
-abbrev pub ghosts-busy_unlinks : goal.ghosts-busy_unlinks
-ghosts-busy_unlinks g a = record { table = a.new.master.table }
-
 abbrev pub ghosts-removed_in_its_turn : goal.ghosts-removed_in_its_turn
 ghosts-removed_in_its_turn g a = record { table = a.new.master.table }
 

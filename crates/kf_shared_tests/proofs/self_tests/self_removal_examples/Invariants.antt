@@ -4,8 +4,5 @@ use Rattle.kf_shared_tests.proofs.self_tests.self_removal_examples.Given as goal
 abbrev pub ghosts-self_removals : goal.ghosts-self_removals
 ghosts-self_removals g a = record { table = a.new.master.table }
 
-abbrev pub ghosts-later_node_claimed : goal.ghosts-later_node_claimed
-ghosts-later_node_claimed g a = record { table = a.new.master.table }
-
 abbrev pub ghosts-refused_self_removal : goal.ghosts-refused_self_removal
 ghosts-refused_self_removal g a = record { table = a.new.master.table }
