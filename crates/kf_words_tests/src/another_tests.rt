@@ -80,22 +80,6 @@ fn of_a_node_that_goes<R: Abort>(rt: &R, alloc: Global) {
     assert!(rt; master.free_key().is_some());
 }
 
-/// Forty in a row, each from the one before, which goes.
-fn forty_in_a_row<R: Abort>(rt: &R, alloc: Global) {
-    let mut master = made(rt, alloc, 2, 3, 0);
-    let key = born(rt, &mut master, 1, 1);
-    let mut hold = pin(rt, &mut master, key);
-    for _ in 0..40 {
-        let next = another(rt, &mut hold);
-        hold.release();
-        hold = next;
-    }
-    doom(rt, &mut master, key);
-    let drained = look(rt, hold);
-    assert!(rt; drained.key() == key);
-    drained.release();
-}
-
 /// So many others, each in its place.
 fn others<R: Abort>(rt: &R, alloc: Global, hold: &mut Hold, count: u32) -> Vec<Option<Hold>> {
     let mut holds = Vec::new(alloc);
@@ -111,7 +95,7 @@ fn others<R: Abort>(rt: &R, alloc: Global, hold: &mut Hold, count: u32) -> Vec<O
     holds
 }
 
-pub(crate) fn release_each(mut holds: Vec<Option<Hold>>) {
+fn release_each(mut holds: Vec<Option<Hold>>) {
     while let Some(place) = holds.pop() {
         if let Some(hold) = place {
             hold.release();
@@ -140,7 +124,6 @@ fn as_many_as_there_may_be<R: Abort>(rt: &R, alloc: Global) {
 fn holds_from_holds(rt: HostRuntime) {
     the_last_place_is_the_masters(&rt, rt.alloc());
     of_a_node_that_goes(&rt, rt.alloc());
-    forty_in_a_row(&rt, rt.alloc());
     as_many_as_there_may_be(&rt, rt.alloc());
 }
 

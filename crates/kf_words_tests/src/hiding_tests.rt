@@ -8,15 +8,6 @@ use std::alloc::Global;
 use std::process::Abort;
 use std::sync::atomic::AtomicU64;
 
-fn hidden_before<R: Abort>(rt: &R, hold: Hold) -> Hold
-    ensures { IsSameSeat hold result }
-{
-    match hold.hide() {
-        Ok(_hiding) => panic!(rt; "a hidden key was hidden again"),
-        Err(back) => back,
-    }
-}
-
 fn see_hidden<R: Abort>(rt: &R, hiding: Hiding) -> Hidden
     ensures { IsSameSeat hiding result }
 {
@@ -26,39 +17,7 @@ fn see_hidden<R: Abort>(rt: &R, hiding: Hiding) -> Hidden
     }
 }
 
-fn hides_used<R: Abort>(rt: &R, hiding: Hiding) -> Hiding
-    ensures { IsSameSeat hiding result }
-{
-    match hiding.look() {
-        Ok(_hidden) => panic!(rt; "a used node looked unused"),
-        Err(back) => back,
-    }
-}
-
-fn a_hidden_key_refuses_until_it_is_shown<R: Abort>(rt: &R, alloc: Global) {
-    let mut master = made(rt, alloc, 2, 4, 0);
-    let key = born(rt, &mut master, 1, 1);
-    activate(rt, &mut master, key);
-    let call = enter(rt, pin(rt, &mut master, key));
-    let first = pin(rt, &mut master, key);
-    let second = pin(rt, &mut master, key);
-    let hiding = hide(rt, first);
-    assert_eq!(rt; hiding.key(), key);
-    let second = refused(rt, second);
-    let second = hidden_before(rt, second);
-    let hiding = hides_used(rt, hiding);
-    call.leave().release();
-    let hidden = see_hidden(rt, hiding);
-    assert_eq!(rt; hidden.key(), key);
-    let second = refused(rt, second);
-    let first = hidden.show();
-    assert_eq!(rt; first.key(), key);
-    let second = enter(rt, second).leave();
-    enter(rt, first).leave().release();
-    second.release();
-}
-
-// A node that is not activated when it is hidden.
+/// A node that is not activated when it is hidden.
 fn hidden_and_shown<R: Abort>(rt: &R, alloc: Global, activates: bool) {
     let mut master = made(rt, alloc, 2, 4, 0);
     let key = born(rt, &mut master, 1, 1);
@@ -166,7 +125,6 @@ fn told_before_activation<R: Abort>(rt: &R, alloc: Global, dooms: bool, hides: b
 
 #[test]
 fn keys_hidden_and_shown(rt: HostRuntime) {
-    a_hidden_key_refuses_until_it_is_shown(&rt, rt.alloc());
     hidden_and_shown(&rt, rt.alloc(), true);
     hidden_and_shown(&rt, rt.alloc(), false);
     for (dooms, hides, uses, wanted) in [

@@ -2,7 +2,9 @@
 ghost use Rattle.std.specs.Prelude.{◌≡◌};
 ghost use Rattle.kf_words.specs.Callers.{IsSameSeat};
 
-use crate::test_fixtures::{FILE, activate, born, doom, enter, look, made, part, pin, unlink};
+use crate::test_fixtures::{
+    FILE, activate, born, doom, enter, look, made, part, pin, refused, unlink,
+};
 use kf_core::{Key, Node, Refusal};
 use kf_words::{Hold, Holds, Master};
 use std::alloc::Global;
@@ -128,11 +130,13 @@ fn refusals<R: Abort>(rt: &R, alloc: Global) {
             };
             not_pinned(rt, &mut holds, beyond, Refusal::NoEntry);
         }
-        let earlier = Key {
-            slot: 1,
-            generation: 0,
-        };
-        not_pinned(rt, &mut holds, earlier, Refusal::NoEntry);
+        for generation in [0, 2, 4294967295] {
+            let other = Key {
+                slot: 1,
+                generation,
+            };
+            not_pinned(rt, &mut holds, other, Refusal::NoEntry);
+        }
         let first = pinned(rt, &mut holds, key);
         let second = pinned(rt, &mut holds, key);
         not_pinned(rt, &mut holds, key, Refusal::TooManyHolds);
@@ -152,11 +156,25 @@ fn refusals<R: Abort>(rt: &R, alloc: Global) {
     none_left(rt, &mut master, next);
 }
 
+/// A hold that was made before its node was activated gives a call afterwards. A marked node is linked still.
+fn of_a_node_that_comes_and_goes<R: Abort>(rt: &R, alloc: Global) {
+    let mut master = made(rt, alloc, 2, 8, 0);
+    let key = born(rt, &mut master, 1, 1);
+    let mut holds = maker(rt, alloc, pin(rt, &mut master, ROOT));
+    let early = pinned(rt, &mut holds, key);
+    activate(rt, &mut master, key);
+    enter(rt, early).leave().release();
+    doom(rt, &mut master, key);
+    refused(rt, pinned(rt, &mut holds, key)).release();
+    holds.end().release();
+}
+
 #[test]
 fn holds_of_a_maker(rt: HostRuntime) {
     forty_in_a_row(&rt, rt.alloc());
     twenty_at_once(&rt, rt.alloc());
     refusals(&rt, rt.alloc());
+    of_a_node_that_comes_and_goes(&rt, rt.alloc());
 }
 
 /// Makes and releases holds of a key by the maker in its place, two at once, and counts them.

@@ -12,8 +12,6 @@ mod holds_tests;
 #[cfg(test)]
 mod note_tests;
 #[cfg(test)]
-mod pin_tests;
-#[cfg(test)]
 mod search_tests;
 #[cfg(test)]
 mod test_fixtures;

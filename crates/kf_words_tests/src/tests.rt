@@ -4,8 +4,8 @@ ghost use Rattle.std.specs.Prelude.{◌≡◌};
 use crate::test_fixtures::{
     FILE, activate, born, doom, enter, look, looks_used, made, part, pin, refused, unlink,
 };
-use kf_core::{Key, Limits, Node, Phase, Refusal};
-use kf_words::{Master, Words};
+use kf_core::{Key, Phase};
+use kf_words::{Call, Hold, Master};
 use std::alloc::Global;
 use std::process::Abort;
 
@@ -48,68 +48,30 @@ fn slot_is_given_again<R: Abort>(
     assert_eq!(rt; master.free_key(), next);
 }
 
-/// A third hold of a slot that may have two is refused, and a slot that the table has not has no room.
-fn is_full<R: Abort>(rt: &R, master: &mut Master, key: Key)
-    ensures { master.new.table ≡ master.old.table }
+/// A hold of the key of a call.
+fn pin_held<R: Abort>(rt: &R, master: &mut Master, call: &Call) -> Hold
+    requires { call.now.table ≡ master.old.table }
+    ensures table { master.new.table ≡ master.old.table }
+    ensures hold { result.table ≡ master.old.table }
 {
-    assert!(rt; master.marks(key).is_some());
-    assert!(rt; !master.room(key));
-    let beyond = Key {
-        slot: 2,
-        generation: 1,
-    };
-    assert!(rt; !master.room(beyond), "a slot that the table has not");
-    match master.pin(key) {
-        Ok(third) => {
-            third.release();
-            panic!(rt; "more holds than there may be")
-        }
-        Err(why) => assert_eq!(rt; why, Refusal::TooManyHolds),
+    match master.pin_held(call) {
+        Ok(hold) => hold,
+        Err(_) => panic!(rt; "no hold of the key of a call"),
     }
 }
 
-fn a_slot_has_no_more_holds_than_it_may<R: Abort>(rt: &R, alloc: Global) {
-    let mut master = made(rt, alloc, 2, 2, 0);
-    let key = born(rt, &mut master, 1, 1);
-    let first = pin(rt, &mut master, key);
-    let second = pin(rt, &mut master, key);
-    is_full(rt, &mut master, key);
-    first.release();
-    let third = pin(rt, &mut master, key);
-    is_full(rt, &mut master, key);
-    second.release();
-    third.release();
-}
-
-/// A call keeps its key pinned when its node has left. The root, beside it, is a live directory.
+/// A call keeps its key pinned when its node has left.
 fn a_call_is_pinned_after_its_node_has_left<R: Abort>(rt: &R, alloc: Global) {
-    let limits = Limits::new(2, 4).expect(rt, "limits");
-    let (_words, mut master) = Words::new(alloc, limits).expect(rt, "memory");
-    let root = Key {
-        slot: 0,
-        generation: 1,
-    };
-    let hold = pin(rt, &mut master, root);
-    assert_eq!(rt; hold.node(), Node::Dir);
-    enter(rt, hold).leave().release();
+    let mut master = made(rt, alloc, 2, 4, 0);
     let key = born(rt, &mut master, 1, 1);
     activate(rt, &mut master, key);
-    let first = pin(rt, &mut master, key);
-    let mut call = enter(rt, first);
-    let second = match master.pin_held(&call) {
-        Ok(hold) => hold,
-        Err(_) => panic!(rt; "no hold of the key of a call"),
-    };
-    assert_eq!(rt; second.node(), FILE);
+    let mut call = enter(rt, pin(rt, &mut master, key));
+    let second = pin_held(rt, &mut master, &call);
     doom(rt, &mut master, key);
     call.break_protection();
     let drained = look(rt, second);
     assert!(rt; unlink(rt, &mut master, &drained));
-    let third = match master.pin_held(&call) {
-        Ok(hold) => hold,
-        Err(_) => panic!(rt; "no hold of the key of a call whose node has left"),
-    };
-    assert_eq!(rt; third.key(), key);
+    let third = pin_held(rt, &mut master, &call);
     call.restore();
     let third = looks_used(rt, third);
     part(rt, drained).release();
@@ -132,6 +94,5 @@ fn slots_and_holds(rt: HostRuntime) {
     ] {
         slot_is_given_again(&rt, rt.alloc(), start, parts, next);
     }
-    a_slot_has_no_more_holds_than_it_may(&rt, rt.alloc());
     a_call_is_pinned_after_its_node_has_left(&rt, rt.alloc());
 }
