@@ -5,13 +5,11 @@
 #[cfg(test)]
 mod answers;
 #[cfg(test)]
+mod limits_tests;
+#[cfg(test)]
 mod name_tests;
 #[cfg(test)]
-mod pins_tests;
-#[cfg(test)]
 mod room_tests;
-#[cfg(test)]
-mod slot_tests;
 #[cfg(test)]
 mod tests;
 #[cfg(test)]

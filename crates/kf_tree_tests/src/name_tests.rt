@@ -1,34 +1,32 @@
-//! The limits of names, listings by a loop over `next_after`, and each public call where memory is there.
+//! The limits of names, and listings by a loop over `next_after`.
 //! (That names stand in byte order, however they came, is shown by scripts/tree.txt and .ci/lengths.py.)
 
-use crate::answers::first_wrong;
+use crate::answers::all_right;
 use kf_core::{Key, Refusal};
-use kf_index::{Index, Listed, Name, name_fault};
+use kf_index::{Index, Name, name_fault};
 use std::alloc::Global;
-use std::test::Fail;
 
-fn key(slot: u32) -> Key {
-    Key {
-        slot,
-        generation: 1,
-    }
-}
+const KEY: Key = Key {
+    slot: 1,
+    generation: 1,
+};
 
-/// Adds a name in this slot. A test has few names.
-fn insert(alloc: Global, index: &mut Index, bytes: &[u8], slot: u32) -> Result<(), Refusal> {
+/// Adds a name. A test has few.
+fn insert(alloc: Global, index: &mut Index, bytes: &[u8]) -> Result<(), Refusal> {
     if index.len() > 100 {
         return Err(Refusal::NoSpace);
     }
-    index.insert(Name::new(alloc, bytes)?, key(slot))
+    index.insert(Name::new(alloc, bytes)?, KEY)
 }
 
-/// An index of `b`, `a`, `ab` and `B`, entered in this order in the slots from 1 up.
+const FOUR: [&[u8]; 4] = [b"b", b"a", b"ab", b"B"];
+
+/// An index of the four names, entered in this order.
 fn four_names(alloc: Global) -> Result<Index, Refusal> {
     let mut index = Index::new(alloc);
-    insert(alloc, &mut index, b"b", 1)?;
-    insert(alloc, &mut index, b"a", 2)?;
-    insert(alloc, &mut index, b"ab", 3)?;
-    insert(alloc, &mut index, b"B", 4)?;
+    for name in &FOUR {
+        insert(alloc, &mut index, name)?;
+    }
     Ok(index)
 }
 
@@ -52,57 +50,34 @@ fn listing(
     Ok(text)
 }
 
-/// The key of the next entry.
-fn next_key(index: &Index, bound: Option<&[u8]>) -> Option<Key> {
-    let (_, key) = index.next_after(bound)?;
-    Some(key)
-}
+/// A bound, how many names above it are wanted, and those.
+const LISTINGS: [(Option<&[u8]>, usize, &[u8]); 8] = [
+    (None, 9, b"B a ab b "),
+    (None, 0, b""),
+    (Some(b"a"), 1, b"ab "),
+    (Some(b"aa"), 2, b"ab b "),
+    (Some(b"b"), 5, b""),
+    (Some(b""), 1, b"B "),
+    (Some(b"C"), 1, b"a "),
+    (Some(b"a/b\0"), 1, b"ab "),
+];
 
-#[test]
-fn lists_names_in_byte_order(rt: HostRuntime) -> Result<(), Fail> {
-    let alloc = rt.alloc();
+fn first_wrong_listing(alloc: Global) -> Result<Option<usize>, Refusal> {
     let index = four_names(alloc)?;
-    let rows: [(Option<&[u8]>, usize, &[u8]); 8] = [
-        (None, 9, b"B a ab b "),
-        (None, 0, b""),
-        (Some(b"a"), 1, b"ab "),
-        (Some(b"aa"), 2, b"ab b "),
-        (Some(b"b"), 5, b""),
-        (Some(b""), 1, b"B "),
-        (Some(b"C"), 1, b"a "),
-        (Some(b"a/b\0"), 1, b"ab "),
-    ];
-    for (after, limit, expected) in rows {
-        let text = listing(alloc, &index, after, limit)?;
-        assert_eq!(rt; text.as_slice(), expected);
+    let mut place = 0;
+    for (after, limit, expected) in &LISTINGS {
+        let text = listing(alloc, &index, *after, *limit)?;
+        if text.as_slice() != *expected {
+            return Ok(Some(place));
+        }
+        place = place.saturating_add(1);
     }
-    Ok(())
+    Ok(None)
 }
 
 #[test]
-fn leads_from_names_to_keys(rt: HostRuntime) -> Result<(), Fail> {
-    let alloc = rt.alloc();
-    let mut index = Index::new(alloc);
-    let answers = [
-        index.get(b"a") == None,
-        next_key(&index, None) == None,
-        insert(alloc, &mut index, b"ab", 3) == Ok(()),
-        insert(alloc, &mut index, b"a", 2) == Ok(()),
-        insert(alloc, &mut index, b"ab", 5) == Err(Refusal::Exists),
-        index.get(b"ab") == Some(key(3)),
-        next_key(&index, None) == Some(key(2)),
-        next_key(&index, Some(b"a")) == Some(key(3)),
-        index.above(Some(b"a")).len() == 1,
-        Listed::none().split_first().is_none(),
-        index.remove(b"ab") == Some(key(3)),
-        index.remove(b"ab") == None,
-        index.get(b"ab") == None,
-        index.get(b"a") == Some(key(2)),
-        insert(alloc, &mut index, b"ab", 5) == Ok(()),
-        index.get(b"ab") == Some(key(5)),
-    ];
-    assert_eq!(rt; first_wrong(&answers), None);
-    Ok(())
+fn lists_names_in_byte_order(rt: HostRuntime) {
+    all_right(&rt, first_wrong_listing(rt.alloc()));
 }
 
 /// A copy of a name, which is dropped.
@@ -122,30 +97,41 @@ fn refusal_of(alloc: Global, bytes: &[u8]) -> Option<Refusal> {
     }
 }
 
+const INVALID: Option<Refusal> = Some(Refusal::Invalid);
+
+/// Names, and why they are refused.
+const NAMES: [(&[u8], Option<Refusal>); 17] = [
+    (&[b'n'; 255], None),
+    (&[b'n'; 256], Some(Refusal::NameTooLong)),
+    (&[b'/'; 256], Some(Refusal::NameTooLong)),
+    (b"", INVALID),
+    (b".", INVALID),
+    (b"..", INVALID),
+    (b"/", INVALID),
+    (b"a/b", INVALID),
+    (b"\0", INVALID),
+    (b"a\0", INVALID),
+    (b"/.", INVALID),
+    (b"a", None),
+    (b"...", None),
+    (b".a", None),
+    (b"a.", None),
+    (b" ", None),
+    (b"\r\xff", None),
+];
+
+fn first_wrong_refusal(alloc: Global) -> Option<usize> {
+    let mut place = 0;
+    for (bytes, refusal) in &NAMES {
+        if name_fault(bytes) != *refusal || refusal_of(alloc, bytes) != *refusal {
+            return Some(place);
+        }
+        place = place.saturating_add(1);
+    }
+    None
+}
+
 #[test]
 fn takes_lawful_names_alone(rt: HostRuntime) {
-    let invalid = Some(Refusal::Invalid);
-    let rows: [(&[u8], Option<Refusal>); 17] = [
-        (&[b'n'; 255], None),
-        (&[b'n'; 256], Some(Refusal::NameTooLong)),
-        (&[b'/'; 256], Some(Refusal::NameTooLong)),
-        (b"", invalid),
-        (b".", invalid),
-        (b"..", invalid),
-        (b"/", invalid),
-        (b"a/b", invalid),
-        (b"\0", invalid),
-        (b"a\0", invalid),
-        (b"/.", invalid),
-        (b"a", None),
-        (b"...", None),
-        (b".a", None),
-        (b"a.", None),
-        (b" ", None),
-        (b"\r\xff", None),
-    ];
-    for (bytes, refusal) in rows {
-        assert_eq!(rt; name_fault(bytes), refusal);
-        assert_eq!(rt; refusal_of(rt.alloc(), bytes), refusal);
-    }
+    all_right(&rt, Ok(first_wrong_refusal(rt.alloc())));
 }

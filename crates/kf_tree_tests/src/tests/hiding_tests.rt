@@ -1,57 +1,27 @@
 //! Hiding and showing, of what is activated or doomed meanwhile.
 
-use super::{add, dooms, has_stored, key, new_state, unlink};
-use crate::answers::first_wrong;
-use kf_core::{Key, Node, Refusal};
-use kf_tree::State;
-use std::test::Fail;
+use super::steps::{Look, Step, first_wrong};
+use crate::answers::all_right;
+use kf_core::Refusal;
 
-pub(super) const TEXT: Node = Node::File {
-    mode: 0o644,
-    tag: 1,
-};
-
-pub(super) fn hide(state: &mut State, key: Key) -> Result<(), Refusal> {
-    state.may_hide(key)?;
-    state.hide(key);
-    Ok(())
-}
-
-pub(super) fn show(state: &mut State, key: Key) -> bool {
-    state.show(key)
-}
-
-fn activate(state: &mut State, key: Key) -> Result<(), Refusal> {
-    state.activate(key)
-}
-
-/// Activated, doomed and hidden, as `stat` tells them.
-fn marks(state: &State, key: Key) -> Option<(bool, bool, bool)> {
-    match state.stat(key) {
-        Ok(told) => Some((told.activated, told.doomed, told.hidden)),
-        Err(_) => None,
-    }
-}
+const COURSE: [Step; 14] = [
+    Step::OffFile(b"/t", 1),
+    Step::Hide(1, None),
+    Step::Activate(1),
+    Step::Is(Look::Absent(b"/t")),
+    Step::Show(1, true),
+    Step::Is(Look::Live(b"/t", 1)),
+    Step::Hide(1, None),
+    Step::Doom(1, &[1]),
+    Step::Hide(1, Some(Refusal::NoEntry)),
+    Step::Show(1, true),
+    Step::Is(Look::Marks(1, (true, true, false))),
+    Step::Unlink(1, Ok(true)),
+    Step::Show(1, false),
+    Step::Is(Look::Stored(b"CHASHDSU")),
+];
 
 #[test]
-fn shows_what_was_activated_or_doomed_meanwhile(rt: HostRuntime) -> Result<(), Fail> {
-    let mut state = new_state(rt.alloc(), 1024)?;
-    let answers = [
-        add(&mut state, b"/t", TEXT, false, 1) == Ok(key(1)),
-        hide(&mut state, key(1)) == Ok(()),
-        activate(&mut state, key(1)) == Ok(()),
-        state.lookup(b"/t") == Err(Refusal::NoEntry),
-        show(&mut state, key(1)),
-        state.lookup(b"/t") == Ok(key(1)),
-        hide(&mut state, key(1)) == Ok(()),
-        dooms(&mut state, key(1), &[key(1)]),
-        hide(&mut state, key(1)) == Err(Refusal::NoEntry),
-        show(&mut state, key(1)),
-        marks(&state, key(1)) == Some((true, true, false)),
-        unlink(&mut state, key(1)) == Ok(true),
-        !show(&mut state, key(1)),
-        has_stored(&state, b"CHASHDSU"),
-    ];
-    assert_eq!(rt; first_wrong(&answers), None);
-    Ok(())
+fn shows_what_was_activated_or_doomed_meanwhile(rt: HostRuntime) {
+    all_right(&rt, first_wrong(rt.alloc(), 1024, &COURSE));
 }

@@ -1,52 +1,37 @@
 //! The name, the directory and the path of a node.
-use super::{ROOT, add, first_wrong, key, new_state};
-use kf_core::{Key, Node, Refusal};
-use kf_tree::State;
-use std::test::Fail;
 
-/// Whether a key is told by this name, in this directory.
-fn is_named(state: &State, key: Key, dir: Option<Key>, expected: &[u8]) -> bool {
-    match state.name_of(key) {
-        Ok(name) => name == expected && state.parent_of(key) == Ok(dir),
-        Err(_) => false,
-    }
-}
+use super::steps::{Look, Step, first_wrong};
+use crate::answers::all_right;
+use kf_core::Key;
 
-/// Whether a key is told by this path, and the path leads to it.
-fn has_path(state: &State, key: Key, expected: &[u8]) -> bool {
-    match state.path_of(key) {
-        Ok(path) => path.as_slice() == expected && state.walk(expected) == Ok(key),
-        Err(_) => false,
-    }
-}
+const NEVER: Key = Key {
+    slot: 4,
+    generation: 1,
+};
 
-/// Whether nothing is told of a key.
-fn is_unknown(state: &State, key: Key) -> bool {
-    state.name_of(key).is_err()
-        && state.parent_of(key) == Err(Refusal::NoEntry)
-        && state.path_of(key).is_err()
-}
+const LATER: Key = Key {
+    slot: 1,
+    generation: 2,
+};
+
+const NAMES: [Step; 14] = [
+    Step::Is(Look::Root),
+    Step::Is(Look::Path(0, b"/")),
+    Step::Directory(b"/a", 1),
+    Step::Directory(b"/a/bc", 2),
+    Step::Directory(b"/a/bc/d", 3),
+    Step::Is(Look::Named(1, 0, b"a")),
+    Step::Is(Look::Path(1, b"/a")),
+    Step::Is(Look::Named(3, 2, b"d")),
+    Step::Is(Look::Path(3, b"/a/bc/d")),
+    Step::Rename(2, b"e"),
+    Step::Is(Look::Named(2, 0, b"e")),
+    Step::Is(Look::Path(3, b"/e/d")),
+    Step::Is(Look::Unknown(NEVER)),
+    Step::Is(Look::Unknown(LATER)),
+];
 
 #[test]
-fn tells_names_directories_and_paths(rt: HostRuntime) -> Result<(), Fail> {
-    let mut state = new_state(rt.alloc(), 8)?;
-    let later = Key {
-        slot: 1,
-        generation: 2,
-    };
-    let answers = [
-        is_named(&state, ROOT, None, b"") && has_path(&state, ROOT, b"/"),
-        add(&mut state, b"/a", Node::Dir, true, 1) == Ok(key(1)),
-        add(&mut state, b"/a/bc", Node::Dir, true, 2) == Ok(key(2)),
-        add(&mut state, b"/a/bc/d", Node::Dir, true, 3) == Ok(key(3)),
-        is_named(&state, key(1), Some(ROOT), b"a") && has_path(&state, key(1), b"/a"),
-        is_named(&state, key(3), Some(key(2)), b"d"),
-        has_path(&state, key(3), b"/a/bc/d"),
-        state.rename(key(2), ROOT, b"e") == Ok(()),
-        is_named(&state, key(2), Some(ROOT), b"e"),
-        has_path(&state, key(3), b"/e/d"),
-        is_unknown(&state, key(4)) && is_unknown(&state, later),
-    ];
-    assert_eq!(rt; first_wrong(&answers), None);
-    Ok(())
+fn tells_names_directories_and_paths(rt: HostRuntime) {
+    all_right(&rt, first_wrong(rt.alloc(), 8, &NAMES));
 }

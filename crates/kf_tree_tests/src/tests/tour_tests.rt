@@ -1,21 +1,12 @@
 //! A tour of a subtree, from node to node.
 
-use super::{ROOT, add, key, new_state};
-use crate::answers::first_wrong;
-use kf_core::{Key, Node, Refusal};
+use super::steps::{Look, Step, first_wrong};
+use crate::answers::all_right;
+use kf_core::Key;
 use kf_tree::State;
-use std::test::Fail;
-
-/// `/b` with a file `z` and a directory `y` that has a file, and the empty `/a`.
-fn plant(state: &mut State) -> Result<(), Refusal> {
-    for (slot, path) in (1u32..).zip([b"/b".as_slice(), b"/b/z", b"/b/y", b"/b/y/x", b"/a"]) {
-        add(state, path, Node::Dir, true, slot)?;
-    }
-    Ok(())
-}
 
 /// Whether a tour of this subtree is at these slots, one after another, and then at its end.
-fn is_at(state: &State, top: Key, slots: &[u32]) -> bool {
+pub(super) fn is_at(state: &State, top: Key, slots: &[u32]) -> bool {
     let mut place = state.tour(top);
     for slot in slots {
         match place {
@@ -26,17 +17,20 @@ fn is_at(state: &State, top: Key, slots: &[u32]) -> bool {
     place.is_none()
 }
 
+const TOURS: [Step; 10] = [
+    Step::Is(Look::Tour(0, &[0])),
+    Step::Directory(b"/b", 1),
+    Step::Directory(b"/b/z", 2),
+    Step::Directory(b"/b/y", 3),
+    Step::Directory(b"/b/y/x", 4),
+    Step::Directory(b"/a", 5),
+    Step::Is(Look::Tour(0, &[5, 4, 3, 2, 1, 0])),
+    Step::Is(Look::Tour(1, &[4, 3, 2, 1])),
+    Step::Is(Look::Tour(5, &[5])),
+    Step::Is(Look::Tour(6, &[])),
+];
+
 #[test]
-fn tours_subtrees_in_post_order(rt: HostRuntime) -> Result<(), Fail> {
-    let mut state = new_state(rt.alloc(), 1024)?;
-    let answers = [
-        is_at(&state, ROOT, &[0]),
-        plant(&mut state) == Ok(()),
-        is_at(&state, ROOT, &[5, 4, 3, 2, 1, 0]),
-        is_at(&state, key(1), &[4, 3, 2, 1]),
-        is_at(&state, key(5), &[5]),
-        is_at(&state, key(6), &[]),
-    ];
-    assert_eq!(rt; first_wrong(&answers), None);
-    Ok(())
+fn tours_subtrees_in_post_order(rt: HostRuntime) {
+    all_right(&rt, first_wrong(rt.alloc(), 1024, &TOURS));
 }

@@ -3,7 +3,7 @@ use Rattle.std.proofs.Common.{refl}
 use Rattle.std.specs.Prelude.{[]}
 use Rattle.kf_core.specs.declared.key.Node.TheVariants.{Dir}
 use Rattle.kf_core.proofs.Events.{born_marks}
-use Rattle.kf_tree_tests.proofs.world_tests.make.Goals as goal
+use Rattle.kf_tree_tests.proofs.world_tests.calls.make.Goals as goal
 
 pub activate-requires : goal.activate-requires
 activate-requires c =

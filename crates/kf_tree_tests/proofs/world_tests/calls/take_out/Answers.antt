@@ -4,7 +4,7 @@ use Rattle.kf_core.specs.Bare.{IsCaller}
 use Rattle.kf_core.specs.Steps.{MayPart}
 use Rattle.kf_core.specs.Bounded.{BoundedWorld}
 use Rattle.kf_core.proofs.Events.{told_caller, stays_linked}
-use Rattle.kf_tree_tests.proofs.world_tests.take_out.Goals as goal
+use Rattle.kf_tree_tests.proofs.world_tests.calls.take_out.Goals as goal
 
 pub unlink-requires : goal.unlink-requires
 unlink-requires c =

@@ -2,7 +2,7 @@
 use Rattle.std.proofs.Common.{subst, refl}
 use Rattle.kf_core.specs.Bare.{IsCaller}
 use Rattle.kf_core.proofs.Events.{told_caller}
-use Rattle.kf_tree_tests.proofs.world_tests.show.Goals as goal
+use Rattle.kf_tree_tests.proofs.world_tests.calls.show.Goals as goal
 
 pub show-requires : goal.show-requires
 show-requires c =

@@ -2,7 +2,7 @@
 use Rattle.std.proofs.Common.{subst, refl}
 use Rattle.kf_core.specs.Bare.{IsCaller}
 use Rattle.kf_core.proofs.Events.{told_caller}
-use Rattle.kf_tree_tests.proofs.world_tests.break_at.Goals as goal
+use Rattle.kf_tree_tests.proofs.world_tests.calls.break_at.Goals as goal
 
 pub break_at-requires : goal.break_at-requires
 break_at-requires c =

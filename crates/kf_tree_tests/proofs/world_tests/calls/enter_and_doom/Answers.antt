@@ -5,7 +5,7 @@ use Rattle.kf_core.proofs.Events.{told_caller}
 use Rattle.kf_core.proofs.Hiding.{live_has_marks}
 use Rattle.kf_core.proofs.SlotStates.{live_undoomed}
 use Rattle.kf_core.proofs.WorldVisits.{may_enter, after_enter}
-use Rattle.kf_tree_tests.proofs.world_tests.enter_and_doom.Goals as goal
+use Rattle.kf_tree_tests.proofs.world_tests.calls.enter_and_doom.Goals as goal
 
 pub enter-requires : goal.enter-requires
 enter-requires c = record { may = may_enter c.args.world.now c.args.id c.in_ok-key.key c.in_ok-key.phase (told_caller _ _ _ c.in_ok-key.ensures.known) (sym c.is_waiting.ensures.known ∙ c.if-not-is_waiting.false) }

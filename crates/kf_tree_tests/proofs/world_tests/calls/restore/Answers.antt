@@ -2,7 +2,7 @@
 use Rattle.std.proofs.Common.{subst, refl}
 use Rattle.kf_core.specs.Bare.{IsCaller}
 use Rattle.kf_core.proofs.Events.{told_caller}
-use Rattle.kf_tree_tests.proofs.world_tests.restore.Goals as goal
+use Rattle.kf_tree_tests.proofs.world_tests.calls.restore.Goals as goal
 
 pub restore-requires : goal.restore-requires
 restore-requires c =

@@ -1,0 +1,240 @@
+//! Steps of a worked example: a call each, and what it must answer. Nodes are told by their slots, each with
+//! its first key.
+
+use super::planting::{TEXT, add, key, new_state, remove};
+use super::tour_tests::is_at;
+use kf_core::{Command, Key, Node, Refusal};
+use kf_tree::State;
+use std::alloc::Global;
+
+#[derive(Clone, Copy)]
+pub(super) enum Step {
+    /// A live directory is made at the path, in this slot.
+    Directory(&'static [u8], u32),
+    /// The same of a file.
+    File(&'static [u8], u32),
+    /// A directory that is not activated, and why it is refused.
+    Off(&'static [u8], u32, Option<Refusal>),
+    /// A file that is not activated.
+    OffFile(&'static [u8], u32),
+    Activate(u32),
+    /// These slots are doomed, in this order.
+    Doom(u32, &'static [u32]),
+    /// Whether it was linked.
+    Unlink(u32, Result<bool, Refusal>),
+    Remove(&'static [u8], Option<Refusal>),
+    /// To a name in the root's directory.
+    Rename(u32, &'static [u8]),
+    Hide(u32, Option<Refusal>),
+    /// Whether it was hidden.
+    Show(u32, bool),
+    Compact,
+    Is(Look),
+}
+
+/// What is seen of a tree, which changes nothing.
+#[derive(Clone, Copy)]
+pub(super) enum Look {
+    /// The slots of a subtree, each below before what it stands in.
+    Order(u32, &'static [u32]),
+    /// The same by a tour, from one to the next.
+    Tour(u32, &'static [u32]),
+    /// The slot that is found live.
+    Live(&'static [u8], u32),
+    /// Nothing live is found.
+    Absent(&'static [u8]),
+    Busy(u32),
+    /// Activated, doomed and hidden, as `stat` tells them.
+    Marks(u32, (bool, bool, bool)),
+    /// The names that are listed.
+    Shows(u32, &'static [&'static [u8]]),
+    /// The kinds of the stored commands, by their letters.
+    Stored(&'static [u8]),
+    /// The slots that they are about.
+    About(&'static [u32]),
+    /// How many are stored, and how many a compaction leaves at most.
+    Counts(usize, usize),
+    /// The name, and the slot of the directory.
+    Named(u32, u32, &'static [u8]),
+    /// The root has no name and no directory.
+    Root,
+    Path(u32, &'static [u8]),
+    /// Nothing is told of the key.
+    Unknown(Key),
+}
+
+/// The place of the first step whose answer is not as it must be, in a new tree of so many slots.
+pub(super) fn first_wrong(
+    alloc: Global,
+    slots: u32,
+    steps: &[Step],
+) -> Result<Option<usize>, Refusal> {
+    let mut state = new_state(alloc, slots)?;
+    let mut place = 0;
+    for step in steps {
+        if !is_right(&mut state, *step) {
+            return Ok(Some(place));
+        }
+        place = place.saturating_add(1);
+    }
+    Ok(None)
+}
+
+fn is_right(state: &mut State, step: Step) -> bool {
+    match step {
+        Step::Directory(path, slot) => add(state, path, Node::Dir, true, slot) == Ok(key(slot)),
+        Step::File(path, slot) => add(state, path, TEXT, true, slot) == Ok(key(slot)),
+        Step::Off(path, slot, why) => add(state, path, Node::Dir, false, slot).err() == why,
+        Step::OffFile(path, slot) => add(state, path, TEXT, false, slot) == Ok(key(slot)),
+        Step::Activate(slot) => state.activate(key(slot)).is_ok(),
+        Step::Doom(slot, slots) => dooms(state, slot, slots),
+        Step::Unlink(slot, told) => state.unlink(key(slot)) == told,
+        Step::Remove(path, why) => remove(state, path).err() == why,
+        Step::Rename(slot, name) => state.rename(key(slot), key(0), name).is_ok(),
+        Step::Hide(slot, why) => hide(state, slot).err() == why,
+        Step::Show(slot, told) => state.show(key(slot)) == told,
+        Step::Compact => state.compact().is_ok(),
+        Step::Is(look) => is_seen(state, look),
+    }
+}
+
+fn is_seen(state: &State, look: Look) -> bool {
+    match look {
+        Look::Order(slot, slots) => has_order(state, slot, slots),
+        Look::Tour(slot, slots) => is_at(state, key(slot), slots),
+        Look::Live(path, slot) => state.lookup(path) == Ok(key(slot)),
+        Look::Absent(path) => state.lookup(path) == Err(Refusal::NoEntry),
+        Look::Busy(slot) => state.may_unlink(key(slot)) == Err(Refusal::Busy),
+        Look::Marks(slot, marks) => has_marks(state, slot, marks),
+        Look::Shows(slot, names) => shows(state, slot, names),
+        Look::Stored(letters) => has_stored(state, letters),
+        Look::About(slots) => has_slots(state, slots),
+        Look::Counts(stored, left) => state.stored() == stored && state.compacted() == left,
+        Look::Named(slot, dir, name) => is_named(state, key(slot), key(dir), name),
+        Look::Root => is_root(state, key(0)),
+        Look::Path(slot, path) => has_path(state, key(slot), path),
+        Look::Unknown(key) => is_unknown(state, key),
+    }
+}
+
+fn hide(state: &mut State, slot: u32) -> Result<(), Refusal> {
+    let key = key(slot);
+    state.may_hide(key)?;
+    state.hide(key);
+    Ok(())
+}
+
+/// Whether the keys are the first ones of these slots.
+fn are(keys: &[Key], slots: &[u32]) -> bool {
+    for (found, slot) in keys.iter().zip(slots) {
+        if *found != key(*slot) {
+            return false;
+        }
+    }
+    keys.len() == slots.len()
+}
+
+fn dooms(state: &mut State, slot: u32, slots: &[u32]) -> bool {
+    match state.doom(key(slot)) {
+        Ok(keys) => are(keys.as_slice(), slots),
+        Err(_) => false,
+    }
+}
+
+fn has_order(state: &State, slot: u32, slots: &[u32]) -> bool {
+    match state.post_order(key(slot)) {
+        Ok(keys) => are(keys.as_slice(), slots),
+        Err(_) => false,
+    }
+}
+
+fn has_marks(state: &State, slot: u32, marks: (bool, bool, bool)) -> bool {
+    match state.stat(key(slot)) {
+        Ok(told) => (told.activated, told.doomed, told.hidden) == marks,
+        Err(_) => false,
+    }
+}
+
+fn shows(state: &State, slot: u32, names: &[&[u8]]) -> bool {
+    let Ok(list) = state.list(key(slot), None, 10) else {
+        return false;
+    };
+    for (shown, name) in list.iter().zip(names) {
+        if shown.bytes() != *name {
+            return false;
+        }
+    }
+    list.len() == names.len()
+}
+
+/// The letter of each stored command: Create, Activate, Doom, Unlink, Rename, Hide, Show.
+fn letter(command: &Command) -> u8 {
+    match command {
+        Command::Create { .. } => b'C',
+        Command::Activate { .. } => b'A',
+        Command::Doom { .. } => b'D',
+        Command::Unlink { .. } => b'U',
+        Command::Rename { .. } => b'R',
+        Command::Hide { .. } => b'H',
+        Command::Show { .. } => b'S',
+    }
+}
+
+/// The slot that a stored command is about.
+fn slot_of(command: &Command) -> u32 {
+    match command {
+        Command::Create { key, .. }
+        | Command::Activate { key }
+        | Command::Doom { key }
+        | Command::Unlink { key }
+        | Command::Rename { key, .. }
+        | Command::Hide { key }
+        | Command::Show { key } => key.slot,
+    }
+}
+
+fn has_stored(state: &State, letters: &[u8]) -> bool {
+    for (command, expected) in state.commands().iter().zip(letters) {
+        if letter(command) != *expected {
+            return false;
+        }
+    }
+    state.commands().len() == letters.len()
+}
+
+fn has_slots(state: &State, slots: &[u32]) -> bool {
+    for (command, slot) in state.commands().iter().zip(slots) {
+        if slot_of(command) != *slot {
+            return false;
+        }
+    }
+    state.commands().len() == slots.len()
+}
+
+fn is_named(state: &State, key: Key, dir: Key, expected: &[u8]) -> bool {
+    match state.name_of(key) {
+        Ok(name) => name == expected && state.parent_of(key) == Ok(Some(dir)),
+        Err(_) => false,
+    }
+}
+
+fn is_root(state: &State, key: Key) -> bool {
+    match state.name_of(key) {
+        Ok(name) => name.is_empty() && state.root() == key && state.parent_of(key) == Ok(None),
+        Err(_) => false,
+    }
+}
+
+/// Whether a key is told by this path, and the path leads to it.
+fn has_path(state: &State, key: Key, expected: &[u8]) -> bool {
+    match state.path_of(key) {
+        Ok(path) => path.as_slice() == expected && state.walk(expected) == Ok(key),
+        Err(_) => false,
+    }
+}
+
+fn is_unknown(state: &State, key: Key) -> bool {
+    state.name_of(key).is_err()
+        && state.parent_of(key) == Err(Refusal::NoEntry)
+        && state.path_of(key).is_err()
+}
