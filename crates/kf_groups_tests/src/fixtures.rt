@@ -1,16 +1,11 @@
 //! What the tests of groups build on: a tree with a directory, and what stands in it.
 
 use kf_core::{Key, Limits, Node};
-use kf_groups::{Attribute, Group, create_group};
-use kf_shared::{Naming, NewTree, SharedTree};
+use kf_groups::Attribute;
+use kf_shared::{Editor, Naming, NewTree, SharedTree};
 use std::alloc::Global;
 use std::process::Abort;
 use std::sync::Wait;
-
-/// The place of the first answer that is not as it must be.
-pub(crate) fn first_wrong(answers: &[bool]) -> Option<usize> {
-    answers.iter().position(|is_right| !*is_right)
-}
 
 pub(crate) fn made<R: Abort>(rt: &R, alloc: Global, slots: u32) -> NewTree {
     let Some(limits) = Limits::new(slots, 9) else {
@@ -22,9 +17,23 @@ pub(crate) fn made<R: Abort>(rt: &R, alloc: Global, slots: u32) -> NewTree {
     }
 }
 
-pub(crate) const fn attribute(name: &[u8], mode: u16, tag: u64) -> Attribute<'_> {
-    Attribute { name, mode, tag }
-}
+pub(crate) const A: Attribute<'static> = Attribute {
+    name: b"a",
+    mode: 0o444,
+    tag: 1,
+};
+
+pub(crate) const B: Attribute<'static> = Attribute {
+    name: b"b",
+    mode: 0o644,
+    tag: 2,
+};
+
+pub(crate) const C: Attribute<'static> = Attribute {
+    name: b"c",
+    mode: 0o644,
+    tag: 3,
+};
 
 /// The slot of the live node that the path names.
 pub(crate) fn slot<N: Naming, R: Wait>(rt: &R, tree: &SharedTree<N>, path: &[u8]) -> Option<u32> {
@@ -36,22 +45,26 @@ pub(crate) fn is_free<N: Naming, R: Wait>(rt: &R, tree: &SharedTree<N>, path: &[
     tree.read(rt).state().walk(path).is_err()
 }
 
-/// A live directory `/d`.
-pub(crate) fn directory<N: Naming, R: Abort + Wait>(rt: &R, tree: &SharedTree<N>) -> Key {
+/// The directory `/d`.
+pub(crate) const D: Key = Key {
+    slot: 1,
+    generation: 1,
+};
+
+/// Makes the live directory `/d` in a new tree, and answers whether it is made.
+pub(crate) fn directory<N: Naming, R: Wait>(rt: &R, tree: &SharedTree<N>) -> bool {
     let mut editor = tree.edit(rt);
     let root = editor.state().root();
-    match editor.create(root, b"d", Node::Dir, true) {
-        Ok(key) => key,
-        Err(_) => panic!(rt; "no directory"),
-    }
+    editor.create(root, b"d", Node::Dir, true) == Ok(D)
 }
 
-/// Makes a group in a directory, and answers whether it is made.
-pub(crate) fn is_made<N: Naming, R: Wait>(
-    rt: &R,
-    tree: &SharedTree<N>,
-    dir: Key,
-    group: &Group,
-) -> bool {
-    create_group(&mut tree.edit(rt), dir, group).is_ok()
+/// Makes so many directories in the root's, and answers whether the last has this slot.
+pub(crate) fn takes_slots<N: Naming>(editor: &mut Editor<'_, N>, count: u32) -> bool {
+    let root = editor.state().root();
+    let mut last = Ok(root);
+    for number in 0..count {
+        let name = [b'0' + (number / 64 % 64) as u8, b'0' + (number % 64) as u8];
+        last = editor.create(root, &name, Node::Dir, false);
+    }
+    matches!(last, Ok(key) if key.slot == count)
 }

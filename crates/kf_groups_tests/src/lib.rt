@@ -6,7 +6,11 @@ mod fixtures;
 #[cfg(test)]
 mod full_tests;
 #[cfg(test)]
+mod refusals;
+#[cfg(test)]
 mod removal_tests;
+#[cfg(test)]
+mod steps;
 #[cfg(test)]
 mod tests;
 #[cfg(test)]

@@ -1,9 +1,9 @@
 //! A removal of a group waits for a call that runs on one of its files.
 ghost use Rattle.std.specs.Prelude.{◌≡◌};
 
-use crate::fixtures::{attribute, directory, is_free, is_made, made};
+use crate::fixtures::{A, D, directory, is_free, made};
 use kf_core::{Key, Refusal};
-use kf_groups::{Group, remove_group};
+use kf_groups::{Group, create_group, remove_group};
 use kf_shared::{Naming, NewTree, SharedTree};
 use std::alloc::Global;
 use std::marker::Brand;
@@ -90,6 +90,11 @@ fn removes<N: Naming, R: Wait>(
     told
 }
 
+/// Makes a group in a directory, and answers whether it is made.
+fn is_made<N: Naming, R: Wait>(rt: &R, tree: &SharedTree<N>, dir: Key, group: &Group) -> bool {
+    create_group(&mut tree.edit(rt), dir, group).is_ok()
+}
+
 /// The removal of a group answers once the call on the file of this path has ended, and the file is gone.
 fn waits<N: Naming + Send + Sync, R: Abort + Threads + Wait + Sync>(
     rt: &R,
@@ -123,12 +128,12 @@ fn both_wait<N: Naming + Send + Sync, R: Abort + Threads + Wait + Sync>(
     requires { new.master.table ≡ N.table }
 {
     let tree = new.named::<N>();
-    let dir = directory(rt, &tree);
-    let files = [attribute(b"a", 0o444, 1)];
-    let own = Group::new(Some(b"g".as_slice()), &files);
-    waits(rt, alloc, &tree, dir, own, b"/d/g/a");
-    waits(rt, alloc, &tree, dir, Group::new(None, &files), b"/d/a");
-    assert!(rt; is_made(rt, &tree, dir, &own), "the slots are free");
+    assert!(rt; directory(rt, &tree));
+    let files = [A];
+    let own = Group::new(Some(b"g"), &files);
+    waits(rt, alloc, &tree, D, own, b"/d/g/a");
+    waits(rt, alloc, &tree, D, Group::new(None, &files), b"/d/a");
+    assert!(rt; is_made(rt, &tree, D, &own), "the slots are free");
 }
 
 #[test]
