@@ -4,8 +4,8 @@ use super::steps::{Look, Step, first_wrong};
 use crate::answers::all_right;
 
 /// `/a` doomed with a hidden file and a directory below it, `/b` live with one hidden file and one doomed,
-/// and `/c` off. Nine are below the root, five doomed (three of them inside `/a`), two hidden. After the removal
-/// of `/a` five are below the root, one doomed in a directory that is not, one hidden.
+/// and `/c` off. Nine are below the root, five doomed (three of them inside `/a`), two hidden. After the
+/// removal of `/a` five are below the root, one doomed in a directory that is not, one hidden.
 const FOREST: [Step; 31] = [
     Step::Is(Look::Counts(0, 0)),
     Step::Directory(b"/b", 1),

@@ -1,5 +1,5 @@
-//! Steps of a walk through a list of slots and callers: a call each, and what it must answer. The calls of a step
-//! are proved once, however many steps there are.
+//! Steps of a walk through a list of slots and callers: a call each, and what it must answer. The calls of a
+//! step are proved once, however many steps there are.
 
 use super::calls::{
     break_at, call_once, enter, enter_and_doom, fill, hide, hold_often, leave, make, release,
@@ -8,8 +8,8 @@ use super::calls::{
 use kf_core::{Key, Limits, Phase, Refusal, World};
 use std::alloc::Global;
 
-/// A step of a walk, and what it must answer. A key is told as (slot, generation), a caller by its number; the
-/// first hold is number 0.
+/// A step of a walk, and what it must answer. A key is told as (slot, generation), a caller by its number;
+/// the first hold is number 0.
 #[derive(Clone, Copy)]
 pub(super) enum Step {
     /// A new live node takes this key.
