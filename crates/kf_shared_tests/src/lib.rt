@@ -1,6 +1,10 @@
 //! The tests of `kf_shared`, over its public calls: proved over the crate, and not with it.
 #![tactic(auto)]
 
+mod laws;
+
+pub use laws::tree_life;
+
 #[cfg(test)]
 mod crowd_roles;
 #[cfg(test)]
