@@ -1,4 +1,5 @@
 //! Keys that are hidden and shown among many threads.
+use crate::idle_tests::waits_sleep;
 use crate::test_fixtures::{
     activate, born, doom, enter, hide, look, made, part, pin, refused, unlink,
 };
@@ -286,7 +287,11 @@ fn both_wait<R: Abort + Threads + Wait + Clock + Sync>(
     }
 }
 
-fn shown_and_released<R: Abort + Wait>(rt: &R, hidden: Option<Hidden>, left: Option<Hiding>) {
+pub(crate) fn shown_and_released<R: Abort + Wait>(
+    rt: &R,
+    hidden: Option<Hidden>,
+    left: Option<Hiding>,
+) {
     match hidden {
         Some(hidden) => hidden.show().release(),
         None => panic!(rt; "nobody hid the key"),
@@ -303,4 +308,5 @@ fn hiders_among_calls_and_waiters(rt: HostRuntime) {
     for turn in 0..40u32 {
         both_wait(&rt, rt.alloc(), turn >= 36, turn % 2 == 0);
     }
+    waits_sleep(&rt, rt.alloc());
 }

@@ -10,6 +10,8 @@ mod hiding_tests;
 #[cfg(test)]
 mod holds_tests;
 #[cfg(test)]
+mod idle_tests;
+#[cfg(test)]
 mod note_tests;
 #[cfg(test)]
 mod search_tests;
