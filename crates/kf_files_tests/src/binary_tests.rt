@@ -1,11 +1,10 @@
 //! Binary attributes: bytes at any offset, of any number, by one callback each.
 ghost use Rattle.std.specs.Prelude.{◌≡◌, ◌≤◌};
 
-use crate::waiting_fixtures::{
-    close, file_of, first_wrong, made, opened, post_of, posts_of, remove,
-};
+use crate::driver::count_of;
+use crate::fixtures::{made, opened_alone, removes};
 use kf_core::Refusal;
-use kf_files::{Fault, FileError, WaitBinaryOps};
+use kf_files::{Fault, FileError, WaitBinaryOps, WaitingFile};
 use kf_shared::{Naming, NewTree, SharedTree};
 use kf_words::Call;
 use std::alloc::Global;
@@ -75,51 +74,96 @@ impl<N: Naming> WaitBinaryOps<N> for Memory {
     }
 }
 
+/// A call on so many bytes at an offset, 5,000 of them at most, and what it must answer.
+#[derive(Clone, Copy)]
+enum Step {
+    Read(u64, usize, Result<usize, FileError>),
+    Write(u64, usize, Result<usize, FileError>),
+    /// The first byte of what was read last, that at 251, and the last of 5,000.
+    Bytes(u8, u8, u8),
+    Polls(bool),
+}
+
+/// Reads and writes of no bytes call nothing. A read leaves what is behind its bytes.
+const THERE: [Step; 16] = [
+    Step::Polls(true),
+    Step::Read(0, 5000, Ok(5000)),
+    Step::Bytes(0, 0, 230),
+    Step::Polls(false),
+    Step::Read(9_998, 5000, Ok(2)),
+    Step::Bytes(209, 0, 230),
+    Step::Read(10_000, 5000, Ok(0)),
+    Step::Read(u64::MAX, 5000, Ok(0)),
+    Step::Read(5, 0, Ok(0)),
+    Step::Read(7, 5000, Err(FileError::Callback(Fault { number: 70 }))),
+    Step::Bytes(209, 0, 230),
+    Step::Write(4_000, 5000, Ok(5000)),
+    Step::Write(7, 1, Err(FileError::Callback(Fault { number: 71 }))),
+    Step::Write(9_000, 5000, Ok(1000)),
+    Step::Write(1, 0, Ok(0)),
+    Step::Write(9_999, 5000, Ok(1)),
+];
+
+const GONE: Result<usize, FileError> = Err(FileError::Refused(Refusal::NoDevice));
+
+const AWAY: [Step; 2] = [Step::Write(1, 0, GONE), Step::Read(1, 5000, GONE)];
+
+fn is_right<N: Naming, R: Wait>(
+    rt: &R,
+    tree: &SharedTree<N>,
+    (memory, bytes): (&Memory, &mut [u8; 5000]),
+    file: &mut WaitingFile<N>,
+    step: Step,
+) -> bool {
+    match step {
+        Step::Read(offset, count, told) => {
+            let count = count.min(5000);
+            file.read_at(rt, tree, memory, offset, &mut bytes[..count]) == told
+        }
+        Step::Write(offset, count, told) => {
+            let count = count.min(5000);
+            file.write_at(rt, tree, memory, offset, &bytes[..count]) == told
+        }
+        Step::Bytes(first, later, last) => {
+            bytes[0] == first && bytes[251] == later && bytes[4999] == last
+        }
+        Step::Polls(told) => file.poll() == told,
+    }
+}
+
+/// Takes the steps. The first whose answer is not as it must be stops the test.
+fn walk<N: Naming, R: Abort + Wait>(
+    rt: &R,
+    tree: &SharedTree<N>,
+    memory: &Memory,
+    file: &mut WaitingFile<N>,
+    steps: &[Step],
+) {
+    let mut bytes = [9u8; 5000];
+    let mut place = 0usize;
+    for step in steps {
+        if !is_right(rt, tree, (memory, &mut bytes), file, *step) {
+            panic!(rt; "step {place}");
+        }
+        place = place.saturating_add(1);
+    }
+}
+
 fn moves_bytes<N: Naming, R: Abort + Wait>(rt: &R, alloc: Global, new: NewTree)
     requires { new.master.table ≡ N.table }
 {
     let tree = new.named::<N>();
-    let key = file_of(rt, &tree, b"t");
-    let mut posts = posts_of(rt, alloc);
-    let mut post = post_of(rt, &mut posts);
-    let mut file = opened(rt, &tree, key, &mut posts);
+    let mut file = opened_alone(rt, alloc, &tree);
     let memory = Memory {
         reads: AtomicU64::new(0),
         writes: AtomicU64::new(0),
         last: AtomicU64::new(0),
     };
-    let mut out = [9u8; 5000];
-    let gone = Err(FileError::Refused(Refusal::NoDevice));
-    let answers = [
-        file.poll(),
-        file.read_at(rt, &tree, &memory, 0, &mut out) == Ok(5000),
-        out[0] == 0 && out[250] == 250 && out[251] == 0 && out[4999] == 230,
-        !file.poll(),
-        post.notify() == Ok(2),
-        file.poll(),
-        file.read_at(rt, &tree, &memory, 9_998, &mut out) == Ok(2),
-        out[0] == 209 && out[1] == 210 && out[4999] == 230,
-        !file.poll(),
-        file.read_at(rt, &tree, &memory, 10_000, &mut out) == Ok(0),
-        file.read_at(rt, &tree, &memory, u64::MAX, &mut out) == Ok(0),
-        file.read_at(rt, &tree, &memory, 5, &mut []) == Ok(0),
-        memory.reads.load(Ordering::SeqCst) == 4,
-        file.read_at(rt, &tree, &memory, 7, &mut out)
-            == Err(FileError::Callback(Fault { number: 70 })),
-        file.write_at(rt, &tree, &memory, 4_000, &out) == Ok(5000),
-        file.write_at(rt, &tree, &memory, 9_000, &out) == Ok(1000),
-        memory.last.load(Ordering::SeqCst) == 9_000,
-        file.write_at(rt, &tree, &memory, 7, b"x")
-            == Err(FileError::Callback(Fault { number: 71 })),
-        file.write_at(rt, &tree, &memory, 1, b"") == Ok(0),
-        remove(rt, &tree, key) == 1,
-        file.write_at(rt, &tree, &memory, 1, b"") == gone,
-        file.read_at(rt, &tree, &memory, 1, &mut out) == gone,
-        memory.reads.load(Ordering::SeqCst) == 5,
-        memory.writes.load(Ordering::SeqCst) == 3,
-    ];
-    assert_eq!(rt; first_wrong(&answers), None);
-    close(file);
+    walk(rt, &tree, &memory, &mut file, &THERE);
+    assert!(rt; removes(rt, &tree));
+    walk(rt, &tree, &memory, &mut file, &AWAY);
+    let counts = (count_of(&memory.reads), count_of(&memory.writes));
+    assert!(rt; counts == (5, 4) && count_of(&memory.last) == 9_999);
 }
 
 #[test]

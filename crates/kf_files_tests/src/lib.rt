@@ -6,14 +6,14 @@ mod binary_tests;
 #[cfg(test)]
 mod callback_tests;
 #[cfg(test)]
+mod driver;
+#[cfg(test)]
+mod fixtures;
+#[cfg(test)]
 mod number_tests;
 #[cfg(test)]
-mod tests;
-#[cfg(test)]
-mod tree_hold;
+mod steps;
 #[cfg(test)]
 mod wait_tests;
-#[cfg(test)]
-mod waiting_fixtures;
 #[cfg(test)]
 mod waiting_tests;

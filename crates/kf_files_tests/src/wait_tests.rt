@@ -1,62 +1,24 @@
 //! Waiting for a change: who waits sleeps, and a notify, a removal and a hiding wake it.
 ghost use Rattle.std.specs.Prelude.{◌≡◌};
 
-use crate::waiting_fixtures::{
-    BOTH, Before, ROOT, close, file_of, first_wrong, made, new_driver, opened, post_at, post_of,
-    posts_of, release_all,
-};
+use crate::driver::{Plan, driver_of};
+use crate::fixtures::{ROOT, file_of, made, opened, post_at, posts_of, release_all};
 use kf_core::Key;
-use kf_files::{BoxedFile, PageApart, WaitingFile, hide_and_tell, remove_and_tell};
-use kf_notify::Posts;
+use kf_files::{WaitingFile, hide_and_tell, remove_and_tell};
+use kf_notify::{Post, Posts};
 use kf_shared::{Naming, NewTree, SharedTree};
 use std::alloc::Global;
 use std::marker::Brand;
 use std::process::Abort;
 use std::sync::Wait;
 use std::sync::atomic::{AtomicU64, Ordering};
-use std::thread::{Threads, for_each_mut, join, sleep};
+use std::thread::{Threads, for_each_mut, sleep};
 use std::time::{Clock, CpuClock, Duration};
 
 /// How often four threads wait for a notify, how often for a hiding, and how often for a removal.
 const CHANGES: u64 = 10_000;
 
-// ---- one thread
-
-/// Nothing changes: each wait ends by its limit. A notify, a removal: none waits.
-fn ends_by_a_limit<N: Naming, R: Abort + Wait + Clock>(rt: &R, alloc: Global, new: NewTree)
-    requires { new.master.table ≡ N.table }
-{
-    let tree = new.named::<N>();
-    let key = file_of(rt, &tree, b"t");
-    let mut posts = posts_of(rt, alloc);
-    let mut post = post_of(rt, &mut posts);
-    let mut file = opened(rt, &tree, key, &mut posts);
-    let quiet = new_driver(Before::Nothing, b"v");
-    let limit = Duration::from_millis(2);
-    let answers = [
-        file.wait_changed_for(rt, limit),
-        file.read(rt, &tree, &quiet, 0, &mut [0u8; 4]) == Ok(1),
-        !file.wait_changed_for(rt, limit),
-        post.wait_past_for(rt, 1, limit) == None,
-        post.wait_past(rt, 7) == 1,
-        tells(&mut posts, 1),
-        post.wait_past(rt, 1) == 2,
-        post.wait_past_for(rt, 1, limit) == Some(2),
-        file.wait_changed_for(rt, limit),
-        file.read(rt, &tree, &quiet, 0, &mut [0u8; 4]) == Ok(1),
-        removes(rt, &tree, &mut posts, key),
-        post.now() == 3,
-        file.wait_changed_for(rt, limit),
-    ];
-    assert_eq!(rt; first_wrong(&answers), None);
-    close(file);
-}
-
-#[test]
-fn a_wait_ends_by_its_limit_or_by_a_change(rt: HostRuntime) {
-    let new = made(&rt, rt.alloc());
-    ends_by_a_limit::<Brand, _>(&rt, rt.alloc(), new);
-}
+// ---- what changes a file
 
 fn tells(posts: &mut Posts, slot: u32) -> bool {
     slot < posts.slots() && posts.notify(slot).is_ok()
@@ -90,6 +52,91 @@ fn hides<N: Naming, R: Wait>(rt: &R, tree: &SharedTree<N>, posts: &mut Posts, ke
     }
 }
 
+/// Whether the file gives one byte.
+fn reads<N: Naming, R: Wait>(rt: &R, tree: &SharedTree<N>, file: &mut WaitingFile<N>) -> bool {
+    let quiet = driver_of(Plan::Shows(b"v"), None);
+    file.read(rt, tree, &quiet, 0, &mut [0u8; 4]) == Ok(1)
+}
+
+// ---- one thread
+
+/// A call on a file of slot 1, or on a post of it, and what it must answer. A wait has a limit of 2 ms.
+#[derive(Clone, Copy)]
+enum Step {
+    Reads,
+    /// Whether a wait of the file ends by a change.
+    Changes(bool),
+    /// What a wait for another number than this ends by.
+    Passes(u64, Option<u64>),
+    /// The same without a limit.
+    PassesAtLast(u64, u64),
+    Told,
+    Removed,
+}
+
+/// Nothing changes: each wait ends by its limit. A notify, a removal: none waits.
+const STEPS: [Step; 13] = [
+    Step::Changes(true),
+    Step::Reads,
+    Step::Changes(false),
+    Step::Passes(1, None),
+    Step::PassesAtLast(7, 1),
+    Step::Told,
+    Step::PassesAtLast(1, 2),
+    Step::Passes(1, Some(2)),
+    Step::Changes(true),
+    Step::Reads,
+    Step::Removed,
+    Step::PassesAtLast(2, 3),
+    Step::Changes(true),
+];
+
+fn is_right<N: Naming, R: Wait + Clock>(
+    rt: &R,
+    tree: &SharedTree<N>,
+    file: &mut WaitingFile<N>,
+    (posts, post): (&mut Posts, &mut Post),
+    (key, step): (Key, Step),
+) -> bool {
+    let limit = Duration::from_millis(2);
+    match step {
+        Step::Reads => reads(rt, tree, file),
+        Step::Changes(told) => file.wait_changed_for(rt, limit) == told,
+        Step::Passes(seen, told) => post.wait_past_for(rt, seen, limit) == told,
+        Step::PassesAtLast(seen, told) => post.wait_past(rt, seen) == told,
+        Step::Told => tells(posts, key.slot),
+        Step::Removed => removes(rt, tree, posts, key),
+    }
+}
+
+/// Takes the steps. The first whose answer is not as it must be stops the test.
+fn walk<N: Naming, R: Abort + Wait + Clock>(rt: &R, tree: &SharedTree<N>, posts: &mut Posts) {
+    let key = file_of(rt, tree, b"t");
+    let mut post = post_at(rt, posts, key.slot);
+    let mut file = opened(rt, tree, key, posts);
+    let mut place = 0usize;
+    for step in STEPS {
+        if !is_right(rt, tree, &mut file, (posts, &mut post), (key, step)) {
+            panic!(rt; "step {place}");
+        }
+        place = place.saturating_add(1);
+    }
+}
+
+fn ends_by_a_limit<N: Naming, R: Abort + Wait + Clock>(rt: &R, alloc: Global, new: NewTree)
+    requires { new.master.table ≡ N.table }
+{
+    let tree = new.named::<N>();
+    let mut posts = posts_of(rt, alloc);
+    walk(rt, &tree, &mut posts);
+}
+
+#[test]
+fn a_wait_ends_by_its_limit_or_by_a_change(rt: HostRuntime) {
+    let new = made(&rt, rt.alloc());
+    ends_by_a_limit::<Brand, _>(&rt, rt.alloc(), new);
+}
+
 // ---- four wait while a fifth changes the file: each notify, hiding and removal wakes them all
 
 /// What becomes of a file that all five have read.
@@ -106,7 +153,10 @@ enum Change {
 #[derive(Drop)]
 struct Reader {
     posts: Posts,
-    /// How often it has seen the change that it waited for, and none before it.
+    /// It begins once the others have slept for a second.
+    comes_last: bool,
+    /// How often it has seen the change that it waited for, and none before it. None counts where others used
+    /// processor in their sleep.
     seen: u64,
 }
 
@@ -114,8 +164,7 @@ fn changes<N: Naming, R: Abort + Wait>(
     rt: &R,
     tree: &SharedTree<N>,
     posts: &mut Posts,
-    key: Key,
-    name: &[u8],
+    (key, name): (Key, &[u8]),
     change: Change,
 ) -> bool {
     match change {
@@ -129,123 +178,113 @@ fn changes<N: Naming, R: Abort + Wait>(
     }
 }
 
-fn opened_on<N: Naming, R: Abort + Wait>(
-    rt: &R,
-    tree: &SharedTree<N>,
-    posts: &mut Posts,
-    name: &[u8],
-    page: Box<PageApart>,
-) -> (Key, BoxedFile<N>) {
-    let mut editor = tree.edit(rt);
-    let Ok(key) = editor.state().find(ROOT, name) else {
-        panic!(rt; "not there")
-    };
-    let held = editor.hold(key);
-    drop(editor);
-    let Ok(hold) = held else {
-        panic!(rt; "no hold")
-    };
-    let node = hold.node();
-    let post = post_at(rt, posts, key.slot);
-    match WaitingFile::open_on(hold, node, BOTH, post, page) {
-        Ok(file) => (key, file),
-        Err((hold, _, _, _)) => {
-            hold.release();
-            panic!(rt; "not opened")
-        }
+fn found<N: Naming, R: Abort + Wait>(rt: &R, tree: &SharedTree<N>, name: &[u8]) -> Key {
+    match tree.edit(rt).state().find(ROOT, name) {
+        Ok(key) => key,
+        Err(_) => panic!(rt; "not there"),
     }
 }
 
 /// Opens the file and reads it, and sleeps until it has changed. The last of five to read changes it, while
-/// four wait. Gives the page back.
+/// four wait.
 fn sees<N: Naming, R: Abort + Wait>(
     rt: &R,
     tree: &SharedTree<N>,
-    (posts, page): (&mut Posts, Box<PageApart>),
+    posts: &mut Posts,
     name: &[u8],
-    change: Change,
-    reads: &AtomicU64,
-) -> (bool, Box<PageApart>) {
-    let quiet = new_driver(Before::Nothing, b"v");
-    let (key, mut file) = opened_on(rt, tree, posts, name, page);
-    let mut right = file.read(rt, tree, &quiet, 0, &mut [0u8; 4]) == Ok(1) && !file.poll();
-    if reads.fetch_add(1, Ordering::SeqCst) % 5 == 4 {
-        right = changes(rt, tree, posts, key, name, change) && right;
+    (change, count): (Change, &AtomicU64),
+) -> bool {
+    let key = found(rt, tree, name);
+    let mut file = opened(rt, tree, key, posts);
+    let mut right = reads(rt, tree, &mut file) && !file.poll();
+    if count.fetch_add(1, Ordering::SeqCst) % 5 == 4 {
+        right = changes(rt, tree, posts, (key, name), change) && right;
     }
     file.wait_changed(rt);
-    right = right && file.poll();
-    let (hold, _, page) = file.into_parts();
-    hold.release();
-    (right, page)
+    right && file.poll()
 }
 
 /// Sees changes of `s` and `t` in turn: who changed the one has done so before the other is read by all.
 fn sees_all<N: Naming, R: Abort + Wait>(
     rt: &R,
-    alloc: Global,
     tree: &SharedTree<N>,
     reader: &mut Reader,
-    change: Change,
-    reads: &AtomicU64,
+    change: (Change, &AtomicU64),
 ) {
-    let Ok(mut page) = Box::new(alloc, PageApart::new()) else {
-        panic!(rt; "no memory")
-    };
-    let mut seen = 0u64;
     for round in 0..CHANGES {
         let name: &[u8] = if round % 2 == 0 { b"s" } else { b"t" };
-        let (right, back) = sees(rt, tree, (&mut reader.posts, page), name, change, reads);
-        page = back;
-        if right {
-            seen = seen.saturating_add(1);
+        if sees(rt, tree, &mut reader.posts, name, change) {
+            reader.seen = reader.seen.saturating_add(1);
         }
     }
-    reader.seen = seen;
 }
 
-/// The processor time that passes in the process while four threads wait, in a second.
-fn time_asleep<R: Wait + Clock + CpuClock>(rt: &R, reads: &AtomicU64) -> Option<Duration> {
+/// Whether hardly any processor time passes in the process while four threads wait, in a second.
+fn are_asleep<R: Wait + Clock + CpuClock>(rt: &R, count: &AtomicU64) -> bool {
     for _ in rt.forever() {
-        if reads.load(Ordering::SeqCst) == 4 {
+        if count.load(Ordering::SeqCst) == 4 {
             break;
         }
         sleep(rt, Duration::from_millis(1));
     }
-    let before = rt.process_cpu_time().ok()?;
+    let before = rt.process_cpu_time();
     sleep(rt, Duration::from_secs(1));
-    rt.process_cpu_time().ok()?.checked_sub(before)
-}
-
-fn new_reader<R: Abort>(rt: &R, posts: &mut Posts) -> Reader {
-    match posts.another() {
-        Ok(posts) => Reader { posts, seen: 0 },
-        Err(_) => panic!(rt; "no memory"),
+    match (before, rt.process_cpu_time()) {
+        (Ok(before), Ok(after)) => after.saturating_sub(before) < Duration::from_millis(100),
+        _ => false,
     }
 }
 
-fn new_readers<R: Abort>(rt: &R, alloc: Global, posts: &mut Posts) -> Vec<Reader> {
+/// One of five.
+fn takes_part<N: Naming, R: Abort + Wait + Clock + CpuClock>(
+    rt: &R,
+    tree: &SharedTree<N>,
+    reader: &mut Reader,
+    change: (Change, &AtomicU64),
+) {
+    let are_others_asleep = !reader.comes_last || are_asleep(rt, change.1);
+    sees_all(rt, tree, reader, change);
+    if !are_others_asleep {
+        reader.seen = 0;
+    }
+}
+
+/// Five readers, whose last comes last.
+fn readers_of<R: Abort>(rt: &R, alloc: Global) -> Vec<Reader> {
+    let mut posts = posts_of(rt, alloc);
     let mut readers = Vec::new(alloc);
-    for _ in 0..4u32 {
-        let pushed = readers.push(new_reader(rt, posts));
-        assert!(rt; pushed.is_ok(), "no memory");
+    for number in 0..5u32 {
+        let Ok(own) = posts.another() else {
+            panic!(rt; "no memory")
+        };
+        let reader = Reader {
+            posts: own,
+            comes_last: number == 4,
+            seen: 0,
+        };
+        assert!(rt; readers.push(reader).is_ok(), "no memory");
     }
     readers
 }
 
-fn four_see<N: Naming + Send + Sync, R: Abort + Threads + Wait + Sync>(
+/// All five see each change. (They wait for ever where one is not woken.)
+fn all_see<N: Naming + Send + Sync, R: Abort + Threads + Wait + Clock + CpuClock + Sync>(
     rt: &R,
     alloc: Global,
     tree: &SharedTree<N>,
-    readers: &mut Vec<Reader>,
     change: Change,
-    reads: &AtomicU64,
 ) {
+    let count = AtomicU64::new(0);
+    let mut readers = readers_of(rt, alloc);
     for_each_mut(
         rt,
         readers.as_mut_slice(),
-        4,
-        &|_, reader| sees_all(rt, alloc, tree, reader, change, reads),
+        5,
+        &|_, reader| takes_part(rt, tree, reader, (change, &count)),
     );
+    for reader in readers.as_slice() {
+        assert!(rt; reader.seen == CHANGES, "each saw each change");
+    }
 }
 
 fn four_are_woken<N: Naming + Send + Sync, R: Abort + Threads + Wait + Clock + CpuClock + Sync>(
@@ -259,26 +298,7 @@ fn four_are_woken<N: Naming + Send + Sync, R: Abort + Threads + Wait + Clock + C
     let tree = new.named::<N>();
     file_of(rt, &tree, b"s");
     file_of(rt, &tree, b"t");
-    let mut posts = posts_of(rt, alloc);
-    let mut readers = new_readers(rt, alloc, &mut posts);
-    let mut fifth = new_reader(rt, &mut posts);
-    let reads = AtomicU64::new(0);
-    let ((), used) = join(
-        rt,
-        || four_see(rt, alloc, &tree, &mut readers, change, &reads),
-        || {
-            let used = time_asleep(rt, &reads);
-            sees_all(rt, alloc, &tree, &mut fifth, change, &reads);
-            used
-        },
-    );
-    let limit = Duration::from_millis(100);
-    assert!(rt;
-        used.is_some_and(|used| used < limit),
-        "who waits uses no processor"
-    );
-    let all_seen = readers.iter().all(|reader| reader.seen == CHANGES);
-    assert!(rt; all_seen && fifth.seen == CHANGES, "all saw each change");
+    all_see(rt, alloc, &tree, change);
 }
 
 #[test]

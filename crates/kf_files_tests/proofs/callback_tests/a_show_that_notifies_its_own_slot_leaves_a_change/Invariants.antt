@@ -1,4 +1,4 @@
-use Rattle.kf_files_tests.proofs.waiting_tests.a_show_that_notifies_its_own_slot_leaves_a_change.Given as goal
+use Rattle.kf_files_tests.proofs.callback_tests.a_show_that_notifies_its_own_slot_leaves_a_change.Given as goal
 
 -- the tree that was just made
 abbrev pub ghosts-notifies_itself : goal.ghosts-notifies_itself
