@@ -2,7 +2,7 @@
 ghost use Rattle.std.specs.Prelude.{◌≡◌};
 
 use kf_core::{Limits, Node, Refusal};
-use kf_driver::open_path;
+use kf_driver::{Driver, DriverTable};
 use kf_files::{WaitingFile, Want};
 use kf_groups::{Attribute, Group, create_group};
 use kf_notify::Posts;
@@ -12,19 +12,24 @@ use std::marker::Brand;
 use std::process::Abort;
 use std::sync::Wait;
 
+pub(crate) const READ: Want = Want {
+    read: true,
+    write: false,
+};
+
+pub(crate) const WRITE: Want = Want {
+    read: false,
+    write: true,
+};
+
 pub(crate) const BOTH: Want = Want {
     read: true,
     write: true,
 };
 
-/// The place of the first answer that is not as it must be.
-pub(crate) fn first_wrong(answers: &[bool]) -> Option<usize> {
-    answers.iter().position(|is_right| !*is_right)
-}
-
-/// A tree of 16 slots, each of which may have one hold.
-pub(crate) fn made<R: Abort>(rt: &R, alloc: Global) -> NewTree {
-    let Some(limits) = Limits::new(16, 1) else {
+/// A tree of so many slots, each of which may have so many holds.
+pub(crate) fn made<R: Abort>(rt: &R, alloc: Global, slots: u32, holds: u32) -> NewTree {
+    let Some(limits) = Limits::new(slots, holds) else {
         panic!(rt; "no such limits")
     };
     match SharedTree::<Brand>::new(alloc, limits) {
@@ -63,11 +68,12 @@ pub(crate) fn planted<N: Naming, R: Wait>(
     Ok((tree, posts))
 }
 
-/// A file that is opened for both.
-pub(crate) fn open<N: Naming>(
-    editor: &mut Editor<'_, N>,
-    posts: &mut Posts,
-    path: &[u8],
-) -> Result<WaitingFile<N>, Refusal> {
-    open_path(editor, posts, path, BOTH)
+/// Whether the file of a switch was shown and has not changed since.
+pub(crate) fn is_shown<N: Naming, T: DriverTable, R: Wait>(
+    rt: &R,
+    tree: &SharedTree<N>,
+    driver: &Driver<T>,
+    file: &mut WaitingFile<N>,
+) -> bool {
+    file.read(rt, tree, driver, 0, &mut [0; 4]) == Ok(2) && !file.poll()
 }

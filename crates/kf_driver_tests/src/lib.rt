@@ -2,8 +2,6 @@
 #![tactic(auto)]
 
 #[cfg(test)]
-mod binary_tests;
-#[cfg(test)]
 mod call_tests;
 #[cfg(test)]
 mod counted;
@@ -14,6 +12,10 @@ mod fixtures;
 #[cfg(test)]
 mod full_tests;
 #[cfg(test)]
+mod line_tests;
+#[cfg(test)]
 mod open_tests;
 #[cfg(test)]
 mod ready_tests;
+#[cfg(test)]
+mod steps;

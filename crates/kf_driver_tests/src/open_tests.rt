@@ -1,7 +1,7 @@
 //! What opens by its path, and why the rest does not.
 ghost use Rattle.std.specs.Prelude.{◌≡◌};
 
-use crate::fixtures::{BOTH, made, open, planted};
+use crate::fixtures::{BOTH, READ, WRITE, made, planted};
 use kf_core::{Node, Refusal};
 use kf_driver::open_path;
 use kf_files::Want;
@@ -11,16 +11,6 @@ use kf_shared::{Editor, Naming, NewTree};
 use std::alloc::Global;
 use std::marker::Brand;
 use std::sync::Wait;
-
-const READ: Want = Want {
-    read: true,
-    write: false,
-};
-
-const WRITE: Want = Want {
-    read: false,
-    write: true,
-};
 
 /// What opens, and why the rest does not. No post has a number for the slot of `/more`.
 const ANSWERS: [(&[u8], Want, Option<Refusal>); 16] = [
@@ -71,7 +61,7 @@ fn second<N: Naming>(
     posts: &mut Posts,
     path: &[u8],
 ) -> Option<Refusal> {
-    let _first = open(editor, posts, path);
+    let _first = open_path(editor, posts, path, BOTH);
     open_path(editor, posts, path, BOTH).err()
 }
 
@@ -97,6 +87,6 @@ fn opens<N: Naming, R: Wait>(
 
 #[test]
 fn files_open_by_their_paths(rt: HostRuntime) {
-    let new = made(&rt, rt.alloc());
+    let new = made(&rt, rt.alloc(), 16, 1);
     assert_eq!(rt; opens::<Brand, _>(&rt, rt.alloc(), new), Ok(None));
 }
