@@ -2,15 +2,17 @@
 #![tactic(auto)]
 
 #[cfg(test)]
+mod delayed;
+#[cfg(test)]
 mod fixtures;
-#[cfg(test)]
-mod hostile_tests;
-#[cfg(test)]
-mod many_tests;
 #[cfg(test)]
 mod one_name_tests;
 #[cfg(test)]
+mod refusal_tests;
+#[cfg(test)]
 mod replug_tests;
+#[cfg(test)]
+mod steps;
 #[cfg(test)]
 mod text_tests;
 #[cfg(test)]

@@ -1,7 +1,8 @@
 //! Threads that plug and unplug one name: whoever has the lock sees a whole device of it, or none.
 ghost use Rattle.std.specs.Prelude.{◌≡◌};
 
-use crate::fixtures::{first_wrong, made, new_bus, walked};
+use crate::fixtures::{made, new_bus};
+use crate::steps::{Step, take};
 use kf_core::{Key, Node, Refusal};
 use kf_device::Bus;
 use kf_shared::{Naming, NewTree, SharedTree};
@@ -10,25 +11,9 @@ use std::alloc::Global;
 use std::marker::Brand;
 use std::process::Abort;
 use std::sync::Wait;
-use std::sync::atomic::{AtomicU64, Ordering};
-use std::thread::{Threads, join};
+use std::thread::{Threads, for_each_mut};
 
 const ROUNDS: u64 = 300;
-
-/// The bus, and how often something was wrong.
-#[derive(Drop)]
-struct Watched<'a, N: Naming> {
-    bus: &'a Bus<N>,
-    wrong: AtomicU64,
-}
-
-impl<'a, N: Naming> Watched<'a, N> {
-    fn note(&self, is_right: bool) {
-        if !is_right {
-            self.wrong.fetch_add(1, Ordering::SeqCst);
-        }
-    }
-}
 
 fn leads_to(state: &State, link: Key, dir: Key) -> bool {
     match state.stat(link) {
@@ -59,34 +44,25 @@ fn looks<N: Naming, R: Wait>(rt: &R, tree: &SharedTree<N>) -> bool {
     is_whole(tree.edit(rt).state())
 }
 
-fn plugs<N: Naming, R: Wait>(rt: &R, tree: &SharedTree<N>, watched: &Watched<'_, N>) {
+// One of four: it plugs, or unplugs, and looks after each time.
+fn takes_part<N: Naming, R: Abort + Wait>(rt: &R, tree: &SharedTree<N>, bus: &Bus<N>, plugs: bool) {
     for _ in 0..ROUNDS {
-        let answer = watched.bus.plug(rt, tree, b"d0", b"on");
-        watched.note(answer.is_ok() || answer == Err(Refusal::Exists));
-        watched.note(looks(rt, tree));
+        let is_right = if plugs {
+            matches!(
+                bus.plug(rt, tree, b"d0", b"on"),
+                Ok(_) | Err(Refusal::Exists)
+            )
+        } else {
+            matches!(bus.unplug(rt, tree, b"d0"), Ok(()) | Err(Refusal::NoEntry))
+        };
+        assert!(rt; is_right && looks(rt, tree));
     }
 }
 
-fn unplugs<N: Naming, R: Wait>(rt: &R, tree: &SharedTree<N>, watched: &Watched<'_, N>) {
-    for _ in 0..ROUNDS {
-        let answer = watched.bus.unplug(rt, tree, b"d0");
-        watched.note(answer == Ok(()) || answer == Err(Refusal::NoEntry));
-        watched.note(looks(rt, tree));
-    }
-}
-
-// A thread that plugs, and one that unplugs.
-fn come_and_go<N: Naming + Send + Sync, R: Threads + Wait + Sync>(
-    rt: &R,
-    tree: &SharedTree<N>,
-    watched: &Watched<'_, N>,
-) {
-    join(
-        rt,
-        || plugs(rt, tree, watched),
-        || unplugs(rt, tree, watched),
-    );
-}
+const GONE: [Step; 2] = [
+    Step::IsMissing(b"/devices/d0"),
+    Step::IsMissing(b"/bus/devices/d0"),
+];
 
 fn share_a_name<N: Naming + Send + Sync, R: Abort + Threads + Wait + Sync>(
     rt: &R,
@@ -97,23 +73,16 @@ fn share_a_name<N: Naming + Send + Sync, R: Abort + Threads + Wait + Sync>(
 {
     let tree = new.named::<N>();
     let bus = new_bus(rt, alloc);
-    let watched = Watched {
-        bus: &bus,
-        wrong: AtomicU64::new(0),
-    };
-    join(
+    let mut plugs = [true, false, true, false];
+    for_each_mut(
         rt,
-        || come_and_go(rt, &tree, &watched),
-        || come_and_go(rt, &tree, &watched),
+        &mut plugs,
+        4,
+        &|_, plugs| takes_part(rt, &tree, &bus, *plugs),
     );
     let last = bus.unplug(rt, &tree, b"d0");
-    let answers = [
-        watched.wrong.load(Ordering::SeqCst) == 0,
-        last == Ok(()) || last == Err(Refusal::NoEntry),
-        walked(rt, &tree, b"/devices/d0") == Err(Refusal::NoEntry),
-        walked(rt, &tree, b"/bus/devices/d0") == Err(Refusal::NoEntry),
-    ];
-    assert_eq!(rt; first_wrong(&answers), None);
+    assert!(rt; matches!(last, Ok(()) | Err(Refusal::NoEntry)));
+    take(rt, alloc, &tree, &bus, &GONE);
 }
 
 #[test]

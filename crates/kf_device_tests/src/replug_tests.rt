@@ -1,8 +1,8 @@
 //! A name that is plugged anew while a store of `delete` runs on the device that had it before.
 ghost use Rattle.std.specs.Prelude.{◌≡◌};
 
-use crate::fixtures::{READ, WRITE, close, made, new_bus, open, shows, walked};
-use kf_core::{Key, Refusal};
+use crate::fixtures::{WRITE, count_of, made, new_bus, opened, wait_for};
+use crate::steps::{Step, take};
 use kf_device::Bus;
 use kf_shared::{Naming, NewTree, SharedTree};
 use std::alloc::Global;
@@ -21,25 +21,6 @@ struct Rounds {
     plugged: AtomicU64,
     begins: AtomicU64,
     answered: AtomicU64,
-    /// How often a device was found wrong.
-    wrong: AtomicU64,
-}
-
-fn new_rounds() -> Rounds {
-    Rounds {
-        plugged: AtomicU64::new(0),
-        begins: AtomicU64::new(0),
-        answered: AtomicU64::new(0),
-        wrong: AtomicU64::new(0),
-    }
-}
-
-fn wait_for(flag: &AtomicU64, round: u64) {
-    for _ in 0..1_000_000_000u64 {
-        if flag.load(Ordering::SeqCst) >= round {
-            return;
-        }
-    }
 }
 
 // Opens `delete` of each round's first device, and stores into it once another thread may go on.
@@ -51,47 +32,32 @@ fn deletes<N: Naming, R: Abort + Wait>(
     rounds: &Rounds,
 ) {
     for round in 1..=ROUNDS {
-        wait_for(&rounds.plugged, round);
-        let mut file = open(rt, alloc, tree, b"/devices/d0/delete", WRITE);
+        wait_for(round, &rounds.plugged);
+        let file = opened(rt, alloc, tree, b"/devices/d0/delete", WRITE);
         rounds.begins.store(round, Ordering::SeqCst);
-        let _ = file.write(rt, tree, bus, b"1");
-        close(file);
+        if let Some(mut file) = file {
+            let _ = file.write(rt, tree, bus, b"1");
+        }
         rounds.answered.store(round, Ordering::SeqCst);
     }
 }
 
 // Unplugs the first device, and plugs a second one of its name, once nobody has the first.
-fn replug<N: Naming, R: Wait>(rt: &R, tree: &SharedTree<N>, bus: &Bus<N>) -> Result<Key, Refusal> {
+fn replug<N: Naming, R: Wait>(rt: &R, tree: &SharedTree<N>, bus: &Bus<N>) {
     let _ = bus.unplug(rt, tree, b"d0");
-    let mut plugged = bus.plug(rt, tree, b"d0", b"second");
     for _ in 0..1_000_000 {
-        if plugged.is_ok() {
-            break;
+        if bus.plug(rt, tree, b"d0", b"second").is_ok() {
+            return;
         }
-        plugged = bus.plug(rt, tree, b"d0", b"second");
     }
-    plugged
 }
 
-// Whether the second device is there, with its value.
-fn is_there<N: Naming, R: Abort + Wait>(
-    rt: &R,
-    alloc: Global,
-    tree: &SharedTree<N>,
-    bus: &Bus<N>,
-    dir: Result<Key, Refusal>,
-) -> bool {
-    if dir.is_err()
-        || walked(rt, tree, b"/devices/d0") != dir
-        || walked(rt, tree, b"/bus/devices/d0").is_err()
-    {
-        return false;
-    }
-    let mut value = open(rt, alloc, tree, b"/devices/d0/value", READ);
-    let is_shown = shows(rt, tree, bus, &mut value, b"second");
-    close(value);
-    is_shown
-}
+/// The second device is there, with its value and its link.
+const THERE: [Step; 3] = [
+    Step::Shows(b"/devices/d0/value", b"second"),
+    Step::Has(b"/bus/devices", 1),
+    Step::Unplugs(b"d0", None),
+];
 
 fn replugs<N: Naming, R: Abort + Wait>(
     rt: &R,
@@ -101,15 +67,13 @@ fn replugs<N: Naming, R: Abort + Wait>(
     rounds: &Rounds,
 ) {
     for round in 1..=ROUNDS {
-        let first = bus.plug(rt, tree, b"d0", b"first");
+        let is_plugged = bus.plug(rt, tree, b"d0", b"first").is_ok();
         rounds.plugged.store(round, Ordering::SeqCst);
-        wait_for(&rounds.begins, round);
-        let second = replug(rt, tree, bus);
-        wait_for(&rounds.answered, round);
-        if first.is_err() || !is_there(rt, alloc, tree, bus, second) {
-            rounds.wrong.fetch_add(1, Ordering::SeqCst);
-        }
-        let _ = bus.unplug(rt, tree, b"d0");
+        wait_for(round, &rounds.begins);
+        replug(rt, tree, bus);
+        wait_for(round, &rounds.answered);
+        assert!(rt; is_plugged);
+        take(rt, alloc, tree, bus, &THERE);
     }
 }
 
@@ -122,13 +86,17 @@ fn replugged<N: Naming + Send + Sync, R: Abort + Threads + Wait + Sync>(
 {
     let tree = new.named::<N>();
     let bus = new_bus(rt, alloc);
-    let rounds = new_rounds();
+    let rounds = Rounds {
+        plugged: AtomicU64::new(0),
+        begins: AtomicU64::new(0),
+        answered: AtomicU64::new(0),
+    };
     join(
         rt,
         || deletes(rt, alloc, &tree, &bus, &rounds),
         || replugs(rt, alloc, &tree, &bus, &rounds),
     );
-    assert_eq!(rt; (rounds.wrong.load(Ordering::SeqCst), bus.kept(rt)), (0, 0));
+    assert_eq!(rt; bus.kept(rt), 0);
 }
 
 #[test]

@@ -1,14 +1,13 @@
 //! Devices on a shared tree, in threads.
 ghost use Rattle.std.specs.Prelude.{◌≡◌};
 
-use crate::fixtures::{
-    READ, WRITE, close, first_wrong, key_at, live_in, made, new_bus, open, posted, walked,
-};
+use crate::delayed::{deletes, new_delayed};
+use crate::fixtures::{READ, count_of, made, new_bus, opened};
+use crate::steps::{Step, take};
 use kf_core::Refusal;
 use kf_device::Bus;
-use kf_files::{Fault, FileError, Page, WaitOps, WaitingFile};
+use kf_files::FileError;
 use kf_shared::{Naming, NewTree, SharedTree};
-use kf_words::Call;
 use std::alloc::Global;
 use std::marker::Brand;
 use std::process::Abort;
@@ -16,91 +15,30 @@ use std::sync::Wait;
 use std::sync::atomic::{AtomicU64, Ordering};
 use std::thread::{Threads, join};
 
-/// Stores that meet in their callbacks before either asks the bus.
-#[derive(Drop)]
-struct Meeting<'a, N: Naming> {
-    bus: &'a Bus<N>,
-    arrived: AtomicU64,
-}
-
-impl<'a, N: Naming> Meeting<'a, N> {
-    // Turns until both are there.
-    fn meets(&self) -> bool {
-        self.arrived.fetch_add(1, Ordering::SeqCst);
-        for _ in 0..1_000_000_000u64 {
-            if self.arrived.load(Ordering::SeqCst) == 2 {
-                return true;
-            }
-        }
-        false
-    }
-}
-
-impl<'a, N: Naming> WaitOps<N> for Meeting<'a, N> {
-    ghost may_show = { λ _ _ _. Unit {0} };
-
-    ghost may_store = { λ _ _ _ _. Unit {0} };
-
-    fn show<R: Wait>(
-        &self,
-        rt: &R,
-        tree: &SharedTree<N>,
-        call: &mut Call,
-        tag: u64,
-        page: &mut Page,
-    ) -> Result<(), Fault> {
-        let _ = rt;
-        let _ = tree;
-        let _ = call;
-        let _ = tag;
-        let _ = page;
-        Ok(())
-    }
-
-    fn store<R: Wait>(
-        &self,
-        rt: &R,
-        tree: &SharedTree<N>,
-        call: &mut Call,
-        tag: u64,
-        bytes: &[u8],
-    ) -> Result<usize, Fault> {
-        if !self.meets() {
-            return Err(Fault { number: 16 });
-        }
-        self.bus.store(rt, tree, call, tag, bytes)
-    }
-}
-
-fn writes_one<N: Naming, R: Wait>(
-    rt: &R,
-    tree: &SharedTree<N>,
-    ops: &Meeting<'_, N>,
-    file: &mut WaitingFile<N>,
-) -> bool {
-    file.write(rt, tree, ops, b"1") == Ok(1)
-}
-
 // Two stores of the same `delete`, each in its callback before either goes on.
-fn both_store<N: Naming + Send + Sync, R: Abort + Threads + Wait + Sync>(
+fn both_delete<N: Naming + Send + Sync, R: Abort + Threads + Wait + Sync>(
     rt: &R,
     alloc: Global,
     tree: &SharedTree<N>,
-    meeting: &Meeting<'_, N>,
-) {
-    let mut one = open(rt, alloc, tree, b"/devices/d0/delete", WRITE);
-    let mut other = open(rt, alloc, tree, b"/devices/d0/delete", WRITE);
-    let (a, b) = join(
+    bus: &Bus<N>,
+) -> bool {
+    let meeting = new_delayed(bus, 2);
+    let (one, other) = join(
         rt,
-        || writes_one(rt, tree, meeting, &mut one),
-        || writes_one(rt, tree, meeting, &mut other),
+        || deletes(rt, alloc, tree, &meeting),
+        || deletes(rt, alloc, tree, &meeting),
     );
-    assert!(rt; a && b, "a store did not answer 1");
-    close(one);
-    close(other);
+    one && other
 }
 
-fn both_delete<N: Naming + Send + Sync, R: Abort + Threads + Wait + Sync>(
+const GONE: [Step; 4] = [
+    Step::Has(b"/devices", 0),
+    Step::Has(b"/bus/devices", 0),
+    Step::IsMissing(b"/devices/d0"),
+    Step::Keeps(0, 0),
+];
+
+fn meet<N: Naming + Send + Sync, R: Abort + Threads + Wait + Sync>(
     rt: &R,
     alloc: Global,
     new: NewTree,
@@ -109,80 +47,15 @@ fn both_delete<N: Naming + Send + Sync, R: Abort + Threads + Wait + Sync>(
 {
     let tree = new.named::<N>();
     let bus = new_bus(rt, alloc);
-    assert_eq!(rt; bus.plug(rt, &tree, b"d0", b"on"), Ok(key_at(4, 1)));
-    let meeting = Meeting {
-        bus: &bus,
-        arrived: AtomicU64::new(0),
-    };
-    both_store(rt, alloc, &tree, &meeting);
-    let answers = [
-        live_in(rt, &tree, b"/devices") == 0,
-        live_in(rt, &tree, b"/bus/devices") == 0,
-        walked(rt, &tree, b"/devices/d0") == Err(Refusal::NoEntry),
-        bus.kept(rt) == 0,
-    ];
-    assert_eq!(rt; first_wrong(&answers), None);
+    assert!(rt; bus.plug(rt, &tree, b"d0", b"on").is_ok());
+    assert!(rt; both_delete(rt, alloc, &tree, &bus), "each store answers 1");
+    take(rt, alloc, &tree, &bus, &GONE);
 }
 
 #[test]
 fn two_stores_of_delete_meet(rt: HostRuntime) {
     let new = made(&rt, rt.alloc(), 16);
-    both_delete::<Brand, _>(&rt, rt.alloc(), new);
-}
-
-// Many plugs of `d0`, each taken out again by a store of its `delete`.
-fn plugs_and_deletes<N: Naming, R: Abort + Wait>(
-    rt: &R,
-    alloc: Global,
-    tree: &SharedTree<N>,
-    bus: &Bus<N>,
-    rounds: u32,
-) {
-    for _ in 0..rounds {
-        if bus.plug(rt, tree, b"d0", b"on").is_ok() {
-            let mut file = open(rt, alloc, tree, b"/devices/d0/delete", WRITE);
-            let _ = file.write(rt, tree, bus, b"1");
-            close(file);
-        }
-    }
-}
-
-// As many plugs of `d1`, each taken out again by an unplug.
-fn unplugs<N: Naming, R: Abort + Wait>(rt: &R, tree: &SharedTree<N>, bus: &Bus<N>, rounds: u32) {
-    for _ in 0..rounds {
-        let answer = bus.unplug(rt, tree, b"d1");
-        assert!(rt; answer == Ok(()) || answer == Err(Refusal::NoEntry));
-        let _ = bus.plug(rt, tree, b"d1", b"on");
-    }
-}
-
-fn plug_side_by_side<N: Naming + Send + Sync, R: Abort + Threads + Wait + Sync>(
-    rt: &R,
-    alloc: Global,
-    new: NewTree,
-)
-    requires { new.master.table ≡ N.table }
-{
-    let tree = new.named::<N>();
-    let bus = new_bus(rt, alloc);
-    join(
-        rt,
-        || plugs_and_deletes(rt, alloc, &tree, &bus, 200),
-        || unplugs(rt, &tree, &bus, 200),
-    );
-    let answers = [
-        walked(rt, &tree, b"/devices/d0") == Err(Refusal::NoEntry),
-        bus.unplug(rt, &tree, b"d1") == Ok(()),
-        live_in(rt, &tree, b"/bus/devices") == 0,
-        bus.kept(rt) == 0,
-    ];
-    assert_eq!(rt; first_wrong(&answers), None);
-}
-
-#[test]
-fn devices_come_and_go_side_by_side(rt: HostRuntime) {
-    let new = made(&rt, rt.alloc(), 32);
-    plug_side_by_side::<Brand, _>(&rt, rt.alloc(), new);
+    meet::<Brand, _>(&rt, rt.alloc(), new);
 }
 
 // ---- a device is read as soon as it is there
@@ -199,7 +72,7 @@ fn comes_and_goes<N: Naming, R: Wait>(
     is_over: &AtomicU64,
 ) {
     for _ in 0..COMINGS {
-        if is_over.load(Ordering::SeqCst) == 1 {
+        if count_of(is_over) == 1 {
             break;
         }
         let _ = bus.plug(rt, tree, b"d0", b"on");
@@ -208,29 +81,21 @@ fn comes_and_goes<N: Naming, R: Wait>(
     is_over.store(1, Ordering::SeqCst);
 }
 
-// Opens the value of the device that is there, if one is.
-fn value_now<N: Naming, R: Abort + Wait>(
+// Reads the value of the device that is there, if one is: it has its text, or the device is gone already.
+fn reads<N: Naming, R: Abort + Wait>(
     rt: &R,
     alloc: Global,
     tree: &SharedTree<N>,
-) -> Option<WaitingFile<N>> {
-    let mut editor = tree.edit(rt);
-    let key = editor.state().lookup(b"/devices/d0/value").ok()?;
-    let hold = editor.hold(key).ok()?;
-    drop(editor);
-    let node = hold.node();
-    let post = posted(rt, alloc, hold.key().slot);
-    match WaitingFile::open(hold, node, READ, post) {
-        Ok(file) => Some(file),
-        Err((hold, _, _)) => {
-            hold.release();
-            None
-        }
-    }
+    bus: &Bus<N>,
+) -> Option<bool> {
+    let mut file = opened(rt, alloc, tree, b"/devices/d0/value", READ)?;
+    let mut out = [0u8; 4];
+    let told = file.read(rt, tree, bus, 0, &mut out);
+    let is_gone = told == Err(FileError::Refused(Refusal::NoDevice));
+    Some(is_gone || (told == Ok(2) && out == *b"on\0\0"))
 }
 
-// Reads the value of each device that it meets, so many of them: it has its text, or the device is gone
-// already. Answers how often neither was so.
+// Reads so many values of devices that it meets. Answers how many were wrong.
 fn reads_each<N: Naming, R: Abort + Wait>(
     rt: &R,
     alloc: Global,
@@ -240,18 +105,13 @@ fn reads_each<N: Naming, R: Abort + Wait>(
 ) -> u64 {
     let (mut met, mut wrong) = (0u64, 0u64);
     for _ in 0..1_000_000_000u64 {
-        if met >= MEETINGS || is_over.load(Ordering::SeqCst) == 1 {
+        if met >= MEETINGS || count_of(is_over) == 1 {
             break;
         }
-        if let Some(mut file) = value_now(rt, alloc, tree) {
-            met = met.saturating_add(1);
-            let mut out = [0u8; 4];
-            match file.read(rt, tree, bus, 0, &mut out) {
-                Ok(2) if out == *b"on\0\0" => {}
-                Err(FileError::Refused(Refusal::NoDevice)) => {}
-                _ => wrong = wrong.saturating_add(1),
-            }
-            close(file);
+        match reads(rt, alloc, tree, bus) {
+            Some(true) => met = met.saturating_add(1),
+            Some(false) => wrong = wrong.saturating_add(1),
+            None => {}
         }
     }
     is_over.store(1, Ordering::SeqCst);
