@@ -7,8 +7,9 @@ use kf_shared::{Editor, Naming, SharedTree};
 use kf_words::Hold;
 use std::sync::Wait;
 
-/// So many slots are enough.
-pub(crate) const SLOTS: u32 = 128;
+/// More slots than nodes: the words of a small tree would lie among other memory, on lines that they share
+/// with it.
+pub(crate) const SLOTS: u32 = 8192;
 
 /// The slot of a directory with nothing in it.
 pub(crate) const LEAF: u32 = 63;
