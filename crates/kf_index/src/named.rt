@@ -18,7 +18,7 @@ pub(crate) fn key_in(chunk: &Chunk, name: &[u8]) -> Option<Key>
     ensures absent { IfNone result (LacksName chunk.now name.now) }
 {
     match search(chunk.all(), name) {
-        Ok(at) => Some(chunk.all().at(at).1),
+        Ok((_, key)) => Some(key),
         Err(_) => None,
     }
 }
@@ -29,7 +29,7 @@ pub(crate) fn first_above(entries: Part<'_>, name: &[u8]) -> usize
     ensures first { IsFirstAbove entries.entry (Some name.now) result }
 {
     match search(entries, name) {
-        Ok(at) => at + 1,
+        Ok((at, _)) => at + 1,
         Err(at) => at,
     }
 }
@@ -59,7 +59,7 @@ pub(crate) fn remove_from(chunk: &mut Chunk, name: &[u8]) -> Option<Key>
     ensures unchanged { IfNone result (chunk.new ≡ chunk.old) }
 {
     match search(chunk.all(), name) {
-        Ok(at) => {
+        Ok((at, _)) => {
             let (_, key) = chunk.remove(at);
             Some(key)
         }
