@@ -1,6 +1,6 @@
 //! The text of a link, and the path of a node.
 
-ghost use Rattle.std.specs.Prelude.{◌≡◌, ◌∷◌, ◌++◌, ◌⊎◌, ◌<◌, ◌-◌, [], length, map, reverse, slice_index_or, Some, None, Ok, IsTrue, IfOk, IfErr, OnOk, if◌then◌else◌};
+ghost use Rattle.std.specs.Prelude.{◌≡◌, ◌∷◌, ◌++◌, ◌⊎◌, ◌<◌, ◌≤◌, ◌+◌, ◌-◌, [], length, vec_len, vec_capacity, map, reverse, slice_index_or, Some, None, Ok, IsTrue, IfOk, IfErr, OnOk, if◌then◌else◌};
 ghost use Rattle.std.specs.List.{join_with_byte};
 ghost use Rattle.std.specs.Option.{option_and_then, option_to_list};
 ghost use Rattle.kf_core.specs.declared.key.Key.{Key};
@@ -73,9 +73,23 @@ fn key_above(way: &[Key], depth: usize) -> Key
     way[way.len() - depth]
 }
 
+/// Pushes `../`.
+#[inline(always)]
+fn push_up(text: &mut Vec<u8>)
+    requires room { vec_len text.old + 3 ≤ vec_capacity text.old }
+    ensures items { text.new.items ≡ text.old.items ++ 46 ∷ 46 ∷ 47 ∷ [] }
+    ensures len { vec_len text.new ≡ vec_len text.old + 3 }
+    ensures capacity { vec_capacity text.new ≡ vec_capacity text.old }
+{
+    text.push_reserved(b'.');
+    text.push_reserved(b'.');
+    text.push_reserved(b'/');
+}
+
 /// Pushes `../` for each step up from the directory to the first base over the target, and gives that base. A
 /// second way up, from the target's directory, is climbed beside it, always the deeper of the two first; its
-/// keys are pushed too, from the target up to below the base. Each way is looked up once, before.
+/// keys are pushed too, from the target up to below the base. Each way is looked up once, before, and there is
+/// room for each `../` of the whole way.
 fn push_ups(
     table: &Table,
     root: Key,
@@ -100,9 +114,10 @@ fn push_ups(
     }
     let (mut base, mut base_depth) = (dir, from.len() - 1);
     let (mut other, mut other_depth) = (over, to.len() - 1);
+    text.reserve(3 * base_depth)?;
     'up: while base != other {
         if base_depth >= other_depth {
-            text.extend_from_slice(b"../")?;
+            push_up(text);
             base = key_above(&from, base_depth);
             base_depth -= 1;
         } else {
