@@ -11,7 +11,6 @@ use Rattle.kf_core.specs.declared.slot.Marks.{Marks}
 use Rattle.kf_core.specs.declared.slot.SlotState.{SlotState}
 use Rattle.kf_core.specs.Bare.{BareWorld}
 use Rattle.kf_core.specs.Marks.{fresh_marks, are_doomed}
-use Rattle.kf_core.specs.Steps.{BareStep, MayPin}
 use Rattle.kf_core.specs.Steps as core
 use Rattle.kf_words.specs.declared.view.CallerView.{CallerView}
 use Rattle.kf_words.specs.declared.view.MasterView.{MasterView}

@@ -1,4 +1,4 @@
--- What a caller reads of a node between a look at the hold word of its slot and the step that counts a hold of it.
+-- What a caller reads of a node between a look at its slot's hold word and the step that counts a hold of it.
 use Rattle.std.specs.Prelude.{◌≡◌, ℕ, ◌<◌, Some, List, ◌++◌}
 use Rattle.kf_core.specs.declared.key.Key.{Key}
 use Rattle.kf_words.specs.declared.sight.Seen.{Seen}

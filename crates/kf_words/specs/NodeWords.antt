@@ -32,7 +32,7 @@ abbrev pub node_in : ℕ → ℕ → ℕ → Node
 node_in kind first second = if kind == 1 then File (first % 65536) second
     else (if kind == 2 then Link (record { slot = first % 4294967296; generation = second % 4294967296 }) else Dir)
 
--- by slot and place: the word that was put last, and the one that stood there at the last birth in the slot
+-- by slot and place: the word that was put last, and the one that stood there at the slot's last birth
 pub record NodeNotes : Type 0 where
   pub now : ℕ → ℕ → ℕ
   pub born : ℕ → ℕ → ℕ

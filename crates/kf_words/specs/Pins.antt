@@ -54,7 +54,7 @@ MakesRead st me found me' = (st.word ≡ node_index (place_of st.word) (slot_of 
 abbrev pub IsPin : Handle → Key → Seat (Unit {0}) Sight → Type 0
 IsPin h key token = (token.table_id ≡ h.table) × (plain token.me ≡ (seat.Caller (new_hold key), []))
 
--- a hold of this key, of the same table, which has made no step. Its node is the one that was born with the key
+-- a hold of this key, of the same table, which has made no step. Its node is the one born with the key
 pub record IsHoldOf (hold : Handle) (key : Key) (other : Handle) : Type 0 where
   pub table : other.table ≡ hold.table
   pub key_is : other.key ≡ key

@@ -7,7 +7,7 @@ ghost use Rattle.kf_words.specs.Nodes.{KeepsNodes};
 ghost use Rattle.kf_words.specs.Notes.{history_of};
 
 use crate::call::Call;
-use crate::hiding::Hidden;
+use crate::hiding::{Hidden, Hiding};
 use crate::hold::Hold;
 use crate::master::Master;
 use crate::receipt::Drained;
@@ -83,5 +83,17 @@ impl Master {
         ensures after { IsPrefix (history_of hidden.old.seen) (history_of self.old.seen) }
     {
         self.meet_seat(&mut hidden.seat);
+    }
+
+    /// As `meet`, of the token of a file that is about to be hidden.
+    pub fn meet_hiding(&mut self, hiding: &mut Hiding)
+        requires table { hiding.old.table ≡ self.old.table }
+        ensures kept { KeepsNodes self.old self.new }
+        ensures view { self.new.view ≡ self.old.view }
+        ensures hiding { hiding.new ≡ having_seen self.new.seen hiding.old }
+        ensures met { IsPrefix hiding.old.seen.steps self.new.seen.steps }
+        ensures after { IsPrefix (history_of hiding.old.seen) (history_of self.old.seen) }
+    {
+        self.meet_seat(&mut hiding.seat);
     }
 }
