@@ -1,5 +1,5 @@
 -- Why the removal of a key's node is refused, and what the lock keeps then.
-use Rattle.std.proofs.Common.{◌≡◌, ◌⊎◌, inl, inr, ℕ, refl, ap, sym, ◌∙◌, subst, Bool, true, false, List, [], ◌∷◌}
+use Rattle.std.proofs.Common.{◌≡◌, ◌⊎◌, inl, inr, ℕ, refl, ap, sym, ◌∙◌, subst, Bool, true, false, List, [], ◌∷◌, ◌++◌}
 use Rattle.std.specs.Prelude.{None, MatchBool, not}
 use Rattle.std.proofs.lemmas.Bool.{MatchBool-at_true, MatchBool-at_false}
 use Rattle.std.proofs.lemmas.Option.{none-some}
@@ -18,8 +18,9 @@ use Rattle.kf_words.specs.Callers.{TableId, Handle}
 use Rattle.kf_words.specs.Nodes.{KeepsNodes, PinRefused}
 use Rattle.kf_words.specs.Notes.{history_of}
 use Rattle.kf_shared.specs.Noted.{IsNoted}
-use Rattle.kf_shared.specs.Locked.{Locked, IsTied, IsWhole, HoldRefused}
-use Rattle.kf_shared.specs.Removal.{keys_of, DoomDone, DoomHolds, DoomRefused}
+use Rattle.kf_words.specs.declared.note.Note.TheVariants.{Did}
+use Rattle.kf_shared.specs.Locked.{Locked, Adds, IsTied, IsWhole, HoldRefused, history}
+use Rattle.kf_shared.specs.Removal.{keys_of, DoomDone, DoomHolds, DoomNoted, DoomRefused}
 use Rattle.kf_shared.specs.Receipts.{HasBelow, HoldsRefusal, KeyRefused}
 use Rattle.kf_shared.proofs.Ties.{locked, tied_master}
 use Rattle.kf_shared.proofs.Pins.{doom_cause_of_root}
@@ -85,6 +86,15 @@ doom_key_done s old mid new held key same none between is done =
     let there : DoomDone (locked old.state mid.master mid.claims) new key =
     subst (λ k. DoomDone (locked old.state mid.master mid.claims) new k) is (subst (λ (l : TreeLog). DoomDone (locked l mid.master mid.claims) new held) between done) in
     MatchBool-at_true _ _ (linked_to_doom old.state.tree old.state.root key cause) there
+
+-- and noted
+pub doom_key_noted : (s : TreeLog) (old mid new : Locked) (held key : Key) → s ≡ old.state → doom_cause s.tree s.root key ≡ None → mid.state ≡ old.state → history mid ≡ history old → held ≡ key → DoomNoted mid new held
+    → Adds old new (Did (Doom key))
+doom_key_noted s old mid new held key same none between kept is noted =
+    let cause : doom_cause old.state.tree old.state.root key ≡ None = subst (λ (l : TreeLog). doom_cause l.tree l.root key ≡ None) same none in
+    let there : DoomNoted (locked old.state mid.master mid.claims) new key =
+    subst (λ k. DoomNoted (locked old.state mid.master mid.claims) new k) is (subst (λ (l : TreeLog). DoomNoted (locked l mid.master mid.claims) new held) between noted) in
+    MatchBool-at_true _ _ (linked_to_doom old.state.tree old.state.root key cause) there ∙ ap (λ l. l ++ Did (Doom key) ∷ []) kept
 
 -- the lock keeps what it kept, where the tree and what the Master knows of nodes stayed
 pub whole_kept : (table : TableId) (old new : Locked) → IsWhole table old → new.state ≡ old.state → KeepsNodes old.master new.master → new.claims ≡ old.claims → IsWhole table new

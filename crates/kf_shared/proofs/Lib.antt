@@ -2,6 +2,7 @@ pub mod Nodes
 pub mod Notes
 pub mod Ties
 pub mod Told
+pub mod Hearing
 pub mod Creating
 pub mod Unlinked
 pub mod Ends
@@ -9,6 +10,9 @@ pub mod Rooms
 pub mod Pins
 pub mod Pinned
 pub mod Receipts
+pub mod Removed
+pub mod Finishing
+pub mod Alone
 pub mod Refusals
 pub mod KeyRefusals
 pub mod Hidings

@@ -11,38 +11,36 @@ use Rattle.kf_tree.specs.Canonical.{IsCanonical}
 use Rattle.kf_tree.specs.TreeLogs.{TreeLog, IsAccepted, IsCompacted, IsNew}
 use Rattle.kf_tree.proofs.Opening.{length_after}
 use Rattle.kf_words.specs.declared.note.Note.{Note}
-use Rattle.kf_words.specs.declared.note.Note.TheVariants.{Did, Claimed, Compacted}
-use Rattle.kf_shared.specs.Noted.{commands_of, tree_of, claims_after, claims_from, claims_of, compacts, IsStoredSince, IsNoted, last_stored}
+use Rattle.kf_words.specs.declared.note.Note.TheVariants.{Did, Claimed, Compacted, Began, Border}
+use Rattle.kf_shared.specs.Noted.{commands_of, tree_of, tree_in, claims_after, claims_from, claims_of, claims_in, compacts, BeginsWith, IsStoredSince, IsNoted, last_stored}
 
 commands_did : (notes : List Note) (c : Command) → commands_of (notes ++ Did c ∷ []) ≡ commands_of notes ++ c ∷ []
 commands_did [] c = refl
 commands_did (Did d ∷ notes) c = ap (λ l. d ∷ l) (commands_did notes c)
 commands_did (Claimed key ∷ notes) c = commands_did notes c
 commands_did (Compacted ∷ notes) c = commands_did notes c
+commands_did (Began slots root ∷ notes) c = commands_did notes c
+commands_did (Border ∷ notes) c = commands_did notes c
 
-commands_claimed : (notes : List Note) (key : Key) → commands_of (notes ++ Claimed key ∷ []) ≡ commands_of notes
-commands_claimed [] key = refl
-commands_claimed (Did d ∷ notes) key = ap (λ l. d ∷ l) (commands_claimed notes key)
-commands_claimed (Claimed k ∷ notes) key = commands_claimed notes key
-commands_claimed (Compacted ∷ notes) key = commands_claimed notes key
+-- a note of no command
+module _ (note : Note) (none : commands_of (note ∷ []) ≡ []) where
+  commands_else : (notes : List Note) → commands_of (notes ++ note ∷ []) ≡ commands_of notes
+  commands_else [] = none
+  commands_else (Did d ∷ notes) = ap (λ l. d ∷ l) (commands_else notes)
+  commands_else (Claimed k ∷ notes) = commands_else notes
+  commands_else (Compacted ∷ notes) = commands_else notes
+  commands_else (Began slots root ∷ notes) = commands_else notes
+  commands_else (Border ∷ notes) = commands_else notes
 
-commands_compacted : (notes : List Note) → commands_of (notes ++ Compacted ∷ []) ≡ commands_of notes
-commands_compacted [] = refl
-commands_compacted (Did d ∷ notes) = ap (λ l. d ∷ l) (commands_compacted notes)
-commands_compacted (Claimed k ∷ notes) = commands_compacted notes
-commands_compacted (Compacted ∷ notes) = commands_compacted notes
-
-compacts_did : (notes : List Note) (c : Command) → compacts (notes ++ Did c ∷ []) ≡ compacts notes
-compacts_did [] c = refl
-compacts_did (Did d ∷ notes) c = compacts_did notes c
-compacts_did (Claimed key ∷ notes) c = compacts_did notes c
-compacts_did (Compacted ∷ notes) c = refl
-
-compacts_claimed : (notes : List Note) (key : Key) → compacts (notes ++ Claimed key ∷ []) ≡ compacts notes
-compacts_claimed [] key = refl
-compacts_claimed (Did d ∷ notes) key = compacts_claimed notes key
-compacts_claimed (Claimed k ∷ notes) key = compacts_claimed notes key
-compacts_claimed (Compacted ∷ notes) key = refl
+-- a note of no compaction
+module _ (note : Note) (none : compacts (note ∷ []) ≡ false) where
+  compacts_else : (notes : List Note) → compacts (notes ++ note ∷ []) ≡ compacts notes
+  compacts_else [] = none
+  compacts_else (Did d ∷ notes) = compacts_else notes
+  compacts_else (Claimed key ∷ notes) = compacts_else notes
+  compacts_else (Compacted ∷ notes) = refl
+  compacts_else (Began slots root ∷ notes) = compacts_else notes
+  compacts_else (Border ∷ notes) = compacts_else notes
 
 claims_more : (claims : List ℕ) (notes : List Note) (note : Note) → claims_from claims (notes ++ note ∷ []) ≡ claims_after (claims_from claims notes) note
 claims_more claims [] note = refl
@@ -62,23 +60,31 @@ module _ (s s' : TreeLog) (root : s'.root ≡ s.root) (long : length s'.tree ≡
   tree_here : (notes : List Note) → tree_of (length s.tree) s.root notes ≡ tree_of (length s'.tree) s'.root notes
   tree_here notes = ap (λ n. tree_of n s.root notes) (sym long) ∙ ap (λ k. tree_of (length s'.tree) k notes) (sym root)
 
+  begins_here : (notes : List Note) → BeginsWith (length s.tree) s.root notes → BeginsWith (length s'.tree) s'.root notes
+  begins_here notes b = subst (λ k. BeginsWith (length s'.tree) k notes) (sym root) (subst (λ n. BeginsWith n s.root notes) (sym long) b)
+
   claims_here : (notes : List Note) → claims_of (length s.tree) notes ≡ claims_of (length s'.tree) notes
   claims_here notes = ap (λ n. claims_of n notes) (sym long)
 
+-- one note more
+begins_more : (slots : ℕ) (root : Key) (notes : List Note) (note : Note) → BeginsWith slots root notes → BeginsWith slots root (notes ++ note ∷ [])
+begins_more slots root notes note b = (b.0 ++ note ∷ [], ap (λ l. l ++ note ∷ []) b.1)
+
 pub noted_did : (s s' : TreeLog) (claims : List ℕ) (notes : List Note) (cause : Option Refusal) (c : Command) → IsNoted s claims notes → IsAccepted s s' cause c → IsNoted s' claims (notes ++ Did c ∷ [])
 noted_did s s' claims notes cause c t a = record {
+  began = begins_here s s' a.same_root long _ (begins_more _ _ notes (Did c) t.began);
   tree = a.changed ∙ ap (λ x. after x c) t.tree ∙ sym (replay_more (root_alone (length s.tree) s.root) (commands_of notes) c)
       ∙ ap (replay (root_alone (length s.tree) s.root)) (sym (commands_did notes c)) ∙ tree_here s s' a.same_root long (notes ++ Did c ∷ []);
   claimed = t.claimed ∙ sym (claims_more (replicate (length s.tree) 0) notes (Did c)) ∙ claims_here s s' a.same_root long (notes ++ Did c ∷ []);
   stored = ⊎_elim
       (λ (all : (compacts notes ≡ false) × (s.commands ≡ commands_of notes)).
-      inl (compacts_did notes c ∙ all.0, a.stored ∙ ap (λ l. l ++ c ∷ []) all.1 ∙ sym (commands_did notes c)))
+      inl (compacts_else (Did c) refl notes ∙ all.0, a.stored ∙ ap (λ l. l ++ c ∷ []) all.1 ∙ sym (commands_did notes c)))
       (λ (x : IsStoredSince s notes). inr (record {
         before = x.before;
         later = x.later ++ Did c ∷ [];
         canonical = x.canonical;
         history = ap (λ l. l ++ Did c ∷ []) x.history ∙ append_assoc x.before (Compacted ∷ x.later) (Did c ∷ []);
-        last = compacts_did x.later c ∙ x.last;
+        last = compacts_else (Did c) refl x.later ∙ x.last;
         lists = subst (λ y. IsCanonical y x.canonical) (tree_here s s' a.same_root long x.before) x.lists;
         stored = a.stored ∙ ap (λ l. l ++ c ∷ []) x.stored ∙ append_assoc x.canonical (commands_of x.later) (c ∷ []) ∙ ap (λ l. x.canonical ++ l) (sym (commands_did x.later c));
       }))
@@ -90,25 +96,27 @@ noted_did s s' claims notes cause c t a = record {
 
 pub noted_claimed : (s : TreeLog) (claims : List ℕ) (notes : List Note) (key : Key) → IsNoted s claims notes → IsNoted s (slice_set claims key.slot key.generation) (notes ++ Claimed key ∷ [])
 noted_claimed s claims notes key t = record {
-  tree = t.tree ∙ ap (replay (root_alone (length s.tree) s.root)) (sym (commands_claimed notes key));
+  began = begins_more _ _ notes (Claimed key) t.began;
+  tree = t.tree ∙ ap (replay (root_alone (length s.tree) s.root)) (sym (commands_else (Claimed key) refl notes));
   claimed = ap (λ l. slice_set l key.slot key.generation) t.claimed ∙ sym (claims_more (replicate (length s.tree) 0) notes (Claimed key));
   stored = ⊎_elim
-      (λ (all : (compacts notes ≡ false) × (s.commands ≡ commands_of notes)). inl (compacts_claimed notes key ∙ all.0, all.1 ∙ sym (commands_claimed notes key)))
+      (λ (all : (compacts notes ≡ false) × (s.commands ≡ commands_of notes)). inl (compacts_else (Claimed key) refl notes ∙ all.0, all.1 ∙ sym (commands_else (Claimed key) refl notes)))
       (λ (x : IsStoredSince s notes). inr (record {
         before = x.before;
         later = x.later ++ Claimed key ∷ [];
         canonical = x.canonical;
         history = ap (λ l. l ++ Claimed key ∷ []) x.history ∙ append_assoc x.before (Compacted ∷ x.later) (Claimed key ∷ []);
-        last = compacts_claimed x.later key ∙ x.last;
+        last = compacts_else (Claimed key) refl x.later ∙ x.last;
         lists = x.lists;
-        stored = x.stored ∙ ap (λ l. x.canonical ++ l) (sym (commands_claimed x.later key));
+        stored = x.stored ∙ ap (λ l. x.canonical ++ l) (sym (commands_else (Claimed key) refl x.later));
       }))
       t.stored;
 }
 
 pub noted_compacted : (s s' : TreeLog) (claims : List ℕ) (notes : List Note) → IsNoted s claims notes → IsCompacted s s' → IsNoted s' claims (notes ++ Compacted ∷ [])
 noted_compacted s s' claims notes t a = record {
-  tree = now ∙ ap (replay (root_alone (length s'.tree) s'.root)) (sym (commands_compacted notes));
+  began = begins_here s s' a.same_root long _ (begins_more _ _ notes Compacted t.began);
+  tree = now ∙ ap (replay (root_alone (length s'.tree) s'.root)) (sym (commands_else Compacted refl notes));
   claimed = t.claimed ∙ sym (claims_more (replicate (length s.tree) 0) notes Compacted) ∙ claims_here s s' a.same_root long (notes ++ Compacted ∷ []);
   stored = inr (record {
     before = notes;
@@ -130,6 +138,7 @@ noted_compacted s s' claims notes t a = record {
 -- the tree's root, tree and commands are as before
 pub noted_same : (s s' : TreeLog) (claims : List ℕ) (notes : List Note) → IsNoted s claims notes → s'.root ≡ s.root → s'.tree ≡ s.tree → s'.commands ≡ s.commands → IsNoted s' claims notes
 noted_same s s' claims notes t root tree commands = record {
+  began = begins_here s s' root long notes t.began;
   tree = tree ∙ t.tree ∙ tree_here s s' root long notes;
   claimed = t.claimed ∙ claims_here s s' root long notes;
   stored = ⊎_elim
@@ -149,9 +158,38 @@ noted_same s s' claims notes t root tree commands = record {
     long : length s'.tree ≡ length s.tree
     long = ap length tree
 
-pub noted_opening : (slots : ℕ) (root : Key) (s : TreeLog) (claims : List ℕ) → IsNew slots root s → length s.tree ≡ slots → claims ≡ replicate slots 0 → IsNoted s claims []
+-- the lock was taken, or is let go
+pub noted_border : (s : TreeLog) (claims : List ℕ) (notes : List Note) → IsNoted s claims notes → IsNoted s claims (notes ++ Border ∷ [])
+noted_border s claims notes t = record {
+  began = begins_more _ _ notes Border t.began;
+  tree = t.tree ∙ ap (replay (root_alone (length s.tree) s.root)) (sym (commands_else Border refl notes));
+  claimed = t.claimed ∙ sym (claims_more (replicate (length s.tree) 0) notes Border);
+  stored = ⊎_elim
+      (λ (all : (compacts notes ≡ false) × (s.commands ≡ commands_of notes)). inl (compacts_else Border refl notes ∙ all.0, all.1 ∙ sym (commands_else Border refl notes)))
+      (λ (x : IsStoredSince s notes). inr (record {
+        before = x.before;
+        later = x.later ++ Border ∷ [];
+        canonical = x.canonical;
+        history = ap (λ l. l ++ Border ∷ []) x.history ∙ append_assoc x.before (Compacted ∷ x.later) (Border ∷ []);
+        last = compacts_else Border refl x.later ∙ x.last;
+        lists = x.lists;
+        stored = x.stored ∙ ap (λ l. x.canonical ++ l) (sym (commands_else Border refl x.later));
+      }))
+      t.stored;
+}
+
+pub noted_opening : (slots : ℕ) (root : Key) (s : TreeLog) (claims : List ℕ) → IsNew slots root s → length s.tree ≡ slots → claims ≡ replicate slots 0 → IsNoted s claims (Began (length s.tree) s.root ∷ [])
 noted_opening slots root s claims new long none = record {
+  began = ([], refl);
   tree = new.tree ∙ ap (λ n. root_alone n root) (sym long) ∙ ap (root_alone (length s.tree)) (sym new.root);
   claimed = none ∙ ap (λ n. replicate n 0) (sym long);
   stored = inl (refl, new.commands);
 }
+
+-- so the history alone tells the tree
+pub tree_told : (s : TreeLog) (claims : List ℕ) (notes : List Note) → IsNoted s claims notes → s.tree ≡ tree_in notes
+tree_told s claims notes t = t.tree ∙ ap (tree_of (length s.tree) s.root) t.began.1 ∙ sym (ap tree_in t.began.1)
+
+-- and the claims
+pub claims_told : (s : TreeLog) (claims : List ℕ) (notes : List Note) → IsNoted s claims notes → claims ≡ claims_in notes
+claims_told s claims notes t = t.claimed ∙ ap (claims_of (length s.tree)) t.began.1 ∙ sym (ap claims_in t.began.1)

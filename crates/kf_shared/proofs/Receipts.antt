@@ -17,7 +17,7 @@ use Rattle.kf_shared.specs.Locked.{Locked}
 use Rattle.kf_shared.specs.Removal.{keys_of, AreHolds, DoomHolds, DoomDone, DoomMarked}
 use Rattle.kf_shared.specs.Receipts.{AreOf, AllDifferent, Owner, owner, owners_of, EndsAt, IsDoomList}
 
-owners_more : (xs ys : List Handle) → owners_of (xs ++ ys) ≡ owners_of xs ++ owners_of ys
+pub owners_more : (xs ys : List Handle) → owners_of (xs ++ ys) ≡ owners_of xs ++ owners_of ys
 owners_more [] ys = refl
 owners_more (x ∷ xs) ys = ap (λ os. owner x ∷ os) (owners_more xs ys)
 
@@ -69,7 +69,11 @@ same_owner_keys xs ys e = owner_keys xs ∙ ap (map (λ (o : Owner). o.key)) e �
 
 -- the holds of a removal are of the table
 pub are_of : (table : TableId) (m : MasterState) (hold : Handle) (holds : List Handle) → m.table ≡ table → hold.table ≡ table → AreHolds m hold holds → AreOf table holds
-are_of table m hold holds e t h = subst (AreOf table) (sym h.1) (of_more table h.0 hold (λ i d l. (h.2 i d l).table ∙ e) t)
+are_of table m hold holds e t h = subst (AreOf table) (sym h.2) (of_more table h.0 h.1 (λ i d l. (h.4 i d l).table ∙ e) (ap (λ (x : Handle). x.table) h.3 ∙ t))
+
+-- a hold alone is the last of no others
+pub alone_holds : (m : MasterState) (hold : Handle) (holds : List Handle) → holds ≡ hold ∷ [] → AreHolds m hold holds
+alone_holds m hold holds e = ([], hold, e, refl, λ i d l. absurd (omega (arith, l)))
 
 -- the last of two lists of the same owners are of one seat
 ends_alike : (front xs : List Handle) (hold : Handle) → owners_of xs ≡ owners_of front ++ owner hold ∷ [] → EndsAt xs hold
@@ -100,7 +104,7 @@ module _ (hold : Handle) (holds old before result : List Handle) (same : before 
 
   -- the last receipt is of the given hold's seat
   pub receipts_end : (m : MasterState) → AreHolds m hold holds → EndsAt result hold
-  receipts_end m h = ends_alike h.0 result hold (same_owners ∙ ap owners_of h.1 ∙ owners_more h.0 (hold ∷ []))
+  receipts_end m h = ends_alike h.0 result hold (same_owners ∙ ap owners_of h.2 ∙ owners_more h.0 (h.1 ∷ []) ∙ ap (λ (o : Owner). owners_of h.0 ++ o ∷ []) (ap owner h.3))
 
   -- they are of the nodes that were doomed
   pub receipts_listed : (t : Tree) → DoomHolds t hold holds → IsDoomList t hold.key (keys_of result)

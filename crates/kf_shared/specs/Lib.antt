@@ -4,4 +4,5 @@ pub mod Locked
 pub mod Removal
 pub mod Receipts
 pub mod Hiding
+pub mod Sections
 pub mod Running

@@ -7,7 +7,7 @@ use Rattle.kf_core.specs.Tree.{Tree}
 use Rattle.kf_tree.specs.Canonical.{IsCanonical}
 use Rattle.kf_tree.specs.TreeLogs.{TreeLog}
 use Rattle.kf_words.specs.declared.note.Note.{Note}
-use Rattle.kf_words.specs.declared.note.Note.TheVariants.{Did, Claimed, Compacted}
+use Rattle.kf_words.specs.declared.note.Note.TheVariants.{Did, Claimed, Compacted, Began, Border}
 use Rattle.kf_words.specs.Nodes.{MasterState}
 use Rattle.kf_words.specs.Notes.{history_of}
 
@@ -17,16 +17,29 @@ commands_of [] = []
 commands_of (Did command ∷ notes) = command ∷ commands_of notes
 commands_of (Claimed key ∷ notes) = commands_of notes
 commands_of (Compacted ∷ notes) = commands_of notes
+commands_of (Began slots root ∷ notes) = commands_of notes
+commands_of (Border ∷ notes) = commands_of notes
 
 -- the tree of so many slots that a history made of the root alone
 abbrev pub tree_of : ℕ → Key → List Note → Tree
 tree_of slots root notes = replay (root_alone slots root) (commands_of notes)
+
+-- the tree that a history made, whose first note tells how many slots it has, and its root
+abbrev pub tree_in : List Note → Tree
+tree_in [] = []
+tree_in (Did command ∷ notes) = []
+tree_in (Claimed key ∷ notes) = []
+tree_in (Compacted ∷ notes) = []
+tree_in (Began slots root ∷ notes) = tree_of slots root notes
+tree_in (Border ∷ notes) = []
 
 -- by slot the generation that was claimed last, after one note more
 abbrev pub claims_after : List ℕ → Note → List ℕ
 claims_after claims (Did command) = claims
 claims_after claims (Claimed key) = slice_set claims key.slot key.generation
 claims_after claims Compacted = claims
+claims_after claims (Began slots root) = claims
+claims_after claims Border = claims
 
 -- the same after these notes, one after the other
 abbrev pub claims_from : List ℕ → List Note → List ℕ
@@ -37,12 +50,23 @@ claims_from claims (note ∷ notes) = claims_from (claims_after claims note) not
 abbrev pub claims_of : ℕ → List Note → List ℕ
 claims_of slots notes = claims_from (replicate slots 0) notes
 
+-- the claims that a history made, whose first note tells how many slots there are
+abbrev pub claims_in : List Note → List ℕ
+claims_in [] = []
+claims_in (Did command ∷ notes) = []
+claims_in (Claimed key ∷ notes) = []
+claims_in (Compacted ∷ notes) = []
+claims_in (Began slots root ∷ notes) = claims_of slots notes
+claims_in (Border ∷ notes) = []
+
 -- one of these notes is of a compaction
 abbrev pub compacts : List Note → Bool
 compacts [] = false
 compacts (Did command ∷ notes) = compacts notes
 compacts (Claimed key ∷ notes) = compacts notes
 compacts (Compacted ∷ notes) = true
+compacts (Began slots root ∷ notes) = compacts notes
+compacts (Border ∷ notes) = compacts notes
 
 -- the stored commands are the canonical list of the tree at the last compaction, and what came after
 pub record IsStoredSince (log : TreeLog) (notes : List Note) : Type 0 where
@@ -59,8 +83,14 @@ abbrev pub IsStored : TreeLog → List Note → Type 0
 IsStored log notes =
     ((compacts notes ≡ false) × (log.commands ≡ commands_of notes)) ⊎ IsStoredSince log notes
 
--- the tree, the claims and the stored commands are those of the history
+-- the history begins with the making of a tree of so many slots, of this root
+abbrev pub BeginsWith : ℕ → Key → List Note → Type 0
+BeginsWith slots root notes = (more : List Note) × (notes ≡ Began slots root ∷ more)
+
+-- the tree, the claims and the stored commands are those of the history, which begins with the making of this
+-- tree
 pub record IsNoted (log : TreeLog) (claims : List ℕ) (notes : List Note) : Type 0 where
+  pub began : BeginsWith (length log.tree) log.root notes
   pub tree : log.tree ≡ tree_of (length log.tree) log.root notes
   pub claimed : claims ≡ claims_of (length log.tree) notes
   pub stored : IsStored log notes

@@ -8,10 +8,7 @@ use Rattle.kf_core.specs.PostOrder.{IsPostOrder}
 use Rattle.kf_core.specs.Tree.{Tree, is_linked, in_subtree}
 use Rattle.kf_tree.specs.Causes.{doom_cause}
 use Rattle.kf_tree.specs.TreeLogs.{TreeLog}
-use Rattle.kf_words.specs.Callers.{CallerSight}
 use Rattle.kf_words.specs.Callers.{TableId, Handle, SeatId, IsSameSeat, id_of}
-use Rattle.kf_words.specs.Runs.{OnlyLooked, OnlyMade}
-use Rattle.kf_words.specs.declared.sight.StepKind.TheVariants.{Parts as parts}
 use Rattle.kf_words.specs.Nodes.{IsLastKey}
 use Rattle.kf_shared.specs.Locked.{Locked}
 
@@ -40,11 +37,6 @@ owners_of handles = map owner handles
 abbrev pub EndsAt : List Handle → Handle → Type 0
 EndsAt handles hold =
     (front : List Handle) × (last : Handle) × (handles ≡ front ++ last ∷ []) × IsSameSeat hold last
-
--- all that a hold does while its node is finished: it looks until it sees the drain, and then whether the
--- node has left the tree
-abbrev pub OnlyWaited : CallerSight → CallerSight → Type 0
-OnlyWaited before after = (saw : CallerSight) × OnlyLooked before saw × OnlyMade parts saw after
 
 -- the keys of the node's subtree, in post-order; where the node is not linked, its own alone
 abbrev pub IsDoomList : Tree → Key → List Key → Type 0

@@ -10,7 +10,10 @@ use Rattle.kf_core.specs.PostOrder.{IsPostOrder}
 use Rattle.kf_tree.specs.Causes.{doom_cause}
 use Rattle.kf_tree.specs.TreeLogs.{TreeLog, IsAccepted}
 use Rattle.kf_words.specs.declared.view.MasterView.{MasterView}
-use Rattle.kf_words.specs.Callers.{Handle}
+use mathlib.Core.List.{IsPrefix}
+use Rattle.kf_words.specs.declared.sight.Seen.{Seen}
+use Rattle.kf_words.specs.Notes.{history_of}
+use Rattle.kf_words.specs.Callers.{Handle, having_seen}
 use Rattle.kf_words.specs.Nodes.{MasterState, FoundFull, FoundRoom, IsLastKey, IsNewHold}
 use Rattle.kf_words.specs.declared.note.Note.TheVariants.{Did, Claimed}
 use Rattle.kf_shared.specs.Locked.{Locked, Adds, history}
@@ -23,9 +26,29 @@ keys_of holds = map (λ h. h.key) holds
 abbrev pub IsNew : MasterState → Handle → Type 0
 IsNew m hold = IsNewHold m hold.key hold
 
--- new holds, and the given one last
+-- the same hold, of which nothing changed but what it has seen
+abbrev pub HasHeard : Handle → Handle → Type 0
+HasHeard hold last = last ≡ having_seen last.seen hold
+
+-- new holds, and the given one last, of which nothing changed but what it has seen
 abbrev pub AreHolds : MasterState → Handle → List Handle → Type 0
-AreHolds m hold holds = (front : List Handle) × (holds ≡ front ++ hold ∷ []) × All (IsNew m) front
+AreHolds m hold holds = (front : List Handle) × (last : Handle) × (holds ≡ front ++ last ∷ [])
+    × HasHeard hold last × All (IsNew m) front
+
+-- the last hold has seen this beginning of the run
+abbrev pub EndsSeeing : List Handle → Seen → Type 0
+EndsSeeing holds seen =
+    (front : List Handle) × (last : Handle) × (holds ≡ front ++ last ∷ []) × (last.seen ≡ seen)
+
+-- where the node is linked, its doom came after all that the hold had seen
+abbrev pub CameAfter : Locked → Handle → Type 0
+CameAfter old hold =
+    is_linked old.state.tree hold.key ≡ true → IsPrefix (history_of hold.seen) (history old)
+
+-- where the node was linked, the last hold has seen all that the Master has when its doom is done: the whole
+-- history, which ends by the doom
+abbrev pub SawItsDoom : Locked → Locked → Handle → List Handle → Type 0
+SawItsDoom old new hold holds = is_linked old.state.tree hold.key ≡ true → EndsSeeing holds new.master.seen
 
 -- one hold for each node of the subtree, in post-order; where the node is no longer linked, the given hold
 -- alone

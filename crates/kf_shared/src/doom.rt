@@ -8,11 +8,14 @@ ghost use Rattle.kf_core.specs.PostOrder.{IsPostOrder};
 ghost use Rattle.kf_core.specs.Tree.{is_linked};
 ghost use Rattle.kf_tree.specs.Causes.{doom_cause};
 ghost use Rattle.kf_tree.specs.TreeLogs.{IsAccepted};
-ghost use Rattle.kf_words.specs.Callers.{Handle, IsSameSeat};
+ghost use Rattle.kf_words.specs.Callers.{Handle, IsSameSeat, having_seen, seat_view};
+ghost use Rattle.kf_words.specs.Made.{WasABreak};
 ghost use Rattle.kf_words.specs.Nodes.{IsLastKey, KeepsNodes};
 ghost use Rattle.kf_words.specs.declared.note.Note.TheVariants.{Did};
-ghost use Rattle.kf_shared.specs.Locked.{Adds, Unchanged, is_claimed};
-ghost use Rattle.kf_shared.specs.Removal.{keys_of, IsNew, AreHolds, DoomHolds, DoomDone, DoomMarked, DoomNoted, SelfDoomNoted, DoomGivenUp, DoomRefused, HoldsInRefused, SelfRemovalRefused};
+ghost use mathlib.Core.List.{IsPrefix};
+ghost use Rattle.kf_words.specs.Notes.{history_of};
+ghost use Rattle.kf_shared.specs.Locked.{Adds, Unchanged, history, is_claimed};
+ghost use Rattle.kf_shared.specs.Removal.{keys_of, IsNew, AreHolds, DoomHolds, DoomDone, DoomMarked, DoomNoted, SelfDoomNoted, CameAfter, EndsSeeing, SawItsDoom, DoomGivenUp, DoomRefused, HoldsInRefused, SelfRemovalRefused};
 
 use crate::locked::Locked;
 use crate::marking::doom_each;
@@ -93,13 +96,16 @@ impl<N: Naming> Locked<N> {
         &mut self,
         order: &[Key],
         mut pins: Vec<Hold>,
-        hold: Hold,
+        mut hold: Hold,
     ) -> Result<Vec<Hold>, (Hold, Refusal)>
+        requires table { hold.table ≡ N.table }
         requires order { IsPostOrder self.old.state.tree hold.key order.now }
         requires linked { is_linked self.old.state.tree hold.key ≡ true }
         requires not_root { same_key hold.key self.old.state.root ≡ false }
         requires room { vec_len pins < vec_capacity pins }
-        ensures holds { IfOk result (λ holds. holds.items ≡ pins.items ++ hold ∷ []) }
+        ensures holds { IfOk result
+            (λ holds. holds.items ≡ pins.items ++ having_seen self.new.master.seen hold ∷ []) }
+        ensures after { OnOk result (IsPrefix (history_of hold.seen) (history self.old)) }
         ensures done { IfOk result
             (λ _. IsAccepted self.old.state self.new.state
             (doom_cause self.old.state.tree self.old.state.root hold.key) (Doom hold.key)) }
@@ -111,8 +117,10 @@ impl<N: Naming> Locked<N> {
         let key = hold.key();
         match self.state.doom_in_order(key, order) {
             Ok(()) => {
+                self.master.meet(&mut hold); // what it has seen came before the doom
                 note_last(&mut self.master, &self.state);
                 doom_each(&mut self.master, order);
+                self.master.meet(&mut hold); // and now it has seen the doom
                 pins.push_reserved(hold);
                 Ok(pins)
             }
@@ -125,6 +133,7 @@ impl<N: Naming> Locked<N> {
 
     /// The doom of a linked node, given up where memory was refused.
     fn doom_linked(&mut self, hold: Hold) -> Result<Vec<Hold>, (Hold, Refusal)>
+        requires table { hold.table ≡ N.table }
         requires linked { is_linked self.old.state.tree hold.key ≡ true }
         ensures order { IfOk result
             (λ holds. IsPostOrder self.old.state.tree hold.key (keys_of holds.items)) }
@@ -132,6 +141,8 @@ impl<N: Naming> Locked<N> {
         ensures done { OnOk result (IsAccepted self.old.state self.new.state
             (doom_cause self.old.state.tree self.old.state.root hold.key) (Doom hold.key)) }
         ensures noted { OnOk result (Adds self.old self.new (Did (Doom hold.key))) }
+        ensures after { OnOk result (IsPrefix (history_of hold.seen) (history self.old)) }
+        ensures seen { IfOk result (λ holds. EndsSeeing holds.items self.new.master.seen) }
         ensures back { IfErr result (λ r. r.0 ≡ hold) }
         ensures given_up { IfErr result
             (λ r. DoomGivenUp self.old.state hold.key self.new.master.view r.1) }
@@ -156,6 +167,8 @@ impl<N: Naming> Locked<N> {
         ensures holds { IfOk result (λ holds. AreHolds self.old.master hold holds.items) }
         ensures done { IfOk result (λ _. DoomDone self.old self.new hold.key) }
         ensures noted { OnOk result (DoomNoted self.old self.new hold.key) }
+        ensures after { OnOk result (CameAfter self.old hold) }
+        ensures seen { IfOk result (λ holds. SawItsDoom self.old self.new hold holds.items) }
         ensures back { IfErr result (λ r. r.0 ≡ hold) }
         ensures refused { IfErr result (λ r. DoomRefused self.old self.new hold.key r.1) }
         ensures same { OnErr result (Unchanged self.old self.new) }
@@ -177,6 +190,7 @@ impl<N: Naming> Locked<N> {
         hold: Hold,
         receipts: &mut Vec<Parted>,
     ) -> Result<Vec<Hold>, (Hold, Refusal)>
+        requires table { hold.table ≡ N.table }
         requires linked { is_linked self.old.state.tree hold.key ≡ true }
         ensures order { IfOk result
             (λ holds. IsPostOrder self.old.state.tree hold.key (keys_of holds.items)) }
@@ -184,6 +198,8 @@ impl<N: Naming> Locked<N> {
         ensures done { OnOk result (IsAccepted self.old.state self.new.state
             (doom_cause self.old.state.tree self.old.state.root hold.key) (Doom hold.key)) }
         ensures noted { OnOk result (Adds self.old self.new (Did (Doom hold.key))) }
+        ensures after { OnOk result (IsPrefix (history_of hold.seen) (history self.old)) }
+        ensures seen { IfOk result (λ holds. EndsSeeing holds.items self.new.master.seen) }
         ensures room { IfOk result
             (λ holds. vec_len receipts.new + vec_len holds ≤ vec_capacity receipts.new) }
         ensures receipts { receipts.new.items ≡ receipts.old.items }
@@ -220,6 +236,8 @@ impl<N: Naming> Locked<N> {
         ensures holds { IfOk result (λ holds. AreHolds self.old.master hold holds.items) }
         ensures done { IfOk result (λ _. DoomDone self.old self.new hold.key) }
         ensures noted { OnOk result (DoomNoted self.old self.new hold.key) }
+        ensures after { OnOk result (CameAfter self.old hold) }
+        ensures seen { IfOk result (λ holds. SawItsDoom self.old self.new hold holds.items) }
         ensures room { IfOk result
             (λ holds. vec_len receipts.new + vec_len holds ≤ vec_capacity receipts.new) }
         ensures receipts { receipts.new.items ≡ receipts.old.items }
@@ -278,6 +296,7 @@ impl<N: Naming> Locked<N> {
         requires running { call.old.phase ≡ phase_of.Running }
         ensures seat { IsSameSeat call.old call.new }
         ensures broken { OnOk result (call.new.phase ≡ phase_of.Broken) }
+        ensures made { OnOk result (WasABreak (seat_view call.old) (seat_view call.new)) }
         ensures kept { OnErr result (call.new ≡ call.old) }
         ensures holds { IfOk result
             (λ r. (hold : Handle) × (hold.key ≡ call.old.key) × IsNew self.old.master hold

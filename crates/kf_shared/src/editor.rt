@@ -15,12 +15,13 @@ ghost use Rattle.kf_table.specs.Children.{is_there_already};
 ghost use Rattle.kf_tree.specs.TreeLogs.{IsAccepted, IsRefused, IsCompacted};
 ghost use Rattle.kf_words.specs.Callers.{Handle, IsSameSeat, WasHidden, WasShown, seat_view};
 ghost use Rattle.kf_words.specs.Nodes.{KeepsNodes, IsVacant, UnlinkAnswer, WasPinned};
+ghost use Rattle.kf_words.specs.Made.{WasABreak};
 ghost use Rattle.kf_words.specs.Runs.{WasAHide, WasAShow};
 ghost use Rattle.kf_live.specs.Live.{Say};
 ghost use Rattle.kf_live.specs.Lookers.{links_seen};
 ghost use Rattle.kf_shared.specs.Locked.{IsWhole, Adds, Created, CreateRefused, BornLowest, move_cause, IsHoldOfNode, HoldRefused, Unchanged, UnlinkDone, UnlinkRefused, is_claimed};
 ghost use Rattle.kf_shared.specs.Hiding.{hold_cause, HideRefused, ShowDone, ShowNoted};
-ghost use Rattle.kf_shared.specs.Removal.{IsNew, AreHolds, DoomHolds, DoomDone, DoomMarked, DoomNoted, SelfDoomNoted, DoomRefused, SelfRemovalRefused};
+ghost use Rattle.kf_shared.specs.Removal.{IsNew, AreHolds, DoomHolds, DoomDone, DoomMarked, DoomNoted, SelfDoomNoted, CameAfter, SawItsDoom, DoomRefused, SelfRemovalRefused};
 
 use crate::locked::Locked;
 use crate::naming::Naming;
@@ -179,7 +180,9 @@ impl<'a, N: Naming> Editor<'a, N> {
 
     /// Dooms the subtree of the hold's node, and gives a hold for each of its nodes: each after all that is
     /// below it, siblings in byte order of names, the given hold last (the marking half of `kernfs_remove`).
-    /// Where the node is no longer linked, the given hold alone comes back and nothing is stored.
+    /// Where the node is no longer linked, the given hold alone comes back and nothing is stored. Where it is
+    /// linked, the doom comes after all of the history that the given hold had seen, and that hold comes back
+    /// having seen all of it, its doom last.
     ///
     /// Condition: the hold is of this table.
     ///
@@ -192,6 +195,8 @@ impl<'a, N: Naming> Editor<'a, N> {
         ensures holds { IfOk result (λ holds. AreHolds self.old.master hold holds.items) }
         ensures done { IfOk result (λ _. DoomDone self.old self.new hold.key) }
         ensures noted { OnOk result (DoomNoted self.old self.new hold.key) }
+        ensures after { OnOk result (CameAfter self.old hold) }
+        ensures seen { IfOk result (λ holds. SawItsDoom self.old self.new hold holds.items) }
         ensures back { IfErr result (λ r. r.0 ≡ hold) }
         ensures refused { IfErr result (λ r. DoomRefused self.old self.new hold.key r.1) }
         ensures same { OnErr result (Unchanged self.old self.new) }
@@ -299,6 +304,8 @@ impl<'a, N: Naming> Editor<'a, N> {
         ensures holds { IfOk result (λ removing. AreHolds self.old.master hold removing) }
         ensures done { IfOk result (λ _. DoomDone self.old self.new hold.key) }
         ensures noted { OnOk result (DoomNoted self.old self.new hold.key) }
+        ensures after { OnOk result (CameAfter self.old hold) }
+        ensures seen { IfOk result (λ removing. SawItsDoom self.old self.new hold removing) }
         ensures was_whole { IsWhole N.table self.old }
         ensures whole { IsWhole N.table self.new }
         ensures back { IfErr result (λ r. r.0 ≡ hold) }
@@ -332,6 +339,7 @@ impl<'a, N: Naming> Editor<'a, N> {
         requires running { call.old.phase ≡ phase_of.Running }
         ensures seat { IsSameSeat call.old call.new }
         ensures broken { OnOk result (call.new.phase ≡ phase_of.Broken) }
+        ensures made { OnOk result (WasABreak (seat_view call.old) (seat_view call.new)) }
         ensures kept { OnErr result (call.new ≡ call.old) }
         ensures holds { IfOk result
             (λ r. (hold : Handle) × (hold.key ≡ call.old.key) × IsNew self.old.master hold

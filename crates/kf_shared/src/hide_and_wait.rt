@@ -1,10 +1,14 @@
 //! Files that are hidden and shown again, by threads that do not have the lock.
-ghost use Rattle.std.specs.Prelude.{◌≡◌, true, None, IfErr, IfOk, OnOk};
+ghost use Rattle.std.specs.Prelude.{◌≡◌, true, None, [], ◌∷◌, IfErr, IfOk, OnOk};
+ghost use Rattle.kf_core.specs.declared.command.Command.TheVariants.{Hide};
 ghost use Rattle.kf_core.specs.declared.caller.Phase.TheVariants as phase_of;
 ghost use Rattle.kf_words.specs.Callers.{IsSameSeat, WasShown, seat_view};
 ghost use Rattle.kf_words.specs.Layout.{is_unused};
-ghost use Rattle.kf_words.specs.Runs.{WasAShow};
-ghost use Rattle.kf_shared.specs.Hiding.{HidAndLooked, HideRefused, HidingRefused, hold_cause, kind_cause};
+ghost use Rattle.kf_words.specs.declared.note.Note.TheVariants.{Did};
+ghost use Rattle.kf_words.specs.declared.sight.StepKind.TheVariants.{Shows as shows};
+ghost use Rattle.kf_shared.specs.Locked.{history};
+ghost use Rattle.kf_shared.specs.Sections.{HidToldAndLooked, WasAddedLate, WasHiddenAlone, WasShownAlone, WereMadeTold};
+ghost use Rattle.kf_shared.specs.Hiding.{HideRefused, HidingRefused, hold_cause, kind_cause};
 
 use crate::editor::Editor;
 use crate::naming::Naming;
@@ -15,9 +19,10 @@ use std::sync::Wait;
 
 impl<N: Naming> SharedTree<N> {
     /// Hides a file, and waits, with the lock let go, until nobody has a reference to it: then no callback
-    /// runs there, save one that broke its own protection, and none starts until the file is shown. It may
-    /// never return: it waits for every callback that runs on the file, its caller's own among them, and for
-    /// the lock, which its caller must not have.
+    /// runs there, save one that broke its own protection, and none starts until the file is shown. Nothing
+    /// else is done while the lock is held, and the token has seen that. It may never return: it waits for
+    /// every callback that runs on the file, its caller's own among them, and for the lock, which its caller
+    /// must not have.
     ///
     /// Condition: the hold is of this tree's table.
     ///
@@ -32,15 +37,16 @@ impl<N: Naming> SharedTree<N> {
         ensures same { IfOk result (λ hidden. IsSameSeat hold hidden) }
         ensures hidden { IfOk result (λ hidden. hidden.phase ≡ phase_of.Hidden) }
         ensures unused { IfOk result (λ hidden. is_unused hidden.found ≡ true) }
-        ensures looked { IfOk result (λ hidden. HidAndLooked (seat_view hold) (seat_view hidden)) }
+        ensures looked { IfOk result (λ hidden. HidToldAndLooked (seat_view hold) (seat_view hidden)) }
+        ensures alone { IfOk result (λ hidden. WasHiddenAlone hold hidden) }
         ensures file { OnOk result (kind_cause hold.node ≡ None) }
         ensures refused { IfErr result (λ r. HidingRefused hold r.0 r.1) }
     {
         self.edit(rt).hide_and_wait(rt, hold)
     }
 
-    /// Shows a hidden file again, under the lock, which its caller must not have. It refuses nothing and
-    /// takes no memory.
+    /// Shows a hidden file again, under the lock, which its caller must not have. Nothing else is done while
+    /// the lock is held, and the hold has seen that. It refuses nothing and takes no memory.
     ///
     /// Condition: the token is of this tree's table.
     ///
@@ -48,10 +54,11 @@ impl<N: Naming> SharedTree<N> {
     pub fn show<R: Wait>(&self, rt: &R, hidden: Hidden) -> Hold
         requires table { hidden.table ≡ N.table }
         ensures hold { IsSameSeat hidden result × WasShown hidden result }
-        ensures made { WasAShow (seat_view hidden) (seat_view result) }
+        ensures made { WereMadeTold shows 1 (seat_view hidden) (seat_view result) }
+        ensures alone { WasShownAlone hidden result }
     {
         let mut editor = self.edit(rt);
-        editor.show(hidden)
+        editor.guard.show_alone(hidden)
     }
 }
 
@@ -69,13 +76,16 @@ impl<N: Naming> Editor<'_, N> {
         ensures same { IfOk result (λ hidden. IsSameSeat hold hidden) }
         ensures hidden { IfOk result (λ hidden. hidden.phase ≡ phase_of.Hidden) }
         ensures unused { IfOk result (λ hidden. is_unused hidden.found ≡ true) }
-        ensures looked { IfOk result (λ hidden. HidAndLooked (seat_view hold) (seat_view hidden)) }
+        ensures looked { IfOk result (λ hidden. HidToldAndLooked (seat_view hold) (seat_view hidden)) }
+        ensures alone { IfOk result (λ hidden. WasAddedLate hold.seen hidden.seen (history self.entry)
+            (Did (Hide hold.key) ∷ [])) }
         ensures no_cause { OnOk result (hold_cause self.entry.state.tree hold ≡ None) }
         ensures refused { IfErr result (λ r. HideRefused self.entry.state.tree hold r.0 r.1) }
     {
         let mut editor = self;
-        let started = editor.hide(hold);
+        let mut hiding = editor.hide(hold)?;
+        editor.guard.close_hiding(&mut hiding);
         drop(editor);
-        Ok(wait_hidden(rt, started?))
+        Ok(wait_hidden(rt, hiding))
     }
 }

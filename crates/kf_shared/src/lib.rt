@@ -16,6 +16,7 @@
 #![tactic(auto)]
 
 mod by_path;
+mod closing;
 mod doom;
 mod editor;
 mod hide;

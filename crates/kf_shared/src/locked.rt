@@ -17,6 +17,7 @@ ghost use Rattle.kf_shared.specs.Locked.{IsWhole, Adds, Created, CreateRefused, 
 use crate::marking::rise_each;
 use crate::naming::Naming;
 use crate::noting::{note_claim, note_last};
+use crate::tree::NewTree;
 use kf_core::{Key, Node, Refusal};
 use kf_live::{LiveTree, Looker};
 use kf_tree::State;
@@ -26,13 +27,26 @@ use std::marker::{Model, PhantomData};
 
 /// The tree with its commands, the Master of the words, and by slot the generation that was last claimed by a
 /// self-removal.
-#[derive(Drop)]
 pub struct Locked<N: Naming> {
     pub(crate) alloc: Global,
     pub(crate) state: LiveTree,
     pub(crate) master: Master,
     pub(crate) claims: Vec<u32>,
     pub(crate) name: PhantomData<N>,
+}
+
+/// What the lock keeps is let go here: so no crate that lets a tree or an `Editor` go proves that of each of
+/// the tree's parts once more.
+impl<N: Naming> Drop for Locked<N> {
+    fn drop(self) {
+        let Locked {
+            alloc: _,
+            state: _,
+            master: _,
+            claims: _,
+            name: _,
+        } = self;
+    }
 }
 
 impl<N: Naming> Model for Locked<N> {
@@ -65,6 +79,26 @@ fn put_claim(claims: &mut Vec<u32>, key: Key) -> bool
 }
 
 impl<N: Naming> Locked<N> {
+    /// The tree without its name.
+    pub fn unnamed(self) -> NewTree
+        ensures same { result ≡ self }
+        ensures table { result.master.table ≡ N.table }
+    {
+        let Locked {
+            alloc,
+            state,
+            master,
+            claims,
+            name: _,
+        } = self;
+        NewTree {
+            alloc,
+            state,
+            master,
+            claims,
+        }
+    }
+
     /// The tree with its stored commands.
     pub fn state(&self) -> &State
         ensures same { result.now ≡ self.now.state }

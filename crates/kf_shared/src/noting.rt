@@ -1,5 +1,6 @@
 //! What is done under the lock, noted in the history that the words keep.
-ghost use Rattle.kf_words.specs.declared.note.Note.TheVariants.{Claimed, Compacted};
+ghost use Rattle.kf_words.specs.declared.note.Note.TheVariants.{Claimed, Compacted, Began, Border};
+ghost use Rattle.std.specs.Prelude.{length};
 ghost use Rattle.kf_shared.specs.Noted.{WasNoted, last_stored};
 
 use kf_core::Key;
@@ -26,4 +27,18 @@ pub(crate) fn note_compaction(master: &mut Master)
     ensures { WasNoted Compacted master.old master.new }
 {
     master.note::<Brand, bool>(&true);
+}
+
+/// Notes that this tree was made.
+pub(crate) fn note_opening(master: &mut Master, state: &LiveTree)
+    ensures { WasNoted (Began (length state.now.tree) state.now.root) master.old master.new }
+{
+    master.note::<Brand, LiveTree>(state);
+}
+
+/// Notes that the lock was taken, or is about to be let go.
+pub(crate) fn note_border(master: &mut Master)
+    ensures { WasNoted Border master.old master.new }
+{
+    master.note::<Brand, bool>(&false);
 }

@@ -4,22 +4,24 @@ ghost use Rattle.kf_core.specs.declared.caller.Phase.TheVariants as phase_of;
 ghost use Rattle.kf_core.specs.declared.refusal.Refusal.TheVariants as refusal_of;
 ghost use Rattle.kf_tree.specs.Ends.{EndsWith};
 ghost use Rattle.kf_words.specs.Callers.{IsSameSeat, seat_view};
-ghost use Rattle.kf_shared.specs.Locked.{is_claimed};
-ghost use Rattle.kf_shared.specs.Removal.{keys_of};
-ghost use Rattle.kf_shared.specs.Receipts.{AllDifferent, AreOf, EndsAt, IsDoomList, MayBeDoomed, OnlyWaited, RemovalRefusal, RemovalRefused, SelfRefused, SelfRemovalRefusal, owners_of};
+ghost use Rattle.kf_shared.specs.Locked.{is_claimed, history};
+ghost use Rattle.kf_shared.specs.Removal.{HasHeard, keys_of};
+ghost use Rattle.kf_shared.specs.Receipts.{AllDifferent, AreOf, EndsAt, IsDoomList, MayBeDoomed, RemovalRefusal, RemovalRefused, SelfRefused, SelfRemovalRefusal, owners_of};
+ghost use Rattle.kf_shared.specs.Sections.{AreFinished, Last, OnlyWaited, SawMore, WasAdded, WasAddedLate, WasFinished, WasRemoved, WasRestoredAlone, WasSelfRemoved, doom_note, self_notes};
 
 use crate::editor::Editor;
 use crate::naming::Naming;
 use crate::tree::SharedTree;
 use kf_core::Refusal;
-use kf_words::{Call, Hold, Parted, wait_drained};
+use kf_words::{Call, Drained, Hold, Parted, wait_drained};
 use std::sync::Wait;
 
 impl<N: Naming> SharedTree<N> {
     /// Waits until the hold's node is drained, takes it out of the tree under the lock, waiting on while that
     /// is refused, and parts (`kernfs_drain`, then `kernfs_unlink_sibling`). The holds of one doom are
-    /// finished in their order: another order may wait for itself. It takes no memory, and may never return:
-    /// it waits, with the lock let go, for every callback that runs on the node, its caller's own among them,
+    /// finished in their order: another order may wait for itself. Nothing else is done while the lock is
+    /// held for the unlink, and the receipt has seen that. It takes no memory, and may never return: it
+    /// waits, with the lock let go, for every callback that runs on the node, its caller's own among them,
     /// and for the lock, which its caller must not have.
     ///
     /// Condition: the hold is of this tree's table.
@@ -30,10 +32,12 @@ impl<N: Naming> SharedTree<N> {
         ensures same { IsSameSeat hold result }
         ensures parted { result.phase ≡ phase_of.Parted }
         ensures waited { OnlyWaited (seat_view hold) (seat_view result) }
+        ensures later { SawMore hold.seen result.seen }
+        ensures finished { WasFinished hold result }
     {
         let mut drained = wait_drained(rt, hold);
         for _ in rt.forever() {
-            let unlinked = self.edit(rt).unlink(&drained);
+            let unlinked = self.unlink_alone(rt, &mut drained);
             if unlinked.is_err() {
                 drained.rest(rt);
                 continue;
@@ -44,6 +48,20 @@ impl<N: Naming> SharedTree<N> {
             }
         }
         unreachable!()
+    }
+
+    /// Takes a drained node out of the tree, and does nothing else while it holds the lock. What it did the
+    /// receipt has seen.
+    ///
+    /// Refusals: those of `Editor::unlink`.
+    fn unlink_alone<R: Wait>(&self, rt: &R, drained: &mut Drained) -> Result<bool, Refusal>
+        requires table { drained.old.table ≡ N.table }
+        ensures same { HasHeard drained.old drained.new }
+        ensures later { SawMore drained.old.seen drained.new.seen }
+        ensures done { OnOk result (WasFinished drained.old drained.new) }
+    {
+        let mut editor = self.edit(rt);
+        editor.guard.unlink_alone(drained)
     }
 
     /// Finishes the holds one after the other, and adds the receipt of each to `receipts`.
@@ -62,6 +80,7 @@ impl<N: Naming> SharedTree<N> {
         requires room { vec_len receipts + vec_len holds ≤ vec_capacity receipts }
         ensures tables { AreOf N.table result.items }
         ensures owners { owners_of result.items ≡ owners_of receipts.items ++ owners_of holds.items }
+        ensures finished { AreFinished receipts.items holds.items result.items }
     {
         let mut rest = holds.into_iter();
         while let Some(hold) = rest.next() {
@@ -74,9 +93,11 @@ impl<N: Naming> SharedTree<N> {
     /// Dooms the subtree of the hold's node, and waits until each of its nodes is drained and out of the tree
     /// (`kernfs_remove`). The receipts stand in the order of the doom: each node after all that is below it,
     /// siblings in byte order of names, the given hold's last. Where the node is no longer linked, the
-    /// receipt is for it alone. It may never return: it waits, with the lock let go, for every callback that
-    /// runs in the subtree, its caller's own among them, and for the lock, which its caller must not have. A
-    /// callback that removes its own node calls `remove_self`.
+    /// receipt is for it alone. Which tree that was the history tells: it had come after all that the hold
+    /// had seen, the doom is all that was done while the lock was held, and the last receipt has seen that.
+    /// It may never return: it waits, with the lock let go, for every callback that runs in the subtree, its
+    /// caller's own among them, and for the lock, which its caller must not have. A callback that removes its
+    /// own node calls `remove_self`.
     ///
     /// Condition: the hold is of this tree's table.
     ///
@@ -87,6 +108,8 @@ impl<N: Naming> SharedTree<N> {
     /// Context: sleeps; takes the tree's lock, which its caller must not have.
     pub fn remove<R: Wait>(&self, rt: &R, hold: Hold) -> Result<Vec<Parted>, (Hold, Refusal)>
         requires table { hold.table ≡ N.table }
+        ensures removed { IfOk result
+            (λ receipts. Last (WasRemoved hold (keys_of receipts.items)) receipts.items) }
         ensures tables { IfOk result (λ receipts. AreOf N.table receipts.items) }
         ensures last { IfOk result (λ receipts. EndsAt receipts.items hold) }
         ensures different { IfOk result (λ receipts. AllDifferent (keys_of receipts.items)) }
@@ -94,17 +117,19 @@ impl<N: Naming> SharedTree<N> {
         ensures refused { IfErr result (λ r. RemovalRefusal r.1) }
         ensures root { IfErr result (λ r. r.1 ≡ refusal_of.Invalid → hold.key.slot ≡ 0) }
     {
-        self.edit(rt).remove(rt, hold)
+        let editor = self.edit(rt);
+        editor.remove(rt, hold)
     }
 
     /// Removes the node of a call from within its own callback (`kernfs_remove_self`). Under the lock it
     /// takes holds of its own of the subtree's nodes, dooms them, claims the node, and breaks the call's
     /// protection. It waits as `remove` does; then, under the lock, it restores the call. True for the first
-    /// self-removal of the node, also where a plain removal is under way; every other answers false, after
-    /// its own waiting. The last receipt is for the call's node, and where the node has left the tree already
-    /// it is the only one. It may never return: it waits for every other callback that runs in the subtree,
-    /// and for the lock, which its caller must not have. A callback that runs on two nodes, one above the
-    /// other, waits for itself where it removes the upper.
+    /// self-removal of the node in the whole history, also where a plain removal is under way; every other
+    /// answers false, after its own waiting. Nothing else is done while the lock is held. The last receipt is
+    /// for the call's node, and where the node has left the tree already it is the only one. It may never
+    /// return: it waits for every other callback that runs in the subtree, and for the lock, which its caller
+    /// must not have. A callback that runs on two nodes, one above the other, waits for itself where it
+    /// removes the upper.
     ///
     /// Conditions: the call is Running, and of this tree's table. After an answer it is Restored.
     ///
@@ -123,6 +148,9 @@ impl<N: Naming> SharedTree<N> {
         ensures same { IsSameSeat call.old call.new }
         ensures answered { OnOk result (call.new.phase ≡ phase_of.Restored) }
         ensures kept { OnErr result (call.new ≡ call.old) }
+        ensures removed { IfOk result
+            (λ r. WasSelfRemoved call.old call.new r.0 (keys_of r.1.items)) }
+        ensures restored { OnOk result (WasRestoredAlone (seat_view call.new)) }
         ensures tables { IfOk result (λ r. AreOf N.table r.1.items) }
         ensures last { IfOk result (λ r. EndsWith (keys_of r.1.items) call.old.key) }
         ensures different { IfOk result (λ r. AllDifferent (keys_of r.1.items)) }
@@ -148,6 +176,8 @@ impl<N: Naming> Editor<'_, N> {
     /// Context: sleeps, once it has let the lock go.
     pub fn remove<R: Wait>(self, rt: &R, hold: Hold) -> Result<Vec<Parted>, (Hold, Refusal)>
         requires table { hold.table ≡ N.table }
+        ensures alone { IfOk result (λ receipts. Last (λ receipt. WasAdded hold.seen receipt.seen
+            (history self.entry) (doom_note self.entry.state.tree hold.key)) receipts.items) }
         ensures tables { IfOk result (λ receipts. AreOf N.table receipts.items) }
         ensures last { IfOk result (λ receipts. EndsAt receipts.items hold) }
         ensures different { IfOk result (λ receipts. AllDifferent (keys_of receipts.items)) }
@@ -160,9 +190,10 @@ impl<N: Naming> Editor<'_, N> {
     {
         let mut editor = self;
         let tree = editor.tree;
-        let begun = editor.begin_removal(hold);
+        let mut removing = editor.begin_removal(hold)?;
+        editor.guard.close_removal(&mut removing);
         drop(editor);
-        Ok(begun?.finish(rt, tree))
+        Ok(removing.finish(rt, tree))
     }
 
     /// Removes the node of a call from within its own callback (`kernfs_remove_self`), as
@@ -186,6 +217,9 @@ impl<N: Naming> Editor<'_, N> {
         ensures answered { OnOk result (call.new.phase ≡ phase_of.Restored) }
         ensures kept { OnErr result (call.new ≡ call.old) }
         ensures first { IfOk result (λ r. r.0 ≡ not (is_claimed self.entry.claims call.old.key)) }
+        ensures alone { OnOk result (WasAddedLate call.old.seen call.new.seen (history self.entry)
+            (self_notes self.entry.state.tree call.old.key)) }
+        ensures restored { OnOk result (WasRestoredAlone (seat_view call.new)) }
         ensures tables { IfOk result (λ r. AreOf N.table r.1.items) }
         ensures last { IfOk result (λ r. EndsWith (keys_of r.1.items) call.old.key) }
         ensures different { IfOk result (λ r. AllDifferent (keys_of r.1.items)) }
@@ -196,12 +230,12 @@ impl<N: Naming> Editor<'_, N> {
     {
         let mut editor = self;
         let tree = editor.tree;
-        let begun = editor.begin_self_removal(call);
+        let (first, removing) = editor.begin_self_removal(call)?;
+        editor.guard.close_call(call);
         drop(editor);
-        let (first, removing) = begun?;
         let receipts = removing.finish(rt, tree);
-        let _editor = tree.edit(rt);
-        call.restore();
+        let mut editor = tree.edit(rt);
+        editor.guard.restore_alone(call);
         Ok((first, receipts))
     }
 }

@@ -1,12 +1,16 @@
 //! Removal of a node by its key, its name or its path, as the guard's tree has it.
-ghost use Rattle.std.specs.Prelude.{◌≡◌, Ok, IfErr, IfOk, OnErr, OnOk};
+ghost use Rattle.std.specs.Prelude.{◌≡◌, [], ◌∷◌, ◌++◌, Ok, IfErr, IfOk, OnErr, OnOk};
+ghost use mathlib.Core.List.{IsPrefix};
 ghost use Rattle.kf_core.specs.declared.command.Command.TheVariants.{Doom};
 ghost use Rattle.kf_core.specs.declared.key.Key.{Key};
 ghost use Rattle.kf_core.specs.PostOrder.{IsPostOrder};
 ghost use Rattle.kf_tree.specs.Causes.{doom_cause};
 ghost use Rattle.kf_tree.specs.Paths.{found, walked};
 ghost use Rattle.kf_tree.specs.TreeLogs.{IsAccepted};
-ghost use Rattle.kf_shared.specs.Locked.{IsWhole, Unchanged};
+ghost use Rattle.kf_words.specs.declared.note.Note.TheVariants.{Did, Border};
+ghost use Rattle.kf_words.specs.Notes.{history_of};
+ghost use Rattle.kf_shared.specs.Locked.{Adds, IsWhole, Unchanged, history};
+ghost use Rattle.kf_shared.specs.Sections.{Last};
 ghost use Rattle.kf_shared.specs.Removal.{keys_of};
 ghost use Rattle.kf_shared.specs.Receipts.{AreOf, IsRemovalOf, KeyRefused, NamedRefused};
 
@@ -27,6 +31,8 @@ impl<N: Naming> Editor<'_, N> {
         ensures ordered { IfOk result (λ removing. IsPostOrder self.old.state.tree key (keys_of removing)) }
         ensures done { OnOk result (IsAccepted self.old.state self.new.state
             (doom_cause self.old.state.tree self.old.state.root key) (Doom key)) }
+        ensures noted { OnOk result (Adds self.old self.new (Did (Doom key))) }
+        ensures last { IfOk result (λ removing. Last (λ hold. hold.key ≡ key) removing) }
         ensures whole { IsWhole N.table self.new }
         ensures refused { IfErr result (λ refusal. KeyRefused self.old.state key refusal) }
         ensures same { OnErr result (Unchanged self.old self.new) }
@@ -44,21 +50,25 @@ impl<N: Naming> Editor<'_, N> {
     }
 
     /// Removes the node of a key with all below it, as `remove` does. The receipts are in post-order, the
-    /// node's own last.
+    /// node's own last, which has seen that nothing came between the doom and the end of the lock.
     ///
     /// Refusals: those of `begin_removal_of`. After a refusal nothing is marked, and the lock is let go.
     ///
     /// Context: sleeps, once it has let the lock go, and takes it for each unlink.
     pub fn remove_key<R: Wait>(self, rt: &R, key: Key) -> Result<Vec<Parted>, Refusal>
+        ensures alone { IfOk result (λ receipts. Last (λ receipt. IsPrefix
+            ((history self.entry ++ Did (Doom key) ∷ []) ++ Border ∷ []) (history_of receipt.seen))
+            receipts.items) }
         ensures tables { IfOk result (λ receipts. AreOf N.table receipts.items) }
         ensures listed { IfOk result (λ receipts. IsRemovalOf self.entry.state key (keys_of receipts.items)) }
         ensures refused { IfErr result (λ refusal. KeyRefused self.entry.state key refusal) }
     {
         let mut editor = self;
         let tree = editor.tree;
-        let begun = editor.begin_removal_of(key);
+        let mut removing = editor.begin_removal_of(key)?;
+        editor.guard.close_removal(&mut removing);
         drop(editor);
-        Ok(begun?.finish(rt, tree))
+        Ok(removing.finish(rt, tree))
     }
 
     /// Removes the node of this name in a directory, live or not.

@@ -2,7 +2,9 @@
 ghost use Rattle.std.specs.Prelude.{◌≡◌, ◌+◌, ◌≤◌, [], vec_capacity, vec_len};
 ghost use Rattle.kf_shared.specs.Receipts.{AreOf, owners_of};
 ghost use Rattle.kf_shared.specs.Removal.{keys_of};
+ghost use Rattle.kf_shared.specs.Sections.{AllFinished, IsClosedAt};
 
+use crate::locked::Locked;
 use crate::naming::Naming;
 use crate::tree::SharedTree;
 use kf_words::{Hold, Parted};
@@ -57,12 +59,14 @@ impl<N: Naming> Removing<N> {
     }
 
     /// Waits, with the lock let go, until each node is drained, and takes it out of the tree. The receipts
-    /// stand in the order of the holds, each of its hold's own seat. It takes no memory, and may never
-    /// return: it waits for every callback that runs on the nodes, its caller's own among them, and for the
-    /// lock, which its caller must not have.
+    /// stand in the order of the holds, each of its hold's own seat, and each has seen the unlink: nothing
+    /// else was done while the lock was held for it. It takes no memory, and may never return: it waits for
+    /// every callback that runs on the nodes, its caller's own among them, and for the lock, which its caller
+    /// must not have.
     ///
     /// Context: sleeps; takes the tree's lock, which its caller must not have.
     pub fn finish<R: Wait>(self, rt: &R, tree: &SharedTree<N>) -> Vec<Parted>
+        ensures finished { AllFinished self result.items }
         ensures tables { AreOf N.table result.items }
         ensures owners { owners_of result.items ≡ owners_of self }
         ensures keys { keys_of result.items ≡ keys_of self }
@@ -73,6 +77,19 @@ impl<N: Naming> Removing<N> {
             name: _,
         } = self;
         tree.finish_each(rt, holds, receipts)
+    }
+}
+
+impl<N: Naming> Locked<N> {
+    /// Tells the last of a removal's holds all that was done while the lock was held, which is about to be
+    /// let go.
+    pub(crate) fn close_removal(&mut self, removing: &mut Removing<N>)
+        ensures last { IsClosedAt self.old removing.old removing.new }
+    {
+        if let Some(mut last) = removing.holds.pop() {
+            self.close(&mut last);
+            removing.holds.push_reserved(last);
+        }
     }
 }
 

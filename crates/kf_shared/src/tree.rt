@@ -4,11 +4,13 @@ ghost use Rattle.kf_core.specs.declared.refusal.Refusal.TheVariants as refusal_o
 ghost use Rattle.kf_core.specs.Limits.{most_slots};
 ghost use Rattle.kf_tree.specs.TreeLogs.{IsNew};
 ghost use Rattle.kf_words.specs.Steps.{opened};
-ghost use Rattle.kf_shared.specs.Locked.{IsWhole};
+ghost use Rattle.kf_shared.specs.Locked.{IsWhole, history};
+ghost use Rattle.kf_shared.specs.Sections.{IsTaken};
 
 use crate::editor::Editor;
 use crate::locked::Locked;
 use crate::naming::Naming;
+use crate::noting::note_opening;
 use crate::reader::Reader;
 use kf_core::{Key, Limits, Refusal};
 use kf_live::LiveTree;
@@ -19,12 +21,23 @@ use std::marker::{Brand, Model, PhantomData};
 use std::sync::{RwLock, Wait};
 
 /// A tree with its words, which has no name yet: [`NewTree::named`] makes of it the tree that threads share.
-#[derive(Drop)]
 pub struct NewTree {
-    alloc: Global,
-    state: LiveTree,
-    master: Master,
-    claims: Vec<u32>,
+    pub(crate) alloc: Global,
+    pub(crate) state: LiveTree,
+    pub(crate) master: Master,
+    pub(crate) claims: Vec<u32>,
+}
+
+/// As for a [`Locked`].
+impl Drop for NewTree {
+    fn drop(self) {
+        let NewTree {
+            alloc: _,
+            state: _,
+            master: _,
+            claims: _,
+        } = self;
+    }
 }
 
 impl Model for NewTree {
@@ -104,28 +117,6 @@ impl NewTree {
     }
 }
 
-impl<N: Naming> Locked<N> {
-    /// The tree without its name.
-    pub fn unnamed(self) -> NewTree
-        ensures same { result ≡ self }
-        ensures table { result.master.table ≡ N.table }
-    {
-        let Locked {
-            alloc,
-            state,
-            master,
-            claims,
-            name: _,
-        } = self;
-        NewTree {
-            alloc,
-            state,
-            master,
-            claims,
-        }
-    }
-}
-
 /// The tree behind its one lock. Threads share it by reference.
 #[derive(Drop)]
 pub struct SharedTree<N: Naming> {
@@ -183,13 +174,14 @@ impl SharedTree<Brand> {
         ensures claims { IfOk result (λ tree. tree.claims ≡ replicate limits.slots 0) }
         ensures refused { IfErr result (λ refusal. refusal ≡ refusal_of.NoMemory) }
     {
-        let (_words, master) = Words::new_at(alloc, limits, start)?;
+        let (_words, mut master) = Words::new_at(alloc, limits, start)?;
         let root = Key {
             slot: 0,
             generation: start + 1,
         };
         let state = LiveTree::new(alloc, limits, root, looks)?;
         let claims = no_claims(alloc, limits.slots())?;
+        note_opening(&mut master, &state);
         Ok(NewTree {
             alloc,
             state,
@@ -202,6 +194,7 @@ impl SharedTree<Brand> {
 impl<N: Naming> SharedTree<N> {
     /// Waits until nobody else has the one lock, to look or to change. Whenever it is got, the tree is
     /// lawful and the replay of its commands, and the words name the same linked, activated and doomed keys.
+    /// That the lock was taken is noted last in the history: what comes then is done while it is held.
     ///
     /// The lock is not reentrant: one who has an [`Editor`] and calls `edit`, `read`, `finish`, `remove`,
     /// `remove_self`, `hide` or `show` of the same tree waits for itself. So may one who waits under it for a
@@ -211,12 +204,14 @@ impl<N: Naming> SharedTree<N> {
     ///
     /// Context: sleeps; takes the tree's lock, which its caller must not have.
     pub fn edit<R: Wait>(&self, rt: &R) -> Editor<'_, N>
-        ensures { IsWhole N.table result }
+        ensures whole { IsWhole N.table result }
+        ensures taken { IsTaken (history result) }
     {
-        let editor = Editor {
+        let mut editor = Editor {
             tree: self,
             guard: self.lock.write(rt),
         };
+        editor.guard.border();
         let _ = editor.state();
         editor
     }

@@ -6,7 +6,7 @@ pub returns-in_err-begun : goal.returns-in_err-begun
 returns-in_err-begun g c =
     let p = err_from_is_err_and c.from_residual.result c.from_residual.ensures.1 in record {
       refused = rw (p.1, p.2) (stopped_refusal _ c.edit.result c.args.dir c.args.group.now.name c.in_err-begun.field-0.0
-          c.edit.ensures c.in_err-begun.ensures.refused);
+          c.edit.ensures.whole c.in_err-begun.ensures.refused);
     }
 
 pub returns : goal.returns

@@ -1,0 +1,155 @@
+-- What the receipts of a removal have seen of its doom, and of the unlinks.
+use Rattle.std.proofs.Common.{◌≡◌, Bool, true, false, List, [], ◌∷◌, ◌++◌, refl, sym, ap, ◌∙◌, subst}
+use Rattle.std.specs.Prelude.{MatchBool, Result, Ok, Err, IfOk}
+use Rattle.std.proofs.lemmas.List.{append-nil, append_assoc, same_from_push}
+use mathlib.Core.List.{IsPrefix}
+use Rattle.kf_core.specs.declared.command.Command.TheVariants.{Doom}
+use Rattle.kf_core.specs.declared.key.Key.{Key}
+use Rattle.kf_core.specs.PostOrder.{IsPostOrder}
+use Rattle.kf_core.specs.Tree.{is_linked}
+use Rattle.kf_words.specs.declared.note.Note.{Note}
+use Rattle.kf_words.specs.declared.note.Note.TheVariants.{Did, Border}
+use Rattle.kf_words.specs.Callers.{TableId, Handle}
+use Rattle.kf_words.specs.Nodes.{MasterState}
+use Rattle.kf_words.specs.Notes.{history_of}
+use Rattle.kf_shared.specs.Locked.{Locked, Adds, IsWhole, history}
+use Rattle.kf_shared.specs.Noted.{tree_in}
+use Rattle.kf_shared.specs.Removal.{keys_of, HasHeard, AreHolds, DoomHolds, DoomNoted, CameAfter}
+use Rattle.kf_shared.specs.Receipts.{IsDoomList, owner, owners_of}
+use Rattle.kf_shared.specs.Sections.{IsTaken, SawMore, WasAdded, WasClosed, IsClosedAt, WasDone, WasFinished, WasRemoved, AllFinished, AreFinished, Last, doom_note, unlink_note, note_where}
+use Rattle.kf_shared.proofs.Notes.{tree_told}
+use Rattle.kf_shared.proofs.Receipts.{owners_more, same_owner_keys}
+use Rattle.kf_shared.proofs.Hearing.{prefix_trans, more_told}
+
+-- seen by another who had seen as much before, and has seen as much since
+pub added_on : (before mid after last : Handle) (found added : List Note) → SawMore before.seen mid.seen → SawMore after.seen last.seen → WasAdded mid.seen after.seen found added → WasAdded before.seen last.seen found added
+added_on before mid after last found added first more w = record {
+  came = prefix_trans (history_of before.seen) (history_of mid.seen) found (more_told before.seen mid.seen first) w.came;
+  next = prefix_trans ((found ++ added) ++ Border ∷ []) (history_of after.seen) (history_of last.seen) w.next (more_told after.seen last.seen more);
+}
+
+pub finished_on : (before mid after last : Handle) → mid.key ≡ before.key → SawMore before.seen mid.seen → SawMore after.seen last.seen → WasFinished mid after → WasFinished before last
+finished_on before mid after last is first more w =
+    let on : WasFinished' = (w.0, record { taken = w.1.taken; section = added_on before mid after last w.0 _ first more w.1.section }) in
+    subst (λ k. (found : List Note) × WasDone before.seen last.seen found (unlink_note (tree_in found) k)) is on
+  where
+    WasFinished' : Type 0
+    WasFinished' = (found : List Note) × WasDone before.seen last.seen found (unlink_note (tree_in found) mid.key)
+
+-- one hold more is finished
+pub one_finished : (holds receipts : List Handle) (hold receipt : Handle) → AllFinished holds receipts → SawMore hold.seen receipt.seen → WasFinished hold receipt → AllFinished (holds ++ hold ∷ []) (receipts ++ receipt ∷ [])
+one_finished [] [] hold receipt all more one = ((more, one), tt)
+one_finished [] (r ∷ receipts) hold receipt all more one = absurd all
+one_finished (h ∷ holds) [] hold receipt all more one = absurd all
+one_finished (h ∷ holds) (r ∷ receipts) hold receipt all more one = (all.0, one_finished holds receipts hold receipt all.1 more one)
+
+-- the last receipt is of the last hold
+pub last_finished : (front receipts : List Handle) (hold : Handle) → AllFinished (front ++ hold ∷ []) receipts → Last (λ receipt. SawMore hold.seen receipt.seen × WasFinished hold receipt) receipts
+last_finished [] [] hold all = absurd all
+last_finished [] (r ∷ []) hold all = ([], r, refl, all.0)
+last_finished [] (r ∷ s ∷ receipts) hold all = absurd all.1
+last_finished (h ∷ front) [] hold all = absurd all
+last_finished (h ∷ front) (r ∷ receipts) hold all =
+    (let rest = last_finished front receipts hold all.1 in (r ∷ rest.0, rest.1, ap (λ l. r ∷ l) rest.2, rest.3))
+
+-- a removal that was told before the lock was let go has the holds that it had
+pub owners_closed : {Such : Handle → Type 0} (new : Locked) (removing closed : List Handle) → Last Such removing → IsClosedAt new removing closed → owners_of closed ≡ owners_of removing
+owners_closed new removing closed l closes =
+    let its = closes l.0 l.1 l.2 in
+    ap owners_of its.1 ∙ owners_more l.0 (its.0 ∷ []) ∙ ap (λ o. owners_of l.0 ++ o ∷ []) (ap owner its.2.heard) ∙ sym (owners_more l.0 (l.1 ∷ [])) ∙ sym (ap owners_of l.2)
+
+pub keys_closed : {Such : Handle → Type 0} (new : Locked) (removing closed : List Handle) → Last Such removing → IsClosedAt new removing closed → keys_of closed ≡ keys_of removing
+keys_closed new removing closed l closes = same_owner_keys closed removing (owners_closed new removing closed l closes)
+
+-- what was added before the lock was let go the last receipt has seen
+pub last_closed : {Such : Handle → Type 0} (old new : Locked) (note : Note) (removing closed receipts : List Handle) → Adds old new note → Last Such removing → IsClosedAt new removing closed → AllFinished closed receipts
+    → Last (λ receipt. IsPrefix ((history old ++ note ∷ []) ++ Border ∷ []) (history_of receipt.seen)) receipts
+last_closed old new note removing closed receipts noted l closes finished =
+    let its = closes l.0 l.1 l.2 in
+    let r = last_finished l.0 receipts its.0 (subst (λ c. AllFinished c receipts) its.1 finished) in
+    (r.0, r.1, r.2, subst (λ n. IsPrefix n (history_of r.1.seen)) (its.2.seen ∙ ap (λ n. n ++ Border ∷ []) (append-nil (history new) ∙ noted)) (more_told its.0.seen r.1.seen r.3.0))
+
+-- the holds of a doom have a last
+pub last_hold : (m : MasterState) (hold : Handle) (holds : List Handle) → AreHolds m hold holds → Last (λ last. HasHeard hold last) holds
+last_hold m hold holds h = (h.0, h.1, h.2, h.3)
+
+-- what a doom added to the history
+pub doom_added : (old new : Locked) (key : Key) → DoomNoted old new key → history new ≡ history old ++ doom_note old.state.tree key
+doom_added old new key noted = go (is_linked old.state.tree key) noted
+  where
+    go : (b : Bool) → MatchBool b (Adds old new (Did (Doom key))) (history new ≡ history old) → history new ≡ history old ++ note_where b (Did (Doom key))
+    go true e = e
+    go false e = e ∙ sym (append-nil (history old))
+
+-- a doom, the lock let go, and the waits
+module _ (old new : Locked) (hold : Handle) (removing closed receipts : List Handle) (m : MasterState) (holds : AreHolds m hold removing) (order : DoomHolds old.state.tree hold removing) (after : CameAfter old hold)
+    (noted : DoomNoted old new hold.key) (closes : IsClosedAt new removing closed) (finished : AllFinished closed receipts) where
+  abbrev its : (last : Handle) × (closed ≡ holds.0 ++ last ∷ []) × WasClosed new [] holds.1 last
+  its = closes holds.0 holds.1 holds.2
+
+  abbrev last : Handle
+  last = its.0
+
+  shut : WasClosed new [] holds.1 last
+  shut = its.2
+
+  -- where the node is not linked the given hold is the last
+  came : IsPrefix (history_of hold.seen) (history old)
+  came = go (is_linked old.state.tree hold.key) order after noted
+    where
+      go : (b : Bool) → MatchBool b (IsPostOrder old.state.tree hold.key (keys_of removing)) (removing ≡ hold ∷ []) → (b ≡ true → IsPrefix (history_of hold.seen) (history old))
+          → MatchBool b (Adds old new (Did (Doom hold.key))) (history new ≡ history old) → IsPrefix (history_of hold.seen) (history old)
+      go true o a n = a refl
+      go false o a n = subst (IsPrefix (history_of hold.seen)) n
+          (subst (λ (h : Handle). IsPrefix (history_of h.seen) (history new)) (same_from_push holds.0 [] holds.1 hold (sym holds.2 ∙ o ∙ (let r : hold ∷ [] ≡ [] ++ hold ∷ [] = refl in r))).1 shut.came)
+
+  pub was_added : Last (λ receipt. WasAdded hold.seen receipt.seen (history old) (doom_note old.state.tree hold.key)) receipts
+  was_added =
+      let l = last_finished holds.0 receipts last (subst (λ c. AllFinished c receipts) its.1 finished) in (
+        l.0,
+        l.1,
+        l.2,
+        record {
+          came = came;
+          next = subst (λ n. IsPrefix n (history_of l.1.seen))
+              (shut.seen ∙ ap (λ n. n ++ Border ∷ []) (append-nil (history new) ∙ doom_added old new hold.key noted))
+              (more_told last.seen l.1.seen l.3.0);
+        },
+      )
+
+-- the same as the history tells it, where the lock was just taken
+pub was_removed : (table : TableId) (old : Locked) (hold : Handle) (receipts : List Handle) → IsWhole table old → IsTaken (history old)
+    → Last (λ receipt. WasAdded hold.seen receipt.seen (history old) (doom_note old.state.tree hold.key)) receipts → IsDoomList old.state.tree hold.key (keys_of receipts) → Last (WasRemoved hold (keys_of receipts)) receipts
+was_removed table old hold receipts whole taken l listed =
+    let tree : old.state.tree ≡ tree_in (history old) = tree_told old.state old.claims (history old) whole.told in (
+      l.0,
+      l.1,
+      l.2,
+      (
+        history old,
+        record {
+          taken = taken;
+          section = subst (λ t. WasAdded hold.seen l.1.seen (history old) (doom_note t hold.key)) tree l.3;
+        },
+        subst (λ t. IsDoomList t hold.key (keys_of receipts)) tree listed,
+      ),
+    )
+
+-- one hold more of the list is finished
+pub next_made : (before all done rest rest' receipts receipts' : List Handle) (hold receipt : Handle) → all ≡ done ++ rest → rest ≡ hold ∷ rest' → receipts' ≡ receipts ++ receipt ∷ []
+    → AreFinished before done receipts → SawMore hold.seen receipt.seen → WasFinished hold receipt → (done' : List Handle) × (all ≡ done' ++ rest') × AreFinished before done' receipts'
+next_made before all done rest rest' receipts receipts' hold receipt e next push f more one = (
+  done ++ hold ∷ [],
+  e ∙ ap (λ l. done ++ l) next ∙ sym (append_assoc done (hold ∷ []) rest'),
+  (f.0 ++ receipt ∷ [], push ∙ ap (λ l. l ++ receipt ∷ []) f.1 ∙ append_assoc before f.0 (receipt ∷ []), one_finished done f.0 hold receipt f.2 more one),
+)
+
+-- all are, where there was no receipt before
+pub all_made : (before holds receipts : List Handle) → before ≡ [] → AreFinished before holds receipts → AllFinished holds receipts
+all_made before holds receipts none f = subst (AllFinished holds) (sym (f.1 ∙ ap (λ l. l ++ f.0) none ∙ (let r : [] ++ f.0 ≡ f.0 = refl in r))) f.2
+
+pub removed_in : {X E : Type 0} (table : TableId) (old : Locked) (hold : Handle) (items : X → List Handle) (r : Result X E) → IsWhole table old → IsTaken (history old)
+    → IfOk r (λ x. Last (λ receipt. WasAdded hold.seen receipt.seen (history old) (doom_note old.state.tree hold.key)) (items x)) → IfOk r (λ x. IsDoomList old.state.tree hold.key (keys_of (items x)))
+    → IfOk r (λ x. Last (WasRemoved hold (keys_of (items x))) (items x))
+removed_in table old hold items (Ok x) whole taken l listed = was_removed table old hold (items x) whole taken l listed
+removed_in table old hold items (Err e) whole taken l listed = tt

@@ -1,0 +1,170 @@
+-- What was done while the lock was held once, as the history tells it to those who saw it.
+use Rattle.std.specs.Prelude.{◌≡◌, ℕ, zero, suc, Bool, true, false, not, None, ⊤, List, [], ◌∷◌, ◌++◌}
+use mathlib.Core.List.{IsPrefix}
+use Rattle.kf_core.specs.declared.key.Key.{Key}
+use Rattle.kf_core.specs.declared.command.Command.TheVariants.{Doom, Unlink, Hide, Show}
+use Rattle.kf_core.specs.Tree.{Tree, is_linked}
+use Rattle.kf_words.specs.declared.note.Note.{Note}
+use Rattle.kf_words.specs.declared.note.Note.TheVariants.{Did, Claimed, Border}
+use Rattle.kf_words.specs.declared.sight.Seen.{Seen}
+use Rattle.kf_words.specs.declared.sight.StepKind.{StepKind}
+use Rattle.kf_words.specs.declared.sight.StepKind.TheVariants.{Parts as parts}
+use Rattle.kf_words.specs.Notes.{history_of}
+use Rattle.kf_words.specs.Callers.{Handle, CallerSight}
+use Rattle.kf_tree.specs.Causes.{hidden_in}
+use Rattle.kf_words.specs.Made.{WasMade, WasAHide, WasARestore, OnlyLooked, OnlyLookedHidden}
+use Rattle.kf_shared.specs.Hiding.{hold_cause}
+use Rattle.kf_shared.specs.Locked.{Locked, history, is_claimed}
+use Rattle.kf_shared.specs.Noted.{tree_in, claims_in}
+use Rattle.kf_shared.specs.Removal.{HasHeard}
+use Rattle.kf_shared.specs.Receipts.{IsDoomList}
+
+-- the last note is that the lock was taken
+abbrev pub IsTaken : List Note → Type 0
+IsTaken notes = (before : List Note) × (notes ≡ before ++ Border ∷ [])
+
+-- as much of the one run was seen, or more
+abbrev pub SawMore : Seen → Seen → Type 0
+SawMore before after = IsPrefix before.steps after.steps
+
+-- the seat made no step, and has seen as much of the one run, or more
+pub record WasTold (before after : CallerSight) : Type 0 where
+  pub view : after.view ≡ before.view
+  pub seen : SawMore before.seen after.seen
+
+-- so many steps of this kind, and no other of this seat; before, between and after them it was told what
+-- others had seen
+abbrev pub WereMadeTold : (ℕ → StepKind) → ℕ → CallerSight → CallerSight → Type 0
+WereMadeTold kind zero before after = WasTold before after
+WereMadeTold kind (suc count) before after = (told : CallerSight) × (made : CallerSight)
+    × WereMadeTold kind count before told × WasMade kind told made × WasTold made after
+
+-- all that a hold does while its node is finished: it looks until it sees the drain, and then, as it is told
+-- what was done under the lock, whether the node has left the tree
+abbrev pub OnlyWaited : CallerSight → CallerSight → Type 0
+OnlyWaited before after =
+    (saw : CallerSight) × OnlyLooked before saw × ((count : ℕ) × WereMadeTold parts (suc count) saw after)
+
+-- one step hid the key; then the token was told what was done under the lock, and all its other steps were
+-- looks
+abbrev pub HidToldAndLooked : CallerSight → CallerSight → Type 0
+HidToldAndLooked before after = (hid : CallerSight) × (told : CallerSight) × WasAHide before hid
+    × WasTold hid told × OnlyLookedHidden told after
+
+-- this note, where it is so
+abbrev pub note_where : Bool → Note → List Note
+note_where true note = note ∷ []
+note_where false note = []
+
+-- what the doom of a key adds to the history of this tree: nothing, where its node is not linked
+abbrev pub doom_note : Tree → Key → List Note
+doom_note t key = note_where (is_linked t key) (Did (Doom key))
+
+-- what its unlink adds
+abbrev pub unlink_note : Tree → Key → List Note
+unlink_note t key = note_where (is_linked t key) (Did (Unlink key))
+
+-- what it adds that a file is shown: nothing, where it is not linked or not hidden
+abbrev pub show_note : Tree → Key → List Note
+show_note t key = note_where (hidden_in t key) (Did (Show key))
+
+-- what the removal of a call's own node adds: the doom, and the claim
+abbrev pub self_notes : Tree → Key → List Note
+self_notes t key = doom_note t key ++ Claimed key ∷ []
+
+-- before the lock is let go: nothing changed of a handle but what it has seen; what it had seen came before,
+-- and these notes were added and no other, and that it has seen
+pub record WasClosed (old : Locked) (added : List Note) (before after : Handle) : Type 0 where
+  pub heard : HasHeard before after
+  pub later : SawMore before.seen after.seen
+  pub came : IsPrefix (history_of before.seen) (history old)
+  pub seen : history_of after.seen ≡ (history old ++ added) ++ Border ∷ []
+
+-- the same of the last of these holds
+abbrev pub IsClosedAt : Locked → List Handle → List Handle → Type 0
+IsClosedAt old holds holds' = (front : List Handle) (last : Handle) → holds ≡ front ++ last ∷ []
+    → (after : Handle) × (holds' ≡ front ++ after ∷ []) × WasClosed old [] last after
+
+-- this was the history, which begins with all that was seen before. These notes came next, and no other
+-- before the lock was let go, and that was seen
+pub record WasAdded (before after : Seen) (found added : List Note) : Type 0 where
+  pub came : IsPrefix (history_of before) found
+  pub next : IsPrefix ((found ++ added) ++ Border ∷ []) (history_of after)
+
+-- this was the history when the lock was taken, and these notes are all that came while it was held
+pub record WasDone (before after : Seen) (found added : List Note) : Type 0 where
+  pub taken : IsTaken found
+  pub section : WasAdded before after found added
+
+-- the last of these holds or receipts
+abbrev pub Last : (Handle → Type 0) → List Handle → Type 0
+Last Such handles = (front : List Handle) × (last : Handle) × (handles ≡ front ++ last ∷ []) × Such last
+
+-- in the tree that was found when the lock was taken, these are the keys of the node's subtree; its doom is
+-- all that was done while the lock was held, and this receipt has seen that
+abbrev pub WasRemoved : Handle → List Key → Handle → Type 0
+WasRemoved hold keys receipt = (found : List Note)
+    × WasDone hold.seen receipt.seen found (doom_note (tree_in found) hold.key)
+    × IsDoomList (tree_in found) hold.key keys
+
+-- the node's unlink, where it was linked when the lock was taken, is all that was done while the lock was
+-- held, and the receipt has seen that
+abbrev pub WasFinished : Handle → Handle → Type 0
+WasFinished hold receipt = (found : List Note)
+    × WasDone hold.seen receipt.seen found (unlink_note (tree_in found) hold.key)
+
+-- one receipt for each hold, in their order: each has seen what its hold had seen, and the unlink
+abbrev pub AllFinished : List Handle → List Handle → Type 0
+AllFinished [] [] = ⊤
+AllFinished [] (receipt ∷ receipts) = ⊥
+AllFinished (hold ∷ holds) [] = ⊥
+AllFinished (hold ∷ holds) (receipt ∷ receipts) =
+    (SawMore hold.seen receipt.seen × WasFinished hold receipt) × AllFinished holds receipts
+
+-- to these receipts came one for each hold, in their order
+abbrev pub AreFinished : List Handle → List Handle → List Handle → Type 0
+AreFinished before holds receipts =
+    (made : List Handle) × (receipts ≡ before ++ made) × AllFinished holds made
+
+-- that the file is shown, where it was linked and hidden when the lock was taken, is all that was done while
+-- the lock was held, and the hold has seen that
+abbrev pub WasShownAlone : Handle → Handle → Type 0
+WasShownAlone hidden hold = (found : List Note)
+    × WasDone hidden.seen hold.seen found (show_note (tree_in found) hidden.key)
+
+-- this was the history. What was seen before is a beginning of that with these notes, which came next, and no
+-- other before the lock was let go, and that was seen
+pub record WasAddedLate (before after : Seen) (found added : List Note) : Type 0 where
+  pub came : IsPrefix (history_of before) (found ++ added)
+  pub next : IsPrefix ((found ++ added) ++ Border ∷ []) (history_of after)
+
+-- the same, and it was the history when the lock was taken
+pub record WasDoneLate (before after : Seen) (found added : List Note) : Type 0 where
+  pub taken : IsTaken found
+  pub section : WasAddedLate before after found added
+
+-- nothing was against the hiding in the tree that was found when the lock was taken; it is all that was done
+-- while the lock was held, and the token has seen that
+abbrev pub WasHiddenAlone : Handle → Handle → Type 0
+WasHiddenAlone hold token = (found : List Note)
+    × WasDoneLate hold.seen token.seen found (Did (Hide hold.key) ∷ [])
+    × (hold_cause (tree_in found) hold ≡ None)
+
+-- in the tree that was found when the lock was taken, these are the keys of the subtree; the node was the
+-- first to be claimed exactly where the claims did not have it; its doom and its claim are all that was done
+-- while the lock was held, and the call has seen that
+pub record WasSelfRemoved (before after : Handle) (first : Bool) (keys : List Key) : Type 0 where
+  pub found : List Note
+  pub done : WasDoneLate before.seen after.seen found (self_notes (tree_in found) before.key)
+  pub first_is : first ≡ not (is_claimed (claims_in found) before.key)
+  pub listed : IsDoomList (tree_in found) before.key keys
+
+-- the call was told that this is the history; it was restored; and after that there was no note more, so
+-- nobody had taken the lock in between
+abbrev pub WasRestoredAt : List Note → CallerSight → Type 0
+WasRestoredAt found after = (told : CallerSight) × (restored : CallerSight) × (history_of told.seen ≡ found)
+    × WasARestore told restored × WasTold restored after × (history_of after.seen ≡ found)
+
+-- the same, and the lock had just been taken
+abbrev pub WasRestoredAlone : CallerSight → Type 0
+WasRestoredAlone after = (found : List Note) × IsTaken found × WasRestoredAt found after
