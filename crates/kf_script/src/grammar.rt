@@ -15,7 +15,7 @@ use super::spelling::spells;
 use super::words::Words;
 
 /// What a command makes of the words behind it: the rows of the grammar, in the order of the definition.
-fn request<'a>(command: &[u8], words: Words<'a>) -> Option<Request<'a>>
+fn request<'a, B>(command: &[u8], words: Words<'a>) -> Option<Request<'a>>
     ensures value { option_map request_words result ≡ reads_of command.now words.entry }
     ensures range { IfSome result (λ request. IsInRange (request_words request)) }
 {
@@ -25,13 +25,13 @@ fn request<'a>(command: &[u8], words: Words<'a>) -> Option<Request<'a>>
         word if spells(word, b"link") => make_link(words),
         word if spells(word, b"activate") => activate(words),
         word if spells(word, b"ls") => list_names(words),
-        _ => request_of_a_node(command, words),
+        _ => request_of_a_node::<B>(command, words),
     }
 }
 
 /// The same, from the row of `stat` on. (Rows stand in groups: the proof of a match grows with their square.)
 #[inline(always)]
-fn request_of_a_node<'a>(command: &[u8], words: Words<'a>) -> Option<Request<'a>>
+fn request_of_a_node<'a, B>(command: &[u8], words: Words<'a>) -> Option<Request<'a>>
     ensures value { option_map request_words result ≡ row_of (drop 5 rows) command.now words.entry }
     ensures range { IfSome result (λ request. IsInRange (request_words request)) }
 {
@@ -40,13 +40,13 @@ fn request_of_a_node<'a>(command: &[u8], words: Words<'a>) -> Option<Request<'a>
         word if spells(word, b"readlink") => read_link(words),
         word if spells(word, b"mv") => move_node(words),
         word if spells(word, b"rm") => remove(words),
-        _ => request_of_a_file(command, words),
+        _ => request_of_a_file::<B>(command, words),
     }
 }
 
 /// The same, from the row of `open` on.
 #[inline(always)]
-fn request_of_a_file<'a>(command: &[u8], words: Words<'a>) -> Option<Request<'a>>
+fn request_of_a_file<'a, B>(command: &[u8], words: Words<'a>) -> Option<Request<'a>>
     ensures value { option_map request_words result ≡ row_of (drop 9 rows) command.now words.entry }
     ensures range { IfSome result (λ request. IsInRange (request_words request)) }
 {
@@ -57,13 +57,13 @@ fn request_of_a_file<'a>(command: &[u8], words: Words<'a>) -> Option<Request<'a>
         word if spells(word, b"poll") => poll(words),
         word if spells(word, b"notify") => notify(words),
         word if spells(word, b"close") => close(words),
-        _ => request_of_the_rest(command, words),
+        _ => request_of_the_rest::<B>(command, words),
     }
 }
 
 /// The same, from the row of `hide` on.
 #[inline(always)]
-fn request_of_the_rest<'a>(command: &[u8], words: Words<'a>) -> Option<Request<'a>>
+fn request_of_the_rest<'a, B>(command: &[u8], words: Words<'a>) -> Option<Request<'a>>
     ensures value { option_map request_words result ≡ row_of (drop 15 rows) command.now words.entry }
     ensures range { IfSome result (λ request. IsInRange (request_words request)) }
 {
@@ -81,14 +81,17 @@ fn request_of_the_rest<'a>(command: &[u8], words: Words<'a>) -> Option<Request<'
 
 /// The same as [`parse`], put into a place of the caller's: what a function answers is copied once more, and
 /// the board would wait for that copy.
-pub(crate) fn parse_into<'a>(line: &'a [u8], asked: &mut Option<Request<'a>>)
+///
+/// `B` is the board that asks, or `()`. A board's lines so have a parse of their own, which is called in one
+/// place, and the compiler puts it there.
+pub(crate) fn parse_into<'a, B>(line: &'a [u8], asked: &mut Option<Request<'a>>)
     requires { length line.now ≤ line_limit }
     ensures value { option_map request_words asked.new ≡ request_of line.now }
     ensures range { IfSome asked.new (λ request. IsInRange (request_words request)) }
 {
     let mut words = Words::new(line);
     *asked = match words.next() {
-        Some(command) => request(command, words),
+        Some(command) => request::<B>(command, words),
         None => None,
     };
 }
@@ -100,6 +103,6 @@ pub fn parse(line: &[u8]) -> Option<Request<'_>>
     ensures range { IfSome result (λ request. IsInRange (request_words request)) }
 {
     let mut asked = None;
-    parse_into(line, &mut asked);
+    parse_into::<()>(line, &mut asked);
     asked
 }

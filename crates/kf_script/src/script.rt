@@ -30,7 +30,7 @@ fn answer_line<B: Board>(board: &mut B, reply: &mut Reply, line: &[u8])
         × AnswersRequest B.step board.old (request_of line.now) starved reply.new board.new }
 {
     let mut asked = None;
-    parse_into(line, &mut asked);
+    parse_into::<B>(line, &mut asked);
     match &asked {
         Some(request) => board.answer(request, reply),
         None => reply.set_bad_line(),

@@ -10,8 +10,11 @@ use kf_files::Want;
 use kf_replies::tell_stat;
 use kf_script::{Board, Reply, Request};
 
+// Each answer stays a function of its own: the choice among them is then short, and stands where a line was
+// parsed.
 impl PlainBoard {
     /// `mkdir`: the new key.
+    #[inline(never)]
     fn answer_make_directory(&mut self, path: &[u8], is_live: bool, reply: &mut Reply)
         ensures { (starved : Bool)
             × PlainStep self.old (make_directory_words path.now is_live) starved reply.new self.new }
@@ -23,6 +26,7 @@ impl PlainBoard {
     }
 
     /// `file`: the new key.
+    #[inline(never)]
     fn answer_make_file(&mut self, path: &[u8], mode: u16, text: &[u8], reply: &mut Reply)
         ensures { (starved : Bool)
             × PlainStep self.old (make_file_words path.now mode text.now) starved reply.new self.new }
@@ -34,6 +38,7 @@ impl PlainBoard {
     }
 
     /// `link`: the new key.
+    #[inline(never)]
     fn answer_make_link(&mut self, path: &[u8], target: &[u8], reply: &mut Reply)
         ensures { (starved : Bool)
             × PlainStep self.old (make_link_words path.now target.now) starved reply.new self.new }
@@ -45,6 +50,7 @@ impl PlainBoard {
     }
 
     /// `activate`: done.
+    #[inline(never)]
     fn answer_activate(&mut self, path: &[u8], reply: &mut Reply)
         ensures { (starved : Bool) × PlainStep self.old (activate_words path.now) starved reply.new self.new }
     {
@@ -55,6 +61,7 @@ impl PlainBoard {
     }
 
     /// `ls`: the names.
+    #[inline(never)]
     fn answer_list(&mut self, path: &[u8], reply: &mut Reply)
         ensures { (starved : Bool)
             × PlainStep self.old (list_names_words path.now) starved reply.new self.new }
@@ -65,6 +72,7 @@ impl PlainBoard {
     }
 
     /// `stat`: what is told of the node.
+    #[inline(never)]
     fn answer_stat(&mut self, path: &[u8], reply: &mut Reply)
         ensures { (starved : Bool) × PlainStep self.old (stat_words path.now) starved reply.new self.new }
     {
@@ -75,6 +83,7 @@ impl PlainBoard {
     }
 
     /// `readlink`: the text.
+    #[inline(never)]
     fn answer_read_link(&mut self, path: &[u8], reply: &mut Reply)
         ensures { (starved : Bool)
             × PlainStep self.old (read_link_words path.now) starved reply.new self.new }
@@ -85,6 +94,7 @@ impl PlainBoard {
     }
 
     /// `mv`: done.
+    #[inline(never)]
     fn answer_move(&mut self, path: &[u8], dir: &[u8], name: &[u8], reply: &mut Reply)
         ensures { (starved : Bool)
             × PlainStep self.old (move_words path.now dir.now name.now) starved reply.new self.new }
@@ -96,6 +106,7 @@ impl PlainBoard {
     }
 
     /// `rm`: done.
+    #[inline(never)]
     fn answer_remove(&mut self, path: &[u8], reply: &mut Reply)
         ensures { (starved : Bool) × PlainStep self.old (remove_words path.now) starved reply.new self.new }
     {
@@ -106,6 +117,7 @@ impl PlainBoard {
     }
 
     /// `open`: done.
+    #[inline(never)]
     fn answer_open(&mut self, file: usize, path: &[u8], want: Want, reply: &mut Reply)
         requires { file < 26 }
         ensures { (starved : Bool)
@@ -119,6 +131,7 @@ impl PlainBoard {
     }
 
     /// `read`: the bytes.
+    #[inline(never)]
     fn answer_read(&mut self, file: usize, offset: u64, most: usize, reply: &mut Reply)
         requires { file < 26 }
         ensures { (starved : Bool)
@@ -130,6 +143,7 @@ impl PlainBoard {
     }
 
     /// `write`: the number of bytes taken.
+    #[inline(never)]
     fn answer_write(&mut self, file: usize, text: &[u8], reply: &mut Reply)
         requires { file < 26 }
         ensures { (starved : Bool)
@@ -141,6 +155,7 @@ impl PlainBoard {
     }
 
     /// `poll`: changed or the same.
+    #[inline(never)]
     fn answer_poll(&mut self, file: usize, reply: &mut Reply)
         requires { file < 26 }
         ensures { (starved : Bool) × PlainStep self.old (poll_file_words file) starved reply.new self.new }
@@ -152,6 +167,7 @@ impl PlainBoard {
     }
 
     /// `notify`: done.
+    #[inline(never)]
     fn answer_notify(&mut self, path: &[u8], reply: &mut Reply)
         ensures { (starved : Bool) × PlainStep self.old (notify_words path.now) starved reply.new self.new }
     {
@@ -162,6 +178,7 @@ impl PlainBoard {
     }
 
     /// `hide`: done.
+    #[inline(never)]
     fn answer_hide(&mut self, path: &[u8], reply: &mut Reply)
         ensures { (starved : Bool) × PlainStep self.old (hide_words path.now) starved reply.new self.new }
     {
@@ -172,6 +189,7 @@ impl PlainBoard {
     }
 
     /// `show`: done.
+    #[inline(never)]
     fn answer_show(&mut self, path: &[u8], reply: &mut Reply)
         ensures { (starved : Bool) × PlainStep self.old (show_words path.now) starved reply.new self.new }
     {
@@ -182,6 +200,7 @@ impl PlainBoard {
     }
 
     /// `compact`: done.
+    #[inline(never)]
     fn answer_compact(&mut self, reply: &mut Reply)
         ensures { (starved : Bool) × PlainStep self.old compact_words starved reply.new self.new }
     {
@@ -192,6 +211,7 @@ impl PlainBoard {
     }
 
     /// `close`: done.
+    #[inline(never)]
     fn answer_close(&mut self, file: usize, reply: &mut Reply)
         requires { file < 26 }
         ensures { (starved : Bool) × PlainStep self.old (close_file_words file) starved reply.new self.new }
@@ -206,6 +226,7 @@ impl PlainBoard {
 impl Board for PlainBoard {
     ghost step = { PlainStep };
 
+    #[inline(always)]
     fn answer(&mut self, request: &Request<'_>, reply: &mut Reply) {
         match *request {
             Request::MakeDirectory { path, is_live } => self.answer_make_directory(
