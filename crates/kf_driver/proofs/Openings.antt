@@ -18,7 +18,7 @@ use Rattle.kf_files.specs.Waiting.{WaitVisits}
 use Rattle.kf_files.specs.Opened.{Opened}
 use Rattle.kf_tree.specs.Paths.{seen}
 use Rattle.kf_shared.specs.Locked.{Locked}
-use Rattle.kf_driver.specs.Opening.{node_at, only_file, file_at, FileRefused, NotOpened, OpenRefused, OpenedAt, PostRefused}
+use Rattle.kf_driver.specs.Opening.{node_at, only_file, file_at, FileRefused, NotOpened, OpenRefused, OpenedAt, IsOpened, PostRefused}
 
 abbrev pub Visited : Handle → Handle → Node → Want → Option Refusal → Type 0
 Visited hold hold' node want why = Opens (WaitVisits (Unit {0}) (λ _. Unit {0}) hold hold') node want why
@@ -31,13 +31,17 @@ allowed false none = absurd (cc)
 let_in : (hold hold' : Handle) (mode : ℕ) (want : Want) (came : Option (Unit {0}))
     → WaitVisits (Unit {0}) (λ _. Unit {0}) hold hold' (tried came)
     → None ≡ open_cause mode want (is_some came)
-    → (hold'.key ≡ hold.key) × (allows mode want ≡ true)
+    → (hold'.key ≡ hold.key) × (hold'.node ≡ hold.node) × (allows mode want ≡ true)
 let_in hold hold' mode want None visit none = absurd (cc)
-let_in hold hold' mode want (Some done) visit none =
-    (visit.left.0.key ∙ visit.given_back.key ∙ visit.entered.0.key, allowed (allows mode want) none)
+let_in hold hold' mode want (Some done) visit none = (
+  visit.left.0.key ∙ visit.given_back.key ∙ visit.entered.0.key,
+  visit.left.0.node ∙ ap (λ c. c.node) visit.given_back.caller ∙ visit.entered.0.node,
+  allowed (allows mode want) none,
+)
 
 pub opened : (hold hold' : Handle) (node : Node) (want : Want) (mode tag : ℕ)
-    → Visited hold hold' node want None → node ≡ File mode tag → (hold'.key ≡ hold.key) × (allows mode want ≡ true)
+    → Visited hold hold' node want None → node ≡ File mode tag
+    → (hold'.key ≡ hold.key) × (hold'.node ≡ hold.node) × (allows mode want ≡ true)
 opened hold hold' node want mode tag opens is_file =
     let (came, visit, none) = opens.file mode tag is_file in let_in hold hold' mode want came visit none
 
@@ -77,19 +81,21 @@ pub path_opened : (t : Tree) (root : Key) (numbers : Numbers) (place key : Key) 
     (hold : Handle) (result : Result (Opened Handle) Refusal) → seen t root path ≡ Ok place → file_at t (Ok place) ≡ Ok key
     → hold.key ≡ key → node_at t key ≡ Some hold.node
     → IfOk result (λ file. (mode tag : ℕ) → hold.node ≡ File mode tag
-    → (file.hold.key ≡ hold.key) × (file.tag ≡ tag) × (allows mode want ≡ true))
+    → (file.hold.key ≡ hold.key) × (file.hold.node ≡ hold.node) × (file.tag ≡ tag) × (allows mode want ≡ true))
     → IfOk result (λ file. IsNewPost numbers hold.key.slot file.post) → IfOk result (λ file. file.state ≡ new_file want)
     → IfOk result (λ file. OpenedAt t root numbers path want file)
 path_opened t root numbers place key path want hold (Err why) named only key_is node held fresh new = tt
 path_opened t root numbers place key path want hold (Ok file) named only key_is node held fresh new =
     let (same, mode, tag, there) = held_file t place key only in
-    let (hold_is, tag_is, allowed) = held mode tag (unsome hold.node (File mode tag) (sym node ∙ there)) in
+    let is_file = unsome hold.node (File mode tag) (sym node ∙ there) in
+    let (hold_is, node_is, tag_is, allowed) = held mode tag is_file in
     record {
       key = key;
       mode = mode;
       named = named ∙ ap Ok same;
       there = there ∙ ap (λ n. Some (File mode n)) (sym tag_is);
       held = hold_is ∙ key_is;
+      node = node_is ∙ is_file ∙ ap (λ n. File mode n) (sym tag_is);
       allowed = allowed;
       fresh = subst (λ k. IsNewPost numbers k.slot file.post) key_is fresh;
       new = new;
@@ -107,3 +113,34 @@ path_refused s m' slots place key path want hold (Err refusal) named only key_is
     subst (λ p. FileRefused s m' slots want p refusal) (sym (ap (file_at s.state.tree) named ∙ only))
     (λ mode tag there. inr (subst (λ k. PostRefused slots k.slot refusal ⊎ NotOpened mode want refusal) key_is
     (why mode tag (unsome hold.node (File mode tag) (sym node ∙ there)))))
+
+-- what is opened by a path is opened of what its hold is of
+pub of_its_hold : (t : Tree) (root : Key) (numbers : Numbers) (path : List ℕ) (want : Want) (file : Opened Handle)
+    → OpenedAt t root numbers path want file → IsOpened numbers want file
+of_its_hold t root numbers path want file opened = record {
+  mode = opened.mode;
+  node = opened.node;
+  allowed = opened.allowed;
+  fresh = subst (λ k. IsNewPost numbers k.slot file.post) (sym opened.held) opened.fresh;
+  new = opened.new;
+}
+
+-- ---- by a hold
+
+pub of_hold : (numbers : Numbers) (want : Want) (hold : Handle) (mode tag : ℕ) (file : Opened Handle)
+    → hold.node ≡ File mode tag
+    → ((mode tag : ℕ) → hold.node ≡ File mode tag
+    → (file.hold.key ≡ hold.key) × (file.hold.node ≡ hold.node) × (file.tag ≡ tag) × (allows mode want ≡ true))
+    → IsNewPost numbers hold.key.slot file.post → file.state ≡ new_file want
+    → (file.hold.key ≡ hold.key) × IsOpened numbers want file
+of_hold numbers want hold mode tag file is_file held fresh new =
+    let (hold_is, node_is, tag_is, allowed) = held mode tag is_file in (
+      hold_is,
+      record {
+        mode = mode;
+        node = node_is ∙ is_file ∙ ap (λ n. File mode n) (sym tag_is);
+        allowed = allowed;
+        fresh = subst (λ k. IsNewPost numbers k.slot file.post) (sym hold_is) fresh;
+        new = new;
+      },
+    )

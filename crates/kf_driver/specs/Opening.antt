@@ -16,6 +16,10 @@ use Rattle.kf_notify.specs.PostStates.{PostState, Numbers, id_of, IsNewPost}
 use Rattle.kf_files.specs.declared.contents.Want.{Want}
 use Rattle.kf_files.specs.Files.{new_file, allows}
 use Rattle.kf_files.specs.Opened.{Opened}
+use Rattle.kf_looks.specs.Paths.{led}
+use Rattle.kf_looks.specs.Links.{IsLater}
+use Rattle.kf_live.specs.Lookers.{Onlooker, links_seen}
+use Rattle.kf_words.specs.Makers.{Maker}
 
 -- what the key's node is
 abbrev pub node_at : Tree → Key → Option Node
@@ -33,7 +37,7 @@ abbrev pub file_at : Tree → Result Key Refusal → Result Key Refusal
 file_at t place = and_then place (λ key. only_file key (node_at t key))
 
 -- the opened file is new, of the live file that the path names in this tree: it holds that, has its tag and a
--- new post of its slot and of these numbers, and its mode allows what is wanted
+-- new post of its slot and of these numbers, and its mode allows what is wanted; its hold has the same node
 pub record OpenedAt (t : Tree) (root : Key) (numbers : Numbers) (path : List ℕ) (want : Want)
     (file : Opened Handle) : Type 0 where
   pub key : Key
@@ -41,9 +45,36 @@ pub record OpenedAt (t : Tree) (root : Key) (numbers : Numbers) (path : List ℕ
   pub named : seen t root path ≡ Ok key
   pub there : node_at t key ≡ Some (File mode file.tag)
   pub held : file.hold.key ≡ key
+  pub node : file.hold.node ≡ File mode file.tag
   pub allowed : allows mode want ≡ true
   pub fresh : IsNewPost numbers key.slot file.post
   pub new : file.state ≡ new_file want
+
+-- the opened file is new, of what its hold is of: it has that file's tag and a new post of its slot and of
+-- these numbers, and the file's mode allows what is wanted
+pub record IsOpened (numbers : Numbers) (want : Want) (file : Opened Handle) : Type 0 where
+  pub mode : ℕ
+  pub node : file.hold.node ≡ File mode file.tag
+  pub allowed : allows mode want ≡ true
+  pub fresh : IsNewPost numbers file.hold.key.slot file.post
+  pub new : file.state ≡ new_file want
+
+-- what contracts see of an opener: its looker, its maker of holds, and its handle of the event numbers
+pub record OpenerState : Type 0 where
+  pub looker : Onlooker
+  pub holds : Maker
+  pub posts : Numbers
+
+-- the opener is as it was, but for what its looker and its own hold have seen
+pub record IsSameOpener (old new : OpenerState) : Type 0 where
+  pub root : new.looker.root ≡ old.looker.root
+  pub slots : new.looker.slots ≡ old.looker.slots
+  pub later : IsLater (links_seen new.looker) (links_seen old.looker)
+  pub posts : new.posts ≡ old.posts
+
+-- in what the looker has seen, the path leads to this key
+abbrev pub LedTo : Onlooker → List ℕ → Key → Type 0
+LedTo looker path key = option_map (λ found. found.key) (led (links_seen looker) looker.root path) ≡ Some key
 
 -- the post is new, of these numbers and of the slot of the file at the place
 abbrev pub IsPostAt : Tree → Result Key Refusal → Numbers → PostState → Type 0

@@ -7,7 +7,7 @@ ghost use Rattle.kf_tree.specs.Paths.{found};
 ghost use Rattle.kf_driver.specs.Opening.{file_at, IsPostAt, OpenedAt, OpenRefused, PostRefused, NotOpened, Notified, RaisedTo, FoundLast};
 
 use kf_core::{Key, Node, Refusal};
-use kf_files::{WaitingFile, Want};
+use kf_files::{Page, PageHolder, WaitingFile, Want};
 use kf_notify::{Full, Post, Posts};
 use kf_shared::{Editor, Naming};
 use kf_tree::State;
@@ -36,16 +36,19 @@ fn slot_post(posts: &mut Posts, slot: u32) -> Result<Post, Refusal>
     posts.post(slot)
 }
 
-// Opens the file of a hold, whose node is a file. After a refusal the slot has one hold fewer.
+// Opens the file of a hold, whose node is a file, on a page. After a refusal the slot has one hold fewer, and
+// the page goes.
 #[tactic(auto, using(crate::proofs::Openings::opened, crate::proofs::Openings::refused))]
-fn open_held<N: Naming>(
+pub(crate) fn open_held<N: Naming, P: PageHolder + Drop>(
     hold: Hold,
     posts: &mut Posts,
     want: Want,
-) -> Result<WaitingFile<N>, Refusal>
+    page: P,
+) -> Result<WaitingFile<N, P>, Refusal>
     requires table { hold.table ≡ N.table }
     ensures held { IfOk result (λ file. (mode tag : ℕ) → hold.node ≡ File mode tag
-        → (file.hold.key ≡ hold.key) × (file.tag ≡ tag) × (allows mode want ≡ true)) }
+        → (file.hold.key ≡ hold.key) × (file.hold.node ≡ hold.node) × (file.tag ≡ tag)
+        × (allows mode want ≡ true)) }
     ensures fresh { IfOk result (λ file. IsNewPost posts.old hold.key.slot file.post) }
     ensures new { IfOk result (λ file. file.state ≡ new_file want) }
     ensures refused { IfErr result (λ refusal. (mode tag : ℕ) → hold.node ≡ File mode tag
@@ -60,16 +63,16 @@ fn open_held<N: Naming>(
             return Err(refusal);
         }
     };
-    match WaitingFile::<N>::open(hold, node, want, post) {
+    match WaitingFile::<N, P>::open_on(hold, node, want, post, page) {
         Ok(file) => Ok(file),
-        Err((hold, _, refusal)) => {
+        Err((hold, _, _, refusal)) => {
             hold.release();
             Err(refusal)
         }
     }
 }
 
-/// Opens the file that a path names, in one turn of the lock.
+/// Opens the file that a path names, under a lock that the caller has. (Without it: [`crate::Opener`].)
 ///
 /// Refusals, in order: those of [`State::lookup`]; IsDir (a directory), Invalid (a link); TooManyHolds (as
 /// many holds as there may be), NoMemory; NoSpace (the posts have no number for the slot), NoMemory; NoDevice
@@ -88,10 +91,30 @@ pub fn open_path<N: Naming>(
     ensures claims { editor.new.claims ≡ editor.old.claims }
     ensures posts { posts.new ≡ posts.old }
 {
+    open_path_on(editor, posts, path, want, Page::new())
+}
+
+/// As [`open_path`], on a page of the caller's, as [`WaitingFile::open_on`] takes it: none of its 4,096 bytes
+/// is moved where it lies in a box. After a refusal the page goes.
+pub fn open_path_on<N: Naming, P: PageHolder + Drop>(
+    editor: &mut Editor<'_, N>,
+    posts: &mut Posts,
+    path: &[u8],
+    want: Want,
+    page: P,
+) -> Result<WaitingFile<N, P>, Refusal>
+    ensures opened { IfOk result
+        (λ file. OpenedAt editor.old.state.tree editor.old.state.root posts.old path.now want file) }
+    ensures refused { IfErr result
+        (λ refusal. OpenRefused editor.old editor.new.master.view posts.old.slots path.now want refusal) }
+    ensures state { editor.new.state ≡ editor.old.state }
+    ensures claims { editor.new.claims ≡ editor.old.claims }
+    ensures posts { posts.new ≡ posts.old }
+{
     let place = editor.state().lookup(path)?;
     let key = only_file(editor.state(), place)?;
     let hold = editor.hold(key)?;
-    open_held(hold, posts, want)
+    open_held(hold, posts, want, page)
 }
 
 /// A post of the file of this name in a directory, by which a driver tells who polls the file that it has

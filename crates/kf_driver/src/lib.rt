@@ -7,8 +7,9 @@
 //!   any.
 //! - `BinaryRow` is a binary attribute with its size; `read_from_buffer` and `write_to_buffer` serve one that
 //!   lies in memory.
-//! - `open_path` opens the file that a path names. By its name in a directory `post_of` gives a file's post,
-//!   and `notify` raises its number.
+//! - An `Opener` opens files by their paths without the tree's lock, one for each thread; `open_path` opens
+//!   one under the lock. By its name in a directory `post_of` gives a file's post, and `notify` raises its
+//!   number.
 //! - `Notifier` is a post that callbacks may raise by `&`; `fault_of` makes the fault of a store that was
 //!   not read.
 //!
@@ -35,6 +36,7 @@ mod files;
 mod line_tags;
 mod lines;
 mod notifier;
+mod opener;
 mod ready;
 mod table;
 
@@ -42,9 +44,10 @@ pub use binary::{BinaryCallbacks, BinaryRow, Bytes};
 pub use buffers::{read_from_buffer, write_to_buffer};
 pub use driver::Driver;
 pub use fault::fault_of;
-pub use files::{notify, open_path, post_of};
+pub use files::{notify, open_path, open_path_on, post_of};
 pub use line_tags::LineTags;
 pub use lines::Lines;
 pub use notifier::{Notifier, Notifying};
+pub use opener::Opener;
 pub use ready::{Number, ReadOnly, Signed, Switch, Text, emit_line};
 pub use table::{Callbacks, DriverTable, End, Row};

@@ -8,10 +8,9 @@ use anyhow::Context;
 use arrayvec::ArrayVec;
 use kf_core::{Limits, Node, Refusal};
 use kf_driver::{
-    Callbacks, Driver, DriverTable, End, ReadOnly, Row, Signed, emit_line, fault_of, notify,
-    open_path,
+    Callbacks, Driver, DriverTable, End, Opener, ReadOnly, Row, Signed, emit_line, fault_of, notify,
 };
-use kf_files::{Fault, FileError, Page, WaitingFile, Want};
+use kf_files::{BoxedFile, Fault, FileError, Page, Want};
 use kf_groups::{Attribute, Group, create_group};
 use kf_notify::Posts;
 use kf_shared::{Naming, NewTree, SharedTree, release_all};
@@ -49,7 +48,7 @@ fn reads<N: Naming, T: DriverTable, R: Wait>(
     rt: &R,
     tree: &SharedTree<N>,
     driver: &Driver<T>,
-    file: &mut WaitingFile<N>,
+    file: &mut BoxedFile<N>,
 ) -> u64 {
     let mut wrong = 0u64;
     let mut out = [0u8; 32];
@@ -68,7 +67,7 @@ fn removes<N: Naming, T: DriverTable, R: Wait>(
     rt: &R,
     tree: &SharedTree<N>,
     driver: &Driver<T>,
-    file: &mut WaitingFile<N>,
+    file: &mut BoxedFile<N>,
 ) -> Result<bool, Refusal> {
     let mut taken = true;
     for _ in 0..1000 {
@@ -101,14 +100,15 @@ fn run<N: Naming + Send + Sync, R: Threads + Wait + Print + Sync>(
     create_group(&mut editor, device, &Group::new(None, &[input, max]))?;
     create_group(&mut editor, device, &Group::new(Some(b"power"), &[label]))?;
     editor.activate(device)?; // now all of it is live
-    let mut first = open_path(&mut editor, &mut posts, b"/hwmon0/temp1_max", Want::BOTH)?;
-    let mut second = open_path(&mut editor, &mut posts, b"/hwmon0/temp1_max", Want::BOTH)?;
-    let mut limit = open_path(&mut editor, &mut posts, b"/hwmon0/temp1_max", Want::BOTH)?;
+    let mut opener = Opener::new(alloc, &mut editor, posts.another()?)?;
     let (raised, _) = notify(editor.state(), &mut posts, device, b"temp1_max")?;
     let event = raised
         .ok()
         .context("the number before was not the last one")?;
     drop(editor);
+    let mut first = opener.open(rt, &tree, b"/hwmon0/temp1_max", Want::BOTH)?;
+    let mut second = opener.open(rt, &tree, b"/hwmon0/temp1_max", Want::BOTH)?;
+    let mut limit = opener.open(rt, &tree, b"/hwmon0/temp1_max", Want::BOTH)?;
     let ((one, other), removed) = join(
         rt,
         || join(
@@ -124,6 +124,6 @@ fn run<N: Naming + Send + Sync, R: Threads + Wait + Print + Sync>(
 
 fn main(rt: HostRuntime) -> anyhow::Result<()> {
     let limits = Limits::new(8, 100).context("8 slots and 100 holds are within the limits")?;
-    let new = SharedTree::<Brand>::new(rt.alloc(), limits)?;
+    let new = SharedTree::<Brand>::with_looks(rt.alloc(), limits, 0, 8)?;
     run::<Brand, _>(&rt, rt.alloc(), new)
 }

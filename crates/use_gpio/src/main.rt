@@ -9,9 +9,9 @@ use anyhow::Context;
 use kf_core::{Limits, Node, Refusal};
 use kf_driver::{
     BinaryCallbacks, BinaryRow, Driver, DriverTable, End, LineTags, Lines, Notifier, Notifying,
-    Number, Row, Switch, Text, open_path, post_of, read_from_buffer, write_to_buffer,
+    Number, Opener, Row, Switch, Text, post_of, read_from_buffer, write_to_buffer,
 };
-use kf_files::{Fault, FileError, WaitingFile, Want, remove_and_tell};
+use kf_files::{BoxedFile, Fault, FileError, Want, remove_and_tell};
 use kf_groups::{Attribute, Group, create_group};
 use kf_notify::Posts;
 use kf_shared::{Naming, NewTree, SharedTree, release_all};
@@ -43,7 +43,7 @@ fn waits<N: Naming, T: DriverTable, R: Wait>(
     rt: &R,
     tree: &SharedTree<N>,
     driver: &Driver<T>,
-    file: &mut WaitingFile<N>,
+    file: &mut BoxedFile<N>,
 ) -> bool {
     let mut right = true;
     let mut out = [0u8; 2];
@@ -62,12 +62,11 @@ fn stores<N: Naming, T: DriverTable, R: Wait>(
     rt: &R,
     tree: &SharedTree<N>,
     driver: &Driver<T>,
+    opener: &mut Opener<N>,
     posts: &mut Posts,
 ) -> Result<bool, Refusal> {
-    let mut editor = tree.edit(rt);
-    let mut value = open_path(&mut editor, posts, b"/gpio0/l3/value", Want::BOTH)?;
-    let mut config = open_path(&mut editor, posts, b"/gpio0/l3/config", Want::BOTH)?;
-    drop(editor);
+    let mut value = opener.open(rt, tree, b"/gpio0/l3/value", Want::BOTH)?; // without the lock
+    let mut config = opener.open(rt, tree, b"/gpio0/l3/config", Want::BOTH)?;
     let mut right = true;
     for _ in 0..500u32 {
         right &= value.write(rt, tree, driver, b"1\n") == Ok(2);
@@ -87,16 +86,17 @@ fn stores<N: Naming, T: DriverTable, R: Wait>(
 fn uses<N: Naming + Send + Sync, T: DriverTable + Sync, R: Threads + Wait + Print + Sync>(
     rt: &R,
     tree: &SharedTree<N>,
+    opener: &mut Opener<N>,
     posts: &mut Posts,
     tags: LineTags,
     lines: &[T],
 ) -> anyhow::Result<()> {
     let driver = Driver::new(Lines::new(tags, lines, End));
-    let mut watched = open_path(&mut tree.edit(rt), posts, b"/gpio0/l3/value", Want::BOTH)?;
+    let mut watched = opener.open(rt, tree, b"/gpio0/l3/value", Want::BOTH)?;
     let (levels, stored) = join(
         rt,
         || waits(rt, tree, &driver, &mut watched),
-        || stores(rt, tree, &driver, posts) == Ok(true),
+        || stores(rt, tree, &driver, opener, posts) == Ok(true),
     );
     Ok(println!(rt; "levels alone: {levels}, all stored until gone: {stored}")?)
 }
@@ -134,12 +134,13 @@ fn run<N: Naming + Send + Sync, R: Threads + Wait + Print + Sync>(
         lines.push(Row::new(value, Notifying::new(Switch::new(false), notifier), rows))?;
     }
     editor.activate(chip)?; // now all of it is live
+    let mut opener = Opener::new(alloc, &mut editor, posts.another()?)?;
     drop(editor);
-    uses(rt, &tree, &mut posts, tags, lines.as_slice())
+    uses(rt, &tree, &mut opener, &mut posts, tags, lines.as_slice())
 }
 
 fn main(rt: HostRuntime) -> anyhow::Result<()> {
     let limits = Limits::new(64, 100).context("64 slots and 100 holds are within the limits")?;
-    let new = SharedTree::<Brand>::new(rt.alloc(), limits)?;
+    let new = SharedTree::<Brand>::with_looks(rt.alloc(), limits, 0, 64)?;
     run::<Brand, _>(&rt, rt.alloc(), new)
 }

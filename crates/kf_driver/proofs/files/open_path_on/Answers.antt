@@ -1,6 +1,6 @@
 use Rattle.std.proofs.Common.{rules}
 use Rattle.kf_driver.proofs.Openings.{path_opened, path_refused}
-use Rattle.kf_driver.proofs.files.open_path.Goals as goal
+use Rattle.kf_driver.proofs.files.open_path_on.Goals as goal
 
 pub returns-clause-opened : goal.returns-clause-opened
 returns-clause-opened g c =
