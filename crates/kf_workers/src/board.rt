@@ -3,6 +3,7 @@
 ghost use Rattle.std.specs.Prelude.{◌≡◌, vec_len, IfOk};
 
 use crate::common::Common;
+use crate::finder::Finder;
 use crate::script_ops::ScriptOps;
 use crate::tags::Tags;
 use crate::token::Token;
@@ -24,6 +25,10 @@ mod removing;
 /// How many files may be open on a board: one for each letter.
 const FILES: usize = 26;
 
+/// Boards find nodes without the lock where a node may have so many holds: those of the root, which they keep
+/// then, are none that a line lacks.
+const MANY_HOLDS: u32 = 64;
+
 /// The board of one who runs lines on a shared tree: its open files by letter, its tokens of hidden files by
 /// slot, the tags of the files that it may make, and a handle of its own of the event numbers. What a file
 /// gives is read into a page of its own. There is room for a token of each slot, and no memory is written
@@ -35,6 +40,7 @@ pub struct WorkerBoard<'x, W: ScriptOps, N: Naming, R: Wait> {
     common: &'x Common<'x, W, N>,
     posts: Posts,
     tags: Tags,
+    finder: Option<Finder<N>>,
     files: Vec<Option<BoxedFile<N>>>,
     pages: Vec<Box<PageApart>>,
     tokens: Vec<Option<Token<N>>>,
@@ -53,6 +59,19 @@ fn no_files<N: Naming>(alloc: Global) -> Result<Vec<Option<BoxedFile<N>>>, Refus
         files.push_reserved(None);
     }
     Ok(files)
+}
+
+/// What finds nodes without the lock. None where a node may have few holds, or there was no memory.
+fn new_finder<W: ScriptOps, N: Naming, R: Wait>(
+    rt: &R,
+    alloc: Global,
+    common: &Common<'_, W, N>,
+    limits: Limits,
+) -> Option<Finder<N>> {
+    if limits.holds() < MANY_HOLDS {
+        return None;
+    }
+    Finder::new(rt, alloc, &common.tree).ok()
 }
 
 impl<'x, W: ScriptOps, N: Naming, R: Wait> WorkerBoard<'x, W, N, R> {
@@ -75,6 +94,7 @@ impl<'x, W: ScriptOps, N: Naming, R: Wait> WorkerBoard<'x, W, N, R> {
                 common,
                 posts,
                 tags,
+                finder: new_finder(rt, alloc, common, limits),
                 files,
                 pages: Vec::new(alloc),
                 tokens,

@@ -3,6 +3,7 @@
 
 mod board;
 mod common;
+mod finder;
 mod reading;
 mod run;
 mod script_ops;

@@ -19,6 +19,10 @@ use std::marker::Brand;
 use std::sync::Wait;
 use std::thread::Threads;
 
+/// Words for look-ups are kept for so many slots at most, in 6 MB. What lies in higher ones is opened under
+/// the tree's lock.
+const MOST_LOOKS: u32 = 65_536;
+
 /// Adds a seat with a new board, which has the tags of its number.
 fn add_seat<'x, W: ScriptOps, N: Naming, R: Wait>(
     seats: &mut Vec<Seat<WorkerBoard<'x, W, N, R>>>,
@@ -157,7 +161,8 @@ pub fn run_workers<W: ScriptOps + Sync, R: Threads + Wait + Sync>(
     ensures replied { IfOk result (λ out. RepliedInForm workers (lines_of script.now) out.items) }
     ensures fault { IfErr result (λ fault. fault ≡ RunFault.Memory) }
 {
-    let Ok(new) = SharedTree::<Brand>::new(alloc, limits) else {
+    let looks = limits.slots().min(MOST_LOOKS);
+    let Ok(new) = SharedTree::<Brand>::with_looks(alloc, limits, 0, looks) else {
         return Err(RunFault::Memory);
     };
     match run_named::<W, Brand, R>(rt, alloc, new, texts, limits, workers, script) {

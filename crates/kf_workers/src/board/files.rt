@@ -1,10 +1,11 @@
 //! The requests on open files, and notify.
 
-ghost use Rattle.std.specs.Prelude.{◌≡◌, ◌<◌, IfOk, OnOk, length};
+ghost use Rattle.std.specs.Prelude.{◌≡◌, ◌<◌, IfOk, IfSome, OnOk, length};
 ghost use Rattle.kf_workers.specs.Replies.{AreBytes, IsCount};
 
 use super::WorkerBoard;
 use crate::common::Common;
+use crate::finder::Finder;
 use crate::script_ops::ScriptOps;
 use crate::tell::tell_read;
 use kf_core::{Key, Node, Refusal};
@@ -51,13 +52,36 @@ fn read_through<W: ScriptOps, N: Naming, R: Wait>(
 }
 
 impl<W: ScriptOps, N: Naming, R: Wait> WorkerBoard<'_, W, N, R> {
-    /// A hold of the live node at a path. One turn of the tree lock.
-    fn hold_live(&self, path: &[u8]) -> Result<Hold, Refusal>
+    /// A hold of the live node at a path: without the tree lock, or in one turn of it.
+    fn hold_live(&mut self, path: &[u8]) -> Result<Hold, Refusal>
         ensures table { IfOk result (λ hold. hold.table ≡ N.table) }
     {
+        if let Some(hold) = Self::found(&mut self.finder, path) {
+            return Ok(hold);
+        }
         let mut editor = self.common.tree.edit(self.rt);
         let key = editor.state().lookup(path)?;
         editor.hold(key)
+    }
+
+    /// A hold of the live node at a path, where it is found without the tree lock.
+    fn found(finder: &mut Option<Finder<N>>, path: &[u8]) -> Option<Hold>
+        ensures table { IfSome result (λ hold. hold.table ≡ N.table) }
+    {
+        match finder {
+            Some(finder) => finder.find(path),
+            None => None,
+        }
+    }
+
+    /// Gives a hold back, to make the next one of.
+    fn give_back(&mut self, hold: Hold)
+        requires table { hold.table ≡ N.table }
+    {
+        match &mut self.finder {
+            Some(finder) => finder.give_back(hold),
+            None => hold.release(),
+        }
     }
 
     /// A post of a slot of the tree. There is no slot without a number.
@@ -126,7 +150,8 @@ impl<W: ScriptOps, N: Naming, R: Wait> WorkerBoard<'_, W, N, R> {
     {
         match self.files[file].take() {
             Some(opened) => {
-                let page = close_file(opened);
+                let (hold, _post, page) = opened.into_parts();
+                self.give_back(hold);
                 self.keep_page(page);
                 Ok(())
             }
