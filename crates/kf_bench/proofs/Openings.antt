@@ -1,12 +1,14 @@
--- An open of a file leaves its hold in the same slot.
-use Rattle.std.proofs.Common.{◌≡◌, ◌∙◌, ℕ, Option, None, Some, refl, sym, ap}
+-- An open of a file leaves its hold in the same slot, and a read its post.
+use Rattle.std.proofs.Common.{◌≡◌, ◌∙◌, ℕ, Bool, true, false, List, Option, None, Some, Result, refl, sym, ap, inl}
 use Rattle.kf_core.specs.Calls.{tried}
 use Rattle.kf_core.specs.declared.key.Node.{Node}
 use Rattle.kf_core.specs.declared.key.Node.TheVariants.{Dir, File, Link}
 use Rattle.kf_core.specs.declared.refusal.Refusal.{Refusal}
 use Rattle.kf_words.specs.Callers.{Handle}
+use Rattle.kf_notify.specs.PostStates.{PostState, Took}
 use Rattle.kf_files.specs.declared.contents.Want.{Want}
-use Rattle.kf_files.specs.Files.{Opens}
+use Rattle.kf_files.specs.declared.ops.FileError.{FileError}
+use Rattle.kf_files.specs.Files.{Opens, Reads, FileState, ShowResult}
 use Rattle.kf_files.specs.Waiting.{WaitVisits}
 
 after_a_try : (hold hold' : Handle) (came : Option (Unit {0}))
@@ -26,3 +28,28 @@ pub same_slot : (slot : ℕ) (hold hold' : Handle) (node : Node) (want : Want) (
     → slot ≡ hold'.key.slot
 same_slot slot hold hold' node want why is_slot opens =
     is_slot ∙ sym (ap (λ k. k.slot) (same_key hold hold' node want why opens))
+
+-- ---- a read
+
+took_slot : (hold hold' : Handle) (old new : PostState) (does : ShowResult → Type 0) (came : Option ShowResult)
+    → WaitVisits (new ≡ old) (λ shown. Took old shown.number new × does shown) hold hold' (tried came)
+    → new.slot ≡ old.slot
+took_slot hold hold' old new does None visit = ap (λ p. p.slot) visit.1
+took_slot hold hold' old new does (Some shown) visit = visit.did.0.same.slot
+
+slot_by_want : (hold hold' : Handle) (old new : PostState) (does : ShowResult → Type 0)
+    (answers : Result (List ℕ) FileError → Type 0) (state : FileState) (count : ℕ) (state' : FileState)
+    (is_read : Bool)
+    → Reads (WaitVisits (new ≡ old) (λ shown. Took old shown.number new × does shown) hold hold') answers
+    state 0 count state' → state.want.read ≡ is_read → new.slot ≡ old.slot
+slot_by_want hold hold' old new does answers state count state' false reads denied =
+    ap (λ p. p.slot) (reads.denied denied).0.2
+slot_by_want hold hold' old new does answers state count state' true reads allowed =
+    let (came, visit, _, _) = reads.shown allowed (inl refl) in took_slot hold hold' old new does came visit
+
+pub read_slot : (hold hold' : Handle) (old new : PostState) (does : ShowResult → Type 0)
+    (answers : Result (List ℕ) FileError → Type 0) (state : FileState) (count : ℕ) (state' : FileState)
+    → Reads (WaitVisits (new ≡ old) (λ shown. Took old shown.number new × does shown) hold hold') answers
+    state 0 count state' → new.slot ≡ old.slot
+read_slot hold hold' old new does answers state count state' reads =
+    slot_by_want hold hold' old new does answers state count state' state.want.read reads refl

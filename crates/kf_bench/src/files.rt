@@ -6,6 +6,7 @@ ghost use Rattle.std.specs.Prelude.{◌≡◌, IfOk};
 
 use crate::clock::{Work, begin_line, column};
 use crate::grown::{FILES, SLOTS, hold_of};
+use crate::visits;
 use kf_core::Refusal;
 use kf_files::{BoxedFile, Fault, Page, PageApart, PageHolder, WaitOps, WaitingFile, Want};
 use kf_notify::{Post, Posts};
@@ -60,16 +61,16 @@ impl<N: Naming> WaitOps<N> for FourBytes {
 
 /// The files of a tree.
 #[derive(Drop)]
-struct Files<'a, N: Naming, R> {
-    rt: &'a R,
-    alloc: Global,
-    tree: &'a SharedTree<N>,
+pub(crate) struct Files<'a, N: Naming, R> {
+    pub(crate) rt: &'a R,
+    pub(crate) alloc: Global,
+    pub(crate) tree: &'a SharedTree<N>,
     posts: Mutex<Posts>,
 }
 
 /// Opens the file of a hold. After a refusal there is one hold fewer.
 #[tactic(auto, using(crate::proofs::Openings::same_slot))]
-fn open<N: Naming, P: PageHolder + Drop>(
+pub(crate) fn open<N: Naming, P: PageHolder + Drop>(
     hold: Hold,
     post: Post,
     page: P,
@@ -77,6 +78,7 @@ fn open<N: Naming, P: PageHolder + Drop>(
     requires table { hold.table ≡ N.table }
     requires slot { post.slot ≡ hold.key.slot }
     ensures slot { IfOk result (λ file. file.post.slot ≡ file.hold.key.slot) }
+    ensures post { IfOk result (λ file. file.post ≡ post) }
 {
     let node = hold.node();
     match WaitingFile::open_on(hold, node, Want::BOTH, post, page) {
@@ -105,7 +107,7 @@ fn reopen<N: Naming, P: PageHolder + Drop>(first: WaitingFile<N, P>, turns: u32)
 
 impl<N: Naming, R: Wait> Files<'_, N, R> {
     /// A post of a slot.
-    fn post(&self, slot: u32) -> Result<Post, Refusal>
+    pub(crate) fn post(&self, slot: u32) -> Result<Post, Refusal>
         ensures slot { IfOk result (λ post. post.slot ≡ slot) }
     {
         let mut posts = self.posts.lock(self.rt);
@@ -134,17 +136,14 @@ impl<N: Naming, R: Wait> Files<'_, N, R> {
         self.opened(slot, page)
     }
 
-    /// Reads a file from its start, so often, and answers how many reads did not give the text.
-    fn read(&self, file: &mut BoxedFile<N>, turns: u32) -> u32 {
+    /// Reads a file from its start, and answers whether that gave the text.
+    #[tactic(auto, using(crate::proofs::Openings::read_slot))]
+    pub(crate) fn read(&self, file: &mut BoxedFile<N>) -> bool
+        ensures slot { file.new.post.slot ≡ file.old.post.slot }
+    {
         let mut out = [0u8; 4];
-        let mut failed = 0u32;
-        for _ in 0..turns {
-            let count = file.read(self.rt, self.tree, &FourBytes, 0, &mut out);
-            if count != Ok(4) || out.as_slice() != b"four".as_slice() {
-                failed = failed.saturating_add(1);
-            }
-        }
-        failed
+        let count = file.read(self.rt, self.tree, &FourBytes, 0, &mut out);
+        count == Ok(4) && out.as_slice() == b"four".as_slice()
     }
 }
 
@@ -156,10 +155,16 @@ struct Reads<'a, N: Naming, R> {
 
 impl<N: Naming, R: Wait> Work for Reads<'_, N, R> {
     fn turns(&self, place: u32, turns: u32) -> u32 {
-        match self.files.boxed(place) {
-            Ok(mut file) => self.files.read(&mut file, turns),
-            Err(_) => turns,
+        let Ok(mut file) = self.files.boxed(place) else {
+            return turns;
+        };
+        let mut failed = 0u32;
+        for _ in 0..turns {
+            if !self.files.read(&mut file) {
+                failed = failed.saturating_add(1);
+            }
         }
+        failed
     }
 }
 
@@ -238,5 +243,7 @@ pub(crate) fn tell<N: Naming + Send + Sync, R: Threads + Wait + Clock + Print + 
     tell_openings(rt, &files)?;
     println!(rt; "")?;
     tell_reads(rt, &files)?;
+    println!(rt; "")?;
+    visits::tell(rt, &files)?;
     Ok(())
 }

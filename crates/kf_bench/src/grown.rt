@@ -17,6 +17,15 @@ pub(crate) const LEAF: u32 = 63;
 /// The slots of the files.
 pub(crate) const FILES: [u32; 4] = [65, 66, 67, 68];
 
+/// What the threads are called that find or open files, how many they are, and the slots of their files.
+pub(crate) const CROWDS: [(&str, usize, [u32; 4]); 5] = [
+    ("1 thread", 1, FILES),
+    ("2 threads, own files", 2, FILES),
+    ("4 threads, own files", 4, FILES),
+    ("2 threads, one file", 2, [65; 4]),
+    ("4 threads, one file", 4, [65; 4]),
+];
+
 /// The paths of the files.
 const PATHS: [&[u8]; 4] = [
     b"/devices/virtual/network/adapter/queues0/streams/monitor/current/a",
@@ -29,9 +38,6 @@ const PATHS: [&[u8]; 4] = [
 const NAMES: [&[u8]; 8] = [
     b"devices", b"virtual", b"network", b"adapter", b"queues0", b"streams", b"monitor", b"current",
 ];
-
-/// The last of these directories.
-pub(crate) const PATH: &[u8] = b"/devices/virtual/network/adapter/queues0/streams/monitor/current";
 
 /// Makes a directory of each name in a directory, and answers that of one name.
 fn fill<N: Naming>(editor: &mut Editor<'_, N>, dir: Key, below: &[u8]) -> Result<Key, Refusal> {

@@ -1,12 +1,16 @@
 //! What it costs to take a hold of a file and to give it back, by one thread and by each of several at once,
-//! each on a file of its own: of what a path names and of a key, without the lock; by another hold of the
-//! file; and under the lock.
+//! on files of their own and on one: of what a path names and of a key, without the lock; by another hold of
+//! the file; and under the lock. And the first two and the last beside one who changes the tree.
 
-use crate::clock::{THREADS, Work, begin_line, column};
-use crate::grown::{FILES, hold_of, key_in, path_of};
+ghost use Rattle.std.specs.Prelude.{◌≡◌, IfOk};
+
+use crate::changes::column_beside_changes;
+use crate::clock::{Work, begin_line, column};
+use crate::grown::{CROWDS, hold_of, key_in, path_of};
 use kf_core::Refusal;
+use kf_live::Looker;
 use kf_shared::{Naming, SharedTree, hold_path};
-use kf_words::Holds;
+use kf_words::{Hold, Holds};
 use std::alloc::Global;
 use std::io;
 use std::sync::Wait;
@@ -21,13 +25,46 @@ pub(crate) fn maker<N: Naming, R: Wait>(
     rt: &R,
     alloc: Global,
     tree: &SharedTree<N>,
-) -> Result<Holds, Refusal> {
+) -> Result<Holds, Refusal>
+    ensures table { IfOk result (λ holds. holds.by.table ≡ N.table) }
+{
     match Holds::new(alloc, hold_of(rt, tree, 0)?) {
         Ok(holds) => Ok(holds),
         Err((hold, refusal)) => {
             hold.release();
             Err(refusal)
         }
+    }
+}
+
+/// A hold of what a path names, under the lock.
+pub(crate) fn hold_locked<N: Naming, R: Wait>(
+    rt: &R,
+    tree: &SharedTree<N>,
+    path: &[u8],
+) -> Result<Hold, Refusal>
+    ensures table { IfOk result (λ hold. hold.table ≡ N.table) }
+{
+    let mut editor = tree.edit(rt);
+    let key = editor.state().lookup(path)?;
+    editor.hold(key)
+}
+
+/// A hold of what a path names: without the lock, and under it where that has no answer.
+pub(crate) fn hold_at<N: Naming, R: Wait>(
+    rt: &R,
+    tree: &SharedTree<N>,
+    looker: &mut Looker,
+    holds: &mut Holds,
+    path: &[u8],
+) -> Result<Hold, Refusal>
+    requires table { holds.old.by.table ≡ N.table }
+    ensures table { holds.new.by.table ≡ N.table }
+    ensures hold { IfOk result (λ hold. hold.table ≡ N.table) }
+{
+    match hold_path(looker, holds, path) {
+        Some(hold) => Ok(hold),
+        None => hold_locked(rt, tree, path),
     }
 }
 
@@ -50,9 +87,9 @@ impl<N: Naming, R: Wait> Work for OfPaths<'_, N, R> {
         let path = path_of(place);
         let mut failed = 0u32;
         for _ in 0..turns {
-            match hold_path(&mut looker, &mut holds, path) {
-                Some(hold) => holds.release(hold),
-                None => failed = failed.saturating_add(1),
+            match hold_at(self.rt, self.tree, &mut looker, &mut holds, path) {
+                Ok(hold) => holds.release(hold),
+                Err(_) => failed = failed.saturating_add(1),
             }
         }
         holds.end().release();
@@ -129,7 +166,7 @@ impl<N: Naming, R: Wait> Work for UnderTheLock<'_, N, R> {
     }
 }
 
-/// Measures all by 1, 2 and 4 threads.
+/// Measures all by each crowd, and then some beside changes.
 pub(crate) fn tell<N: Naming + Send + Sync, R: Threads + Wait + Clock + Print + Sync>(
     rt: &R,
     alloc: Global,
@@ -138,13 +175,36 @@ pub(crate) fn tell<N: Naming + Send + Sync, R: Threads + Wait + Clock + Print + 
     println!(rt;
         "ns a hold and its release           of paths     of keys    of holds      locked"
     )?;
-    for (what, threads) in [("1 thread", 1), ("2 threads", 2), ("4 threads", 4)] {
-        let mut slots: [u32; THREADS] = FILES;
+    for (what, threads, slots) in CROWDS {
+        let mut slots = slots;
         begin_line(rt, what)?;
         column(rt, &OfPaths { rt, alloc, tree }, TURNS, threads, &slots)?;
         column(rt, &OfKeys { rt, alloc, tree }, TURNS, threads, &slots)?;
         column(rt, &OfHolds { rt, tree }, TURNS, threads, &slots)?;
         column(rt, &UnderTheLock { rt, tree }, TURNS, threads, &slots)?;
+        println!(rt; "")?;
+    }
+    println!(rt; "beside one who changes the tree     of paths     of keys      locked")?;
+    for (what, threads, slots) in CROWDS {
+        let mut slots = slots;
+        begin_line(rt, what)?;
+        column_beside_changes(
+            rt,
+            tree,
+            &OfPaths { rt, alloc, tree },
+            TURNS,
+            threads,
+            &slots,
+        )?;
+        column_beside_changes(
+            rt,
+            tree,
+            &OfKeys { rt, alloc, tree },
+            TURNS,
+            threads,
+            &slots,
+        )?;
+        column_beside_changes(rt, tree, &UnderTheLock { rt, tree }, TURNS, threads, &slots)?;
         println!(rt; "")?;
     }
     Ok(())

@@ -1,18 +1,20 @@
 //! What the parts of the library cost on this machine, in nanoseconds at best: `kf_bench words` tells it of
 //! calls, `kf_bench tree` of look-ups of a path and of holds of files, and `kf_bench files` of opens, closes
-//! and reads of files. `kf_bench wait` has four waiters for a node that is hidden, unused and not marked, for
-//! a second: who runs it counts how often they sleep. With none of these words it does nothing. Where what is
-//! measured cannot be set up it says so, and ends with 1.
+//! and reads of files, also by their paths. `kf_bench wait` has four waiters for a node that is hidden, unused
+//! and not marked, for a second: who runs it counts how often they sleep. With none of these words it does
+//! nothing. Where what is measured cannot be set up it says so, and ends with 1.
 #![tactic(auto)]
 
 ghost use Rattle.std.specs.Prelude.{◌≡◌, ◌≤◌};
 ghost use Rattle.kf_core.specs.Limits.{most_slots};
 
+mod changes;
 mod clock;
 mod files;
 mod grown;
 mod holds;
 mod looks;
+mod visits;
 mod waiters;
 mod words;
 
@@ -55,8 +57,8 @@ fn looks_for(part: Part) -> u32
     ensures few { result ≤ most_slots }
 {
     match part {
-        Part::Tree => grown::SLOTS,
-        _ => 0,
+        Part::Tree | Part::Files => grown::SLOTS,
+        Part::Words | Part::Wait => 0,
     }
 }
 
