@@ -1,7 +1,6 @@
 //! The callbacks of a bus, which wait for others before they go on or answer.
-ghost use Rattle.std.specs.Prelude.{◌≡◌};
 
-use crate::fixtures::{WRITE, count_of, opened, wait_for};
+use crate::fixtures::{WRITE, opened, stay, wait_for};
 use kf_device::Bus;
 use kf_files::{Fault, Page, WaitOps};
 use kf_shared::{Naming, SharedTree};
@@ -37,27 +36,6 @@ pub(crate) fn new_delayed<N: Naming>(bus: &Bus<N>, meeting: u64) -> Delayed<'_, 
     }
 }
 
-// Waits until the value is not live any more.
-fn wait_for_mark<N: Naming, R: Wait>(rt: &R, tree: &SharedTree<N>) {
-    for _ in 0..100_000_000u64 {
-        if tree.edit(rt).state().lookup(b"/devices/d0/value").is_err() {
-            return;
-        }
-    }
-}
-
-impl<'a, N: Naming> Delayed<'a, N> {
-    fn stays<R: Wait>(&self, rt: &R, tree: &SharedTree<N>) {
-        self.shows.fetch_add(1, Ordering::SeqCst);
-        wait_for_mark(rt, tree);
-        for _ in 0..10_000 {
-            if count_of(&self.answered) > 0 {
-                self.early.fetch_add(1, Ordering::SeqCst);
-            }
-        }
-    }
-}
-
 impl<'a, N: Naming> WaitOps<N> for Delayed<'a, N> {
     ghost may_show = { λ _ _ _. Unit {0} };
 
@@ -72,7 +50,9 @@ impl<'a, N: Naming> WaitOps<N> for Delayed<'a, N> {
         page: &mut Page,
     ) -> Result<(), Fault> {
         let shown = self.bus.show(rt, tree, call, tag, page);
-        self.stays(rt, tree);
+        self.shows.fetch_add(1, Ordering::SeqCst);
+        let value = b"/devices/d0/value";
+        stay(rt, tree, value, (&self.answered, &self.early));
         shown
     }
 

@@ -1,4 +1,4 @@
-//! What the tests of the bus build on.
+//! What the tests build on: trees, buses, posts, holds, and how threads wait for one another.
 ghost use Rattle.std.specs.Prelude.{◌≡◌, IfSome};
 
 use kf_core::Limits;
@@ -28,8 +28,9 @@ pub(crate) const WRITE: Want = Want {
     write: true,
 };
 
-pub(crate) fn made<R: Abort>(rt: &R, alloc: Global, slots: u32) -> NewTree {
-    let Some(limits) = Limits::new(slots, 100) else {
+/// A tree of so many slots, each of which may have so many holds.
+pub(crate) fn made<R: Abort>(rt: &R, alloc: Global, slots: u32, holds: u32) -> NewTree {
+    let Some(limits) = Limits::new(slots, holds) else {
         panic!(rt; "no such limits")
     };
     match SharedTree::<Brand>::new(alloc, limits) {
@@ -59,13 +60,42 @@ pub(crate) fn wait_for(count: u64, counter: &AtomicU64) -> bool {
     false
 }
 
-fn post_at<R: Abort>(rt: &R, alloc: Global, slot: u32) -> Post
+/// Stays until the path leads to no live node, and then looks 10,000 times whether a removal has answered.
+/// Looks that see one are counted as early.
+pub(crate) fn stay<N: Naming, R: Wait>(
+    rt: &R,
+    tree: &SharedTree<N>,
+    path: &[u8],
+    (answered, early): (&AtomicU64, &AtomicU64),
+) {
+    for _ in 0..100_000_000u64 {
+        if tree.edit(rt).state().lookup(path).is_err() {
+            break;
+        }
+    }
+    look_for_early(answered, early);
+}
+
+fn look_for_early(answered: &AtomicU64, early: &AtomicU64) {
+    for _ in 0..10_000 {
+        if count_of(answered) > 0 {
+            early.fetch_add(1, Ordering::SeqCst);
+        }
+    }
+}
+
+/// Numbers of so many slots.
+pub(crate) fn posts_of<R: Abort>(rt: &R, alloc: Global, slots: u32) -> Posts {
+    match Posts::new(alloc, slots) {
+        Ok(posts) => posts,
+        Err(_) => panic!(rt; "no memory"),
+    }
+}
+
+pub(crate) fn post_at<R: Abort>(rt: &R, posts: &mut Posts, slot: u32) -> Post
     ensures { result.slot ≡ slot }
 {
-    let Ok(mut posts) = Posts::new(alloc, 256) else {
-        panic!(rt; "no memory")
-    };
-    assert!(rt; slot < 256);
+    assert!(rt; slot < posts.slots(), "the slot has a number");
     match posts.post(slot) {
         Ok(post) => post,
         Err(_) => panic!(rt; "no memory"),
@@ -94,7 +124,7 @@ pub(crate) fn opened<N: Naming, R: Abort + Wait>(
 ) -> Option<WaitingFile<N>> {
     let hold = held(rt, tree, path)?;
     let node = hold.node();
-    let post = post_at(rt, alloc, hold.key().slot);
+    let post = post_at(rt, &mut posts_of(rt, alloc, 256), hold.key().slot);
     match WaitingFile::open(hold, node, want, post) {
         Ok(file) => Some(file),
         Err((hold, _, _)) => {

@@ -1,8 +1,11 @@
-//! The tests of `kf_device`, over its public calls: proved over the crate, and not with it.
+//! The tests of `kf_notify`, `kf_files` and `kf_device`, over their public calls: proved over them, and not
+//! with them.
 #![tactic(auto)]
 
 #[cfg(test)]
 mod delayed;
+#[cfg(test)]
+mod files;
 #[cfg(test)]
 mod fixtures;
 #[cfg(test)]

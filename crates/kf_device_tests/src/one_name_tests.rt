@@ -87,6 +87,6 @@ fn share_a_name<N: Naming + Send + Sync, R: Abort + Threads + Wait + Sync>(
 
 #[test]
 fn threads_plug_and_unplug_one_name(rt: HostRuntime) {
-    let new = made(&rt, rt.alloc(), 64);
+    let new = made(&rt, rt.alloc(), 64, 100);
     share_a_name::<Brand, _>(&rt, rt.alloc(), new);
 }

@@ -77,7 +77,7 @@ const DELETED: [Step; 3] = [
 
 #[test]
 fn a_delete_that_is_refused_leaves_its_device(rt: HostRuntime) {
-    let new = made(&rt, rt.alloc(), 16);
+    let new = made(&rt, rt.alloc(), 16, 100);
     let file = (b"/devices/d0/delete".as_slice(), 99);
     refuses::<Brand, _>(&rt, rt.alloc(), new, file, &NO_ROOM, &DELETED);
 }
@@ -95,7 +95,7 @@ const UNPLUGGED: [Step; 2] = [Step::Unplugs(b"d0", None), Step::IsMissing(b"/dev
 
 #[test]
 fn a_delete_whose_rest_is_refused_leaves_that_for_unplug(rt: HostRuntime) {
-    let new = made(&rt, rt.alloc(), 16);
+    let new = made(&rt, rt.alloc(), 16, 100);
     let file = (b"/devices/d0/value".as_slice(), 100);
     refuses::<Brand, _>(
         &rt,

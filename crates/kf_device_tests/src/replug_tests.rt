@@ -101,6 +101,6 @@ fn replugged<N: Naming + Send + Sync, R: Abort + Threads + Wait + Sync>(
 
 #[test]
 fn a_delete_leaves_a_later_device_of_the_name(rt: HostRuntime) {
-    let new = made(&rt, rt.alloc(), 32);
+    let new = made(&rt, rt.alloc(), 32, 100);
     replugged::<Brand, _>(&rt, rt.alloc(), new);
 }

@@ -5,8 +5,7 @@ use crate::fixtures::{BOTH, READ, WRITE, held, new_bus, opened};
 use kf_core::{Node, Refusal};
 use kf_device::Bus;
 use kf_files::{Fault, FileError};
-use kf_shared::{Naming, NewTree, SharedTree};
-use kf_words::Parted;
+use kf_shared::{Naming, NewTree, SharedTree, release_all};
 use std::alloc::Global;
 use std::process::Abort;
 use std::sync::Wait;
@@ -75,13 +74,6 @@ fn has<N: Naming, R: Wait>(rt: &R, tree: &SharedTree<N>, path: &[u8], count: usi
 
 pub(crate) fn is_missing<N: Naming, R: Wait>(rt: &R, tree: &SharedTree<N>, path: &[u8]) -> bool {
     tree.edit(rt).state().walk(path) == Err(Refusal::NoEntry)
-}
-
-fn release_all(mut receipts: Vec<Parted>) {
-    while let Some(receipt) = receipts.pop() {
-        receipt.release();
-    }
-    receipts.destroy_empty();
 }
 
 fn removes<N: Naming, R: Wait>(rt: &R, tree: &SharedTree<N>, path: &[u8]) -> bool {

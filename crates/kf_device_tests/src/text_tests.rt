@@ -24,7 +24,7 @@ const ODD: [Step; 11] = [
 
 #[test]
 fn a_tag_of_no_device_is_a_fault(rt: HostRuntime) {
-    let new = made(&rt, rt.alloc(), 32);
+    let new = made(&rt, rt.alloc(), 32, 100);
     walk::<Brand, _>(&rt, rt.alloc(), new, &[(1, &ODD)]);
 }
 
@@ -43,7 +43,7 @@ const WITHOUT_VALUE: [Step; 9] = [
 
 #[test]
 fn a_device_without_its_value_is_deleted(rt: HostRuntime) {
-    let new = made(&rt, rt.alloc(), 32);
+    let new = made(&rt, rt.alloc(), 32, 100);
     walk::<Brand, _>(&rt, rt.alloc(), new, &[(1, &WITHOUT_VALUE)]);
 }
 
@@ -85,7 +85,7 @@ const LEAVES: [Step; 10] = [
 
 #[test]
 fn texts_of_devices_that_are_gone_are_dropped(rt: HostRuntime) {
-    let new = made(&rt, rt.alloc(), 32);
+    let new = made(&rt, rt.alloc(), 32, 100);
     let lists: [(u32, &'static [Step]); 4] = [
         (1, &STAYS),
         (10_000, &COMES_AND_GOES),
@@ -117,7 +117,7 @@ const GOES: [Step; 4] = [
 /// More devices stay than a sweep might look at, and all that are gone have higher numbers than they.
 #[test]
 fn a_sweep_looks_at_every_device(rt: HostRuntime) {
-    let new = made(&rt, rt.alloc(), 64);
+    let new = made(&rt, rt.alloc(), 64, 100);
     let lists: [(u32, &'static [Step]); 2] = [(1, &NINE_STAY), (40, &GOES)];
     walk::<Brand, _>(&rt, rt.alloc(), new, &lists);
 }

@@ -54,7 +54,7 @@ fn meet<N: Naming + Send + Sync, R: Abort + Threads + Wait + Sync>(
 
 #[test]
 fn two_stores_of_delete_meet(rt: HostRuntime) {
-    let new = made(&rt, rt.alloc(), 16);
+    let new = made(&rt, rt.alloc(), 16, 100);
     meet::<Brand, _>(&rt, rt.alloc(), new);
 }
 
@@ -138,6 +138,6 @@ fn read_while_plugged<N: Naming + Send + Sync, R: Abort + Threads + Wait + Sync>
 
 #[test]
 fn a_device_that_is_there_has_its_text(rt: HostRuntime) {
-    let new = made(&rt, rt.alloc(), 16);
+    let new = made(&rt, rt.alloc(), 16, 100);
     read_while_plugged::<Brand, _>(&rt, rt.alloc(), new);
 }

@@ -76,12 +76,12 @@ fn waits_for_a_show<N: Naming + Send + Sync, R: Abort + Threads + Wait + Sync>(
 
 #[test]
 fn an_unplug_waits_for_a_show(rt: HostRuntime) {
-    let new = made(&rt, rt.alloc(), 16);
+    let new = made(&rt, rt.alloc(), 16, 100);
     waits_for_a_show::<Brand, _>(&rt, rt.alloc(), new, Remover::Unplug);
 }
 
 #[test]
 fn a_delete_waits_for_a_show(rt: HostRuntime) {
-    let new = made(&rt, rt.alloc(), 16);
+    let new = made(&rt, rt.alloc(), 16, 100);
     waits_for_a_show::<Brand, _>(&rt, rt.alloc(), new, Remover::Delete);
 }

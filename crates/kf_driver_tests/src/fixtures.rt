@@ -27,6 +27,11 @@ pub(crate) const BOTH: Want = Want {
     write: true,
 };
 
+/// The place of the first answer that is not as it must be.
+pub(crate) fn first_wrong(answers: &[bool]) -> Option<usize> {
+    answers.iter().position(|is_right| !*is_right)
+}
+
 /// A tree of so many slots, each of which may have so many holds.
 pub(crate) fn made<R: Abort>(rt: &R, alloc: Global, slots: u32, holds: u32) -> NewTree {
     let Some(limits) = Limits::new(slots, holds) else {

@@ -1,4 +1,5 @@
-//! The tests of `kf_driver`, over its public calls: proved over it, and not with it.
+//! The tests of `kf_text`, `kf_groups`, `kf_uevents` and `kf_driver`, over their public calls: proved over
+//! them, and not with them.
 #![tactic(auto)]
 
 #[cfg(test)]
@@ -12,10 +13,18 @@ mod fixtures;
 #[cfg(test)]
 mod full_tests;
 #[cfg(test)]
+mod groups;
+#[cfg(test)]
 mod line_tests;
 #[cfg(test)]
 mod open_tests;
 #[cfg(test)]
+mod opener_tests;
+#[cfg(test)]
 mod ready_tests;
 #[cfg(test)]
 mod steps;
+#[cfg(test)]
+mod text_tests;
+#[cfg(test)]
+mod uevents;

@@ -1,5 +1,4 @@
 //! Reads and writes of files one after another, each opened by its path, and what each must answer.
-ghost use Rattle.std.specs.Prelude.{◌≡◌};
 
 use crate::fixtures::{BOTH, READ};
 use kf_driver::{Driver, DriverTable, open_path};

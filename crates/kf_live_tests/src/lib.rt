@@ -1,5 +1,5 @@
-//! The tests of `kf_live`, over its public calls: proved over the crate, and not with it. They show what no
-//! clause says: that a look-up answers, after each command and beside the tree's owner.
+//! The tests of `kf_looks` and `kf_live`, over their public calls: proved over both, and not with them. They
+//! show what no clause says: that a look-up answers, after each command and beside who writes.
 #![tactic(auto)]
 
 #[cfg(test)]
@@ -8,3 +8,5 @@ mod test_fixtures;
 mod tests;
 #[cfg(test)]
 mod thread_tests;
+#[cfg(test)]
+mod words;

@@ -14,6 +14,7 @@ use Rattle.kf_tree.specs.SlotMarks.{SameMarks}
 use Rattle.kf_words.specs.Callers.{TableId}
 use Rattle.kf_words.specs.Life.{life_opening}
 use Rattle.kf_words.specs.Rule.{Shown}
+use Rattle.kf_words.specs.declared.note.Note.{Note}
 use Rattle.kf_words.specs.declared.sight.StepKind.{StepKind}
 use Rattle.kf_words.specs.TableSteps.{Table, WordRun, master_in}
 use Rattle.kf_words.specs.History.{opened_as}
@@ -49,6 +50,11 @@ all_parted = joined until_drained part_steps opened drained parted all_drained r
 
 all_again : WordRun opened until_again again
 all_again = joined until_parted next_steps opened parted again all_parted run_again
+
+-- what came after the note that the tree was made
+abbrev after_first : List Note → List Note
+after_first [] = []
+after_first (note ∷ notes) = notes
 
 -- the commands that are stored, in turn
 abbrev created : List Command
@@ -109,7 +115,7 @@ module _ (table : TableId) where
     run = run_called;
     met = met call_steps called run_called;
     free = free_over call_steps called (Some (dir_of 1 live_marks)) created (0 ∷ 0 ∷ []) (lawful_with 1 live_marks) refl (same_with 1 live_marks)
-        (has_nodes (Some (dir_of 1 live_marks)) (is_dir 1 live_marks)) refl refl (record { tree = refl; claimed = refl; stored = inl (refl, refl) });
+        (has_nodes (Some (dir_of 1 live_marks)) (is_dir 1 live_marks)) refl refl (record { began = (after_first (notes_of call_steps), refl); tree = refl; claimed = refl; stored = inl (refl, refl) });
     same_table = refl;
     all_seen = refl;
     marks_are = refl;
@@ -122,7 +128,7 @@ module _ (table : TableId) where
     run = all_marked;
     met = met until_marked marked all_marked;
     free = free_over until_marked marked (Some (dir_of 1 marked_marks)) doomed (0 ∷ 1 ∷ []) (lawful_with 1 marked_marks) refl (same_with 1 marked_marks)
-        (has_nodes (Some (dir_of 1 marked_marks)) (is_dir 1 marked_marks)) refl refl (record { tree = refl; claimed = refl; stored = inl (refl, refl) });
+        (has_nodes (Some (dir_of 1 marked_marks)) (is_dir 1 marked_marks)) refl refl (record { began = (after_first (notes_of until_marked), refl); tree = refl; claimed = refl; stored = inl (refl, refl) });
     same_table = refl;
     all_seen = refl;
     marks_are = refl;
@@ -135,7 +141,7 @@ module _ (table : TableId) where
     run = all_drained;
     met = met until_drained drained all_drained;
     free = free_over until_drained drained (Some (dir_of 1 marked_marks)) doomed (0 ∷ 1 ∷ []) (lawful_with 1 marked_marks) refl (same_with 1 marked_marks)
-        (has_nodes (Some (dir_of 1 marked_marks)) (is_dir 1 marked_marks)) refl refl (record { tree = refl; claimed = refl; stored = inl (refl, refl) });
+        (has_nodes (Some (dir_of 1 marked_marks)) (is_dir 1 marked_marks)) refl refl (record { began = (after_first (notes_of until_drained), refl); tree = refl; claimed = refl; stored = inl (refl, refl) });
     same_table = refl;
     all_seen = refl;
     marks_are = refl;
@@ -148,7 +154,7 @@ module _ (table : TableId) where
     run = all_parted;
     met = met until_parted parted all_parted;
     free = free_over until_parted parted None unlinked (0 ∷ 1 ∷ []) lawful_alone refl (same_alone 1)
-        (has_nodes None (λ r e. absurd (none-some r e))) refl refl (record { tree = refl; claimed = refl; stored = inl (refl, refl) });
+        (has_nodes None (λ r e. absurd (none-some r e))) refl refl (record { began = (after_first (notes_of until_parted), refl); tree = refl; claimed = refl; stored = inl (refl, refl) });
     same_table = refl;
     all_seen = refl;
     marks_are = refl;
@@ -161,7 +167,7 @@ module _ (table : TableId) where
     run = all_again;
     met = met until_again again all_again;
     free = free_over until_again again (Some (dir_of 2 live_marks)) made_again (0 ∷ 1 ∷ []) (lawful_with 2 live_marks) refl (same_with 2 live_marks)
-        (has_nodes (Some (dir_of 2 live_marks)) (is_dir 2 live_marks)) refl refl (record { tree = refl; claimed = refl; stored = inl (refl, refl) });
+        (has_nodes (Some (dir_of 2 live_marks)) (is_dir 2 live_marks)) refl refl (record { began = (after_first (notes_of until_again), refl); tree = refl; claimed = refl; stored = inl (refl, refl) });
     same_table = refl;
     all_seen = refl;
     marks_are = refl;

@@ -1,4 +1,5 @@
-//! The tests of `kf_workers`, over its public calls: proved over the crate, and not with it.
+//! The tests of `kf_script`, `kf_plain`, `kf_rounds` and `kf_workers`, over their public calls: proved over
+//! them, and not with them.
 #![tactic(auto)]
 
 #[cfg(test)]
@@ -8,9 +9,21 @@ mod crowd_tests;
 #[cfg(test)]
 mod meeting_tests;
 #[cfg(test)]
+mod opening_tests;
+#[cfg(test)]
+mod plain_tests;
+#[cfg(test)]
 mod reading_tests;
 #[cfg(test)]
 mod removal_tests;
+#[cfg(test)]
+mod round_tests;
+#[cfg(test)]
+mod stream_fakes;
+#[cfg(test)]
+mod stream_tests;
+#[cfg(test)]
+mod test_board;
 #[cfg(test)]
 mod test_fixtures;
 #[cfg(test)]

@@ -1,45 +1,14 @@
 //! Scripts read whole: however the reader cuts them, up to the limit, and with a reader that fails.
 
-ghost use Rattle.std.specs.Prelude.{Some, ◌<◌};
-
+use crate::stream_fakes::ChunkReader;
 use crate::test_fixtures::many;
 use kf_script::RunFault;
 use kf_workers::read_script;
 use std::alloc::Global;
-use std::io;
-use std::io::{ErrorKind, Read};
 use std::test::Fail;
 
-/// Gives its bytes a few at a time, and fails after so many calls.
-#[derive(Drop)]
-struct ChunkReader<'a> {
-    bytes: &'a [u8],
-    most: usize,
-    calls: usize,
-    ghost some: { 0 < most },
-}
-
-impl<'a> Read for ChunkReader<'a> {
-    ghost remaining = { λ r. Some r.bytes.now };
-
-    fn read(&mut self, buf: &mut [u8]) -> io::Result<usize> {
-        if self.calls == 0 {
-            return Err(ErrorKind::Other.into());
-        }
-        self.calls -= 1;
-        let count = buf.len().min(self.most).min(self.bytes.len());
-        buf[..count].copy_from_slice(&self.bytes[..count]);
-        self.bytes = &self.bytes[count..];
-        Ok(count)
-    }
-}
-
 fn is_read(alloc: Global, bytes: &[u8], most: usize) -> bool {
-    let mut reader = ChunkReader {
-        bytes,
-        most: most.max(1),
-        calls: 10_000_000,
-    };
+    let mut reader = ChunkReader::new(bytes, most, 10_000_000);
     read_script(alloc, &mut reader).is_ok_and(|script| script.as_slice() == bytes)
 }
 
@@ -59,7 +28,7 @@ fn a_script_is_read_whole_however_it_is_cut_or_it_is_a_read_fault(
         (long.as_slice(), 4096, 10_000_000),
         (script.as_slice(), 2, 3),
     ] {
-        let mut reader = ChunkReader { bytes, most, calls };
+        let mut reader = ChunkReader::new(bytes, most, calls);
         match read_script(rt.alloc(), &mut reader) {
             Ok(_) => panic!(&rt; "read past the limit or a fault"),
             Err(fault) => assert!(rt; fault == RunFault::Read),

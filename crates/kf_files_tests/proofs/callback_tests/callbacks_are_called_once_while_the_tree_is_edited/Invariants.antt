@@ -1,5 +1,0 @@
-use Rattle.kf_files_tests.proofs.callback_tests.callbacks_are_called_once_while_the_tree_is_edited.Given as goal
-
--- the tree that was just made
-abbrev pub ghosts-faults_under_an_editor : goal.ghosts-faults_under_an_editor
-ghosts-faults_under_an_editor g a = record { table = a.new.master.table }

@@ -1,5 +1,0 @@
-use Rattle.std.proofs.Common.{◌≡◌}
-use Rattle.kf_looks_tests.proofs.tests.found_in_full.Given as goal
-
-abbrev pub invariant-loop-slot : goal.invariant-loop-slot
-invariant-loop-slot g l = l.looker.seat.table_id ≡ l.looks.table.shared.table_id
