@@ -30,7 +30,6 @@ use std::marker::Model;
 ///
 /// All memory that a command needs is taken before anything changes, so a refused one leaves all as it was.
 /// [`State::unlink`], [`State::hide`] and [`State::show`] take none: the list keeps room for what they store.
-#[derive(Drop)]
 pub struct State {
     alloc: Global,
     root: Key,
@@ -41,6 +40,20 @@ pub struct State {
     owed: usize,
     /// The key that `may_hide` has made ready, until the next change.
     ready: Option<Key>,
+}
+
+/// Let go here: so no crate that lets a tree go proves that of each of its parts once more.
+impl Drop for State {
+    fn drop(self) {
+        let State {
+            alloc: _,
+            root: _,
+            table: _,
+            commands: _,
+            owed: _,
+            ready: _,
+        } = self;
+    }
 }
 
 impl Model for State {
