@@ -1,98 +1,222 @@
-//! Worked examples on the words, in one thread.
-ghost use Rattle.std.specs.Prelude.{◌≡◌};
+//! Those who wait for a drain, or until nobody uses a hidden key, among calls, tries and hiders in threads.
 
-use crate::test_fixtures::{
-    FILE, activate, born, doom, enter, look, looks_used, made, part, pin, refused, unlink,
-};
-use kf_core::{Key, Phase};
-use kf_words::{Call, Hold, Master};
+use crate::fixtures::{activate, born, doom, enter, hide, made, pin};
+use crate::roles::{Counts, Course, Ending, Mark, Role, TOKENS, act_in, give_back};
+use kf_core::Key;
+use kf_words::Master;
 use std::alloc::Global;
 use std::process::Abort;
+use std::sync::Wait;
+use std::sync::atomic::{AtomicU64, Ordering};
+use std::thread::{Threads, for_each_mut};
+use std::time::{Clock, CpuClock};
 
-/// A slot that has had `start` generations and may have two holds, until its node has left and `next` is the
-/// key that it can give. `parts` says whether the second hold sees that the node has left before it goes.
-fn slot_is_given_again<R: Abort>(
+/// Four wait for a drain, and the last call's step wakes all of them.
+const MARKED: Course = Course {
+    drain: 4,
+    hide: 0,
+    try_on: 0,
+    hide_on: 0,
+    call: true,
+    breaks: false,
+    mark: Mark::BeforeTheyWait,
+    tries: 0,
+    measured: false,
+};
+
+/// Two wait for a drain and one hides, all on one word. The call's end wakes the one who hides; the others
+/// come through once the node is marked.
+const HIDDEN: Course = Course {
+    drain: 2,
+    hide: 1,
+    mark: Mark::AfterTheCall,
+    ..MARKED
+};
+
+const WOKEN: [Course; 7] = [
+    MARKED,
+    Course {
+        breaks: true,
+        ..MARKED
+    },
+    Course {
+        mark: Mark::BeforeTheCallEnds,
+        ..MARKED
+    },
+    Course {
+        mark: Mark::AfterTheCall,
+        ..MARKED
+    },
+    HIDDEN,
+    Course {
+        mark: Mark::BeforeTheyWait,
+        measured: true,
+        ..HIDDEN
+    },
+    Course {
+        mark: Mark::BeforeTheyWait,
+        breaks: true,
+        ..HIDDEN
+    },
+];
+
+/// One waits for a drain, and the call is left among refused tries. If a try is not yet undone when the call
+/// is left, the undo wakes the one, or nobody does.
+const AMONG_TRIES: Course = Course {
+    drain: 1,
+    try_on: 1,
+    tries: 1_000,
+    ..MARKED
+};
+
+/// One begins to wait where nobody is, and may fall asleep just as the node is marked. The mark wakes nobody:
+/// so the sleep ends by itself.
+const NAP: Course = Course {
+    drain: 1,
+    call: false,
+    mark: Mark::BeforeTheCallEnds,
+    ..MARKED
+};
+
+/// Eight go in and out among two who hide, and all see the drain.
+const CROWD: Course = Course {
+    drain: 0,
+    try_on: 8,
+    hide_on: 2,
+    call: false,
+    mark: Mark::BeforeTheCallEnds,
+    ..MARKED
+};
+
+fn counts() -> Counts {
+    Counts {
+        begun: AtomicU64::new(0),
+        through: AtomicU64::new(0),
+        tries: AtomicU64::new(0),
+        calls: AtomicU64::new(0),
+        running: AtomicU64::new(0),
+        tokens: AtomicU64::new(0),
+        wrong: AtomicU64::new(0),
+        done: AtomicU64::new(0),
+    }
+}
+
+fn add<R: Abort + Wait + Clock>(rt: &R, roles: &mut Vec<Option<Role>>, role: Role) {
+    if let Err(full) = roles.push(Some(role)) {
+        if let Some(role) = full.value {
+            give_back(rt, role);
+        }
+        panic!(rt; "no memory");
+    }
+}
+
+/// All who are there beside the one who ends all.
+fn gathered<R: Abort + Wait + Clock>(
     rt: &R,
     alloc: Global,
-    start: u32,
-    parts: bool,
-    next: Option<Key>,
+    master: &mut Master,
+    key: Key,
+    course: Course,
+) -> Vec<Option<Role>> {
+    let mut roles = Vec::new(alloc);
+    for _ in 0..course.drain {
+        add(rt, &mut roles, Role::Drain(pin(rt, master, key)));
+    }
+    for _ in 0..course.hide {
+        add(rt, &mut roles, Role::Hide(hide(rt, pin(rt, master, key))));
+    }
+    let all = course.hide_on.saturating_add(1);
+    for _ in 0..course.try_on {
+        add(rt, &mut roles, Role::TryOn(all, pin(rt, master, key)));
+    }
+    for _ in 0..course.hide_on {
+        add(rt, &mut roles, Role::HideOn(pin(rt, master, key)));
+    }
+    roles
+}
+
+/// All act at once.
+fn all_act<R: Abort + Threads + Wait + Clock + CpuClock + Sync>(
+    rt: &R,
+    roles: &mut Vec<Option<Role>>,
+    counts: &Counts,
 ) {
-    let mut master = made(rt, alloc, 2, 2, start);
-    let key = born(rt, &mut master, 1, start.saturating_add(1));
+    for_each_mut(
+        rt,
+        roles.as_mut_slice(),
+        16,
+        &|_, place| act_in(rt, place, counts),
+    );
+}
+
+fn give_all_back<R: Abort + Wait + Clock>(rt: &R, mut roles: Vec<Option<Role>>) {
+    while let Some(place) = roles.pop() {
+        if let Some(role) = place {
+            give_back(rt, role);
+        }
+    }
+    roles.destroy_empty();
+}
+
+/// One course on a live node. It answers what was counted.
+fn run<R: Abort + Threads + Wait + Clock + CpuClock + Sync>(
+    rt: &R,
+    alloc: Global,
+    course: Course,
+    looks: u64,
+) -> Counts {
+    let mut master = made(rt, alloc);
+    let key = born(rt, &mut master);
     activate(rt, &mut master, key);
-    let first = pin(rt, &mut master, key);
-    let second = pin(rt, &mut master, key);
-    assert_eq!(rt; first.node(), FILE);
-    assert_eq!(rt; second.key(), key);
-    let call = enter(rt, first);
-    assert_eq!(rt; call.key(), key);
-    assert_eq!(rt; call.node(), FILE);
-    assert_eq!(rt; call.phase(), Phase::Running);
-    doom(rt, &mut master, key);
-    let second = looks_used(rt, refused(rt, second));
-    let first = call.leave();
-    let drained = look(rt, second);
-    assert_eq!(rt; drained.key(), key);
-    assert!(rt; unlink(rt, &mut master, &drained));
-    if parts {
-        let parted = part(rt, drained);
-        assert_eq!(rt; parted.key(), key);
-        assert_eq!(rt; master.free_key(), None);
-        parted.release();
+    let call = if course.call {
+        Some(enter(rt, pin(rt, &mut master, key)))
     } else {
-        drained.release();
+        None
+    };
+    let mut roles = gathered(rt, alloc, &mut master, key, course);
+    let other = pin(rt, &mut master, key);
+    if let Mark::BeforeTheyWait = course.mark {
+        doom(rt, &mut master, key);
     }
-    assert_eq!(rt; master.free_key(), None);
-    first.release();
-    assert_eq!(rt; master.free_key(), next);
-}
-
-/// A hold of the key of a call.
-fn pin_held<R: Abort>(rt: &R, master: &mut Master, call: &Call) -> Hold
-    requires { call.now.table ≡ master.old.table }
-    ensures table { master.new.table ≡ master.old.table }
-    ensures hold { result.table ≡ master.old.table }
-{
-    match master.pin_held(call) {
-        Ok(hold) => hold,
-        Err(_) => panic!(rt; "no hold of the key of a call"),
-    }
-}
-
-/// A call keeps its key pinned when its node has left.
-fn a_call_is_pinned_after_its_node_has_left<R: Abort>(rt: &R, alloc: Global) {
-    let mut master = made(rt, alloc, 2, 4, 0);
-    let key = born(rt, &mut master, 1, 1);
-    activate(rt, &mut master, key);
-    let mut call = enter(rt, pin(rt, &mut master, key));
-    let second = pin_held(rt, &mut master, &call);
-    doom(rt, &mut master, key);
-    call.break_protection();
-    let drained = look(rt, second);
-    assert!(rt; unlink(rt, &mut master, &drained));
-    let third = pin_held(rt, &mut master, &call);
-    call.restore();
-    let third = looks_used(rt, third);
-    part(rt, drained).release();
-    third.release();
-    assert_eq!(rt; master.free_key(), None);
-    call.leave().release();
-    assert!(rt; master.free_key().is_some());
+    let ending = Ending {
+        master,
+        key,
+        call,
+        other,
+        course,
+        looks,
+        good: false,
+    };
+    add(rt, &mut roles, Role::End(ending));
+    let counts = counts();
+    all_act(rt, &mut roles, &counts);
+    give_all_back(rt, roles);
+    counts
 }
 
 #[test]
-fn slots_and_holds(rt: HostRuntime) {
-    let second = Key {
-        slot: 1,
-        generation: 2,
-    };
-    for (start, parts, next) in [
-        (0, true, Some(second)),
-        (0, false, Some(second)),
-        (4294967294, true, None),
-    ] {
-        slot_is_given_again(&rt, rt.alloc(), start, parts, next);
+fn those_who_wait_sleep_and_are_woken(rt: HostRuntime) {
+    for course in WOKEN {
+        for _ in 0..5 {
+            run(&rt, rt.alloc(), course, 0);
+        }
     }
-    a_call_is_pinned_after_its_node_has_left(&rt, rt.alloc());
+    for _ in 0..100 {
+        run(&rt, rt.alloc(), AMONG_TRIES, 0);
+    }
+}
+
+#[test]
+fn a_sleep_where_nobody_is_ends_by_itself(rt: HostRuntime) {
+    for looks in 0..2_000u64 {
+        run(&rt, rt.alloc(), NAP, looks % 800);
+    }
+}
+
+#[test]
+fn no_call_runs_while_a_token_is_out(rt: HostRuntime) {
+    let counts = run(&rt, rt.alloc(), CROWD, 0);
+    assert_eq!(&rt; counts.wrong.load(Ordering::SeqCst), 0);
+    assert!(&rt; counts.tokens.load(Ordering::SeqCst) >= TOKENS);
+    assert!(&rt; counts.calls.load(Ordering::SeqCst) > 0);
 }

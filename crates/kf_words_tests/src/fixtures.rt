@@ -1,0 +1,97 @@
+//! What the tests of the words build on: each helper stops the test where its call does not answer as asked.
+
+use kf_core::{Key, Limits, Marks, Node};
+use kf_words::{Call, Hiding, Hold, Master, Words};
+use std::alloc::Global;
+use std::process::Abort;
+
+/// The Master of two slots, each with place for 16 holds.
+pub(crate) fn made<R: Abort>(rt: &R, alloc: Global) -> Master {
+    let Some(limits) = Limits::new(2, 16) else {
+        panic!(rt; "no such limits")
+    };
+    match Words::new(alloc, limits) {
+        Ok((_, master)) => master,
+        Err(_) => panic!(rt; "no memory"),
+    }
+}
+
+/// The next free key, with a node born there.
+pub(crate) fn born<R: Abort>(rt: &R, master: &mut Master) -> Key {
+    match master.free_key() {
+        Some(key) => {
+            master.born(
+                key,
+                Node::File {
+                    mode: 0o444,
+                    tag: 7,
+                },
+            );
+            key
+        }
+        None => panic!(rt; "no free slot"),
+    }
+}
+
+pub(crate) fn activate<R: Abort>(rt: &R, master: &mut Master, key: Key) {
+    match master.marks(key) {
+        Some(
+            Marks {
+                activated: false,
+                doomed: false,
+            },
+        ) => master.activate(key),
+        _ => panic!(rt; "not as new"),
+    }
+}
+
+pub(crate) fn doom<R: Abort>(rt: &R, master: &mut Master, key: Key) {
+    match master.marks(key) {
+        Some(
+            Marks {
+                activated: _,
+                doomed: false,
+            },
+        ) => master.doom(key),
+        _ => panic!(rt; "not linked, or doomed before"),
+    }
+}
+
+pub(crate) fn pin<R: Abort>(rt: &R, master: &mut Master, key: Key) -> Hold {
+    assert!(rt; master.marks(key).is_some());
+    match master.pin(key) {
+        Ok(hold) => hold,
+        Err(_) => panic!(rt; "no hold"),
+    }
+}
+
+pub(crate) fn enter<R: Abort>(rt: &R, hold: Hold) -> Call {
+    match hold.enter() {
+        Ok(call) => call,
+        Err(back) => {
+            back.release();
+            panic!(rt; "a live node refused a try")
+        }
+    }
+}
+
+pub(crate) fn hide<R: Abort>(rt: &R, hold: Hold) -> Hiding {
+    match hold.hide() {
+        Ok(hiding) => hiding,
+        Err(back) => {
+            back.release();
+            panic!(rt; "a key was hidden before")
+        }
+    }
+}
+
+/// The hold sees that the node is drained, and is released.
+pub(crate) fn see_drained<R: Abort>(rt: &R, hold: Hold) {
+    match hold.look() {
+        Ok(drained) => drained.release(),
+        Err(back) => {
+            back.release();
+            panic!(rt; "a drained node looked used")
+        }
+    }
+}
