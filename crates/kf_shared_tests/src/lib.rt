@@ -6,30 +6,16 @@ mod laws;
 pub use laws::tree_life;
 
 #[cfg(test)]
-mod crowd_roles;
-#[cfg(test)]
-mod crowd_tests;
-#[cfg(test)]
-mod expected;
+mod crowd;
 #[cfg(test)]
 mod fixtures;
 #[cfg(test)]
-mod held_path_tests;
+mod lookers;
 #[cfg(test)]
-mod hiding_tests;
+mod refused;
 #[cfg(test)]
-mod left_behind;
-#[cfg(test)]
-mod look_tests;
-#[cfg(test)]
-mod reading_tests;
-#[cfg(test)]
-mod self_tests;
+mod roles;
 #[cfg(test)]
 mod tests;
 #[cfg(test)]
-mod thread_fixtures;
-#[cfg(test)]
-mod thread_tests;
-#[cfg(test)]
-mod waiting_tests;
+mod waits;

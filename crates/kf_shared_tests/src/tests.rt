@@ -1,123 +1,310 @@
-//! Worked examples on the shared tree, in one thread: removals.
+//! Removals, calls, hidings, creations and look-ups at once, in threads, and what they leave behind: a bare
+//! tree, and slots that are free again.
 ghost use Rattle.std.specs.Prelude.{◌≡◌};
 
-use crate::expected::{bare, is_at, live, same_key, stored};
-use crate::fixtures::{
-    FILE, add, enter, hold, made, no_hold, not_removed, removed, told, turned_away,
-};
-use crate::self_tests::{in_turn_examples, self_removal_examples};
-use kf_core::{Key, Node, Refusal};
-use kf_shared::{Naming, NewTree, SharedTree};
-use kf_words::Hold;
+use crate::crowd::every_slot_is_free;
+use crate::fixtures::{FILE, add, commands, hold, is_bare, made};
+use crate::lookers::{looker_of, maker};
+use crate::refused::refused_below;
+use crate::roles::{Counts, Inside, Role, act, act_in, call_of, held_by, hold_of};
+use kf_core::{Key, Node};
+use kf_shared::{Naming, NewTree, SharedTree, release_all};
+use kf_words::{Call, Hold};
 use std::alloc::Global;
 use std::marker::Brand;
 use std::process::Abort;
 use std::sync::Wait;
+use std::sync::atomic::{AtomicU64, Ordering};
+use std::thread::{Threads, for_each_mut};
+use std::time::Clock;
 
-// ---- a node below that has as many holds as it may, two
-
-/// A directory with two files.
+/// Who is there, over a tree that is made for them.
 #[derive(Clone, Copy)]
-struct Pair {
-    a: Key,
-    w: Key,
-    x: Key,
+enum Course {
+    /// Four who remove, by themselves or not, one who calls, one who creates, and two who hide.
+    Crowd(bool),
+    /// Two who remove one file from within their calls of it.
+    TwoSelves,
+    /// One who removes a file, and one in a call of it.
+    UnderACall,
+    /// Two who hide one file.
+    TwoHide,
+    /// One who finishes a removal, and one whose call has its reference again.
+    Restored,
+    /// One who removes a file from within a call, and one who looks at it under the lock.
+    UnderTheLock,
+    /// Two who read.
+    Readers,
+    /// Two who look up and one who opens without the lock, and one who changes the tree.
+    Lookers,
+    /// One who opens without the lock, after each change.
+    EachChange,
 }
 
-fn pair_made<N: Naming, R: Abort + Wait>(rt: &R, tree: &SharedTree<N>) -> Pair {
-    let a = add(rt, tree, b"/a", Node::Dir, true);
-    let w = add(rt, tree, b"/a/w", FILE, true);
-    let x = add(rt, tree, b"/a/x", FILE, true);
-    Pair { a, w, x }
+fn add_role<N: Naming, R: Abort + Wait + Clock>(
+    rt: &R,
+    tree: &SharedTree<N>,
+    roles: &mut Vec<Option<Role<N>>>,
+    role: Role<N>,
+) {
+    if let Err(full) = roles.push(Some(role)) {
+        if let Some(role) = full.value {
+            act(rt, tree, role, &counts());
+        }
+        panic!(rt; "no memory");
+    }
 }
 
-/// Two holds of the node and no third, all given back.
-fn two_holds_at_most<N: Naming, R: Abort + Wait>(rt: &R, tree: &SharedTree<N>, key: Key) {
-    let one = hold(rt, tree, key);
-    let other = hold(rt, tree, key);
-    no_hold(rt, tree, key, Refusal::TooManyHolds);
-    one.release();
-    other.release();
+fn add_remover<N: Naming, R: Abort + Wait + Clock>(
+    rt: &R,
+    tree: &SharedTree<N>,
+    roles: &mut Vec<Option<Role<N>>>,
+    by_itself: bool,
+    key: Key,
+) {
+    let role = if by_itself {
+        Role::RemoveItself(call_of(rt, tree, key))
+    } else {
+        Role::Remove(hold_of(rt, tree, key))
+    };
+    add_role(rt, tree, roles, role);
 }
 
-/// The removal is refused, and gives its hold back, which still gets a call.
-fn still_enters<N: Naming, R: Abort + Wait>(rt: &R, tree: &SharedTree<N>, pair: Pair) -> Hold
+/// Directories, and a file in the last but one.
+fn add_crowd<N: Naming, R: Abort + Wait + Clock>(
+    rt: &R,
+    tree: &SharedTree<N>,
+    roles: &mut Vec<Option<Role<N>>>,
+    by_themselves: bool,
+) {
+    let p = add(rt, tree, b"/t", Node::Dir, true);
+    let a = add(rt, tree, b"/t/a", Node::Dir, true);
+    let b = add(rt, tree, b"/t/a/b", Node::Dir, true);
+    let c = add(rt, tree, b"/t/c", Node::Dir, true);
+    let x = add(rt, tree, b"/t/a/b/x", FILE, true);
+    for key in [p, a, b, c] {
+        add_remover(rt, tree, roles, by_themselves, key);
+    }
+    add_role(rt, tree, roles, Role::Call(hold(rt, tree, x)));
+    add_role(rt, tree, roles, Role::Create(a));
+    add_role(rt, tree, roles, Role::HideOn(x));
+    add_role(rt, tree, roles, Role::HideOn(x));
+}
+
+/// A call that broke its protection.
+fn broken_call<N: Naming, R: Abort + Wait>(rt: &R, tree: &SharedTree<N>, key: Key) -> Call {
+    let Inside { mut call, name: _ } = call_of(rt, tree, key);
+    call.break_protection();
+    call
+}
+
+/// The hold of a file that is marked.
+fn doomed<N: Naming, R: Abort + Wait>(rt: &R, tree: &SharedTree<N>, key: Key) -> Hold
     ensures { result.table ≡ N.table }
 {
-    let top = hold(rt, tree, pair.a);
-    let top = not_removed(rt, tree, top, Refusal::TooManyHolds);
-    same_key(rt, top.key(), pair.a);
-    enter(rt, top).leave()
+    let top = hold(rt, tree, key);
+    let mut holds = match tree.edit(rt).doom(top) {
+        Ok(holds) => holds,
+        Err((hold, _)) => {
+            hold.release();
+            panic!(rt; "not doomed")
+        }
+    };
+    match holds.pop() {
+        Some(top) => {
+            assert!(rt; holds.is_empty());
+            holds.destroy_empty();
+            top
+        }
+        None => panic!(rt; "a hold is missing"),
+    }
 }
 
-/// What is refused is given back: all three are live, and the file without holds may have two again.
-fn refused_below<N: Naming, R: Abort + Wait>(rt: &R, tree: &SharedTree<N>, pair: Pair) -> Hold
-    ensures { result.table ≡ N.table }
-{
-    let first = hold(rt, tree, pair.x);
-    let second = hold(rt, tree, pair.x);
-    no_hold(rt, tree, pair.x, Refusal::TooManyHolds);
-    let top = still_enters(rt, tree, pair);
-    live(rt, tree, pair.a);
-    live(rt, tree, pair.w);
-    live(rt, tree, pair.x);
-    two_holds_at_most(rt, tree, pair.w);
-    first.release();
-    second.release();
-    top
+/// Those who are there for one file.
+fn add_two<N: Naming, R: Abort + Wait + Clock>(
+    rt: &R,
+    tree: &SharedTree<N>,
+    roles: &mut Vec<Option<Role<N>>>,
+    course: Course,
+) {
+    let key = add(rt, tree, b"/t", FILE, true);
+    let (one, other) = match course {
+        Course::TwoSelves => (
+            Role::RemoveItself(call_of(rt, tree, key)),
+            Role::RemoveItself(call_of(rt, tree, key)),
+        ),
+        Course::UnderACall => (
+            Role::EndCall(key, call_of(rt, tree, key)),
+            Role::Remove(hold_of(rt, tree, key)),
+        ),
+        Course::TwoHide => (
+            Role::HideOnce(hold_of(rt, tree, key)),
+            Role::HideOnce(hold_of(rt, tree, key)),
+        ),
+        Course::Restored => (
+            Role::RestoreAndEnd(key, broken_call(rt, tree, key)),
+            Role::Finish(held_by(tree, doomed(rt, tree, key))),
+        ),
+        Course::UnderTheLock => (
+            Role::RemoveItself(call_of(rt, tree, key)),
+            Role::LookUnderLock(hold(rt, tree, key), hold(rt, tree, key)),
+        ),
+        _ => (Role::Read, Role::Read),
+    };
+    add_role(rt, tree, roles, one);
+    add_role(rt, tree, roles, other);
 }
 
-fn full_below<N: Naming, R: Abort + Wait>(rt: &R, new: NewTree)
+/// One who looks up, or opens.
+fn add_looker<N: Naming, R: Abort + Wait + Clock>(
+    rt: &R,
+    alloc: Global,
+    tree: &SharedTree<N>,
+    roles: &mut Vec<Option<Role<N>>>,
+    opens: bool,
+) {
+    let role = Role::Look(looker_of(rt, tree), maker(rt, alloc, tree), opens);
+    add_role(rt, tree, roles, role);
+}
+
+fn gathered<N: Naming, R: Abort + Wait + Clock>(
+    rt: &R,
+    alloc: Global,
+    tree: &SharedTree<N>,
+    course: Course,
+) -> Vec<Option<Role<N>>> {
+    let mut roles = Vec::new(alloc);
+    match course {
+        Course::Crowd(by_themselves) => add_crowd(rt, tree, &mut roles, by_themselves),
+        Course::Lookers => {
+            let _dir = add(rt, tree, b"/t", Node::Dir, true);
+            for opens in [false, false, true] {
+                add_looker(rt, alloc, tree, &mut roles, opens);
+            }
+            add_role(rt, tree, &mut roles, Role::Change);
+        }
+        Course::EachChange => {
+            let role = Role::SeeEachChange(looker_of(rt, tree), maker(rt, alloc, tree));
+            add_role(rt, tree, &mut roles, role);
+        }
+        _ => add_two(rt, tree, &mut roles, course),
+    }
+    roles
+}
+
+fn counts() -> Counts {
+    Counts {
+        begun: AtomicU64::new(0),
+        answered: AtomicU64::new(0),
+        first: AtomicU64::new(0),
+        good: AtomicU64::new(0),
+    }
+}
+
+/// All act at once.
+fn all_act<N: Naming + Send + Sync, R: Abort + Threads + Wait + Clock + Sync>(
+    rt: &R,
+    tree: &SharedTree<N>,
+    roles: &mut Vec<Option<Role<N>>>,
+    counts: &Counts,
+) {
+    for_each_mut(
+        rt,
+        roles.as_mut_slice(),
+        8,
+        &|_, place| act_in(rt, tree, place, counts),
+    );
+}
+
+/// Each thread found all as it had to be.
+fn all_good<N: Naming, R: Abort + Wait + Clock>(
+    rt: &R,
+    tree: &SharedTree<N>,
+    mut roles: Vec<Option<Role<N>>>,
+    counts: &Counts,
+) {
+    let all = roles.len() as u64;
+    assert!(rt; counts.good.load(Ordering::SeqCst) == all);
+    while let Some(place) = roles.pop() {
+        if let Some(role) = place {
+            act(rt, tree, role, counts);
+            panic!(rt; "a thread did not act");
+        }
+    }
+    roles.destroy_empty();
+}
+
+/// What is left is removed, and leaves a bare tree with free slots, where each command is stored.
+fn leaves_nothing<N: Naming, R: Abort + Wait>(rt: &R, tree: &SharedTree<N>) {
+    if let Ok(receipts) = tree.edit(rt).remove_path(rt, b"/t") {
+        release_all(receipts);
+    }
+    assert!(rt; is_bare(rt, tree));
+    every_slot_is_free(rt, tree);
+    assert!(rt; commands(rt, tree) >= 31, "an edit alone changes nothing");
+}
+
+/// One course. It answers how many were the first.
+fn run<N: Naming + Send + Sync, R: Abort + Threads + Wait + Clock + Sync>(
+    rt: &R,
+    alloc: Global,
+    new: NewTree,
+    course: Course,
+) -> u64
     requires { new.master.table ≡ N.table }
 {
     let tree = new.named::<N>();
-    let pair = pair_made(rt, &tree);
-    let top = refused_below(rt, &tree, pair);
-    let last = hold(rt, &tree, pair.x);
-    told(rt, removed(rt, &tree, top), &[pair.w, pair.x, pair.a]);
-    turned_away(rt, last).release();
-    bare(rt, &tree);
+    let mut roles = gathered(rt, alloc, &tree, course);
+    let counts = counts();
+    all_act(rt, &tree, &mut roles, &counts);
+    all_good(rt, &tree, roles, &counts);
+    leaves_nothing(rt, &tree);
+    counts.first.load(Ordering::SeqCst)
 }
 
-// ---- the root, and a node that is gone
+/// Courses under the lock, how often each is run, and how many are the first then.
+const COURSES: [(Course, u32, u64); 8] = [
+    (Course::Crowd(false), 20, 0),
+    (Course::Crowd(true), 20, 4),
+    (Course::TwoSelves, 200, 1),
+    (Course::UnderACall, 20, 0),
+    (Course::TwoHide, 20, 1),
+    (Course::Restored, 5, 0),
+    (Course::UnderTheLock, 20, 1),
+    (Course::Readers, 20, 0),
+];
 
-fn root_alone<N: Naming, R: Abort + Wait>(rt: &R, new: NewTree)
-    requires { new.master.table ≡ N.table }
-{
-    let tree = new.named::<N>();
-    let root = tree.edit(rt).state().root();
-    is_at(rt, root, 0, 6);
-    stored(rt, &tree, 0);
-    bare(rt, &tree);
-    live(rt, &tree, root);
-    is_at(rt, add(rt, &tree, b"/a", FILE, true), 1, 6);
-}
+/// Those who look up, or open, without the lock.
+const WITHOUT_THE_LOCK: [Course; 2] = [Course::EachChange, Course::Lookers];
 
-fn removed_again<N: Naming, R: Abort + Wait>(rt: &R, new: NewTree)
-    requires { new.master.table ≡ N.table }
-{
-    let tree = new.named::<N>();
-    let a = add(rt, &tree, b"/a", Node::Dir, true);
-    let x = add(rt, &tree, b"/a/x", FILE, true);
-    let kept = hold(rt, &tree, a);
-    told(rt, removed(rt, &tree, hold(rt, &tree, a)), &[x, a]);
-    let again = add(rt, &tree, b"/a", FILE, true); // slot 1 is held
-    is_at(rt, again, 2, 2);
-    told(rt, removed(rt, &tree, kept), &[a]);
-    stored(rt, &tree, 6);
-    live(rt, &tree, again);
-    is_at(rt, add(rt, &tree, b"/b", FILE, true), 1, 2);
-}
-
-fn removal_examples<R: Abort + Wait>(rt: &R, alloc: Global) {
-    full_below::<Brand, _>(rt, made(rt, alloc, 8, 2, 0));
-    removed_again::<Brand, _>(rt, made(rt, alloc, 4, 4, 0));
-    root_alone::<Brand, _>(rt, made(rt, alloc, 2, 4, 5));
+#[test]
+fn threads_on_one_tree(rt: HostRuntime) {
+    for (course, times, first) in COURSES {
+        for _ in 0..times {
+            let new = made(&rt, rt.alloc(), 16);
+            let found = run::<Brand, _>(&rt, rt.alloc(), new, course);
+            assert!(&rt; found == first);
+        }
+    }
 }
 
 #[test]
-fn worked_examples_in_one_thread(rt: HostRuntime) {
-    removal_examples(&rt, rt.alloc());
-    self_removal_examples(&rt, rt.alloc());
-    in_turn_examples(&rt, rt.alloc());
+fn look_ups_and_holds_of_paths(rt: HostRuntime) {
+    for course in WITHOUT_THE_LOCK {
+        let new = made(&rt, rt.alloc(), 16);
+        let _none = run::<Brand, _>(&rt, rt.alloc(), new, course);
+    }
+}
+
+fn run_alone<N: Naming, R: Abort + Wait>(rt: &R, new: NewTree)
+    requires { new.master.table ≡ N.table }
+{
+    let tree = new.named::<N>();
+    refused_below(rt, &tree);
+    leaves_nothing(rt, &tree);
+}
+
+#[test]
+fn removals_that_are_refused(rt: HostRuntime) {
+    run_alone::<Brand, _>(&rt, made(&rt, rt.alloc(), 2));
 }

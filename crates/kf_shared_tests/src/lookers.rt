@@ -1,0 +1,164 @@
+//! Look-ups and holds of paths without the tree's lock: after each command, and beside an owner in threads.
+
+use crate::fixtures::{FILE, add, enter, hold, removed};
+use kf_core::{Key, Node};
+use kf_live::Looker;
+use kf_shared::{Naming, SharedTree, hold_path};
+use kf_words::Holds;
+use std::alloc::Global;
+use std::process::Abort;
+use std::sync::Wait;
+
+pub(crate) fn looker_of<N: Naming, R: Abort + Wait>(rt: &R, tree: &SharedTree<N>) -> Looker {
+    match tree.edit(rt).looker() {
+        Ok(looker) => looker,
+        Err(_) => panic!(rt; "no looker"),
+    }
+}
+
+/// A maker of the tree's holds, by one of its root.
+pub(crate) fn maker<N: Naming, R: Abort + Wait>(
+    rt: &R,
+    alloc: Global,
+    tree: &SharedTree<N>,
+) -> Holds {
+    let root = tree.read(rt).state().root();
+    match Holds::new(alloc, hold(rt, tree, root)) {
+        Ok(holds) => holds,
+        Err((back, _)) => {
+            back.release();
+            panic!(rt; "no memory")
+        }
+    }
+}
+
+// ---- after each command
+
+/// The path gives a hold of the live file, each time.
+fn holds<R: Abort>(rt: &R, looker: &mut Looker, by: &mut Holds, path: &[u8], key: Key) {
+    for _ in 0..3 {
+        match hold_path(looker, by, path) {
+            Some(held) => {
+                assert!(rt; held.key() == key);
+                enter(rt, held).leave().release();
+            }
+            None => panic!(rt; "no hold"),
+        }
+    }
+}
+
+/// Who asks is sent to the lock, each time.
+fn is_sent<R: Abort>(rt: &R, looker: &mut Looker, by: &mut Holds, path: &[u8]) {
+    for _ in 0..3 {
+        if let Some(held) = hold_path(looker, by, path) {
+            by.release(held);
+            panic!(rt; "a hold of what is not there")
+        }
+    }
+}
+
+/// Hides the file, looks, and shows it again.
+fn not_held_while_hidden<N: Naming, R: Abort + Wait>(
+    rt: &R,
+    tree: &SharedTree<N>,
+    looker: &mut Looker,
+    by: &mut Holds,
+    file: Key,
+) {
+    match tree.hide(rt, hold(rt, tree, file)) {
+        Ok(token) => {
+            is_sent(rt, looker, by, b"/t/g");
+            tree.show(rt, token).release();
+        }
+        Err((back, _)) => {
+            back.release();
+            panic!(rt; "not hidden")
+        }
+    }
+}
+
+/// The directory is activated, and the file in it renamed.
+fn activated<N: Naming, R: Abort + Wait>(rt: &R, tree: &SharedTree<N>, dir: Key) {
+    assert!(rt; tree.edit(rt).activate(dir).is_ok());
+}
+
+fn renamed<N: Naming, R: Abort + Wait>(rt: &R, tree: &SharedTree<N>, file: Key, dir: Key) {
+    assert!(rt; tree.edit(rt).rename(file, dir, b"g").is_ok());
+}
+
+/// A file is born, activated, moved, hidden, shown and removed; then the next one of its name is there.
+pub(crate) fn held_as_it_changes<N: Naming, R: Abort + Wait>(
+    rt: &R,
+    tree: &SharedTree<N>,
+    looker: &mut Looker,
+    by: &mut Holds,
+) {
+    let dir = add(rt, tree, b"/t", Node::Dir, true);
+    let file = add(rt, tree, b"/t/f", FILE, false);
+    is_sent(rt, looker, by, b"/t/f");
+    activated(rt, tree, dir);
+    holds(rt, looker, by, b"/t/f", file);
+    renamed(rt, tree, file, dir);
+    is_sent(rt, looker, by, b"/t/f");
+    not_held_while_hidden(rt, tree, looker, by, file);
+    holds(rt, looker, by, b"/t/g", file);
+    removed(rt, tree, b"/t/g", 1);
+    is_sent(rt, looker, by, b"/t/g");
+    let next = add(rt, tree, b"/t/g", FILE, true);
+    holds(rt, looker, by, b"/t/g", next);
+    removed(rt, tree, b"/t", 2);
+}
+
+// ---- beside an owner who changes the tree
+
+/// Files that come one after the other under one name: their tags go up to the last.
+const LAST: u64 = 3_000;
+
+fn file_of(tag: u64) -> Node {
+    Node::File { mode: 0o644, tag }
+}
+
+/// Makes a file of each tag and removes it, but for the last.
+pub(crate) fn change<N: Naming, R: Abort + Wait>(rt: &R, tree: &SharedTree<N>) {
+    for tag in 1..LAST {
+        let _key = add(rt, tree, b"/t/f", file_of(tag), true);
+        removed(rt, tree, b"/t/f", 1);
+        let answer = tree.edit(rt).compact();
+        assert!(rt; answer.is_ok());
+    }
+    let _key = add(rt, tree, b"/t/f", file_of(LAST), true);
+}
+
+/// The tag of a file, or none that there is.
+fn tag_of(node: Node) -> u64 {
+    match node {
+        Node::File { mode: 0o644, tag } => tag,
+        _ => 0,
+    }
+}
+
+/// The tag of the file that is found there, or held, if one is.
+fn tag_there(looker: &mut Looker, by: &mut Holds, opens: bool) -> Option<u64> {
+    if !opens {
+        let sight = looker.look(b"/t/f")?;
+        return Some(tag_of(sight.found.node));
+    }
+    let held = hold_path(looker, by, b"/t/f")?;
+    let node = held.node();
+    by.release(held);
+    Some(tag_of(node))
+}
+
+/// Looks, or opens, until it has the file of the last tag, and says whether none went back behind another.
+pub(crate) fn keep_looking(looker: &mut Looker, by: &mut Holds, opens: bool) -> bool {
+    let mut before = 1;
+    'looks: for _ in 0..4_000_000_000u64 {
+        if let Some(tag) = tag_there(looker, by, opens) {
+            if tag < before || tag >= LAST {
+                return tag == LAST;
+            }
+            before = tag;
+        }
+    }
+    false
+}

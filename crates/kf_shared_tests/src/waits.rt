@@ -1,0 +1,174 @@
+//! Waits of threads that end: for what other threads count, and for calls.
+ghost use Rattle.std.specs.Prelude.{◌≡◌};
+
+use crate::fixtures::is_linked;
+use crate::roles::{Counts, Inside};
+use kf_core::{Key, Phase};
+use kf_shared::{Naming, SharedTree};
+use kf_words::{Call, Hold};
+use std::sync::Wait;
+use std::sync::atomic::{AtomicU64, Ordering};
+use std::thread;
+use std::time::{Clock, Duration};
+
+pub(crate) const LOOKS: u64 = 1_000_000_000;
+
+/// Waits until so many threads have counted themselves, and answers whether they did.
+pub(crate) fn wait_for(count: u64, counter: &AtomicU64) -> bool {
+    for _ in 0..LOOKS {
+        if counter.load(Ordering::SeqCst) >= count {
+            return true;
+        }
+    }
+    false
+}
+
+/// Whether nobody has counted itself in so many looks.
+fn stays_zero(looks: u64, counter: &AtomicU64) -> bool {
+    for _ in 0..looks {
+        if counter.load(Ordering::SeqCst) != 0 {
+            return false;
+        }
+    }
+    true
+}
+
+/// Waits until the node is doomed or gone, and answers whether it is doomed.
+fn wait_for_mark<N: Naming, R: Wait>(rt: &R, tree: &SharedTree<N>, key: Key) -> bool {
+    for _ in 0..100_000_000u64 {
+        match tree.read(rt).state().stat(key) {
+            Ok(stat) if stat.doomed => return true,
+            Ok(_) => {}
+            Err(_) => return false,
+        }
+    }
+    false
+}
+
+/// Ends the call that a removal waits for. True where the removal did not answer before, and did after.
+pub(crate) fn end_call<N: Naming, R: Wait>(
+    rt: &R,
+    tree: &SharedTree<N>,
+    key: Key,
+    inside: Inside<N>,
+    counts: &Counts,
+) -> bool {
+    let marked = wait_for_mark(rt, tree, key);
+    let waits = stays_zero(10_000, &counts.answered) && is_linked(rt, tree, key);
+    let Inside { call, name: _ } = inside;
+    call.leave().release();
+    marked && waits && wait_for(1, &counts.answered)
+}
+
+// ---- a finish, beside a call that has its reference again
+
+fn leave(mut call: Call) {
+    match call.phase() {
+        Phase::Broken => {
+            call.restore();
+            call.leave().release();
+        }
+        Phase::Running => call.leave().release(),
+        Phase::Restored => call.leave().release(),
+        _ => unreachable!(),
+    }
+}
+
+/// Lets the finish begin while the lock is held, and restores the call before the lock is let go: the finish
+/// has seen the node drained by then, and its unlink finds the node in use.
+fn restored_under_the_lock<N: Naming, R: Wait + Clock>(
+    rt: &R,
+    tree: &SharedTree<N>,
+    mut call: Call,
+    counts: &Counts,
+) -> Call {
+    let _editor = tree.edit(rt);
+    counts.begun.store(1, Ordering::SeqCst);
+    thread::sleep(rt, Duration::from_millis(20));
+    if call.phase() == Phase::Broken {
+        call.restore();
+    }
+    call
+}
+
+/// Restores the call under the lock, looks whether the finish answers, and ends the call.
+pub(crate) fn restore_and_end<N: Naming, R: Wait + Clock>(
+    rt: &R,
+    tree: &SharedTree<N>,
+    key: Key,
+    call: Call,
+    counts: &Counts,
+) -> bool {
+    let call = restored_under_the_lock(rt, tree, call, counts);
+    let waits = stays_zero(10_000, &counts.answered);
+    thread::sleep(rt, Duration::from_millis(20));
+    let still = stays_zero(1, &counts.answered);
+    let linked = is_linked(rt, tree, key); // the finish sleeps without the lock
+    leave(call);
+    waits && still && linked && wait_for(1, &counts.answered)
+}
+
+/// Takes the node out, once the other has begun.
+pub(crate) fn finish<N: Naming, R: Wait>(
+    rt: &R,
+    tree: &SharedTree<N>,
+    hold: Hold,
+    counts: &Counts,
+) -> bool
+    requires { hold.table ≡ N.table }
+{
+    let begun = wait_for(1, &counts.begun);
+    tree.finish(rt, hold).release();
+    counts.answered.fetch_add(1, Ordering::SeqCst);
+    begun
+}
+
+// ---- two who read at once, and one who looks under the lock
+
+/// Waits, with the tree in its hands to read, until two have it.
+pub(crate) fn meet_reading<N: Naming, R: Wait>(
+    rt: &R,
+    tree: &SharedTree<N>,
+    counts: &Counts,
+) -> bool {
+    let _reader = tree.read(rt);
+    counts.begun.fetch_add(1, Ordering::SeqCst);
+    wait_for(2, &counts.begun)
+}
+
+/// Whether nobody uses the node of a hold, which it gives back.
+fn is_unused(hold: Hold) -> bool {
+    match hold.look() {
+        Ok(drained) => {
+            drained.release();
+            true
+        }
+        Err(back) => {
+            back.release();
+            false
+        }
+    }
+}
+
+/// Has the lock as often as it can until the node is gone, and looks then whether the call of its
+/// self-removal has its reference again, twice under one lock. True where both looks find the same.
+pub(crate) fn same_under_the_lock<N: Naming, R: Wait + Clock>(
+    rt: &R,
+    tree: &SharedTree<N>,
+    one: Hold,
+    other: Hold,
+) -> bool {
+    let key = one.key();
+    for _ in 0..LOOKS {
+        let editor = tree.edit(rt);
+        if editor.state().stat(key).is_err() {
+            let first = is_unused(one);
+            thread::sleep(rt, Duration::from_millis(1));
+            let second = is_unused(other);
+            return first == second;
+        }
+    }
+    one.release();
+    other.release();
+    false
+}
