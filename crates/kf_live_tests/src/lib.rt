@@ -1,12 +1,8 @@
-//! The tests of `kf_looks` and `kf_live`, over their public calls: proved over both, and not with them. They
-//! show what no clause says: that a look-up answers, after each command and beside who writes.
+//! The tests of `kf_looks`, over its public calls: proved over it, and not with it. They show what no clause
+//! says: that a look-up answers. (That it does beside a tree, as commands come, `kf_shared_tests` shows.)
 #![tactic(auto)]
 
 #[cfg(test)]
-mod test_fixtures;
+mod fixtures;
 #[cfg(test)]
 mod tests;
-#[cfg(test)]
-mod thread_tests;
-#[cfg(test)]
-mod words;

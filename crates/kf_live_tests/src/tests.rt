@@ -1,116 +1,72 @@
-//! That look-ups answer after each command, in one thread.
-use crate::test_fixtures::{
-    FILE, TOP, activate, create, doom, found, hide, is_sent, looker_of, made,
-};
+//! That look-ups answer: names of each length, in words that are full, and by deep paths.
+use crate::fixtures::{FILE, chain, found, key, made, named};
 use kf_core::{Key, Node};
-use kf_live::{LiveTree, Looker};
 use std::alloc::Global;
 use std::process::Abort;
 
-const DIR: Key = Key {
-    slot: 1,
+const TARGET: Key = Key {
+    slot: 9,
     generation: 1,
 };
 
-const ENTRY: Key = Key {
-    slot: 2,
-    generation: 1,
-};
+/// Paths of one name, whose words differ in number, and what stands there.
+const NAMES: [(&[u8], Node); 5] = [
+    (b"/a", FILE),
+    (b"/abcdefgh", Node::Dir),
+    (b"/abcdefghi", FILE),
+    (b"/abcdefghijklmnop", Node::Link { target: TARGET }),
+    (b"/abcdefghijklmnopqrstuvwx", FILE),
+];
 
-/// A directory with a file, both live, and a looker.
-fn planted<R: Abort>(rt: &R, alloc: Global, words: u32) -> (LiveTree, Looker) {
-    let mut tree = made(rt, alloc, 4, words);
-    create(rt, &mut tree, DIR, TOP, b"dir", Node::Dir, true);
-    create(rt, &mut tree, ENTRY, DIR, b"file", FILE, true);
-    let looker = looker_of(rt, &mut tree);
-    (tree, looker)
+/// A name of this path's length is found.
+fn one_name_is_found<R: Abort>(rt: &R, alloc: Global, path: &[u8], node: Node) {
+    assert!(rt; 1 <= path.len());
+    let name = named(rt, &path[1..]);
+    let (looks, writer) = made(rt, alloc, 2);
+    let mut writer = chain(rt, &looks, writer, 1, &name, node);
+    let mut looker = looks.looker_after(&mut writer);
+    let sight = found(rt, &looks, &mut looker, path);
+    assert!(rt; sight.found.key == key(1) && sight.found.node == node);
 }
 
 #[test]
-fn live_nodes_are_found(rt: HostRuntime) {
-    let (mut tree, mut looker) = planted(&rt, rt.alloc(), 4);
-    assert_eq!(&rt; looker.slots(), 4);
-    assert_eq!(&rt; found(&rt, &mut looker, b"/").key, TOP);
-    assert_eq!(&rt; found(&rt, &mut looker, b"/dir").key, DIR);
-    assert_eq!(&rt; found(&rt, &mut looker, b"/dir/file").key, ENTRY);
-    assert_eq!(&rt; found(&rt, &mut looker, b"/dir/file").node, FILE);
-    let third = Key {
-        slot: 3,
-        generation: 1,
+fn names_of_1_to_24_bytes_are_found(rt: HostRuntime) {
+    for (path, node) in NAMES {
+        one_name_is_found(&rt, rt.alloc(), path, node);
+    }
+}
+
+/// How many of so many names are found, each in a directory of its own, in words for just so many.
+fn found_in_full<R: Abort>(rt: &R, alloc: Global, count: u32) -> u32 {
+    assert!(rt; count < 1048576);
+    let (looks, writer) = made(rt, alloc, count + 1);
+    let mut writer = chain(rt, &looks, writer, count, &named(rt, b"name"), FILE);
+    let mut looker = looks.looker_after(&mut writer);
+    let mut answers = 0u32;
+    for slot in 0..count {
+        if let Some(sight) = looks.look(&mut looker, key(slot), b"/name") {
+            if sight.found.key == key(slot.wrapping_add(1)) {
+                answers = answers.saturating_add(1);
+            }
+        }
+    }
+    answers
+}
+
+#[test]
+fn full_words_answer(rt: HostRuntime) {
+    assert!(&rt; found_in_full(&rt, rt.alloc(), 63) == 63);
+    assert!(&rt; found_in_full(&rt, rt.alloc(), 20_000) >= 19_990);
+}
+
+#[test]
+fn deep_paths_are_followed(rt: HostRuntime) {
+    let (looks, writer) = made(&rt, rt.alloc(), 301);
+    let mut writer = chain(&rt, &looks, writer, 300, &named(&rt, b"x"), Node::Dir);
+    let mut looker = looks.looker_after(&mut writer);
+    let Ok(path) = b"/x".repeat(rt.alloc(), 300) else {
+        panic!(&rt; "no memory")
     };
-    create(&rt, &mut tree, third, DIR, b"later", FILE, false);
-    assert!(&rt; is_sent(&mut looker, b"/dir/later"));
-    activate(&rt, &mut tree, DIR);
-    assert_eq!(&rt; found(&rt, &mut looker, b"/dir/later").key, third);
-    assert_eq!(&rt; found(&rt, &mut looker, b"/dir/file").key, ENTRY);
-}
-
-#[test]
-fn removed_nodes_are_found_no_more(rt: HostRuntime) {
-    let (mut tree, mut looker) = planted(&rt, rt.alloc(), 4);
-    doom(&rt, &mut tree, DIR);
-    assert!(&rt; is_sent(&mut looker, b"/dir"));
-    assert!(&rt; is_sent(&mut looker, b"/dir/file"));
-    let unlinked = tree.unlink(ENTRY);
-    assert!(&rt; unlinked.is_ok());
-    let unlinked = tree.unlink(DIR);
-    assert!(&rt; unlinked.is_ok());
-    let next = Key {
-        slot: 1,
-        generation: 2,
-    };
-    create(&rt, &mut tree, next, TOP, b"dir", Node::Dir, true);
-    assert_eq!(&rt; found(&rt, &mut looker, b"/dir").key, next);
-    assert!(&rt; is_sent(&mut looker, b"/dir/file"));
-}
-
-#[test]
-fn hidden_files_are_found_again_once_they_are_shown(rt: HostRuntime) {
-    let (mut tree, mut looker) = planted(&rt, rt.alloc(), 4);
-    hide(&rt, &mut tree, ENTRY);
-    assert!(&rt; is_sent(&mut looker, b"/dir/file"));
-    let shown = tree.show(ENTRY);
-    assert!(&rt; shown);
-    assert_eq!(&rt; found(&rt, &mut looker, b"/dir/file").key, ENTRY);
-}
-
-#[test]
-fn moved_nodes_are_found_where_they_went(rt: HostRuntime) {
-    let (mut tree, mut looker) = planted(&rt, rt.alloc(), 4);
-    let moved = tree.rename(ENTRY, TOP, b"other");
-    assert!(&rt; moved.is_ok());
-    assert!(&rt; is_sent(&mut looker, b"/dir/file"));
-    assert_eq!(&rt; found(&rt, &mut looker, b"/other").key, ENTRY);
-    let moved = tree.rename(DIR, TOP, b"of a name of 25 bytes and more");
-    assert!(&rt; moved.is_ok());
-    assert!(&rt; is_sent(&mut looker, b"/dir"));
-    let moved = tree.rename(DIR, TOP, b"dir");
-    assert!(&rt; moved.is_ok());
-    assert_eq!(&rt; found(&rt, &mut looker, b"/dir").key, DIR);
-}
-
-#[test]
-fn one_load_tells_what_still_stands(rt: HostRuntime) {
-    let (mut tree, mut looker) = planted(&rt, rt.alloc(), 4);
-    let Some(sight) = looker.look(b"/dir/file") else {
-        panic!(&rt; "no answer")
-    };
-    assert!(&rt; looker.again(&sight, b"/dir/file"));
-    doom(&rt, &mut tree, ENTRY);
-    assert!(&rt; !looker.again(&sight, b"/dir/file"));
-}
-
-#[test]
-fn without_words_each_look_up_is_sent_to_the_tree(rt: HostRuntime) {
-    let (mut tree, mut looker) = planted(&rt, rt.alloc(), 0);
-    assert_eq!(&rt; looker.slots(), 0);
-    assert!(&rt; is_sent(&mut looker, b"/dir"));
-    let moved = tree.rename(ENTRY, TOP, b"other");
-    assert!(&rt; moved.is_ok());
-    assert!(&rt; is_sent(&mut looker, b"/other"));
-    hide(&rt, &mut tree, ENTRY);
-    let shown = tree.show(ENTRY);
-    assert!(&rt; shown);
-    doom(&rt, &mut tree, DIR);
-    assert!(&rt; is_sent(&mut looker, b"/"));
+    let sight = found(&rt, &looks, &mut looker, path.as_slice());
+    assert!(&rt; sight.found.key == key(300));
 }

@@ -1,13 +1,22 @@
-//! What the tests of words build on: each helper stops the test where its call does not answer as asked.
+//! What the tests of look-ups build on: each helper stops the test where its call does not answer as asked.
 ghost use Rattle.std.specs.Prelude.{◌≡◌, ◌<◌, []};
 ghost use Rattle.kf_looks.specs.Writing.{links_of};
 ghost use Rattle.kf_live_tests.specs.Chains.{NoneFrom};
 
-use crate::test_fixtures::TOP;
 use kf_core::{Key, Node};
 use kf_looks::{Found, Looker, Looks, ShortName, Sight, Writer, links_tell};
 use std::alloc::Global;
 use std::process::Abort;
+
+pub(crate) const FILE: Node = Node::File {
+    mode: 0o444,
+    tag: 7,
+};
+
+const TOP: Key = Key {
+    slot: 0,
+    generation: 1,
+};
 
 pub(crate) fn key(slot: u32) -> Key
     ensures { result.slot ≡ slot }
@@ -75,12 +84,4 @@ pub(crate) fn found<R: Abort>(rt: &R, looks: &Looks, looker: &mut Looker, path: 
         Some(sight) => sight,
         None => panic!(rt; "no answer"),
     }
-}
-
-/// Whether a look-up is sent to the lock.
-pub(crate) fn is_sent(looks: &Looks, looker: &mut Looker, path: &[u8]) -> bool
-    requires table { looker.old.seat.table_id ≡ looks.now.table.shared.table_id }
-    ensures table { looker.new.seat.table_id ≡ looker.old.seat.table_id }
-{
-    looks.look(looker, TOP, path).is_none()
 }

@@ -1,5 +1,0 @@
-//! The tests of `kf_looks`: look-ups on words that no tree keeps.
-
-mod fixtures;
-mod tests;
-mod thread_tests;
