@@ -4,9 +4,6 @@
 
 mod compaction_tests;
 mod hiding_tests;
-mod large_tests;
-mod naming_tests;
+mod path_tests;
 mod planting;
-mod removal_tests;
 mod steps;
-mod tour_tests;

@@ -33,7 +33,7 @@ pub(super) fn new_state(alloc: Global, slots: u32) -> Result<State, Refusal> {
 }
 
 /// The first key of this slot, where the slot is vacant.
-pub(super) fn vacant(state: &State, slot: u32) -> Option<Key>
+fn vacant(state: &State, slot: u32) -> Option<Key>
     ensures vacant { IfSome result (λ key. slice_get state.now.tree key.slot ≡ Some None) }
 {
     if state.is_vacant(slot) {

@@ -2,7 +2,6 @@
 //! its first key.
 
 use super::planting::{TEXT, add, key, new_state, remove};
-use super::tour_tests::is_at;
 use kf_core::{Command, Key, Node, Refusal};
 use kf_tree::State;
 use std::alloc::Global;
@@ -23,8 +22,6 @@ pub(super) enum Step {
     /// Whether it was linked.
     Unlink(u32, Result<bool, Refusal>),
     Remove(&'static [u8], Option<Refusal>),
-    /// To a name in the root's directory.
-    Rename(u32, &'static [u8]),
     Hide(u32, Option<Refusal>),
     /// Whether it was hidden.
     Show(u32, bool),
@@ -35,15 +32,10 @@ pub(super) enum Step {
 /// What is seen of a tree, which changes nothing.
 #[derive(Clone, Copy)]
 pub(super) enum Look {
-    /// The slots of a subtree, each below before what it stands in.
-    Order(u32, &'static [u32]),
-    /// The same by a tour, from one to the next.
-    Tour(u32, &'static [u32]),
     /// The slot that is found live.
     Live(&'static [u8], u32),
     /// Nothing live is found.
     Absent(&'static [u8]),
-    Busy(u32),
     /// Activated, doomed and hidden, as `stat` tells them.
     Marks(u32, (bool, bool, bool)),
     /// The names that are listed.
@@ -54,13 +46,6 @@ pub(super) enum Look {
     About(&'static [u32]),
     /// How many are stored, and how many a compaction leaves at most.
     Counts(usize, usize),
-    /// The name, and the slot of the directory.
-    Named(u32, u32, &'static [u8]),
-    /// The root has no name and no directory.
-    Root,
-    Path(u32, &'static [u8]),
-    /// Nothing is told of the key.
-    Unknown(Key),
 }
 
 /// The place of the first step whose answer is not as it must be, in a new tree of so many slots.
@@ -90,7 +75,6 @@ fn is_right(state: &mut State, step: Step) -> bool {
         Step::Doom(slot, slots) => dooms(state, slot, slots),
         Step::Unlink(slot, told) => state.unlink(key(slot)) == told,
         Step::Remove(path, why) => remove(state, path).err() == why,
-        Step::Rename(slot, name) => state.rename(key(slot), key(0), name).is_ok(),
         Step::Hide(slot, why) => hide(state, slot).err() == why,
         Step::Show(slot, told) => state.show(key(slot)) == told,
         Step::Compact => state.compact().is_ok(),
@@ -100,20 +84,13 @@ fn is_right(state: &mut State, step: Step) -> bool {
 
 fn is_seen(state: &State, look: Look) -> bool {
     match look {
-        Look::Order(slot, slots) => has_order(state, slot, slots),
-        Look::Tour(slot, slots) => is_at(state, key(slot), slots),
         Look::Live(path, slot) => state.lookup(path) == Ok(key(slot)),
         Look::Absent(path) => state.lookup(path) == Err(Refusal::NoEntry),
-        Look::Busy(slot) => state.may_unlink(key(slot)) == Err(Refusal::Busy),
         Look::Marks(slot, marks) => has_marks(state, slot, marks),
         Look::Shows(slot, names) => shows(state, slot, names),
         Look::Stored(letters) => has_stored(state, letters),
         Look::About(slots) => has_slots(state, slots),
         Look::Counts(stored, left) => state.stored() == stored && state.compacted() == left,
-        Look::Named(slot, dir, name) => is_named(state, key(slot), key(dir), name),
-        Look::Root => is_root(state, key(0)),
-        Look::Path(slot, path) => has_path(state, key(slot), path),
-        Look::Unknown(key) => is_unknown(state, key),
     }
 }
 
@@ -136,13 +113,6 @@ fn are(keys: &[Key], slots: &[u32]) -> bool {
 
 fn dooms(state: &mut State, slot: u32, slots: &[u32]) -> bool {
     match state.doom(key(slot)) {
-        Ok(keys) => are(keys.as_slice(), slots),
-        Err(_) => false,
-    }
-}
-
-fn has_order(state: &State, slot: u32, slots: &[u32]) -> bool {
-    match state.post_order(key(slot)) {
         Ok(keys) => are(keys.as_slice(), slots),
         Err(_) => false,
     }
@@ -209,32 +179,4 @@ fn has_slots(state: &State, slots: &[u32]) -> bool {
         }
     }
     state.commands().len() == slots.len()
-}
-
-fn is_named(state: &State, key: Key, dir: Key, expected: &[u8]) -> bool {
-    match state.name_of(key) {
-        Ok(name) => name == expected && state.parent_of(key) == Ok(Some(dir)),
-        Err(_) => false,
-    }
-}
-
-fn is_root(state: &State, key: Key) -> bool {
-    match state.name_of(key) {
-        Ok(name) => name.is_empty() && state.root() == key && state.parent_of(key) == Ok(None),
-        Err(_) => false,
-    }
-}
-
-/// Whether a key is told by this path, and the path leads to it.
-fn has_path(state: &State, key: Key, expected: &[u8]) -> bool {
-    match state.path_of(key) {
-        Ok(path) => path.as_slice() == expected && state.walk(expected) == Ok(key),
-        Err(_) => false,
-    }
-}
-
-fn is_unknown(state: &State, key: Key) -> bool {
-    state.name_of(key).is_err()
-        && state.parent_of(key) == Err(Refusal::NoEntry)
-        && state.path_of(key).is_err()
 }
