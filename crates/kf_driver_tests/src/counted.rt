@@ -1,57 +1,32 @@
-//! Callbacks of a test, which count themselves.
+//! Callbacks that show how often they were called.
 
-use kf_driver::Callbacks;
+use kf_driver::{Callbacks, fault_of};
 use kf_files::{Fault, Page};
-use kf_text::{Part, emit};
+use kf_text::{Base, Part, emit, read_unsigned_in};
 use std::sync::atomic::{AtomicU64, Ordering};
 
-/// How often an attribute was shown, and how often it was stored.
+/// Shows in base 16 how often it was called before, with 0x100 for each store. The third call that shows is
+/// a fault. It takes numbers to 31, in the base that their front says.
 #[derive(Drop)]
-pub(crate) struct Calls {
-    shows: AtomicU64,
-    stores: AtomicU64,
+pub(crate) struct Counted {
+    pub(crate) calls: AtomicU64,
 }
 
-impl Calls {
-    pub(crate) fn new() -> Calls {
-        Calls {
-            shows: AtomicU64::new(0),
-            stores: AtomicU64::new(0),
-        }
-    }
-
-    pub(crate) fn counts(&self) -> (u64, u64) {
-        (
-            self.shows.load(Ordering::SeqCst),
-            self.stores.load(Ordering::SeqCst),
-        )
-    }
-
-    /// An attribute that counts here, and whose callbacks answer so.
-    pub(crate) fn answering(&self, answer: Result<(), Fault>) -> Counted<'_> {
-        Counted {
-            calls: self,
-            answer,
-        }
-    }
-}
-
-/// An attribute that shows `v` and takes all, or that gives a fault at both.
-#[derive(Clone, Copy)]
-pub(crate) struct Counted<'a> {
-    calls: &'a Calls,
-    answer: Result<(), Fault>,
-}
-
-impl Callbacks for Counted<'_> {
+impl Callbacks for Counted {
     fn show(&self, page: &mut Page) -> Result<(), Fault> {
-        self.calls.shows.fetch_add(1, Ordering::SeqCst);
-        emit(page, &[Part::Text(b"v".as_slice())]);
-        self.answer
+        let number = self.calls.fetch_add(1, Ordering::SeqCst);
+        emit(page, &[Part::PaddedHex { number, width: 4 }]);
+        if number == 2 {
+            return Err(Fault { number: 5 });
+        }
+        Ok(())
     }
 
-    fn store(&self, _bytes: &[u8]) -> Result<(), Fault> {
-        self.calls.stores.fetch_add(1, Ordering::SeqCst);
-        self.answer
+    fn store(&self, bytes: &[u8]) -> Result<(), Fault> {
+        self.calls.fetch_add(0x100, Ordering::SeqCst);
+        match read_unsigned_in(bytes, Base::ByPrefix, 31) {
+            Ok(_) => Ok(()),
+            Err(why) => Err(fault_of(why)),
+        }
     }
 }

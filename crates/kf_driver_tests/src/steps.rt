@@ -1,8 +1,9 @@
-//! Reads and writes of files one after another, each opened by its path, and what each must answer.
+//! Steps with files one after another, each opened by its path, and what each must answer. The calls of a
+//! step are proved once, however many steps there are.
 
-use crate::fixtures::{BOTH, READ};
-use kf_driver::{Driver, DriverTable, open_path};
-use kf_files::{FileError, WaitingFile};
+use kf_core::Refusal;
+use kf_driver::{Driver, DriverTable, Opener, notify, open_path};
+use kf_files::{FileError, WaitingFile, Want};
 use kf_notify::Posts;
 use kf_shared::{Naming, SharedTree};
 use std::process::Abort;
@@ -10,27 +11,52 @@ use std::sync::Wait;
 
 #[derive(Clone, Copy)]
 pub(crate) enum Step {
+    /// Whether the file opens for this without the lock, and why it does not open at all.
+    Opens(Want, bool, Option<Refusal>),
     /// What a read of the text gives.
     Shows(Result<&'static [u8], FileError>),
     /// What a write of this text is answered by.
     Stores(&'static [u8], Result<usize, FileError>),
-    /// What a read of four bytes at the offset gives.
-    Gives(u64, Result<&'static [u8], FileError>),
-    /// What a write of these bytes at the offset is answered by.
-    Puts(u64, &'static [u8], Result<usize, FileError>),
-    /// The file does not open for writing.
-    IsOnlyRead,
+    /// A write of this text is seen by who polls the file, and not by who polls that of the other path.
+    Tells(&'static [u8], &'static [u8]),
+    /// So are three notifies by this name in the root's directory.
+    Notifies(&'static [u8], &'static [u8]),
 }
 
-/// Whether a read was answered so: by bytes at the front of `out`, or by an error.
-fn is_told(
-    out: &[u8],
-    answer: Result<usize, FileError>,
+/// Opens the file without the lock, closes it, and opens and closes it as it may be.
+fn opens<N: Naming, R: Wait>(
+    rt: &R,
+    tree: &SharedTree<N>,
+    opener: &mut Opener<N>,
+    path: &[u8],
+    want: Want,
+) -> (bool, Option<Refusal>) {
+    let found = opener.try_open(path, want);
+    let is_found = found.is_some();
+    if let Some(file) = found {
+        opener.close(file);
+    }
+    match opener.open(rt, tree, path, want) {
+        Ok(file) => {
+            opener.close(file);
+            (is_found, None)
+        }
+        Err(refusal) => (is_found, Some(refusal)),
+    }
+}
+
+/// Whether a read is answered so: by this text, or by an error.
+fn shows<N: Naming, T: DriverTable, R: Wait>(
+    rt: &R,
+    tree: &SharedTree<N>,
+    driver: &Driver<T>,
+    file: &mut WaitingFile<N>,
     told: Result<&'static [u8], FileError>,
 ) -> bool {
-    match (answer, told) {
-        (Ok(count), Ok(bytes)) => match out.get(..count) {
-            Some(given) => given == bytes,
+    let mut out = [0u8; 32];
+    match (file.read(rt, tree, driver, 0, &mut out), told) {
+        (Ok(count), Ok(text)) => match out.get(..count) {
+            Some(given) => given == text,
             None => false,
         },
         (Err(why), Err(wanted)) => why == wanted,
@@ -38,28 +64,42 @@ fn is_told(
     }
 }
 
-fn answers<N: Naming, T: DriverTable, R: Wait>(
+/// Whether each of three notifies makes a number.
+fn notifies<N: Naming, R: Wait>(
+    rt: &R,
+    tree: &SharedTree<N>,
+    posts: &mut Posts,
+    name: &[u8],
+) -> bool {
+    let reader = tree.read(rt);
+    let root = reader.state().root();
+    for _ in 0..3u32 {
+        if notify(reader.state(), posts, root, name).is_err() {
+            return false;
+        }
+    }
+    true
+}
+
+/// Shows both files, takes the step, and answers whether the first has changed since, and not the other.
+fn is_polled<N: Naming, T: DriverTable, R: Wait>(
     rt: &R,
     tree: &SharedTree<N>,
     driver: &Driver<T>,
-    file: &mut WaitingFile<N>,
+    posts: &mut Posts,
+    (file, other): (&mut WaitingFile<N>, &mut WaitingFile<N>),
     step: Step,
 ) -> bool {
-    match step {
-        Step::Shows(told) => {
-            let mut out = [0u8; 32];
-            let answer = file.read(rt, tree, driver, 0, &mut out);
-            is_told(&out, answer, told)
-        }
-        Step::Stores(text, told) => file.write(rt, tree, driver, text) == told,
-        Step::Gives(offset, told) => {
-            let mut out = [b'-'; 4];
-            let answer = file.read_at(rt, tree, driver, offset, &mut out);
-            is_told(&out, answer, told)
-        }
-        Step::Puts(offset, bytes, told) => file.write_at(rt, tree, driver, offset, bytes) == told,
-        Step::IsOnlyRead => false,
-    }
+    let mut out = [0u8; 4];
+    let are_shown = file.read(rt, tree, driver, 0, &mut out).is_ok()
+        && other.read(rt, tree, driver, 0, &mut out).is_ok();
+    let are_quiet = !file.poll() && !other.poll();
+    let is_told = match step {
+        Step::Tells(text, _) => file.write(rt, tree, driver, text).is_ok(),
+        Step::Notifies(name, _) => notifies(rt, tree, posts, name),
+        _ => false,
+    };
+    are_shown && are_quiet && is_told && file.poll() && !other.poll()
 }
 
 fn is_right<N: Naming, T: DriverTable, R: Wait>(
@@ -67,16 +107,18 @@ fn is_right<N: Naming, T: DriverTable, R: Wait>(
     tree: &SharedTree<N>,
     driver: &Driver<T>,
     posts: &mut Posts,
-    (path, step): (&[u8], Step),
-) -> bool {
-    let want = match step {
-        Step::Shows(_) | Step::Gives(_, _) => READ,
-        _ => BOTH,
-    };
-    let opened = open_path(&mut tree.edit(rt), posts, path, want);
-    match opened {
-        Ok(mut file) => answers(rt, tree, driver, &mut file, step),
-        Err(_) => matches!(step, Step::IsOnlyRead),
+    path: &[u8],
+    step: Step,
+) -> Result<bool, Refusal> {
+    let mut file = open_path(&mut tree.edit(rt), posts, path, Want::BOTH)?;
+    match step {
+        Step::Opens(..) => Ok(false),
+        Step::Shows(told) => Ok(shows(rt, tree, driver, &mut file, told)),
+        Step::Stores(text, told) => Ok(file.write(rt, tree, driver, text) == told),
+        Step::Tells(_, beside) | Step::Notifies(_, beside) => {
+            let mut other = open_path(&mut tree.edit(rt), posts, beside, Want::BOTH)?;
+            Ok(is_polled(rt, tree, driver, posts, (&mut file, &mut other), step))
+        }
     }
 }
 
@@ -85,12 +127,19 @@ pub(crate) fn walk<N: Naming, T: DriverTable, R: Abort + Wait>(
     rt: &R,
     tree: &SharedTree<N>,
     driver: &Driver<T>,
+    opener: &mut Opener<N>,
     posts: &mut Posts,
     steps: &[(&[u8], Step)],
 ) {
     let mut place = 0usize;
-    for step in steps {
-        if !is_right(rt, tree, driver, posts, *step) {
+    for (path, step) in steps {
+        let is_right = match *step {
+            Step::Opens(want, is_found, why) => {
+                opens(rt, tree, opener, path, want) == (is_found, why)
+            }
+            _ => is_right(rt, tree, driver, posts, path, *step) == Ok(true),
+        };
+        if !is_right {
             panic!(rt; "step {place}");
         }
         place = place.saturating_add(1);

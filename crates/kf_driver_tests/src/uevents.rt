@@ -1,7 +1,4 @@
-//! The tests of `kf_uevents`: what a list of events tells, keeps and loses.
+//! The tests of `kf_uevents`: what a list of events tells and loses.
 
-mod fixtures;
-mod kept_tests;
-mod listener_tests;
-mod move_tests;
+mod steps;
 mod tests;

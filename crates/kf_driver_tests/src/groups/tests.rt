@@ -1,134 +1,131 @@
-//! Groups that are made, and groups that are refused: what stands afterwards.
+//! Groups that are made in a directory below the root, where the root has others of the same names, that are
+//! taken back, and that are removed.
+ghost use Rattle.std.specs.Prelude.{◌≡◌};
 
-use super::fixtures::{A, B, C};
-use super::steps::{BARE, G, H, ROOT, Step, walk};
+use super::steps::{Step, walk};
+use crate::fixtures::made;
 use kf_core::{Key, Refusal};
 use kf_groups::{Attribute, Group};
+use kf_shared::{Naming, NewTree};
+use std::alloc::Global;
+use std::marker::Brand;
+use std::process::Abort;
+use std::sync::Wait;
 
-const AWAY: Attribute<'static> = Attribute {
-    name: b"away",
-    mode: 0,
-    tag: 3,
+pub(crate) const ROOT: Key = Key {
+    slot: 0,
+    generation: 1,
 };
 
-const SLASH: Attribute<'static> = Attribute {
-    name: b"a/b",
-    mode: 0o444,
-    tag: 4,
+/// The directory `/d`.
+const D: Key = Key {
+    slot: 1,
+    generation: 1,
 };
 
-/// A file of the name of a group.
-const FILE_G: Attribute<'static> = Attribute {
-    name: b"g",
+/// The file `/a`.
+const FILE: Key = Key {
+    slot: 5,
+    generation: 1,
+};
+
+const A: Attribute<'static> = Attribute {
+    name: b"a",
     mode: 0o444,
     tag: 1,
 };
 
-/// A group of two files and an attribute that is away, a group without a name, and why others are refused.
-const SIX_SLOTS: [Step; 12] = [
-    Step::Make(ROOT, G, &[A, AWAY, B], None),
-    Step::Make(ROOT, BARE, &[B, AWAY], None),
-    Step::Stored(6),
-    Step::At(b"/g/a", 2),
-    Step::At(b"/g/b", 3),
-    Step::At(b"/b", 4),
-    Step::Free(b"/g/away"),
-    Step::Make(ROOT, G, &[], Some(Refusal::Exists)),
-    Step::Make(ROOT, H, &[A, B, A], Some(Refusal::Exists)),
-    Step::Make(ROOT, H, &[A, SLASH], Some(Refusal::Invalid)),
-    Step::Make(ROOT, BARE, &[A, B], Some(Refusal::Exists)),
-    Step::Stored(6),
-];
-
-/// A group has no room, and then its slots are free again.
-const THREE_SLOTS: [Step; 6] = [
-    Step::Make(ROOT, G, &[A, B], Some(Refusal::NoSpace)),
-    Step::Make(ROOT, BARE, &[A, B, C], Some(Refusal::NoSpace)),
-    Step::Free(b"/g"),
-    Step::Free(b"/a"),
-    Step::Make(ROOT, G, &[B], None),
-    Step::At(b"/g/b", 2),
-];
-
-#[test]
-fn groups_are_made_whole_or_not_at_all(rt: HostRuntime) {
-    walk(&rt, rt.alloc(), 6, &SIX_SLOTS);
-    walk(&rt, rt.alloc(), 3, &THREE_SLOTS);
-}
-
-/// A key of no node.
-const NONE: Key = Key {
-    slot: 1,
-    generation: 9,
+const B: Attribute<'static> = Attribute {
+    name: b"b",
+    mode: 0o644,
+    tag: 2,
 };
 
-/// An entry of one name twice.
-const TWICE: [Group<'static>; 2] = [
-    Group {
-        name: G,
-        attributes: &[FILE_G],
-    },
-    Group {
-        name: BARE,
-        attributes: &[FILE_G],
-    },
+const C: Attribute<'static> = Attribute {
+    name: b"c",
+    mode: 0o644,
+    tag: 3,
+};
+
+/// The group whose own directory is `/d`, without files.
+const OF_D: Group<'static> = Group {
+    name: Some(b"d"),
+    attributes: &[],
+};
+
+pub(crate) const OWN: Group<'static> = Group {
+    name: Some(b"g"),
+    attributes: &[A, B],
+};
+
+pub(crate) const BARE: Group<'static> = Group {
+    name: None,
+    attributes: &[A, B],
+};
+
+/// A group that is not there.
+const ABSENT: Group<'static> = Group {
+    name: Some(b"h"),
+    attributes: &[A, B],
+};
+
+/// What needs one slot more than there are.
+const THREE: Group<'static> = Group {
+    name: None,
+    attributes: &[A, B, C],
+};
+
+/// In the root's directory are a group of each kind. Where slots lack, nothing stays of what was made, as
+/// often as it is tried, so that both groups have room in `/d`. The removal of a group of which one file may
+/// not be held ends there. What is not there is passed over, but for the directory of one group.
+static STEPS: [Step; 38] = [
+    Step::Make(ROOT, OF_D, None),
+    Step::Make(ROOT, OWN, None),
+    Step::Make(ROOT, BARE, None),
+    Step::MakeAll(D, &[OWN, THREE], Some(Refusal::NoSpace)),
+    Step::MakeAll(D, &[OWN, THREE], Some(Refusal::NoSpace)),
+    Step::MakeAll(D, &[OWN, THREE], Some(Refusal::NoSpace)),
+    Step::Free(b"/d/g"),
+    Step::Make(D, OWN, None),
+    Step::Make(D, THREE, Some(Refusal::NoSpace)),
+    Step::Make(D, THREE, Some(Refusal::NoSpace)),
+    Step::Make(D, THREE, Some(Refusal::NoSpace)),
+    Step::Free(b"/d/a"),
+    Step::Make(D, BARE, None),
+    Step::At(b"/d/b", 11),
+    Step::Held(b"/d/g/b", D, &[OWN, BARE]),
+    Step::At(b"/d/g/a", 8),
+    Step::At(b"/d/a", 10),
+    Step::Held(b"/d/b", D, &[ABSENT, BARE, OWN]),
+    Step::Free(b"/d/a"),
+    Step::At(b"/d/b", 11),
+    Step::At(b"/d/g/a", 8),
+    Step::Remove(D, BARE, None),
+    Step::Free(b"/d/b"),
+    Step::Remove(D, BARE, None),
+    Step::Remove(D, OWN, None),
+    Step::Free(b"/d/g"),
+    Step::Remove(D, OWN, Some(Refusal::NoEntry)),
+    Step::MakeAll(D, &[OWN, BARE], None),
+    Step::RemoveAll(D, &[ABSENT, BARE, OWN], None),
+    Step::Free(b"/d/a"),
+    Step::Free(b"/d/g"),
+    Step::Remove(FILE, OWN, Some(Refusal::NotDir)),
+    Step::RemoveAll(FILE, &[ABSENT, BARE], Some(Refusal::NotDir)),
+    Step::At(b"/b", 6),
+    Step::At(b"/g/b", 4),
+    Step::Remove(ROOT, OF_D, None),
+    Step::Remove(D, OWN, Some(Refusal::NoEntry)),
+    Step::Remove(D, BARE, None),
 ];
 
-const MANY: [Group<'static>; 2] = [
-    Group {
-        name: G,
-        attributes: &[A],
-    },
-    Group {
-        name: BARE,
-        attributes: &[B, C],
-    },
-];
-
-const FEW: [Group<'static>; 2] = [
-    Group {
-        name: G,
-        attributes: &[A],
-    },
-    Group {
-        name: BARE,
-        attributes: &[A],
-    },
-];
-
-/// The name of the second is taken.
-const TAKEN: [Group<'static>; 2] = [
-    Group {
-        name: H,
-        attributes: &[A],
-    },
-    Group {
-        name: BARE,
-        attributes: &[A],
-    },
-];
-
-/// Several groups are made at once, or none of them: no group, two that make an entry of one name, two of
-/// which the second has no room, the same slots then taken by two, and one whose name is taken. The directory
-/// of a group without files is looked at: one that is not linked, and a file.
-const SEVERAL: [Step; 14] = [
-    Step::MakeAll(ROOT, &[], None),
-    Step::Stored(0),
-    Step::MakeAll(ROOT, &TWICE, Some(Refusal::Exists)),
-    Step::Stored(0),
-    Step::MakeAll(ROOT, &MANY, Some(Refusal::NoSpace)),
-    Step::Free(b"/g"),
-    Step::Free(b"/b"),
-    Step::MakeAll(ROOT, &FEW, None),
-    Step::At(b"/g/a", 2),
-    Step::At(b"/a", 3),
-    Step::MakeAll(ROOT, &TAKEN, Some(Refusal::Exists)),
-    Step::Free(b"/h"),
-    Step::Make(NONE, BARE, &[], Some(Refusal::NoEntry)),
-    Step::NotIn(b"/a"),
-];
+fn steps<N: Naming, R: Abort + Wait>(rt: &R, alloc: Global, new: NewTree)
+    requires { new.master.table ≡ N.table }
+{
+    walk(rt, alloc, &new.named::<N>(), &STEPS);
+}
 
 #[test]
-fn several_groups_are_made_whole_or_not_at_all(rt: HostRuntime) {
-    walk(&rt, rt.alloc(), 4, &SEVERAL);
+fn groups_are_made_and_removed(rt: HostRuntime) {
+    steps::<Brand, _>(&rt, rt.alloc(), made(&rt, rt.alloc(), 12, 1));
 }

@@ -1,7 +1,7 @@
 //! A removal of a group waits for a call that runs on one of its files.
 ghost use Rattle.std.specs.Prelude.{◌≡◌};
 
-use super::fixtures::{A, D, directory, is_free};
+use super::tests::{BARE, OWN, ROOT};
 use crate::fixtures::made;
 use kf_core::{Key, Refusal};
 use kf_groups::{Group, create_group, remove_group};
@@ -13,64 +13,46 @@ use std::sync::Wait;
 use std::sync::atomic::{AtomicU64, Ordering};
 use std::thread::{Threads, join};
 
-const LOOKS: u64 = 1_000_000_000;
-
-/// Waits until somebody has counted itself.
-fn wait_for(counter: &AtomicU64) {
-    for _ in 0..LOOKS {
-        if counter.load(Ordering::SeqCst) != 0 {
-            return;
-        }
-    }
-}
-
-/// Waits until the node is marked, and answers whether it is.
-fn wait_for_mark<N: Naming, R: Wait>(rt: &R, tree: &SharedTree<N>, key: Key) -> bool {
-    for _ in 0..100_000_000u64 {
-        let told = tree.read(rt).state().stat(key);
-        match told {
-            Ok(stat) if stat.doomed => return true,
-            Ok(_) => {}
-            Err(_) => return false,
-        }
-    }
-    false
-}
-
-/// Whether nobody has counted itself in 10,000 looks.
-fn stays_zero(counter: &AtomicU64) -> bool {
-    for _ in 0..10_000u32 {
-        if counter.load(Ordering::SeqCst) != 0 {
-            return false;
-        }
-    }
-    true
-}
-
-/// Has a call on the file, counts itself, and leaves once the file is marked. False where the removal has
-/// answered before.
-fn calls<N: Naming, R: Wait>(
+/// Whether the node is marked while nobody has counted past 1, and nobody has in 10,000 looks since.
+fn is_waited_for<N: Naming, R: Wait>(
     rt: &R,
     tree: &SharedTree<N>,
     key: Key,
-    inside: &AtomicU64,
-    answered: &AtomicU64,
+    count: &AtomicU64,
 ) -> bool {
-    let held = tree.edit(rt).hold(key);
-    let entered = match held {
-        Ok(hold) => hold.enter(),
-        Err(_) => return false,
-    };
-    match entered {
+    let mut looks = 0u64;
+    for _ in 0..100_000_000u64 {
+        let told = tree.read(rt).state().stat(key);
+        if matches!(told, Ok(stat) if stat.doomed) {
+            looks = looks.saturating_add(1);
+        }
+        if looks > 10_000 || count.load(Ordering::SeqCst) > 1 {
+            break;
+        }
+    }
+    looks > 10_000 && count.load(Ordering::SeqCst) == 1
+}
+
+/// Has a call on the live file of this path, counts itself, and leaves after the removal has begun. Whether
+/// that has not answered before.
+fn calls<N: Naming, R: Wait>(
+    rt: &R,
+    tree: &SharedTree<N>,
+    path: &[u8],
+    count: &AtomicU64,
+) -> Result<bool, Refusal> {
+    let key = tree.read(rt).state().lookup(path)?;
+    let hold = tree.edit(rt).hold(key)?;
+    match hold.enter() {
         Ok(call) => {
-            inside.fetch_add(1, Ordering::SeqCst);
-            let waits = wait_for_mark(rt, tree, key) && stays_zero(answered);
+            count.fetch_add(1, Ordering::SeqCst);
+            let waits = is_waited_for(rt, tree, key, count);
             call.leave().release();
-            waits
+            Ok(waits)
         }
         Err(hold) => {
             hold.release();
-            false
+            Ok(false)
         }
     }
 }
@@ -80,20 +62,17 @@ fn removes<N: Naming, R: Wait>(
     rt: &R,
     alloc: Global,
     tree: &SharedTree<N>,
-    dir: Key,
     group: &Group,
-    inside: &AtomicU64,
-    answered: &AtomicU64,
+    count: &AtomicU64,
 ) -> Result<(), Refusal> {
-    wait_for(inside);
-    let told = remove_group(rt, tree, alloc, dir, group);
-    answered.fetch_add(1, Ordering::SeqCst);
+    for _ in 0..1_000_000_000u64 {
+        if count.load(Ordering::SeqCst) != 0 {
+            break;
+        }
+    }
+    let told = remove_group(rt, tree, alloc, ROOT, group);
+    count.fetch_add(1, Ordering::SeqCst);
     told
-}
-
-/// Makes a group in a directory, and answers whether it is made.
-fn is_made<N: Naming, R: Wait>(rt: &R, tree: &SharedTree<N>, dir: Key, group: &Group) -> bool {
-    create_group(&mut tree.edit(rt), dir, group).is_ok()
 }
 
 /// The removal of a group answers once the call on the file of this path has ended, and the file is gone.
@@ -101,24 +80,21 @@ fn waits<N: Naming + Send + Sync, R: Abort + Threads + Wait + Sync>(
     rt: &R,
     alloc: Global,
     tree: &SharedTree<N>,
-    dir: Key,
-    group: Group,
+    group: &Group,
     path: &[u8],
 ) {
-    assert!(rt; is_made(rt, tree, dir, &group));
-    let Ok(key) = tree.read(rt).state().lookup(path) else {
-        panic!(rt; "no file")
-    };
-    let inside = AtomicU64::new(0);
-    let answered = AtomicU64::new(0);
-    let (told, late) = join(
+    assert!(rt; create_group(&mut tree.edit(rt), ROOT, group).is_ok());
+    let count = AtomicU64::new(0);
+    let (told, waited) = join(
         rt,
-        || removes(rt, alloc, tree, dir, &group, &inside, &answered),
-        || calls(rt, tree, key, &inside, &answered),
+        || removes(rt, alloc, tree, group, &count),
+        || calls(rt, tree, path, &count),
     );
-    assert_eq!(rt; told, Ok(()));
-    assert!(rt; late, "the removal answered while the call ran");
-    assert!(rt; is_free(rt, tree, path));
+    assert!(rt;
+        told == Ok(()) && waited == Ok(true),
+        "the removal answered while the call ran"
+    );
+    assert!(rt; tree.read(rt).state().walk(path).is_err());
 }
 
 fn both_wait<N: Naming + Send + Sync, R: Abort + Threads + Wait + Sync>(
@@ -129,12 +105,8 @@ fn both_wait<N: Naming + Send + Sync, R: Abort + Threads + Wait + Sync>(
     requires { new.master.table ≡ N.table }
 {
     let tree = new.named::<N>();
-    assert!(rt; directory(rt, &tree));
-    let files = [A];
-    let own = Group::new(Some(b"g"), &files);
-    waits(rt, alloc, &tree, D, own, b"/d/g/a");
-    waits(rt, alloc, &tree, D, Group::new(None, &files), b"/d/a");
-    assert!(rt; is_made(rt, &tree, D, &own), "the slots are free");
+    waits(rt, alloc, &tree, &OWN, b"/g/a");
+    waits(rt, alloc, &tree, &BARE, b"/b");
 }
 
 #[test]

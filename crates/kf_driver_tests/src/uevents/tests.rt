@@ -1,125 +1,92 @@
-//! What is activated, changed and removed is told in order, with its paths.
+//! What is activated, changed, moved and removed is told once, in order, to who reads on, and who is behind
+//! is told what is lost.
 ghost use Rattle.std.specs.Prelude.{◌≡◌};
 
-use super::fixtures::{FILE, is_none_yet, new_log, node, removes, root, tells};
-use crate::fixtures::{first_wrong, made};
+use super::steps::{Step, walk};
+use crate::fixtures::made;
 use kf_core::{Key, Node, Refusal};
-use kf_shared::{Naming, NewTree, SharedTree, release_all};
-use kf_uevents::{Action, UeventLog, activate_and_tell, begin_removal_and_tell, tell_change};
+use kf_notify::{Post, Posts};
+use kf_shared::{Naming, NewTree, SharedTree};
+use kf_uevents::{Action, Listener, UeventLog};
 use std::alloc::Global;
 use std::marker::Brand;
 use std::process::Abort;
-use std::sync::Wait;
+use std::sync::{RwLock, Wait};
 
-/// A directory `/d` with two files, none of them active.
-fn sleeping<N: Naming, R: Abort + Wait>(rt: &R, tree: &SharedTree<N>) -> (Key, Key) {
-    let root = root(rt, tree);
-    let mut editor = tree.edit(rt);
-    let dir = node(rt, &mut editor, root, b"d", Node::Dir);
-    let file = node(rt, &mut editor, dir, b"a", FILE);
-    node(rt, &mut editor, dir, b"b", FILE);
-    (dir, file)
+const ROOT: Key = Key {
+    slot: 0,
+    generation: 1,
+};
+
+/// The directory `/d`, and its file `/d/a`.
+const D: Key = Key {
+    slot: 1,
+    generation: 1,
+};
+
+const A: Key = Key {
+    slot: 2,
+    generation: 1,
+};
+
+const FILE: Node = Node::File {
+    mode: 0o644,
+    tag: 1,
+};
+
+static STEPS: [Step; 34] = [
+    Step::Makes(ROOT, b"d", Node::Dir),
+    Step::Makes(D, b"a", FILE),
+    Step::Makes(D, b"b", FILE),
+    Step::Nothing,
+    Step::Activates(A),
+    Step::Waits,
+    Step::Event(Action::Add, b"/d/a", None),
+    Step::Nothing,
+    Step::Activates(D),
+    Step::Activates(D),
+    Step::Event(Action::Add, b"/d", None),
+    Step::Waits,
+    Step::Event(Action::Add, b"/d/b", None),
+    Step::Nothing,
+    Step::Changes(A, 1),
+    Step::Event(Action::Change, b"/d/a", None),
+    Step::Moves(A, ROOT, b"x"),
+    Step::Moves(D, ROOT, b"e"),
+    Step::Moves(A, D, b"y"),
+    Step::Moves(A, D, b"y"),
+    Step::Event(Action::Move, b"/x", Some(b"/d/a")),
+    Step::Event(Action::Move, b"/e", Some(b"/d")),
+    Step::Event(Action::Move, b"/e/y", Some(b"/x")),
+    Step::Nothing,
+    Step::Removes(D),
+    Step::Event(Action::Remove, b"/e/b", None),
+    Step::Event(Action::Remove, b"/e/y", None),
+    Step::Event(Action::Remove, b"/e", None),
+    Step::Nothing,
+    // There is room for 16 events. Ten were told before.
+    Step::Changes(ROOT, 300),
+    Step::Waits,
+    Step::Loss(294),
+    Step::Waits,
+    Step::Event(Action::Change, b"/", None),
+];
+
+fn tell<N: Naming, R: Abort + Wait>(rt: &R, tree: &SharedTree<N>, log: UeventLog, post: Post) {
+    let log = RwLock::new(log);
+    walk(rt, tree, &log, &mut Listener::new(post, 0), &STEPS);
 }
 
-/// Activates the node, and answers how many events there were afterwards.
-fn activates<N: Naming, R: Wait>(
-    rt: &R,
-    tree: &SharedTree<N>,
-    log: &mut UeventLog,
-    key: Key,
-) -> Result<u64, Refusal> {
-    activate_and_tell(&mut tree.edit(rt), log, key)?;
-    Ok(log.count())
-}
-
-/// Tells of a change of the node, and answers how many events there were afterwards.
-fn changes<N: Naming, R: Wait>(
-    rt: &R,
-    tree: &SharedTree<N>,
-    log: &mut UeventLog,
-    key: Key,
-) -> Result<u64, Refusal> {
-    tell_change(&tree.edit(rt), log, key)?;
-    Ok(log.count())
-}
-
-fn in_order<N: Naming, R: Abort + Wait>(rt: &R, alloc: Global, new: NewTree)
+fn events<N: Naming, R: Abort + Wait>(rt: &R, alloc: Global, new: NewTree) -> Result<(), Refusal>
     requires { new.master.table ≡ N.table }
 {
-    let tree = new.named::<N>();
-    let mut log = new_log(rt, alloc, 16);
-    let (dir, file) = sleeping(rt, &tree);
-    let away = Key {
-        slot: 1,
-        generation: 9,
-    };
-    let answers = [
-        is_none_yet(&log, 0),
-        activates(rt, &tree, &mut log, file) == Ok(1),
-        activates(rt, &tree, &mut log, dir) == Ok(3),
-        activates(rt, &tree, &mut log, dir) == Ok(3),
-        activates(rt, &tree, &mut log, away) == Err(Refusal::NoEntry),
-        changes(rt, &tree, &mut log, file) == Ok(4),
-        changes(rt, &tree, &mut log, away) == Err(Refusal::NoEntry),
-        removes(rt, &tree, &mut log, away) == Err(Refusal::NoEntry),
-        log.count() == 4,
-        removes(rt, &tree, &mut log, dir) == Ok(3),
-        tells(&log, 0, Action::Add, b"/d/a"),
-        tells(&log, 1, Action::Add, b"/d"),
-        tells(&log, 2, Action::Add, b"/d/b"),
-        tells(&log, 3, Action::Change, b"/d/a"),
-        tells(&log, 4, Action::Remove, b"/d/a"),
-        tells(&log, 5, Action::Remove, b"/d/b"),
-        tells(&log, 6, Action::Remove, b"/d"),
-        is_none_yet(&log, 7),
-    ];
-    assert_eq!(rt; first_wrong(&answers), None);
+    let log = UeventLog::new(alloc, 16)?;
+    let post = Posts::new(alloc, 1)?.post(0)?;
+    tell(rt, &new.named::<N>(), log, post);
+    Ok(())
 }
 
 #[test]
-fn events_come_in_order_with_their_paths(rt: HostRuntime) {
-    in_order::<Brand, _>(&rt, rt.alloc(), made(&rt, rt.alloc(), 12, 9));
-}
-
-/// The removal of a node is begun twice, and told once; and what was never active is not told of.
-fn removed_twice<N: Naming, R: Abort + Wait>(rt: &R, alloc: Global, new: NewTree)
-    requires { new.master.table ≡ N.table }
-{
-    let tree = new.named::<N>();
-    let mut log = new_log(rt, alloc, 16);
-    let (dir, file) = sleeping(rt, &tree);
-    let mut editor = tree.edit(rt);
-    let added = activate_and_tell(&mut editor, &mut log, file).is_ok();
-    let first = begin_removal_and_tell(&mut editor, &mut log, file);
-    let told = log.count();
-    let second = begin_removal_and_tell(&mut editor, &mut log, file);
-    drop(editor);
-    let still = log.count();
-    let mut begun = true;
-    match first {
-        Ok(removing) => release_all(removing.finish(rt, &tree)),
-        Err(_) => begun = false,
-    }
-    match second {
-        Ok(removing) => release_all(removing.finish(rt, &tree)),
-        Err(_) => begun = false,
-    }
-    let root = root(rt, &tree);
-    let answers = [
-        added,
-        told == 2,
-        still == 2,
-        begun,
-        tells(&log, 1, Action::Remove, b"/d/a"),
-        removes(rt, &tree, &mut log, dir) == Ok(2),
-        log.count() == 2,
-        removes(rt, &tree, &mut log, root) == Err(Refusal::Invalid),
-        log.count() == 2,
-    ];
-    assert_eq!(rt; first_wrong(&answers), None);
-}
-
-#[test]
-fn a_second_removal_is_not_told(rt: HostRuntime) {
-    removed_twice::<Brand, _>(&rt, rt.alloc(), made(&rt, rt.alloc(), 12, 9));
+fn events_are_read_in_order(rt: HostRuntime) -> Result<(), Refusal> {
+    events::<Brand, _>(&rt, rt.alloc(), made(&rt, rt.alloc(), 12, 9))
 }

@@ -1,4 +1,4 @@
-use Rattle.kf_driver_tests.proofs.event_tests.a_notify_by_name_is_seen_by_who_polls_that_file.Given as goal
+use Rattle.kf_driver_tests.proofs.uevents.tests.events_are_read_in_order.Given as goal
 
 -- the tree that was just made
 abbrev pub ghosts-events : goal.ghosts-events

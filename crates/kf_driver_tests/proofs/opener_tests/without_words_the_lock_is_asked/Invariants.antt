@@ -1,5 +1,0 @@
-use Rattle.kf_driver_tests.proofs.opener_tests.without_words_the_lock_is_asked.Given as goal
-
--- the tree that was just made
-abbrev pub ghosts-opens : goal.ghosts-opens
-ghosts-opens g a = record { table = a.new.master.table }

@@ -1,0 +1,213 @@
+//! Files of a group by their paths: who opens them, what they show and take, how often their callbacks are
+//! called, and who is told of a change.
+ghost use Rattle.std.specs.Prelude.{◌≡◌};
+
+use crate::counted::Counted;
+use crate::fixtures::made;
+use crate::steps::{Step, walk};
+use kf_core::Refusal;
+use kf_driver::{Driver, End, Notifier, Notifying, Number, Opener, Row, Signed, Switch, post_of};
+use kf_files::{Fault, FileError, Want};
+use kf_groups::{Attribute, Group, create_group};
+use kf_notify::{Post, Posts};
+use kf_shared::{Naming, NewTree, SharedTree};
+use std::alloc::Global;
+use std::marker::Brand;
+use std::process::Abort;
+use std::sync::Wait;
+use std::sync::atomic::AtomicU64;
+
+const OWN: FileError = FileError::Callback(Fault { number: 5 });
+
+const INVALID: FileError = FileError::Callback(Fault { number: 22 });
+
+const RANGE: FileError = FileError::Callback(Fault { number: 34 });
+
+static STEPS: [(&[u8], Step); 57] = [
+    // What opens without the lock, of the slots that have words of look-ups, and what does not.
+    (b"/c", Step::Opens(Want::BOTH, true, None)),
+    (b"/g/r", Step::Opens(Want::READ, true, None)),
+    (b"/unknown", Step::Opens(Want::READ, false, None)),
+    (
+        b"/none",
+        Step::Opens(Want::READ, false, Some(Refusal::NoEntry)),
+    ),
+    (b"/g", Step::Opens(Want::READ, false, Some(Refusal::IsDir))),
+    (
+        b"/g/r",
+        Step::Opens(Want::WRITE, false, Some(Refusal::Access)),
+    ),
+    (b"/c", Step::Opens(Want::WRITE, true, None)),
+    // One read is one show, and one write is one store, also after a fault.
+    (b"/c", Step::Shows(Ok(b"0000"))),
+    (b"/c", Step::Shows(Ok(b"0001"))),
+    (b"/c", Step::Shows(Err(OWN))),
+    (b"/c", Step::Shows(Ok(b"0003"))),
+    (b"/c", Step::Stores(b"0x1f\n", Ok(5))),
+    (b"/c", Step::Shows(Ok(b"0104"))),
+    (b"/c", Step::Stores(b"0X20", Err(RANGE))),
+    (b"/c", Step::Shows(Ok(b"0205"))),
+    (b"/c", Step::Stores(b"+037", Ok(4))),
+    (b"/c", Step::Stores(b"040", Err(RANGE))),
+    (b"/c", Step::Stores(b"31", Ok(2))),
+    (b"/c", Step::Stores(b"08", Err(INVALID))),
+    (b"/c", Step::Stores(b"0x", Err(INVALID))),
+    (b"/c", Step::Stores(b"0x0x1", Err(INVALID))),
+    (b"/c", Step::Stores(b"1f", Err(INVALID))),
+    (b"/c", Step::Stores(b"-1", Err(INVALID))),
+    (b"/c", Step::Shows(Ok(b"0a06"))),
+    (b"/unknown", Step::Shows(Err(INVALID))),
+    (b"/unknown", Step::Stores(b"1", Err(INVALID))),
+    // What was stored last is shown.
+    (b"/n", Step::Shows(Ok(b"5\n"))),
+    (b"/n", Step::Stores(b"18446744073709551615\n", Ok(21))),
+    (b"/n", Step::Shows(Ok(b"18446744073709551615\n"))),
+    (b"/n", Step::Stores(b"18446744073709551616", Err(RANGE))),
+    (b"/n", Step::Stores(b"7\n\n", Err(INVALID))),
+    (b"/n", Step::Stores(b" 7", Err(INVALID))),
+    (b"/n", Step::Stores(b"\n", Err(INVALID))),
+    (b"/n", Step::Stores(b"7\n\0\0", Ok(4))),
+    (b"/n", Step::Shows(Ok(b"7\n"))),
+    (b"/s", Step::Shows(Ok(b"-1\n"))),
+    (b"/s", Step::Stores(b"10", Err(RANGE))),
+    (b"/s", Step::Stores(b"-9223372036854775809", Err(RANGE))),
+    (b"/s", Step::Stores(b"-+5", Err(INVALID))),
+    (b"/s", Step::Stores(b"-9223372036854775808", Ok(20))),
+    (b"/s", Step::Shows(Ok(b"-9223372036854775808\n"))),
+    (b"/w", Step::Shows(Ok(b"0\n"))),
+    (b"/w", Step::Stores(b"oN", Ok(2))),
+    (b"/w", Step::Shows(Ok(b"1\n"))),
+    (b"/w", Step::Stores(b"o", Err(INVALID))),
+    (b"/w", Step::Stores(b"2", Err(INVALID))),
+    (b"/w", Step::Shows(Ok(b"1\n"))),
+    (b"/w", Step::Stores(b"False\n", Ok(6))),
+    (b"/w", Step::Shows(Ok(b"0\n"))),
+    // Who polls is told by a store of what tells, and by its name.
+    (b"/v", Step::Tells(b"1", b"/w")),
+    (b"/v", Step::Tells(b"1", b"/n")),
+    (b"/v", Step::Shows(Ok(b"1\n"))),
+    (b"/w", Step::Notifies(b"w", b"/v")),
+    (b"/v", Step::Notifies(b"v", b"/w")),
+    (b"/n", Step::Notifies(b"n", b"/s")),
+    (b"/c", Step::Opens(Want::BOTH, true, None)),
+    (b"/w", Step::Shows(Ok(b"0\n"))),
+];
+
+/// Its slots are 1 and 2.
+const GROUP: Group<'static> = Group {
+    name: Some(b"g"),
+    attributes: &[Attribute {
+        name: b"r",
+        mode: 0o444,
+        tag: 0,
+    }],
+};
+
+/// Their slots are 3 to 8.
+const FILES: Group<'static> = Group {
+    name: None,
+    attributes: &[
+        Attribute {
+            name: b"v",
+            mode: 0o644,
+            tag: 1,
+        },
+        Attribute {
+            name: b"w",
+            mode: 0o644,
+            tag: 2,
+        },
+        Attribute {
+            name: b"s",
+            mode: 0o644,
+            tag: 3,
+        },
+        Attribute {
+            name: b"n",
+            mode: 0o644,
+            tag: 4,
+        },
+        Attribute {
+            name: b"c",
+            mode: 0o644,
+            tag: 5,
+        },
+        Attribute {
+            name: b"unknown",
+            mode: 0o644,
+            tag: 6,
+        },
+    ],
+};
+
+/// Makes the files, and gives a post of that of the switch which tells who polls it.
+fn plant<N: Naming, R: Wait>(
+    rt: &R,
+    tree: &SharedTree<N>,
+    posts: &mut Posts,
+) -> Result<Post, Refusal> {
+    let mut editor = tree.edit(rt);
+    let root = editor.state().root();
+    create_group(&mut editor, root, &GROUP)?;
+    create_group(&mut editor, root, &FILES)?;
+    post_of(editor.state(), posts, root, b"v")
+}
+
+/// The rows of a switch, two numbers and what counts itself.
+type Others = Row<Switch, Row<Signed, Row<Number, Row<Counted, End>>>>;
+
+fn others() -> Others {
+    let calls = AtomicU64::new(0);
+    let rows = Row::new(Attribute::read_write(b"c", 5), Counted { calls }, End);
+    let rows = Row::new(
+        Attribute::read_write(b"n", 4),
+        Number::new(5, u64::MAX),
+        rows,
+    );
+    let rows = Row::new(
+        Attribute::read_write(b"s", 3),
+        Signed::new(-1, i64::MIN, 9),
+        rows,
+    );
+    Row::new(Attribute::read_write(b"w", 2), Switch::new(false), rows)
+}
+
+/// The rows of all files, by a post of the first.
+fn table<R: Wait>(rt: &R, post: Post) -> Row<Notifying<'_, Switch, R>, Others> {
+    let switch = Notifying::new(Switch::new(false), Notifier::new(rt, post));
+    Row::new(Attribute::read_write(b"v", 1), switch, others())
+}
+
+fn answer<N: Naming, R: Abort + Wait>(
+    rt: &R,
+    tree: &SharedTree<N>,
+    opener: &mut Opener<N>,
+    posts: &mut Posts,
+    post: Post,
+) {
+    let driver = Driver::new(table(rt, post));
+    walk(rt, tree, &driver, opener, posts, &STEPS);
+}
+
+fn opened<N: Naming, R: Abort + Wait>(
+    rt: &R,
+    alloc: Global,
+    tree: &SharedTree<N>,
+) -> Result<(), Refusal> {
+    let mut posts = Posts::new(alloc, 9)?;
+    let mut opener = Opener::new(alloc, &mut tree.edit(rt), posts.another()?)?;
+    let post = plant(rt, tree, &mut posts)?;
+    answer(rt, tree, &mut opener, &mut posts, post);
+    Ok(())
+}
+
+fn files<N: Naming, R: Abort + Wait>(rt: &R, alloc: Global, new: NewTree) -> Result<(), Refusal>
+    requires { new.master.table ≡ N.table }
+{
+    opened(rt, alloc, &new.named::<N>())
+}
+
+#[test]
+fn files_answer_as_their_attributes_do(rt: HostRuntime) -> Result<(), Refusal> {
+    files::<Brand, _>(&rt, rt.alloc(), made(&rt, rt.alloc(), 16, 2))
+}

@@ -1,0 +1,120 @@
+//! Steps with a tree that tells events, and with who reads them.
+
+use kf_core::{Key, Node, Refusal};
+use kf_shared::{Naming, SharedTree, release_all};
+use kf_uevents::{
+    Action, Listener, Reading, Uevent, UeventLog, activate_and_tell, begin_removal_and_tell,
+    rename_and_tell, tell_change,
+};
+use std::process::Abort;
+use std::sync::{RwLock, Wait};
+
+#[derive(Clone, Copy)]
+pub(crate) enum Step {
+    /// A node of this name is made in the directory, and is not active yet.
+    Makes(Key, &'static [u8], Node),
+    Activates(Key),
+    /// So many changes of one node are told.
+    Changes(Key, u32),
+    /// It is moved into the directory, under this name.
+    Moves(Key, Key, &'static [u8]),
+    Removes(Key),
+    /// The listener sleeps until there is something to read.
+    Waits,
+    /// What the listener reads: an event of this action, with this path, and of a move the path before.
+    Event(Action, &'static [u8], Option<&'static [u8]>),
+    /// A loss, after which it goes on at this number.
+    Loss(u64),
+    Nothing,
+}
+
+fn removes<N: Naming, R: Wait>(
+    rt: &R,
+    tree: &SharedTree<N>,
+    log: &mut UeventLog,
+    key: Key,
+) -> Result<(), Refusal> {
+    let begun = begin_removal_and_tell(&mut tree.edit(rt), log, key)?;
+    release_all(begun.finish(rt, tree));
+    Ok(())
+}
+
+/// Takes a step of those that the tree takes under one lock.
+fn makes<N: Naming, R: Wait>(
+    rt: &R,
+    tree: &SharedTree<N>,
+    log: &mut UeventLog,
+    step: Step,
+) -> Result<(), Refusal> {
+    let mut editor = tree.edit(rt);
+    match step {
+        Step::Makes(dir, name, node) => {
+            editor.create(dir, name, node, false)?;
+        }
+        Step::Activates(key) => activate_and_tell(&mut editor, log, key)?,
+        Step::Changes(key, times) => {
+            for _ in 0..times {
+                tell_change(&editor, log, key)?;
+            }
+        }
+        Step::Moves(key, dir, name) => rename_and_tell(&mut editor, log, key, dir, name)?,
+        _ => {}
+    }
+    Ok(())
+}
+
+fn is_event(event: &Uevent, action: Action, path: &[u8], from: Option<&[u8]>) -> bool {
+    let is_from = match (&event.from, from) {
+        (Some(own), Some(from)) => own.as_slice() == from,
+        (None, None) => true,
+        _ => false,
+    };
+    event.action == action && event.path.as_slice() == path && is_from
+}
+
+/// Whether the listener reads what the step says.
+fn reads(listener: &mut Listener, log: &UeventLog, step: Step) -> bool {
+    match (listener.read(log), step) {
+        (Reading::Next { event, then: _ }, Step::Event(action, path, from)) => {
+            is_event(event, action, path, from)
+        }
+        (Reading::Lost { from }, Step::Loss(first)) => from == first,
+        (Reading::NoneYet, Step::Nothing) => true,
+        _ => false,
+    }
+}
+
+fn is_right<N: Naming, R: Wait>(
+    rt: &R,
+    tree: &SharedTree<N>,
+    log: &RwLock<UeventLog>,
+    listener: &mut Listener,
+    step: Step,
+) -> bool {
+    match step {
+        Step::Waits => {
+            listener.wait(rt, log);
+            true
+        }
+        Step::Removes(key) => removes(rt, tree, &mut *log.write(rt), key).is_ok(),
+        Step::Event(..) | Step::Loss(_) | Step::Nothing => reads(listener, &*log.read(rt), step),
+        _ => makes(rt, tree, &mut *log.write(rt), step).is_ok(),
+    }
+}
+
+/// Takes the steps. The first whose answer is not as it must be stops the test.
+pub(crate) fn walk<N: Naming, R: Abort + Wait>(
+    rt: &R,
+    tree: &SharedTree<N>,
+    log: &RwLock<UeventLog>,
+    listener: &mut Listener,
+    steps: &[Step],
+) {
+    let mut place = 0usize;
+    for step in steps {
+        if !is_right(rt, tree, log, listener, *step) {
+            panic!(rt; "step {place}");
+        }
+        place = place.saturating_add(1);
+    }
+}
