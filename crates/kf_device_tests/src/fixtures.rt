@@ -1,7 +1,7 @@
-//! What the tests build on: trees, buses, posts, holds, and how threads wait for one another.
+//! What the tests build on: trees, buses, event numbers, holds and files, and how threads wait.
 ghost use Rattle.std.specs.Prelude.{◌≡◌, IfSome};
 
-use kf_core::Limits;
+use kf_core::{Limits, Node};
 use kf_device::Bus;
 use kf_files::{WaitingFile, Want};
 use kf_notify::{Post, Posts};
@@ -28,9 +28,9 @@ pub(crate) const WRITE: Want = Want {
     write: true,
 };
 
-/// A tree of so many slots, each of which may have so many holds.
-pub(crate) fn made<R: Abort>(rt: &R, alloc: Global, slots: u32, holds: u32) -> NewTree {
-    let Some(limits) = Limits::new(slots, holds) else {
+/// A tree of 64 slots, each of which may have so many holds.
+pub(crate) fn made<R: Abort>(rt: &R, alloc: Global, holds: u32) -> NewTree {
+    let Some(limits) = Limits::new(64, holds) else {
         panic!(rt; "no such limits")
     };
     match SharedTree::<Brand>::new(alloc, limits) {
@@ -60,33 +60,9 @@ pub(crate) fn wait_for(count: u64, counter: &AtomicU64) -> bool {
     false
 }
 
-/// Stays until the path leads to no live node, and then looks 10,000 times whether a removal has answered.
-/// Looks that see one are counted as early.
-pub(crate) fn stay<N: Naming, R: Wait>(
-    rt: &R,
-    tree: &SharedTree<N>,
-    path: &[u8],
-    (answered, early): (&AtomicU64, &AtomicU64),
-) {
-    for _ in 0..100_000_000u64 {
-        if tree.edit(rt).state().lookup(path).is_err() {
-            break;
-        }
-    }
-    look_for_early(answered, early);
-}
-
-fn look_for_early(answered: &AtomicU64, early: &AtomicU64) {
-    for _ in 0..10_000 {
-        if count_of(answered) > 0 {
-            early.fetch_add(1, Ordering::SeqCst);
-        }
-    }
-}
-
-/// Numbers of so many slots.
-pub(crate) fn posts_of<R: Abort>(rt: &R, alloc: Global, slots: u32) -> Posts {
-    match Posts::new(alloc, slots) {
+/// Numbers of the 64 slots.
+pub(crate) fn posts_of<R: Abort>(rt: &R, alloc: Global) -> Posts {
+    match Posts::new(alloc, 64) {
         Ok(posts) => posts,
         Err(_) => panic!(rt; "no memory"),
     }
@@ -102,6 +78,19 @@ pub(crate) fn post_at<R: Abort>(rt: &R, posts: &mut Posts, slot: u32) -> Post
     }
 }
 
+/// Makes a live file of this tag in the root's directory.
+pub(crate) fn plants<N: Naming, R: Wait>(
+    rt: &R,
+    tree: &SharedTree<N>,
+    name: &[u8],
+    tag: u64,
+) -> bool {
+    let mut editor = tree.edit(rt);
+    let root = editor.state().root();
+    let file = Node::File { mode: 0o666, tag };
+    editor.create(root, name, file, true).is_ok()
+}
+
 /// A hold of the live node of a path, if there is one.
 pub(crate) fn held<N: Naming, R: Wait>(rt: &R, tree: &SharedTree<N>, path: &[u8]) -> Option<Hold>
     ensures { IfSome result (λ hold. hold.table ≡ N.table) }
@@ -114,17 +103,17 @@ pub(crate) fn held<N: Naming, R: Wait>(rt: &R, tree: &SharedTree<N>, path: &[u8]
     }
 }
 
-/// The live file of a path, opened, if there is one.
-pub(crate) fn opened<N: Naming, R: Abort + Wait>(
+/// The live file of a path, opened with a post of these numbers, if there is one.
+pub(crate) fn opened_by<N: Naming, R: Abort + Wait>(
     rt: &R,
-    alloc: Global,
     tree: &SharedTree<N>,
+    posts: &mut Posts,
     path: &[u8],
     want: Want,
 ) -> Option<WaitingFile<N>> {
     let hold = held(rt, tree, path)?;
     let node = hold.node();
-    let post = post_at(rt, &mut posts_of(rt, alloc, 256), hold.key().slot);
+    let post = post_at(rt, posts, hold.key().slot);
     match WaitingFile::open(hold, node, want, post) {
         Ok(file) => Some(file),
         Err((hold, _, _)) => {
@@ -132,4 +121,15 @@ pub(crate) fn opened<N: Naming, R: Abort + Wait>(
             None
         }
     }
+}
+
+/// The same with numbers of its own.
+pub(crate) fn opened<N: Naming, R: Abort + Wait>(
+    rt: &R,
+    alloc: Global,
+    tree: &SharedTree<N>,
+    path: &[u8],
+    want: Want,
+) -> Option<WaitingFile<N>> {
+    opened_by(rt, tree, &mut posts_of(rt, alloc), path, want)
 }

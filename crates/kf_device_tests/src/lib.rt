@@ -3,22 +3,14 @@
 #![tactic(auto)]
 
 #[cfg(test)]
+mod bus_tests;
+#[cfg(test)]
 mod delayed;
 #[cfg(test)]
 mod files;
 #[cfg(test)]
 mod fixtures;
 #[cfg(test)]
-mod one_name_tests;
-#[cfg(test)]
-mod refusal_tests;
-#[cfg(test)]
-mod replug_tests;
-#[cfg(test)]
 mod steps;
 #[cfg(test)]
-mod text_tests;
-#[cfg(test)]
 mod thread_tests;
-#[cfg(test)]
-mod waiting_tests;

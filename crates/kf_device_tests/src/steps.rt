@@ -1,10 +1,10 @@
 //! What a bus is asked for, one call after another, and what each must answer.
 ghost use Rattle.std.specs.Prelude.{◌≡◌};
 
-use crate::fixtures::{BOTH, READ, WRITE, held, new_bus, opened};
-use kf_core::{Node, Refusal};
+use crate::fixtures::{BOTH, READ, WRITE, held, new_bus, opened, plants};
+use kf_core::Refusal;
 use kf_device::Bus;
-use kf_files::{Fault, FileError};
+use kf_files::{Fault, FileError, WaitOps};
 use kf_shared::{Naming, NewTree, SharedTree, release_all};
 use std::alloc::Global;
 use std::process::Abort;
@@ -19,46 +19,64 @@ pub(crate) enum Step {
     Shows(&'static [u8], &'static [u8]),
     /// What a store of these bytes into the file of a path is answered by.
     Stores(&'static [u8], &'static [u8], Result<usize, FileError>),
+    /// While holds of these two paths are out, a store of `delete` of `d0` finds no room for one.
+    Refuses(&'static [u8], &'static [u8]),
     /// How many live children a directory has.
     Has(&'static [u8], usize),
-    IsMissing(&'static [u8]),
     /// Of at least and at most so many devices the bus keeps texts.
     Keeps(usize, usize),
     /// The live node of a path is removed with all below it, past the bus.
     Removes(&'static [u8]),
-    /// It is moved into the root's directory.
-    Moves(&'static [u8], &'static [u8]),
     Compacts,
     /// A file of this tag, beside the bus, takes and shows nothing.
     IsUnknown(u64),
 }
 
-fn shows<N: Naming, R: Abort + Wait>(
+pub(crate) fn shows<N: Naming, R: Abort + Wait, W: WaitOps<N>>(
     rt: &R,
     alloc: Global,
     tree: &SharedTree<N>,
-    bus: &Bus<N>,
+    ops: &W,
     (path, text): (&[u8], &[u8]),
 ) -> bool {
     let Some(mut file) = opened(rt, alloc, tree, path, READ) else {
         return false;
     };
     let mut out = [0u8; 64];
-    match file.read(rt, tree, bus, 0, &mut out) {
+    match file.read(rt, tree, ops, 0, &mut out) {
         Ok(count) => &out[..count] == text,
         Err(_) => false,
     }
 }
 
-fn stores<N: Naming, R: Abort + Wait>(
+pub(crate) fn stores<N: Naming, R: Abort + Wait, W: WaitOps<N>>(
+    rt: &R,
+    alloc: Global,
+    tree: &SharedTree<N>,
+    ops: &W,
+    (path, bytes): (&[u8], &[u8]),
+) -> Option<Result<usize, FileError>> {
+    let mut file = opened(rt, alloc, tree, path, WRITE)?;
+    Some(file.write(rt, tree, ops, bytes))
+}
+
+fn refuses<N: Naming, R: Abort + Wait>(
     rt: &R,
     alloc: Global,
     tree: &SharedTree<N>,
     bus: &Bus<N>,
-    (path, bytes): (&[u8], &[u8]),
-) -> Option<Result<usize, FileError>> {
-    let mut file = opened(rt, alloc, tree, path, WRITE)?;
-    Some(file.write(rt, tree, bus, bytes))
+    (one, other): (&[u8], &[u8]),
+) -> bool {
+    let Some(one) = held(rt, tree, one) else {
+        return false;
+    };
+    let other = held(rt, tree, other);
+    let told = stores(rt, alloc, tree, bus, (b"/devices/d0/delete", b"1"));
+    one.release();
+    if let Some(other) = other {
+        other.release();
+    }
+    told == Some(Err(FileError::Callback(Fault { number: 24 })))
 }
 
 fn has<N: Naming, R: Wait>(rt: &R, tree: &SharedTree<N>, path: &[u8], count: usize) -> bool {
@@ -70,10 +88,6 @@ fn has<N: Naming, R: Wait>(rt: &R, tree: &SharedTree<N>, path: &[u8], count: usi
         Ok(names) => names.len() == count,
         Err(_) => false,
     }
-}
-
-pub(crate) fn is_missing<N: Naming, R: Wait>(rt: &R, tree: &SharedTree<N>, path: &[u8]) -> bool {
-    tree.edit(rt).state().walk(path) == Err(Refusal::NoEntry)
 }
 
 fn removes<N: Naming, R: Wait>(rt: &R, tree: &SharedTree<N>, path: &[u8]) -> bool {
@@ -92,25 +106,9 @@ fn removes<N: Naming, R: Wait>(rt: &R, tree: &SharedTree<N>, path: &[u8]) -> boo
     }
 }
 
-fn moves<N: Naming, R: Wait>(rt: &R, tree: &SharedTree<N>, path: &[u8], name: &[u8]) -> bool {
-    let mut editor = tree.edit(rt);
-    let root = editor.state().root();
-    match editor.state().lookup(path) {
-        Ok(key) => editor.rename(key, root, name) == Ok(()),
-        Err(_) => false,
-    }
-}
-
 // An editor within a longer expression would keep the lock.
 fn compacts<N: Naming, R: Wait>(rt: &R, tree: &SharedTree<N>) -> bool {
     tree.edit(rt).compact() == Ok(())
-}
-
-fn plants<N: Naming, R: Wait>(rt: &R, tree: &SharedTree<N>, tag: u64) -> bool {
-    let mut editor = tree.edit(rt);
-    let root = editor.state().root();
-    let file = Node::File { mode: 0o666, tag };
-    editor.create(root, b"odd", file, true).is_ok()
 }
 
 fn is_unknown<N: Naming, R: Abort + Wait>(
@@ -120,7 +118,7 @@ fn is_unknown<N: Naming, R: Abort + Wait>(
     bus: &Bus<N>,
     tag: u64,
 ) -> bool {
-    let is_planted = plants(rt, tree, tag);
+    let is_planted = plants(rt, tree, b"odd", tag);
     let Some(mut file) = opened(rt, alloc, tree, b"/odd", BOTH) else {
         return false;
     };
@@ -145,14 +143,13 @@ fn is_right<N: Naming, R: Abort + Wait>(
         Step::Stores(path, bytes, told) => {
             stores(rt, alloc, tree, bus, (path, bytes)) == Some(told)
         }
+        Step::Refuses(one, other) => refuses(rt, alloc, tree, bus, (one, other)),
         Step::Has(path, count) => has(rt, tree, path, count),
-        Step::IsMissing(path) => is_missing(rt, tree, path),
         Step::Keeps(least, most) => {
             let kept = bus.kept(rt);
             least <= kept && kept <= most
         }
         Step::Removes(path) => removes(rt, tree, path),
-        Step::Moves(path, name) => moves(rt, tree, path, name),
         Step::Compacts => compacts(rt, tree),
         Step::IsUnknown(tag) => is_unknown(rt, alloc, tree, bus, tag),
     }

@@ -1,9 +1,9 @@
-//! Devices on a shared tree, in threads.
+//! Four threads on one device: they read it, delete or unplug it, plug its name anew, or look what is there.
 ghost use Rattle.std.specs.Prelude.{◌≡◌};
 
-use crate::delayed::{deletes, new_delayed};
-use crate::fixtures::{READ, count_of, made, new_bus, opened};
-use crate::steps::{Step, take};
+use crate::delayed::{Delayed, new_delayed};
+use crate::fixtures::{READ, count_of, made, new_bus, opened, wait_for};
+use crate::steps::{Step, shows, stores, take};
 use kf_core::Refusal;
 use kf_device::Bus;
 use kf_files::FileError;
@@ -12,113 +12,153 @@ use std::alloc::Global;
 use std::marker::Brand;
 use std::process::Abort;
 use std::sync::Wait;
-use std::sync::atomic::{AtomicU64, Ordering};
-use std::thread::{Threads, join};
+use std::sync::atomic::Ordering;
+use std::thread::{Threads, for_each_mut};
 
-// Two stores of the same `delete`, each in its callback before either goes on.
-fn both_delete<N: Naming + Send + Sync, R: Abort + Threads + Wait + Sync>(
+const VALUE: &[u8] = b"/devices/d0/value";
+
+/// What a thread does.
+#[derive(Clone, Copy)]
+enum Part {
+    /// It reads the value of `d0`, by a show that stays inside until a removal has begun.
+    Reads,
+    /// It stores into `delete` of `d0`, by a store that goes on once another callback is inside.
+    Deletes,
+    /// It unplugs `d0` once a show is inside.
+    Unplugs,
+    /// It plugs `d0` again and again, reads the value that is there, and unplugs.
+    Renews,
+    /// It looks again and again.
+    Looks,
+}
+
+/// Crowds on a device that is there. Neither an unplug nor a `delete` answers before a show has ended, two
+/// stores of one `delete` meet in their callbacks, and whoever plugs has its text ready.
+const CROWDS: [[Part; 4]; 4] = [
+    [Part::Reads, Part::Unplugs, Part::Looks, Part::Looks],
+    [Part::Reads, Part::Deletes, Part::Looks, Part::Looks],
+    [Part::Deletes, Part::Deletes, Part::Looks, Part::Looks],
+    [Part::Renews, Part::Renews, Part::Renews, Part::Renews],
+];
+
+// Whether the name has a live directory, a live link and a value, or none of them.
+fn is_whole<N: Naming, R: Wait>(rt: &R, tree: &SharedTree<N>) -> bool {
+    let editor = tree.edit(rt);
+    let is_there = editor.state().lookup(b"/devices/d0").is_ok();
+    is_there == editor.state().lookup(b"/bus/devices/d0").is_ok()
+        && is_there == editor.state().lookup(VALUE).is_ok()
+}
+
+fn looks<N: Naming, R: Wait>(rt: &R, tree: &SharedTree<N>) -> bool {
+    for _ in 0..1_000 {
+        if !is_whole(rt, tree) {
+            return false;
+        }
+    }
+    true
+}
+
+// Whether the device that is there has its text, if one is there, or it is gone meanwhile.
+fn has_text<N: Naming, R: Abort + Wait>(
     rt: &R,
     alloc: Global,
     tree: &SharedTree<N>,
     bus: &Bus<N>,
 ) -> bool {
-    let meeting = new_delayed(bus, 2);
-    let (one, other) = join(
-        rt,
-        || deletes(rt, alloc, tree, &meeting),
-        || deletes(rt, alloc, tree, &meeting),
-    );
-    one && other
+    let Some(mut file) = opened(rt, alloc, tree, VALUE, READ) else {
+        return true;
+    };
+    let told = file.read(rt, tree, bus, 0, &mut [0u8; 4]);
+    told == Ok(2) || told == Err(FileError::Refused(Refusal::NoDevice))
 }
 
-const GONE: [Step; 4] = [
+fn renews<N: Naming, R: Abort + Wait>(
+    rt: &R,
+    alloc: Global,
+    tree: &SharedTree<N>,
+    bus: &Bus<N>,
+) -> bool {
+    for _ in 0..300 {
+        let plugged = bus.plug(rt, tree, b"d0", b"on");
+        let is_right = matches!(plugged, Ok(_) | Err(Refusal::Exists))
+            && has_text(rt, alloc, tree, bus)
+            && is_whole(rt, tree);
+        let unplugged = bus.unplug(rt, tree, b"d0");
+        if !is_right || !matches!(unplugged, Ok(()) | Err(Refusal::NoEntry)) {
+            return false;
+        }
+    }
+    true
+}
+
+fn unplugs<N: Naming, R: Wait>(
+    rt: &R,
+    tree: &SharedTree<N>,
+    bus: &Bus<N>,
+    ops: &Delayed<'_, N>,
+) -> bool {
+    let is_inside = wait_for(1, &ops.begun);
+    let is_unplugged = bus.unplug(rt, tree, b"d0") == Ok(());
+    ops.answered.fetch_add(1, Ordering::SeqCst);
+    is_inside && is_unplugged
+}
+
+fn deletes<N: Naming, R: Abort + Wait>(
+    rt: &R,
+    alloc: Global,
+    tree: &SharedTree<N>,
+    ops: &Delayed<'_, N>,
+) -> bool {
+    let told = stores(rt, alloc, tree, ops, (b"/devices/d0/delete", b"1"));
+    ops.answered.fetch_add(1, Ordering::SeqCst);
+    told == Some(Ok(1))
+}
+
+fn takes_part<N: Naming, R: Abort + Wait>(
+    rt: &R,
+    alloc: Global,
+    tree: &SharedTree<N>,
+    (bus, ops): (&Bus<N>, &Delayed<'_, N>),
+    part: Part,
+) {
+    let is_right = match part {
+        Part::Reads => shows(rt, alloc, tree, ops, (VALUE, b"on")),
+        Part::Deletes => deletes(rt, alloc, tree, ops),
+        Part::Unplugs => unplugs(rt, tree, bus, ops),
+        Part::Renews => renews(rt, alloc, tree, bus),
+        Part::Looks => looks(rt, tree),
+    };
+    assert!(rt; is_right);
+}
+
+const THERE: [Step; 1] = [Step::Plugs(b"d0", b"on", None)];
+
+const GONE: [Step; 3] = [
     Step::Has(b"/devices", 0),
     Step::Has(b"/bus/devices", 0),
-    Step::IsMissing(b"/devices/d0"),
     Step::Keeps(0, 0),
 ];
 
 fn meet<N: Naming + Send + Sync, R: Abort + Threads + Wait + Sync>(
     rt: &R,
     alloc: Global,
-    new: NewTree,
-)
-    requires { new.master.table ≡ N.table }
-{
-    let tree = new.named::<N>();
-    let bus = new_bus(rt, alloc);
-    assert!(rt; bus.plug(rt, &tree, b"d0", b"on").is_ok());
-    assert!(rt; both_delete(rt, alloc, &tree, &bus), "each store answers 1");
-    take(rt, alloc, &tree, &bus, &GONE);
-}
-
-#[test]
-fn two_stores_of_delete_meet(rt: HostRuntime) {
-    let new = made(&rt, rt.alloc(), 16, 100);
-    meet::<Brand, _>(&rt, rt.alloc(), new);
-}
-
-// ---- a device is read as soon as it is there
-
-const COMINGS: u64 = 100_000;
-
-const MEETINGS: u64 = 1_000;
-
-// Plugs one name again and again, and unplugs it, until the other is over, and tells when that is done.
-fn comes_and_goes<N: Naming, R: Wait>(
-    rt: &R,
     tree: &SharedTree<N>,
     bus: &Bus<N>,
-    is_over: &AtomicU64,
+    mut parts: [Part; 4],
 ) {
-    for _ in 0..COMINGS {
-        if count_of(is_over) == 1 {
-            break;
-        }
-        let _ = bus.plug(rt, tree, b"d0", b"on");
-        let _ = bus.unplug(rt, tree, b"d0");
-    }
-    is_over.store(1, Ordering::SeqCst);
+    take(rt, alloc, tree, bus, &THERE);
+    let ops = new_delayed(bus);
+    for_each_mut(
+        rt,
+        &mut parts,
+        4,
+        &|_, part| takes_part(rt, alloc, tree, (bus, &ops), *part),
+    );
+    assert!(rt; count_of(&ops.early) == 0);
+    take(rt, alloc, tree, bus, &GONE);
 }
 
-// Reads the value of the device that is there, if one is: it has its text, or the device is gone already.
-fn reads<N: Naming, R: Abort + Wait>(
-    rt: &R,
-    alloc: Global,
-    tree: &SharedTree<N>,
-    bus: &Bus<N>,
-) -> Option<bool> {
-    let mut file = opened(rt, alloc, tree, b"/devices/d0/value", READ)?;
-    let mut out = [0u8; 4];
-    let told = file.read(rt, tree, bus, 0, &mut out);
-    let is_gone = told == Err(FileError::Refused(Refusal::NoDevice));
-    Some(is_gone || (told == Ok(2) && out == *b"on\0\0"))
-}
-
-// Reads so many values of devices that it meets. Answers how many were wrong.
-fn reads_each<N: Naming, R: Abort + Wait>(
-    rt: &R,
-    alloc: Global,
-    tree: &SharedTree<N>,
-    bus: &Bus<N>,
-    is_over: &AtomicU64,
-) -> u64 {
-    let (mut met, mut wrong) = (0u64, 0u64);
-    for _ in 0..1_000_000_000u64 {
-        if met >= MEETINGS || count_of(is_over) == 1 {
-            break;
-        }
-        match reads(rt, alloc, tree, bus) {
-            Some(true) => met = met.saturating_add(1),
-            Some(false) => wrong = wrong.saturating_add(1),
-            None => {}
-        }
-    }
-    is_over.store(1, Ordering::SeqCst);
-    wrong
-}
-
-fn read_while_plugged<N: Naming + Send + Sync, R: Abort + Threads + Wait + Sync>(
+fn crowds_meet<N: Naming + Send + Sync, R: Abort + Threads + Wait + Sync>(
     rt: &R,
     alloc: Global,
     new: NewTree,
@@ -127,17 +167,13 @@ fn read_while_plugged<N: Naming + Send + Sync, R: Abort + Threads + Wait + Sync>
 {
     let tree = new.named::<N>();
     let bus = new_bus(rt, alloc);
-    let is_over = AtomicU64::new(0);
-    let (_, wrong) = join(
-        rt,
-        || comes_and_goes(rt, &tree, &bus, &is_over),
-        || reads_each(rt, alloc, &tree, &bus, &is_over),
-    );
-    assert_eq!(rt; wrong, 0);
+    for parts in CROWDS {
+        meet(rt, alloc, &tree, &bus, parts);
+    }
 }
 
 #[test]
-fn a_device_that_is_there_has_its_text(rt: HostRuntime) {
-    let new = made(&rt, rt.alloc(), 16, 100);
-    read_while_plugged::<Brand, _>(&rt, rt.alloc(), new);
+fn threads_meet_on_one_device(rt: HostRuntime) {
+    let new = made(&rt, rt.alloc(), 100);
+    crowds_meet::<Brand, _>(&rt, rt.alloc(), new);
 }

@@ -4,50 +4,36 @@ ghost use Rattle.kf_core.specs.Phases.{has_reference};
 ghost use Rattle.kf_core.specs.declared.caller.Phase.TheVariants.{Running};
 ghost use Rattle.kf_words.specs.Callers.{IsSameSeat};
 
-use crate::fixtures::stay;
-use kf_files::{Fault, Page, WaitOps};
-use kf_notify::Post;
+use kf_files::{Fault, Page, WaitBinaryOps, WaitOps};
 use kf_shared::{Naming, SharedTree, release_all};
 use kf_words::Call;
+use std::sync::Wait;
 use std::sync::atomic::{AtomicU64, Ordering};
-use std::sync::{Mutex, Wait};
 
-/// What callbacks do and answer. Each store takes all but where it is said.
+/// What callbacks do and answer. Each takes and gives all bytes but where it is said.
 #[derive(Clone, Copy)]
 pub(crate) enum Plan {
     /// A show fills its page with this.
     Shows(&'static [u8]),
-    /// A store answers this number.
+    /// A store answers this number, and a read of bytes too, where there is room.
     Takes(usize),
-    /// Both fault with this number, a show once it has filled something.
+    /// All fault with this number, a show once it has filled something.
     Faults(u16),
     /// A show removes its own node before it shows this.
     Leaves(&'static [u8]),
-    /// A show stays inside until `/t` is marked, and then looks 10,000 times whether a removal has answered.
-    Stays(&'static [u8]),
 }
 
 #[derive(Drop)]
 pub(crate) struct Driver {
     plan: Plan,
-    /// What a show notifies.
-    post: Option<Mutex<Post>>,
-    pub(crate) shows: AtomicU64,
-    pub(crate) stores: AtomicU64,
-    /// How many removals have answered.
-    pub(crate) answered: AtomicU64,
-    /// How many looks of a show that stayed inside saw one that had.
-    pub(crate) early: AtomicU64,
+    /// How often any callback was called.
+    pub(crate) calls: AtomicU64,
 }
 
-pub(crate) fn driver_of(plan: Plan, post: Option<Mutex<Post>>) -> Driver {
+pub(crate) fn driver_of(plan: Plan) -> Driver {
     Driver {
         plan,
-        post,
-        shows: AtomicU64::new(0),
-        stores: AtomicU64::new(0),
-        answered: AtomicU64::new(0),
-        early: AtomicU64::new(0),
+        calls: AtomicU64::new(0),
     }
 }
 
@@ -64,36 +50,12 @@ fn removes_itself<N: Naming, R: Wait>(rt: &R, tree: &SharedTree<N>, call: &mut C
 }
 
 impl Driver {
-    // What a show does before it answers: the text that it fills its page with.
-    fn begins<N: Naming, R: Wait>(
-        &self,
-        rt: &R,
-        tree: &SharedTree<N>,
-        call: &mut Call,
-    ) -> &'static [u8]
-        requires table { call.old.table ≡ N.table }
-        requires running { call.old.phase ≡ Running }
-        ensures seat { IsSameSeat call.old call.new }
-        ensures reference { has_reference call.new.phase ≡ true }
-    {
+    // What a callback that is given or asked for so many bytes answers.
+    fn answers(&self, count: usize) -> Result<usize, Fault> {
         match self.plan {
-            Plan::Shows(text) => text,
-            Plan::Takes(_) => b"",
-            Plan::Faults(_) => b"lost",
-            Plan::Leaves(text) => {
-                removes_itself(rt, tree, call);
-                text
-            }
-            Plan::Stays(text) => {
-                stay(rt, tree, b"/t", (&self.answered, &self.early));
-                text
-            }
-        }
-    }
-
-    fn notifies<R: Wait>(&self, rt: &R) {
-        if let Some(post) = &self.post {
-            let _ = post.lock(rt).notify();
+            Plan::Faults(number) => Err(Fault { number }),
+            Plan::Takes(taken) => Ok(taken),
+            Plan::Shows(_) | Plan::Leaves(_) => Ok(count),
         }
     }
 }
@@ -111,14 +73,18 @@ impl<N: Naming> WaitOps<N> for Driver {
         _tag: u64,
         page: &mut Page,
     ) -> Result<(), Fault> {
-        self.shows.fetch_add(1, Ordering::SeqCst);
-        self.notifies(rt);
-        let text = self.begins(rt, tree, call);
+        self.calls.fetch_add(1, Ordering::SeqCst);
+        let text: &[u8] = match self.plan {
+            Plan::Shows(text) | Plan::Leaves(text) => text,
+            Plan::Takes(_) | Plan::Faults(_) => b"lost",
+        };
         let _ = page.try_extend_from_slice(text);
         match self.plan {
-            Plan::Faults(number) => Err(Fault { number }),
-            _ => Ok(()),
+            Plan::Leaves(_) => removes_itself(rt, tree, call),
+            Plan::Faults(number) => return Err(Fault { number }),
+            Plan::Shows(_) | Plan::Takes(_) => {}
         }
+        Ok(())
     }
 
     fn store<R: Wait>(
@@ -129,11 +95,39 @@ impl<N: Naming> WaitOps<N> for Driver {
         _tag: u64,
         bytes: &[u8],
     ) -> Result<usize, Fault> {
-        self.stores.fetch_add(1, Ordering::SeqCst);
-        match self.plan {
-            Plan::Faults(number) => Err(Fault { number }),
-            Plan::Takes(count) => Ok(count),
-            _ => Ok(bytes.len()),
-        }
+        self.calls.fetch_add(1, Ordering::SeqCst);
+        self.answers(bytes.len())
+    }
+}
+
+impl<N: Naming> WaitBinaryOps<N> for Driver {
+    ghost may_read_at = { λ _ _ _ _ _. Unit {0} };
+
+    ghost may_write_at = { λ _ _ _ _ _. Unit {0} };
+
+    fn read_at<R: Wait>(
+        &self,
+        _rt: &R,
+        _tree: &SharedTree<N>,
+        _call: &mut Call,
+        _tag: u64,
+        _offset: u64,
+        out: &mut [u8],
+    ) -> Result<usize, Fault> {
+        self.calls.fetch_add(1, Ordering::SeqCst);
+        Ok(self.answers(out.len())?.min(out.len()))
+    }
+
+    fn write_at<R: Wait>(
+        &self,
+        _rt: &R,
+        _tree: &SharedTree<N>,
+        _call: &mut Call,
+        _tag: u64,
+        _offset: u64,
+        bytes: &[u8],
+    ) -> Result<usize, Fault> {
+        self.calls.fetch_add(1, Ordering::SeqCst);
+        Ok(self.answers(bytes.len())?.min(bytes.len()))
     }
 }

@@ -15,12 +15,15 @@ pub(crate) enum Step {
     Fails(Plan, FileError, u64),
     /// What a write of these bytes is answered by, and how many calls it makes.
     Writes(Plan, &'static [u8], Result<usize, FileError>, u64),
+    /// The same of a read of 9 bytes of a binary attribute.
+    ReadsAt(Plan, Result<usize, FileError>, u64),
+    /// The same of a write of these bytes of a binary attribute.
+    WritesAt(Plan, &'static [u8], Result<usize, FileError>, u64),
     /// Whether the file has changed.
     Polls(bool),
 }
 
-/// Whether a read of 9 bytes at the offset gives these.
-pub(crate) fn gives<N: Naming, R: Wait>(
+fn gives<N: Naming, R: Wait>(
     rt: &R,
     tree: &SharedTree<N>,
     file: &mut WaitingFile<N>,
@@ -34,30 +37,29 @@ pub(crate) fn gives<N: Naming, R: Wait>(
     }
 }
 
+/// Whether what the step asks for is answered as it must be, and by how many calls, where there may be some.
 fn is_right<N: Naming, R: Wait>(
     rt: &R,
     tree: &SharedTree<N>,
     file: &mut WaitingFile<N>,
     step: Step,
 ) -> bool {
-    match step {
-        Step::Gives(plan, offset, text, shows) => {
-            let driver = driver_of(plan, None);
-            let is_given = gives(rt, tree, file, &driver, (offset, text));
-            is_given && count_of(&driver.shows) == shows
-        }
-        Step::Fails(plan, why, shows) => {
-            let driver = driver_of(plan, None);
-            let answer = file.read(rt, tree, &driver, 0, &mut [0u8; 9]);
-            answer == Err(why) && count_of(&driver.shows) == shows
-        }
-        Step::Writes(plan, bytes, told, stores) => {
-            let driver = driver_of(plan, None);
-            let answer = file.write(rt, tree, &driver, bytes);
-            answer == told && count_of(&driver.stores) == stores
-        }
+    let (plan, calls) = match step {
+        Step::Gives(plan, _, _, calls) | Step::Fails(plan, _, calls) => (plan, calls),
+        Step::Writes(plan, _, _, calls) | Step::WritesAt(plan, _, _, calls) => (plan, calls),
+        Step::ReadsAt(plan, _, calls) => (plan, calls),
+        Step::Polls(_) => (Plan::Takes(0), 0),
+    };
+    let driver = driver_of(plan);
+    let is_answered = match step {
+        Step::Gives(_, offset, text, _) => gives(rt, tree, file, &driver, (offset, text)),
+        Step::Fails(_, why, _) => file.read(rt, tree, &driver, 0, &mut [0u8; 9]) == Err(why),
+        Step::Writes(_, bytes, told, _) => file.write(rt, tree, &driver, bytes) == told,
+        Step::ReadsAt(_, told, _) => file.read_at(rt, tree, &driver, 3, &mut [0u8; 9]) == told,
+        Step::WritesAt(_, bytes, told, _) => file.write_at(rt, tree, &driver, 3, bytes) == told,
         Step::Polls(told) => file.poll() == told,
-    }
+    };
+    is_answered && count_of(&driver.calls) == calls
 }
 
 /// Takes the steps. The first whose answer is not as it must be stops the test.

@@ -2,8 +2,7 @@
 ghost use Rattle.std.specs.Prelude.{◌≡◌};
 
 use super::driver::{Plan, driver_of};
-use super::fixtures::{ROOT, file_of, opened};
-use crate::fixtures::{made, post_at, posts_of};
+use crate::fixtures::{READ, made, opened_by, plants, post_at, posts_of};
 use kf_core::Key;
 use kf_files::{WaitingFile, hide_and_tell, remove_and_tell};
 use kf_notify::{Post, Posts};
@@ -17,23 +16,19 @@ use std::thread::{Threads, for_each_mut, sleep};
 use std::time::{Clock, CpuClock, Duration};
 
 /// How often four threads wait for a notify, how often for a hiding, and how often for a removal.
-const CHANGES: u64 = 10_000;
+const ROUNDS: u64 = 10_000;
 
-// ---- what changes a file
+/// What becomes of a file.
+#[derive(Clone, Copy)]
+enum Change {
+    Told,
+    /// It is hidden, and shown again.
+    Hidden,
+    Removed,
+}
 
 fn tells(posts: &mut Posts, slot: u32) -> bool {
     slot < posts.slots() && posts.notify(slot).is_ok()
-}
-
-fn removes<N: Naming, R: Wait>(rt: &R, tree: &SharedTree<N>, posts: &mut Posts, key: Key) -> bool {
-    match remove_and_tell(tree.edit(rt), rt, posts, key) {
-        Ok(receipts) => {
-            let one = receipts.len() == 1;
-            release_all(receipts);
-            one
-        }
-        Err(_) => false,
-    }
 }
 
 fn hides<N: Naming, R: Wait>(rt: &R, tree: &SharedTree<N>, posts: &mut Posts, key: Key) -> bool {
@@ -53,9 +48,39 @@ fn hides<N: Naming, R: Wait>(rt: &R, tree: &SharedTree<N>, posts: &mut Posts, ke
     }
 }
 
+fn removes<N: Naming, R: Wait>(rt: &R, tree: &SharedTree<N>, posts: &mut Posts, key: Key) -> bool {
+    match remove_and_tell(tree.edit(rt), rt, posts, key) {
+        Ok(receipts) => {
+            let one = receipts.len() == 1;
+            release_all(receipts);
+            one
+        }
+        Err(_) => false,
+    }
+}
+
+/// Whether the live file of a path is there and is changed so.
+fn changes<N: Naming, R: Wait>(
+    rt: &R,
+    tree: &SharedTree<N>,
+    posts: &mut Posts,
+    path: &[u8],
+    change: Change,
+) -> bool {
+    let found = tree.edit(rt).state().lookup(path);
+    let Ok(key) = found else {
+        return false;
+    };
+    match change {
+        Change::Told => tells(posts, key.slot),
+        Change::Hidden => hides(rt, tree, posts, key),
+        Change::Removed => removes(rt, tree, posts, key),
+    }
+}
+
 /// Whether the file gives one byte.
 fn reads<N: Naming, R: Wait>(rt: &R, tree: &SharedTree<N>, file: &mut WaitingFile<N>) -> bool {
-    let quiet = driver_of(Plan::Shows(b"v"), None);
+    let quiet = driver_of(Plan::Shows(b"v"));
     file.read(rt, tree, &quiet, 0, &mut [0u8; 4]) == Ok(1)
 }
 
@@ -71,8 +96,7 @@ enum Step {
     Passes(u64, Option<u64>),
     /// The same without a limit.
     PassesAtLast(u64, u64),
-    Told,
-    Removed,
+    Is(Change),
 }
 
 /// Nothing changes: each wait ends by its limit. A notify, a removal: none waits.
@@ -82,12 +106,12 @@ const STEPS: [Step; 13] = [
     Step::Changes(false),
     Step::Passes(1, None),
     Step::PassesAtLast(7, 1),
-    Step::Told,
+    Step::Is(Change::Told),
     Step::PassesAtLast(1, 2),
     Step::Passes(1, Some(2)),
     Step::Changes(true),
     Step::Reads,
-    Step::Removed,
+    Step::Is(Change::Removed),
     Step::PassesAtLast(2, 3),
     Step::Changes(true),
 ];
@@ -97,7 +121,7 @@ fn is_right<N: Naming, R: Wait + Clock>(
     tree: &SharedTree<N>,
     file: &mut WaitingFile<N>,
     (posts, post): (&mut Posts, &mut Post),
-    (key, step): (Key, Step),
+    step: Step,
 ) -> bool {
     let limit = Duration::from_millis(2);
     match step {
@@ -105,19 +129,20 @@ fn is_right<N: Naming, R: Wait + Clock>(
         Step::Changes(told) => file.wait_changed_for(rt, limit) == told,
         Step::Passes(seen, told) => post.wait_past_for(rt, seen, limit) == told,
         Step::PassesAtLast(seen, told) => post.wait_past(rt, seen) == told,
-        Step::Told => tells(posts, key.slot),
-        Step::Removed => removes(rt, tree, posts, key),
+        Step::Is(change) => changes(rt, tree, posts, b"/t", change),
     }
 }
 
 /// Takes the steps. The first whose answer is not as it must be stops the test.
-fn walk<N: Naming, R: Abort + Wait + Clock>(rt: &R, tree: &SharedTree<N>, posts: &mut Posts) {
-    let key = file_of(rt, tree, b"t");
-    let mut post = post_at(rt, posts, key.slot);
-    let mut file = opened(rt, tree, key, posts);
+fn walk<N: Naming, R: Abort + Wait + Clock>(rt: &R, alloc: Global, tree: &SharedTree<N>) {
+    let mut posts = posts_of(rt, alloc);
+    let mut post = post_at(rt, &mut posts, 1);
+    let Some(mut file) = opened_by(rt, tree, &mut posts, b"/t", READ) else {
+        panic!(rt; "not opened")
+    };
     let mut place = 0usize;
     for step in STEPS {
-        if !is_right(rt, tree, &mut file, (posts, &mut post), (key, step)) {
+        if !is_right(rt, tree, &mut file, (&mut posts, &mut post), step) {
             panic!(rt; "step {place}");
         }
         place = place.saturating_add(1);
@@ -128,27 +153,17 @@ fn ends_by_a_limit<N: Naming, R: Abort + Wait + Clock>(rt: &R, alloc: Global, ne
     requires { new.master.table ≡ N.table }
 {
     let tree = new.named::<N>();
-    let mut posts = posts_of(rt, alloc, 4);
-    walk(rt, &tree, &mut posts);
+    assert!(rt; plants(rt, &tree, b"t", 7));
+    walk(rt, alloc, &tree);
 }
 
 #[test]
 fn a_wait_ends_by_its_limit_or_by_a_change(rt: HostRuntime) {
-    let new = made(&rt, rt.alloc(), 4, 8);
+    let new = made(&rt, rt.alloc(), 8);
     ends_by_a_limit::<Brand, _>(&rt, rt.alloc(), new);
 }
 
 // ---- four wait while a fifth changes the file: each notify, hiding and removal wakes them all
-
-/// What becomes of a file that all five have read.
-#[derive(Clone, Copy)]
-enum Change {
-    Told,
-    /// It is hidden, and shown again.
-    Hidden,
-    /// It is removed, and another made in its place.
-    Removed,
-}
 
 /// What one of five threads has.
 #[derive(Drop)]
@@ -161,63 +176,27 @@ struct Reader {
     seen: u64,
 }
 
-fn changes<N: Naming, R: Abort + Wait>(
-    rt: &R,
-    tree: &SharedTree<N>,
-    posts: &mut Posts,
-    (key, name): (Key, &[u8]),
-    change: Change,
-) -> bool {
-    match change {
-        Change::Told => tells(posts, key.slot),
-        Change::Hidden => hides(rt, tree, posts, key),
-        Change::Removed => {
-            let removed = removes(rt, tree, posts, key);
-            file_of(rt, tree, name);
-            removed
-        }
-    }
-}
-
-fn found<N: Naming, R: Abort + Wait>(rt: &R, tree: &SharedTree<N>, name: &[u8]) -> Key {
-    match tree.edit(rt).state().find(ROOT, name) {
-        Ok(key) => key,
-        Err(_) => panic!(rt; "not there"),
-    }
-}
-
-/// Opens the file and reads it, and sleeps until it has changed. The last of five to read changes it, while
-/// four wait.
+/// Opens the file of a path and reads it, and sleeps until it has changed. The last of five to read changes
+/// it, while four wait; a file that is removed is made anew.
 fn sees<N: Naming, R: Abort + Wait>(
     rt: &R,
     tree: &SharedTree<N>,
     posts: &mut Posts,
-    name: &[u8],
+    (path, name): (&[u8], &[u8]),
     (change, count): (Change, &AtomicU64),
 ) -> bool {
-    let key = found(rt, tree, name);
-    let mut file = opened(rt, tree, key, posts);
+    let Some(mut file) = opened_by(rt, tree, posts, path, READ) else {
+        panic!(rt; "not opened")
+    };
     let mut right = reads(rt, tree, &mut file) && !file.poll();
     if count.fetch_add(1, Ordering::SeqCst) % 5 == 4 {
-        right = changes(rt, tree, posts, (key, name), change) && right;
+        right = changes(rt, tree, posts, path, change) && right;
+        if matches!(change, Change::Removed) {
+            right = plants(rt, tree, name, 7) && right;
+        }
     }
     file.wait_changed(rt);
     right && file.poll()
-}
-
-/// Sees changes of `s` and `t` in turn: who changed the one has done so before the other is read by all.
-fn sees_all<N: Naming, R: Abort + Wait>(
-    rt: &R,
-    tree: &SharedTree<N>,
-    reader: &mut Reader,
-    change: (Change, &AtomicU64),
-) {
-    for round in 0..CHANGES {
-        let name: &[u8] = if round % 2 == 0 { b"s" } else { b"t" };
-        if sees(rt, tree, &mut reader.posts, name, change) {
-            reader.seen = reader.seen.saturating_add(1);
-        }
-    }
 }
 
 /// Whether hardly any processor time passes in the process while four threads wait, in a second.
@@ -236,7 +215,8 @@ fn are_asleep<R: Wait + Clock + CpuClock>(rt: &R, count: &AtomicU64) -> bool {
     }
 }
 
-/// One of five.
+/// One of five sees changes of `s` and `t` in turn: who changed the one has done so before the other is read
+/// by all.
 fn takes_part<N: Naming, R: Abort + Wait + Clock + CpuClock>(
     rt: &R,
     tree: &SharedTree<N>,
@@ -244,15 +224,21 @@ fn takes_part<N: Naming, R: Abort + Wait + Clock + CpuClock>(
     change: (Change, &AtomicU64),
 ) {
     let are_others_asleep = !reader.comes_last || are_asleep(rt, change.1);
-    sees_all(rt, tree, reader, change);
-    if !are_others_asleep {
-        reader.seen = 0;
+    for round in 0..ROUNDS {
+        let file: (&[u8], &[u8]) = if round % 2 == 0 {
+            (b"/s", b"s")
+        } else {
+            (b"/t", b"t")
+        };
+        if sees(rt, tree, &mut reader.posts, file, change) && are_others_asleep {
+            reader.seen = reader.seen.saturating_add(1);
+        }
     }
 }
 
 /// Five readers, whose last comes last.
 fn readers_of<R: Abort>(rt: &R, alloc: Global) -> Vec<Reader> {
-    let mut posts = posts_of(rt, alloc, 4);
+    let mut posts = posts_of(rt, alloc);
     let mut readers = Vec::new(alloc);
     for number in 0..5u32 {
         let Ok(own) = posts.another() else {
@@ -284,7 +270,7 @@ fn all_see<N: Naming + Send + Sync, R: Abort + Threads + Wait + Clock + CpuClock
         &|_, reader| takes_part(rt, tree, reader, (change, &count)),
     );
     for reader in readers.as_slice() {
-        assert!(rt; reader.seen == CHANGES, "each saw each change");
+        assert!(rt; reader.seen == ROUNDS, "each saw each change");
     }
 }
 
@@ -297,25 +283,24 @@ fn four_are_woken<N: Naming + Send + Sync, R: Abort + Threads + Wait + Clock + C
     requires { new.master.table ≡ N.table }
 {
     let tree = new.named::<N>();
-    file_of(rt, &tree, b"s");
-    file_of(rt, &tree, b"t");
+    assert!(rt; plants(rt, &tree, b"s", 7) && plants(rt, &tree, b"t", 7));
     all_see(rt, alloc, &tree, change);
 }
 
 #[test]
 fn four_threads_sleep_and_each_notify_wakes_them_all(rt: HostRuntime) {
-    let new = made(&rt, rt.alloc(), 4, 8);
+    let new = made(&rt, rt.alloc(), 8);
     four_are_woken::<Brand, _>(&rt, rt.alloc(), new, Change::Told);
 }
 
 #[test]
 fn four_threads_sleep_and_each_hiding_wakes_them_all(rt: HostRuntime) {
-    let new = made(&rt, rt.alloc(), 4, 8);
+    let new = made(&rt, rt.alloc(), 8);
     four_are_woken::<Brand, _>(&rt, rt.alloc(), new, Change::Hidden);
 }
 
 #[test]
 fn four_threads_sleep_and_each_removal_wakes_them_all(rt: HostRuntime) {
-    let new = made(&rt, rt.alloc(), 4, 8);
+    let new = made(&rt, rt.alloc(), 8);
     four_are_woken::<Brand, _>(&rt, rt.alloc(), new, Change::Removed);
 }

@@ -1,4 +1,4 @@
-use Rattle.kf_device_tests.proofs.text_tests.a_device_without_its_value_is_deleted.Given as goal
+use Rattle.kf_device_tests.proofs.bus_tests.a_bus_keeps_the_devices_that_are_there.Given as goal
 
 -- the tree that was just made
 abbrev pub ghosts-walk : goal.ghosts-walk

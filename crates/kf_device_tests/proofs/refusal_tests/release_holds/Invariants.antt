@@ -1,5 +1,0 @@
-use Rattle.std.specs.Vec.{vec_len}
-use Rattle.kf_device_tests.proofs.refusal_tests.release_holds.Given as goal
-
-abbrev pub decreases-loop-hold : goal.decreases-loop-hold
-decreases-loop-hold l = vec_len l.holds

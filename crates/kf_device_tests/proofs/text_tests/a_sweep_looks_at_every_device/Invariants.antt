@@ -1,5 +1,0 @@
-use Rattle.kf_device_tests.proofs.text_tests.a_sweep_looks_at_every_device.Given as goal
-
--- the tree that was just made
-abbrev pub ghosts-walk : goal.ghosts-walk
-ghosts-walk g a = record { table = a.new.master.table }
