@@ -11,6 +11,8 @@ use std::sync::atomic::{AtomicU64, Ordering};
 #[derive(Drop)]
 pub(crate) struct Delayed<'a, N: Naming> {
     bus: &'a Bus<N>,
+    /// How often `d0` was plugged anew, by who tells that.
+    pub(crate) plugged: AtomicU64,
     /// How many callbacks have begun. A store asks the bus once two have.
     pub(crate) begun: AtomicU64,
     /// How many removals have answered.
@@ -23,6 +25,7 @@ pub(crate) struct Delayed<'a, N: Naming> {
 pub(crate) fn new_delayed<N: Naming>(bus: &Bus<N>) -> Delayed<'_, N> {
     Delayed {
         bus,
+        plugged: AtomicU64::new(0),
         begun: AtomicU64::new(0),
         answered: AtomicU64::new(0),
         early: AtomicU64::new(0),

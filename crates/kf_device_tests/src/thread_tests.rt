@@ -2,7 +2,7 @@
 ghost use Rattle.std.specs.Prelude.{◌≡◌};
 
 use crate::delayed::{Delayed, new_delayed};
-use crate::fixtures::{READ, count_of, made, new_bus, opened, wait_for};
+use crate::fixtures::{READ, WRITE, count_of, made, new_bus, opened, wait_for};
 use crate::steps::{Step, shows, stores, take};
 use kf_core::Refusal;
 use kf_device::Bus;
@@ -17,6 +17,11 @@ use std::thread::{Threads, for_each_mut};
 
 const VALUE: &[u8] = b"/devices/d0/value";
 
+const DELETE: &[u8] = b"/devices/d0/delete";
+
+/// How often a device has a later one of its name.
+const ROUNDS: u64 = 500;
+
 /// What a thread does.
 #[derive(Clone, Copy)]
 enum Part {
@@ -26,6 +31,10 @@ enum Part {
     Deletes,
     /// It unplugs `d0` once a show is inside.
     Unplugs,
+    /// It unplugs `d0` and plugs a second device of the name, while another deletes the first, many times.
+    Replugs,
+    /// It deletes the first of each two, and no later one.
+    DeletesFirst,
     /// It plugs `d0` again and again, reads the value that is there, and unplugs.
     Renews,
     /// It looks again and again.
@@ -33,11 +42,13 @@ enum Part {
 }
 
 /// Crowds on a device that is there. Neither an unplug nor a `delete` answers before a show has ended, two
-/// stores of one `delete` meet in their callbacks, and whoever plugs has its text ready.
-const CROWDS: [[Part; 4]; 4] = [
+/// stores of one `delete` meet in their callbacks, a `delete` leaves a later device of the name, and whoever
+/// plugs has its text ready.
+const CROWDS: [[Part; 4]; 5] = [
     [Part::Reads, Part::Unplugs, Part::Looks, Part::Looks],
     [Part::Reads, Part::Deletes, Part::Looks, Part::Looks],
     [Part::Deletes, Part::Deletes, Part::Looks, Part::Looks],
+    [Part::Replugs, Part::DeletesFirst, Part::Looks, Part::Looks],
     [Part::Renews, Part::Renews, Part::Renews, Part::Renews],
 ];
 
@@ -91,6 +102,57 @@ fn renews<N: Naming, R: Abort + Wait>(
     true
 }
 
+// Unplugs the first device, and plugs a second one of its name, once nobody has the first.
+fn replug<N: Naming, R: Wait>(rt: &R, tree: &SharedTree<N>, bus: &Bus<N>) {
+    let _ = bus.unplug(rt, tree, b"d0");
+    for _ in 0..1_000_000 {
+        if bus.plug(rt, tree, b"d0", b"second").is_ok() {
+            return;
+        }
+    }
+}
+
+// Whether each second device is there, with its value and its link, once the store has answered.
+fn replugs<N: Naming, R: Abort + Wait>(
+    rt: &R,
+    alloc: Global,
+    tree: &SharedTree<N>,
+    (bus, ops): (&Bus<N>, &Delayed<'_, N>),
+) -> bool {
+    for round in 1..=ROUNDS {
+        ops.plugged.store(round, Ordering::SeqCst);
+        wait_for(round, &ops.begun);
+        replug(rt, tree, bus);
+        wait_for(round, &ops.answered);
+        let is_there = shows(rt, alloc, tree, bus, (VALUE, b"second")) && is_whole(rt, tree);
+        let is_unplugged = bus.unplug(rt, tree, b"d0") == Ok(());
+        if !is_there || !is_unplugged || bus.plug(rt, tree, b"d0", b"on").is_err() {
+            return false;
+        }
+    }
+    bus.unplug(rt, tree, b"d0") == Ok(())
+}
+
+// Opens `delete` of each first device, and stores into it once another thread may go on.
+fn deletes_first<N: Naming, R: Abort + Wait>(
+    rt: &R,
+    alloc: Global,
+    tree: &SharedTree<N>,
+    (bus, ops): (&Bus<N>, &Delayed<'_, N>),
+) -> bool {
+    for round in 1..=ROUNDS {
+        wait_for(round, &ops.plugged);
+        let file = opened(rt, alloc, tree, DELETE, WRITE);
+        ops.begun.store(round, Ordering::SeqCst);
+        let Some(mut file) = file else {
+            return false;
+        };
+        let _ = file.write(rt, tree, bus, b"1");
+        ops.answered.store(round, Ordering::SeqCst);
+    }
+    true
+}
+
 fn unplugs<N: Naming, R: Wait>(
     rt: &R,
     tree: &SharedTree<N>,
@@ -109,7 +171,7 @@ fn deletes<N: Naming, R: Abort + Wait>(
     tree: &SharedTree<N>,
     ops: &Delayed<'_, N>,
 ) -> bool {
-    let told = stores(rt, alloc, tree, ops, (b"/devices/d0/delete", b"1"));
+    let told = stores(rt, alloc, tree, ops, (DELETE, b"1"));
     ops.answered.fetch_add(1, Ordering::SeqCst);
     told == Some(Ok(1))
 }
@@ -125,6 +187,8 @@ fn takes_part<N: Naming, R: Abort + Wait>(
         Part::Reads => shows(rt, alloc, tree, ops, (VALUE, b"on")),
         Part::Deletes => deletes(rt, alloc, tree, ops),
         Part::Unplugs => unplugs(rt, tree, bus, ops),
+        Part::Replugs => replugs(rt, alloc, tree, (bus, ops)),
+        Part::DeletesFirst => deletes_first(rt, alloc, tree, (bus, ops)),
         Part::Renews => renews(rt, alloc, tree, bus),
         Part::Looks => looks(rt, tree),
     };
