@@ -1,0 +1,106 @@
+//! Callbacks of a run, which count texts and wait for one another: what is stored says for what.
+
+use kf_files::{Fault, Page};
+use kf_shared::{Naming, SharedTree};
+use kf_words::Call;
+use kf_workers::ScriptOps;
+use std::sync::Wait;
+use std::sync::atomic::{AtomicU64, Ordering};
+
+/// A show turns until `told` is stored, and so does the first text `late` of a file.
+#[derive(Drop)]
+pub(crate) struct Waiting {
+    /// How many that turn so are inside.
+    inside: AtomicU64,
+    told: AtomicU64,
+    /// How many texts were begun.
+    pub(crate) begun: AtomicU64,
+    /// How many of them were let go: an empty text took their place.
+    pub(crate) let_go: AtomicU64,
+}
+
+pub(crate) fn new_waiting() -> Waiting {
+    Waiting {
+        inside: AtomicU64::new(0),
+        told: AtomicU64::new(0),
+        begun: AtomicU64::new(0),
+        let_go: AtomicU64::new(0),
+    }
+}
+
+/// Turns until so many are counted there. Fault 16 where they are not for long.
+fn turn_until(count: u64, counter: &AtomicU64) -> Result<(), Fault> {
+    for _ in 0..1_000_000_000u64 {
+        if counter.load(Ordering::SeqCst) >= count {
+            return Ok(());
+        }
+    }
+    Err(Fault { number: 16 })
+}
+
+/// Turns until the removal of `/x` has begun. Fault 16 where none does for long.
+fn turn_until_doomed<N: Naming, R: Wait>(rt: &R, tree: &SharedTree<N>) -> Result<(), Fault> {
+    for _ in 0..1_000_000_000u64 {
+        if tree.read(rt).state().lookup(b"/x").is_err() {
+            return Ok(());
+        }
+    }
+    Err(Fault { number: 16 })
+}
+
+impl ScriptOps for Waiting {
+    ghost may_show = { λ _ _ _. Unit {0} };
+
+    ghost may_store = { λ _ _ _ _. Unit {0} };
+
+    ghost may_begin = { λ _ _ _ _. Unit {0} };
+
+    fn show<N: Naming, R: Wait>(
+        &self,
+        _rt: &R,
+        _tree: &SharedTree<N>,
+        _call: &mut Call,
+        _tag: u64,
+        page: &mut Page,
+    ) -> Result<(), Fault> {
+        self.inside.fetch_add(1, Ordering::SeqCst);
+        turn_until(1, &self.told)?;
+        let _ = page.try_extend_from_slice(b"a");
+        Ok(())
+    }
+
+    /// A store of `inside` turns until another is inside, one of `sixteen` until so many are, and one of
+    /// `doomed` until the file `/x` is no live node any more.
+    fn store<N: Naming, R: Wait>(
+        &self,
+        rt: &R,
+        tree: &SharedTree<N>,
+        _call: &mut Call,
+        _tag: u64,
+        bytes: &[u8],
+    ) -> Result<usize, Fault> {
+        if bytes == b"inside".as_slice() {
+            turn_until(1, &self.inside)?;
+        } else if bytes == b"sixteen".as_slice() {
+            turn_until(16, &self.inside)?;
+        } else if bytes == b"doomed".as_slice() {
+            turn_until_doomed(rt, tree)?;
+        } else {
+            self.told.store(1, Ordering::SeqCst);
+        }
+        Ok(bytes.len())
+    }
+
+    fn first<R: Wait>(&self, _rt: &R, _tag: u64, bytes: &[u8]) -> Result<(), Fault> {
+        if bytes.is_empty() {
+            self.let_go.fetch_add(1, Ordering::SeqCst);
+            return Ok(());
+        }
+        self.begun.fetch_add(1, Ordering::SeqCst);
+        if bytes == b"late".as_slice() {
+            self.inside.fetch_add(1, Ordering::SeqCst);
+            turn_until(1, &self.told)?;
+        }
+        Ok(())
+    }
+}
