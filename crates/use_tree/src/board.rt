@@ -5,6 +5,7 @@ ghost use Rattle.std.specs.Prelude.{◌≤◌};
 use kf_core::{Key, Refusal};
 use kf_script::{Board, Reply, Request, run_script};
 use std::alloc::Global;
+use std::io;
 
 /// How many nodes were asked for.
 #[derive(Drop)]
@@ -36,8 +37,6 @@ impl Board for Counter {
 pub(crate) fn start<R: Print>(rt: &R, alloc: Global) -> anyhow::Result<()> {
     let mut script = b"mkdir /a\nfile /a/x 644 v\ncommands\nls /\nfrob\n".as_slice();
     let mut board = Counter { nodes: 0 };
-    let mut replies = Vec::new(alloc);
-    run_script(alloc, &mut board, &mut script, &mut replies)?;
-    print!(rt; "{}", String::from_utf8_lossy(alloc, replies.as_slice())?)?;
+    run_script(alloc, &mut board, &mut script, &mut io::writer(rt))?;
     Ok(())
 }

@@ -1,7 +1,5 @@
 //! The plain tree with keys of its owner's own choice: fans that come and go, each in the slot of its number.
 
-ghost use Rattle.std.specs.Prelude.{◌≡◌, IfSome, None, Some, slice_get};
-
 use anyhow::Context;
 use kf_core::{Key, Limits, Node, Refusal};
 use kf_tree::State;
@@ -13,28 +11,22 @@ const ROOT: Key = Key {
     generation: 1,
 };
 
-/// The key of a fan that has come so many times before, where its slot is vacant. `create` asks for that.
-fn key_of(state: &State, fan: u32, times: u32) -> Option<Key>
-    ensures vacant { IfSome result (λ key. slice_get state.now.tree key.slot ≡ Some None) }
-{
+/// A fan comes, which has come so many times before: its attribute is live at once. `create` asks that the
+/// key's slot is vacant.
+fn come(state: &mut State, name: &[u8], fan: u32, times: u32) -> Result<Key, Refusal> {
     let slot = 1 + fan % 8;
     if !state.is_vacant(slot) {
-        return None;
+        return Err(Refusal::NoSpace);
     }
-    Some(Key {
-        slot,
-        generation: 1 + times % 1000,
-    })
-}
-
-/// A fan comes: its attribute is live at once.
-fn come(state: &mut State, name: &[u8], fan: u32, times: u32) -> Result<Key, Refusal> {
     let attribute = Node::File {
         mode: 0o644,
         tag: u64::from(fan),
     };
-    let next = key_of(state, fan, times);
-    state.create(ROOT, name, attribute, true, next)
+    let key = Key {
+        slot,
+        generation: 1 + times % 1000,
+    };
+    state.create(ROOT, name, attribute, true, Some(key))
 }
 
 /// A node goes, and all below it: each is doomed at once, and unlinked after what is below it.
@@ -63,9 +55,10 @@ fn come_again(rt: &impl Print, state: &mut State, fan1: Key) -> anyhow::Result<(
     Ok(())
 }
 
-fn print_names(rt: &impl Print, alloc: Global, state: &State) -> anyhow::Result<()> {
+fn print_names(rt: &impl Print, state: &State) -> anyhow::Result<()> {
     for name in state.list(ROOT, None, 10)? {
-        println!(rt; "{}", String::from_utf8_lossy(alloc, name.bytes())?)?;
+        rt.write_all(name.bytes())?;
+        rt.write_all(b"\n")?;
     }
     Ok(())
 }
@@ -84,6 +77,6 @@ pub(crate) fn start(rt: &impl Print, alloc: Global) -> anyhow::Result<()> {
     let mut state = State::new(alloc, limits, ROOT)?;
     let fan1 = two_come(rt, &mut state)?;
     come_again(rt, &mut state, fan1)?;
-    print_names(rt, alloc, &state)?;
+    print_names(rt, &state)?;
     compact(rt, &mut state)
 }
