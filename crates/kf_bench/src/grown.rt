@@ -1,58 +1,68 @@
-//! The tree that is measured: directories below one another, and four files in the last of them.
+//! What is measured: a tree of directories below one another, with four files in the last of them, and lines
+//! of words and locks to compare.
 
 ghost use Rattle.std.specs.Prelude.{◌≡◌, IfOk};
 
 use kf_core::{Key, Node, Refusal};
 use kf_shared::{Editor, Naming, SharedTree};
-use kf_words::Hold;
-use std::sync::Wait;
+use kf_words::{Hold, Holds};
+use std::alloc::Global;
+use std::sync::atomic::AtomicU64;
+use std::sync::{RwLock, Wait};
 
 /// More slots than nodes: the words of a small tree would lie among other memory, on lines that they share
 /// with it.
 pub(crate) const SLOTS: u32 = 8192;
 
+/// The slot of a directory that is on no path which is measured.
+pub(crate) const ASIDE: u32 = 2;
+
 /// The slot of a directory with nothing in it.
 pub(crate) const LEAF: u32 = 63;
 
-/// The slots of the files.
-pub(crate) const FILES: [u32; 4] = [65, 66, 67, 68];
-
-/// What the threads are called that find or open files, how many they are, and the slots of their files.
-pub(crate) const CROWDS: [(&str, usize, [u32; 4]); 5] = [
-    ("1 thread", 1, FILES),
-    ("2 threads, own files", 2, FILES),
-    ("4 threads, own files", 4, FILES),
-    ("2 threads, one file", 2, [65; 4]),
-    ("4 threads, one file", 4, [65; 4]),
-];
-
-/// The paths of the files.
-const PATHS: [&[u8]; 4] = [
-    b"/devices/virtual/network/adapter/queues0/streams/monitor/current/a",
-    b"/devices/virtual/network/adapter/queues0/streams/monitor/current/b",
-    b"/devices/virtual/network/adapter/queues0/streams/monitor/current/c",
-    b"/devices/virtual/network/adapter/queues0/streams/monitor/current/d",
-];
+/// So many of these are a line, as the words of a slot have.
+pub(crate) const LINE: u32 = 8;
 
 /// The directories below one another, by name. All stand in the slots from 1 up.
 const NAMES: [&[u8]; 8] = [
     b"devices", b"virtual", b"network", b"adapter", b"queues0", b"streams", b"monitor", b"current",
 ];
 
-/// Makes a directory of each name in a directory, and answers that of one name.
-fn fill<N: Naming>(editor: &mut Editor<'_, N>, dir: Key, below: &[u8]) -> Result<Key, Refusal> {
-    let mut next = dir;
-    for name in NAMES {
-        let made = editor.create(dir, name, Node::Dir, true)?;
-        if name == below {
-            next = made;
-        }
-    }
-    Ok(next)
+/// A word and a lock, to compare.
+#[derive(Drop)]
+pub(crate) struct Plain {
+    pub(crate) word: AtomicU64,
+    pub(crate) lock: RwLock<u64>,
 }
 
-/// Makes the files in a directory.
-fn make_files<N: Naming>(editor: &mut Editor<'_, N>, dir: Key) -> Result<(), Refusal> {
+/// The tree, a line of words and of locks for each slot, and how many threads have come to a round and have
+/// not ended it.
+#[derive(Drop)]
+pub(crate) struct Bench<N: Naming> {
+    pub(crate) alloc: Global,
+    pub(crate) tree: SharedTree<N>,
+    pub(crate) plain: Vec<Plain>,
+    pub(crate) come: AtomicU64,
+    pub(crate) busy: AtomicU64,
+}
+
+/// Makes a directory of each name in a directory.
+fn fill<N: Naming>(editor: &mut Editor<'_, N>, dir: Key) -> Result<(), Refusal> {
+    for name in NAMES {
+        editor.create(dir, name, Node::Dir, true)?;
+    }
+    Ok(())
+}
+
+/// Makes in each directory one of each name: in the root, then in the first of these, in the second of those
+/// and so on. The files come into the last one.
+fn grow<N: Naming, R: Wait>(rt: &R, tree: &SharedTree<N>) -> Result<(), Refusal> {
+    let mut editor = tree.edit(rt);
+    let mut dir = editor.state().root();
+    for level in 0..8u32 {
+        fill(&mut editor, dir)?;
+        dir = key_in(9 * level + 1);
+    }
     let file = Node::File {
         mode: 0o666,
         tag: 0,
@@ -63,14 +73,29 @@ fn make_files<N: Naming>(editor: &mut Editor<'_, N>, dir: Key) -> Result<(), Ref
     Ok(())
 }
 
-/// Makes in each directory one of each name, the last of them with the directories below, and then the files.
-pub(crate) fn grow<N: Naming, R: Wait>(rt: &R, tree: &SharedTree<N>) -> Result<(), Refusal> {
-    let mut editor = tree.edit(rt);
-    let mut dir = editor.state().root();
-    for below in NAMES {
-        dir = fill(&mut editor, dir, below)?;
+impl<N: Naming> Bench<N> {
+    /// What is measured in a new tree.
+    pub(crate) fn new<R: Wait>(
+        rt: &R,
+        alloc: Global,
+        tree: SharedTree<N>,
+    ) -> Result<Bench<N>, Refusal> {
+        grow(rt, &tree)?;
+        let mut plain = Vec::new(alloc);
+        for _ in 0..SLOTS * LINE {
+            plain.push(Plain {
+                word: AtomicU64::new(0),
+                lock: RwLock::new(0),
+            })?;
+        }
+        Ok(Bench {
+            alloc,
+            tree,
+            plain,
+            come: AtomicU64::new(0),
+            busy: AtomicU64::new(0),
+        })
     }
-    make_files(&mut editor, dir)
 }
 
 /// The first node of a slot.
@@ -85,12 +110,12 @@ pub(crate) fn key_in(slot: u32) -> Key
 
 /// The path of the file in a slot; of another slot that of the first.
 pub(crate) fn path_of(slot: u32) -> &'static [u8] {
-    for (file, path) in FILES.iter().zip(PATHS.iter()) {
-        if *file == slot {
-            return path;
-        }
+    match slot {
+        66 => b"/devices/virtual/network/adapter/queues0/streams/monitor/current/b",
+        67 => b"/devices/virtual/network/adapter/queues0/streams/monitor/current/c",
+        68 => b"/devices/virtual/network/adapter/queues0/streams/monitor/current/d",
+        _ => b"/devices/virtual/network/adapter/queues0/streams/monitor/current/a",
     }
-    PATHS[0]
 }
 
 /// A hold of the first node of a slot.
@@ -104,4 +129,21 @@ pub(crate) fn hold_of<N: Naming, R: Wait>(
 {
     let mut editor = tree.edit(rt);
     editor.hold(key_in(slot))
+}
+
+/// A maker of a tree's holds, by a hold of its root.
+pub(crate) fn maker<N: Naming, R: Wait>(
+    rt: &R,
+    alloc: Global,
+    tree: &SharedTree<N>,
+) -> Result<Holds, Refusal>
+    ensures table { IfOk result (λ holds. holds.by.table ≡ N.table) }
+{
+    match Holds::new(alloc, hold_of(rt, tree, 0)?) {
+        Ok(holds) => Ok(holds),
+        Err((hold, refusal)) => {
+            hold.release();
+            Err(refusal)
+        }
+    }
 }

@@ -1,24 +1,21 @@
 //! What the parts of the library cost on this machine, in nanoseconds at best: `kf_bench words` tells it of
-//! calls, `kf_bench tree` of look-ups of a path and of holds of files, and `kf_bench files` of opens, closes
-//! and reads of files, also by their paths. `kf_bench wait` has four waiters for a node that is hidden, unused
-//! and not marked, for a second: who runs it counts how often they sleep. With none of these words it does
-//! nothing. Where what is measured cannot be set up it says so, and ends with 1.
+//! calls, `kf_bench tree` of look-ups of a path and of holds of files, and `kf_bench files` of reads of files
+//! and of opens by their paths. `kf_bench wait` has four waiters for a node that is hidden, unused and not
+//! marked, for a second: who runs it counts how often they sleep. With none of these words it does nothing.
+//! Where what is measured cannot be set up, or a turn of it fails, it says so, and ends with 1.
 #![tactic(auto)]
 
-ghost use Rattle.std.specs.Prelude.{◌≡◌, ◌≤◌};
-ghost use Rattle.kf_core.specs.Limits.{most_slots};
+ghost use Rattle.std.specs.Prelude.{◌≡◌};
 
-mod changes;
 mod clock;
 mod files;
 mod grown;
-mod holds;
-mod looks;
-mod visits;
+mod tables;
+mod turns;
 mod waiters;
-mod words;
 
 use anyhow::Context;
+use grown::{Bench, SLOTS};
 use kf_core::Limits;
 use kf_shared::{Naming, NewTree, SharedTree};
 use std::alloc::Global;
@@ -28,6 +25,7 @@ use std::marker::Brand;
 use std::sync::Wait;
 use std::thread::Threads;
 use std::time::Clock;
+use tables::{FILES, TREE, WORDS, tell_all};
 
 /// What is measured.
 #[derive(Clone, Copy)]
@@ -52,16 +50,6 @@ fn asked<R: Env + Alloc>(rt: &R) -> io::Result<Option<Part>> {
     })
 }
 
-/// For the look-ups of how many slots the tree of a part has words.
-fn looks_for(part: Part) -> u32
-    ensures few { result ≤ most_slots }
-{
-    match part {
-        Part::Tree | Part::Files => grown::SLOTS,
-        Part::Words | Part::Wait => 0,
-    }
-}
-
 /// Measures a part in a tree that was made for it.
 fn run<N: Naming + Send + Sync, R: Threads + Wait + Clock + Print + Sync>(
     rt: &R,
@@ -71,16 +59,12 @@ fn run<N: Naming + Send + Sync, R: Threads + Wait + Clock + Print + Sync>(
 ) -> anyhow::Result<()>
     requires { new.master.table ≡ N.table }
 {
-    let tree = new.named::<N>();
-    grown::grow(rt, &tree)?;
+    let bench = Bench::new(rt, alloc, new.named::<N>())?;
     match part {
-        Part::Words => words::tell(rt, alloc, &tree),
-        Part::Tree => {
-            looks::tell(rt, &tree)?;
-            Ok(holds::tell(rt, alloc, &tree)?)
-        }
-        Part::Files => files::tell(rt, alloc, &tree),
-        Part::Wait => waiters::wait(rt, &tree),
+        Part::Words => tell_all(rt, &bench, &WORDS),
+        Part::Tree => tell_all(rt, &bench, &TREE),
+        Part::Files => tell_all(rt, &bench, &FILES),
+        Part::Wait => Ok(waiters::wait(rt, &bench)?),
     }
 }
 
@@ -88,9 +72,7 @@ fn main(rt: HostRuntime) -> anyhow::Result<()> {
     let Some(part) = asked(&rt)? else {
         return Ok(());
     };
-    let limits = Limits::new(grown::SLOTS, 16).context(
-        "so many slots and holds are within the limits",
-    )?;
-    let new = SharedTree::<Brand>::with_looks(rt.alloc(), limits, 0, looks_for(part))?;
+    let limits = Limits::new(SLOTS, 16).context("so many slots and holds are within the limits")?;
+    let new = SharedTree::<Brand>::with_looks(rt.alloc(), limits, 0, SLOTS)?;
     run::<Brand, _>(&rt, rt.alloc(), new, part)
 }

@@ -1,22 +1,24 @@
 //! Four who wait for a node that nobody uses, and that is not marked yet.
 
-use crate::clock::THREADS;
-use crate::grown::{LEAF, hold_of, key_in};
-use anyhow::ensure;
+use crate::clock::{Seat, make_round};
+use crate::grown::{Bench, LEAF, hold_of, key_in};
+use crate::turns::Turn;
 use kf_core::Refusal;
 use kf_shared::{Naming, SharedTree, release_all};
 use kf_words::{Hidden, wait_drained, wait_hidden};
 use std::sync::Wait;
-use std::sync::atomic::{AtomicU64, Ordering};
-use std::thread::{self, Threads, for_each_mut, join};
+use std::thread::{self, Threads};
 use std::time::{Clock, Duration};
 
-/// Waits for the drain of the node in a slot, and counts who had a hold to wait by.
-fn wait_in<N: Naming, R: Wait>(rt: &R, tree: &SharedTree<N>, slot: u32, waited: &AtomicU64) {
-    if let Ok(hold) = hold_of(rt, tree, slot) {
-        wait_drained(rt, hold).release();
-        waited.fetch_add(1, Ordering::SeqCst);
-    }
+/// Waits for the drain of the node in a slot.
+pub(crate) fn wait_in<N: Naming, R: Wait>(
+    rt: &R,
+    tree: &SharedTree<N>,
+    slot: u32,
+) -> Result<(), Refusal> {
+    let hold = hold_of(rt, tree, slot)?;
+    wait_drained(rt, hold).release();
+    Ok(())
 }
 
 /// Hides the node in a slot.
@@ -31,7 +33,7 @@ fn hide<N: Naming, R: Wait>(rt: &R, tree: &SharedTree<N>, slot: u32) -> Result<H
 }
 
 /// Removes the node in a slot a second later.
-fn remove<N: Naming, R: Wait + Clock>(
+pub(crate) fn remove<N: Naming, R: Wait + Clock>(
     rt: &R,
     tree: &SharedTree<N>,
     slot: u32,
@@ -45,26 +47,18 @@ fn remove<N: Naming, R: Wait + Clock>(
 /// mark is refused they wait for ever.)
 pub(crate) fn wait<N: Naming + Send + Sync, R: Threads + Wait + Clock + Sync>(
     rt: &R,
-    tree: &SharedTree<N>,
-) -> anyhow::Result<()> {
-    let hidden = hide(rt, tree, LEAF)?;
-    let waited = AtomicU64::new(0);
-    let mut slots = [LEAF; THREADS];
-    let ((), removed) = join(
-        rt,
-        || for_each_mut(
-            rt,
-            &mut slots,
-            THREADS,
-            &|_, slot| wait_in(rt, tree, *slot, &waited),
-        ),
-        || remove(rt, tree, LEAF),
-    );
+    bench: &Bench<N>,
+) -> Result<(), Refusal> {
+    let mut seats = Vec::new(bench.alloc);
+    for _ in 0..4 {
+        seats.push(Seat::new(Turn::WaitDrained, LEAF))?;
+    }
+    seats.push(Seat::new(Turn::Remove, LEAF))?;
+    let hidden = hide(rt, &bench.tree, LEAF)?;
+    make_round(rt, bench, seats.as_mut_slice(), 1);
     hidden.show().release();
-    removed?;
-    ensure!(
-        waited.load(Ordering::SeqCst) == THREADS as u64,
-        "not all four had a hold to wait by"
-    );
+    for seat in seats {
+        seat.took?;
+    }
     Ok(())
 }

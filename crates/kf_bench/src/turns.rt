@@ -1,0 +1,182 @@
+//! What a thread does so often in a round: each of these is a column of a table, or stands beside one.
+
+use crate::files::{read, visit};
+use crate::grown::{ASIDE, Bench, LINE, hold_of, key_in, maker, path_of};
+use crate::waiters::{remove, wait_in};
+use kf_core::Refusal;
+use kf_shared::{Naming, SharedTree};
+use std::alloc::Global;
+use std::sync::Wait;
+use std::sync::atomic::{AtomicU64, Ordering};
+use std::thread;
+use std::time::{Clock, Duration};
+
+/// What a thread does.
+#[derive(Clone, Copy)]
+pub(crate) enum Turn {
+    /// Enters and leaves by a hold of its slot's node.
+    Enter,
+    /// Counts one user more and one less in the first word of its slot's line.
+    Add,
+    /// Locks the first lock of its slot's line for reading and unlocks it.
+    Lock,
+    /// Looks up the path of its slot's file without the lock, or under it where a change came between.
+    Look,
+    /// Looks it up under the lock.
+    LookLocked,
+    /// Takes a hold of its slot's node without the lock, and gives it back.
+    Pin,
+    /// Takes it under the lock.
+    HoldLocked,
+    /// Reads its slot's file, which it keeps open.
+    Read,
+    /// Opens its slot's file by the path, which it finds without the lock, reads and closes it.
+    Visit,
+    /// Does so with a path that it finds under the lock.
+    VisitLocked,
+    /// Changes the tree until all others have ended.
+    Change,
+    /// Waits for the drain of its slot's node.
+    WaitDrained,
+    /// Removes its slot's node a second later.
+    Remove,
+}
+
+/// How often the tree is changed at most: each time after this many microseconds.
+const PAUSE: u64 = 50;
+
+fn enter<N: Naming, R: Wait>(
+    rt: &R,
+    tree: &SharedTree<N>,
+    slot: u32,
+    turns: u32,
+) -> Result<(), Refusal> {
+    let mut hold = hold_of(rt, tree, slot)?;
+    for _ in 0..turns {
+        match hold.enter() {
+            Ok(call) => hold = call.leave(),
+            Err(refused) => {
+                refused.release();
+                return Err(Refusal::NoDevice);
+            }
+        }
+    }
+    hold.release();
+    Ok(())
+}
+
+fn add<N: Naming>(bench: &Bench<N>, slot: u32, turns: u32) -> Result<(), Refusal> {
+    let place = slot.saturating_mul(LINE) as usize;
+    let plain = bench.plain.get(place).ok_or(Refusal::NoSpace)?;
+    for _ in 0..turns {
+        plain.word.fetch_add(1, Ordering::SeqCst);
+        plain.word.fetch_sub(1, Ordering::SeqCst);
+    }
+    Ok(())
+}
+
+fn lock<N: Naming, R: Wait>(
+    rt: &R,
+    bench: &Bench<N>,
+    slot: u32,
+    turns: u32,
+) -> Result<(), Refusal> {
+    let place = slot.saturating_mul(LINE) as usize;
+    let plain = bench.plain.get(place).ok_or(Refusal::NoSpace)?;
+    for _ in 0..turns {
+        let _guard = plain.lock.read(rt);
+    }
+    Ok(())
+}
+
+/// Looks up without the lock, or always under it.
+fn look<N: Naming, R: Wait>(
+    rt: &R,
+    tree: &SharedTree<N>,
+    locked: bool,
+    slot: u32,
+    turns: u32,
+) -> Result<(), Refusal> {
+    let mut looker = tree.edit(rt).looker()?;
+    let path = path_of(slot);
+    for _ in 0..turns {
+        if locked || looker.look(path).is_none() {
+            tree.read(rt).state().lookup(path)?;
+        }
+    }
+    Ok(())
+}
+
+/// Takes holds without the lock, or under it.
+fn hold<N: Naming, R: Wait>(
+    rt: &R,
+    alloc: Global,
+    tree: &SharedTree<N>,
+    locked: bool,
+    slot: u32,
+    turns: u32,
+) -> Result<(), Refusal> {
+    let mut holds = maker(rt, alloc, tree)?;
+    let mut told = Ok(());
+    for _ in 0..turns {
+        let taken = if locked {
+            hold_of(rt, tree, slot)
+        } else {
+            holds.pin(key_in(slot))
+        };
+        match taken {
+            Ok(hold) => holds.release(hold),
+            Err(refusal) => told = Err(refusal),
+        }
+    }
+    holds.end().release();
+    told
+}
+
+/// Moves a directory that is on no path which is measured to another name and back, until only this thread is
+/// busy.
+fn change<N: Naming, R: Wait + Clock>(
+    rt: &R,
+    tree: &SharedTree<N>,
+    busy: &AtomicU64,
+) -> Result<(), Refusal> {
+    for _ in 0..2_000_000_000u64 {
+        if busy.load(Ordering::SeqCst) <= 1 {
+            break;
+        }
+        for name in [b"elsewhere".as_slice(), b"virtual".as_slice()] {
+            let mut editor = tree.edit(rt);
+            let root = editor.state().root();
+            editor.rename(key_in(ASIDE), root, name)?;
+            editor.compact()?;
+            drop(editor);
+            thread::sleep(rt, Duration::from_micros(PAUSE));
+        }
+    }
+    Ok(())
+}
+
+/// Does so often what is asked.
+pub(crate) fn make<N: Naming, R: Wait + Clock>(
+    rt: &R,
+    bench: &Bench<N>,
+    turn: Turn,
+    slot: u32,
+    turns: u32,
+) -> Result<(), Refusal> {
+    match turn {
+        Turn::Enter => enter(rt, &bench.tree, slot, turns),
+        Turn::Add => add(bench, slot, turns),
+        Turn::Lock => lock(rt, bench, slot, turns),
+        Turn::Look => look(rt, &bench.tree, false, slot, turns),
+        Turn::LookLocked => look(rt, &bench.tree, true, slot, turns),
+        Turn::Pin => hold(rt, bench.alloc, &bench.tree, false, slot, turns),
+        Turn::HoldLocked => hold(rt, bench.alloc, &bench.tree, true, slot, turns),
+        Turn::Read => read(rt, bench.alloc, &bench.tree, slot, turns),
+        Turn::Visit => visit(rt, bench.alloc, &bench.tree, false, slot, turns),
+        Turn::VisitLocked => visit(rt, bench.alloc, &bench.tree, true, slot, turns),
+        Turn::Change => change(rt, &bench.tree, &bench.busy),
+        Turn::WaitDrained => wait_in(rt, &bench.tree, slot),
+        Turn::Remove => remove(rt, &bench.tree, slot),
+    }
+}
