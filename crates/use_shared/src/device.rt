@@ -17,21 +17,18 @@ const SLOTS: u32 = 32;
 /// Prints the names in a directory.
 fn print_names<N: Naming, R: Wait + Print>(
     rt: &R,
-    alloc: Global,
     tree: &SharedTree<N>,
-    path: &[u8],
+    path: &str,
 ) -> anyhow::Result<()> {
     let reader = tree.read(rt);
-    let dir = reader.state().lookup(path)?;
+    let dir = reader.state().lookup(path.as_bytes())?;
     let names = reader.state().list(dir, None, 100)?;
     drop(reader);
-    println!(rt;
-        "{} in {}",
-        names.len(),
-        String::from_utf8_lossy(alloc, path)?
-    )?;
+    println!(rt; "{} in {path}", names.len())?;
     for name in names {
-        println!(rt; "  {}", String::from_utf8_lossy(alloc, name.bytes())?)?;
+        rt.write_all(b"  ")?;
+        rt.write_all(name.bytes())?;
+        rt.write_all(b"\n")?;
     }
     Ok(())
 }
@@ -75,22 +72,33 @@ fn delete<N: Naming, R: Wait>(
     taken.ok().ok_or(Refusal::NoDevice)
 }
 
+/// Plugs two devices, and has one go by its name and one by its file.
+fn use_bus<N: Naming, R: Wait + Print>(
+    rt: &R,
+    tree: &SharedTree<N>,
+    bus: &Bus<N>,
+    posts: &mut Posts,
+) -> anyhow::Result<()>
+    requires { posts.old.slots ≡ 32 }
+{
+    bus.plug(rt, tree, b"fan0", b"on")?;
+    bus.plug(rt, tree, b"fan1", b"off")?;
+    print_names(rt, tree, "/bus/devices")?;
+    print_names(rt, tree, "/devices/fan0")?;
+    bus.unplug(rt, tree, b"fan0")?;
+    print_names(rt, tree, "/devices")?;
+    let taken = delete(rt, posts, tree, bus, b"/devices/fan1/delete")?;
+    println!(rt; "a store of {taken} byte deleted fan1")?;
+    print_names(rt, tree, "/devices")
+}
+
 fn run<N: Naming, R: Wait + Print>(rt: &R, alloc: Global, new: NewTree) -> anyhow::Result<()>
     requires { new.master.table ≡ N.table }
 {
     let tree = new.named::<N>();
     let bus = Bus::new(alloc)?;
     let mut posts = Posts::new(alloc, SLOTS)?;
-    bus.plug(rt, &tree, b"fan0", b"on")?;
-    bus.plug(rt, &tree, b"fan1", b"off")?;
-    print_names(rt, alloc, &tree, b"/bus/devices")?;
-    print_names(rt, alloc, &tree, b"/devices/fan0")?;
-    bus.unplug(rt, &tree, b"fan0")?;
-    print_names(rt, alloc, &tree, b"/devices")?;
-    let taken = delete(rt, &mut posts, &tree, &bus, b"/devices/fan1/delete")?;
-    println!(rt; "a store of {taken} byte deleted fan1")?;
-    print_names(rt, alloc, &tree, b"/devices")?;
-    Ok(())
+    use_bus(rt, &tree, &bus, &mut posts)
 }
 
 /// Makes the tree, and a bus over it.

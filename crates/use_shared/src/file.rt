@@ -11,6 +11,7 @@ use kf_notify::{Post, Posts};
 use kf_shared::{Naming, NewTree, SharedTree};
 use kf_words::{Call, Seats};
 use std::alloc::Global;
+use std::io;
 use std::marker::Brand;
 use std::sync::Wait;
 
@@ -70,21 +71,42 @@ fn open<N: Naming, R: Wait>(
     }
 }
 
+/// Prints why a call failed.
+fn print_error<R: Print>(rt: &R, error: FileError) -> io::Result<()> {
+    match error {
+        FileError::Callback(fault) => println!(rt; "the driver's fault {}", fault.number),
+        FileError::Refused(refusal) => println!(rt; "{refusal}"),
+    }
+}
+
 /// Prints what a read of the file gives.
-fn print_text<R: Print>(
+fn read<R: Print>(
     rt: &R,
-    alloc: Global,
     file: &mut OpenFile<Seats>,
     driver: &mut FanDriver,
 ) -> anyhow::Result<()> {
     let mut out = [0u8; 16];
     match file.read(&mut Seats, driver, 0, &mut out) {
-        Ok(count) => println!(rt;
-            "the limit is {}",
-            String::from_utf8_lossy(alloc, &out[..count])?
-        )?,
-        Err(FileError::Callback(fault)) => println!(rt; "the driver's fault {}", fault.number)?,
-        Err(FileError::Refused(refusal)) => println!(rt; "{refusal}")?,
+        Ok(count) => {
+            rt.write_all(b"the limit is ")?;
+            rt.write_all(&out[..count])?;
+            rt.write_all(b"\n")?;
+        }
+        Err(error) => print_error(rt, error)?,
+    }
+    Ok(())
+}
+
+/// Writes a text, and prints what became of it.
+fn write<R: Print>(
+    rt: &R,
+    file: &mut OpenFile<Seats>,
+    driver: &mut FanDriver,
+    text: &[u8],
+) -> anyhow::Result<()> {
+    match file.write(&mut Seats, driver, text) {
+        Ok(count) => println!(rt; "a store took {count} bytes")?,
+        Err(error) => print_error(rt, error)?,
     }
     Ok(())
 }
@@ -92,19 +114,13 @@ fn print_text<R: Print>(
 /// Reads, writes and reads again.
 fn try_out<R: Print>(
     rt: &R,
-    alloc: Global,
     file: &mut OpenFile<Seats>,
     driver: &mut FanDriver,
 ) -> anyhow::Result<()> {
-    print_text(rt, alloc, file, driver)?;
-    for text in [b"85".as_slice(), b"hot".as_slice()] {
-        match file.write(&mut Seats, driver, text) {
-            Ok(count) => println!(rt; "a store took {count} bytes")?,
-            Err(FileError::Callback(fault)) => println!(rt; "the driver's fault {}", fault.number)?,
-            Err(FileError::Refused(refusal)) => println!(rt; "{refusal}")?,
-        }
-    }
-    print_text(rt, alloc, file, driver)?;
+    read(rt, file, driver)?;
+    write(rt, file, driver, b"85")?;
+    write(rt, file, driver, b"hot")?;
+    read(rt, file, driver)?;
     println!(rt; "changed since: {}", file.poll(&mut Seats))?;
     Ok(())
 }
@@ -115,7 +131,7 @@ fn run<N: Naming, R: Wait + Print>(rt: &R, alloc: Global, new: NewTree) -> anyho
     let tree = new.named::<N>();
     let post = Posts::new(alloc, 16)?.post(1)?;
     let mut file = open(rt, &tree, post)?;
-    let told = try_out(rt, alloc, &mut file, &mut FanDriver { limit: 70 });
+    let told = try_out(rt, &mut file, &mut FanDriver { limit: 70 });
     let (hold, _) = file.close();
     hold.release();
     told
