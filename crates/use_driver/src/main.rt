@@ -1,5 +1,5 @@
 //! A hardware monitor as its driver writes it: `/hwmon0` with the files of a temperature, and the group
-//! `power` in it. Two threads read and one writes, until the device is removed under them.
+//! `power` in it. A thread reads while another writes, until the device is removed under both.
 #![tactic(auto)]
 
 ghost use Rattle.std.specs.Prelude.{◌≡◌};
@@ -19,6 +19,24 @@ use std::alloc::Global;
 use std::marker::Brand;
 use std::sync::{Mutex, Wait};
 use std::thread::{Threads, join};
+
+const INPUT: Attribute<'static> = Attribute {
+    name: b"temp1_input",
+    mode: 0o444,
+    tag: 1,
+};
+
+const MAX: Attribute<'static> = Attribute {
+    name: b"temp1_max",
+    mode: 0o644,
+    tag: 2,
+};
+
+const LABEL: Attribute<'static> = Attribute {
+    name: b"label",
+    mode: 0o644,
+    tag: 3,
+};
 
 /// A text of at most 16 bytes, which a lock keeps whole.
 #[derive(Drop)]
@@ -62,7 +80,7 @@ fn reads<N: Naming, T: DriverTable, R: Wait>(
     wrong
 }
 
-/// Writes a thousand times, removes the device under its readers, and writes once more.
+/// Writes a thousand times, removes the device under its reader, and writes once more.
 fn removes<N: Naming, T: DriverTable, R: Wait>(
     rt: &R,
     tree: &SharedTree<N>,
@@ -71,10 +89,48 @@ fn removes<N: Naming, T: DriverTable, R: Wait>(
 ) -> Result<bool, Refusal> {
     let mut taken = true;
     for _ in 0..1000 {
-        taken &= file.write(rt, tree, driver, b"85000\n") == Ok(6);
+        taken &= matches!(file.write(rt, tree, driver, b"85000\n"), Ok(6));
     }
     release_all(tree.edit(rt).remove_path(rt, b"/hwmon0")?);
     Ok(taken && file.write(rt, tree, driver, b"1\n").is_err())
+}
+
+/// Reads and writes a file by two threads, until its device is removed.
+fn use_limit<N: Naming + Send + Sync, T: DriverTable + Sync, R: Threads + Wait + Sync>(
+    rt: &R,
+    tree: &SharedTree<N>,
+    driver: &Driver<T>,
+    opener: &mut Opener<N>,
+) -> Result<(u64, bool), Refusal> {
+    let mut read = opener.open(rt, tree, b"/hwmon0/temp1_max", Want::BOTH)?;
+    let mut written = opener.open(rt, tree, b"/hwmon0/temp1_max", Want::BOTH)?;
+    let (wrong, taken) = join(
+        rt,
+        || reads(rt, tree, driver, &mut read),
+        || removes(rt, tree, driver, &mut written),
+    );
+    Ok((wrong, taken?))
+}
+
+/// Makes the device's files, live all at once, and what opens them; and raises an event.
+fn publish<N: Naming, R: Wait>(
+    rt: &R,
+    alloc: Global,
+    tree: &SharedTree<N>,
+) -> anyhow::Result<(Opener<N>, u64)> {
+    let mut posts = Posts::new(alloc, 8)?;
+    let mut editor = tree.edit(rt);
+    let root = editor.state().root();
+    let device = editor.create(root, b"hwmon0", Node::Dir, false)?;
+    create_group(&mut editor, device, &Group::new(None, &[INPUT, MAX]))?;
+    create_group(&mut editor, device, &Group::new(Some(b"power"), &[LABEL]))?;
+    editor.activate(device)?; // now all of it is live
+    let opener = Opener::new(alloc, &mut editor, posts.another()?)?;
+    let (raised, _) = notify(editor.state(), &mut posts, device, b"temp1_max")?;
+    let event = raised
+        .ok()
+        .context("the number before was not the last one")?;
+    Ok((opener, event))
 }
 
 fn run<N: Naming + Send + Sync, R: Threads + Wait + Print + Sync>(
@@ -85,41 +141,13 @@ fn run<N: Naming + Send + Sync, R: Threads + Wait + Print + Sync>(
     requires { new.master.table ≡ N.table }
 {
     let tree = new.named::<N>();
-    let input = Attribute::read_only(b"temp1_input", 1);
-    let max = Attribute::read_write(b"temp1_max", 2);
-    let label = Attribute::read_write(b"label", 3);
     let text = Mutex::new(ArrayVec::new());
-    let rows = Row::new(label, Label { rt, text }, End);
-    let rows = Row::new(max, Signed::new(90_000, -50_000, 150_000), rows);
-    let table = Row::new(input, ReadOnly(Signed::new(41_000, -50_000, 150_000)), rows);
-    let driver = Driver { table };
-    let mut posts = Posts::new(alloc, 8)?;
-    let mut editor = tree.edit(rt);
-    let root = editor.state().root();
-    let device = editor.create(root, b"hwmon0", Node::Dir, false)?;
-    create_group(&mut editor, device, &Group::new(None, &[input, max]))?;
-    create_group(&mut editor, device, &Group::new(Some(b"power"), &[label]))?;
-    editor.activate(device)?; // now all of it is live
-    let mut opener = Opener::new(alloc, &mut editor, posts.another()?)?;
-    let (raised, _) = notify(editor.state(), &mut posts, device, b"temp1_max")?;
-    let event = raised
-        .ok()
-        .context("the number before was not the last one")?;
-    drop(editor);
-    let mut first = opener.open(rt, &tree, b"/hwmon0/temp1_max", Want::BOTH)?;
-    let mut second = opener.open(rt, &tree, b"/hwmon0/temp1_max", Want::BOTH)?;
-    let mut limit = opener.open(rt, &tree, b"/hwmon0/temp1_max", Want::BOTH)?;
-    let ((one, other), removed) = join(
-        rt,
-        || join(
-            rt,
-            || reads(rt, &tree, &driver, &mut first),
-            || reads(rt, &tree, &driver, &mut second),
-        ),
-        || removes(rt, &tree, &driver, &mut limit),
-    );
-    let taken = removed?;
-    Ok(println!(rt; "event {event}, wrong texts: {one} {other}, all taken until gone: {taken}")?)
+    let rows = Row::new(LABEL, Label { rt, text }, End);
+    let rows = Row::new(MAX, Signed::new(90_000, -50_000, 150_000), rows);
+    let table = Row::new(INPUT, ReadOnly(Signed::new(41_000, -50_000, 150_000)), rows);
+    let (mut opener, event) = publish(rt, alloc, &tree)?;
+    let (wrong, taken) = use_limit(rt, &tree, &Driver { table }, &mut opener)?;
+    Ok(println!(rt; "event {event}, wrong texts: {wrong}, all taken until gone: {taken}")?)
 }
 
 fn main(rt: HostRuntime) -> anyhow::Result<()> {
