@@ -20,6 +20,30 @@ use std::marker::Brand;
 use std::sync::{Mutex, Wait};
 use std::thread::{Threads, join};
 
+const VALUE: Attribute<'static> = Attribute {
+    name: b"value",
+    mode: 0o644,
+    tag: 0,
+};
+
+const DEBOUNCE: Attribute<'static> = Attribute {
+    name: b"debounce",
+    mode: 0o644,
+    tag: 1,
+};
+
+const LABEL: Attribute<'static> = Attribute {
+    name: b"label",
+    mode: 0o444,
+    tag: 2,
+};
+
+const CONFIG: Attribute<'static> = Attribute {
+    name: b"config",
+    mode: 0o644,
+    tag: 3,
+};
+
 const NAMES: [&[u8]; 8] = [b"l0", b"l1", b"l2", b"l3", b"l4", b"l5", b"l6", b"l7"];
 
 /// The 64 registers of a line, which a lock keeps whole, and the runtime, which takes locks.
@@ -51,7 +75,8 @@ fn waits<N: Naming, T: DriverTable, R: Wait>(
         file.wait_changed(rt); // asleep, with no reference, so that no removal waits for it
         match file.read(rt, tree, driver, 0, &mut out) {
             Err(FileError::Refused(_)) => break,
-            told => right &= told == Ok(2) && (out == *b"0\n" || out == *b"1\n"),
+            Ok(2) => right &= out == *b"0\n" || out == *b"1\n",
+            _ => right = false,
         }
     }
     right
@@ -69,12 +94,12 @@ fn stores<N: Naming, T: DriverTable, R: Wait>(
     let mut config = opener.open(rt, tree, b"/gpio0/l3/config", Want::BOTH)?;
     let mut right = true;
     for _ in 0..500u32 {
-        right &= value.write(rt, tree, driver, b"1\n") == Ok(2);
-        right &= value.write(rt, tree, driver, b"0\n") == Ok(2);
+        right &= matches!(value.write(rt, tree, driver, b"1\n"), Ok(2));
+        right &= matches!(value.write(rt, tree, driver, b"0\n"), Ok(2));
     }
     let mut out = [0u8; 8];
-    right &= config.write_at(rt, tree, driver, 60, b"abcdef") == Ok(4);
-    right &= config.read_at(rt, tree, driver, 58, &mut out) == Ok(6);
+    right &= matches!(config.write_at(rt, tree, driver, 60, b"abcdef"), Ok(4));
+    right &= matches!(config.read_at(rt, tree, driver, 58, &mut out), Ok(6));
     right &= out == *b"\0\0abcd\0\0";
     let editor = tree.edit(rt);
     let chip = editor.state().walk(b"/gpio0")?;
@@ -82,23 +107,55 @@ fn stores<N: Naming, T: DriverTable, R: Wait>(
     Ok(right && value.write(rt, tree, driver, b"1\n").is_err())
 }
 
-/// Uses the fourth line by threads until the chip is gone.
-fn uses<N: Naming + Send + Sync, T: DriverTable + Sync, R: Threads + Wait + Print + Sync>(
+/// Uses the fourth line by threads until the chip is gone. Answers whether each text was a level, and whether
+/// all was stored.
+fn uses<N: Naming + Send + Sync, T: DriverTable + Sync, R: Threads + Wait + Sync>(
     rt: &R,
     tree: &SharedTree<N>,
-    opener: &mut Opener<N>,
-    posts: &mut Posts,
-    tags: LineTags,
-    lines: &[T],
-) -> anyhow::Result<()> {
-    let driver = Driver::new(Lines::new(tags, lines, End));
+    driver: &Driver<T>,
+    mut opener: Opener<N>,
+    mut posts: Posts,
+) -> Result<(bool, bool), Refusal> {
     let mut watched = opener.open(rt, tree, b"/gpio0/l3/value", Want::BOTH)?;
     let (levels, stored) = join(
         rt,
-        || waits(rt, tree, &driver, &mut watched),
-        || stores(rt, tree, &driver, opener, posts) == Ok(true),
+        || waits(rt, tree, driver, &mut watched),
+        || stores(rt, tree, driver, &mut opener, &mut posts),
     );
-    Ok(println!(rt; "levels alone: {levels}, all stored until gone: {stored}")?)
+    Ok((levels, stored?))
+}
+
+/// Makes the chip's files and the rows of its lines, live all at once, and uses them.
+fn use_chip<N: Naming + Send + Sync, R: Threads + Wait + Sync>(
+    rt: &R,
+    alloc: Global,
+    tree: &SharedTree<N>,
+) -> Result<(bool, bool), Refusal> {
+    let mut posts = Posts::new(alloc, 64)?;
+    let tags = LineTags::new(0, 4);
+    let mut lines = Vec::new(alloc);
+    let mut editor = tree.edit(rt);
+    let root = editor.state().root();
+    let chip = editor.create(root, b"gpio0", Node::Dir, false)?;
+    for (line, name) in (0..8u32).zip(NAMES) {
+        let files = [
+            tags.attribute(line, VALUE),
+            tags.attribute(line, DEBOUNCE),
+            tags.attribute(line, LABEL),
+            tags.attribute(line, CONFIG),
+        ];
+        let dir = create_group(&mut editor, chip, &Group::new(Some(name), &files))?;
+        let notifier = Notifier::new(rt, post_of(editor.state(), &mut posts, dir, b"value")?);
+        let rows = BinaryRow::new(CONFIG, 64, Config(rt, Mutex::new([0u8; 64])), End);
+        let rows = Row::new(LABEL, Text(name), rows);
+        let rows = Row::new(DEBOUNCE, Number::new(5, 1000), rows);
+        lines.push(Row::new(VALUE, Notifying::new(Switch::new(false), notifier), rows))?;
+    }
+    editor.activate(chip)?; // now all of it is live
+    let opener = Opener::new(alloc, &mut editor, posts.another()?)?;
+    drop(editor);
+    let driver = Driver::new(Lines::new(tags, lines.as_slice(), End));
+    uses(rt, tree, &driver, opener, posts)
 }
 
 fn run<N: Naming + Send + Sync, R: Threads + Wait + Print + Sync>(
@@ -108,35 +165,8 @@ fn run<N: Naming + Send + Sync, R: Threads + Wait + Print + Sync>(
 ) -> anyhow::Result<()>
     requires { new.master.table ≡ N.table }
 {
-    let tree = new.named::<N>();
-    let mut posts = Posts::new(alloc, 64)?;
-    let tags = LineTags::new(0, 4);
-    let value = Attribute::read_write(b"value", 0);
-    let debounce = Attribute::read_write(b"debounce", 1);
-    let label = Attribute::read_only(b"label", 2);
-    let config = Attribute::read_write(b"config", 3);
-    let mut lines = Vec::new(alloc);
-    let mut editor = tree.edit(rt);
-    let root = editor.state().root();
-    let chip = editor.create(root, b"gpio0", Node::Dir, false)?;
-    for (line, name) in (0..8u32).zip(NAMES) {
-        let files = [
-            tags.attribute(line, value),
-            tags.attribute(line, debounce),
-            tags.attribute(line, label),
-            tags.attribute(line, config),
-        ];
-        let dir = create_group(&mut editor, chip, &Group::new(Some(name), &files))?;
-        let notifier = Notifier::new(rt, post_of(editor.state(), &mut posts, dir, b"value")?);
-        let rows = BinaryRow::new(config, 64, Config(rt, Mutex::new([0u8; 64])), End);
-        let rows = Row::new(label, Text(name), rows);
-        let rows = Row::new(debounce, Number::new(5, 1000), rows);
-        lines.push(Row::new(value, Notifying::new(Switch::new(false), notifier), rows))?;
-    }
-    editor.activate(chip)?; // now all of it is live
-    let mut opener = Opener::new(alloc, &mut editor, posts.another()?)?;
-    drop(editor);
-    uses(rt, &tree, &mut opener, &mut posts, tags, lines.as_slice())
+    let (levels, stored) = use_chip(rt, alloc, &new.named::<N>())?;
+    Ok(println!(rt; "levels alone: {levels}, all stored until gone: {stored}")?)
 }
 
 fn main(rt: HostRuntime) -> anyhow::Result<()> {
