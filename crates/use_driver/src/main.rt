@@ -11,7 +11,7 @@ use kf_driver::{
     Callbacks, Driver, DriverTable, End, Opener, ReadOnly, Row, Signed, emit_line, fault_of, notify,
 };
 use kf_files::{BoxedFile, Fault, FileError, Page, Want};
-use kf_groups::{Attribute, Group, create_group};
+use kf_groups::{Attribute, Group, create_groups};
 use kf_notify::Posts;
 use kf_shared::{Naming, NewTree, SharedTree, release_all};
 use kf_text::{NotRead, Part, line_of, read_signed};
@@ -37,6 +37,17 @@ const LABEL: Attribute<'static> = Attribute {
     mode: 0o644,
     tag: 3,
 };
+
+const GROUPS: [Group<'static>; 2] = [
+    Group {
+        name: None,
+        attributes: &[INPUT, MAX],
+    },
+    Group {
+        name: Some(b"power"),
+        attributes: &[LABEL],
+    },
+];
 
 /// A text of at most 16 bytes, which a lock keeps whole.
 #[derive(Drop)]
@@ -112,25 +123,21 @@ fn use_limit<N: Naming + Send + Sync, T: DriverTable + Sync, R: Threads + Wait +
     Ok((wrong, taken?))
 }
 
-/// Makes the device's files, live all at once, and what opens them; and raises an event.
+/// Makes the device's files, live all at once, and what opens them; and raises the event number of one.
 fn publish<N: Naming, R: Wait>(
     rt: &R,
     alloc: Global,
     tree: &SharedTree<N>,
-) -> anyhow::Result<(Opener<N>, u64)> {
+) -> Result<(Opener<N>, Option<u64>), Refusal> {
     let mut posts = Posts::new(alloc, 8)?;
     let mut editor = tree.edit(rt);
     let root = editor.state().root();
     let device = editor.create(root, b"hwmon0", Node::Dir, false)?;
-    create_group(&mut editor, device, &Group::new(None, &[INPUT, MAX]))?;
-    create_group(&mut editor, device, &Group::new(Some(b"power"), &[LABEL]))?;
+    create_groups(&mut editor, device, &GROUPS)?;
     editor.activate(device)?; // now all of it is live
     let opener = Opener::new(alloc, &mut editor, posts.another()?)?;
     let (raised, _) = notify(editor.state(), &mut posts, device, b"temp1_max")?;
-    let event = raised
-        .ok()
-        .context("the number before was not the last one")?;
-    Ok((opener, event))
+    Ok((opener, raised.ok()))
 }
 
 fn run<N: Naming + Send + Sync, R: Threads + Wait + Print + Sync>(
@@ -145,7 +152,8 @@ fn run<N: Naming + Send + Sync, R: Threads + Wait + Print + Sync>(
     let rows = Row::new(LABEL, Label { rt, text }, End);
     let rows = Row::new(MAX, Signed::new(90_000, -50_000, 150_000), rows);
     let table = Row::new(INPUT, ReadOnly(Signed::new(41_000, -50_000, 150_000)), rows);
-    let (mut opener, event) = publish(rt, alloc, &tree)?;
+    let (mut opener, raised) = publish(rt, alloc, &tree)?;
+    let event = raised.context("the number before was not the last one")?;
     let (wrong, taken) = use_limit(rt, &tree, &Driver { table }, &mut opener)?;
     Ok(println!(rt; "event {event}, wrong texts: {wrong}, all taken until gone: {taken}")?)
 }
