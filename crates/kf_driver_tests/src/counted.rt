@@ -2,11 +2,12 @@
 
 use kf_driver::{Callbacks, fault_of};
 use kf_files::{Fault, Page};
-use kf_text::{Base, Part, emit, read_unsigned_in};
+use kf_text::{Base, Part, emit, emit_at, read_unsigned_in, read_word};
 use std::sync::atomic::{AtomicU64, Ordering};
 
-/// Shows in base 16 how often it was called before, with 0x100 for each store. The third call that shows is
-/// a fault. It takes numbers to 31, in the base that their front says.
+/// Shows in base 16 how often it was called before, with 0x100 for each store, over a line that it has put
+/// there. The third call that shows is a fault. It takes two words, and numbers to 31, in the base that their
+/// front says.
 #[derive(Drop)]
 pub(crate) struct Counted {
     pub(crate) calls: AtomicU64,
@@ -15,7 +16,8 @@ pub(crate) struct Counted {
 impl Callbacks for Counted {
     fn show(&self, page: &mut Page) -> Result<(), Fault> {
         let number = self.calls.fetch_add(1, Ordering::SeqCst);
-        emit(page, &[Part::PaddedHex { number, width: 4 }]);
+        emit(page, &[Part::Hex(number), Part::Newline]);
+        emit_at(page, 0, &[Part::PaddedHex { number, width: 4 }]);
         if number == 2 {
             return Err(Fault { number: 5 });
         }
@@ -24,6 +26,9 @@ impl Callbacks for Counted {
 
     fn store(&self, bytes: &[u8]) -> Result<(), Fault> {
         self.calls.fetch_add(0x100, Ordering::SeqCst);
+        if read_word(&[b"off", b"on"], bytes).is_ok() {
+            return Ok(());
+        }
         match read_unsigned_in(bytes, Base::ByPrefix, 31) {
             Ok(_) => Ok(()),
             Err(why) => Err(fault_of(why)),

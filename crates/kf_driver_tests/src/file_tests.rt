@@ -23,7 +23,7 @@ const INVALID: FileError = FileError::Callback(Fault { number: 22 });
 
 const RANGE: FileError = FileError::Callback(Fault { number: 34 });
 
-static STEPS: [(&[u8], Step); 57] = [
+static STEPS: [(&[u8], Step); 59] = [
     // What opens without the lock, of the slots that have words of look-ups, and what does not.
     (b"/c", Step::Opens(Want::BOTH, true, None)),
     (b"/g/r", Step::Opens(Want::READ, true, None)),
@@ -55,7 +55,9 @@ static STEPS: [(&[u8], Step); 57] = [
     (b"/c", Step::Stores(b"0x0x1", Err(INVALID))),
     (b"/c", Step::Stores(b"1f", Err(INVALID))),
     (b"/c", Step::Stores(b"-1", Err(INVALID))),
-    (b"/c", Step::Shows(Ok(b"0a06"))),
+    (b"/c", Step::Stores(b"on\n", Ok(3))),
+    (b"/c", Step::Stores(b"on \n", Err(INVALID))),
+    (b"/c", Step::Shows(Ok(b"0c06"))),
     (b"/unknown", Step::Shows(Err(INVALID))),
     (b"/unknown", Step::Stores(b"1", Err(INVALID))),
     // What was stored last is shown.
