@@ -1,5 +1,5 @@
 //! What each of a crowd does beside those who remove: one calls, one creates, two hide and show.
-ghost use Rattle.std.specs.Prelude.{◌≡◌, ◌<◌};
+ghost use Rattle.std.specs.Prelude.{◌<◌};
 
 use crate::fixtures::{FILE, add, removed};
 use crate::waits::LOOKS;
