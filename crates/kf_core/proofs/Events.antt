@@ -1,5 +1,5 @@
 -- What a caller that is found in the list may do, as one step.
-use Rattle.std.proofs.Common.{◌≡◌, inl, inr, ℕ, List, ◌<◌, length, get_or, refl, ap, sym, ◌∙◌, subst, true, false}
+use Rattle.std.proofs.Common.{◌≡◌, inl, inr, ℕ, List, ◌<◌, length, get_or, refl, ap, sym, ◌∙◌, subst, Bool, true, false}
 use Rattle.std.specs.Prelude.{slice_get, Option, Some, None, if◌then◌else◌}
 use Rattle.std.specs.Option.{option_map}
 use Rattle.std.proofs.lemmas.Option.{same_Some, none-some, get_or_from_slice_get, slice_get_read, slice_get_within}
@@ -20,7 +20,7 @@ use Rattle.kf_core.specs.Bounded.{BoundedWorld, Happens, IsFree, bounded}
 use Rattle.kf_core.proofs.Keeping.{slot_state, linked_last, one_key}
 use Rattle.kf_core.proofs.Lists.{slice_get-set_same}
 use Rattle.kf_core.proofs.SlotStates.{in_place, shown}
-use Rattle.kf_core.proofs.Kept.{linked_taken, held_taken}
+use Rattle.kf_core.proofs.Kept.{CountsFrom, linked_taken, held_taken, waiting_counts, reference_counts, release_counts}
 
 -- what was read at a place of a list that has an item there
 pub found : {X : Type 0} (xs ys : List X) (i : ℕ) (x y : X) → xs ≡ ys → x ≡ get_or xs i x → slice_get ys i ≡ Some y → slice_get ys i ≡ Some x
@@ -37,24 +37,53 @@ happens before now event w' step e = record {
   limit = ap (λ (b : BoundedWorld). b.limit) e;
 }
 
+-- of each kind of step, and what its caller counts as before it
 module _ (w w' : BareWorld) (c : ℕ) (key : Key) (phase : Phase) (there : IsCaller w c key phase) where
   pub enter_step : BareStep w (Enter c) w' → BareStep w (Enter c) (with_phase w c key (if is_live w key then Running else Turned))
   enter_step s = (key, phase, there, subst (λ p. is_waiting p ≡ true) (one_key w c s.0 key s.1 phase s.2 there).1 s.3, refl)
 
+  -- a try that is told what it finds
+  pub tried_step : (live : Bool) → live ≡ is_live w key → BareStep w (Enter c) w' → BareStep w (Enter c) (with_phase w c key (if live then Running else Turned))
+  tried_step live told s = subst (λ b. BareStep w (Enter c) (with_phase w c key (if b then Running else Turned))) (sym told) (enter_step s)
+
+  pub enter_from : BareStep w (Enter c) w' → CountsFrom w c key Still
+  unfolding enter_step
+  enter_from s = (phase, there, waiting_counts phase (enter_step s).3)
+
   pub leave_step : BareStep w (Leave c) w' → BareStep w (Leave c) (with_phase w c key Still)
   leave_step s = (key, phase, there, subst (λ p. has_reference p ≡ true) (one_key w c s.0 key s.1 phase s.2 there).1 s.3, refl)
+
+  pub leave_from : BareStep w (Leave c) w' → CountsFrom w c key Running
+  unfolding leave_step
+  leave_from s = (phase, there, reference_counts phase (leave_step s).3)
 
   pub release_step : BareStep w (Release c) w' → BareStep w (Release c) (with_phase w c key Spent)
   release_step s = (key, phase, there, subst (λ p. may_release p ≡ true) (one_key w c s.0 key s.1 phase s.2 there).1 s.3, refl)
 
+  pub release_from : BareStep w (Release c) w' → CountsFrom w c key Still
+  unfolding release_step
+  release_from s = (phase, there, release_counts phase (release_step s).3)
+
   pub break_step : BareStep w (Break c) w' → BareStep w (Break c) (with_phase w c key Broken)
   break_step s = let e = one_key w c s.0 key Running phase s.1 there in (key, subst (λ k. IsCaller w c k Running) e.0 s.1, refl)
+
+  pub break_from : BareStep w (Break c) w' → CountsFrom w c key Running
+  unfolding break_step
+  break_from s = (Running, (break_step s).1, (refl, refl, refl))
 
   pub restore_step : BareStep w (Restore c) w' → BareStep w (Restore c) (with_phase w c key Restored)
   restore_step s = let e = one_key w c s.0 key Broken phase s.1 there in (key, subst (λ k. IsCaller w c k Broken) e.0 s.1, refl)
 
+  pub restore_from : BareStep w (Restore c) w' → CountsFrom w c key Broken
+  unfolding restore_step
+  restore_from s = (Broken, (restore_step s).1, (refl, refl, refl))
+
   pub show_step : BareStep w (Show c) w' → BareStep w (Show c) (with_phase w c key Still)
   show_step s = let e = one_key w c s.0 key Hidden phase s.1 there in (key, subst (λ k. IsCaller w c k Hidden) e.0 s.1, refl)
+
+  pub show_from : BareStep w (Show c) w' → CountsFrom w c key Hidden
+  unfolding show_step
+  show_from s = (Hidden, (show_step s).1, (refl, refl, refl))
 
   pub unlink_step : BareStep w (Unlink c) w' → BareStep w (Unlink c) (with_marks w key None)
   unlink_step s = let e = one_key w c s.0 key Drained phase s.1 there in (key, subst (λ k. IsCaller w c k Drained) e.0 s.1, subst (λ k. is_linked w k ≡ true) e.0 s.2, refl)

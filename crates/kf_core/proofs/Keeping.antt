@@ -12,7 +12,7 @@ use Rattle.kf_core.specs.declared.slot.SlotState.{SlotState}
 use Rattle.kf_core.specs.declared.event.Event.{Event}
 use Rattle.kf_core.specs.declared.event.Event.TheVariants.{Born, Rise, Mark, Move, Pin, Enter, Leave, Break, Restore, Look, Unlink, Part, Hide, LookHidden, Show, Release, Undo}
 use Rattle.kf_core.specs.Bare.{BareWorld, marks_in, marks, is_linked, is_live, is_doomed, is_hidden, IsCaller, IsLast}
-use Rattle.kf_core.specs.Marks.{fresh_marks, live_marks, are_doomed}
+use Rattle.kf_core.specs.Marks.{fresh_marks, live_marks, are_live, are_doomed}
 use Rattle.kf_core.specs.Phases.{saw_drain, saw_unused, is_waiting, has_reference, is_hiding, may_release}
 use Rattle.kf_core.specs.Safe.{Safe, NoneRunning}
 use Rattle.kf_core.specs.Steps.{with_phase, with_marks, with_caller, BareStep, NoReference, MayBeBorn, IsHeld}
@@ -218,6 +218,10 @@ entered w c key from given live safe was held = caller_keeps w (with_phase w c k
 pub linked_last : (w : BareWorld) (key : Key) → (m : Option Marks) → marks w key ≡ m → is_some m ≡ true → IsLast w key.slot key.generation
 linked_last w key None e h = cc
 linked_last w key (Some m) e h = (slot_state key.generation (Some m), in_place (slice_get w.slots key.slot) key.generation m e, refl)
+
+-- so is one with live marks
+pub live_last : (w : BareWorld) (key : Key) → IsTrue (are_live (marks w key)) → IsLast w key.slot key.generation
+live_last w key live = linked_last w key (marks w key) refl (live_linked (marks w key) live)
 
 pin_keeps : (w : BareWorld) (key : Key) → Safe w → (IsTrue (is_linked w key) ⊎ IsHeld w key) → Safe (with_caller w key)
 pin_keeps w key safe may = caller_keeps w (with_caller w key).callers key Still safe

@@ -1,14 +1,14 @@
 -- What the plain list keeps beside its world, after each kind of change.
-use Rattle.std.proofs.Common.{◌≡◌, ◌≢◌, inl, inr, ℕ, zero, suc, ◌+◌, ◌<◌, ◌≤◌, ◌-◌, ◌/◌, ◌^◌, List, [], ◌∷◌, ◌++◌, length, get_or, refl, ap, arith, slice_set, sym, ◌∙◌, subst, ◌↔◌, replicate}
+use Rattle.std.proofs.Common.{◌≡◌, ◌≢◌, inl, inr, ℕ, zero, suc, true, false, ◌+◌, ◌<◌, ◌≤◌, ◌-◌, ◌/◌, ◌^◌, List, [], ◌∷◌, ◌++◌, length, get_or, refl, ap, arith, slice_set, sym, ◌∙◌, subst, ◌↔◌, replicate}
 use Rattle.std.specs.Prelude.{slice_get, Option, Some, None, not}
-use Rattle.std.proofs.lemmas.Option.{same_Some, none-some, slice_get_within, slice_get_read}
+use Rattle.std.proofs.lemmas.Option.{same_Some, none-some, slice_get_within, slice_get_read, slice_get-get_or, get_or_from_slice_get}
 use Rattle.std.proofs.lemmas.List.Sums.{count_by-le-length}
 use Rattle.std.proofs.lemmas.List.{length-set, length-replicate}
 use Rattle.std.proofs.lemmas.Bool.Decides.{eqb_tells, leb_tells}
 use Rattle.kf_core.specs.Limits.{most_slots}
 use Rattle.kf_core.specs.declared.key.Key.{Key}
 use Rattle.kf_core.specs.declared.caller.Phase.{Phase}
-use Rattle.kf_core.specs.declared.caller.Phase.TheVariants.{Still, Spent}
+use Rattle.kf_core.specs.declared.caller.Phase.TheVariants.{Still, Turned, Running, Broken, Restored, Drained, Parted, Hiding, Hidden, Spent}
 use Rattle.kf_core.specs.declared.caller.Caller.{Caller}
 use Rattle.kf_core.specs.declared.counts.Counts.{Counts}
 use Rattle.kf_core.specs.declared.event.Event.{Event}
@@ -16,15 +16,15 @@ use Rattle.kf_core.specs.declared.world.hint.Hint.{Hint}
 use Rattle.kf_core.specs.declared.slot.Marks.{Marks}
 use Rattle.kf_core.specs.declared.slot.SlotState.{SlotState}
 use Rattle.kf_core.specs.Bare.{BareWorld, IsCaller, IsLast, opening}
-use Rattle.kf_core.specs.Phases.{has_reference, is_hiding, is_spent}
+use Rattle.kf_core.specs.Phases.{has_reference, is_hiding, is_spent, is_waiting, may_release}
 use Rattle.kf_core.specs.Safe.{Safe}
 use Rattle.kf_core.specs.Steps.{BareStep, with_phase, with_marks, with_caller, IsHeld}
 use Rattle.kf_core.specs.Bounded.{IsFree, holds}
 use Rattle.kf_core.specs.Hints.{AsMany, Covers, Skips}
-use Rattle.kf_core.specs.Counts.{tally, references, hiders, IsSoundWorld, NoneFree}
+use Rattle.kf_core.specs.Counts.{tally, references, hiders, no_counts, CountsAs, IsHeldIn, IsSoundWorld, NoneFree}
 use Rattle.kf_core.proofs.Lists.{slice_get-set_same, slice_get-set_other}
 use Rattle.kf_core.proofs.Keeping.{caller, slot_state, step_keeps, one_key}
-use Rattle.kf_core.proofs.Tallies.{phase_counted, pinned_counted, unheld_spent, spent_unheld, share, past_none}
+use Rattle.kf_core.proofs.Tallies.{phase_counted, pinned_counted, unheld_spent, spent_unheld, share, past_none, spent_is, held_told}
 
 -- whether a slot of this state is free
 pub free_exact : (w : BareWorld) (slot : ℕ) (state : SlotState) → slice_get w.slots slot ≡ Some state → (((state.marks ≡ None) × (state.generation < 2 ^ 32 - 1) × (holds w slot ≡ 0)) ↔ IsFree w slot)
@@ -75,11 +75,7 @@ slot_within w counts hint c key p kept was ne = let l : IsLast w key.slot key.ge
 pub block_within : (w : BareWorld) (counts : List Counts) (hint : Hint) (slot : ℕ) → IsSoundWorld w counts hint → slot < length w.slots → Covers hint.full slot
 block_within w counts hint slot kept within = (omega (arith, kept.covered.0, within), omega (arith, kept.covered.1, within))
 
--- what stands at a slot of the counts
-pub counts_there : (w : BareWorld) (counts : List Counts) (hint : Hint) (slot : ℕ) (n : Counts) → IsSoundWorld w counts hint → slot < length w.slots → n ≡ get_or counts slot n → slice_get counts slot ≡ Some n
-counts_there w counts hint slot n kept i is = slice_get_read counts (length counts) slot n refl (let e : length counts ≡ length w.slots = kept.as_long in omega arith) is
-
--- it has at least the share of each caller of the slot
+-- the counts of a slot have at least the share of each caller of it
 pub own_share : (w : BareWorld) (counts : List Counts) (hint : Hint) (c : ℕ) (key : Key) (p : Phase) (n : Counts) → IsSoundWorld w counts hint → IsCaller w c key p → slice_get counts key.slot ≡ Some n → (tally (not (is_spent p)) ≤ n.holds) × (tally (has_reference p) ≤ n.references) × (tally (is_hiding p) ≤ n.hiders)
 own_share w counts hint c key p n kept was is = (
   subst (λ x. tally (not (is_spent p)) ≤ x) (sym (kept.counted key.slot n is).0) (share w.callers c key p (λ p. not (is_spent p)) was),
@@ -95,6 +91,93 @@ few_counts w counts hint slot n kept is = (
   subst (λ x. x ≤ length w.callers) (sym (kept.counted slot n is).2) (count_by-le-length _ w.callers),
 )
 
+-- a caller that waits, that has a reference, that a release ends: what it counts as
+pub waiting_counts : (p : Phase) → is_waiting p ≡ true → CountsAs Still p
+waiting_counts Still h = (refl, refl, refl)
+waiting_counts Turned h = (refl, refl, refl)
+waiting_counts Running h = cc
+waiting_counts Broken h = cc
+waiting_counts Restored h = cc
+waiting_counts Drained h = cc
+waiting_counts Parted h = cc
+waiting_counts Hiding h = cc
+waiting_counts Hidden h = cc
+waiting_counts Spent h = cc
+
+pub reference_counts : (p : Phase) → has_reference p ≡ true → CountsAs Running p
+reference_counts Still h = cc
+reference_counts Turned h = cc
+reference_counts Running h = (refl, refl, refl)
+reference_counts Broken h = cc
+reference_counts Restored h = (refl, refl, refl)
+reference_counts Drained h = cc
+reference_counts Parted h = cc
+reference_counts Hiding h = cc
+reference_counts Hidden h = cc
+reference_counts Spent h = cc
+
+pub release_counts : (p : Phase) → may_release p ≡ true → CountsAs Still p
+release_counts Still h = (refl, refl, refl)
+release_counts Turned h = (refl, refl, refl)
+release_counts Running h = cc
+release_counts Broken h = cc
+release_counts Restored h = cc
+release_counts Drained h = (refl, refl, refl)
+release_counts Parted h = (refl, refl, refl)
+release_counts Hiding h = cc
+release_counts Hidden h = cc
+release_counts Spent h = cc
+
+-- a caller on the key counts as one in this phase
+abbrev pub CountsFrom : BareWorld → ℕ → Key → Phase → Type 0
+CountsFrom w c key from = (was : Phase) × IsCaller w c key was × CountsAs from was
+
+-- who counts as a holder holds
+still_held : (from was : Phase) → CountsAs from was → from ≢ Spent → was ≢ Spent
+still_held from was like held e = held (spent_is from (like.0 ∙ ap is_spent e))
+
+-- its slot is in the list
+pub held_within : (w : BareWorld) (counts : List Counts) (hint : Hint) (c : ℕ) (key : Key) (from : Phase) → IsSoundWorld w counts hint → CountsFrom w c key from → from ≢ Spent → key.slot < length w.slots
+held_within w counts hint c key from kept there held = slot_within w counts hint c key there.0 kept there.1 (still_held from there.0 there.2 held)
+
+-- the slot is held, by its counts
+pub counts_held : (w : BareWorld) (counts : List Counts) (hint : Hint) (c : ℕ) (key : Key) (from : Phase) → IsSoundWorld w counts hint → CountsFrom w c key from → from ≢ Spent → IsHeldIn counts key.slot
+counts_held w counts hint c key from kept there held =
+    let within : key.slot < length counts = (let i = held_within w counts hint c key from kept there held in let e : length counts ≡ length w.slots = kept.as_long in omega (arith, i)) in
+    let n : Counts = get_or counts key.slot no_counts in
+    let is : slice_get counts key.slot ≡ Some n = slice_get-get_or counts key.slot no_counts within in
+    let its : tally (not (is_spent there.0)) ≤ n.holds = (own_share w counts hint c key there.0 n kept there.1 is).0 in
+    let one : tally (not (is_spent there.0)) ≡ 1 = ap tally (held_told there.0 (still_held from there.0 there.2 held)) in
+    (n, is, omega arith)
+
+-- what was read at its slot is the slot's: it counts the caller, and no more than all
+pub record CountsAt (counts : List Counts) (slot : ℕ) (n : Counts) (from : Phase) (callers : ℕ) : Type 0 where
+  pub found : slice_get counts slot ≡ Some n
+  pub holds : tally (not (is_spent from)) ≤ n.holds
+  pub references : tally (has_reference from) ≤ n.references
+  pub hiders : tally (is_hiding from) ≤ n.hiders
+  pub few_references : n.references ≤ callers
+  pub few_hiders : n.hiders ≤ callers
+
+pub counts_at : (w : BareWorld) (counts : List Counts) (hint : Hint) (c : ℕ) (key : Key) (from : Phase) (n : Counts) → IsSoundWorld w counts hint → CountsFrom w c key from → from ≢ Spent → n ≡ get_or counts key.slot n → CountsAt counts key.slot n from (length w.callers)
+counts_at w counts hint c key from n kept there held read =
+    let of = counts_held w counts hint c key from kept there held in
+    let is : slice_get counts key.slot ≡ Some n = of.1 ∙ ap Some (sym (read ∙ get_or_from_slice_get counts key.slot of.0 n of.1)) in
+    let its = own_share w counts hint c key there.0 n kept there.1 is in
+    let few = few_counts w counts hint key.slot n kept is in
+    record {
+      found = is;
+      holds = subst (λ b. tally (not b) ≤ n.holds) (sym there.2.0) its.0;
+      references = subst (λ b. tally b ≤ n.references) (sym there.2.1) its.1;
+      hiders = subst (λ b. tally b ≤ n.hiders) (sym there.2.2) its.2;
+      few_references = few.1;
+      few_hiders = few.2;
+    }
+
+-- the key of a caller that was read
+pub key_read : (cs : List Caller) (id : ℕ) (x : Caller) (key : Key) (p : Phase) → x ≡ get_or cs id x → slice_get cs id ≡ Some (caller key p) → x.key ≡ key
+key_read cs id x key p is there = ap (λ (c : Caller). c.key) (is ∙ get_or_from_slice_get cs id (caller key p) x there)
+
 -- only slots are skipped that were before
 pub record Fewer (now before : Hint) : Type 0 where
   pub skips : (slot : ℕ) → Skips now.lowest now.full slot → Skips before.lowest before.full slot
@@ -102,13 +185,16 @@ pub record Fewer (now before : Hint) : Type 0 where
 
 -- after a step of a caller on the key
 pub phase_kept : (w : BareWorld) (c : ℕ) (key : Key) (from to : Phase) (counts : List Counts) (old new : Counts) (state : SlotState) (hint hint' : Hint) →
-    IsSoundWorld w counts hint → (e : Event) → BareStep w e (with_phase w c key to) → IsCaller w c key from → slice_get counts key.slot ≡ Some old → slice_get w.slots key.slot ≡ Some state →
+    IsSoundWorld w counts hint → (e : Event) → BareStep w e (with_phase w c key to) → CountsFrom w c key from → slice_get counts key.slot ≡ Some old → slice_get w.slots key.slot ≡ Some state →
     new.holds + tally (not (is_spent from)) ≡ old.holds + tally (not (is_spent to)) → new.references + tally (has_reference from) ≡ old.references + tally (has_reference to) →
     new.hiders + tally (is_hiding from) ≡ old.hiders + tally (is_hiding to) →
     Fewer hint' hint → ((state.marks ≡ None) × (state.generation < 2 ^ 32 - 1) × (new.holds ≡ 0) → 1 ≤ key.slot → ¬ Skips hint'.lowest hint'.full key.slot) →
     IsSoundWorld (with_phase w c key to) (slice_set counts key.slot new) hint'
-phase_kept w c key from to counts old new state hint hint' kept e step was is has h r i fewer looks =
-    let counted = phase_counted w c key from to counts old new was is h r i kept.counted in
+phase_kept w c key from to counts old new state hint hint' kept e step there is has h r i fewer looks =
+    let counted = phase_counted w c key there.0 to counts old new there.1 is
+    (subst (λ b. new.holds + tally (not b) ≡ old.holds + tally (not (is_spent to))) there.2.0 h)
+    (subst (λ b. new.references + tally b ≡ old.references + tally (has_reference to)) there.2.1 r)
+    (subst (λ b. new.hiders + tally b ≡ old.hiders + tally (is_hiding to)) there.2.2 i) kept.counted in
     let told : new.holds ≡ holds (with_phase w c key to) key.slot = (counted key.slot new (slice_get-set_same counts key.slot new (slice_get_within counts key.slot old is))).0 in
     record {
       safe = step_keeps w e (with_phase w c key to) kept.safe step;
@@ -119,9 +205,23 @@ phase_kept w c key from to counts old new state hint hint' kept e step was is ha
       skipped = λ slot one s f. elim (eqb_tells slot key.slot) [
         | inl e ↦ (let free = (free_exact (with_phase w c key to) key.slot state has).1 (subst (IsFree (with_phase w c key to)) e.1 f) in
             looks (free.0, free.1, told ∙ free.2) (subst (λ x. 1 ≤ x) e.1 one) (subst (Skips hint'.lowest hint'.full) e.1 s))
-        | inr n ↦ kept.skipped slot one (fewer.skips slot s) (free_elsewhere w c key from to slot was n.1 f)
+        | inr n ↦ kept.skipped slot one (fewer.skips slot s) (free_elsewhere w c key there.0 to slot there.1 n.1 f)
       ];
     }
+
+-- where the caller holds the slot still, it is not free after the step, and the search passes over no other
+pub held_kept : (w : BareWorld) (c : ℕ) (key : Key) (from to : Phase) (counts : List Counts) (old new : Counts) (hint : Hint) →
+    IsSoundWorld w counts hint → (e : Event) → BareStep w e (with_phase w c key to) → CountsFrom w c key from → from ≢ Spent → is_spent to ≡ false → CountsAt counts key.slot old from (length w.callers) →
+    new.holds + tally (not (is_spent from)) ≡ old.holds + tally (not (is_spent to)) → new.references + tally (has_reference from) ≡ old.references + tally (has_reference to) →
+    new.hiders + tally (is_hiding from) ≡ old.hiders + tally (is_hiding to) →
+    IsSoundWorld (with_phase w c key to) (slice_set counts key.slot new) hint
+held_kept w c key from to counts old new hint kept e step there held still at h r i =
+    let last : IsLast w key.slot key.generation = kept.safe.held_last c key there.0 there.1 (still_held from there.0 there.2 held) in
+    let its : tally (not (is_spent from)) ≤ old.holds = at.holds in
+    let one : tally (not (is_spent to)) ≡ 1 = ap (λ b. tally (not b)) still in
+    let some : 1 ≤ new.holds = omega arith in
+    phase_kept w c key from to counts old new last.0 hint hint kept e step there at.found last.1 h r i (record { skips = λ slot s. s; as_many = (refl, refl) })
+    (λ free. let none : new.holds ≡ 0 = free.2 in omega arith)
 
 -- after a change of the marks of the key
 pub marks_kept : (w : BareWorld) (key : Key) (m : Option Marks) (counts : List Counts) (hint : Hint) → IsSoundWorld w counts hint → (e : Event) → BareStep w e (with_marks w key m) → ¬ IsFree (with_marks w key m) key.slot → IsSoundWorld (with_marks w key m) counts hint

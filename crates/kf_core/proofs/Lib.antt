@@ -7,6 +7,7 @@ pub mod Passing
 pub mod Runs
 pub mod Tallies
 pub mod SlotLists
+pub mod CountLists
 pub mod Kept
 pub mod Events
 pub mod WorldVisits

@@ -18,6 +18,16 @@ pub front_set : {T : Type 0} (xs : List T) (slots slot : ℕ) (rest item : T) �
 front_set xs slots slot rest item within =
     ap (λ n. slice_set xs slot item ++ replicate (slots - n) rest) (length-set xs slot item) ∙ sym (set-append_left xs (replicate (slots - length xs) rest) slot item within)
 
+-- a change of a list of which an item is written
+pub written : {T : Type 0} (xs ys : List T) (slots slot : ℕ) (rest item : T) → slot < length xs → xs ++ replicate (slots - length xs) rest ≡ ys → slice_set xs slot item ++ replicate (slots - length (slice_set xs slot item)) rest ≡ slice_set ys slot item
+written xs ys slots slot rest item within is = front_set xs slots slot rest item within ∙ ap (λ l. slice_set l slot item) is
+
+-- what is written is read in front
+pub front_read : {T : Type 0} (xs ys : List T) (slot : ℕ) → slot < length xs → slice_get (xs ++ ys) slot ≡ slice_get xs slot
+front_read [] ys slot within = absurd (omega (arith, within))
+front_read (x ∷ xs) ys zero within = refl
+front_read (x ∷ xs) ys (suc slot) within = front_read xs ys slot (omega (arith, within))
+
 -- past what is written, the rest put in its place changes nothing
 pub rest_set : {T : Type 0} (xs : List T) (n slot : ℕ) (rest : T) → length xs ≤ slot → slice_set (xs ++ replicate n rest) slot rest ≡ xs ++ replicate n rest
 rest_set [] zero slot rest past = refl

@@ -265,12 +265,29 @@ hidden_exact w key safe last = (
       let t : tally (is_hiding r.1) ≡ 1 = ap tally r.3 in omega arith),
 )
 
--- a key that is not the last of its slot is not hidden
-pub past_shown : (w : BareWorld) (key : Key) → Safe w → ¬ IsLast w key.slot key.generation → is_hidden w key ≡ false
-past_shown w key safe past = none_hides w key (λ c p there hides. past (safe.held_last c key p there (hiding_holds p hides)))
+-- what is not true is false
+not_true : (b : Bool) → ¬ (b ≡ true) → b ≡ false
+not_true true n = absurd (n refl)
+not_true false n = refl
 
 -- two tests that tell the same
 pub same_bool : (a b : Bool) → (a ≡ true → b ≡ true) → (b ≡ true → a ≡ true) → a ≡ b
 same_bool true b f g = sym (f refl)
 same_bool false true f g = g refl
 same_bool false false f g = refl
+
+-- where the count of hiders of the slot of its last key is 0, the key is shown
+pub shown_exact : (w : BareWorld) (key : Key) → Safe w → IsLast w key.slot key.generation → nat_eq (hiders w key.slot) 0 ≡ not (is_hidden w key)
+shown_exact w key safe last =
+    let exact = hidden_exact w key safe last in
+    elim (eqb_tells (hiders w key.slot) 0) [
+      | inl z ↦ (let none : hiders w key.slot ≡ 0 = z.1 in
+          let shown : is_hidden w key ≡ false = not_true (is_hidden w key) (λ hidden. let some : 1 ≤ hiders w key.slot = exact.1 hidden in omega arith) in
+          z.0 ∙ ap not (sym shown))
+      | inr n ↦ (let some : hiders w key.slot ≢ 0 = n.1 in
+          n.0 ∙ ap not (sym (exact.0 (omega arith))))
+    ]
+
+-- a key that is not the last of its slot is not hidden
+pub past_shown : (w : BareWorld) (key : Key) → Safe w → ¬ IsLast w key.slot key.generation → is_hidden w key ≡ false
+past_shown w key safe past = none_hides w key (λ c p there hides. past (safe.held_last c key p there (hiding_holds p hides)))

@@ -65,17 +65,13 @@ pub may_enter_after : (w w' : BoundedWorld) (id : ℕ) (key : Key) (phase : Phas
 may_enter_after w w' id key phase there happens =
     may_enter w' id key Still (subst (λ v. IsCaller v id key Still) (sym (after_leave w w' id key phase there happens)) (put_there w.world id key phase Still there)) refl
 
--- the caller that a try left on a key has entered there
-pub has_entered : (w w' : BoundedWorld) (id : ℕ) (key : Key) (phase : Phase) → Happens w (Enter id) w' → ((key : Key) (phase : Phase) → IsCaller w.world id key phase → true ≡ is_live w.world key) → IsCaller w'.world id key phase → HasEntered w id key w'
-has_entered w w' id key phase happens told there =
-    let step = happens.steps in
-    let running : IsCaller w'.world id step.0 Running = caller_after w w' id step.0 step.1 true step.2 happens (told step.0 step.1 step.2) in
-    let same : key ≡ step.0 = (one_key w'.world id key step.0 phase Running there running).0 in
-    record {
-      step = happens;
-      live = subst (λ k. IsTrue (is_live w.world k)) (sym same) (sym (told step.0 step.1 step.2));
-      running = subst (λ k. IsCaller w'.world id k Running) (sym same) running;
-    }
+-- a caller whose try found the node live has entered
+pub has_entered : (w w' : BoundedWorld) (id : ℕ) (key : Key) (phase : Phase) → Happens w (Enter id) w' → ((key : Key) (phase : Phase) → IsCaller w.world id key phase → true ≡ is_live w.world key) → IsCaller w.world id key phase → HasEntered w id key w'
+has_entered w w' id key phase happens told there = record {
+  step = happens;
+  live = sym (told key phase there);
+  running = caller_after w w' id key phase true there happens (told key phase there);
+}
 
 -- a call that was given back is that of the same caller, who runs on the same key
 pub given_back_running : (w : BoundedWorld) (before after : CallView ℕ) → GivenBack before after → IsCaller w.world before.caller before.key Running → IsCaller w.world after.caller after.key Running

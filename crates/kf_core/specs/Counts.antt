@@ -1,9 +1,10 @@
 -- What the plain list keeps beside its slots and callers, so that no question has to walk the callers.
-use Rattle.std.specs.Prelude.{◌≡◌, ℕ, ◌<◌, ◌≤◌, Bool, ◌&&◌, ◌==◌, List, length, count_by, slice_get, Some, if◌then◌else◌}
+use Rattle.std.specs.Prelude.{◌≡◌, ℕ, ◌+◌, ◌<◌, ◌≤◌, Bool, ◌&&◌, ◌==◌, List, length, count_by, slice_get, Some, if◌then◌else◌}
 use Rattle.kf_core.specs.Limits.{most_slots}
+use Rattle.kf_core.specs.declared.caller.Phase.{Phase}
 use Rattle.kf_core.specs.declared.counts.Counts.{Counts}
 use Rattle.kf_core.specs.declared.world.hint.Hint.{Hint}
-use Rattle.kf_core.specs.Phases.{has_reference, is_hiding}
+use Rattle.kf_core.specs.Phases.{has_reference, is_hiding, is_spent}
 use Rattle.kf_core.specs.Bare.{BareWorld}
 use Rattle.kf_core.specs.Safe.{Safe}
 use Rattle.kf_core.specs.Bounded.{IsFree, holds}
@@ -12,6 +13,23 @@ use Rattle.kf_core.specs.Hints.{Covers, Skips}
 -- one where it is true
 abbrev pub tally : Bool → ℕ
 tally b = if b then 1 else 0
+
+-- the counts of a slot on which nobody is
+abbrev pub no_counts : Counts
+no_counts = record { holds = 0; references = 0; hiders = 0 }
+
+-- one hold more
+abbrev pub with_hold : Counts → Counts
+with_hold c = record { holds = c.holds + 1; references = c.references; hiders = c.hiders }
+
+-- somebody holds the slot
+abbrev pub IsHeldIn : List Counts → ℕ → Type 0
+IsHeldIn counts slot = (c : Counts) × (slice_get counts slot ≡ Some c) × (1 ≤ c.holds)
+
+-- a caller counts as much in one phase as in the other
+abbrev pub CountsAs : Phase → Phase → Type 0
+CountsAs p q =
+    (is_spent p ≡ is_spent q) × (has_reference p ≡ has_reference q) × (is_hiding p ≡ is_hiding q)
 
 -- how many callers on the slot have a reference
 abbrev pub references : BareWorld → ℕ → ℕ

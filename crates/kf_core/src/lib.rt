@@ -15,6 +15,7 @@
 
 mod caller;
 mod command;
+mod count_list;
 mod counts;
 mod event;
 mod guard;

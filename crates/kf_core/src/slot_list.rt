@@ -31,7 +31,7 @@ impl<T: Copy> Model for SlotList<T> {
 
 /// Writes the items up to a slot. There is room for each.
 #[inline(always)]
-fn reach<T: Copy>(items: &mut Vec<T>, slots: usize, rest: T, slot: usize)
+pub(crate) fn reach<T: Copy>(items: &mut Vec<T>, slots: usize, rest: T, slot: usize)
     requires within { slot < slots }
     requires few { length items.old.items ≤ slots }
     requires room { slots ≤ vec_capacity items.old }

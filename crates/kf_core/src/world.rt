@@ -1,7 +1,7 @@
 //! The plain list of slots and callers. Its methods are the atomic steps, and its questions take constant
 //! time, but for the search for a free slot.
 
-ghost use Rattle.std.specs.Prelude.{◌≡◌, ◌+◌, ◌-◌, ◌^◌, ◌≤◌, ◌<◌, slice_get, IfOk, IfErr, None};
+ghost use Rattle.std.specs.Prelude.{◌≡◌, ◌+◌, ◌-◌, ◌^◌, ◌≤◌, ◌<◌, not, slice_get, IfOk, IfErr, IsTrue, None};
 ghost use Rattle.std.specs.Option.{option_map};
 ghost use Rattle.kf_core.specs.declared.refusal.Refusal.TheVariants.{NoMemory};
 ghost use Rattle.kf_core.specs.Bare.{marks, marks_in, is_live, is_linked, is_doomed, is_hidden, opening};
@@ -11,6 +11,7 @@ ghost use Rattle.kf_core.specs.Bounded.{BoundedWorld, bounded, holds};
 ghost use Rattle.kf_core.specs.Counts.{IsSoundWorld, references, hiders};
 
 use crate::caller::{Caller, Phase};
+use crate::count_list::CountList;
 use crate::counts::Counts;
 use crate::key::Key;
 use crate::limits::Limits;
@@ -34,7 +35,7 @@ pub struct World {
     callers: Vec<Caller>,
     limit: u32,
     /// By slot, so that no question walks the callers.
-    counts: SlotList<Counts>,
+    counts: CountList,
     /// Where the search for a free slot need not look.
     hint: Hint,
 }
@@ -84,7 +85,7 @@ impl World {
             slots,
             callers: Vec::new(alloc),
             limit: limits.holds(),
-            counts: SlotList::new(alloc, count, Counts::NONE)?,
+            counts: CountList::new(alloc, count)?,
             hint: Hint::new(alloc, limits.slots())?,
         })
     }
@@ -116,7 +117,15 @@ impl World {
     fn is_live(&self, key: Key) -> bool
         ensures { result ≡ is_live self.now.world key }
     {
-        self.has_live_marks(key) && !self.is_hidden(key)
+        self.has_live_marks(key) && self.is_shown(key)
+    }
+
+    /// Whether nobody hides a node with live marks.
+    fn is_shown(&self, key: Key) -> bool
+        requires live { IsTrue (are_live (marks self.now.world key)) }
+        ensures { result ≡ not (is_hidden self.now.world key) }
+    {
+        self.counts_of(key.slot).hiders == 0
     }
 
     /// Whether the node is linked, activated and not doomed.

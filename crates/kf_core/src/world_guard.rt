@@ -51,13 +51,13 @@ impl Guard for World {
     ghost leaves = { λ w call id w'. (id ≡ call.caller) × Happens w (Leave id) w' };
 
     fn enter(&mut self, id: usize) -> Result<WorldCall, usize> {
+        let Some((key, _)) = self.caller(id) else {
+            unreachable!();
+        };
         if !self.enter(id) {
             return Err(id);
         }
-        match self.caller(id) {
-            Some((key, _)) => Ok(WorldCall { caller: id, key }),
-            None => unreachable!(),
-        }
+        Ok(WorldCall { caller: id, key })
     }
 
     #[inline(always)]

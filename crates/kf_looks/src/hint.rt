@@ -37,8 +37,8 @@ fn name_hash(name: &ShortName) -> u64 {
 }
 
 impl Looks {
-    /// Where the hints of a name are, by the slot of its directory. A walk gives the line that the directory's
-    /// own hint told: so it asks for the next hint before that line has come.
+    /// Where the hints of a name are, by the slot of its directory. A walk gives the line that the
+    /// directory's own hint told: so it asks for the next hint before that line has come.
     #[inline(always)]
     pub(crate) fn place(&self, dir: u64, name: &ShortName) -> Place
         ensures first { 8 * self.now.slots + 8 ≤ result.first }

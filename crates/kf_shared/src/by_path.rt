@@ -11,8 +11,8 @@ ghost use Rattle.kf_words.specs.Pins.{IsHoldOf, WasHeldFor};
 use kf_live::Looker;
 use kf_words::{Hold, Holds};
 
-/// A hold of the live node that a path names, with no lock of the tree and no wait: a look-up finds its key, a
-/// maker of the same tree's holds counts it, and a load says that the path leads there still. (It is the
+/// A hold of the live node that a path names, with no lock of the tree and no wait: a look-up finds its key,
+/// a maker of the same tree's holds counts it, and a load says that the path leads there still. (It is the
 /// caller's to `enter`, which tells whether the node is live then.)
 ///
 /// None is no refusal: ask under the lock, by [`Editor::hold`](crate::Editor::hold). `Looker::look` had no

@@ -86,10 +86,10 @@ fn push_up(text: &mut Vec<u8>)
     text.push_reserved(b'/');
 }
 
-/// Pushes `../` for each step up from the directory to the first base over the target, and gives that base. A
-/// second way up, from the target's directory, is climbed beside it, always the deeper of the two first; its
-/// keys are pushed too, from the target up to below the base. Each way is looked up once, before, and there is
-/// room for each `../` of the whole way.
+/// Pushes `../` for each step up from the directory to the first base over the target, and gives that base.
+/// A second way up, from the target's directory, is climbed beside it, always the deeper of the two first;
+/// its keys are pushed too, from the target up to below the base. Each way is looked up once, before, and
+/// there is room for each `../` of the whole way.
 fn push_ups(
     table: &Table,
     root: Key,

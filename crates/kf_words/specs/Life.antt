@@ -79,9 +79,9 @@ word_life = loads_hold 1 ∷ stores_fresh 1 ∷ births 1 ∷ takes_bias 1 ∷ lo
     ∷ marks_node 1 ∷ tries 1 ∷ undoes 1 ∷ sleeps 1 ∷ breaks 0 ∷ awakes 1 ∷ looks 1 ∷ restores 0
     ∷ parts 1 ∷ looks_over 1 ∷ leaves 0 ∷ looks_over 1 ∷ unlinks 1 ∷ parts 1 ∷ misses 0 ∷ releases 1
     ∷ counts 0 ∷ shares 0 ∷ releases 2 ∷ releases 0
-    ∷ loads_hold 1 ∷ stores_fresh 1 ∷ stores_node 1 0 0 ∷ births 1 ∷ loads_hold 1 ∷ pins_hold 1 ∷ unpins_hold 1
-    ∷ loads_hold 1 ∷ pins_hold 1 ∷ splits 1 ∷ misses_at 1 3 ∷ counts_at 1 3 ∷ hands_on 3 ∷ reads_node 1 0 3
-    ∷ reports 3 ∷ compares ∷ answers ∷ []
+    ∷ loads_hold 1 ∷ stores_fresh 1 ∷ stores_node 1 0 0 ∷ births 1 ∷ loads_hold 1 ∷ pins_hold 1
+    ∷ unpins_hold 1 ∷ loads_hold 1 ∷ pins_hold 1 ∷ splits 1 ∷ misses_at 1 3 ∷ counts_at 1 3 ∷ hands_on 3
+    ∷ reads_node 1 0 3 ∷ reports 3 ∷ compares ∷ answers ∷ []
 
 -- how the table opens there
 abbrev pub life_opening : Opening

@@ -30,7 +30,10 @@ second_word (Link target) = target.generation
 -- the node of three words, as far as each fits
 abbrev pub node_in : ℕ → ℕ → ℕ → Node
 node_in kind first second = if kind == 1 then File (first % 65536) second
-    else (if kind == 2 then Link (record { slot = first % 4294967296; generation = second % 4294967296 }) else Dir)
+    else (if kind == 2 then Link (record {
+      slot = first % 4294967296;
+      generation = second % 4294967296;
+    }) else Dir)
 
 -- by slot and place: the word that was put last, and the one that stood there at the slot's last birth
 pub record NodeNotes : Type 0 where

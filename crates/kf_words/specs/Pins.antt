@@ -27,8 +27,8 @@ MakesMissAt st me found me' = (st.word ≡ hold_index (slot_of st.word))
     × WasMade (misses_at (slot_of st.word)) (caller_sight me.0) (caller_sight me'.0))
     × (st.first ≡ me.0.seen.opening.holds)
 
--- the caller's view after an exchange on the hold word of a slot that expected this word: one hold more of the
--- slot's last key is counted where it was found
+-- the caller's view after an exchange on the hold word of a slot that expected this word: one hold more of
+-- the slot's last key is counted where it was found
 abbrev pub after_exchange_at : ℕ → ℕ → ℕ → CallerView → CallerView
 after_exchange_at slot old found c =
     if found == old then after_count_at slot found c else after_miss found c
@@ -120,9 +120,9 @@ IsWhyNot generation limit word NameTooLong = ⊥
 abbrev pub FoundWhyNot : Key → Handle → Refusal → Type 0
 FoundWhyNot key h why = IsWhyNot key.generation h.seen.opening.holds h.found why
 
--- a hold of a key is refused as the last step found its slot's hold word; for want of memory where that was of
--- the key and had a spare place; as busy where others changed the word between each of 64 steps and the next;
--- for no other cause
+-- a hold of a key is refused as the last step found its slot's hold word; for want of memory where that was
+-- of the key and had a spare place; as busy where others changed the word between each of 64 steps and the
+-- next; for no other cause
 abbrev pub HoldOfRefused : Key → Handle → Handle → Refusal → Type 0
 HoldOfRefused key before after NoEntry = FoundWhyNot key after NoEntry
 HoldOfRefused key before after TooManyHolds = FoundWhyNot key after TooManyHolds

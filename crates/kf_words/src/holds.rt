@@ -17,9 +17,9 @@ use std::marker::Model;
 /// The most owners that a maker keeps.
 const MOST_SPARE: usize = 16;
 
-/// Makes holds by a hold of its own. Each hold owns the table, and all threads share the count of its owners.
-/// A maker keeps up to 16 owners of the holds that are released to it, and a hold that it makes of one of them
-/// writes nothing to that count. It must be spent, by `end`.
+/// Makes holds by a hold of its own. Each hold owns the table, and all threads share the count of its
+/// owners. A maker keeps up to 16 owners of the holds that are released to it, and a hold that it makes of
+/// one of them writes nothing to that count. It must be spent, by `end`.
 pub struct Holds {
     by: CallerSeat,
     spare: Vec<Owner>,

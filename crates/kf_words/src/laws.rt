@@ -40,10 +40,10 @@ pub fn words_tell()
 /// Master, a birth is a Born of the slot's next key, activation and mark are a Rise and a Mark. A node taken
 /// out is an Unlink of any drained caller of it. A hold that gets its seat is a Pin of a new caller, on a
 /// linked key or one that somebody holds. A caller that counts one hold more leaves the world as it is, and
-/// the seat that gets it is a Pin of the caller's key, linked or not. Where it counted one of another key, the
-/// seat that gets it is a Pin of that key if it is linked then, or held. The Master's other steps leave the
-/// world as it is. A seat that carries to the Master what a caller has seen, or the Master's answer, holds
-/// nothing: it is a Pin and at once a Release.
+/// the seat that gets it is a Pin of the caller's key, linked or not. Where it counted one of another key,
+/// the seat that gets it is a Pin of that key if it is linked then, or held. The Master's other steps leave
+/// the world as it is. A seat that carries to the Master what a caller has seen, or the Master's answer,
+/// holds nothing: it is a Pin and at once a Release.
 pub fn words_step()
     ensures try_is_enter { TryIsEnter }
     ensures undo_is_undo { UndoIsUndo }
@@ -102,11 +102,12 @@ pub fn words_run()
 ///
 /// The table is always at the end of a run of `words_run` from its opening. What a seat has seen is a
 /// beginning of that run: it leads to a table that met the rule, and from there the run went on to the table
-/// as it is. Where a caller was drained or parted on a key at any moment of the run so far, nobody is running
-/// on that key now. Of two seats, one has seen as much as the other or more. Steps of one list lead to one
-/// table, so what a seat has seen names that table. Where a key is linked in two tables of a run, the words of
-/// its node are, in every table between the two, those that stood there when it was born. So is what a caller
-/// reads of a node between a look that finds its key linked and a step that counts a hold of it.
+/// as it is. Where a caller was drained or parted on a key at any moment of the run so far, nobody is
+/// running on that key now. Of two seats, one has seen as much as the other or more. Steps of one list lead
+/// to one table, so what a seat has seen names that table. Where a key is linked in two tables of a run, the
+/// words of its node are, in every table between the two, those that stood there when it was born. So is
+/// what a caller reads of a node between a look that finds its key linked and a step that counts a hold of
+/// it.
 ///
 /// The Master has seen every note of the run, and what any seat has seen of these is a beginning. Of two
 /// seats, one has seen as much of the one history as the other or more, and no step takes a note away.

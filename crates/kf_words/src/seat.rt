@@ -55,8 +55,8 @@ pub struct CallerSeat {
     ghost single: { (caller_of token.me.0.view).pinning ≡ None },
 }
 
-/// An owner of the table of words that has no seat, with the most holds of a slot there. The next seat that is
-/// made can have it, and then writes nothing to the count of owners, which all threads share.
+/// An owner of the table of words that has no seat, with the most holds of a slot there. The next seat that
+/// is made can have it, and then writes nothing to the count of owners, which all threads share.
 #[derive(Drop)]
 pub struct Owner {
     table: Arc<WordTable>,

@@ -12,6 +12,7 @@ ghost use Rattle.kf_core.specs.Phases.{is_waiting};
 ghost use Rattle.kf_core.specs.Safe.{Safe};
 ghost use Rattle.kf_core.specs.Steps.{with_caller, with_phase, BareStep, IsHeld, MayLook, MayLookHidden, MayPart, MayPin, NoReference};
 ghost use Rattle.kf_core.specs.Bounded.{Happens, May, PinRefused, bounded, holds};
+ghost use Rattle.kf_core.specs.Counts.{CountsAs};
 
 use super::World;
 use super::search::may_be_given;
@@ -21,24 +22,23 @@ use crate::refusal::Refusal;
 use std::alloc::AllocError;
 
 impl World {
-    /// The caller's phase becomes this one.
+    /// The caller's phase becomes this one. It counted as one in the phase `from`.
     #[inline(always)]
-    fn put_phase(&mut self, id: usize, caller: Caller, phase: Phase)
-        requires there { IsCaller self.old.world id caller.key caller.phase }
-        requires holds { caller.phase ≢ Spent }
+    fn put_phase(&mut self, id: usize, key: Key, from: Phase, phase: Phase)
+        requires there { (was : Phase) × IsCaller self.old.world id key was × CountsAs from was }
+        requires holds { from ≢ Spent }
         requires step { (event : Event)
-            × BareStep self.old.world event (with_phase self.old.world id caller.key phase) }
-        ensures { self.new ≡ bounded (with_phase self.old.world id caller.key phase) self.old.limit }
+            × BareStep self.old.world event (with_phase self.old.world id key phase) }
+        ensures { self.new ≡ bounded (with_phase self.old.world id key phase) self.old.limit }
     {
-        let slot = caller.key.slot as usize;
-        let counts = self.counts.at(slot).without(caller.phase).with(phase);
-        let free = may_be_given(self.slots.at(slot), counts.holds);
-        self.callers[id] = Caller {
-            key: caller.key,
-            phase,
-        };
-        self.counts.set(slot, counts);
-        self.hint.note(caller.key.slot, free);
+        let slot = key.slot as usize;
+        let counts = self.counts.held(slot).without(from).with(phase);
+        self.counts.set_held(slot, counts);
+        self.callers[id].phase = phase;
+        if phase.is_spent() {
+            let free = may_be_given(self.slots.at(slot), counts.holds);
+            self.hint.note(key.slot, free);
+        }
     }
 
     /// Whether the slot of the key has fewer holds than the limit. A slot past the last has no holds.
@@ -78,9 +78,7 @@ impl World {
             key,
             phase: Phase::Still,
         })?;
-        let slot = key.slot as usize;
-        self.counts
-            .set(slot, self.counts.at(slot).with(Phase::Still));
+        self.counts.hold(key.slot as usize);
         Ok(())
     }
 
@@ -116,11 +114,13 @@ impl World {
         ensures told { (key : Key) (phase : Phase) → IsCaller self.old.world id key phase →
             result ≡ is_live self.old.world key }
     {
-        let caller = self.callers[id];
-        let live = self.is_live(caller.key);
-        let phase = if live { Phase::Running } else { Phase::Turned };
-        self.put_phase(id, caller, phase);
-        live
+        let key = self.callers[id].key;
+        if !self.is_live(key) {
+            self.put_phase(id, key, Phase::Still, Phase::Turned);
+            return false;
+        }
+        self.put_phase(id, key, Phase::Still, Phase::Running);
+        true
     }
 
     /// The end of a call (`kernfs_put_active`).
@@ -130,8 +130,8 @@ impl World {
         requires may { May self.old (Leave id) }
         ensures step { Happens self.old (Leave id) self.new }
     {
-        let caller = self.callers[id];
-        self.put_phase(id, caller, Phase::Still);
+        let key = self.callers[id].key;
+        self.put_phase(id, key, Phase::Running, Phase::Still);
     }
 
     /// Gives the reference up inside the call (`kernfs_break_active_protection`).
@@ -141,8 +141,8 @@ impl World {
         requires may { May self.old (Break id) }
         ensures step { Happens self.old (Break id) self.new }
     {
-        let caller = self.callers[id];
-        self.put_phase(id, caller, Phase::Broken);
+        let key = self.callers[id].key;
+        self.put_phase(id, key, Phase::Running, Phase::Broken);
     }
 
     /// Takes a reference again inside the call (`kernfs_unbreak_active_protection`).
@@ -152,8 +152,8 @@ impl World {
         requires may { May self.old (Restore id) }
         ensures step { Happens self.old (Restore id) self.new }
     {
-        let caller = self.callers[id];
-        self.put_phase(id, caller, Phase::Restored);
+        let key = self.callers[id].key;
+        self.put_phase(id, key, Phase::Broken, Phase::Restored);
     }
 
     /// Whether the caller waits, its node is doomed, and nobody has a reference to it. The caller is then
@@ -169,7 +169,7 @@ impl World {
         if !self.sees_drain(key, phase) {
             return false;
         }
-        self.put_phase(id, Caller { key, phase }, Phase::Drained);
+        self.put_phase(id, key, phase, Phase::Drained);
         true
     }
 
@@ -199,8 +199,7 @@ impl World {
         if self.is_linked(key) {
             return false;
         }
-        let phase = Phase::Drained;
-        self.put_phase(id, Caller { key, phase }, Phase::Parted);
+        self.put_phase(id, key, Phase::Drained, Phase::Parted);
         true
     }
 
@@ -214,11 +213,11 @@ impl World {
         ensures told { (key : Key) (phase : Phase) → IsCaller self.old.world id key phase →
             result ≡ not (is_hidden self.old.world key) }
     {
-        let caller = self.callers[id];
-        if self.is_hidden(caller.key) {
+        let key = self.callers[id].key;
+        if self.is_hidden(key) {
             return false;
         }
-        self.put_phase(id, caller, Phase::Hiding);
+        self.put_phase(id, key, Phase::Still, Phase::Hiding);
         true
     }
 
@@ -235,8 +234,7 @@ impl World {
         if !self.is_unused(key, Phase::Hiding) {
             return false;
         }
-        let phase = Phase::Hiding;
-        self.put_phase(id, Caller { key, phase }, Phase::Hidden);
+        self.put_phase(id, key, Phase::Hiding, Phase::Hidden);
         true
     }
 
@@ -256,8 +254,8 @@ impl World {
         requires may { May self.old (Show id) }
         ensures step { Happens self.old (Show id) self.new }
     {
-        let hider = self.callers[id];
-        self.put_phase(id, hider, Phase::Still);
+        let hider = self.callers[id].key;
+        self.put_phase(id, hider, Phase::Hidden, Phase::Still);
     }
 
     /// Gives the hold back. The caller stays in the list, Spent.
@@ -267,7 +265,7 @@ impl World {
         requires may { May self.old (Release id) }
         ensures step { Happens self.old (Release id) self.new }
     {
-        let caller = self.callers[id];
-        self.put_phase(id, caller, Phase::Spent);
+        let key = self.callers[id].key;
+        self.put_phase(id, key, Phase::Still, Phase::Spent);
     }
 }

@@ -14,7 +14,7 @@ use crate::slot::SlotState;
 pub(super) fn may_be_given(state: SlotState, holds: usize) -> bool
     ensures { IsTrue result ↔ ((state.marks ≡ None) × (state.generation < 2 ^ 32 - 1) × (holds ≡ 0)) }
 {
-    state.marks.is_none() && state.generation < u32::MAX && holds == 0
+    holds == 0 && state.marks.is_none() && state.generation < u32::MAX
 }
 
 impl World {

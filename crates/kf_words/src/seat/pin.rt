@@ -1,5 +1,6 @@
 //! A hold of any key from a seat of the same table: one hold more is counted on the hold word of the key's
-//! slot, where that has the key's node linked and a spare place, and a new seat gets it. No lock is asked for.
+//! slot, where that has the key's node linked and a spare place, and a new seat gets it. No lock is asked
+//! for.
 ghost use Rattle.std.specs.Prelude.{◌≡◌, ◌≢◌, ◌<◌, true, false, None, IfOk, IfErr, IfSome};
 ghost use Rattle.kf_words.specs.Layout.{IsOf, HasSpare};
 ghost use Rattle.kf_words.specs.Steps.{after_miss};
@@ -47,8 +48,8 @@ impl CallerSeat {
         hold_index(key.slot) < self.table.word_count()
     }
 
-    /// Loads the hold word of a key's slot. The step names the most holds of a slot: it is an exchange of that
-    /// number by itself, which changes no word.
+    /// Loads the hold word of a key's slot. The step names the most holds of a slot: it is an exchange of
+    /// that number by itself, which changes no word.
     fn see_holds_of(&mut self, key: Key) -> u64
         requires rests { IsAtRest (view_of self.old) }
         requires there { HasSlotOf (handle_of self.old) key }
@@ -167,8 +168,8 @@ impl CallerSeat {
         Err(Refusal::Busy)
     }
 
-    /// Why there is no hold of a key where the table can have no owner more: for want of memory only where the
-    /// node is linked and its slot has a place.
+    /// Why there is no hold of a key where the table can have no owner more: for want of memory only where
+    /// the node is linked and its slot has a place.
     fn refuse_pin(&mut self, key: Key) -> Refusal
         requires rests { IsAtRest (view_of self.old) }
         requires there { HasSlotOf (handle_of self.old) key }

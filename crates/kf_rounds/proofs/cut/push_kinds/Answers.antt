@@ -1,3 +1,4 @@
+-- Each line that has bytes gives one kind.
 use Rattle.std.proofs.Common.{◌≡◌, ℕ, ◌+◌, ◌<◌, false, List, [], ◌∷◌, ◌++◌, map, filter, length, arith, ap, sym, ◌∙◌, length-append, rules}
 use Rattle.std.proofs.lemmas.List.{length-map}
 use Rattle.std.specs.Prelude.{◌==◌}

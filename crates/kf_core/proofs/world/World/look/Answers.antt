@@ -4,6 +4,9 @@ use Rattle.kf_core.specs.declared.event.Event.TheVariants.{Look}
 use Rattle.kf_core.proofs.Events.{told_caller, happens}
 use Rattle.kf_core.proofs.world.World.look.Goals as goal
 
+pub put_phase-requires-clause-there : goal.put_phase-requires-clause-there
+put_phase-requires-clause-there c = (c.in-Some.phase, told_caller _ c.in-Some.key c.in-Some.phase c.in-Some.ensures.known, (refl, refl, refl))
+
 pub put_phase-requires-clause-step : goal.put_phase-requires-clause-step
 put_phase-requires-clause-step c =
     let sees = c.if-not-sees_drain.ensures.0 refl in

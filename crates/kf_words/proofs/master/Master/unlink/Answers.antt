@@ -1,3 +1,4 @@
+-- The node that the key names is linked no more, and the slot is marked.
 use Rattle.std.proofs.Common.{◌≡◌, ℕ, ◌/◌, List, length, length-set, slice_set, true, false, refl, arith, sym, ap, ◌∙◌, subst}
 use Rattle.std.specs.Prelude.{slice_get, Some, None, is_some}
 use Rattle.kf_core.specs.declared.key.Key.{Key}
