@@ -17,14 +17,19 @@
 //!
 //! | What a driver calls in the kernel | Here |
 //! |---|---|
-//! | `sysfs_create_group(s)`, `is_visible`; `sysfs_remove_group(s)` | `create_group(s)`, mode 0; `remove_group(s)`, `remove_group_in` (`kf_groups`) |
-//! | `DEVICE_ATTR_RO` and its kin; `VERIFY_OCTAL_PERMISSIONS` | `Attribute::read_only` and its kin; `IsMode` (`kf_groups`) |
+//! | `sysfs_create_group(s)`, `is_visible` | `create_group(s)`, mode 0 (`kf_groups`) |
+//! | `sysfs_remove_group(s)` | `remove_group(s)`, `remove_group_in` (`kf_groups`) |
+//! | `DEVICE_ATTR_RO` and its kin | `Attribute::read_only` and its kin (`kf_groups`) |
+//! | `VERIFY_OCTAL_PERMISSIONS` | `IsMode` (`kf_groups`) |
 //! | `DEVICE_ULONG_ATTR`, `_INT_`, `_BOOL_`, `_STRING_` | `Number`, `Signed`, `Switch`, `Text` |
 //! | rows of a number that is known when it runs (`temp1_input`) | `Lines`, `LineTags` |
-//! | `sysfs_emit`, `_at`; `kstrtoul` and its kin, `sysfs_match_string` | `emit`, `emit_at`; `read_unsigned` and its kin, `read_word` (`kf_text`) |
+//! | `sysfs_emit`, `sysfs_emit_at` | `emit`, `emit_at` (`kf_text`) |
+//! | `kstrtoul` and its kin, `sysfs_match_string` | `read_unsigned` and its kin, `read_word` (`kf_text`) |
 //! | `struct bin_attribute`, `memory_read_from_buffer` | `BinaryRow`; `Bytes`, `read_from_buffer` |
-//! | `sysfs_notify`, `sysfs_notify_dirent`; `poll` | `notify`, `Post::notify`, `Notifier`; `WaitingFile::wait_changed` (`kf_files`) |
-//! | `kobject_uevent`; a listener's netlink socket | `activate_and_tell` and its kin, `tell_change`; `Listener` (`kf_uevents`) |
+//! | `sysfs_notify`, `sysfs_notify_dirent` | `notify`, `Notifier`, `Post::notify` (`kf_notify`) |
+//! | `poll` | `WaitingFile::wait_changed` (`kf_files`) |
+//! | `kobject_uevent` | `activate_and_tell` and its kin, `tell_change` (`kf_uevents`) |
+//! | a listener's netlink socket | `Listener` (`kf_uevents`) |
 //! | `device_add`, `device_del` | `Bus::plug_in`, `unplug_in` (`kf_device`) |
 #![tactic(auto)]
 
