@@ -509,6 +509,13 @@ def noise(mount):
     return f"{replies.count('ok')} done, {len(replies) - replies.count('ok')} refused"
 
 
+def is_unplugged(mount, path):
+    """Whether a device could be unplugged: where a storm has it away just then, there is none."""
+    reply = mount.tell(f"unplug {path}")
+    must(reply in ("ok", "err NoEntry 2"), reply)
+    return reply == "ok"
+
+
 def storms(mount):
     """A storm takes a device away and brings it again, with its links, texts and faults, until it is ended;
     then it is there."""
@@ -568,7 +575,8 @@ def storms(mount):
     must(error_of(read_path, mount.path("/class/cooling/speed")) == errno.EIO, "with its faults")
     time.sleep(0.2)
     must(os.path.isdir(mount.path("/devices/fan0")), "it stays")
-    mount.done("storm /devices/fan0 3", "unplug /devices/fan0")
+    mount.done("storm /devices/fan0 3")
+    must(eventually(lambda: is_unplugged(mount, "/devices/fan0")), "who unplugs finds it there at some time")
     must(eventually(lambda: os.path.isdir(mount.path("/devices/fan0"))), "it comes again by itself")
     mount.done(
         "storm /devices/fan0 0",
