@@ -164,7 +164,7 @@ struct kt_stat {
     struct kt_key target; /* of a link */
     uint32_t kind;        /* enum kt_kind */
     uint32_t links;       /* of a directory two and the number of child directories, else 1 */
-    uint16_t mode;        /* of a file, its permission bits, which the library only keeps */
+    uint16_t mode;        /* of a file, its permission bits, which kt_open() looks at */
     bool activated, doomed, hidden; /* doomed: marked for removal; hidden: by kt_hide() */
 };
 

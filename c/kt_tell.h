@@ -15,7 +15,7 @@ static inline const char *kt_strerror(int64_t answer)
     case -EAGAIN:
         return "it has begun, and somebody is inside: call again when a callback has left";
     case -EBUSY:
-        return "in use: a file is being hidden while somebody is inside";
+        return "in use: a file is being hidden, or others came between";
     case -EEXIST:
         return "the name is taken";
     case -EINVAL:

@@ -148,6 +148,8 @@ impl<N: Naming> Bus<N> {
     /// it since it last looked. Others plug and unplug from then on, so no clause tells the number.
     ///
     /// It may never return: it waits for the lock of the bus.
+    ///
+    /// Context: takes the lock of the bus.
     pub fn kept<R: Wait>(&self, rt: &R) -> usize {
         self.devices.lock(rt).len()
     }

@@ -116,6 +116,8 @@ impl<N: Naming> Opener<N> {
     ///
     /// Refusals: NoMemory (of a page); those of [`open_path`](crate::open_path), which are told under the
     /// lock, in their order.
+    ///
+    /// Context: takes the tree's lock where [`Opener::try_open`] finds nothing; its caller must not have it.
     #[tactic(auto, using(crate::proofs::Openings::of_its_hold))]
     pub fn open<R: Wait>(
         &mut self,

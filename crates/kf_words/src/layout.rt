@@ -7,7 +7,7 @@ use kf_core::Marks;
 
 /// The words of a cache line. Each slot has a line to itself, so that calls of one node never wait for those
 /// of another: its active word, behind that its hold word, then the count of those who sleep at the active
-/// word, and five words that nobody uses.
+/// word, three words of its node and two free.
 pub(crate) const LINE_WORDS: usize = 8;
 
 /// In an active word: the node is not at once linked, activated and undoomed, so a try for a reference fails.

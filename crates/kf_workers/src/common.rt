@@ -58,6 +58,8 @@ impl<'x, W: ScriptOps, N: Naming> Common<'x, W, N> {
     }
 
     /// Lets the text of a file go that is not in the tree: an empty one takes its place, and no memory.
+    ///
+    /// Context: takes the lock of the texts of its tag.
     pub fn let_go<R: Wait>(&self, rt: &R, tag: u64) {
         let _ = self.texts.first(rt, tag, b"");
     }
@@ -83,6 +85,8 @@ impl<'x, W: ScriptOps, N: Naming> Common<'x, W, N> {
 
     /// Notes that a file was made, and lets the text of its slot's earlier file go: so at most one text is
     /// kept for each slot, beside those of the lines that run.
+    ///
+    /// Context: takes the lock of the last files, and then that of the texts of a tag.
     pub fn made_file<R: Wait>(&self, rt: &R, key: Key, tag: u64) {
         let gone = {
             let mut last_files = self.last_files.lock(rt);

@@ -29,7 +29,9 @@ impl<N: Naming> Model for Finder<N> {
 }
 
 impl<N: Naming> Finder<N> {
-    /// A finder for a tree. One turn of its lock.
+    /// A finder for a tree.
+    ///
+    /// Context: takes the tree's lock once.
     pub fn new<R: Wait>(rt: &R, alloc: Global, tree: &SharedTree<N>) -> Result<Finder<N>, Refusal> {
         let mut editor = tree.edit(rt);
         let looker = editor.looker()?;
