@@ -107,16 +107,31 @@ def in_spaces(job, network=False, hands_on_all=False):
         print(f"fakesys: no name spaces: {error.strerror} {RESTRICTED}", file=sys.stderr)
         return CANNOT
     life, ours = os.pipe()
+    mask = hold_signals()
     child = os.fork()
     if child:
         return watch(child, hands_on_all)
     os.close(ours)
-    os._exit(first_process(job, life))
+    os._exit(first_process(job, life, mask))
 
 
-def first_process(job, life):
-    """What process 1 does: its status."""
+def hold_signals():
+    """Holds the signals that are handed on until the mask before, which it answers, is set again: process 1 would lose
+    one that comes before it handles it."""
+    return signal.pthread_sigmask(signal.SIG_BLOCK, handed_on())
+
+
+def end_at_once(number, _):
+    """Ends process 1, and with it all that is in its name spaces."""
+    os._exit(128 + number)
+
+
+def first_process(job, life, mask):
+    """What process 1 does: its status. A signal ends it, until the job hands it on."""
     fakesys.system_call("prctl", ON_DEATH_OF_PARENT, signal.SIGKILL)
+    for number in handed_on():
+        signal.signal(number, end_at_once)
+    signal.pthread_sigmask(signal.SIG_SETMASK, mask)
     if select.select([life], [], [], 0)[0]:
         return CANNOT  # the parent was killed before that
     with contextlib.suppress(OSError):  # where /proc is masked the machine's stays, which serves nearly all
@@ -310,10 +325,13 @@ def play(tree, lines, name, is_over):
 def run_command(options, lines, place):
     """Runs the command of a run in its tree: its status."""
     daemon, tree = open_tree(options, place)
-    process, status = start_command(options.command)
+    mask = hold_signals()
+    release = lambda: signal.pthread_sigmask(signal.SIG_SETMASK, mask)
+    process, status = start_command(options.command, preexec_fn=release)
     if process:
         os.setsid()  # from here on each signal that comes was sent on purpose
         hand_signals_on(process)
+        release()
         is_over = threading.Event()
         threading.Thread(target=play, args=(tree, lines, options.timeline, is_over), daemon=True).start()
         status = wait_for(process)

@@ -196,8 +196,6 @@ def blow_on(options, lines, place):
     said = tempfile.TemporaryFile()  # by the daemon: each line that is refused
     daemon, tree = fakesys_run.open_tree(options, place, said)
     os.setsid()
-    for number in {signal.SIGTERM, signal.SIGHUP, signal.SIGINT}.intersection(fakesys_run.handed_on()):
-        signal.signal(number, lambda number, _: os._exit(128 + number))
     reader = Reader(options)
     try_calm(reader, options)
     poke = Poke(options.poke, HANG if options.hang is None else options.hang) if options.poke else None
