@@ -1,7 +1,7 @@
 """What a tree that is mounted does: removals and their readers, polls, listings, moves, the control file."""
 import contextlib, errno, os, select, stat, threading, time
 
-from mounted import EVENTS, PATIENCE, Beside, error_of, must, read_path
+from mounted import EVENTS, PATIENCE, Beside, error_of, eventually, must, read_path
 
 
 def removal(mount):
@@ -16,9 +16,8 @@ def removal(mount):
         reader = Beside(read_path, mount.path("/class/cooling/speed"))
         time.sleep(0.6)
         remover = Beside(mount.done, "rm /devices/fan0")
-        time.sleep(0.4)
         must(
-            error_of(os.stat, mount.path("/devices/fan0/speed")) == errno.ENOENT,
+            eventually(lambda: error_of(os.stat, mount.path("/devices/fan0/speed")) == errno.ENOENT),
             "the name is gone while rm waits",
         )
         must(error_of(os.pread, speed, 99, 0) == errno.ENODEV, "an open file has ENODEV while rm waits")
