@@ -1,6 +1,7 @@
 # Links the shared library of the archive in out, tries both and installs them: with cc and make, and no kit.
 # The Makefile beside this file includes it; in the tarball of `make dist` it is the Makefile.
 PREFIX ?= /usr/local
+SPACE := $(subst ,, )
 VERSION := $(shell sed -n 's/^.define KT_VERSION_M[AI][JN]OR //p' kernfs_tree.h | paste -sd.)
 # Before 1.0 a new minor version may change what programs are linked with, so each has a name of its own.
 SHARED := libkernfs_tree.so.$(VERSION)
@@ -38,10 +39,10 @@ install: out/$(SHARED)
 	for it in $(NAMED); do echo ".so man3/$${it#*=}" | install -m 644 /dev/stdin "$(MANUAL)/$${it%%=*}.3" || exit 1; done
 	install -m 644 kernfs_tree.py "$(PYTHON)"
 	for it in kernfs_treeConfig.cmake kernfs_treeConfigVersion.cmake; do \
-	    sed "s|@VERSION@|$(VERSION)|" $$it.in > "$(CMAKE)/$$it" || exit 1; done
+	    sed "s|@VERSION@|$(VERSION)|" $$it.in | install -m 644 /dev/stdin "$(CMAKE)/$$it" || exit 1; done
 	for it in kernfs_tree=-lkernfs_tree kernfs_tree-static=-l:libkernfs_tree.a; do \
-	    sed "s|@PREFIX@|$(PREFIX)|; s|@VERSION@|$(VERSION)|; s|@NAME@|$${it%%=*}|; s|@LIBRARY@|$${it#*=}|" \
-	        kernfs_tree.pc.in > "$(LIB)/pkgconfig/$${it%%=*}.pc" || exit 1; done
+	    sed "s|@PREFIX@|$(subst $(SPACE),\\\\ ,$(PREFIX))|; s|@VERSION@|$(VERSION)|; s|@NAME@|$${it%%=*}|; s|@LIBRARY@|$${it#*=}|" \
+	        kernfs_tree.pc.in | install -m 644 /dev/stdin "$(LIB)/pkgconfig/$${it%%=*}.pc" || exit 1; done
 
 uninstall:
 	rm -f "$(LIB)/libkernfs_tree.a" "$(LIB)/libkernfs_tree.so" "$(LIB)/$(SHARED)"

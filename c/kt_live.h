@@ -98,8 +98,8 @@ struct kt_live_watcher {
 };
 
 /* The program may use `tree` and `lock` by the calls of kernfs_tree.h: look at nodes, hold and open them, hide them,
- * make links, directories and files of its own. What was published it
- * removes, renames and activates by the calls below alone. The rest is not the program's. */
+ * make links, directories and files of its own. What was published it removes, renames and activates by the calls below
+ * alone. The rest is not the program's. */
 struct kt_live {
     struct kt_handle tree;
     struct kt_lock lock;
@@ -238,6 +238,26 @@ static inline int32_t kt_live_walk(struct kt_live *live, const char *path, struc
     return kt_walk(&live->tree, path, strlen(path), out);
 }
 
+static inline bool kt_live_is_same(struct kt_key one, struct kt_key other)
+{
+    return one.slot == other.slot && one.generation == other.generation;
+}
+
+/* The attribute that a file of a device was published with; NULL of a file that the program made there. */
+static inline const struct kt_attribute *kt_live_attribute(struct kt_live *live, const struct kt_live_device *it,
+                                                           struct kt_key file)
+{
+    const struct kt_attribute *attribute;
+    struct kt_stat stat;
+    struct kt_key named;
+    if (!it || kt_stat(&live->tree, file, &stat) || stat.tag >= it->count)
+        return NULL;
+    attribute = &it->attributes[stat.tag];
+    if (!attribute->mode || kt_find(&live->tree, it->key, attribute->name, strlen(attribute->name), &named))
+        return NULL;
+    return kt_live_is_same(named, file) ? attribute : NULL;
+}
+
 /* The handles and the tree of a new struct. 0, -ENOMEM. */
 static inline int32_t kt_live_start(struct kt_live *live)
 {
@@ -319,17 +339,22 @@ static inline bool kt_live_is_there(struct kt_live *live, struct kt_key key)
     return !kt_stat(&live->tree, key, &stat) && stat.activated && !stat.doomed;
 }
 
+/* Looks for what a watch watches, where that is not the node it was. Whether something has come or gone. */
+static inline bool kt_live_look_again(struct kt_live *live, struct kt_live_watcher *watch)
+{
+    bool was_there = watch->is_there;
+    if (was_there && kt_live_is_there(live, watch->key))
+        return false;
+    watch->is_there = !kt_live_walk(live, watch->path, &watch->key) && kt_live_is_there(live, watch->key);
+    return was_there || watch->is_there;
+}
+
 /* Tells who watches nodes that have gone or come, each once. */
 static inline void kt_live_raise_changed(struct kt_live *live)
 {
-    for (struct kt_live_watcher *it = live->watches; it; it = it->next) {
-        bool was_there = it->is_there;
-        if (!was_there && kt_live_walk(live, it->path, &it->key))
-            continue;
-        it->is_there = kt_live_is_there(live, it->key);
-        if (it->is_there != was_there)
+    for (struct kt_live_watcher *it = live->watches; it; it = it->next)
+        if (kt_live_look_again(live, it))
             kt_live_raise(it);
-    }
 }
 
 /* Makes a watch with a path of its own. */
@@ -384,6 +409,7 @@ KT_LIVE_CALL int32_t kt_live_unwatch(struct kt_live *live, int fd)
 KT_LIVE_CALL int32_t kt_live_notify(struct kt_live *live, struct kt_key device, const char *name)
 {
     struct kt_key key;
+    bool is_own;
     int32_t answer;
     kt_live_lock(live);
     answer = kt_find(&live->tree, device, name, strlen(name), &key);
@@ -393,8 +419,10 @@ KT_LIVE_CALL int32_t kt_live_notify(struct kt_live *live, struct kt_key device, 
         answer = kt_notify(&live->post);
         kt_clear(&live->post);
     }
+    /* (of what the program makes itself nobody was told that it came) */
+    is_own = !answer && !kt_live_attribute(live, kt_live_find(live, device), key);
     for (struct kt_live_watcher *it = live->watches; it && !answer; it = it->next)
-        if (it->key.slot == key.slot && it->key.generation == key.generation)
+        if ((is_own && kt_live_look_again(live, it)) || kt_live_is_same(it->key, key))
             kt_live_raise(it);
     kt_live_unlock(live);
     return answer;
@@ -512,21 +540,19 @@ KT_LIVE_CALL int32_t kt_live_publish(struct kt_live *live, const char *path, con
 static inline int32_t kt_live_enter(struct kt_live *live, const char *path, bool to_write, struct kt_live_call *call)
 {
     struct kt_key dir;
-    struct kt_stat stat;
     int32_t answer = kt_live_walk(live, path, &call->key);
     if (!answer)
         answer = kt_open(&live->tree, call->key, !to_write, to_write, &call->file);
+    if (!answer)
+        answer = kt_parent(&live->tree, call->key, &dir);
     if (answer)
         return answer;
     /* what can be opened is live, and so it is published as long as the lock is held or a call runs there */
-    if (kt_stat(&live->tree, call->key, &stat) || kt_parent(&live->tree, call->key, &dir) ||
-        !(call->device = kt_live_find(live, dir)) || stat.tag >= call->device->count)
-        answer = -EIO;
-    else
-        answer = to_write ? kt_begin_write(&call->file) : kt_begin_read(&call->file, 0);
-    if (answer >= 0)
-        call->attribute = &call->device->attributes[stat.tag];
-    return answer;
+    call->device = kt_live_find(live, dir);
+    call->attribute = kt_live_attribute(live, call->device, call->key);
+    if (!call->attribute)
+        return -EIO;
+    return to_write ? kt_begin_write(&call->file) : kt_begin_read(&call->file, 0);
 }
 
 /* Begins a callback at a device's directory; where it is refused there is a hold at most. */
@@ -646,7 +672,7 @@ KT_LIVE_CALL int64_t kt_live_run(struct kt_live *live, const char *path, kt_live
 static inline bool kt_live_is_below(struct kt_live *live, struct kt_key key, struct kt_key top)
 {
     do {
-        if (key.slot == top.slot && key.generation == top.generation)
+        if (kt_live_is_same(key, top))
             return true;
     } while (!kt_parent(&live->tree, key, &key));
     return false;

@@ -437,6 +437,48 @@ static void beside(void)
     TRY(kt_remove_wait(&live->tree, link, &live->lock), 1);
 }
 
+/* Makes a file of the program's own, removes it, and makes it anew, with each tag that a published one may have: it has
+ * no callback, and who watches it is told of each notification, also where that came first. */
+static void own_file(struct kt_key dir, const char *path)
+{
+    struct kt_key mine;
+    int fd = kt_live_watch(live, path);
+    TRY(fd >= 0, 1);
+    for (uint64_t tag = 0; tag <= COUNT; tag++) {
+        pthread_mutex_lock(&live->lock.mutex);
+        TRY(kt_create_file(&live->tree, dir, "mine", 4, 0666, tag, true, &mine), 0);
+        pthread_mutex_unlock(&live->lock.mutex);
+        TRY(raised(fd), -1);
+        TRY(kt_live_read(live, path, text, sizeof text), -EIO);
+        TRY(kt_live_write(live, path, "1", 1), -EIO);
+        TRY(kt_live_notify(live, dir, "mine"), 0);
+        TRY(raised(fd), 1);
+        TRY(kt_live_notify(live, dir, "mine"), 0);
+        TRY(kt_live_notify(live, fan.key, "speed"), 0);
+        TRY(raised(fd), 1);
+        TRY(kt_remove_wait(&live->tree, mine, &live->lock), 1);
+        TRY(raised(fd), -1);
+    }
+    /* what is published there is told as always: what was watched has gone, and it comes */
+    TRY(kt_live_publish(live, path, NULL, 0, NULL, &mine), 0);
+    TRY(raised(fd), 1);
+    TRY(kt_live_unpublish(live, mine), 1);
+    TRY(raised(fd), 1);
+    TRY(kt_live_unwatch(live, fd), 0);
+}
+
+static void own_files(void)
+{
+    struct kt_key root;
+    TRY(PUBLISH("/fan0", fan), 0);
+    TRY(kt_root(&live->tree, &root), 0);
+    int64_t stores = fan.stores;
+    own_file(root, "/mine");
+    own_file(fan.key, "/fan0/mine");
+    TRY(fan.stores - stores, 0);
+    TRY(kt_live_unpublish(live, fan.key), 1);
+}
+
 /* A file with as many holds as there may be is read by nobody more, and its device stays. */
 static void full(void)
 {
@@ -613,6 +655,7 @@ int main(void)
     inside();
     nested();
     beside();
+    own_files();
     full();
     for (int i = 0; i < 3; i++)
         together();

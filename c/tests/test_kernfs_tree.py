@@ -2,6 +2,7 @@
 
 import errno
 import threading
+import time
 import unittest
 
 from kernfs_tree import DIR, FILE, LINK, Key, KtError, Tree
@@ -113,6 +114,28 @@ class Calls(unittest.TestCase):
         with self.refused(errno.ENODEV):
             gone.enter()
         gone.close()
+
+    def test_full_node(self):
+        """Who waits for a removal is woken where a node was full of holds, by the close of one that is in no call."""
+        tree = Tree(holds=2)
+        file = tree.create_file(tree.root, "file")
+        inside = tree.hold(file)
+        inside.enter()
+        answers = []
+        remover = threading.Thread(target=lambda: answers.append(tree.remove_wait(file, seconds=60)))
+        remover.start()
+        while not tree.stat(file).doomed:
+            time.sleep(0.01)
+        other = tree.hold(file)
+        inside.leave()
+        time.sleep(0.1)
+        began = time.monotonic()
+        other.close()
+        inside.close()
+        remover.join()
+        self.assertEqual(answers, [1])
+        self.assertLess(time.monotonic() - began, 30)
+        tree.close()
 
     def test_broken_protection(self):
         hold = self.tree.hold(self.speed)
