@@ -35,7 +35,12 @@ MOST_LINES = 50  # in one write: the kernel cuts a long one where it likes
 
 def escaped_path(path):
     """A path as a word of a line: a blank would end it."""
-    return re.sub(r"[\s\\]", lambda found: f"\\{ord(found[0]):03o}", path)
+    return re.sub(r"(?a)[\s\\]", lambda found: f"\\{ord(found[0]):03o}", path)
+
+
+def unescaped_path(word):
+    """The path that a word of a line is."""
+    return re.sub(r"\\([0-3][0-7]{2})", lambda found: os.fsdecode(bytes([int(found[1], 8)])), word)
 
 
 def escaped_text(data):
@@ -61,8 +66,8 @@ def write_lines(control, lines):
 
 
 def write_line(control, line):
-    """Gives a tree a line. OSError where it is refused."""
-    _, error = write_lines(control, [line])
+    """Gives a tree a line, or several. OSError where one is refused."""
+    _, error = write_lines(control, line.split("\n"))
     if error:
         raise OSError(error.errno, f"{os.strerror(error.errno)}: {line}")
 
@@ -93,13 +98,15 @@ class Description:
     def files(self):
         return [path for word, path, _ in self.words if word == "file"]
 
+    def directories(self):
+        return {path for word, path, _ in self.words if word == "mkdir"}
+
     def devices(self):
         """The directories that links of a class or a bus lead to, or that have a link `subsystem`."""
         of_bus = re.compile(r"/class/[^/]+/[^/]+|/bus/[^/]+/devices/[^/]+")
         found = {target for path, target in self.links() if of_bus.fullmatch(path)}
         found |= {os.path.dirname(path) for path, _ in self.links() if path.endswith("/subsystem")}
-        directories = {path for word, path, _ in self.words if word == "mkdir"}
-        return sorted(path for path in found & directories if path.startswith("/devices/"))
+        return sorted(path for path in found & self.directories() if path.startswith("/devices/"))
 
     def uevents(self, top):
         """The devices from a directory on, parents first: each with its subsystem, and the words of its uevent."""
@@ -107,14 +114,16 @@ class Description:
         for word, path, rest in self.words:
             if path.endswith("/uevent") and word in ("file", "set"):
                 told[path[:-7]] = uevent_words(os.fsencode(rest[4:]) if word == "file" else unescaped_text(rest))
-        links = [(path[:-10], os.path.basename(target)) for path, target in self.links() if path.endswith("/subsystem")]
-        return sorted((path, name, told.get(path, [])) for path, name in links if (path + "/").startswith(top + "/"))
+        links = [(path[:-10], target) for path, target in self.links() if path.endswith("/subsystem")]
+        found = sorted((path, target) for path, target in links if (path + "/").startswith(top + "/"))
+        name_of = lambda target: os.path.basename(unescaped_path(target))
+        return [(unescaped_path(path), name_of(target), told.get(path, [])) for path, target in found]
 
     def making(self, top):
         """The lines that plug a device, with all below it, which is seen when it is whole; and the links into it."""
         is_in = re.compile(re.escape(top) + r"(/|$)").match
         inside = [[word, path, rest] for word, path, rest in self.words if is_in(path)]
-        if not inside:
+        if top not in self.directories():
             raise FileNotFoundError(2, f"the description has no device {top}")
         lines = [" ".join(filter(None, words)) for words in inside if words[:2] != ["mkdir", top]]
         into = [f"link {path} {target}" for path, target in self.links() if is_in(target) and not is_in(path)]
@@ -156,6 +165,7 @@ class Tree:
 
     def device_at(self, path):
         """The device that a directory is now, with its subsystem and the words of its uevent: one, or none."""
+        path = unescaped_path(path)
         folder, words = self.at + path, []
         if not self.send or not os.path.islink(folder + "/subsystem"):
             return []
@@ -280,6 +290,12 @@ def text_of(file):
     return os.pread(file.fileno(), 1 << 20, 0).decode(errors="replace").strip() if file else ""
 
 
+def end_without_traceback():
+    """A Ctrl-C ends this process as it ends others; where it is ignored it stays so."""
+    if signal.getsignal(signal.SIGINT) == signal.default_int_handler:
+        signal.signal(signal.SIGINT, signal.SIG_DFL)
+
+
 # ---- for tests ----
 
 
@@ -302,7 +318,7 @@ class FakeSys(Tree):
 
     def __enter__(self):
         if not self.is_here:
-            self.at = tempfile.mkdtemp(prefix="fakesys-")
+            self.at = os.path.realpath(tempfile.mkdtemp(prefix="fakesys-"))
             self.control = self.at + "/.control"
             try:
                 self.process = start_daemon(self.text, self.at, self.options, said=tempfile.TemporaryFile())
@@ -357,7 +373,7 @@ class FakeSys(Tree):
         self.give(f"hide {self.real(path)}")
 
     def show(self, path):
-        self.give(f"show {escaped_path(path)}")
+        self.give(f"show {self.real(path)}")
 
     def notify(self, path):
         """Wakes who polls a file, as sysfs_notify() does."""
@@ -388,6 +404,8 @@ def run_inside(tree, command):
     enter_spaces()
     cover_sys(tree)
     os.environ["FAKESYS"] = os.path.join(tree, ".control")
+    for name in ("FAKESYS_DESCRIPTION", "FAKESYS_EVENTS"):
+        os.environ.pop(name, None)  # those of a run around this
     os.execvp(command[0], command)
 
 

@@ -43,9 +43,8 @@ class Refused(Exception):
 def read_text(name):
     """A description or a timeline, by its name; - is standard input."""
     try:
-        if name == "-":
-            return sys.stdin.read()
-        with open(name, encoding="utf-8", errors="surrogateescape") as file:
+        source = 0 if name == "-" else name
+        with open(source, encoding="utf-8", errors="surrogateescape", closefd=name != "-") as file:
             return file.read()
     except OSError as error:
         raise Refused(f"{name}: {error.strerror}") from None
@@ -202,7 +201,7 @@ class Place:
         if covers_all or free:
             self.at = "/sys" if covers_all else free[0]
         else:
-            self.at = tempfile.mkdtemp(prefix="fakesys-")
+            self.at = os.path.realpath(tempfile.mkdtemp(prefix="fakesys-"))
             self.child, self.life = remove_afterwards(self.at)
 
     def leave(self):
@@ -288,14 +287,18 @@ def start_command(command, **more):
 def hand_signals_on(process):
     """What this process is told the command is told; asked to end, it has some seconds for that."""
 
+    def send(number):
+        if process.returncode is None:  # (Popen.send_signal() would reap it, and wait_for() not hear of it)
+            os.kill(process.pid, number)
+
     def hand_on(number, _):
-        process.send_signal(number)
-        if number in (signal.SIGTERM, signal.SIGHUP):
+        send(number)
+        if number == signal.SIGTERM:
             signal.setitimer(signal.ITIMER_REAL, GRACE)
 
     for number in handed_on():
         signal.signal(number, hand_on)
-    signal.signal(signal.SIGALRM, lambda *_: process.kill())
+    signal.signal(signal.SIGALRM, lambda *_: send(signal.SIGKILL))
 
 
 def wait_for(process):
@@ -358,6 +361,7 @@ def run(options):
 
 def with_tree(options, job, hands_on_all=False):
     """Runs a job in name spaces, with a place for its tree: its status."""
+    signal.signal(signal.SIGCHLD, signal.SIG_DFL)  # where it is ignored no child can be waited for
     check_fuse()
     place = Place(options.all, fakesys.Description(options.text).tops())
     try:

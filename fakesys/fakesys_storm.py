@@ -21,6 +21,7 @@ import fakesys_run
 from fakesys_weather import KINDS, Weather, repeated
 
 FOUND = 1
+LONGEST = 1e9  # seconds
 HANG = 10
 ASKERS = 2
 TELLING = re.compile(r"panic:|Traceback|fatal|Sanitizer|[Aa]ssert|Segmentation|error while|stack smashing")
@@ -113,7 +114,7 @@ class Reader:
     """The command: it runs, and where it ends well runs again."""
 
     def __init__(self, options):
-        self.options, self.runs, self.process = options, 0, None
+        self.options, self.runs, self.process, self.groups = options, 0, None, []
         self.start()
 
     def start(self):
@@ -137,6 +138,7 @@ class Reader:
         if self.descriptor in came:
             self.process.wait()
             os.close(self.descriptor)
+            self.groups = [group for group in (*self.groups, self.process.pid) if is_left(group)]
             return "ended"
         return "hangs" if came else None
 
@@ -160,6 +162,16 @@ class Reader:
             (at for at, line in enumerate(lines) if TELLING.search(line)), max(0, len(lines) - SHOWN)
         )
         return [line[:160] for line in lines[telling : telling + SHOWN]]
+
+
+def is_left(group):
+    """Whether somebody is left in a group of processes; who has ended there is reaped, as process 1 has to."""
+    try:
+        while os.waitpid(-group, os.WNOHANG)[0]:
+            continue
+    except ChildProcessError:
+        return False
+    return True
 
 
 def watch_reader(reader, options, poke, until):
@@ -223,9 +235,11 @@ def line_text(at, line):
 
 
 def keep(options, blow):
-    if options.output:
-        with open(options.output, "w", encoding="utf-8", errors="surrogateescape") as file:
-            file.write(f"# {again(options)}\n")
+    if options.file:
+        with options.file as file:
+            with contextlib.suppress(OSError):  # of a pipe
+                file.truncate(0)
+            file.writelines(f"# {line}\n" for line in again(options).split("\n"))
             file.writelines(line_text(*it) + "\n" for it in list(blow.given))
 
 
@@ -319,9 +333,10 @@ def storm(options, parser):
     """`fakesys storm`: the status."""
     if not options.command and not options.print:
         parser.error("no COMMAND")
-    if min(options.time, options.calm, options.hang or 0) < 0 or not 1 <= options.rate <= 1000:
+    times = options.time, options.calm, options.hang or 0
+    if not all(0 <= it <= LONGEST for it in times) or not 1 <= options.rate <= 1000:
         parser.error("no such time or rate")
-    check_output(options.output)
+    options.file = open_output(options.output)
     options.told = told_words(options, parser)
     options.text = fakesys_run.read_text(options.description)
     options.seed = int.from_bytes(os.urandom(4), "little") if options.seed is None else options.seed
@@ -333,11 +348,11 @@ def storm(options, parser):
     return fakesys_run.with_tree(options, lambda place: blow_on(options, lines, place), True)
 
 
-def check_output(name):
-    """That the lines can be kept is seen before the storm."""
+def open_output(name):
+    """Where the lines are kept, if they are: that this can be is seen before the storm. What is there stays until then,
+    since it may be what is replayed."""
     try:
-        if name:
-            open(name, "w", encoding="utf-8").close()
+        return open(name, "a", encoding="utf-8", errors="surrogateescape") if name else None
     except OSError as error:
         raise fakesys_run.Refused(f"{name}: {error.strerror}") from None
 
@@ -348,7 +363,8 @@ def lines_of(options):
     if not options.replay:
         return Weather(description, options).lines()
     lines = [(round(at * 1000), line) for at, line in fakesys_run.read_timeline(options.replay)]
-    return repeated(lines, description.devices())
+    named = {line.partition(" ")[2] for _, line in lines if line.startswith(("plug ", "unplug "))}
+    return repeated(lines, sorted({*description.devices(), *named & description.directories()}))
 
 
 def print_lines(lines, seconds):

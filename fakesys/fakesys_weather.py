@@ -39,6 +39,8 @@ class Weather:
         self.devices = options.device or description.devices()
         if not self.devices:
             raise fakesys_run.Refused("no device in it: name a directory by --device")
+        for path in set(self.devices) - description.directories():
+            raise fakesys_run.Refused(f"the description has no directory {path}")
         self.gone, self.faults, self.stay = [], {}, 2000
         self.files = [path for path in description.files() if any(is_in(path, top) for top in self.devices)]
         lists = {os.path.dirname(path) for path, target in description.links() if target in self.devices}
