@@ -103,8 +103,9 @@ static const struct kt_attribute attributes[] = {
     {"none", 0, NULL, NULL, 4},      {"odd", 0444, show_odd, NULL, 5},   {"fails", 0222, NULL, store_fails, 6},
     {"calls", 0444, show_calls, NULL, 7}, {"delete", 0200, NULL, store_delete, 8},
     {"delete_outer", 0200, NULL, store_delete_outer, 9}, {"round", 0200, NULL, store_round, 10},
+    {NULL, 0, NULL, NULL, 11},
 };
-enum { COUNT = sizeof attributes / sizeof *attributes, FILES = COUNT - 1 };
+enum { COUNT = sizeof attributes / sizeof *attributes, FILES = COUNT - 2 };
 
 #define PUBLISH(path, it) kt_live_publish(live, path, attributes, COUNT, &(it), &(it).key)
 /* What is refused writes no key. */

@@ -2,6 +2,7 @@
 
 import os
 import re
+import shlex
 import sys
 
 # Functions of the headers that are no program's to call.
@@ -59,9 +60,12 @@ int main(int count, char **names)
 
 
 def install(run, here, prefix):
-    """What make said where it did not install."""
-    made = run(["make", "-C", here, "install", f"PREFIX={prefix}"])
-    return made.returncode and made.stdout[-600:] + made.stderr[-600:]
+    """What make said where it did not install, or what others may not read: also where the umask is strict."""
+    made = run(["make", "-C", here, "install", f"PREFIX={prefix}"], umask=0o077)
+    if made.returncode:
+        return made.stdout[-600:] + made.stderr[-600:]
+    closed = [str(it) for it in prefix.rglob("*") if it.is_file() and it.stat().st_mode & 0o044 != 0o044]
+    return closed and f"others may not read {', '.join(closed)}"
 
 
 def version(here):
@@ -71,14 +75,14 @@ def version(here):
 
 def found_by_pkg_config(run, here, room):
     """What is installed suffices: the example is built by what pkg-config tells, without this folder."""
-    prefix = room / "at"
+    prefix = room / "at a place"
     wrong = install(run, here, prefix)
     if wrong:
         return wrong
     env = {**os.environ, "PKG_CONFIG_PATH": f"{prefix}/lib/pkgconfig"}
     for name, path in (("kernfs_tree-static", ""), ("kernfs_tree", f"{prefix}/lib")):
         told = run(["pkg-config", "--cflags", "--libs", name], env=env)
-        made = run(["cc", "-o", "installed", here / "example.c", *told.stdout.split()])
+        made = run(["cc", "-o", "installed", here / "example.c", *shlex.split(told.stdout)])
         if told.returncode or made.returncode:
             return told.stderr + made.stderr
         if run([room / "installed"], env={**os.environ, "LD_LIBRARY_PATH": path}).returncode:
@@ -91,12 +95,13 @@ def found_by_cmake(run, here, room):
     wrong = install(run, here, room / "before")
     if wrong:
         return wrong
-    (room / "before").rename(room / "moved")
+    (room / "before").rename(room / "usr")
+    (room / "lib").symlink_to("usr/lib")  # as where /lib is /usr/lib
     project = room / "project"
     project.mkdir()
     (project / "CMakeLists.txt").write_text(CMAKE.format(version=version(here)))
     (project / "example.c").write_bytes((here / "example.c").read_bytes())
-    for words in (["-S", project, "-B", project / "out", f"-DCMAKE_PREFIX_PATH={room}/moved"], ["--build", project / "out"]):
+    for words in (["-S", project, "-B", project / "out", f"-DCMAKE_PREFIX_PATH={room}"], ["--build", project / "out"]):
         made = run(["cmake", *words])
         if made.returncode:
             return made.stdout[-600:] + made.stderr[-1200:]
