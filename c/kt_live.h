@@ -421,9 +421,12 @@ KT_LIVE_CALL int32_t kt_live_notify(struct kt_live *live, struct kt_key device, 
     }
     /* (of what the program makes itself nobody was told that it came) */
     is_own = !answer && !kt_live_attribute(live, kt_live_find(live, device), key);
-    for (struct kt_live_watcher *it = live->watches; it && !answer; it = it->next)
-        if ((is_own && kt_live_look_again(live, it)) || kt_live_is_same(it->key, key))
+    for (struct kt_live_watcher *it = live->watches; it && !answer; it = it->next) {
+        if (is_own)
+            (void)kt_live_look_again(live, it);
+        if (kt_live_is_same(it->key, key))
             kt_live_raise(it);
+    }
     kt_live_unlock(live);
     return answer;
 }

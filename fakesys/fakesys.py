@@ -290,12 +290,6 @@ def text_of(file):
     return os.pread(file.fileno(), 1 << 20, 0).decode(errors="replace").strip() if file else ""
 
 
-def end_without_traceback():
-    """A Ctrl-C ends this process as it ends others; where it is ignored it stays so."""
-    if signal.getsignal(signal.SIGINT) == signal.default_int_handler:
-        signal.signal(signal.SIGINT, signal.SIG_DFL)
-
-
 # ---- for tests ----
 
 

@@ -289,7 +289,8 @@ def hand_signals_on(process):
 
     def send(number):
         if process.returncode is None:  # (Popen.send_signal() would reap it, and wait_for() not hear of it)
-            os.kill(process.pid, number)
+            with contextlib.suppress(ProcessLookupError):  # it may be reaped just now
+                os.kill(process.pid, number)
 
     def hand_on(number, _):
         send(number)

@@ -21,7 +21,8 @@ import fakesys_run
 from fakesys_weather import KINDS, Weather, repeated
 
 FOUND = 1
-LONGEST = 1e9  # seconds
+LONGEST = 2e6  # seconds: poll(2) takes no more milliseconds
+OF_THIS_THREAD = 0x20000000  # __WNOTHREAD
 HANG = 10
 ASKERS = 2
 TELLING = re.compile(r"panic:|Traceback|fatal|Sanitizer|[Aa]ssert|Segmentation|error while|stack smashing")
@@ -113,8 +114,8 @@ class Poke:
 class Reader:
     """The command: it runs, and where it ends well runs again."""
 
-    def __init__(self, options):
-        self.options, self.runs, self.process, self.groups = options, 0, None, []
+    def __init__(self, options, daemon):
+        self.options, self.daemon, self.runs, self.process = options, daemon, 0, None
         self.start()
 
     def start(self):
@@ -138,7 +139,7 @@ class Reader:
         if self.descriptor in came:
             self.process.wait()
             os.close(self.descriptor)
-            self.groups = [group for group in (*self.groups, self.process.pid) if is_left(group)]
+            reap(self.daemon)
             return "ended"
         return "hangs" if came else None
 
@@ -164,14 +165,12 @@ class Reader:
         return [line[:160] for line in lines[telling : telling + SHOWN]]
 
 
-def is_left(group):
-    """Whether somebody is left in a group of processes; who has ended there is reaped, as process 1 has to."""
-    try:
-        while os.waitpid(-group, os.WNOHANG)[0]:
-            continue
-    except ChildProcessError:
-        return False
-    return True
+def reap(daemon):
+    """Reaps who was left behind and has ended, as process 1 has to. (Who asks is a child of its own thread.)"""
+    own = os.WEXITED | os.WNOHANG | os.WNOWAIT | OF_THIS_THREAD
+    with contextlib.suppress(ChildProcessError):
+        while (ended := os.waitid(os.P_ALL, 0, own)) and ended.si_pid != daemon:
+            os.waitpid(ended.si_pid, 0)
 
 
 def watch_reader(reader, options, poke, until):
@@ -208,7 +207,7 @@ def blow_on(options, lines, place):
     said = tempfile.TemporaryFile()  # by the daemon: each line that is refused
     daemon, tree = fakesys_run.open_tree(options, place, said)
     os.setsid()
-    reader = Reader(options)
+    reader = Reader(options, daemon.pid)
     try_calm(reader, options)
     poke = Poke(options.poke, HANG if options.hang is None else options.hang) if options.poke else None
     blow, began = Blow(tree, lines, options.time * 1000), time.monotonic()

@@ -475,6 +475,22 @@ static void own_files(void)
     TRY(kt_root(&live->tree, &root), 0);
     int64_t stores = fan.stores;
     own_file(root, "/mine");
+    int one = kt_live_watch(live, "/one"), two = kt_live_watch(live, "/two");
+    struct kt_key first, second_file;
+    pthread_mutex_lock(&live->lock.mutex);
+    TRY(kt_create_file(&live->tree, root, "one", 3, 0666, 0, true, &first), 0);
+    TRY(kt_create_file(&live->tree, root, "two", 3, 0666, 0, true, &second_file), 0);
+    pthread_mutex_unlock(&live->lock.mutex);
+    TRY(kt_live_notify(live, root, "one"), 0);
+    TRY(raised(one), 1);
+    TRY(raised(two), -1); /* of another file */
+    TRY(kt_remove_wait(&live->tree, second_file, &live->lock), 1);
+    TRY(kt_live_notify(live, root, "one"), 0);
+    TRY(raised(one), 1);
+    TRY(raised(two), -1);
+    TRY(kt_remove_wait(&live->tree, first, &live->lock), 1);
+    TRY(kt_live_unwatch(live, one), 0);
+    TRY(kt_live_unwatch(live, two), 0);
     own_file(fan.key, "/fan0/mine");
     TRY(fan.stores - stores, 0);
     TRY(kt_live_unpublish(live, fan.key), 1);
