@@ -8,6 +8,7 @@ import itertools
 import os
 import random
 import select
+import shlex
 import subprocess
 import sys
 import termios
@@ -29,7 +30,7 @@ class Running:
     """A program that runs while a `with` is inside, and is given scripts."""
 
     def __init__(self, program, slots, *options, told=subprocess.DEVNULL):
-        self.words, self.told = [*program.split(), "--slots", str(slots), *options], told
+        self.words, self.told = [*shlex.split(program), "--slots", str(slots), *options], told
 
     def __enter__(self):
         self.child = subprocess.Popen(self.words, stdin=-1, stdout=self.told)
@@ -86,7 +87,7 @@ def parts_of(shape, nodes):
 
 def same_replies(programs, slots, script):
     """Ends the run where the programs do not reply the same."""
-    told = [subprocess.run([*it.split(), "--slots", str(slots)], input=script, capture_output=True, check=True).stdout
+    told = [subprocess.run([*shlex.split(it), "--slots", str(slots)], input=script, capture_output=True, check=True).stdout
             for it in programs]
     if any(it != told[0] for it in told) or b"err" in told[0]:
         sys.exit(f"the replies differ, or lines are refused: {script[:80]!r} ..")
