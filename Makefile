@@ -1,13 +1,17 @@
+# SPDX-License-Identifier: MIT OR Apache-2.0
 # The program. To build it takes the Rattle kit with rt on the path, as ./kernfs_run --prove does.
 #
 #     make                                  proves every crate and builds the program, where that is not done
 #     make install DESTDIR=.. PREFIX=..     installs it with its manual page and examples, built first (PREFIX: /usr/local)
 #     make uninstall DESTDIR=.. PREFIX=..   takes that away
+#     make version                          writes the version that the file VERSION has wherever else it stands
+#     make dist                             makes the tarballs of a release in out/dist, and their checksums
 
 PREFIX ?= /usr/local
 BIN := $(DESTDIR)$(PREFIX)/bin
 MAN := $(DESTDIR)$(PREFIX)/share/man/man1
 DOC := $(DESTDIR)$(PREFIX)/share/doc/kernfs_run
+VERSION := $(shell cat VERSION)
 
 all:
 	./kernfs_run --prove --version
@@ -16,11 +20,21 @@ install: all
 	install -d "$(BIN)" "$(MAN)" "$(DOC)/examples"
 	install crates/kernfs_run/out/kernfs_run "$(BIN)"
 	install -m 644 docs/kernfs_run.1 "$(MAN)"
-	install -m 644 docs/SCRIPTS.md "$(DOC)"
+	install -m 644 docs/SCRIPTS.md LICENSE-MIT LICENSE-APACHE NOTICE "$(DOC)"
 	install -m 644 examples/*.kf examples/*.out examples/*.options "$(DOC)/examples"
 
 uninstall:
 	rm -f "$(BIN)/kernfs_run" "$(MAN)/kernfs_run.1"
 	rm -rf "$(DOC)"
 
-.PHONY: all install uninstall
+version:
+	tools/version --write
+
+dist:
+	rm -rf out/dist
+	tools/dist
+	$(MAKE) -C c dist
+	cp c/out/kernfs_tree-$(VERSION).tar.gz out/dist
+	cd out/dist && sha256sum *-$(VERSION).tar.gz > SHA256SUMS
+
+.PHONY: all install uninstall version dist
