@@ -1,11 +1,11 @@
--- In every run the tree and the list of slots tell the same of every key.
+-- In every run the tree and the list of slots agree on every key.
 use Rattle.std.proofs.Common.{◌≡◌, inl, inr, ℕ, zero, suc, List, [], ◌∷◌, map, refl, ap, sym, ◌∙◌, subst, Bool, true, false, cond, slice_set}
 use Rattle.std.specs.Prelude.{slice_get, Option, Some, None, nat_eq, ◌&&◌, replicate}
 use Rattle.std.specs.Option.{option_map, option_and_then}
 use Rattle.std.proofs.lemmas.Option.{same_Some, none-some, slice_get-map}
 use Rattle.std.proofs.lemmas.Bool.{eq-eqb}
 use Rattle.kf_core.specs.declared.key.Key.{Key}
-use Rattle.kf_core.specs.declared.slot.Marks.{Marks}
+use Rattle.kf_core.specs.declared.slot.NodeFlags.{NodeFlags}
 use Rattle.kf_core.specs.declared.slot.SlotState.{SlotState}
 use Rattle.kf_core.specs.declared.records.Record.{Record}
 use Rattle.kf_core.specs.declared.event.Event.{Event}
@@ -26,7 +26,7 @@ use Rattle.kf_core.proofs.SlotStates.{in_place}
 abbrev pub IsKeyed : List SlotState → Tree → Type 0
 IsKeyed states t = (slot : ℕ) (s : SlotState) (r : Record) → slice_get states slot ≡ Some s → slice_get t slot ≡ Some (Some r) → r.key ≡ record { slot = slot; generation = s.generation }
 
--- what stands at a place of a change of some records
+-- the item at a place after a change of some records
 changed_at : (t : Tree) (chosen : Record → Bool) (f : Record → Record) (slot : ℕ) (r : Record) → ((x : Record) → (f x).key ≡ x.key) → slice_get (change chosen f t) slot ≡ Some (Some r) → (x : Record) × (slice_get t slot ≡ Some (Some x)) × (r.key ≡ x.key)
 changed_at [] chosen f slot r keeps h = absurd (none-some _ h)
 changed_at (None ∷ t) chosen f zero r keeps h = absurd (none-some r (same_Some _ _ h))
@@ -44,7 +44,7 @@ change_keyed : (states : List SlotState) (t : Tree) (chosen : Record → Bool) (
 change_keyed states t chosen f keeps keyed slot s r is there = let x = changed_at t chosen f slot r keeps there in x.2 ∙ keyed slot s x.0 is x.1
 
 -- other marks of a linked node
-marks_keyed : (w : BareWorld) (t : Tree) (key : Key) (m : Marks) (m' : Option Marks) → marks w key ≡ Some m → IsKeyed w.slots t → IsKeyed (with_marks w key m').slots t
+marks_keyed : (w : BareWorld) (t : Tree) (key : Key) (m : NodeFlags) (m' : Option NodeFlags) → marks w key ≡ Some m → IsKeyed w.slots t → IsKeyed (with_marks w key m').slots t
 marks_keyed w t key m m' linked keyed slot s r is there = elim (after_write w.slots key.slot slot (slot_state key.generation m') s is) [
   | inl p ↦ keyed slot (slot_state key.generation (Some m)) r (subst (λ x. slice_get w.slots x ≡ Some (slot_state key.generation (Some m))) p.0 (in_place (slice_get w.slots key.slot) key.generation m linked)) there
       ∙ ap (λ (x : SlotState). record { slot = slot; generation = x.generation }) p.1
@@ -52,7 +52,7 @@ marks_keyed w t key m m' linked keyed slot s r is there = elim (after_write w.sl
 ]
 
 -- a birth
-born_keyed : (w : BareWorld) (t : Tree) (key : Key) (m : Option Marks) (new : Record) → new.key ≡ key → IsKeyed w.slots t → IsKeyed (with_marks w key m).slots (slice_set t key.slot (Some new))
+born_keyed : (w : BareWorld) (t : Tree) (key : Key) (m : Option NodeFlags) (new : Record) → new.key ≡ key → IsKeyed w.slots t → IsKeyed (with_marks w key m).slots (slice_set t key.slot (Some new))
 born_keyed w t key m new e keyed slot s r is there = elim (after_write w.slots key.slot slot (slot_state key.generation m) s is) [
   | inl p ↦ elim (after_write t key.slot slot (Some new) (Some r) there) [
     | inl q ↦ ap (λ (x : Record). x.key) (sym (same_Some new r q.1)) ∙ (e ∙ (ap (λ x. record { slot = x; generation = key.generation }) p.0 ∙ ap (λ (x : SlotState). record { slot = slot; generation = x.generation }) p.1))
@@ -64,7 +64,7 @@ born_keyed w t key m new e keyed slot s r is there = elim (after_write w.slots k
   ]
 ]
 
--- one slot less that has a record
+-- one fewer slot has a record
 empty_keyed : (states : List SlotState) (t : Tree) (slot' : ℕ) → IsKeyed states t → IsKeyed states (slice_set t slot' None)
 empty_keyed states t slot' keyed slot s r is there = elim (after_set t slot' slot None (Some r) there) [
   | inl e ↦ absurd (none-some r e)
@@ -118,14 +118,14 @@ opening_keyed zero start slot s r is there = absurd (none-some _ is)
 opening_keyed (suc n) start zero s r is there = ap (λ (x : Record). x.key) (sym (same_Some _ _ (same_Some _ _ there))) ∙ ap (λ (x : SlotState). record { slot = 0; generation = x.generation }) (same_Some _ _ is)
 opening_keyed (suc n) start (suc slot) s r is there = absurd (no_record n start slot r there)
 
--- what the two tell of a key
+-- a key in the tree and in the list of slots
 told_same : (key : Key) (last : ℕ) (linked : Option Record) → ((r : Record) → linked ≡ Some r → r.key ≡ record { slot = key.slot; generation = last }) →
     option_map (λ (r : Record). r.marks) (with_key key linked) ≡ cond (nat_eq last key.generation) (option_map (λ (r : Record). r.marks) linked) None
-told_same key last None keyed = elim (nat_eq last key.generation) as (λ b. ◌≡◌ {A = Option Marks} None (cond b None None)) [ true ↦ refl | false ↦ refl ]
+told_same key last None keyed = elim (nat_eq last key.generation) as (λ b. ◌≡◌ {A = Option NodeFlags} None (cond b None None)) [ true ↦ refl | false ↦ refl ]
 told_same key last (Some r) keyed =
     let e : is_same_key r.key key ≡ nat_eq last key.generation = ap (λ (k : Key). is_same_key k key) (keyed r refl) ∙ ap (λ b. b && nat_eq last key.generation) (eq-eqb key.slot key.slot refl) in
     ap (λ b. option_map (λ (x : Record). x.marks) (cond b (Some r) None)) e
-    ∙ elim (nat_eq last key.generation) as (λ b. ◌≡◌ {A = Option Marks} (option_map (λ (x : Record). x.marks) (cond b (Some r) None)) (cond b (Some r.marks) None)) [ true ↦ refl | false ↦ refl ]
+    ∙ elim (nat_eq last key.generation) as (λ b. ◌≡◌ {A = Option NodeFlags} (option_map (λ (x : Record). x.marks) (cond b (Some r) None)) (cond b (Some r.marks) None)) [ true ↦ refl | false ↦ refl ]
 
 both_tell : (key : Key) (o : Option Slot) → ((x : Slot) (r : Record) → o ≡ Some x → x.linked ≡ Some r → r.key ≡ record { slot = key.slot; generation = x.last }) →
     option_map (λ (r : Record). r.marks) (option_and_then (with_key key) (option_map (λ (x : Slot). x.linked) o)) ≡ marks_in (option_map bare_slot o) key.generation
@@ -138,6 +138,6 @@ keyed_agrees w keyed key =
     ∙ (both_tell key (slice_get w.slots key.slot) (λ x r is linked. keyed key.slot (bare_slot x) r (slice_get-map bare_slot w.slots key.slot ∙ ap (option_map bare_slot) is) (slice_get-map (λ (y : Slot). y.linked) w.slots key.slot ∙ (ap (option_map (λ (y : Slot). y.linked)) is ∙ ap Some linked)))
     ∙ ap (λ (o : Option SlotState). marks_in o key.generation) (sym (slice_get-map bare_slot w.slots key.slot)))
 
--- in every run the tree and the list of slots tell the same of every key
+-- in every run the tree and the list of slots agree on every key
 pub run_agrees : (count start : ℕ) (events : List Event) (w : World) → Run (opening count start) events w → Agrees (tree w) (bare w)
 run_agrees count start events w r = keyed_agrees w (run_keyed events (opening count start) w r (opening_keyed count start))

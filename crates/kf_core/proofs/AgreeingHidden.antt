@@ -1,4 +1,4 @@
--- In every run a record is hidden exactly where a caller hides its key.
+-- In every run a record is hidden if and only if a caller hides its key.
 use Rattle.std.proofs.Common.{◌≡◌, ◌≢◌, inl, inr, ℕ, zero, suc, List, [], ◌∷◌, refl, ap, sym, ◌∙◌, subst, Bool, true, false, cond, slice_set}
 use Rattle.std.specs.Prelude.{slice_get, Some, None, ◌&&◌, if◌then◌else◌}
 use Rattle.std.proofs.lemmas.Option.{same_Some, none-some, slice_get_within}
@@ -30,7 +30,7 @@ use Rattle.kf_core.proofs.Agreeing.{no_record}
 told_of : (w : World) (b : BareWorld) (t : Tree) → bare w ≡ b → tree w ≡ t → AgreesHidden t b → AgreesHidden (tree w) (bare w)
 told_of w b t eb et told = subst (λ (x : BareWorld). AgreesHidden (tree w) x) (sym eb) (subst (λ (x : Tree). AgreesHidden x b) (sym et) told)
 
--- who hides its node does not wait, has no reference, and may not be released
+-- a caller that hides its node does not wait, has no reference, and may not be released
 busy : (p : Phase) → is_hiding p ≡ true → (is_waiting p ≡ false) × (has_reference p ≡ false) × (may_release p ≡ false)
 busy Still h = cc
 busy Turned h = cc
@@ -56,11 +56,11 @@ entered_shows : (b : Bool) → is_hiding (cond b Running Turned) ≡ false
 entered_shows true = refl
 entered_shows false = refl
 
--- a step of a caller who hides its node neither before nor after it, or both
+-- a step of a caller that hides its node both before and after it, or neither
 pub moved_told : (t : Tree) (w : BareWorld) (c : ℕ) (key : Key) (from to : Phase) → IsCaller w c key from → is_hiding to ≡ is_hiding from → AgreesHidden t w → AgreesHidden t (with_phase w c key to)
 moved_told t w c key from to there same told r is = told r is ∙ sym (hides_set w.callers r.key c (caller key from) (caller key to) there (ap (λ b. same_key key r.key && b) same))
 
--- other records, but for their key and hidden mark
+-- other records, except for their key and hidden mark
 pub changed_told : (t : Tree) (w : BareWorld) (chosen : Record → Bool) (f : Record → Record) → ((r : Record) → (f r).key ≡ r.key) → ((r : Record) → (f r).hidden ≡ r.hidden) → AgreesHidden t w → AgreesHidden (change chosen f t) w
 changed_told t w chosen f keys marks told r' is =
     let x = mapped_from t (λ (r : Record). if chosen r then f r else r) (λ r. both (chosen r) r (λ (y : Record). y.key) (keys r)) r' is in
@@ -88,7 +88,7 @@ put_told t w w' key b now others told r' is =
     its_key true r = refl
     its_key false r = refl
 
--- what a step of the caller of one key leaves of the others
+-- a step of the caller of one key leaves the other keys as they are
 pub elsewhere : (w : BareWorld) (c : ℕ) (key : Key) (from to : Phase) → IsCaller w c key from → (k : Key) → k ≢ key → is_hidden (with_phase w c key to) k ≡ is_hidden w k
 elsewhere w c key from to there k ne = hides_set w.callers k c (caller key from) (caller key to) there
     (elim (keys_tell key k) [
@@ -123,7 +123,7 @@ taken_told t w slot true told r is = elim (after_set t slot r.key.slot None (Som
 ]
 taken_told t w slot false told r is = told r is
 
--- each record of the world is hidden exactly where a caller hides its key
+-- each record of the world is hidden if and only if a caller hides its key
 abbrev pub Told : World → Type 0
 Told w = AgreesHidden (tree w) (bare w)
 
@@ -170,6 +170,6 @@ opening_told (suc n) start r is = at r.key.slot is
     at zero h = ap (λ (x : Record). x.hidden) (sym (same_Some _ _ (same_Some _ _ h)))
     at (suc slot) h = absurd (no_record n start slot r h)
 
--- in every run a record is hidden exactly where a caller hides its key
+-- in every run a record is hidden if and only if a caller hides its key
 pub run_tells_hidden : (count start : ℕ) (events : List Event) (w : World) → Run (opening count start) events w → AgreesHidden (tree w) (bare w)
 run_tells_hidden count start events w r = run_told events (opening count start) w r (opening_safe count start) (opening_told count start)

@@ -22,14 +22,14 @@ chained f (Some x) y h = (x, refl, h)
 pub record_other : (t : Tree) (slot : ℕ) (o : Option Record) (key : Key) → key.slot ≢ slot → record_at (slice_set t slot o) key ≡ record_at t key
 record_other t slot o key ne = ap (option_and_then (with_key key)) (slice_get-set_other t slot key.slot o ne)
 
--- where parents stay, ancestors do
+-- if the parents stay, so do the ancestors
 pub ancestor_keeps : (t u : Tree) → ((k p : Key) → parent_of t k ≡ Some p → parent_of u k ≡ Some p) → (n : ℕ) (k a : Key) → ancestor t n k ≡ Some a → ancestor u n k ≡ Some a
 ancestor_keeps t u same zero k a h = h
 ancestor_keeps t u same (suc n) k a h =
     let c : (p : Key) × (parent_of t k ≡ Some p) × (ancestor t n p ≡ Some a) = chained (ancestor t n) (parent_of t k) a h in
     ap (option_and_then (ancestor u n)) (same k c.0 c.1) ∙ ancestor_keeps t u same n c.0 a c.2
 
--- one step more
+-- one more step
 pub ancestor_more : (t : Tree) (n : ℕ) (k p a : Key) → parent_of t k ≡ Some p → ancestor t n p ≡ Some a → ancestor t (suc n) k ≡ Some a
 ancestor_more t n k p a e h = ap (option_and_then (ancestor t n)) e ∙ h
 
@@ -138,6 +138,6 @@ in_subtree_from t top k n h =
 in_subtree_to : (t : Tree) (top k : Key) → in_subtree t top k ≡ true → (n : ℕ) × (ancestor t n k ≡ Some top)
 in_subtree_to t top k h = (let r = meets_to (parent_of t) (length t) top k h in (r.0, r.2))
 
--- a key is in the subtree exactly where some number of steps from it leads to the top
+-- a key is in the subtree if and only if some number of steps from it leads to the top
 pub in_subtree_is_below : (t : Tree) (top key : Key) → IsTrue (in_subtree t top key) ↔ ((n : ℕ) × (ancestor t n key ≡ Some top))
 in_subtree_is_below t top key = (in_subtree_to t top key, λ way. in_subtree_from t top key way.0 way.1)

@@ -37,7 +37,7 @@ first_step up n k x h = elim (up k) as (λ o. option_and_then (climb up n) o ≡
 pub after_step : (up : Key → Option Key) (n : ℕ) (k p : Key) → up k ≡ Some p → climb up (suc n) k ≡ climb up n p
 after_step up n k p e = ap (λ o. option_and_then (climb up n) o) e
 
--- more steps from where some steps lead to
+-- more steps after some steps
 pub climb_rest : (up : Key → Option Key) (a b : ℕ) (k m : Key) → climb up a k ≡ Some m → climb up (a + b) k ≡ climb up b m
 climb_rest up zero b k m h = (let s : 0 + b ≡ b = omega arith in ap (λ n. climb up n k) s ∙ ap (climb up b) (same_Some k m h))
 climb_rest up (suc a) b k m h = (let f = first_step up a k m h in let s : suc a + b ≡ suc (a + b) = omega arith in
@@ -52,7 +52,7 @@ climb_cut up (suc a) b k x h =
     let c = climb_cut up a b f.0 x f.2 in
     (c.0, after_step up a k f.0 f.1 ∙ c.1, c.2))
 
--- there is one way to where no step leads up
+-- there is one way to a key from which no step leads up
 pub climb_unique : (up : Key → Option Key) (top : Key) → up top ≡ None → (a b : ℕ) (k : Key) → climb up a k ≡ Some top → climb up b k ≡ Some top → a ≡ b
 climb_unique up top e zero zero k h g = refl
 climb_unique up top e zero (suc b) k h g = (let f = first_step up b k top g in absurd (none-some f.0 (sym e ∙ ap up (sym (same_Some k top h)) ∙ f.1)))
@@ -62,7 +62,7 @@ climb_unique up top e (suc a) (suc b) k h g =
     let same : f'.0 ≡ f.0 = same_Some f'.0 f.0 (sym f'.1 ∙ f.1) in
     ap suc (climb_unique up top e a b f.0 f.2 (ap (climb up b) (sym same) ∙ f'.2)))
 
--- no way to there comes by a key twice
+-- no way to such a key meets a key twice
 pub no_return : (up : Key → Option Key) (top : Key) → up top ≡ None → (n i : ℕ) (k : Key) → climb up n k ≡ Some top → climb up (suc i) k ≡ Some k → ⊥
 no_return up top e n i k h g =
     (let same : suc i + n ≡ n = climb_unique up top e (suc i + n) n k (climb_rest up (suc i) n k k g ∙ h) h in absurd (omega arith))

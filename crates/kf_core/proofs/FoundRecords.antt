@@ -59,7 +59,7 @@ find_cleared t r k h n = find_kept t r.key.slot (Some r) None k h (with_other k 
 pub find_filled : (t : Tree) (r : Record) (k : Key) → slice_get t r.key.slot ≡ Some None → k ≢ r.key → record_at (slice_set t r.key.slot (Some r)) k ≡ record_at t k
 find_filled t r k h n = find_kept t r.key.slot None (Some r) k h refl (with_other k r n)
 
--- a way to where no step leads up is shorter than there are records
+-- a way to a key from which no step leads up is shorter than there are records
 pub way_short : (t : Tree) (n : ℕ) (k top : Key) (r : Record) → record_at t top ≡ Some r → parent_of t top ≡ None → ancestor t n k ≡ Some top → n < count_by is_some t
 way_short t zero k top r f e h = (let g = found_in t top r f in count_some t r.key.slot r g.0)
 way_short t (suc n) k top r f e h =
@@ -107,7 +107,7 @@ module _ (t : Tree) (root : Key) (l : Lawful t root) where
       let whole : ancestor t (n + w.0) r.key ≡ Some root = climb_rest (parent_of t) n w.0 r.key top c ∙ ap (ancestor t w.0) (sym s.2) ∙ w.1 in
       meets_from (parent_of t) (length t) n top r.key (let x = way_shorter (n + w.0) r.key whole in omega arith) c)
 
-  -- the way up from a record is the same in another tree where all that is met on it has the same parent
+  -- the way up from a record is the same in another tree if all keys that it meets have the same parent there
   pub way_kept : (t' : Tree) (n : ℕ) (r : Record) → IsIn t r → ((s : Record) (i : ℕ) → i < n → IsIn t s → ancestor t i r.key ≡ Some s.key → parent_of t s.key ≡ parent_of t' s.key) → ancestor t n r.key ≡ ancestor t' n r.key
   way_kept t' n r h same = climb_same (parent_of t) (parent_of t') n r.key (λ i m l c.
       (let s = met_linked i r m h c in

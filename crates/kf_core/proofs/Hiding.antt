@@ -1,4 +1,4 @@
--- Which keys are hidden, and what a step of a caller leaves of that.
+-- Which keys are hidden, and which stay hidden after a step of a caller.
 use Rattle.std.proofs.Common.{◌≡◌, ◌≢◌, ◌⊎◌, inl, inr, ℕ, zero, suc, List, [], ◌∷◌, ◌++◌, refl, ap, sym, ◌∙◌, subst, Bool, true, false, cond, slice_set}
 use Rattle.std.specs.Prelude.{slice_get, Some, ◌&&◌, not, IsTrue}
 use Rattle.std.proofs.lemmas.Option.{same_Some, none-some}
@@ -52,11 +52,11 @@ not_false false none = refl
 pub not_both : (b : Bool) → b ≡ true → b ≡ false → ⊥
 not_both b h g = let x : true ≡ false = sym h ∙ g in cc
 
--- who hides its key makes it hidden
+-- a key that a caller hides is hidden
 pub hider_hidden : (w : BareWorld) (c : ℕ) (key : Key) (p : Phase) → IsCaller w c key p → is_hiding p ≡ true → is_hidden w key ≡ true
 hider_hidden w c key p there hiding = hider_hides w.callers key c (record { key = key; phase = p }) there (ap (λ b. b && is_hiding p) (same_key_self key) ∙ hiding)
 
--- a hidden key has a caller who hides it
+-- a hidden key has a caller that hides it
 pub hidden_has : (w : BareWorld) (key : Key) → is_hidden w key ≡ true → (c : ℕ) × (p : Phase) × IsCaller w c key p × (is_hiding p ≡ true)
 hidden_has w key e =
     let r = hidden_by w.callers key e in
@@ -82,7 +82,7 @@ live_is_shown w key e = go (is_hidden w key) (both (are_live (marks w key)) (not
 pub hider_not_live : (w : BareWorld) (c : ℕ) (key : Key) (p : Phase) → IsCaller w c key p → is_hiding p ≡ true → is_live w key ≡ false
 hider_not_live w c key p there hiding = not_false (is_live w key) (λ live. not_both (is_hidden w key) (hider_hidden w c key p there hiding) (live_is_shown w key live))
 
--- phases, told apart
+-- different phases
 pub drain_unused : (p : Phase) → saw_drain p ≡ true → saw_unused p ≡ true
 drain_unused Still h = cc
 drain_unused Turned h = cc
@@ -114,7 +114,7 @@ hiding_holds p h e = let x : is_hiding Spent ≡ true = subst (λ q. is_hiding q
 abbrev pub OneHides : List Caller → Type 0
 OneHides cs = (c : ℕ) (key : Key) (p : Phase) → slice_get cs c ≡ Some (record { key = key; phase = p }) → IsTrue (is_hiding p) → (d : ℕ) (q : Phase) → slice_get cs d ≡ Some (record { key = key; phase = q }) → IsTrue (is_hiding q) → d ≡ c
 
--- a caller goes to another phase; where it hides its key then, it did before, or nobody did
+-- a caller goes to another phase; if it hides its key then, it did before, or nobody did
 pub one_after_set : (w : BareWorld) (c : ℕ) (key : Key) (from to : Phase) → OneHides w.callers → IsCaller w c key from → (is_hiding to ≡ true → (is_hiding from ≡ true) ⊎ (is_hidden w key ≡ false)) → OneHides (slice_set w.callers c (record { key = key; phase = to }))
 one_after_set w c key from to one was hiding a k p ha pa b q hb qb =
     elim (after_write w.callers c a (moved to) (record { key = k; phase = p }) ha) [
@@ -141,7 +141,7 @@ one_after_set w c key from to one was hiding a k p ha pa b q hb qb =
           | inr none ↦ not_both (is_hidden w key) (hider_hidden w d key q its hides_too) none
         ]
 
--- a caller comes who hides nothing
+-- a new caller, which hides nothing
 pub one_after_push : (cs : List Caller) (v : Caller) → is_hiding v.phase ≡ false → OneHides cs → OneHides (cs ++ v ∷ [])
 one_after_push cs v idle one c key p hc pc d q hd qd = one c key p (old c p hc pc) pc d q (old d q hd qd) qd
   where

@@ -7,7 +7,7 @@ use Rattle.kf_core.specs.declared.key.Key.{Key}
 use Rattle.kf_core.specs.declared.caller.Phase.{Phase}
 use Rattle.kf_core.specs.declared.caller.Phase.TheVariants.{Still, Turned, Running, Drained, Parted, Hiding, Hidden, Spent}
 use Rattle.kf_core.specs.declared.caller.Caller.{Caller}
-use Rattle.kf_core.specs.declared.slot.Marks.{Marks}
+use Rattle.kf_core.specs.declared.slot.NodeFlags.{NodeFlags}
 use Rattle.kf_core.specs.declared.slot.SlotState.{SlotState}
 use Rattle.kf_core.specs.declared.event.Event.{Event}
 use Rattle.kf_core.specs.declared.event.Event.TheVariants.{Born, Rise, Mark, Move, Pin, Enter, Leave, Break, Restore, Look, Unlink, Part, Hide, LookHidden, Show, Release, Undo}
@@ -46,7 +46,7 @@ each_new cs cs' key phase new R r old c k p h = elim (new c (record { key = k; p
 pub running_not_past : (p : Phase) → p ≡ Running → saw_unused p ≡ true → ⊥
 running_not_past p e h = let x : saw_unused Running ≡ true = subst (λ q. saw_unused q ≡ true) e h in cc
 
--- a node is not live where somebody saw that it is not used
+-- a node is not live if somebody saw that it is not used
 pub live_not_past : (w : BareWorld) (c : ℕ) (key : Key) (p : Phase) → Safe w → IsCaller w c key p → saw_unused p ≡ true → is_live w key ≡ true → ⊥
 live_not_past w c key p safe there past live = elim (unused_why p past) [
   | inl drained ↦ live_or_doomed (marks w key) (live_has_marks w key live) (safe.drain_doomed c key p there drained)
@@ -61,7 +61,7 @@ module _ (w : BareWorld) (cs : List Caller) (key : Key) (phase : Phase)
     (gone : phase ≡ Parted → IsFalse (is_linked w key))
     (held : phase ≢ Spent → IsLast w key.slot key.generation)
     (one : OneHides cs) where
-  -- one caller moves or comes, and is where the rule lets it be
+  -- one caller goes to another phase or is new, and the rule allows its phase
   pub caller_keeps : Safe (record { slots = w.slots; callers = cs })
   caller_keeps = record {
     none_running = λ c k p h past d run.
@@ -80,7 +80,7 @@ module _ (w : BareWorld) (cs : List Caller) (key : Key) (phase : Phase)
     running_linked = λ c k h. each_new w.callers cs key phase new (λ k p. p ≡ Running → IsTrue (is_linked w k)) (λ e. live_linked (marks w key) (live_has_marks w key (runs e))) (λ c k p h e. safe.running_linked c k (subst (λ x. IsCaller w c k x) e h)) c k Running h refl;
   }
 
--- what a change of places leaves of the key of a caller
+-- the key of a caller after a change of slots
 pub record Remains (w : BareWorld) (ps : List SlotState) (key : Key) (phase : Phase) : Type 0 where
   pub doomed : IsTrue (is_doomed w key) → IsTrue (is_doomed (record { slots = ps; callers = w.callers }) key)
   pub gone : IsFalse (is_linked w key) → IsFalse (is_linked (record { slots = ps; callers = w.callers }) key)
@@ -104,7 +104,7 @@ pub same_key : (a b : Key) → a.slot ≡ b.slot → a.generation ≡ b.generati
 same_key a b s g = ap (λ (x : ℕ). record { slot = x; generation = a.generation }) s ∙ ap (λ (x : ℕ). record { slot = b.slot; generation = x }) g
 
 -- a place, with this generation and these marks
-abbrev pub slot_state : ℕ → Option Marks → SlotState
+abbrev pub slot_state : ℕ → Option NodeFlags → SlotState
 slot_state g m = record { generation = g; marks = m }
 
 -- a change of another slot leaves a key as it is
@@ -119,32 +119,32 @@ other_remains w slot p key phase ne =
     }
 
 -- the marks of a linked node whose place was written
-pub written : (w : BareWorld) (key : Key) (m : Marks) (m' : Option Marks) → marks w key ≡ Some m → slice_get (with_marks w key m').slots key.slot ≡ Some (record { generation = key.generation; marks = m' })
+pub written : (w : BareWorld) (key : Key) (m : NodeFlags) (m' : Option NodeFlags) → marks w key ≡ Some m → slice_get (with_marks w key m').slots key.slot ≡ Some (record { generation = key.generation; marks = m' })
 written w key m m' h = slice_get-set_same w.slots key.slot (record { generation = key.generation; marks = m' }) (slice_get_within w.slots key.slot _ (in_place (slice_get w.slots key.slot) key.generation m h))
 
-pub marks_written : (w : BareWorld) (key : Key) (m : Marks) (m' : Option Marks) → marks w key ≡ Some m → marks (with_marks w key m') key ≡ m'
+pub marks_written : (w : BareWorld) (key : Key) (m : NodeFlags) (m' : Option NodeFlags) → marks w key ≡ Some m → marks (with_marks w key m') key ≡ m'
 marks_written w key m m' h = ap (λ (o : Option SlotState). marks_in o key.generation) (written w key m m' h) ∙ shown key.generation m'
 
--- other marks of a linked node: a doomed one stays so, and where one is running it stays linked
-pub own_remains : (w : BareWorld) (key : Key) (phase : Phase) (m : Marks) (m' : Option Marks) → marks w key ≡ Some m → (m.doomed ≡ true → are_doomed m' ≡ true) → (phase ≡ Running → is_some m' ≡ true) → Remains w (with_marks w key m').slots key phase
+-- other marks of a linked node: it stays doomed if it was, and linked if a caller is running on it
+pub own_remains : (w : BareWorld) (key : Key) (phase : Phase) (m : NodeFlags) (m' : Option NodeFlags) → marks w key ≡ Some m → (m.doomed ≡ true → are_doomed m' ≡ true) → (phase ≡ Running → is_some m' ≡ true) → Remains w (with_marks w key m').slots key phase
 own_remains w key phase m m' h dooms links =
     let e : marks (with_marks w key m') key ≡ m' = marks_written w key m m' h in
     record {
       doomed = λ d. subst (λ o. are_doomed o ≡ true) (sym e) (dooms (subst (λ o. are_doomed o ≡ true) h d));
-      gone = λ g. absurd (let x : true ≡ false = subst (λ (o : Option Marks). is_some o ≡ false) h g in cc);
+      gone = λ g. absurd (let x : true ≡ false = subst (λ (o : Option NodeFlags). is_some o ≡ false) h g in cc);
       last = λ _. (record { generation = key.generation; marks = m' }, written w key m m' h, refl);
-      linked = λ r _. subst (λ (o : Option Marks). is_some o ≡ true) (sym e) (links r);
+      linked = λ r _. subst (λ (o : Option NodeFlags). is_some o ≡ true) (sym e) (links r);
     }
 
--- who holds the slot of a linked node holds that node
-pub holds_linked : (w : BareWorld) (key k : Key) (m : Marks) → marks w key ≡ Some m → IsLast w k.slot k.generation → k.slot ≡ key.slot → key ≡ k
+-- a caller that holds the slot of a linked node holds that node
+pub holds_linked : (w : BareWorld) (key k : Key) (m : NodeFlags) → marks w key ≡ Some m → IsLast w k.slot k.generation → k.slot ≡ key.slot → key ≡ k
 holds_linked w key k m h last s =
     let there : slice_get w.slots k.slot ≡ Some (slot_state key.generation (Some m)) = subst (λ x. slice_get w.slots x ≡ Some (slot_state key.generation (Some m))) (sym s) (in_place (slice_get w.slots key.slot) key.generation m h) in
     let same : last.0 ≡ slot_state key.generation (Some m) = same_Some _ _ (sym last.1 ∙ there) in
     same_key key k (sym s) (sym (ap (λ (p : SlotState). p.generation) same) ∙ last.2)
 
 -- other marks of a linked node
-pub marks_keep : (w : BareWorld) (key : Key) (m : Marks) (m' : Option Marks) → Safe w → marks w key ≡ Some m → (m.doomed ≡ true → are_doomed m' ≡ true) → (NoneRunning w key ⊎ (is_some m' ≡ true)) → Safe (with_marks w key m')
+pub marks_keep : (w : BareWorld) (key : Key) (m : NodeFlags) (m' : Option NodeFlags) → Safe w → marks w key ≡ Some m → (m.doomed ≡ true → are_doomed m' ≡ true) → (NoneRunning w key ⊎ (is_some m' ≡ true)) → Safe (with_marks w key m')
 marks_keep w key m m' safe h dooms links = slots_keep w (with_marks w key m').slots safe (λ c k p is holds. elim (eqb_tells k.slot key.slot) [
   | inl s ↦ (let e : key ≡ k = holds_linked w key k m h (safe.held_last c k p is holds) s.1 in
       subst (λ x. Remains w (with_marks w key m').slots x p) e (own_remains w key p m m' h dooms
@@ -158,7 +158,7 @@ born_keeps w key safe may = slots_keep w (with_marks w key (Some fresh_marks)).s
   | inr n ↦ other_remains w key.slot (slot_state key.generation (Some fresh_marks)) k p n.1
 ])
 
--- phases, told apart
+-- different phases
 pub waiting_holds : (p : Phase) → is_waiting p ≡ true → p ≢ Spent
 waiting_holds p h e = let x : is_waiting Spent ≡ true = subst (λ q. is_waiting q ≡ true) e h in cc
 
@@ -203,7 +203,7 @@ past_now w c key from to safe was held not_running doomed alone gone hiding = ca
 pub none_running : (w : BareWorld) (key : Key) → NoReference w key → NoneRunning w key
 none_running w key none c h = let x : has_reference Running ≡ false = none c Running h in cc
 
--- a try that gives a reference only where the node is live
+-- a try that gives a reference only if the node is live
 entered : (w : BareWorld) (c : ℕ) (key : Key) (from : Phase) (given : Bool) → (given ≡ true → is_live w key ≡ true) → Safe w → IsCaller w c key from → from ≢ Spent → Safe (with_phase w c key (cond given Running Turned))
 entered w c key from given live safe was held = caller_keeps w (with_phase w c key (cond given Running Turned)).callers key (cond given Running Turned) safe
     (λ d y h. after_set w.callers c d (caller key (cond given Running Turned)) y h)
@@ -215,11 +215,11 @@ entered w c key from given live safe was held = caller_keeps w (with_phase w c k
     (one_after_set w c key from (cond given Running Turned) safe.one_hides was (λ e. absurd (entered_not_hiding given e)))
 
 -- a linked node is in its slot, with its generation
-pub linked_last : (w : BareWorld) (key : Key) → (m : Option Marks) → marks w key ≡ m → is_some m ≡ true → IsLast w key.slot key.generation
+pub linked_last : (w : BareWorld) (key : Key) → (m : Option NodeFlags) → marks w key ≡ m → is_some m ≡ true → IsLast w key.slot key.generation
 linked_last w key None e h = cc
 linked_last w key (Some m) e h = (slot_state key.generation (Some m), in_place (slice_get w.slots key.slot) key.generation m e, refl)
 
--- so is one with live marks
+-- so is a node with live marks
 pub live_last : (w : BareWorld) (key : Key) → IsTrue (are_live (marks w key)) → IsLast w key.slot key.generation
 live_last w key live = linked_last w key (marks w key) refl (live_linked (marks w key) live)
 
@@ -236,8 +236,8 @@ pin_keeps w key safe may = caller_keeps w (with_caller w key).callers key Still 
 idle_holds : (p : Phase) → may_release p ≡ true → p ≢ Spent
 idle_holds p h e = let x : may_release Spent ≡ true = subst (λ q. may_release q ≡ true) e h in cc
 
--- what a linked node's marks are
-pub linked_marks : (o : Option Marks) → is_some o ≡ true → (m : Marks) × (o ≡ Some m)
+-- the marks of a linked node
+pub linked_marks : (o : Option NodeFlags) → is_some o ≡ true → (m : NodeFlags) × (o ≡ Some m)
 linked_marks None h = cc
 linked_marks (Some m) h = (m, refl)
 
@@ -254,7 +254,7 @@ step_keeps w (Break c) w' safe s = subst Safe (sym s.2) (plainly w c s.0 _ _ saf
 step_keeps w (Restore c) w' safe s = subst Safe (sym s.2) (plainly w c s.0 _ _ safe s.1 (λ e. cc) (λ e. cc) refl (λ e. cc))
 step_keeps w (Look c) w' safe s = subst Safe (sym s.1) (past_now w c s.0.key s.0.phase Drained safe s.0.there (waiting_holds s.0.phase s.0.waits) (λ e. cc) (λ _. s.0.doomed) (none_running w s.0.key s.0.unused) (λ e. absurd (let x : Drained ≡ Parted = e in cc)) (λ e. cc))
 step_keeps w (Unlink c) w' safe s =
-    let m : (m : Marks) × (marks w s.0 ≡ Some m) = linked_marks (marks w s.0) s.2 in
+    let m : (m : NodeFlags) × (marks w s.0 ≡ Some m) = linked_marks (marks w s.0) s.2 in
     subst Safe (sym s.3) (marks_keep w s.0 m.0 None safe m.1 (λ _. refl) (inl (safe.none_running c s.0 _ s.1 refl)))
 step_keeps w (Part c) w' safe s = subst Safe (sym s.1) (past_now w c s.0.key _ _ safe s.0.there (λ e. cc) (λ e. cc) (λ _. doomed_if_gone (marks w s.0.key) s.0.gone) (safe.none_running c s.0.key _ s.0.there refl) (λ _. s.0.gone) (λ e. cc))
 step_keeps w (Hide c) w' safe s = subst Safe (sym s.1) (plainly w c s.0.key s.0.phase Hiding safe s.0.there (waiting_holds s.0.phase s.0.waits) (λ e. cc) refl (λ _. inr s.0.shown))

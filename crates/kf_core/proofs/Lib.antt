@@ -7,10 +7,6 @@ pub mod Passing
 pub mod Runs
 pub mod Tallies
 pub mod SlotLists
-pub mod CountLists
-pub mod Kept
-pub mod Events
-pub mod WorldVisits
 pub mod Agreeing
 pub mod AgreeingHidden
 pub mod Ancestors
@@ -20,3 +16,4 @@ pub mod Different
 pub mod Opened
 pub mod Mapped
 pub mod Life
+pub mod OneBit

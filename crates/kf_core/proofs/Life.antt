@@ -6,7 +6,7 @@ use Rattle.kf_core.specs.declared.key.Key.{Key}
 use Rattle.kf_core.specs.declared.caller.Phase.{Phase}
 use Rattle.kf_core.specs.declared.caller.Phase.TheVariants.{Still, Turned, Running, Broken, Restored, Drained, Parted, Hiding, Hidden, Spent}
 use Rattle.kf_core.specs.declared.caller.Caller.{Caller}
-use Rattle.kf_core.specs.declared.slot.Marks.{Marks}
+use Rattle.kf_core.specs.declared.slot.NodeFlags.{NodeFlags}
 use Rattle.kf_core.specs.declared.records.Record.{Record}
 use Rattle.kf_core.specs.Marks.{fresh_marks, live_marks}
 use Rattle.kf_core.specs.Phases.{has_reference}
@@ -44,7 +44,7 @@ each p q l n R rp rq (suc (suc c)) k phase h = absurd (none-some _ h)
 unused : (p q : Phase) (l : Option Record) → has_reference p ≡ false → has_reference q ≡ false → NoReference (bare (two 1 l p q)) first
 unused p q l hp hq c phase h = each p q l 1 (λ x. IsFalse (has_reference x)) hp hq c first phase h
 
-childless : (m : Marks) (cs : List Caller) → NoChild (tree (at 1 (Some (file_at first b m)) cs)) first
+childless : (m : NodeFlags) (cs : List Caller) → NoChild (tree (at 1 (Some (file_at first b m)) cs)) first
 childless m cs zero r h e = none-some first (ap (λ (x : Record). x.parent) (same_Some _ _ (same_Some _ _ h)) ∙ e)
 childless m cs (suc zero) r h e =
     let p : Some root ≡ Some first = ap (λ (x : Record). x.parent) (same_Some _ _ (same_Some _ _ h)) ∙ e in

@@ -1,4 +1,4 @@
--- Lists by place: what one write, or one item more, changes.
+-- Lists by place: what one write, or one more item, changes.
 use Rattle.std.proofs.Common.{◌≡◌, ◌≢◌, ◌⊎◌, inl, inr, ℕ, zero, suc, ◌+◌, ◌<◌, ◌≤◌, List, [], ◌∷◌, ◌++◌, length, refl, ap, arith, slice_set, get_or, cond, ◌∙◌, sym, Bool, true, false}
 use Rattle.std.specs.Prelude.{slice_get, Option, None, Some, count_by, is_some, fold, map}
 use Rattle.std.specs.Option.{option_map}
@@ -44,7 +44,7 @@ module _ {X : Type 0} where
     | inr p ↦ inr ((λ e. p.0 (omega arith)), p.1)
   ]
 
-  -- where there is no item, the list has ended
+  -- if there is no item at a place, the list has ended before it
   pub past_end : (xs : List X) (i : ℕ) → slice_get xs i ≡ None → length xs ≤ i
   past_end [] i h = omega arith
   past_end (x ∷ xs) zero h = absurd (none-some x (sym h))

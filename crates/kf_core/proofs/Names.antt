@@ -10,7 +10,7 @@ use Rattle.kf_core.specs.declared.refusal.Refusal.{Refusal}
 use Rattle.kf_core.specs.Refusals.{unless, first_cause}
 use Rattle.kf_core.specs.Names.{IsLawfulName, has_byte, name_fault}
 
--- where there is no cause, the first test passes and there is none later
+-- if there is no cause, the first test passes, and there is no cause later
 passed : (b : Bool) (refusal : Refusal) (causes : List (Option Refusal)) → first_cause (unless b refusal ∷ causes) ≡ None → (b ≡ true) × (first_cause causes ≡ None)
 passed true refusal causes h = (refl, h)
 passed false refusal causes h = absurd (none-some refusal (sym h))

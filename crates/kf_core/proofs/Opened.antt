@@ -1,11 +1,11 @@
--- The tree of the root alone and the opening world tell the same.
+-- The tree of only the root agrees with the opening world.
 use Rattle.std.proofs.Common.{◌≡◌, inl, inr, ℕ, zero, suc, ◌+◌, ◌≤◌, refl, arith, sym, ◌∙◌, Bool, true, false, cond, length, replicate, ◌==◌}
 use Rattle.std.specs.Prelude.{Option, None, Some, slice_get}
 use Rattle.std.specs.Option.{option_map, option_and_then}
 use Rattle.std.proofs.lemmas.List.{length-replicate}
 use Rattle.std.proofs.lemmas.Bool.Decides.{eqb_tells}
 use Rattle.kf_core.specs.declared.key.Key.{Key}
-use Rattle.kf_core.specs.declared.slot.Marks.{Marks}
+use Rattle.kf_core.specs.declared.slot.NodeFlags.{NodeFlags}
 use Rattle.kf_core.specs.declared.slot.SlotState.{SlotState}
 use Rattle.kf_core.specs.declared.records.Record.{Record}
 use Rattle.kf_core.specs.Marks.{live_marks}
@@ -18,12 +18,12 @@ use Rattle.kf_core.proofs.Lists.{length_set}
 abbrev pub root_key : ℕ → Key
 root_key start = record { slot = 0; generation = start + 1 }
 
--- a slot of the two: empty in both, or the root's
+-- each slot is empty in both, or the root's in both
 empty_slot : (start slot : ℕ) (n : ℕ) (key : Key) → marks_in (slice_get (replicate n (let s : SlotState = record { generation = start; marks = None } in s)) slot) key.generation ≡ option_map (λ (r : Record). r.marks) (option_and_then (with_key key) (slice_get (replicate n (let o : Option Record = None in o)) slot))
 empty_slot start slot zero key = refl
 empty_slot start zero (suc n) key = nothing (start == key.generation)
   where
-    nothing : (b : Bool) → cond {A = Option Marks} b None None ≡ None
+    nothing : (b : Bool) → cond {A = Option NodeFlags} b None None ≡ None
     nothing true = refl
     nothing false = refl
 empty_slot start (suc slot) (suc n) key = empty_slot start slot n key

@@ -7,7 +7,7 @@ use Rattle.kf_core.specs.declared.key.Key.{Key}
 use Rattle.kf_core.specs.declared.caller.Phase.{Phase}
 use Rattle.kf_core.specs.declared.caller.Phase.TheVariants.{Still, Turned, Running, Broken, Restored, Drained, Parted, Hiding, Hidden, Spent}
 use Rattle.kf_core.specs.declared.caller.Caller.{Caller}
-use Rattle.kf_core.specs.declared.slot.Marks.{Marks}
+use Rattle.kf_core.specs.declared.slot.NodeFlags.{NodeFlags}
 use Rattle.kf_core.specs.declared.slot.SlotState.{SlotState}
 use Rattle.kf_core.specs.declared.event.Event.{Event}
 use Rattle.kf_core.specs.declared.event.Event.TheVariants.{Born, Rise, Mark, Move, Pin, Enter, Leave, Break, Restore, Look, Unlink, Part, Hide, LookHidden, Show, Release, Undo}
@@ -38,7 +38,7 @@ pub record Finished (w : BareWorld) (key : Key) : Type 0 where
   pub come : HasCome w key
 
 -- a place was written whose generation was no greater
-pub written_come : (w : BareWorld) (key k : Key) (m : Option Marks) (p : SlotState) → slice_get w.slots key.slot ≡ Some p → p.generation ≤ key.generation → HasCome w k → HasCome (with_marks w key m) k
+pub written_come : (w : BareWorld) (key k : Key) (m : Option NodeFlags) (p : SlotState) → slice_get w.slots key.slot ≡ Some p → p.generation ≤ key.generation → HasCome w k → HasCome (with_marks w key m) k
 written_come w key k m p is le h = elim (eqb_tells k.slot key.slot) [
   | inl s ↦ record {
     last = slot_state key.generation m;
@@ -56,7 +56,7 @@ written_come w key k m p is le h = elim (eqb_tells k.slot key.slot) [
 ]
 
 -- of a linked node
-pub linked_come : (w : BareWorld) (key k : Key) (m : Marks) (m' : Option Marks) → marks w key ≡ Some m → HasCome w k → HasCome (with_marks w key m') k
+pub linked_come : (w : BareWorld) (key k : Key) (m : NodeFlags) (m' : Option NodeFlags) → marks w key ≡ Some m → HasCome w k → HasCome (with_marks w key m') k
 linked_come w key k m m' e h = written_come w key k m' (slot_state key.generation (Some m)) (in_place (slice_get w.slots key.slot) key.generation m e) (omega arith) h
 
 -- at a birth
@@ -76,7 +76,7 @@ step_come w (Break c) w' k s h = subst (λ x. HasCome x k) (sym s.2) (record { l
 step_come w (Restore c) w' k s h = subst (λ x. HasCome x k) (sym s.2) (record { last = h.last; there = h.there; come = h.come })
 step_come w (Look c) w' k s h = subst (λ x. HasCome x k) (sym s.1) (record { last = h.last; there = h.there; come = h.come })
 step_come w (Unlink c) w' k s h = subst (λ x. HasCome x k) (sym s.3)
-    (let m : (m : Marks) × (marks w s.0 ≡ Some m) = linked_marks (marks w s.0) s.2 in linked_come w s.0 k m.0 None m.1 h)
+    (let m : (m : NodeFlags) × (marks w s.0 ≡ Some m) = linked_marks (marks w s.0) s.2 in linked_come w s.0 k m.0 None m.1 h)
 step_come w (Part c) w' k s h = subst (λ x. HasCome x k) (sym s.1) (record { last = h.last; there = h.there; come = h.come })
 step_come w (Hide c) w' k s h = subst (λ x. HasCome x k) (sym s.1) (record { last = h.last; there = h.there; come = h.come })
 step_come w (LookHidden c) w' k s h = subst (λ x. HasCome x k) (sym s.1) (record { last = h.last; there = h.there; come = h.come })
@@ -85,7 +85,7 @@ step_come w (Release c) w' k s h = subst (λ x. HasCome x k) (sym s.4) (record {
 step_come w (Undo c) w' k s h = subst (λ x. HasCome x k) (sym s) h
 
 -- a place that was written shows doomed to each key of its slot, if it does to its own
-pub doomed_written : (w : BareWorld) (key k : Key) (m : Option Marks) (p : SlotState) → slice_get w.slots key.slot ≡ Some p → k.slot ≡ key.slot → (key.generation ≡ k.generation → are_doomed m ≡ true) → is_doomed (with_marks w key m) k ≡ true
+pub doomed_written : (w : BareWorld) (key k : Key) (m : Option NodeFlags) (p : SlotState) → slice_get w.slots key.slot ≡ Some p → k.slot ≡ key.slot → (key.generation ≡ k.generation → are_doomed m ≡ true) → is_doomed (with_marks w key m) k ≡ true
 doomed_written w key k m p is s d =
     let there : slice_get (with_marks w key m).slots k.slot ≡ Some (slot_state key.generation m) = ap (λ x. slice_get (with_marks w key m).slots x) s ∙ slice_get-set_same w.slots key.slot (slot_state key.generation m) (slice_get_within w.slots key.slot p is) in
     ap (λ (o : Option SlotState). are_doomed (marks_in o k.generation)) there ∙ elim (eqb_tells key.generation k.generation) [
@@ -93,15 +93,15 @@ doomed_written w key k m p is s d =
       | inr e ↦ ap (λ b. are_doomed (cond b m None)) e.0
     ]
 
-pub doomed_elsewhere : (w : BareWorld) (key k : Key) (m : Option Marks) → k.slot ≢ key.slot → is_doomed w k ≡ true → is_doomed (with_marks w key m) k ≡ true
+pub doomed_elsewhere : (w : BareWorld) (key k : Key) (m : Option NodeFlags) → k.slot ≢ key.slot → is_doomed w k ≡ true → is_doomed (with_marks w key m) k ≡ true
 doomed_elsewhere w key k m ne d = ap (λ (o : Option SlotState). are_doomed (marks_in o k.generation)) (slice_get-set_other w.slots key.slot k.slot (slot_state key.generation m) ne) ∙ d
 
-pub linked_lost : (w : BareWorld) (key k : Key) (m : Marks) (m' : Option Marks) → marks w key ≡ Some m → (m.doomed ≡ true → are_doomed m' ≡ true) → Lost w k → Lost (with_marks w key m') k
+pub linked_lost : (w : BareWorld) (key k : Key) (m : NodeFlags) (m' : Option NodeFlags) → marks w key ≡ Some m → (m.doomed ≡ true → are_doomed m' ≡ true) → Lost w k → Lost (with_marks w key m') k
 linked_lost w key k m m' e dooms f = record {
   doomed = elim (eqb_tells k.slot key.slot) [
     | inl s ↦ doomed_written w key k m' (slot_state key.generation (Some m)) (in_place (slice_get w.slots key.slot) key.generation m e) s.1
         (λ g. dooms (let same : k ≡ key = same_key k key s.1 (sym g) in
-        subst (λ (o : Option Marks). are_doomed o ≡ true) e (subst (λ x. is_doomed w x ≡ true) same f.doomed)))
+        subst (λ (o : Option NodeFlags). are_doomed o ≡ true) e (subst (λ x. is_doomed w x ≡ true) same f.doomed)))
     | inr n ↦ doomed_elsewhere w key k m' n.1 f.doomed
   ];
   come = linked_come w key k m m' e f.come;
@@ -121,7 +121,7 @@ born_lost w key k may f = record {
   come = born_come w key k may f.come;
 }
 
--- a step of callers alone
+-- a step that changes only callers
 caller_lost : (w : BareWorld) (cs : List Caller) (k : Key) → Lost w k → Lost (record { slots = w.slots; callers = cs }) k
 caller_lost w cs k f = record { doomed = f.doomed; come = record { last = f.come.last; there = f.come.there; come = f.come.come } }
 
@@ -138,7 +138,7 @@ step_lost w (Break c) w' k s f = subst (λ x. Lost x k) (sym s.2) (caller_lost w
 step_lost w (Restore c) w' k s f = subst (λ x. Lost x k) (sym s.2) (caller_lost w _ k f)
 step_lost w (Look c) w' k s f = subst (λ x. Lost x k) (sym s.1) (caller_lost w _ k f)
 step_lost w (Unlink c) w' k s f = subst (λ x. Lost x k) (sym s.3)
-    (let m : (m : Marks) × (marks w s.0 ≡ Some m) = linked_marks (marks w s.0) s.2 in linked_lost w s.0 k m.0 None m.1 (λ _. refl) f)
+    (let m : (m : NodeFlags) × (marks w s.0 ≡ Some m) = linked_marks (marks w s.0) s.2 in linked_lost w s.0 k m.0 None m.1 (λ _. refl) f)
 step_lost w (Part c) w' k s f = subst (λ x. Lost x k) (sym s.1) (caller_lost w _ k f)
 step_lost w (Hide c) w' k s f = subst (λ x. Lost x k) (sym s.1) (caller_lost w _ k f)
 step_lost w (LookHidden c) w' k s f = subst (λ x. Lost x k) (sym s.1) (caller_lost w _ k f)
@@ -150,11 +150,11 @@ step_lost w (Undo c) w' k s f = subst (λ x. Lost x k) (sym s) f
 pub lost_not_live : (w : BareWorld) (k : Key) → Lost w k → is_live w k ≡ false
 lost_not_live w k f = ap (λ b. b && not (is_hidden w k)) (doomed_not_live (marks w k) f.doomed)
 
--- what is finished, is doomed for good
+-- what is finished is doomed for good
 lost : (w : BareWorld) (k : Key) → Finished w k → Lost w k
 lost w k f = record { doomed = f.doomed; come = f.come }
 
-pub linked_finished : (w : BareWorld) (key k : Key) (m : Marks) (m' : Option Marks) → marks w key ≡ Some m → (m.doomed ≡ true → are_doomed m' ≡ true) → Finished w k → Finished (with_marks w key m') k
+pub linked_finished : (w : BareWorld) (key k : Key) (m : NodeFlags) (m' : Option NodeFlags) → marks w key ≡ Some m → (m.doomed ≡ true → are_doomed m' ≡ true) → Finished w k → Finished (with_marks w key m') k
 linked_finished w key k m m' e dooms f =
     let d : Lost (with_marks w key m') k = linked_lost w key k m m' e dooms (lost w k f) in
     record { doomed = d.doomed; alone = f.alone; come = d.come }
@@ -164,7 +164,7 @@ born_finished w key k may f =
     let d : Lost (with_marks w key (Some fresh_marks)) k = born_lost w key k may (lost w k f) in
     record { doomed = d.doomed; alone = f.alone; come = d.come }
 
--- a caller moves or comes, and is running only on a live key
+-- a caller goes to another phase or is new, and is running only on a live key
 pub caller_finished : (w : BareWorld) (cs : List Caller) (key : Key) (phase : Phase) (k : Key) → OneNew w.callers key phase cs → (phase ≡ Running → is_live w key ≡ true) → Finished w k → Finished (record { slots = w.slots; callers = cs }) k
 caller_finished w cs key phase k new runs f = record {
   doomed = f.doomed;
@@ -195,7 +195,7 @@ step_finished w (Break c) w' k s f = subst (λ x. Finished x k) (sym s.2) (moved
 step_finished w (Restore c) w' k s f = subst (λ x. Finished x k) (sym s.2) (moved_finished w c s.0 Restored k (λ e. absurd (let x : Restored ≡ Running = e in cc)) f)
 step_finished w (Look c) w' k s f = subst (λ x. Finished x k) (sym s.1) (moved_finished w c s.0.key Drained k (λ e. absurd (let x : Drained ≡ Running = e in cc)) f)
 step_finished w (Unlink c) w' k s f = subst (λ x. Finished x k) (sym s.3)
-    (let m : (m : Marks) × (marks w s.0 ≡ Some m) = linked_marks (marks w s.0) s.2 in linked_finished w s.0 k m.0 None m.1 (λ _. refl) f)
+    (let m : (m : NodeFlags) × (marks w s.0 ≡ Some m) = linked_marks (marks w s.0) s.2 in linked_finished w s.0 k m.0 None m.1 (λ _. refl) f)
 step_finished w (Part c) w' k s f = subst (λ x. Finished x k) (sym s.1) (moved_finished w c s.0.key Parted k (λ e. absurd (let x : Parted ≡ Running = e in cc)) f)
 step_finished w (Hide c) w' k s f = subst (λ x. Finished x k) (sym s.1) (moved_finished w c s.0.key Hiding k (λ e. absurd (let x : Hiding ≡ Running = e in cc)) f)
 step_finished w (LookHidden c) w' k s f = subst (λ x. Finished x k) (sym s.1) (moved_finished w c s.0.key Hidden k (λ e. absurd (let x : Hidden ≡ Running = e in cc)) f)

@@ -30,7 +30,7 @@ pub run_keeps : (P : BareWorld → Type 0) → ((w : BareWorld) (e : Event) (w' 
 run_keeps P keeps [] w w' r p = subst (λ x. P (bare x)) (sym r) p
 run_keeps P keeps (e ∷ es) w w' r p = run_keeps P keeps es r.0 w' r.2 (keeps (bare w) e (bare r.0) r.1.bare_step p)
 
--- nobody is there at the opening
+-- the opening world has no callers
 pub opening_safe : (slots start : ℕ) → Safe (bare (opening slots start))
 opening_safe slots start = record {
   none_running = λ c key phase h. absurd (none-some _ h);
@@ -97,7 +97,7 @@ bare_empty : (n g : ℕ) → map bare_slot (replicate n (record { last = g; link
 bare_empty zero g = refl
 bare_empty (suc n) g = ap (λ (states : List SlotState). record { generation = g; marks = None } ∷ states) (bare_empty n g)
 
--- the opening world is bare as the plain list of slots and callers opens
+-- the bare world of the opening world is the opening bare world
 pub opening_bare : (count start : ℕ) → bare (opening count start) ≡ bare_opening count start
 opening_bare zero start = refl
 opening_bare (suc n) start = ap (λ (states : List SlotState). record { slots = record { generation = start + 1; marks = Some live_marks } ∷ states; callers = [] }) (bare_empty n start)
@@ -158,7 +158,7 @@ bare_passed later v w key generation safe last more r =
       come = (let e : last.0.generation ≡ generation = last.2 in omega arith);
     }))
 
--- who runs after a step ran before it, or the step is its try, on a live key
+-- a caller that is running after a step was running before it, or the step is its try on a live key
 abbrev Starts : BareWorld → Event → BareWorld → Type 0
 Starts w e w' = (c : ℕ) (key : Key) → IsCaller w' c key Running → IsCaller w c key Running ⊎ ((e ≡ Enter c) × IsTrue (is_live w key))
 
@@ -221,7 +221,7 @@ marked_lost w w' key s = subst (λ x. Lost x key) (sym s.3) (record {
   come = linked_come w key key s.0 (Some (record { activated = s.0.activated; doomed = true })) s.1 (linked_has_come w key (ap is_some s.1));
 })
 
--- from the mark of a key on it is never live
+-- once a key is marked, it is never live again
 pub marked_for_good : (later : List Event) (u v w : World) (key : Key) → Step u (Mark key) v → Run v later w → IsFalse (is_live (bare w) key)
 marked_for_good later u v w key s r =
     lost_not_live (bare w) key (run_keeps (λ x. Lost x key) (λ x e y t f. step_lost x e y key t f) later v w r (marked_lost (bare u) (bare v) key s.bare_step))

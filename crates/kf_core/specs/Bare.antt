@@ -1,10 +1,10 @@
 -- The world without the shape of the tree: each slot with its last generation and the marks of its linked
--- node, and each caller with its key and its phase. Which keys are hidden is told by the callers.
+-- node, and each caller with its key and its phase. A key is hidden if one of the callers hides it.
 use Rattle.std.specs.Prelude.{◌≡◌, ℕ, ◌+◌, Bool, true, false, not, ◌&&◌, ◌==◌, List, [], ◌∷◌, replicate, slice_get, slice_set, is_some, Option, None, Some, if◌then◌else◌}
 use Rattle.kf_core.specs.declared.key.Key.{Key}
 use Rattle.kf_core.specs.declared.caller.Phase.{Phase}
 use Rattle.kf_core.specs.declared.caller.Caller.{Caller}
-use Rattle.kf_core.specs.declared.slot.Marks.{Marks}
+use Rattle.kf_core.specs.declared.slot.NodeFlags.{NodeFlags}
 use Rattle.kf_core.specs.declared.slot.SlotState.{SlotState}
 use Rattle.kf_core.specs.Keys.{same_key}
 use Rattle.kf_core.specs.Marks.{live_marks, are_live, are_doomed}
@@ -15,13 +15,13 @@ pub record BareWorld : Type 0 where
   pub slots : List SlotState  -- by slot
   pub callers : List Caller  -- by the number of the caller
 
--- the marks in a slot whose node has this generation
-abbrev pub marks_in : Option SlotState → ℕ → Option Marks
+-- the marks of a slot's node, or None if its generation is not this one
+abbrev pub marks_in : Option SlotState → ℕ → Option NodeFlags
 marks_in None generation = None
 marks_in (Some slot) generation = if slot.generation == generation then slot.marks else None
 
--- the marks of a node, where it is linked
-abbrev pub marks : BareWorld → Key → Option Marks
+-- the marks of a node, or None if it is not linked
+abbrev pub marks : BareWorld → Key → Option NodeFlags
 marks w key = marks_in (slice_get w.slots key.slot) key.generation
 
 -- whether the node of this key is linked
@@ -58,8 +58,8 @@ abbrev pub IsLast : BareWorld → ℕ → ℕ → Type 0
 IsLast w slot generation =
     (state : SlotState) × (slice_get w.slots slot ≡ Some state) × (state.generation ≡ generation)
 
--- every slot has the last generation `start` and no node, but the root is linked and live at the next; nobody
--- is there
+-- every slot has the last generation `start` and no node, except that the root is linked and live, with the
+-- next generation; there are no callers
 abbrev pub opening : ℕ → ℕ → BareWorld
 opening count start = record {
   slots = slice_set (replicate count (record { generation = start; marks = None })) 0

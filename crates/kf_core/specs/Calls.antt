@@ -5,27 +5,27 @@ use Rattle.kf_core.specs.declared.caller.Phase.{Phase}
 use Rattle.kf_core.specs.declared.caller.Phase.TheVariants.{Running}
 use Rattle.kf_core.specs.Phases.{has_reference}
 
--- whose call it is, on which key, and in which phase
+-- the caller of a call, its key, and its phase
 pub record CallView (CallerId : Type 0) : Type 0 where
   pub caller : CallerId
   pub key : Key
   pub phase : Phase
 
 module _ {CallerId : Type 0} where
-  -- the call of the same caller on the same key, and it has a reference again
+  -- a call of the same caller on the same key, which has a reference again
   pub record GivenBack (before after : CallView CallerId) : Type 0 where
     pub caller : after.caller ≡ before.caller
     pub key : after.key ≡ before.key
     pub reference : IsTrue (has_reference after.phase)
 
--- what came of a visit: nobody tried for a call, or a try gave none, or this was done under the call that it
--- gave
+-- the result of a visit: no call was tried for; or a try returned none; or this was done under the call that
+-- the try returned
 pub data Visit (Done : Type 0) : Type 0 where
   unvisited : Visit Done
   tried : Option Done → Visit Done
 
 module _ {Guard Hold Call CallerId : Type 0} where
-  -- one call from its start, where it is running, to its end, with what was done in between
+  -- one call from its start, when it is running, to its end, with what was done in between
   pub record Called (enters : Guard → Hold → Call → Guard → Type 0)
       (leaves : Guard → Call → Hold → Guard → Type 0) (view : Call → CallView CallerId) (does : Type 0)
       (guard : Guard) (hold : Hold) (guard' : Guard) (hold' : Hold) : Type 0 where
@@ -39,7 +39,7 @@ module _ {Guard Hold Call CallerId : Type 0} where
     pub left : leaves inside ended hold' guard'
 
 module _ {Guard Hold Call CallerId Done : Type 0} where
-  -- a visit by this hold. `idle` holds where nothing is done, and `does` of what is done
+  -- a visit by this hold. `idle` holds if nothing is done, else `does` holds of what is done
   abbrev pub Visits : (Guard → Hold → Call → Guard → Type 0) → (Guard → Hold → Hold → Guard → Type 0)
       → (Guard → Call → Hold → Guard → Type 0) → (Call → CallView CallerId) → Type 0 → (Done → Type 0) → Guard
       → Hold → Guard → Hold → Visit Done → Type 0

@@ -1,4 +1,4 @@
--- What each stored command makes of a tree, and the replay of a list of commands.
+-- The tree after each stored command, and the replay of a list of commands.
 use Rattle.std.specs.Prelude.{ℕ, Bool, true, false, not, ◌&&◌, List, [], ◌∷◌, map, replicate, slice_set, None, Some, if◌then◌else◌}
 use Rattle.std.specs.Option.{option_map}
 use Rattle.kf_core.specs.declared.key.Key.{Key}
@@ -41,7 +41,7 @@ new_record key parent name node is_live = record {
   hidden = false;
 }
 
--- the tree after a command; applying one refuses nothing
+-- the tree after a command, which is never refused
 abbrev pub after : Tree → Command → Tree
 after t (Create key parent name node is_live) =
     slice_set t key.slot (Some (new_record key parent name node is_live))
@@ -52,11 +52,11 @@ after t (Rename key dir name) = change (λ r. same_key r.key key) (moved_record 
 after t (Hide key) = change (λ r. same_key r.key key) (hidden_record true) t
 after t (Show key) = change (λ r. same_key r.key key) (hidden_record false) t
 
--- the tree of the root alone, of so many slots
+-- the tree of only the root, with this many slots
 abbrev pub root_alone : ℕ → Key → Tree
 root_alone count root = slice_set (replicate count None) root.slot (Some (root_record root))
 
--- the tree after these commands, one after the other
+-- the tree after these commands, in their order
 abbrev pub replay : Tree → List Command → Tree
 replay t [] = t
 replay t (c ∷ cs) = replay (after t c) cs

@@ -12,8 +12,8 @@ abbrev pub root_record : Key → Record
 root_record key =
     record { key = key; parent = None; name = []; node = Dir; marks = live_marks; hidden = false }
 
--- the record's parent is a directory of the tree: where that is doomed the record is too, and its name is
--- lawful
+-- the record's parent is a directory of the tree: if that is doomed, so is the record; and the name of the
+-- record is lawful
 pub record HasDirectory (t : Tree) (r : Record) (parent : Key) : Type 0 where
   pub dir : Record
   pub known : record_at t parent ≡ Some dir
@@ -21,16 +21,16 @@ pub record HasDirectory (t : Tree) (r : Record) (parent : Key) : Type 0 where
   pub doomed : dir.marks.doomed ≡ true → r.marks.doomed ≡ true
   pub lawful_name : IsLawfulName r.name
 
--- the records are one tree: a live root directory, below it each other record in a directory, and no two
--- siblings of one name
+-- the records are one tree: a live root directory, each other record below it in a directory, and no two
+-- siblings with one name
 pub record Lawful (t : Tree) (root : Key) : Type 0 where
   -- each record stands in its own slot, so no two have the same
   pub in_place : (slot : ℕ) (r : Record) → slice_get t slot ≡ Some (Some r) → r.key.slot ≡ slot
   -- the root is a live directory
   pub rooted : IsIn t (root_record root)
-  -- it is the only record without a parent
+  -- the root is the only record without a parent
   pub one_root : (r : Record) → IsIn t r → r.parent ≡ None → r.key ≡ root
-  -- each other has a lawful name, is in a directory, and is doomed if that is
+  -- each other record has a lawful name, is in a directory, and is doomed if the directory is
   pub in_directory : (r : Record) (parent : Key) → IsIn t r → r.parent ≡ Some parent → HasDirectory t r parent
   -- siblings have different names
   pub siblings : (r s : Record) → IsIn t r → IsIn t s → r.parent ≡ s.parent → r.name ≡ s.name → r.key ≡ s.key

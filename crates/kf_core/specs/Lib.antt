@@ -13,10 +13,7 @@ pub mod Lawful
 pub mod Commands
 pub mod PostOrder
 pub mod Worlds
-pub mod Bounded
 pub mod Calls
-pub mod WorldGuard
-pub mod Hints
-pub mod Counts
 pub mod Agrees
+pub mod Tallies
 pub mod Life

@@ -5,7 +5,7 @@ use Rattle.kf_core.specs.declared.key.Node.{Node}
 use Rattle.kf_core.specs.declared.key.Node.TheVariants.{File}
 use Rattle.kf_core.specs.declared.caller.Phase.{Phase}
 use Rattle.kf_core.specs.declared.caller.Caller.{Caller}
-use Rattle.kf_core.specs.declared.slot.Marks.{Marks}
+use Rattle.kf_core.specs.declared.slot.NodeFlags.{NodeFlags}
 use Rattle.kf_core.specs.declared.records.Record.{Record}
 use Rattle.kf_core.specs.declared.event.Event.{Event}
 use Rattle.kf_core.specs.declared.event.Event.TheVariants.{Born, Rise, Mark, Move, Pin, Enter, Leave, Break, Restore, Look, Unlink, Part, Hide, LookHidden, Show, Release, Undo}
@@ -32,16 +32,16 @@ a = 97 ∷ []
 abbrev pub b : List ℕ
 b = 98 ∷ []
 
--- what is born in slot 1 each time: a file of mode 0644 with the tag 7
+-- each node that is born in slot 1: a file of mode 0644 with the tag 7
 abbrev pub file : Node
 file = File 420 7
 
 -- the file of this key and name in the root, with these marks
-abbrev pub file_at : Key → List ℕ → Marks → Record
+abbrev pub file_at : Key → List ℕ → NodeFlags → Record
 file_at key name marks =
     record { key = key; parent = Some root; name = name; node = file; marks = marks; hidden = false }
 
--- a caller that came for the first node
+-- a caller of the first node
 abbrev pub by : Phase → Caller
 by phase = record { key = first; phase = phase }
 
@@ -54,7 +54,7 @@ at last linked callers = record {
 }
 
 -- the marks of a node that was activated, and then doomed
-abbrev pub activated_and_doomed : Marks
+abbrev pub activated_and_doomed : NodeFlags
 activated_and_doomed = record { activated = true; doomed = true }
 
 -- caller 0 calls into the node, caller 1 hides it, shows it, and removes it

@@ -18,12 +18,12 @@ pub record IsLawfulName (name : List ℕ) : Type 0 where
   pub no_dot : name ≢ 46 ∷ []
   pub no_dots : name ≢ 46 ∷ 46 ∷ []
 
--- whether the byte stands in the name
+-- whether the name has the byte
 abbrev pub has_byte : List ℕ → ℕ → Bool
 has_byte name byte = list_any (λ b. b == byte) name
 
--- what is wrong with a name, in the order in which it is looked at: more than 255 bytes; else no byte, a
--- slash, a zero byte, `.` or `..`
+-- what is wrong with a name, in the order of the tests: more than 255 bytes; else no byte, a slash, a zero
+-- byte, `.` or `..`
 abbrev pub name_fault : List ℕ → Option Refusal
 name_fault name = first_cause (
     unless (nat_le (length name) 255) NameTooLong
@@ -34,6 +34,6 @@ name_fault name = first_cause (
     ∷ unless (not (bytes_eq name (46 ∷ 46 ∷ []))) Invalid
     ∷ [])
 
--- one name stands before another in byte order
+-- one name comes before another in byte order
 abbrev pub IsBefore : List ℕ → List ℕ → Type 0
 IsBefore a b = slice_cmp nat_cmp a b ≡ Less

@@ -1,4 +1,4 @@
--- The post-order of a subtree: each node after all that is below it, siblings in byte order of their names.
+-- The post-order of a subtree: each node after all nodes below it, siblings in byte order of their names.
 use Rattle.std.specs.Prelude.{◌≡◌, ◌≢◌, ◌⊎◌, List, IsTrue, Contains, AllPairs, ◌↔◌}
 use Rattle.kf_core.specs.declared.key.Key.{Key}
 use Rattle.kf_core.specs.declared.records.Record.{Record}
@@ -16,7 +16,7 @@ pub record AreApart (t : Tree) (a b : Key) : Type 0 where
   pub over_a : IsTrue (in_subtree t first.key a)
   pub over_b : IsTrue (in_subtree t second.key b)
 
--- a stands before b in post-order: a is below b, or they are apart
+-- a comes before b in post-order: a is below b, or they are apart
 abbrev pub StandsBefore : Tree → Key → Key → Type 0
 StandsBefore t a b = (IsTrue (in_subtree t b a) × (a ≢ b)) ⊎ AreApart t a b
 

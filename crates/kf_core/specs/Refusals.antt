@@ -3,7 +3,7 @@ use Rattle.std.specs.Prelude.{ℕ, Bool, true, false, List, [], ◌∷◌, Optio
 use Rattle.kf_core.specs.declared.refusal.Refusal.{Refusal}
 use Rattle.kf_core.specs.declared.refusal.Refusal.TheVariants.{NoEntry, NoMemory, Access, Busy, Exists, NoDevice, NotDir, IsDir, Invalid, TooManyHolds, NoSpace, NameTooLong}
 
--- the number that Linux has for the refusal
+-- the refusal's error number in Linux
 abbrev pub number_of : Refusal → ℕ
 number_of NoEntry = 2
 number_of NoMemory = 12
@@ -18,7 +18,7 @@ number_of TooManyHolds = 24
 number_of NoSpace = 28
 number_of NameTooLong = 36
 
--- the refusal's own name, as bytes
+-- the refusal's name, as bytes
 abbrev pub name_of : Refusal → List ℕ
 name_of NoEntry = codes "NoEntry"
 name_of NoMemory = codes "NoMemory"
@@ -33,12 +33,12 @@ name_of TooManyHolds = codes "TooManyHolds"
 name_of NoSpace = codes "NoSpace"
 name_of NameTooLong = codes "NameTooLong"
 
--- a refusal where the test fails
+-- this refusal unless the test passes
 abbrev pub unless : Bool → Refusal → Option Refusal
 unless true refusal = None
 unless false refusal = Some refusal
 
--- the first cause that there is: an order of refusals is a list, read from its head
+-- the first cause in the list: an order of refusals is a list, read from its head
 abbrev pub first_cause : List (Option Refusal) → Option Refusal
 first_cause [] = None
 first_cause (None ∷ causes) = first_cause causes

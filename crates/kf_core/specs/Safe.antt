@@ -10,16 +10,16 @@ use Rattle.kf_core.specs.Bare.{BareWorld, IsCaller, IsLast, is_linked, is_doomed
 abbrev pub NoneRunning : BareWorld → Key → Type 0
 NoneRunning w key = (c : ℕ) → IsCaller w c key Running → ⊥
 
--- no caller but this one hides the key
+-- no other caller hides the key
 abbrev pub OnlyHider : BareWorld → ℕ → Key → Type 0
 OnlyHider w c key = (d : ℕ) (phase : Phase) → IsCaller w d key phase → IsTrue (is_hiding phase) → d ≡ c
 
--- nobody but spent callers is on the key
+-- only spent callers are on the key
 abbrev pub NoneHolding : BareWorld → Key → Type 0
 NoneHolding w key = (c : ℕ) (phase : Phase) → IsCaller w c key phase → phase ≡ Spent
 
--- nobody is running where a caller saw that none has a reference, each holder has its slot's last generation,
--- and one caller at most hides a key
+-- nobody is running on a node after a caller saw that nobody has a reference to it; each holder has the last
+-- generation of its slot; and at most one caller hides a key
 pub record Safe (w : BareWorld) : Type 0 where
   -- nobody is running on a key on which a caller is drained, parted or hidden
   pub none_running : (c : ℕ) (key : Key) (phase : Phase) → IsCaller w c key phase → IsTrue (saw_unused phase)
@@ -29,7 +29,7 @@ pub record Safe (w : BareWorld) : Type 0 where
       → IsTrue (is_doomed w key)
   -- the key of a parted caller is not linked
   pub parted_gone : (c : ℕ) (key : Key) → IsCaller w c key Parted → IsFalse (is_linked w key)
-  -- who holds a slot holds its last generation
+  -- a caller that holds a slot holds the slot's last generation
   pub held_last : (c : ℕ) (key : Key) (phase : Phase) → IsCaller w c key phase → phase ≢ Spent
       → IsLast w key.slot key.generation
   -- the key of a running caller is linked

@@ -1,9 +1,9 @@
--- One atomic step of the bare world: which step may come where, and what it changes.
+-- One atomic step of the bare world: when it may happen, and what it changes.
 use Rattle.std.specs.Prelude.{◌≡◌, ◌≢◌, ℕ, ◌+◌, ◌⊎◌, List, [], ◌∷◌, ◌++◌, length, slice_get, slice_set, Option, None, Some, if◌then◌else◌, IsTrue, IsFalse, true, false}
 use Rattle.kf_core.specs.declared.key.Key.{Key}
 use Rattle.kf_core.specs.declared.caller.Phase.{Phase}
 use Rattle.kf_core.specs.declared.caller.Phase.TheVariants.{Still, Turned, Running, Broken, Restored, Drained, Parted, Hiding, Hidden, Spent}
-use Rattle.kf_core.specs.declared.slot.Marks.{Marks}
+use Rattle.kf_core.specs.declared.slot.NodeFlags.{NodeFlags}
 use Rattle.kf_core.specs.declared.event.Event.{Event}
 use Rattle.kf_core.specs.declared.event.Event.TheVariants.{Born, Rise, Mark, Move, Pin, Enter, Leave, Break, Restore, Look, Unlink, Part, Hide, LookHidden, Show, Release, Undo}
 use Rattle.kf_core.specs.Marks.{fresh_marks, live_marks}
@@ -16,14 +16,14 @@ with_phase w c key phase =
     record { slots = w.slots; callers = slice_set w.callers c (record { key = key; phase = phase }) }
 
 -- the slot of the key has the key's generation, and these marks
-abbrev pub with_marks : BareWorld → Key → Option Marks → BareWorld
+abbrev pub with_marks : BareWorld → Key → Option NodeFlags → BareWorld
 with_marks w key m = record {
   slots = slice_set w.slots key.slot
       (record { generation = key.generation; marks = m });
   callers = w.callers;
 }
 
--- one caller more, which holds the key
+-- the world with one more caller, which holds the key
 abbrev pub with_caller : BareWorld → Key → BareWorld
 with_caller w key =
     record { slots = w.slots; callers = w.callers ++ record { key = key; phase = Still } ∷ [] }
@@ -37,14 +37,14 @@ OnlySpent w slot =
 abbrev pub NoReference : BareWorld → Key → Type 0
 NoReference w key = (c : ℕ) (phase : Phase) → IsCaller w c key phase → IsFalse (has_reference phase)
 
--- the slot has no linked node and no caller but spent ones, and the key is its next
+-- the slot has no linked node and only spent callers, and the key is its next
 pub record MayBeBorn (w : BareWorld) (key : Key) : Type 0 where
   pub last : ℕ
   pub unlinked : slice_get w.slots key.slot ≡ Some (record { generation = last; marks = None })
   pub next : key.generation ≡ last + 1
   pub unheld : OnlySpent w key.slot
 
--- a caller who holds the key
+-- a caller that holds the key
 pub record IsHeld (w : BareWorld) (key : Key) : Type 0 where
   pub caller : ℕ
   pub phase : Phase
@@ -84,11 +84,11 @@ pub record MayLookHidden (w : BareWorld) (c : ℕ) : Type 0 where
   pub there : IsCaller w c key Hiding
   pub unused : NoReference w key
 
--- what one step of each kind makes of a world
+-- one step of each kind: when it may happen, and the world after it
 abbrev pub BareStep : BareWorld → Event → BareWorld → Type 0
 BareStep w (Born key parent name node) w' = MayBeBorn w key × (w' ≡ with_marks w key (Some fresh_marks))
 BareStep w (Rise key) w' = (marks w key ≡ Some fresh_marks) × (w' ≡ with_marks w key (Some live_marks))
-BareStep w (Mark key) w' = (m : Marks) × (marks w key ≡ Some m) × (m.doomed ≡ false)
+BareStep w (Mark key) w' = (m : NodeFlags) × (marks w key ≡ Some m) × (m.doomed ≡ false)
     × (w' ≡ with_marks w key (Some (record { activated = m.activated; doomed = true })))
 BareStep w (Move key dir name) w' = w' ≡ w
 BareStep w (Pin c key) w' = (c ≡ length w.callers) × MayPin w key × (w' ≡ with_caller w key)

@@ -4,7 +4,7 @@ use Rattle.std.specs.Option.{option_map, option_and_then}
 use Rattle.kf_core.specs.declared.key.Key.{Key}
 use Rattle.kf_core.specs.declared.key.Node.{Node}
 use Rattle.kf_core.specs.declared.key.Node.TheVariants.{Dir, File, Link}
-use Rattle.kf_core.specs.declared.slot.Marks.{Marks}
+use Rattle.kf_core.specs.declared.slot.NodeFlags.{NodeFlags}
 use Rattle.kf_core.specs.declared.records.Record.{Record}
 use Rattle.kf_core.specs.Keys.{same_key}
 
@@ -12,12 +12,12 @@ use Rattle.kf_core.specs.Keys.{same_key}
 abbrev pub Tree : Type 0
 Tree = List (Option Record)
 
--- the record of a slot, where it is the record of the key
+-- the record of a slot, or None if it is not the record of this key
 abbrev pub with_key : Key → Option Record → Option Record
 with_key key None = None
 with_key key (Some r) = if same_key r.key key then Some r else None
 
--- the record of a key, where it is linked
+-- the record of a key, or None if it is not linked
 abbrev pub record_at : Tree → Key → Option Record
 record_at t key = option_and_then (with_key key) (slice_get t key.slot)
 
@@ -29,8 +29,8 @@ is_linked t key = is_some (record_at t key)
 abbrev pub parent_of : Tree → Key → Option Key
 parent_of t key = option_and_then (λ r. r.parent) (record_at t key)
 
--- the marks of a key's record, where it is linked
-abbrev pub marks_of : Tree → Key → Option Marks
+-- the marks of a key's record, or None if it is not linked
+abbrev pub marks_of : Tree → Key → Option NodeFlags
 marks_of t key = option_map (λ r. r.marks) (record_at t key)
 
 -- whether the node is a directory
@@ -39,16 +39,16 @@ is_dir Dir = true
 is_dir (File mode tag) = false
 is_dir (Link target) = false
 
--- the record stands in the slot of its key
+-- the tree has this record, in the slot of its key
 abbrev pub IsIn : Tree → Record → Type 0
 IsIn t r = slice_get t r.key.slot ≡ Some (Some r)
 
--- where n steps up lead to
+-- the key after n steps up
 abbrev pub climb : (Key → Option Key) → ℕ → Key → Option Key
 climb up zero key = Some key
 climb up (suc n) key = option_and_then (climb up n) (up key)
 
--- the key that is met after n steps from a key to its parent
+-- the key after n steps from a key to its parent
 abbrev pub ancestor : Tree → ℕ → Key → Option Key
 ancestor t n key = climb (parent_of t) n key
 

@@ -1,6 +1,6 @@
 -- The world: each slot with its last generation and the record of its linked node, and the callers. One
--- atomic step of it, and runs of steps. The struct `World` keeps the bare half of this, and the limit of
--- holds.
+-- atomic step of it, and runs of steps. The struct `World` of kf_world keeps the bare half of this, and the
+-- limit of holds.
 use Rattle.std.specs.Prelude.{◌≡◌, ◌≢◌, ℕ, ◌+◌, false, List, [], ◌∷◌, map, replicate, slice_get, slice_set, Option, None, Some, IsFalse}
 use Rattle.std.specs.Option.{option_map}
 use Rattle.kf_core.specs.declared.key.Key.{Key}
@@ -21,7 +21,7 @@ use Rattle.kf_core.specs.Tree.{Tree, record_at, in_subtree}
 use Rattle.kf_core.specs.Lawful.{root_record}
 use Rattle.kf_core.specs.Commands.{change, activated_record, doomed_record, after}
 
--- a slot: its last generation, and the record of its node where one is linked
+-- a slot: its last generation, and the record of its node if one is linked
 pub record Slot : Type 0 where
   pub last : ℕ
   pub linked : Option Record
@@ -43,7 +43,7 @@ bare_slot s = record { generation = s.last; marks = option_map (λ (r : Record).
 abbrev pub bare : World → BareWorld
 bare w = record { slots = map bare_slot w.slots; callers = w.callers }
 
--- the root alone, in slot 0, live, and nobody there
+-- only the root, in slot 0, live, and no callers
 abbrev pub opening : ℕ → ℕ → World
 opening count start = record {
   slots = slice_set (replicate count (record { last = start; linked = None })) 0
@@ -58,7 +58,7 @@ opening count start = record {
 abbrev pub NoChild : Tree → Key → Type 0
 NoChild t key = (slot : ℕ) (r : Record) → slice_get t slot ≡ Some (Some r) → r.parent ≢ Some key
 
--- a rename that isn't refused, to another place
+-- a rename to another place, which is not refused
 pub record MayMove (t : Tree) (key dir : Key) (name : List ℕ) : Type 0 where
   pub moving : Record
   pub found : record_at t key ≡ Some moving
@@ -74,7 +74,7 @@ pub record MayMove (t : Tree) (key dir : Key) (name : List ℕ) : Type 0 where
   pub not_below : IsFalse (in_subtree t key dir)
   pub free : (slot : ℕ) (r : Record) → slice_get t slot ≡ Some (Some r) → r.parent ≡ Some dir → r.name ≢ name
 
--- what a step makes of the tree
+-- the tree after a step
 abbrev pub TreeStep : World → Event → Tree → Type 0
 TreeStep w (Born key parent name node) t' = t' ≡ after (tree w) (Create key parent name node false)
 TreeStep w (Rise key) t' = t' ≡ change (λ r. same_key r.key key) activated_record (tree w)
@@ -98,7 +98,7 @@ TreeStep w (LookHidden c) t' = t' ≡ tree w
 TreeStep w (Release c) t' = t' ≡ tree w
 TreeStep w (Undo c) t' = t' ≡ tree w
 
--- one atomic step: that of the bare world, and what becomes of the tree
+-- one atomic step: of the bare world, and of the tree
 pub record Step (w : World) (event : Event) (w' : World) : Type 0 where
   pub bare_step : BareStep (bare w) event (bare w')
   pub tree_step : TreeStep w event (tree w')

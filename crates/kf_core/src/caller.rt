@@ -10,7 +10,7 @@ use crate::key::Key;
 pub enum Phase {
     /// Holds the slot, with no reference.
     Still,
-    /// As still; its last try found the node not live.
+    /// As `Still`, and its last try found that the node is not live.
     Turned,
     /// Has an active reference (`kernfs_get_active` succeeded).
     Running,
@@ -20,40 +20,40 @@ pub enum Phase {
     Restored,
     /// Saw that the node is doomed and that nobody has a reference (`kernfs_drain` returned).
     Drained,
-    /// As drained, and saw that the node is not linked.
+    /// As `Drained`, and saw that the node is not linked.
     Parted,
     /// Hides its node, and waits until nobody has a reference to it.
     Hiding,
     /// Hides its node, and saw that nobody has a reference to it.
     Hidden,
-    /// Holds nothing any more.
+    /// Holds nothing: its hold was released.
     Spent,
 }
 
 impl Phase {
-    /// Whether a caller may try for a reference, and look for the drain.
+    /// Whether a caller may try for a reference, and look for the drain (`Still` or `Turned`).
     pub fn is_waiting(self) -> bool
         ensures known { result ≡ is_waiting self }
     {
         matches!(self, Phase::Still | Phase::Turned)
     }
 
-    /// Whether a caller has a reference, which a drain waits for.
+    /// Whether a caller has a reference, which a drain waits for (`Running` or `Restored`).
     pub fn has_reference(self) -> bool
         ensures known { result ≡ has_reference self }
     {
         matches!(self, Phase::Running | Phase::Restored)
     }
 
-    /// Whether a caller hides its node.
-    pub(crate) fn is_hiding(self) -> bool
+    /// Whether a caller hides its node (`Hiding` or `Hidden`).
+    pub fn is_hiding(self) -> bool
         ensures known { result ≡ is_hiding self }
     {
         matches!(self, Phase::Hiding | Phase::Hidden)
     }
 
-    /// Whether a caller holds nothing any more.
-    pub(crate) fn is_spent(self) -> bool
+    /// Whether a caller has released its hold.
+    pub fn is_spent(self) -> bool
         ensures known { result ≡ is_spent self }
     {
         matches!(self, Phase::Spent)

@@ -3,10 +3,10 @@
 use crate::key::{Key, Node};
 use crate::name_bytes::NameBytes;
 
-/// A change of the tree that was accepted. Applying a stored one refuses nothing.
+/// A change of the tree that was accepted. Applying a stored command never fails.
 #[derive(Drop)]
 pub enum Command {
-    /// A new record, activated at once where it is to be live.
+    /// A new record. If `live`, it is activated at once.
     Create {
         key: Key,
         parent: Key,
@@ -22,11 +22,11 @@ pub enum Command {
     Doom {
         key: Key,
     },
-    /// The record leaves the tree.
+    /// The record is taken out of the tree.
     Unlink {
         key: Key,
     },
-    /// The record gets another directory and name.
+    /// The record moves to this directory, under this name.
     Rename {
         key: Key,
         dir: Key,

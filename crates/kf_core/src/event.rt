@@ -3,7 +3,7 @@
 use crate::key::{Key, Node};
 use crate::name_bytes::NameBytes;
 
-/// One atomic step of a caller, which is named by its number, or of the owner of the tree lock.
+/// One atomic step: of a caller, which is given by its number, or of the owner of the tree lock.
 #[derive(Drop)]
 pub enum Event {
     /// A node is linked, not activated and not doomed.
@@ -36,11 +36,11 @@ pub enum Event {
     Enter {
         caller: usize,
     },
-    /// The call ends, and its reference is given up.
+    /// The call ends, and its reference is released.
     Leave {
         caller: usize,
     },
-    /// The reference is given up inside the callback.
+    /// The reference is released inside the callback.
     Break {
         caller: usize,
     },
@@ -72,7 +72,7 @@ pub enum Event {
     Show {
         caller: usize,
     },
-    /// The caller gives its hold back.
+    /// The caller releases its hold.
     Release {
         caller: usize,
     },

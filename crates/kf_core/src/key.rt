@@ -1,12 +1,13 @@
 //! What names a node, and what kinds of node there are.
 
-/// A slot of the table, and which of the nodes that the slot has had: each birth takes the slot's next
-/// generation, so a key is never used twice.
+/// A slot of the table, and the generation of one of the nodes that the slot has had. Each birth takes the
+/// slot's next generation, so no key is used twice.
 #[derive(Clone, Copy, Debug, PartialEq, Eq)]
 pub struct Key {
-    /// The place in the table, from 0, which is the root's.
+    /// The place in the table. The root has slot 0.
     pub slot: u32,
-    /// One above the last of its slot; a tree made without a start begins at 1.
+    /// One more than the generation before it in the same slot. A tree begins at 1 unless it is made with
+    /// another start.
     pub generation: u32,
 }
 
@@ -15,8 +16,8 @@ pub struct Key {
 pub enum Node {
     /// A directory (`KERNFS_DIR`).
     Dir,
-    /// An attribute file (`KERNFS_FILE`): its permission bits (scripts make at most 0o777), and a tag
-    /// that tells its callbacks apart.
+    /// An attribute file (`KERNFS_FILE`): its permission bits (scripts make at most 0o777), and a tag, by
+    /// which its callbacks know what they serve.
     File { mode: u16, tag: u64 },
     /// A symbolic link (`KERNFS_LINK`) to a node.
     Link { target: Key },

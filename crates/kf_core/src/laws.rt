@@ -17,9 +17,9 @@ ghost use Rattle.kf_core.specs.Worlds.{World, bare, opening, tree, Step, Run};
 ghost use Rattle.kf_core.specs.Life.{whole_life, at, file_at, second, a, by};
 ghost use Rattle.kf_core.specs.Marks.{fresh_marks};
 
-/// From the mark of a node on, each try there is refused. Once a caller saw the node's drain, nobody is ever
-/// running on it again; while a caller is Hidden on a node, nobody is running there. A caller that gave its
-/// reference up inside its callback may take one again there, but starts no callback under it.
+/// Once a node is marked, each try for a reference to it is refused. Once a caller saw the node's drain,
+/// nobody is ever running on it again. While a caller is Hidden on a node, nobody is running on it. A caller
+/// that released its reference inside its callback may take one again there, but starts no callback under it.
 pub fn no_call_after_removal()
     // Nobody is running on a key on which a caller is drained, parted or hidden.
     ensures none_running { (count start : ℕ) (events : List Event) (w : World) →
@@ -31,7 +31,7 @@ pub fn no_call_after_removal()
         Run (opening count start) events w →
         (c : ℕ) (key : Key) (phase : Phase) → IsCaller (bare w) c key phase → IsTrue (saw_drain phase) →
         IsTrue (is_doomed (bare w) key) }
-    // That of a parted one is not linked.
+    // The key of a parted caller is not linked.
     ensures gone { (count start : ℕ) (events : List Event) (w : World) → Run (opening count start) events w →
         (c : ℕ) (key : Key) → IsCaller (bare w) c key Parted → IsFalse (is_linked (bare w) key) }
     // The key of a running caller is linked.
@@ -43,7 +43,7 @@ pub fn no_call_after_removal()
         Run (opening count start) events w →
         (c : ℕ) (key : Key) (phase : Phase) → IsCaller (bare w) c key phase → IsTrue (is_hiding phase) →
         IsFalse (is_live (bare w) key) × OnlyHider (bare w) c key }
-    // From the mark of a key on, it is never live again, so each try there is refused.
+    // Once a key is marked, it is never live again, so each try for a reference to it is refused.
     ensures marked { (count start : ℕ) (before later : List Event) (u v w : World) (key : Key) →
         Run (opening count start) before u → Step u (Mark key) v → Run v later w →
         IsFalse (is_live (bare w) key) }
@@ -53,9 +53,9 @@ pub fn no_call_after_removal()
         Run v later w → NoneRunning (bare w) key }
 {}
 
-/// No slot is given again while it is held, and no key is used twice.
+/// No slot gets another node while somebody holds it, and no key is used twice.
 pub fn slots_kept()
-    // Who holds a slot holds its last generation.
+    // A caller that holds a slot holds the slot's last generation.
     ensures held_last { (count start : ℕ) (events : List Event) (w : World) →
         Run (opening count start) events w →
         (c : ℕ) (key : Key) (phase : Phase) → IsCaller (bare w) c key phase → phase ≢ Spent →
@@ -66,7 +66,7 @@ pub fn slots_kept()
         Run (opening count start) events w → Step w (Born key parent name node) w' →
         (c : ℕ) (held : Key) (phase : Phase) → IsCaller (bare w) c held phase → held.slot ≡ key.slot →
         phase ≡ Spent }
-    // What is once linked, born in the run or at its opening, is not born again.
+    // A key that was linked at any time, at the opening or by a birth, is not born again.
     ensures once { (count start : ℕ) (before between : List Event) (u v w : World) (key again parent : Key)
         (name : List ℕ) (node : Node) →
         Run (opening count start) before u → IsTrue (is_linked (bare u) key) → Run u between v →
@@ -76,49 +76,51 @@ pub fn slots_kept()
         (key again parent next_parent : Key) (name next_name : List ℕ) (node next_node : Node) →
         Run (opening count start) before t → Step t (Born key parent name node) u → Run u between v →
         Step v (Born again next_parent next_name next_node) w → key ≢ again }
-    // The tree and the list of slots tell the same of every key: whether it is linked, activated, doomed.
+    // The tree and the list of slots agree on every key: whether it is linked, activated, doomed.
     ensures agree { (count start : ℕ) (events : List Event) (w : World) → Run (opening count start) events w →
         Agrees (tree w) (bare w) }
-    // A record is hidden exactly where a caller hides its key.
+    // A record is hidden if and only if a caller hides its key.
     ensures hidden_told { (count start : ℕ) (events : List Event) (w : World) →
         Run (opening count start) events w → AgreesHidden (tree w) (bare w) }
 {}
 
-/// The laws of removal for worlds without parents, names and nodes, from any safe one on.
+/// The laws of removal for worlds without parents, names and nodes, from any safe world on.
 pub fn no_call_after_drain()
     // Each world of the run is safe.
     ensures safe { (events : List Event) (w w' : BareWorld) → Safe w → BareRun w events w' → Safe w' }
-    // A linked key that is doomed is never live again, so each try there is refused.
+    // A linked key that is doomed is never live again, so each try for a reference to it is refused.
     ensures marked { (later : List Event) (v w : BareWorld) (key : Key) →
         IsTrue (is_linked v key) → IsTrue (is_doomed v key) → BareRun v later w → IsFalse (is_live w key) }
-    // While a caller is drained or parted on a key, nobody is running on it, nor ever after.
+    // If a caller is drained or parted on a key, nobody is running on it, then and ever after.
     ensures for_good { (later : List Event) (v w : BareWorld) (c : ℕ) (key : Key) (phase : Phase) →
         Safe v → IsCaller v c key phase → IsTrue (saw_drain phase) → BareRun v later w → NoneRunning w key }
-    // Once a slot has a later generation, only spent callers are on a key of an earlier one, ever after.
+    // Once a slot has a later generation, only spent callers are on its earlier keys, ever after.
     ensures passed { (later : List Event) (v w : BareWorld) (key : Key) (generation : ℕ) →
         Safe v → IsLast v key.slot generation → key.generation < generation → BareRun v later w →
         NoneHolding w key }
-    // Who runs after a step ran before it, or the step is its try, on a live key.
+    // A caller that is running after a step was running before it, or the step is its try on a live key.
     ensures starts { (w w' : BareWorld) (event : Event) (c : ℕ) (key : Key) → BareStep w event w' →
         IsCaller w' c key Running → IsCaller w c key Running ⊎ ((event ≡ Enter c) × IsTrue (is_live w key)) }
 {}
 
-/// A run with every kind of event: the whole life of a node, by two callers. So the laws here speak of runs
-/// that there are.
+/// A run with every kind of event: the whole life of a node, by two callers. It shows that runs as the laws
+/// describe them exist.
 ///
-/// A file is born in the root, activated and renamed, and both callers pin it. The first enters. The second
-/// hides the file, and when the first has left, sees that nobody uses it; a try of the first is now refused,
-/// and undone. The second shows the file again, and the first enters. The file is doomed; a try of the second
-/// is refused, and undone. The first breaks its protection, the second sees the drain, and the first restores
-/// its protection: it has a reference again, but is not Running. The second unlinks the file and sees it
-/// gone, the first leaves, and both release their holds. Then the slot's next file is born.
+/// 1. A file is born in the root, activated and renamed, and both callers pin it. The first enters.
+/// 2. The second hides the file. When the first has left, the second sees that nobody uses it. A try of the
+///    first is now refused, and undone. The second shows the file again, and the first enters.
+/// 3. The file is doomed. A try of the second is refused, and undone. The first breaks its protection, and
+///    the second sees the drain. The first restores its protection: it has a reference again, but is not
+///    Running.
+/// 4. The second unlinks the file and sees that it is gone. The first leaves, and both release their holds.
+///    Then the slot's next file is born.
 pub fn a_life()
     ensures lives { Run (opening 2 0) whole_life
         (at 2 (Some (file_at second a fresh_marks)) (by Spent ∷ by Spent ∷ [])) }
 {}
 
-/// What a subtree is: the keys from which some number of steps up, from directory to directory, leads to its
-/// top.
+/// A key is in a subtree if and only if some number of steps up, from directory to directory, leads from it
+/// to the top of the subtree.
 pub fn subtrees_are_by_steps()
     ensures by_steps { (t : Tree) (top key : Key) → IsTrue (in_subtree t top key)
         ↔ ((n : ℕ) × (ancestor t n key ≡ Some top)) }

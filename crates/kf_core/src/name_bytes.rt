@@ -6,11 +6,11 @@ use smallvec::SmallVec;
 use std::alloc::{AllocError, Global};
 use std::marker::Model;
 
-/// So many bytes take no memory of their own: most names of attributes are shorter.
+/// Names of up to this many bytes take no memory on the heap. Most names of attributes are shorter.
 const INLINE: usize = 24;
 
-/// The bytes of a name. Contracts see the list of the bytes; what a lawful name is, is said where one is
-/// asked for. Up to 24 bytes lie in the value itself, more in memory of their own.
+/// The bytes of a name. Contracts see the list of the bytes. Any bytes are possible: calls that need a lawful
+/// name check it. Up to 24 bytes lie in the value itself, longer names on the heap.
 #[derive(Debug, Drop)]
 pub struct NameBytes {
     bytes: SmallVec<u8, INLINE>,
@@ -23,7 +23,7 @@ impl Model for NameBytes {
 }
 
 impl NameBytes {
-    /// No bytes, as the root's name has. Takes no memory.
+    /// No bytes: the root's name. Takes no memory on the heap.
     pub fn empty(alloc: Global) -> NameBytes
         ensures empty { result ≡ [] }
     {
@@ -32,7 +32,8 @@ impl NameBytes {
         }
     }
 
-    /// A copy of these bytes. Takes memory for more than 24 alone, and is refused where there is none.
+    /// A copy of these bytes. Up to 24 bytes always succeed. For more bytes it takes memory, and fails with
+    /// `AllocError` if there is none.
     pub fn copied(alloc: Global, bytes: &[u8]) -> Result<NameBytes, AllocError>
         ensures same { IfOk result (λ name. name ≡ bytes.now) }
         ensures short { length bytes.now ≤ 24 → IsOk result }

@@ -2,19 +2,19 @@
 
 use crate::key::{Key, Node};
 use crate::name_bytes::NameBytes;
-use crate::slot::Marks;
+use crate::slot::NodeFlags;
 
-/// A linked node: where it stands, its marks, whether it is hidden, what it is, and its name. The name is the
-/// last, so that what a walk looks at lies together.
+/// A linked node: its key and directory, its marks, whether it is hidden, what it is, and its name. The name
+/// is the last field, so that what a walk looks at lies together.
 #[derive(Drop)]
 pub struct Record {
     pub key: Key,
-    /// Its directory; none for the root.
+    /// Its directory. The root has none.
     pub parent: Option<Key>,
-    pub marks: Marks,
-    /// It is not live while a caller hides it.
+    pub marks: NodeFlags,
+    /// Whether a caller hides it. A hidden node is not live.
     pub hidden: bool,
     pub node: Node,
-    /// Its name in that directory; empty for the root.
+    /// Its name in that directory. The root's is empty.
     pub name: NameBytes,
 }

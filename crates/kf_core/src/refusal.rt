@@ -7,26 +7,26 @@ ghost use Rattle.kf_core.specs.Refusals.{name_of, number_of};
 use std::alloc::{AllocError, AllocFailed};
 use thiserror::Error;
 
-/// Why a call is refused, numbered as in Linux, whose name stands beside each.
+/// Why a call is refused. Names and numbers are those of Linux.
 #[derive(Clone, Copy, Debug, PartialEq, Eq, Error)]
 pub enum Refusal {
     /// There is no such node, or it is not live (`ENOENT`).
     #[error("NoEntry")]
     NoEntry,
-    /// A growth, which asks for memory, was refused (`ENOMEM`). Where a call takes memory before it has
-    /// looked at all, it may come in place of another cause.
+    /// A request for memory was refused (`ENOMEM`). If a call takes memory before it has looked for every
+    /// other cause, this may come in place of one of them.
     #[error("NoMemory")]
     NoMemory,
-    /// The mode, or how the file was opened, does not allow it (`EACCES`).
+    /// The file's mode, or the way in which it was opened, does not allow the call (`EACCES`).
     #[error("Access")]
     Access,
-    /// It is in use (`EBUSY`).
+    /// The node is in use (`EBUSY`).
     #[error("Busy")]
     Busy,
     /// The name is taken (`EEXIST`).
     #[error("Exists")]
     Exists,
-    /// The node is not live any more, or there is no such device (`ENODEV`).
+    /// The node is no longer live, or there is no such device (`ENODEV`).
     #[error("NoDevice")]
     NoDevice,
     /// The node is no directory (`ENOTDIR`).
@@ -50,7 +50,7 @@ pub enum Refusal {
 }
 
 impl Refusal {
-    /// The name that scripts are told.
+    /// The name of the refusal, as scripts print it.
     pub fn name(self) -> &'static str
         ensures known { result.now ≡ name_of self }
     {
@@ -70,7 +70,7 @@ impl Refusal {
         }
     }
 
-    /// The error number of Linux.
+    /// The refusal's error number in Linux (`errno`).
     pub fn number(self) -> u16
         ensures known { result ≡ number_of self }
     {
@@ -91,7 +91,7 @@ impl Refusal {
     }
 }
 
-/// A refused growth is want of memory.
+/// A refused request for memory.
 impl From<AllocError> for Refusal {
     ghost from_gives = { λ _ refusal. refusal ≡ NoMemory };
 
@@ -100,7 +100,7 @@ impl From<AllocError> for Refusal {
     }
 }
 
-/// A refused growth that gives the value back is want of memory; the value is let go.
+/// A refused request for memory that returns the value. The value is dropped.
 impl<T: Drop> From<AllocFailed<T>> for Refusal {
     ghost from_gives = { λ _ refusal. refusal ≡ NoMemory };
 

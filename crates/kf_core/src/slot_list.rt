@@ -7,14 +7,15 @@ use crate::refusal::Refusal;
 use std::alloc::Global;
 use std::marker::Model;
 
-/// A list with one item a slot. Room for all is taken when the list is made, so that no change needs memory.
-/// It is written up to the highest slot that was set, and the system gives the memory of those alone.
+/// A list with one item for each slot. Memory for all of them is reserved when the list is made, so no later
+/// change needs memory. Only the front, up to the highest slot that was set, is written, so the system
+/// provides pages only for that part.
 #[derive(Drop)]
 pub struct SlotList<T: Copy> {
     items: Vec<T>,
     /// The number of slots.
     slots: usize,
-    /// What stands in each slot that was not reached.
+    /// The item of each slot that was not reached.
     rest: T,
 }
 
@@ -29,9 +30,9 @@ impl<T: Copy> Model for SlotList<T> {
         (length list.items.items ≤ list.slots) × (list.slots ≤ vec_capacity list.items) };
 }
 
-/// Writes the items up to a slot. There is room for each.
+/// Writes the items up to this slot. Each has room.
 #[inline(always)]
-pub(crate) fn reach<T: Copy>(items: &mut Vec<T>, slots: usize, rest: T, slot: usize)
+fn reach<T: Copy>(items: &mut Vec<T>, slots: usize, rest: T, slot: usize)
     requires within { slot < slots }
     requires few { length items.old.items ≤ slots }
     requires room { slots ≤ vec_capacity items.old }
@@ -47,7 +48,8 @@ pub(crate) fn reach<T: Copy>(items: &mut Vec<T>, slots: usize, rest: T, slot: us
 }
 
 impl<T: Copy> SlotList<T> {
-    /// The same item for each of so many slots. `NoMemory` where room for them could not be had.
+    /// The same item for each slot, of which there are this many. Fails with `NoMemory` if there is no memory
+    /// for all of them.
     pub fn new(alloc: Global, slots: usize, item: T) -> Result<SlotList<T>, Refusal>
         ensures made { IfOk result (λ list. list ≡ replicate slots item) }
         ensures refused { IfErr result (λ refusal. refusal ≡ NoMemory) }
@@ -70,7 +72,7 @@ impl<T: Copy> SlotList<T> {
         self.slots
     }
 
-    /// The item of a slot. None past the last slot.
+    /// The item of a slot. Returns None past the last slot.
     #[inline(always)]
     pub fn get(&self, slot: usize) -> Option<T>
         ensures known { result ≡ slice_get self.now slot }
@@ -84,7 +86,9 @@ impl<T: Copy> SlotList<T> {
         }
     }
 
-    /// The item of a slot that there is.
+    /// The item of a slot.
+    ///
+    /// Condition: the slot is not past the last.
     #[inline(always)]
     pub fn at(&self, slot: usize) -> T
         requires within { slot < length self.now }
@@ -97,7 +101,9 @@ impl<T: Copy> SlotList<T> {
         }
     }
 
-    /// Puts an item in place of a slot's.
+    /// Puts an item in place of the slot's item.
+    ///
+    /// Condition: the slot is not past the last.
     #[inline(always)]
     pub fn set(&mut self, slot: usize, item: T)
         requires within { slot < length self.old }

@@ -8,8 +8,9 @@ use crate::refusal::Refusal;
 use std::alloc::Global;
 use std::marker::Model;
 
-/// By slot, a value or none. Room for all is taken when it is made, so that no change needs memory. It is
-/// written up to the highest slot that had a value, and the system gives the memory of those alone.
+/// For each slot a value or none. Memory for all of them is reserved when the map is made, so no later change
+/// needs memory. Only the front, up to the highest slot that had a value, is written, so the system provides
+/// pages only for that part.
 #[derive(Drop)]
 pub struct SlotMap<X: Drop> {
     items: Vec<Option<X>>,
@@ -28,7 +29,7 @@ impl<X: Drop> Model for SlotMap<X> {
         (length map.items.items ≤ map.slots) × (map.slots ≤ vec_capacity map.items) };
 }
 
-/// Writes the items up to a slot. There is room for each.
+/// Writes the items up to this slot. Each has room.
 #[tactic(auto, using(crate::proofs::SlotLists::one_written))]
 fn reach<X>(items: &mut Vec<Option<X>>, slots: usize, slot: usize)
     requires within { slot < slots }
@@ -46,7 +47,7 @@ fn reach<X>(items: &mut Vec<Option<X>>, slots: usize, slot: usize)
 }
 
 impl<X: Drop> SlotMap<X> {
-    /// So many slots without a value. `NoMemory` where room for them could not be had.
+    /// This many slots without a value. Fails with `NoMemory` if there is no memory for all of them.
     pub fn new(alloc: Global, slots: usize) -> Result<SlotMap<X>, Refusal>
         ensures made { IfOk result (λ map. map ≡ replicate slots None) }
         ensures refused { IfErr result (λ refusal. refusal ≡ NoMemory) }
@@ -65,7 +66,7 @@ impl<X: Drop> SlotMap<X> {
         self.slots
     }
 
-    /// The value of a slot. None also past the last slot.
+    /// The value of a slot. Returns None also past the last slot.
     #[inline(always)]
     pub fn get(&self, slot: usize) -> Option<&X>
         ensures known { option_copied result ≡ option_and_then (λ item. item) (slice_get self.now slot) }
@@ -76,7 +77,9 @@ impl<X: Drop> SlotMap<X> {
         }
     }
 
-    /// Puts a value in place of what a slot has.
+    /// Puts a value in place of what the slot has. The old value is dropped.
+    ///
+    /// Condition: the slot is not past the last.
     pub fn put(&mut self, slot: usize, item: X)
         requires within { slot < length self.old }
         ensures put { self.new ≡ slice_set self.old slot (Some item) }
@@ -85,7 +88,7 @@ impl<X: Drop> SlotMap<X> {
         self.items[slot] = Some(item);
     }
 
-    /// Takes the value of a slot out.
+    /// Takes the value of a slot out, and leaves none. Returns None also past the last slot.
     pub fn take(&mut self, slot: usize) -> Option<X>
         ensures taken { result ≡ option_and_then (λ item. item) (slice_get self.old slot) }
         ensures none { self.new ≡ slice_set self.old slot None }

@@ -69,7 +69,7 @@ module _ (pairs : Pairs) (rising : IsRising pairs) where
   unfolding AreAbove
   past_the_last bound at past first = subst (AreAbove (entries_of pairs) bound) (sym (drop_all at pairs past)) (none_above pairs rising bound at first past)
 
-  -- all from the first above the bound on, of which no more are left than so many
+  -- all from the first above the bound on, and at most this many of these are left
   pub all_above : (left : ℕ) (bound : Option (List ℕ)) (at : ℕ) → length pairs ≤ at + left → IsFirstAbove pairs bound at → AreAbove (entries_of pairs) bound (drop at pairs)
   unfolding AreAbove
   all_above zero bound at few first = past_the_last bound at (omega arith) first

@@ -17,7 +17,7 @@ one_more m n = elim (cases_order m n) [
   | inr (inr more) ↦ sym (nat_cmp_is m n Greater more) ∙ nat_cmp_is (suc m) (suc n) Greater (omega (arith, more))
 ]
 
--- where one text has no more bytes, the lengths tell
+-- if one text has no byte left, the lengths decide
 pub lengths_tell : (xs ys : List ℕ) (n : ℕ) → n ≡ min (length xs) (length ys) → slice_cmp nat_cmp (drop n xs) (drop n ys) ≡ nat_cmp (length xs) (length ys)
 lengths_tell [] [] zero is = refl
 lengths_tell [] [] (suc n) is = refl
@@ -134,7 +134,7 @@ module _ (a b : List ℕ) (at : ℕ) (same : take at a ≡ take at b) where
       ap (λ l. slice_cmp nat_cmp l b) (sym (take-append-drop at a)) ∙ ap (slice_cmp nat_cmp (take at a ++ drop at a)) (sym (take-append-drop at b))
       ∙ ap (λ l. slice_cmp nat_cmp (take at a ++ drop at a) (l ++ drop at b)) (sym same) ∙ after_same (take at a) (drop at a) (drop at b)
 
-  -- the same to the end of one of them: the lengths tell
+  -- the same to the end of one of them: the lengths decide
   pub ends_tell : at ≡ min (length a) (length b) → slice_cmp nat_cmp a b ≡ nat_cmp (length a) (length b)
   ends_tell is = from_there ∙ lengths_tell a b at is
 

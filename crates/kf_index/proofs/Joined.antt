@@ -1,4 +1,4 @@
--- The entries of chunks, one after another, where a chunk is taken, put, split or changed.
+-- The entries of chunks, one after another, when a chunk is taken, put, split or changed.
 use Rattle.std.proofs.Common.{◌≡◌, ◌≢◌, ℕ, zero, suc, ◌+◌, ◌<◌, ◌≤◌, List, [], ◌∷◌, ◌++◌, length, get_or, take, drop, set, sym, ap, ◌∙◌, refl, arith, append_assoc}
 use Rattle.std.specs.List.{insert, remove}
 use Rattle.std.proofs.lemmas.List.{length-append}
@@ -14,7 +14,7 @@ joined_at (c ∷ chunks) zero within = refl
 joined_at (c ∷ chunks) (suc k) within =
     ap (λ l. c ++ l) (joined_at chunks k (omega (arith, within))) ∙ sym (append_assoc c (joined (take k chunks)) _)
 
--- the same where that chunk is another one
+-- the same if that chunk is another one
 pub joined_set : (chunks : List Pairs) (k : ℕ) (chunk : Pairs) → k < length chunks
     → joined (set chunks k chunk) ≡ joined (take k chunks) ++ (chunk ++ joined (drop (suc k) chunks))
 joined_set [] k chunk within = absurd (omega (arith, within))
@@ -43,7 +43,7 @@ pub joined_split : (chunks : List Pairs) (k : ℕ) (lower upper : Pairs) → k <
 joined_split chunks k lower upper within is =
     ap (λ at. joined (insert (set chunks k lower) at upper)) {x = k + 1} {y = suc k} (omega arith) ∙ split_in_two chunks k lower upper within is
 
--- one more chunk is so many more entries
+-- one more chunk is this many more entries
 pub length_more : (chunks : List Pairs) (k : ℕ) (chunk : Pairs) → k < length chunks → chunk ≡ get_or chunks k chunk
     → length (joined (take (k + 1) chunks)) ≡ length (joined (take k chunks)) + length chunk
 length_more [] k chunk within is = absurd (omega (arith, within))
@@ -53,7 +53,7 @@ length_more (c ∷ chunks) (suc k) chunk within is =
     ap (λ n. length (joined (take n (c ∷ chunks)))) {x = suc k + 1} {y = suc (k + 1)} (omega arith)
     ∙ omega (arith, rest, length-append c (joined (take (k + 1) chunks)), length-append c (joined (take k chunks)))
 
--- a part of the chunks is no more than all
+-- a part of the chunks is at most all of them
 pub length_few : (chunks : List Pairs) (k : ℕ) → length (joined (take k chunks)) ≤ length (joined chunks)
 length_few chunks zero = omega arith
 length_few [] (suc k) = omega arith

@@ -1,4 +1,4 @@
--- Places in another order, and entries where one place is written.
+-- Places in another order, and entries when one place is written.
 use Rattle.std.proofs.Common.{◌≡◌, ◌≢◌, ℕ, zero, suc, ◌<◌, ◌≤◌, List, [], ◌∷◌, ◌++◌, length, get_or, map, take, drop, set, Option, None, ap, refl, subst, arith, rules}
 use Rattle.std.specs.List.{insert, remove, All, AllPairs}
 use Rattle.std.specs.List.Sorted.{IsPermutation}

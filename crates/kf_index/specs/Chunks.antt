@@ -20,7 +20,7 @@ HaveSome chunks = All (λ chunk. chunk ≢ []) chunks
 abbrev pub first_name : Pairs → List ℕ
 first_name chunk = (slice_index_or chunk 0 no_entry).0
 
--- the last of so many chunks begins at or below the name, and the next one above it
+-- the last of this many chunks begins at or below the name, and the next one above it
 pub record ReachTo (chunks : List Pairs) (name : List ℕ) (count : ℕ) : Type 0 where
   pub within : count ≤ length chunks
   pub last : 0 < count → ¬ IsBefore name (first_name (slice_index_or chunks (count - 1) []))

@@ -20,7 +20,7 @@ key_code = code_by (ℕ × ℕ) (coded× coded_ℕ coded_ℕ)
 abbrev pub entries_code : Coded Entries
 entries_code = map_of.code (coded_list coded_ℕ) key_code
 
--- the name is above the bound, where there is one
+-- the name is above the bound, if there is one
 abbrev pub IsAbove : Option (List ℕ) → List ℕ → Type 0
 IsAbove None name = Unit {0}
 IsAbove (Some bound) name = IsBefore bound name

@@ -1,9 +1,9 @@
--- Entries at places of their own, and their places in an order.
+-- Entries at places that each one keeps, and their places in an order.
 use Rattle.std.specs.Prelude.{◌≡◌, ◌≢◌, ℕ, ◌+◌, ◌*◌, ◌<◌, ◌≤◌, List, [], length, map, take, slice_index_or, unwrap_or, Option, None, IsSome, All, AllPairs}
 use Rattle.kf_core.specs.declared.key.Key.{Key}
 use Rattle.kf_index.specs.Pairs.{Pairs}
 
--- an entry at each place, or None where the place is free
+-- an entry at each place, or None if the place is free
 abbrev pub Places : Type 0
 Places = List (Option (List ℕ × Key))
 
@@ -36,6 +36,6 @@ pub record AreInOrder (entries : Places) (order : List ℕ) (len : ℕ) : Type 0
   pub few : len ≤ length order
   pub taken : AreTaken entries (take len order)
 
--- so many entries keep no more memory than this: room for four times as many, and three more
+-- this many entries keep at most this memory: room for four times as many, and three more
 abbrev pub IsFitting : ℕ → ℕ → Type 0
 IsFitting len capacity = capacity ≤ 4 * len + 3

@@ -19,7 +19,7 @@ pub(crate) struct Chunk {
     /// Places: first those of the entries, in their order, then free ones. A place takes four bytes, so that
     /// less moves.
     order: Vec<u32>,
-    /// Each entry at a place of its own, which it keeps; None where a place is free.
+    /// Each entry at a place that it keeps; None if a place is free.
     entries: Vec<Option<(Name, Key)>>,
     /// Whether there was no memory for a smaller copy when one was last wanted, so that all is kept.
     kept_large: bool,
@@ -70,7 +70,7 @@ impl Chunk {
         self.entries.capacity().max(self.order.capacity())
     }
 
-    /// Adds an entry, and moves those from there on up. It takes memory where no place is free.
+    /// Adds an entry, and moves those from there on up. It takes memory if no place is free.
     pub(crate) fn insert(&mut self, at: usize, entry: (Name, Key)) -> Result<(), AllocError>
         requires within { at ≤ length self.old }
         requires few { length self.old < 2 ^ 32 }
@@ -88,7 +88,7 @@ impl Chunk {
 
     /// Takes an entry out, and moves those after it down. With the last entry all memory is given back. Where
     /// there is room for four times as many entries as are left, and more, they move to memory for some twice
-    /// as many, or stay where there is none.
+    /// as many, or stay if there is none.
     pub(crate) fn remove(&mut self, at: usize) -> (Name, Key)
         requires within { at < length self.old }
         ensures value { result ≡ slice_index_or self.old at result }
@@ -100,7 +100,7 @@ impl Chunk {
         entry
     }
 
-    /// Takes the upper half of the entries out, as a chunk of their own. After a refusal all is as before.
+    /// Takes the upper half of the entries out, as a new chunk. After a refusal all is as before.
     pub(crate) fn split(&mut self) -> Result<Chunk, AllocError>
         requires some { 2 ≤ length self.old }
         ensures split { IfOk result (λ upper. self.old ≡ self.new ++ upper) }

@@ -1,4 +1,4 @@
-//! The entries of an index in chunks: where one comes or goes, only places of its chunk move.
+//! The entries of an index in chunks: when one comes or goes, only places of its chunk move.
 
 ghost use Rattle.std.specs.Prelude.{◌≡◌, ◌≢◌, ◌∷◌, ◌<◌, ◌≤◌, ◌+◌, ◌*◌, ◌^◌, ℕ, [], length, max, drop, slice_index_or, vec_capacity, IfErr, IfNone, IfSome, OnErr, OnOk, OnSome};
 ghost use Rattle.std.specs.Option.{option_copied};
@@ -90,7 +90,7 @@ fn room_for_one(later: &mut Vec<Chunk>) -> Result<(), AllocError>
     later.reserve_exact(later.len() + 4)
 }
 
-/// Splits the first chunk in two, where it is full and there is memory for that.
+/// Splits the first chunk in two, if it is full and there is memory for that.
 fn split_first(first: &mut Chunk, later: &mut Vec<Chunk>)
     requires some { HaveSome later.old.items }
     ensures same { joined (first.new ∷ later.new.items) ≡ joined (first.old ∷ later.old.items) }
@@ -184,8 +184,8 @@ fn put(first: &mut Chunk, later: &mut Vec<Chunk>, name: Name, key: Key) -> Resul
     put_later(later, count - 1, name, key)
 }
 
-/// Gives memory of chunks that are gone back, where there is room for more than four times those that are
-/// left. Where no smaller memory can be had it stays; where no chunk is left, all is given back.
+/// Frees memory of chunks that are gone, if there is room for more than four times those that are
+/// left. If no smaller memory can be had it stays; if no chunk is left, all is freed.
 fn thin(later: &mut Vec<Chunk>)
     ensures same { later.new.items ≡ later.old.items }
     ensures fits { vec_capacity later.new ≤ vec_capacity later.old }
@@ -198,7 +198,7 @@ fn thin(later: &mut Vec<Chunk>)
     }
 }
 
-/// Takes an entry out of the first chunk. Where that was its last, the next chunk becomes the first.
+/// Takes an entry out of the first chunk. If that was its last, the next chunk becomes the first.
 fn take_first(first: &mut Chunk, later: &mut Vec<Chunk>, name: &[u8]) -> Option<Key>
     requires rising { IsRising (joined (first.old ∷ later.old.items)) }
     requires some { HaveSome later.old.items }
@@ -218,7 +218,7 @@ fn take_first(first: &mut Chunk, later: &mut Vec<Chunk>, name: &[u8]) -> Option<
     Some(key)
 }
 
-/// Takes an entry out of one of the later chunks. Where that was its last, the chunk goes too.
+/// Takes an entry out of one of the later chunks. If that was its last, the chunk goes too.
 fn take_later(later: &mut Vec<Chunk>, chunk: usize, name: &[u8]) -> Option<Key>
     requires rising { IsRising (joined later.old.items) }
     requires some { HaveSome later.old.items }
@@ -311,7 +311,7 @@ impl Chunks {
         key_in(self.chunk_for(name).0, name)
     }
 
-    /// Adds an entry. A chunk that it makes full is split, where there is memory for that. After a refusal
+    /// Adds an entry. A chunk that it makes full is split, if there is memory for that. After a refusal
     /// all is as before.
     pub(crate) fn insert(&mut self, name: Name, key: Key) -> Result<(), Refusal>
         requires rising { IsRising self.old }
@@ -325,7 +325,7 @@ impl Chunks {
         Ok(())
     }
 
-    /// Takes the entry of this name out, and answers its key.
+    /// Takes the entry of this name out, and returns its key.
     pub(crate) fn remove(&mut self, name: &[u8]) -> Option<Key>
         requires rising { IsRising self.old }
         ensures taken { IfSome result (λ key. IsTakenOut self.old name.now key self.new) }
@@ -337,7 +337,7 @@ impl Chunks {
         Some(key)
     }
 
-    /// The entries with names above the bound, or all where there is no bound.
+    /// The entries with names above the bound, or all if there is no bound.
     pub(crate) fn above(&self, bound: Option<&[u8]>) -> Listed<'_>
         requires rising { IsRising self.now }
         ensures first { (at : ℕ) × (IsFirstAbove self.now (option_copied bound.entry) at

@@ -13,9 +13,9 @@ use std::alloc::Global;
 use std::marker::Model;
 
 /// The entries of one directory: each name once, with the key of its node, in byte order of names.
-/// Contracts see an ordered map from names to keys. Of its calls `insert` alone wants memory, by the
+/// Contracts see an ordered map from names to keys. Of its calls only `insert` needs memory, by the
 /// allocator that `new` was given: `remove` asks for less than there is, and does without. Entries lie in
-/// chunks of some 500, and only places of one chunk move. Where it is not refused, a chunk has room for four
+/// chunks of some 500, and only places of one chunk move. If it is not refused, a chunk has room for four
 /// times its entries, and three more, at most. The kernel keeps the children of a node so too, in the tree
 /// `kn->dir.children`, but orders them by hashes of their names.
 #[derive(Drop)]
@@ -47,7 +47,7 @@ impl Index {
         }
     }
 
-    /// The key under this name, or None where there is none (`kernfs_find_ns`).
+    /// The key under this name, or None if there is none (`kernfs_find_ns`).
     #[inline(always)]
     pub fn get(&self, name: &[u8]) -> Option<Key>
         ensures found { result ≡ map.get self.now name.now }
@@ -73,8 +73,8 @@ impl Index {
         self.entries.room()
     }
 
-    /// Adds an entry (`kernfs_link_sibling`). Refuses `Exists` where the name is there, then `NoMemory` where
-    /// the growth by one entry wants memory. After a refusal all is as before, and the name is dropped. So a
+    /// Adds an entry (`kernfs_link_sibling`). Refuses `Exists` if the name is there, then `NoMemory` if
+    /// the growth by one entry needs memory. After a refusal all is as before, and the name is dropped. So a
     /// caller that makes it the last growth of a command has nothing to undo.
     ///
     /// Condition: there are fewer than 2^32 entries, since the number of a place takes four bytes.
@@ -89,9 +89,9 @@ impl Index {
         self.entries.insert(name, key)
     }
 
-    /// Takes the entry of this name out and answers its key, or None where there is none
+    /// Takes the entry of this name out and returns its key, or None if there is none
     /// (`kernfs_unlink_sibling`). With the last entry the memory of all is given back. Where few of many are
-    /// left in a chunk, they move to less memory, or stay where there is none to be had.
+    /// left in a chunk, they move to less memory, or stay if there is none to be had.
     pub fn remove(&mut self, name: &[u8]) -> Option<Key>
         ensures found { result ≡ map.get self.old name.now }
         ensures removed { self.new ≡ map.remove self.old name.now }
@@ -99,7 +99,7 @@ impl Index {
         self.entries.remove(name)
     }
 
-    /// The entries with names above the bound, or all where there is no bound, in byte order of names: what
+    /// The entries with names above the bound, or all if there is no bound, in byte order of names: what
     /// `next_after` gives when it is asked again and again, each time above the name before. The bound
     /// may be any bytes.
     pub fn above(&self, bound: Option<&[u8]>) -> Listed<'_>
@@ -108,8 +108,8 @@ impl Index {
         self.entries.above(bound)
     }
 
-    /// The entry with the least name above the bound, or with the least of all where there is no
-    /// bound. The bound may be any bytes. None where no name is above it (`kernfs_dir_next_pos`).
+    /// The entry with the least name above the bound, or with the least of all if there is no
+    /// bound. The bound may be any bytes. None if no name is above it (`kernfs_dir_next_pos`).
     pub fn next_after(&self, bound: Option<&[u8]>) -> Option<(&Name, Key)>
         ensures found { IfSome result (λ next.
             IsLeastAbove self.now (option_copied bound.entry) next.0.now next.1) }

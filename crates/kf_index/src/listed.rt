@@ -10,7 +10,7 @@ use crate::part::Part;
 use kf_core::Key;
 use std::marker::Model;
 
-/// Entries of an index one after another, each with its name and its key. They stay where they stand, so
+/// Entries of an index one after another, each with its name and its key. They stay where they are, so
 /// nothing is copied. Contracts see the list of them.
 #[derive(Drop)]
 pub struct Listed<'a> {

@@ -8,7 +8,7 @@ use kf_core::{NameBytes, Refusal};
 use std::alloc::{AllocError, Global};
 use std::marker::Model;
 
-/// What is wrong with a name, or None where it is lawful. The length is looked at first:
+/// What is wrong with a name, or None if it is lawful. The length is looked at first:
 /// more than 255 bytes is `NameTooLong`, any other fault `Invalid`. It takes no memory.
 pub fn name_fault(bytes: &[u8]) -> Option<Refusal>
     ensures first { result ≡ name_fault bytes.now }
@@ -43,8 +43,8 @@ impl Model for Name {
 }
 
 impl Name {
-    /// A copy of the bytes, where they are a lawful name. Refuses what `name_fault` finds,
-    /// `NameTooLong` or `Invalid`, then `NoMemory` where the copy wants memory.
+    /// A copy of the bytes, if they are a lawful name. Refuses what `name_fault` finds,
+    /// `NameTooLong` or `Invalid`, then `NoMemory` if the copy needs memory.
     pub fn new(alloc: Global, bytes: &[u8]) -> Result<Name, Refusal>
         ensures made { IfOk result (λ name. name ≡ bytes.now) }
         ensures lawful { IfOk result (λ name. IsLawfulName name) }
@@ -62,7 +62,7 @@ impl Name {
     }
 
     /// A copy of bytes that are known to be a lawful name, without a look at them. It takes memory for more
-    /// than 24 bytes alone, and is refused where there is none.
+    /// than 24 bytes only, and is refused if there is none.
     pub fn of_lawful(alloc: Global, bytes: &[u8]) -> Result<Name, AllocError>
         requires lawful { IsLawfulName bytes.now }
         ensures made { IfOk result (λ name. name ≡ bytes.now) }

@@ -51,7 +51,7 @@ pub(crate) fn insert_into(chunk: &mut Chunk, name: Name, key: Key) -> Result<(),
     Ok(())
 }
 
-/// Takes the entry of this name out of a chunk, and answers its key.
+/// Takes the entry of this name out of a chunk, and returns its key.
 pub(crate) fn remove_from(chunk: &mut Chunk, name: &[u8]) -> Option<Key>
     requires rising { IsRising chunk.old }
     ensures taken { IfSome result (λ key. IsTakenOut chunk.old name.now key chunk.new) }

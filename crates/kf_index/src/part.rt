@@ -8,13 +8,13 @@ use crate::name::Name;
 use kf_core::Key;
 use std::marker::Model;
 
-/// Entries of a chunk one after another, each with its name and its key. They stay where they stand, so
+/// Entries of a chunk one after another, each with its name and its key. They stay where they are, so
 /// nothing is copied. Contracts see the list of them.
 #[derive(Drop)]
 pub(crate) struct Part<'a> {
     /// The place of each, in their order.
     order: &'a [u32],
-    /// An entry at each place, or None where the place is free.
+    /// An entry at each place, or None if the place is free.
     entries: &'a [Option<(Name, Key)>],
 }
 
@@ -30,7 +30,7 @@ impl<'a> Model for Part<'a> {
     ghost invariant = { λ part. AreTaken part.entries.now part.order.now };
 }
 
-/// One of the places in an order. Where there is one place alone, the order is not looked at: a walk waits
+/// One of the places in an order. If there is only one place, the order is not looked at: a walk waits
 /// for one load less in a directory of one name.
 #[inline(always)]
 fn place_at(entries: &[Option<(Name, Key)>], order: &[u32], at: usize) -> usize

@@ -1,4 +1,5 @@
-//! Entries at places of their own, and the order of these places: where one comes or goes, only places move.
+//! Entries at places that each one keeps, and the order of these places: when one comes or goes, only places
+//! move.
 
 ghost use Rattle.std.specs.Prelude.{◌≡◌, ◌<◌, ◌≤◌, ◌+◌, ◌-◌, ◌*◌, ◌^◌, ◌++◌, ◌∷◌, ℕ, List, [], length, max, take, drop, reverse, insert, remove, slice_index_or, vec_capacity, OnOk, ◌≢◌};
 ghost use Rattle.kf_core.specs.declared.key.Key.{Key};
@@ -8,7 +9,7 @@ use crate::name::Name;
 use kf_core::Key;
 use std::alloc::AllocError;
 
-/// Adds a free place behind all others, where there is room for it.
+/// Adds a free place behind all others, if there is room for it.
 pub(crate) fn add_place(entries: &mut Vec<Option<(Name, Key)>>, order: &mut Vec<u32>, len: usize)
     requires kept { AreInOrder entries.old.items order.old.items len }
     requires few { length order.old.items < 2 ^ 32 }
@@ -124,7 +125,7 @@ pub(crate) fn take_at(
     }
 }
 
-/// Gives all memory back, where no entry is left.
+/// Gives all memory back, if no entry is left.
 pub(crate) fn free_when_empty(
     entries: &mut Vec<Option<(Name, Key)>>,
     order: &mut Vec<u32>,
@@ -146,7 +147,7 @@ pub(crate) fn free_when_empty(
     }
 }
 
-/// Puts an entry behind all others, where there is room for it.
+/// Puts an entry behind all others, if there is room for it.
 pub(crate) fn put_last(
     entries: &mut Vec<Option<(Name, Key)>>,
     order: &mut Vec<u32>,
@@ -241,7 +242,7 @@ pub(crate) fn fit(
     Ok(())
 }
 
-/// Gives memory back that goes beyond what so many entries may keep. After a refusal they stay where they
+/// Frees memory beyond what this many entries may keep. After a refusal they stay where they
 /// are.
 pub(crate) fn give_back(
     entries: &mut Vec<Option<(Name, Key)>>,

@@ -17,7 +17,7 @@ pub(crate) fn search(entries: Part<'_>, name: &[u8]) -> Result<(usize, Key), usi
     ensures key { IfOk result (λ found. found.1 ≡ (slice_index_or entries.entry found.0 no_entry).1) }
     ensures absent { IfErr result (λ at. IsGapFor entries.entry name.now at) }
 {
-    // Not by a closure: a loop of our own keeps the name in registers and ends where it is met.
+    // Not by a closure: a loop of our own keeps the name in registers and ends once it is met.
     let mut low = 0;
     let mut high = entries.len();
     while low < high {

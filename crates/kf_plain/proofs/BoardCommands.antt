@@ -46,7 +46,7 @@ module _ (b b' : Plain) (n n' : Nodes) (events : List ℕ) (texts : List (List �
   shown_why leads (Ok x) refused = tt
   shown_why leads (Err refusal) refused = (subst (λ (l : TreeLog). IsWhy (leads l) refusal) (log_shown b n events texts files tokens is whole) refused.0, sym is' ∙ same_shown b n events texts files tokens is whole n' refused.1)
 
-  -- the same, where it was asked under the next key
+  -- the same, if it was asked under the next key
   pub shown_why_next : {X : Type 0} (leads : TreeLog → Option Key → Result X Refusal) {T : Type 0} (next : Option Key) (result : Result T Refusal) → IsNext n.log.tree n.last (hold_count n.callers) next → IfErr result (λ refusal. IsWhy (leads n.log next) refusal × (n' ≡ n)) →
       IfErr result (λ refusal. (o : Option Key) × IsNextKey b o × IsRefusedBy (leads b.log o) b refusal b')
   shown_why_next leads next (Ok x) found refused = tt
@@ -91,7 +91,7 @@ module _ (b b' : Plain) (n n' : Nodes) (events : List ℕ) (texts : List (List �
   shown_activated path (Ok x) done = (done.0, subst (λ (l : TreeLog). activated_key l path ≡ Ok done.0) (log_shown b n events texts files tokens is whole) done.1, commands_shown (Activate done.0 ∷ []) done.2)
   shown_activated path (Err refusal) done = tt
 
-  -- a move, or none where the node is there already
+  -- a move, or none if the node is there already
   moved_or_not : (key into : Key) (name : List ℕ) → n' ≡ moved_nodes n key into name → IsWholeBoard n' events texts files tokens × (b' ≡ with_move b key into name)
   moved_or_not key into name e =
       let after = go (is_there_already n.log.tree key into name) e in

@@ -1,4 +1,5 @@
--- What the board shows of its parts: the next key, the commands, where its causes lead, and holds that came and went.
+-- What the board shows of its parts: the next key, the commands, whether its causes lead, and holds that
+-- came and went.
 use Rattle.std.proofs.Common.{◌≡◌, inl, inr, ℕ, refl, ap, sym, ◌∙◌, subst, Bool, List, [], ◌∷◌}
 use Rattle.std.specs.Prelude.{Option, Result, Err}
 use Rattle.kf_core.specs.declared.key.Key.{Key}

@@ -1,4 +1,4 @@
--- The board keeps a token by slot, and lets it go.
+-- The board keeps a token by slot, and drops it.
 use Rattle.std.proofs.Common.{◌≡◌, ℕ, ◌<◌, refl, ap, sym, ◌∙◌, subst, Bool, true, false, List, [], ◌∷◌, ◌++◌, length, slice_set}
 use Rattle.std.specs.Prelude.{Option, None, Some, slice_get, is_some, Result, Ok, Err}
 use Rattle.std.specs.Option.{option_map, option_and_then, option_map_or, ok_or}
@@ -39,7 +39,7 @@ pub not_a_token : (o : Option BoardToken) → ((t : BoardToken) → o ≡ Some t
 not_a_token None h = refl
 not_a_token (Some t) h = absurd (h t refl)
 
--- what is told of a node, is told of a linked one
+-- what is reported of a node is reported of a linked one
 pub stat_linked : (log seen : TreeLog) (key : Key) (s : Stat) → seen ≡ log → ok_or (option_map (stat_of seen.tree) (record_at seen.tree key)) NoEntry ≡ Ok s → is_linked log.tree key ≡ true
 stat_linked log seen key s same told = subst (λ (l : TreeLog). is_linked l.tree key ≡ true) same (go (record_at seen.tree key) told)
   where

@@ -1,4 +1,5 @@
--- Visits to a node by the caller of an open file: what they leave of the nodes, and what they are to the one caller.
+-- Visits to a node by the caller of an open file: what they leave of the nodes, and what they are to the one
+-- caller.
 use Rattle.std.proofs.Common.{◌≡◌, inl, inr, ℕ, zero, suc, ◌<◌, refl, ap, arith, sym, ◌∙◌, subst, Bool, true, false, List, [], ◌∷◌, ◌++◌, length, slice_set}
 use Rattle.std.specs.Prelude.{Option, None, Some, slice_get, is_some, IsTrue, IsFalse, Result, Ok, Err, IfOk, IfErr, OnErr, not, ◌&&◌, map}
 use Rattle.std.specs.Option.{option_map}
@@ -17,11 +18,11 @@ use Rattle.kf_core.specs.Phases.{is_waiting}
 use Rattle.kf_core.specs.Agrees.{AgreesHidden}
 use Rattle.kf_core.specs.Bare.{BareWorld, IsCaller, is_hidden, is_live as is_live_there}
 use Rattle.kf_core.specs.Steps.{with_phase, with_caller}
-use Rattle.kf_core.specs.Bounded.{BoundedWorld, bounded, Happens, May, holds}
+use Rattle.kf_world.specs.Bounded.{BoundedWorld, bounded, Happens, May, holds}
 use Rattle.kf_core.specs.Calls.{Visit, unvisited, tried}
-use Rattle.kf_core.specs.WorldGuard.{VisitsAlone}
+use Rattle.kf_world.specs.WorldGuard.{VisitsAlone}
 use Rattle.kf_core.proofs.Lists.{slice_get-set_same}
-use Rattle.kf_core.proofs.WorldVisits.{may_enter}
+use Rattle.kf_world.proofs.WorldVisits.{may_enter}
 use Rattle.kf_tree.specs.TreeLogs.{TreeLog}
 use Rattle.kf_core.specs.declared.records.Record.{Record}
 use Rattle.kf_core.specs.Tree.{record_at}
@@ -62,7 +63,7 @@ module _ {Done : Type 0} (w : BoundedWorld) (id : ℕ) (key : Key) (w' : Bounded
   visited idle does (tried None) h = visited_by w id key Turned w' refl h.1
   visited idle does (tried (Some d)) h = visited_by w id key Still w' refl h.1
 
-  -- to the one caller, whom the tree tells what is live
+  -- to the one caller, to which the tree says what is live
   pub to_live : (live : Bool) (idle idle' : Type 0) (does does' : Done → Type 0) (v : Visit Done) → is_live_there w.world key ≡ live → (idle → idle') → ((d : Done) → does d → does' d) → VisitsAlone w id key w' idle does v → VisitsLive live idle' does' v
   to_live live idle idle' does does' unvisited e i d h = i h.1
   to_live live idle idle' does does' (tried None) e i d h = (subst (λ b. IsFalse b) e h.0, i h.2)
@@ -165,7 +166,7 @@ module _ (V : Visit (Unit {0}) → Type 0) (want : Want) (refused : Option Refus
   opens_visit (File mode tag) r = let s = r.file mode tag refl in (tried s.0, s.1)
   opens_visit (Link target) r = (unvisited, (r.link target refl).0)
 
-  -- why an open was refused, where a try gave a call exactly where the node is live
+  -- why an open was refused, if a try gave a call exactly when the node is live
   pub opens_cause : (live : Bool) → ((came : Option (Unit {0})) → V (tried came) → is_some came ≡ live) → (node : Node) → Opens V node want refused → refused ≡ file_cause node want live
   opens_cause live tells Dir r = (r.dir refl).1
   opens_cause live tells (File mode tag) r = let s = r.file mode tag refl in s.2 ∙ ap (λ b. file_cause (File mode tag) want b) (tells s.0 s.1)
@@ -188,7 +189,7 @@ last_set (x ∷ xs) y z = ap (λ ys. x ∷ ys) (last_set xs y z)
 pub pinned_there : (w : BoundedWorld) (id : ℕ) (key : Key) (w' : BoundedWorld) → Happens w (Pin id key) w' → IsCaller w'.world id key Still
 pinned_there w id key w' h = subst (λ v. IsCaller v id key Still) (sym h.steps.2) (subst (λ i. IsCaller (with_caller w.world key) i key Still) (sym h.steps.0) (last_there w.world.callers (record { key = key; phase = Still })))
 
--- ---- an open: a pin, a visit, and where it is refused a release
+-- ---- an open: a pin, a visit, and if it is refused, a release
 
 pub visited_waits : (w : BoundedWorld) (id : ℕ) (key : Key) (w' : BoundedWorld) → Visited w id key w' → Waits w.world.callers id key → Waits w'.world.callers id key
 visited_waits w id key w' v h = go v.callers

@@ -4,7 +4,7 @@ use Rattle.std.specs.Prelude.{Option, None, Some, slice_get, is_some, IsTrue}
 use Rattle.std.proofs.lemmas.Option.{same_Some, slice_get_within}
 use Rattle.std.proofs.lemmas.List.{set-set}
 use Rattle.kf_core.specs.declared.key.Key.{Key}
-use Rattle.kf_core.specs.declared.slot.Marks.{Marks}
+use Rattle.kf_core.specs.declared.slot.NodeFlags.{NodeFlags}
 use Rattle.kf_core.specs.declared.caller.Caller.{Caller}
 use Rattle.kf_core.specs.declared.caller.Phase.{Phase}
 use Rattle.kf_core.specs.declared.caller.Phase.TheVariants.{Still, Drained, Parted, Spent}
@@ -12,7 +12,7 @@ use Rattle.kf_core.specs.declared.event.Event.TheVariants.{Look, Unlink, Part, R
 use Rattle.kf_core.specs.Phases.{may_release}
 use Rattle.kf_core.specs.Marks.{are_doomed}
 use Rattle.kf_core.specs.Bare.{BareWorld, IsCaller, marks}
-use Rattle.kf_core.specs.Bounded.{BoundedWorld, bounded, Happens, May}
+use Rattle.kf_world.specs.Bounded.{BoundedWorld, bounded, Happens, May}
 use Rattle.kf_core.specs.Steps.{with_marks, with_phase, MayLook, MayPart, NoReference}
 use Rattle.kf_tree.proofs.SlotWrites.{marks_written, alone_linked}
 use Rattle.kf_plain.specs.Removals.{IsMarkedDoomed, released, with_callers, taken_out}
@@ -53,10 +53,10 @@ caller_released w w' id c there h = has_released w w' id c.key c.phase there h
 pub caller_may_release : (w : BoundedWorld) (id : ℕ) (c : Caller) → slice_get w.world.callers id ≡ Some c → IsTrue (may_release c.phase) → May w (Release id)
 caller_may_release w id c there may = (_, (c.key, c.phase, there, may, refl))
 
-doomed_linked : (o : Option Marks) → IsMarkedDoomed o → IsTrue (is_some o)
+doomed_linked : (o : Option NodeFlags) → IsMarkedDoomed o → IsTrue (is_some o)
 doomed_linked o h = ap is_some h.1
 
-doomed_doomed : (o : Option Marks) → IsMarkedDoomed o → IsTrue (are_doomed o)
+doomed_doomed : (o : Option NodeFlags) → IsMarkedDoomed o → IsTrue (are_doomed o)
 doomed_doomed o h = ap are_doomed h.1 ∙ h.2
 
 -- one caller takes its node out

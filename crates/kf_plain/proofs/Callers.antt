@@ -5,7 +5,7 @@ use Rattle.kf_core.specs.declared.caller.Phase.{Phase}
 use Rattle.kf_core.specs.declared.caller.Phase.TheVariants.{Still, Turned, Running, Broken, Restored, Drained, Parted, Hiding, Hidden, Spent}
 use Rattle.kf_core.specs.declared.event.Event.TheVariants.{Release}
 use Rattle.kf_core.specs.Phases.{is_waiting, may_release}
-use Rattle.kf_core.specs.Bounded.{BoundedWorld, May}
+use Rattle.kf_world.specs.Bounded.{BoundedWorld, May}
 use Rattle.kf_tree.specs.TreeLogs.{TreeLog}
 use Rattle.kf_plain.specs.Nodes.{Nodes, nodes_of, Waits}
 

@@ -13,7 +13,7 @@ use Rattle.kf_core.specs.declared.command.Command.TheVariants.{Activate, Doom, U
 use Rattle.kf_core.specs.declared.event.Event.TheVariants.{Pin, Release}
 use Rattle.kf_core.specs.Agrees.{AgreesHidden}
 use Rattle.kf_core.specs.Bare.{BareWorld, hides, any_hides, opening}
-use Rattle.kf_core.specs.Bounded.{BoundedWorld, bounded, Happens}
+use Rattle.kf_world.specs.Bounded.{BoundedWorld, bounded, Happens}
 use Rattle.kf_core.specs.Commands.{after, replay, root_alone, activated_record, doomed_record, moved_record, new_record}
 use Rattle.kf_core.specs.Keys.{same_key}
 use Rattle.kf_core.specs.Lawful.{root_record}

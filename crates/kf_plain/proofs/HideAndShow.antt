@@ -1,4 +1,5 @@
--- Hiding a node, and showing it again, by the one caller: what the steps make of the tree and of the callers' world.
+-- Hiding a node, and showing it again, by the one caller: what the steps make of the tree and of the
+-- callers' world.
 use Rattle.std.proofs.Common.{◌≡◌, ◌≢◌, ◌⊎◌, inl, inr, ℕ, ◌<◌, ◌≤◌, refl, ap, sym, ◌∙◌, subst, Bool, true, false, cond, List, [], ◌∷◌, ◌++◌, length, slice_set}
 use Rattle.std.specs.Prelude.{Option, None, Some, slice_get, is_some, IsTrue, IsFalse, ◌&&◌, not}
 use Rattle.std.specs.Option.{option_map, option_map_or}
@@ -6,7 +7,7 @@ use Rattle.std.proofs.lemmas.Bool.Decides.{eqb_tells}
 use Rattle.std.proofs.lemmas.Option.{same_Some, none-some, slice_get_within}
 use Rattle.std.proofs.lemmas.List.{set-set}
 use Rattle.kf_core.specs.declared.key.Key.{Key}
-use Rattle.kf_core.specs.declared.slot.Marks.{Marks}
+use Rattle.kf_core.specs.declared.slot.NodeFlags.{NodeFlags}
 use Rattle.kf_core.specs.declared.slot.SlotState.{SlotState}
 use Rattle.kf_core.specs.declared.caller.Caller.{Caller}
 use Rattle.kf_core.specs.declared.caller.Phase.{Phase}
@@ -19,7 +20,7 @@ use Rattle.kf_core.specs.declared.command.Command.TheVariants.{Hide, Show}
 use Rattle.kf_core.specs.declared.event.Event.TheVariants.{Pin, Release, LookHidden, Hide as HideStep, Show as ShowStep}
 use Rattle.kf_core.specs.Agrees.{AgreesHidden}
 use Rattle.kf_core.specs.Bare.{BareWorld, IsCaller, IsLast, marks, marks_in, any_hides, is_hidden}
-use Rattle.kf_core.specs.Bounded.{BoundedWorld, Happens, May}
+use Rattle.kf_world.specs.Bounded.{BoundedWorld, Happens, May}
 use Rattle.kf_core.specs.Commands.{after}
 use Rattle.kf_core.specs.Keys.{same_key}
 use Rattle.kf_core.specs.Phases.{is_hiding, has_reference, is_waiting}
@@ -43,7 +44,7 @@ use Rattle.kf_plain.proofs.Ties.{Logs, log_after, tied_after}
 
 -- ---- the tree
 
--- a linked key is hidden by its record where a caller hides it
+-- a linked key is hidden by its record exactly when a caller hides it
 pub hidden_agrees : (t : Tree) (w : BareWorld) (key : Key) → AgreesHidden t w → is_linked t key ≡ true → is_hidden w key ≡ hidden_in t key
 hidden_agrees t w key told linked = go (record_at t key) refl linked
   where
@@ -197,13 +198,13 @@ module _ (n : Nodes) (log : TreeLog) (w w1 : BoundedWorld) (id : ℕ) (key : Key
   pub none_hides_there : Safe w.world → NoneHides n.callers key.slot
   none_hides_there safe = subst (λ (m : Nodes). NoneHides m.callers key.slot) is (λ d k phase there hiding same. apart d k phase there hiding same)
     where
-      generation : (s : SlotState) → slice_get w.world.slots key.slot ≡ Some s → (m : Marks) → marks w.world key ≡ Some m → s.generation ≡ key.generation
+      generation : (s : SlotState) → slice_get w.world.slots key.slot ≡ Some s → (m : NodeFlags) → marks w.world key ≡ Some m → s.generation ≡ key.generation
       generation s e m f = elim (eqb_tells s.generation key.generation) [
         | inl y ↦ y.1
         | inr other ↦ absurd (none-some m (sym (ap (λ b. cond b s.marks None) other.0) ∙ sym (ap (λ o. marks_in o key.generation) e) ∙ f))
       ]
 
-      known : (o : Option Record) → record_at log.tree key ≡ o → is_some o ≡ true → (m : Marks) × (marks w.world key ≡ Some m)
+      known : (o : Option Record) → record_at log.tree key ≡ o → is_some o ≡ true → (m : NodeFlags) × (marks w.world key ≡ Some m)
       known None e h = absurd (cc)
       known (Some r) e h = (r.marks, tied.marks key ∙ ap (option_map (λ (x : Record). x.marks)) e)
 

@@ -1,4 +1,4 @@
--- Who holds what: the callers and the open files stay fitted to each other.
+-- Which caller holds what: the callers and the open files stay fitted to each other.
 use Rattle.std.proofs.Common.{◌≡◌, ◌≢◌, ◌⊎◌, inl, inr, ℕ, zero, suc, ◌+◌, refl, ap, arith, sym, ◌∙◌, subst, Bool, true, false, cond, List, [], ◌∷◌, ◌++◌, length, slice_set}
 use Rattle.std.specs.Prelude.{Option, None, Some, slice_get, IsTrue, map, count_by, ◌==◌, ◌&&◌, not}
 use Rattle.std.specs.Option.{option_map}
@@ -58,7 +58,7 @@ phase_in c key phase e = ap (λ (x : Caller). x.phase) e
 on_slot : ℕ → Caller → Bool
 on_slot slot c = (c.key.slot == slot) && not (is_spent c.phase)
 
--- a waiting caller counts on the slot of its key alone, and a spent one on none
+-- a waiting caller counts only on the slot of its key, and a spent one on none
 waiting_counts : (slot : ℕ) (key : Key) (phase : Phase) → is_waiting phase ≡ true → ◌≡◌ {A = ℕ} (cond ((key.slot == slot) && not (is_spent phase)) 1 0) (cond (key.slot == slot) 1 0)
 waiting_counts slot key phase w = let e = waits_holds phase w in rw e (both (key.slot == slot))
   where
@@ -98,7 +98,7 @@ not_the_hider callers id key d k w hides e = clash w.phase w.waits (ap (λ (c : 
     clash : (p : Phase) → is_waiting p ≡ true → p ≡ Hidden → ⊥
     clash p waits is = let x : false ≡ true = ap is_waiting (sym is) ∙ waits in cc
 
--- a token stays as it was where a waiting caller does something else
+-- a token stays as it was if a waiting caller does something else
 hidden_still : (callers : List Caller) (id : ℕ) (key : Key) (c : Caller) (slot : ℕ) (t : BoardToken) → Waits callers id key → IsHeldToken callers slot t → IsHeldToken (slice_set callers id c) slot t
 hidden_still callers id key c slot t w h = record { hides = slice_get-set_other callers id t.hold c (not_the_hider callers id key t.hold t.key w h.hides) ∙ h.hides; in_slot = h.in_slot }
 

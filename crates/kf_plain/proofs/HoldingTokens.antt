@@ -1,4 +1,4 @@
--- Who holds what, where the board takes a token or spends one.
+-- Which caller holds what, when the board takes a token or spends one.
 use Rattle.std.proofs.Common.{◌≡◌, ◌≢◌, inl, inr, ℕ, ◌+◌, ◌<◌, refl, ap, arith, sym, ◌∙◌, subst, Bool, true, false, cond, List, [], ◌∷◌, ◌++◌, length, slice_set}
 use Rattle.std.specs.Prelude.{Option, None, Some, slice_get, count_by, ◌==◌, ◌&&◌, not}
 use Rattle.std.specs.Option.{option_map}

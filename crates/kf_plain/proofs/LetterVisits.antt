@@ -57,7 +57,7 @@ module _ (b : Plain) (n n' : Nodes) (events events' : List ℕ) (texts texts' : 
   pub read_shown : texts' ≡ texts → plain_of n' events' texts' (slice_set files file (Some f')) tokens ≡ with_file b file (Some (record { key = f.key; kept = f'.file.state }))
   read_shown t = visited_shown ∙ ap (λ ts. let v : Plain = record (with_file b file (Some (record { key = f.key; kept = f'.file.state }))) { texts = ts } in v) (t ∙ ap (λ (y : Plain). y.texts) is)
 
-  -- where it keeps what it kept
+  -- if it keeps what it kept
   pub unchanged_shown : f'.file.state ≡ f.file.state → plain_of n' events' texts' (slice_set files file (Some f')) tokens ≡ record b { texts = texts' }
   unchanged_shown e = visited_shown
       ∙ ap (λ (s : FileState). let v : Plain = record (with_file b file (Some (record { key = f.key; kept = s }))) { texts = texts' } in v) e

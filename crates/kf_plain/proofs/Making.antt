@@ -61,7 +61,7 @@ moved_nowhere log seen seen' path dir name key refusal same same' w t =
 
 -- ---- why a command is refused
 
--- what it leads to hangs on this cause alone
+-- what it leads to depends only on this cause
 pub refused_so : {X : Type 0} (cause : Option Refusal) (x : X) (leads : Result X Refusal) (refusal : Refusal) → leads ≡ ok_unless cause x → Refuses cause refusal → IsWhy leads refusal
 refused_so cause x leads refusal e (inl caused) = inl (e ∙ ap (λ c. ok_unless c x) caused)
 refused_so cause x leads refusal e (inr wanting) = inr (wanting.1, (x, e ∙ ap (λ c. ok_unless c x) wanting.0))

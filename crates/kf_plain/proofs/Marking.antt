@@ -5,10 +5,10 @@ use Rattle.std.specs.Option.{option_map}
 use Rattle.std.proofs.lemmas.Option.{same_Some, slice_get-map}
 use Rattle.std.proofs.lemmas.List.{map-set}
 use Rattle.kf_core.specs.declared.key.Key.{Key}
-use Rattle.kf_core.specs.declared.slot.Marks.{Marks}
+use Rattle.kf_core.specs.declared.slot.NodeFlags.{NodeFlags}
 use Rattle.kf_core.specs.declared.slot.SlotState.{SlotState}
 use Rattle.kf_core.specs.Bare.{BareWorld, marks}
-use Rattle.kf_core.specs.Bounded.{BoundedWorld}
+use Rattle.kf_world.specs.Bounded.{BoundedWorld}
 use Rattle.kf_core.specs.Steps.{with_marks}
 use Rattle.kf_tree.specs.SlotMarks.{contains_key, Changed}
 use Rattle.kf_tree.proofs.MarkChanges.{IsMarking}
@@ -26,12 +26,12 @@ not_among (x ∷ xs) (suc i) k d h = elim (keys_tell x k) [
   | inr n ↦ ap (λ b. b || contains_key (take i xs) k) n.0 ∙ not_among xs i k d (λ j l w. h (suc j) (omega (arith, l)) (omega (arith, w)))
 ]
 
--- where none stands twice, the one at a place is not before it
+-- if none is there twice, the one at a place is not before it
 pub not_before : (keys : List Key) (i : ℕ) (d : Key) → AllPairs (λ a b. a ≢ b) keys → i < length keys → contains_key (take i keys) (slice_index_or keys i d) ≡ false
 not_before keys i d differ h = not_among keys i (slice_index_or keys i d) d (λ j l w. differ j i d l h)
 
 -- and keeps its marks until it is reached
-pub still_marked : (f : Bool → Marks → Marks) → IsMarking f → (keys : List Key) (i : ℕ) (d : Key) (old now : BareWorld) (m : Marks) → AllPairs (λ a b. a ≢ b) keys → i < length keys →
+pub still_marked : (f : Bool → NodeFlags → NodeFlags) → IsMarking f → (keys : List Key) (i : ℕ) (d : Key) (old now : BareWorld) (m : NodeFlags) → AllPairs (λ a b. a ≢ b) keys → i < length keys →
     Changed f (take i keys) old.slots now.slots → marks old (slice_index_or keys i d) ≡ Some m → marks now (slice_index_or keys i d) ≡ Some m
 still_marked f marking keys i d old now m differ h changed was =
     changed (slice_index_or keys i d) ∙ ap (λ b. option_map (f b) (marks old (slice_index_or keys i d))) (not_before keys i d differ h)
@@ -43,7 +43,7 @@ set_same (x ∷ xs) zero v h = ap (λ y. y ∷ xs) (sym (same_Some x v h))
 set_same (x ∷ xs) (suc i) v h = ap (λ ys. x ∷ ys) (set_same xs i v h)
 
 -- new marks of a linked node leave the last generations as they were
-pub last_marked : (w : BareWorld) (key : Key) (m : Marks) (n : Option Marks) → marks w key ≡ Some m → last_of (with_marks w key n).slots ≡ last_of w.slots
+pub last_marked : (w : BareWorld) (key : Key) (m : NodeFlags) (n : Option NodeFlags) → marks w key ≡ Some m → last_of (with_marks w key n).slots ≡ last_of w.slots
 last_marked w key m n h =
     map-set (λ (s : SlotState). s.generation) w.slots key.slot _
     ∙ set_same (last_of w.slots) key.slot key.generation
@@ -55,7 +55,7 @@ only_same w = record { last = refl; limit = refl; callers = refl }
 pub only_after : (a b c : BoundedWorld) → OnlyMarks a b → OnlyMarks b c → OnlyMarks a c
 only_after a b c x y = record { last = y.last ∙ x.last; limit = y.limit ∙ x.limit; callers = y.callers ∙ x.callers }
 
-pub only_marked : (a b : BoundedWorld) (key : Key) (m : Marks) (n : Option Marks) → marks a.world key ≡ Some m → b.world ≡ with_marks a.world key n → b.limit ≡ a.limit → OnlyMarks a b
+pub only_marked : (a b : BoundedWorld) (key : Key) (m : NodeFlags) (n : Option NodeFlags) → marks a.world key ≡ Some m → b.world ≡ with_marks a.world key n → b.limit ≡ a.limit → OnlyMarks a b
 only_marked a b key m n h e l = record {
   last = ap (λ (w : BareWorld). last_of w.slots) e ∙ last_marked a.world key m n h;
   limit = l;
@@ -63,6 +63,6 @@ only_marked a b key m n h e l = record {
 }
 
 -- a node has one list of marks
-pub same_mark : (w : BareWorld) (key : Key) (m n : Marks) → marks w key ≡ Some m → marks w key ≡ Some n →
-    with_marks w key (Some (let d : Marks = record { activated = m.activated; doomed = true } in d)) ≡ with_marks w key (Some (let d : Marks = record { activated = n.activated; doomed = true } in d))
-same_mark w key m n h g = ap (λ (x : Marks). with_marks w key (Some (let d : Marks = record { activated = x.activated; doomed = true } in d))) (same_Some m n (sym h ∙ g))
+pub same_mark : (w : BareWorld) (key : Key) (m n : NodeFlags) → marks w key ≡ Some m → marks w key ≡ Some n →
+    with_marks w key (Some (let d : NodeFlags = record { activated = m.activated; doomed = true } in d)) ≡ with_marks w key (Some (let d : NodeFlags = record { activated = n.activated; doomed = true } in d))
+same_mark w key m n h g = ap (λ (x : NodeFlags). with_marks w key (Some (let d : NodeFlags = record { activated = x.activated; doomed = true } in d))) (same_Some m n (sym h ∙ g))

@@ -5,13 +5,13 @@ use Rattle.std.specs.Option.{option_map, option_and_then}
 use Rattle.std.proofs.lemmas.Option.{same_Some, none-some}
 use Rattle.std.proofs.lemmas.List.{map-set}
 use Rattle.kf_core.specs.declared.key.Key.{Key}
-use Rattle.kf_core.specs.declared.slot.Marks.{Marks}
+use Rattle.kf_core.specs.declared.slot.NodeFlags.{NodeFlags}
 use Rattle.kf_core.specs.declared.slot.SlotState.{SlotState}
 use Rattle.kf_core.specs.declared.records.Record.{Record}
 use Rattle.kf_core.specs.declared.command.Command.{Command}
 use Rattle.kf_core.specs.Marks.{live_marks}
 use Rattle.kf_core.specs.Bare.{opening}
-use Rattle.kf_core.specs.Bounded.{BoundedWorld, bounded}
+use Rattle.kf_world.specs.Bounded.{BoundedWorld, bounded}
 use Rattle.kf_core.specs.Keys.{same_key}
 use Rattle.kf_core.specs.Tree.{Tree, with_key, marks_of}
 use Rattle.kf_core.specs.Lawful.{root_record}
@@ -20,11 +20,11 @@ use Rattle.kf_tree.specs.TreeLogs.{TreeLog, IsNew}
 use Rattle.kf_plain.specs.Nodes.{Nodes, nodes_of, last_of, AreTied, new_nodes, root_key}
 use Rattle.kf_core.proofs.Opened.{same_opening, length_opening}
 
-live_only : (start : ℕ) (key : Key) (m : Marks) → option_map (λ (r : Record). r.marks) (with_key key (Some (root_record (root_key start)))) ≡ Some m → m.doomed ≡ false
+live_only : (start : ℕ) (key : Key) (m : NodeFlags) → option_map (λ (r : Record). r.marks) (with_key key (Some (root_record (root_key start)))) ≡ Some m → m.doomed ≡ false
 live_only start key m h = go (same_key (root_key start) key) h
   where
     go : (b : Bool) → option_map (λ (r : Record). r.marks) (cond b (Some (root_record (root_key start))) None) ≡ Some m → m.doomed ≡ false
-    go true e = ap (λ (x : Marks). x.doomed) (sym (same_Some live_marks m e))
+    go true e = ap (λ (x : NodeFlags). x.doomed) (sym (same_Some live_marks m e))
     go false e = absurd (none-some m e)
 
 empty_tree : (slot n : ℕ) (key : Key) → option_map (λ (r : Record). r.marks) (option_and_then (with_key key) (slice_get (replicate n (let o : Option Record = None in o)) slot)) ≡ None
@@ -32,7 +32,7 @@ empty_tree slot zero key = refl
 empty_tree zero (suc n) key = refl
 empty_tree (suc slot) (suc n) key = empty_tree slot n key
 
-undoomed_opening : (count start : ℕ) (key : Key) (m : Marks) → marks_of (root_alone count (root_key start)) key ≡ Some m → m.doomed ≡ false
+undoomed_opening : (count start : ℕ) (key : Key) (m : NodeFlags) → marks_of (root_alone count (root_key start)) key ≡ Some m → m.doomed ≡ false
 undoomed_opening zero start key m h = absurd (none-some m h)
 undoomed_opening (suc n) start key m h = elim key.slot as (λ s. option_map (λ (r : Record). r.marks) (option_and_then (with_key key) (slice_get (root_alone (suc n) (root_key start)) s)) ≡ Some m → m.doomed ≡ false) [
   | zero ↦ λ e. live_only start key m e

@@ -13,7 +13,7 @@ use Rattle.kf_core.specs.declared.refusal.Refusal.TheVariants.{NoEntry, NoMemory
 use Rattle.kf_core.specs.declared.event.Event.TheVariants.{Pin}
 use Rattle.kf_core.specs.Phases.{may_release}
 use Rattle.kf_core.specs.Bare.{BareWorld, marks, is_linked}
-use Rattle.kf_core.specs.Bounded.{BoundedWorld, bounded, Happens, PinRefused, holds}
+use Rattle.kf_world.specs.Bounded.{BoundedWorld, bounded, Happens, PinRefused, holds}
 use Rattle.kf_core.specs.Steps.{with_caller}
 use Rattle.kf_tree.proofs.SlotWrites.{alone_linked}
 use Rattle.kf_plain.specs.Nodes.{hold_count, holds_slot, spent_on}
@@ -48,7 +48,7 @@ other_holds cs keys slot differ =
           | inr s ↦ ap (λ b. b && true) s.0
         ])
 
--- the first so many of the nodes are held
+-- the first this many of the nodes are held
 pub record ArePinned (w0 w : BoundedWorld) (keys : List Key) (first n : ℕ) : Type 0 where
   pub held : w ≡ with_callers w0 (w0.world.callers ++ map still_on (take n keys))
   pub number : first ≡ length w0.world.callers

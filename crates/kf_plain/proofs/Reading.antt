@@ -1,4 +1,4 @@
--- What a read tells the one caller.
+-- What a read returns to the one caller.
 use Rattle.std.proofs.Common.{◌≡◌, inl, inr, ℕ, zero, suc, ◌+◌, ◌<◌, ◌≤◌, refl, ap, arith, sym, ◌∙◌, subst, true, false, List, [], ◌∷◌, ◌++◌, length, take, drop}
 use Rattle.std.specs.Prelude.{Option, None, Some, Result, Ok, Err}
 use Rattle.std.proofs.lemmas.List.{length-take}
@@ -46,7 +46,7 @@ take_all zero (x ∷ xs) h = absurd (omega (arith, h))
 take_all (suc n) [] h = refl
 take_all (suc n) (x ∷ xs) h = ap (λ ys. x ∷ ys) (take_all n xs (omega (arith, h)))
 
--- no more is read than is buffered
+-- at most what is buffered is read
 text_in_short : (t : Option (List ℕ)) → IsShort t → length (unwrap_or t []) ≤ 4095
 text_in_short None h = omega arith
 text_in_short (Some text) h = h
@@ -58,7 +58,7 @@ slice_fits state offset most bytes short is =
     let all = ap length is in
     omega (arith, all, cut, rest)
 
--- a read, told otherwise
+-- a read, in other words
 module _ (V V' : Visit ShowResult → Type 0) (to : (v : Visit ShowResult) → V v → V' v) (A A' : Result (List ℕ) FileError → Type 0) (tells : (a : Result (List ℕ) FileError) → A a → A' a) (state : FileState) (offset most : ℕ) (state' : FileState) where
   pub reads_as : Reads V A state offset most state' → Reads V' A' state offset most state'
   reads_as r = record {

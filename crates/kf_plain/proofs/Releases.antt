@@ -5,7 +5,7 @@ use Rattle.std.proofs.lemmas.List.{length-take-le, length-drop}
 use Rattle.kf_core.specs.declared.caller.Caller.{Caller}
 use Rattle.kf_core.specs.declared.event.Event.TheVariants.{Release}
 use Rattle.kf_core.specs.Phases.{may_release}
-use Rattle.kf_core.specs.Bounded.{BoundedWorld, Happens, May}
+use Rattle.kf_world.specs.Bounded.{BoundedWorld, Happens, May}
 use Rattle.kf_plain.specs.Removals.{released, with_callers}
 use Rattle.kf_plain.proofs.Rows.{partly, partly_at, partly_more}
 use Rattle.kf_plain.proofs.CallerSteps.{caller_released, caller_may_release}

@@ -7,7 +7,7 @@ use Rattle.std.proofs.lemmas.Bool.{lt-ltb, le-ltb}
 use Rattle.std.proofs.lemmas.List.{length-map, get_or_default}
 use Rattle.std.proofs.lemmas.List.Folds.{list_any_none, list_any_at}
 use Rattle.kf_core.specs.declared.key.Key.{Key}
-use Rattle.kf_core.specs.declared.slot.Marks.{Marks}
+use Rattle.kf_core.specs.declared.slot.NodeFlags.{NodeFlags}
 use Rattle.kf_core.specs.declared.slot.SlotState.{SlotState}
 use Rattle.kf_core.specs.declared.records.Record.{Record}
 use Rattle.kf_core.specs.declared.caller.Caller.{Caller}
@@ -20,7 +20,7 @@ use Rattle.kf_core.specs.Phases.{has_reference}
 use Rattle.kf_core.specs.PostOrder.{IsPostOrder}
 use Rattle.kf_core.specs.Refusals.{unless, first_cause}
 use Rattle.kf_core.specs.Bare.{marks}
-use Rattle.kf_core.specs.Bounded.{BoundedWorld}
+use Rattle.kf_world.specs.Bounded.{BoundedWorld}
 use Rattle.kf_core.specs.Tree.{Tree, record_at, is_linked, in_subtree, IsIn}
 use Rattle.kf_core.specs.Commands.{after, replay}
 use Rattle.kf_tree.specs.Causes.{Refuses, linked_cause, doom_cause}
@@ -101,7 +101,7 @@ module _ (s : TreeLog) (w : BoundedWorld) (key : Key) (keys : List Key) (tied : 
   pub all_different : (ks : List Key) → ks ≡ keys → AllPairs (λ a b. a ≢ b) ks
   all_different ks e = subst (λ l. AllPairs (λ a b. a ≢ b) l) (sym e) (different s.tree s.root tied.kept.lawful key keys p)
 
-  marked : (o : Option Record) → is_some o ≡ true → (m : Marks) × (option_map (λ (r : Record). r.marks) o ≡ Some m)
+  marked : (o : Option Record) → is_some o ≡ true → (m : NodeFlags) × (option_map (λ (r : Record). r.marks) o ≡ Some m)
   marked None h = absurd (cc)
   marked (Some r) h = (r.marks, refl)
 
@@ -163,12 +163,12 @@ module _ (s : TreeLog) (w : BoundedWorld) (key : Key) (keys : List Key) (tied : 
       wide = sym (length-map w3.world.slots (λ (x : SlotState). x.generation)) ∙ ap length last_now ∙ length-map w.world.slots (λ (x : SlotState). x.generation) ∙ tied.slots
           ∙ sym (ap (λ (l : TreeLog). length l.tree) log ∙ length_replay s1.tree (map Unlink keys) ∙ ap length accepted.changed ∙ length_after s.tree (Doom key))
 
-      none_doomed : (k : Key) (m : Marks) → marks w3.world k ≡ Some m → m.doomed ≡ false
+      none_doomed : (k : Key) (m : NodeFlags) → marks w3.world k ≡ Some m → m.doomed ≡ false
       none_doomed k m h = go (contains_key keys k) refl (sym (cleared k) ∙ h)
         where
-          kept : (o : Option Marks) → marks w.world k ≡ o → option_map (doomed_if false) o ≡ Some m → m.doomed ≡ false
+          kept : (o : Option NodeFlags) → marks w.world k ≡ o → option_map (doomed_if false) o ≡ Some m → m.doomed ≡ false
           kept None e f = absurd (none-some m f)
-          kept (Some n) e f = ap (λ (x : Marks). x.doomed) (sym (same_Some (doomed_if false n) m f)) ∙ tied.undoomed k n e
+          kept (Some n) e f = ap (λ (x : NodeFlags). x.doomed) (sym (same_Some (doomed_if false n) m f)) ∙ tied.undoomed k n e
 
           go : (b : Bool) → contains_key keys k ≡ b → cond b None (marks w2.world k) ≡ Some m → m.doomed ≡ false
           go true e f = absurd (none-some m f)

@@ -7,12 +7,12 @@ use Rattle.std.proofs.lemmas.List.{length-map}
 use Rattle.std.proofs.lemmas.List.Elements.{filter_passes}
 use Rattle.std.proofs.lemmas.List.Kept.{AllPairs-filter}
 use Rattle.kf_core.specs.declared.key.Key.{Key}
-use Rattle.kf_core.specs.declared.slot.Marks.{Marks}
+use Rattle.kf_core.specs.declared.slot.NodeFlags.{NodeFlags}
 use Rattle.kf_core.specs.declared.slot.SlotState.{SlotState}
 use Rattle.kf_core.specs.declared.command.Command.TheVariants.{Activate}
 use Rattle.kf_core.specs.Marks.{fresh_marks}
 use Rattle.kf_core.specs.Bare.{BareWorld, marks}
-use Rattle.kf_core.specs.Bounded.{BoundedWorld}
+use Rattle.kf_world.specs.Bounded.{BoundedWorld}
 use Rattle.kf_core.specs.Keys.{same_key}
 use Rattle.kf_core.specs.Tree.{Tree, marks_of}
 use Rattle.kf_core.specs.PostOrder.{IsPostOrder}
@@ -25,7 +25,7 @@ use Rattle.kf_core.proofs.Climbs.{keys_tell}
 use Rattle.kf_core.proofs.Different.{different}
 use Rattle.kf_plain.proofs.Ties.{Logs, IsUndoomed, tied_after}
 
-abbrev mark : Bool → Bool → Marks
+abbrev mark : Bool → Bool → NodeFlags
 mark a d = record { activated = a; doomed = d }
 
 and_false : (b : Bool) → (b && false) ≡ false
@@ -63,12 +63,12 @@ same_filtered t keys w new same changed k =
     only_fresh false false true = refl
     only_fresh false false false = refl
 
-    go : (o : Option Marks) → o ≡ marks_of t k → option_map (risen_if (contains_key keys k && is_fresh_marked (marks_of t k))) o ≡ option_map (risen_if (contains_key keys k)) o
+    go : (o : Option NodeFlags) → o ≡ marks_of t k → option_map (risen_if (contains_key keys k && is_fresh_marked (marks_of t k))) o ≡ option_map (risen_if (contains_key keys k)) o
     go None e = refl
     go (Some m) e = ap (λ n. option_map (risen_if (contains_key keys k && is_fresh_marked n)) (Some m)) (sym e)
         ∙ ap (λ b. Some (mark b m.doomed)) (only_fresh (contains_key keys k) m.activated m.doomed)
 
-fresh_is : (o : Option Marks) → is_fresh_marked o ≡ true → o ≡ Some fresh_marks
+fresh_is : (o : Option NodeFlags) → is_fresh_marked o ≡ true → o ≡ Some fresh_marks
 fresh_is None h = absurd (cc)
 fresh_is (Some m) h = ap (λ x. Some x) (go m.activated m.doomed h)
   where
@@ -87,9 +87,9 @@ different_listed log w top keys all tied p e = subst (λ ks. AllPairs (λ a b. a
 undoomed_risen : (keys : List Key) (w w' : BareWorld) → Changed risen_if keys w.slots w'.slots → IsUndoomed w → IsUndoomed w'
 undoomed_risen keys w w' changed none k n h = go (marks w k) refl (sym (changed k) ∙ h)
   where
-    go : (o : Option Marks) → marks w k ≡ o → option_map (risen_if (contains_key keys k)) o ≡ Some n → n.doomed ≡ false
+    go : (o : Option NodeFlags) → marks w k ≡ o → option_map (risen_if (contains_key keys k)) o ≡ Some n → n.doomed ≡ false
     go None e f = absurd (none-some n f)
-    go (Some m) e f = ap (λ (x : Marks). x.doomed) (sym (same_Some (risen_if (contains_key keys k) m) n f)) ∙ none k m e
+    go (Some m) e f = ap (λ (x : NodeFlags). x.doomed) (sym (same_Some (risen_if (contains_key keys k) m) n f)) ∙ none k m e
 
 pub wide_as : (a b : BoundedWorld) → OnlyMarks a b → length b.world.slots ≡ length a.world.slots
 wide_as a b only = sym (length-map b.world.slots (λ (s : SlotState). s.generation)) ∙ ap length only.last ∙ length-map a.world.slots (λ (s : SlotState). s.generation)

@@ -21,7 +21,7 @@ module _ {X : Type 0} where
   slice_get_front (y ∷ ys) (suc n) (suc i) x h = slice_get_front ys n i x h
 
 module _ {X : Type 0} (f : X → X) (front row : List X) where
-  -- the first so many of the row are changed
+  -- the first this many of the row are changed
   abbrev pub partly : ℕ → List X
   partly i = (front ++ map f (take i row)) ++ drop i row
 

@@ -1,4 +1,4 @@
--- A write on the board: what its store answered settles the request.
+-- A write on the board: what its store returned settles the request.
 use Rattle.std.proofs.Common.{◌≡◌, ℕ, Bool, true, false, List, [], ◌∷◌, Option, None, Some, Result, Ok, IsTrue, inl, inr, refl, sym, ap, subst, ◌∙◌}
 use Rattle.kf_core.specs.declared.refusal.Refusal.{Refusal}
 use Rattle.kf_core.specs.declared.refusal.Refusal.TheVariants.{Access, NoDevice}
@@ -67,7 +67,7 @@ written_by b file text reply now opened answer true e leads told writes =
     let (came, visited, from) = writes.stored may in
     written_under b file text reply now opened answer came leads told e visited from
 
--- a write that was told its store's answer
+-- a write that got its store's result
 pub written : (b : Plain) (file : ℕ) (text reply : List ℕ) (now : Plain) (opened : OpenPlainFile) (answer : Result ℕ FileError)
     → known_file b file ≡ Ok opened → reply ≡ count_text answer → Writes (visits StoresOnBoard b opened text now) opened.kept answer → (starved : Bool) × PlainStep b (write_file file text) starved reply now
 written b file text reply now opened answer leads told writes = written_by b file text reply now opened answer opened.kept.want.write refl leads told writes

@@ -6,7 +6,7 @@ use Rattle.std.proofs.lemmas.Option.{none-some, slice_get-get_or, slice_get_with
 use Rattle.std.proofs.lemmas.List.{append-nil, map-append, length-take-le, length-drop, length-map}
 use Rattle.std.proofs.lemmas.List.Folds.{list_any_none}
 use Rattle.kf_core.specs.declared.key.Key.{Key}
-use Rattle.kf_core.specs.declared.slot.Marks.{Marks}
+use Rattle.kf_core.specs.declared.slot.NodeFlags.{NodeFlags}
 use Rattle.kf_core.specs.declared.records.Record.{Record}
 use Rattle.kf_core.specs.declared.caller.Caller.{Caller}
 use Rattle.kf_core.specs.declared.caller.Phase.{Phase}
@@ -20,7 +20,7 @@ use Rattle.kf_core.specs.Marks.{are_doomed}
 use Rattle.kf_core.specs.Phases.{has_reference}
 use Rattle.kf_core.specs.Refusals.{unless, first_cause}
 use Rattle.kf_core.specs.Bare.{IsCaller, marks}
-use Rattle.kf_core.specs.Bounded.{BoundedWorld}
+use Rattle.kf_world.specs.Bounded.{BoundedWorld}
 use Rattle.kf_core.specs.Steps.{NoReference}
 use Rattle.kf_core.specs.Tree.{Tree, record_at, marks_of, is_linked, IsIn}
 use Rattle.kf_core.specs.Commands.{after, replay}
@@ -94,7 +94,7 @@ none_taken s0 w0 unready kept same idle = record {
   idle = idle;
 }
 
-linked_marked : (t : Tree) (k : Key) (m : Marks) → marks_of t k ≡ Some m → is_linked t k ≡ true
+linked_marked : (t : Tree) (k : Key) (m : NodeFlags) → marks_of t k ≡ Some m → is_linked t k ≡ true
 linked_marked t k m h = go (record_at t k) h
   where
     go : (o : Option Record) → option_map (λ (r : Record). r.marks) o ≡ Some m → is_some o ≡ true

@@ -8,7 +8,7 @@ use Rattle.std.proofs.lemmas.Bool.Decides.{eqb_tells}
 use Rattle.std.proofs.lemmas.Bool.{ltb-true, lt-ltb}
 use Rattle.kf_core.specs.declared.key.Key.{Key}
 use Rattle.kf_core.specs.declared.key.Node.{Node}
-use Rattle.kf_core.specs.declared.slot.Marks.{Marks}
+use Rattle.kf_core.specs.declared.slot.NodeFlags.{NodeFlags}
 use Rattle.kf_core.specs.declared.slot.SlotState.{SlotState}
 use Rattle.kf_core.specs.declared.caller.Caller.{Caller}
 use Rattle.kf_core.specs.declared.caller.Phase.{Phase}
@@ -22,7 +22,7 @@ use Rattle.kf_core.specs.Marks.{fresh_marks, live_marks}
 use Rattle.kf_core.specs.Phases.{is_spent}
 use Rattle.kf_core.specs.Bare.{BareWorld, marks, marks_in}
 use Rattle.kf_core.specs.Steps.{with_marks, MayBeBorn, OnlySpent}
-use Rattle.kf_core.specs.Bounded.{BoundedWorld, IsFree, IsNextKey}
+use Rattle.kf_world.specs.Bounded.{BoundedWorld, IsFree, IsNextKey}
 use Rattle.kf_core.specs.Tree.{Tree, with_key, marks_of}
 use Rattle.kf_core.specs.Commands.{after}
 use Rattle.kf_tree.specs.SlotMarks.{SameMarks}
@@ -53,12 +53,12 @@ vacant_in_world log w slot tied h =
   where
     go : (s : SlotState) → slice_get w.slots slot ≡ Some s → (last : ℕ) × (slice_get w.slots slot ≡ Some (record { generation = last; marks = None }))
     go s e = elim s.marks as (λ m. s.marks ≡ m → (last : ℕ) × (slice_get w.slots slot ≡ Some (record { generation = last; marks = None }))) [
-      | None ↦ λ f. (s.generation, e ∙ ap (λ (m : Option Marks). Some (let st : SlotState = record { generation = s.generation; marks = m } in st)) f)
+      | None ↦ λ f. (s.generation, e ∙ ap (λ (m : Option NodeFlags). Some (let st : SlotState = record { generation = s.generation; marks = m } in st)) f)
       | Some m ↦ λ f. absurd (none-some m (sym (vacant_marks log.tree slot s.generation h) ∙ sym (tied.marks (record { slot = slot; generation = s.generation }))
           ∙ ap (λ o. marks_in o s.generation) e ∙ same_generation s.generation s.marks ∙ f))
     ] refl
       where
-        same_generation : (g : ℕ) (m : Option Marks) → cond (g == g) m None ≡ m
+        same_generation : (g : ℕ) (m : Option NodeFlags) → cond (g == g) m None ≡ m
         same_generation g m = elim (eqb_tells g g) [ inl y ↦ ap (λ b. cond b m None) y.0 | inr n ↦ absurd (n.1 refl) ]
 
 -- and the other way round
@@ -103,7 +103,7 @@ counted_unheld w slot h = λ c key phase there same. hold_spent slot key phase s
 
 -- ---- free slots
 
-last_is : (w : BareWorld) (slot g : ℕ) (m : Option Marks) → slice_get w.slots slot ≡ Some (record { generation = g; marks = m }) → slice_index (last_of w.slots) slot ≡ g
+last_is : (w : BareWorld) (slot g : ℕ) (m : Option NodeFlags) → slice_get w.slots slot ≡ Some (record { generation = g; marks = m }) → slice_index (last_of w.slots) slot ≡ g
 last_is w slot g m h = get_or_from_slice_get (last_of w.slots) slot g 0 (slice_get-map (λ (s : SlotState). s.generation) w.slots slot ∙ ap (option_map (λ (s : SlotState). s.generation)) h)
 
 zero_is : (n : ℕ) → n ≡ 0 → (n == 0) ≡ true
@@ -191,17 +191,17 @@ logs_live log log' key parent name node is_live told e a = subst (λ b. Logs log
 
 -- no linked node is doomed
 abbrev pub IsUndoomed : BareWorld → Type 0
-IsUndoomed w = (key : Key) (m : Marks) → marks w key ≡ Some m → m.doomed ≡ false
+IsUndoomed w = (key : Key) (m : NodeFlags) → marks w key ≡ Some m → m.doomed ≡ false
 
 -- nor after a write of marks that are not doomed
-pub undoomed_written : (w : BareWorld) (key : Key) (m : Marks) → IsAlone w.slots key → m.doomed ≡ false → IsUndoomed w → IsUndoomed (with_marks w key (Some m))
+pub undoomed_written : (w : BareWorld) (key : Key) (m : NodeFlags) → IsAlone w.slots key → m.doomed ≡ false → IsUndoomed w → IsUndoomed (with_marks w key (Some m))
 undoomed_written w key m alone fine none k n h = go (same_key key k) (sym (marks_written w.slots key k (Some m) alone) ∙ h)
   where
     go : (b : Bool) → cond b (Some m) (marks w k) ≡ Some n → n.doomed ≡ false
-    go true e = ap (λ (x : Marks). x.doomed) (sym (same_Some m n e)) ∙ fine
+    go true e = ap (λ (x : NodeFlags). x.doomed) (sym (same_Some m n e)) ∙ fine
     go false e = none k n e
 
--- both stay tied where the world has the marks of the new tree
+-- both stay tied if the world has the marks of the new tree
 pub tied_after : (log log' : TreeLog) (w w' : BareWorld) (c : Command) → AreTied log w → Logs log log' c → length w'.slots ≡ length w.slots → SameMarks w'.slots (after log.tree c) → IsUndoomed w' → AreTied log' w'
 tied_after log log' w w' c tied a wide same none = record {
   kept = a.kept;
@@ -258,7 +258,8 @@ tied_renamed log log' w key dir name tied a = tied_after log log' w w (Rename ke
 pub seen_next : (n : Nodes) (log : TreeLog) (w : BoundedWorld) (next : Option Key) (key : Key) → nodes_of log w ≡ n → IsNext n.log.tree n.last (hold_count n.callers) next → next ≡ Some key → AreTied log w.world → MayBeBorn w.world key
 seen_next n log w next key is h e tied = may_be_born log w.world key tied (next_is log.tree (last_of w.world.slots) (hold_count w.world.callers) next key (subst (λ (m : Nodes). IsNext m.log.tree m.last (hold_count m.callers) next) (sym is) h) e)
 
--- the value after a command, where the world has these last generations, and the limit and the callers that it had
+-- the value after a command, if the world has these last generations, and the limit and the callers that it
+-- had
 pub seen_after : (n : Nodes) (log log' : TreeLog) (w w' : BoundedWorld) (cs : List Command) (last : List ℕ) → nodes_of log w ≡ n → log' ≡ logged log cs → last_of w'.world.slots ≡ last → w'.limit ≡ w.limit → w'.world.callers ≡ w.world.callers →
     nodes_of log' w' ≡ record { log = logged n.log cs; last = last; limit = n.limit; callers = n.callers }
 seen_after n log log' w w' cs last is l g m cs' =

@@ -1,4 +1,4 @@
--- The parts of a plain board stay fitted to each other where one or two of them change.
+-- The parts of a plain board stay fitted to each other when one or two of them change.
 use Rattle.std.proofs.Common.{◌≡◌, ℕ, ◌≤◌, ap, sym, ◌∙◌, subst, List, length, slice_set}
 use Rattle.std.specs.Prelude.{Option}
 use Rattle.std.proofs.Math.Path.{fun_ext}

@@ -3,7 +3,7 @@ use Rattle.std.specs.Prelude.{◌≡◌, ◌≢◌, ◌⊎◌, ℕ, ◌+◌, ◌
 use Rattle.std.specs.List.{list_any}
 use Rattle.kf_core.specs.declared.key.Key.{Key}
 use Rattle.kf_core.specs.declared.slot.SlotState.{SlotState}
-use Rattle.kf_core.specs.declared.slot.Marks.{Marks}
+use Rattle.kf_core.specs.declared.slot.NodeFlags.{NodeFlags}
 use Rattle.kf_core.specs.declared.caller.Phase.{Phase}
 use Rattle.kf_core.specs.declared.caller.Phase.TheVariants.{Hidden, Spent}
 use Rattle.kf_core.specs.declared.caller.Caller.{Caller}
@@ -11,7 +11,7 @@ use Rattle.kf_core.specs.declared.records.Record.{Record}
 use Rattle.kf_core.specs.declared.command.Command.{Command}
 use Rattle.kf_core.specs.Phases.{is_waiting, has_reference, is_hiding, is_spent}
 use Rattle.kf_core.specs.Bare.{BareWorld, marks}
-use Rattle.kf_core.specs.Bounded.{BoundedWorld}
+use Rattle.kf_world.specs.Bounded.{BoundedWorld}
 use Rattle.kf_core.specs.Tree.{Tree, in_subtree}
 use Rattle.kf_core.specs.declared.refusal.Refusal.{Refusal}
 use Rattle.kf_core.specs.declared.refusal.Refusal.TheVariants.{TooManyHolds, NoMemory}
@@ -40,7 +40,7 @@ nodes_of log w =
 pub record AreTied (log : TreeLog) (w : BareWorld) : Type 0 where
   pub kept : IsKept log
   -- between two commands no linked node is doomed: a removal takes out what it dooms
-  pub undoomed : (key : Key) (m : Marks) → marks w key ≡ Some m → m.doomed ≡ false
+  pub undoomed : (key : Key) (m : NodeFlags) → marks w key ≡ Some m → m.doomed ≡ false
   pub marks : SameMarks w.slots log.tree
   pub slots : length w.slots ≡ length log.tree
 
@@ -59,11 +59,11 @@ logged log cs =
 abbrev pub listed : TreeLog → List Command → TreeLog
 listed log cs = record { root = log.root; tree = log.tree; commands = cs; ready = None }
 
--- the root alone, and each slot's last generation is `start`
+-- only the root, and each slot's last generation is `start`
 abbrev pub root_key : ℕ → Key
 root_key start = record { slot = 0; generation = start + 1 }
 
--- the root alone, where each slot has had so many generations, and no caller
+-- only the root, if each slot has had this many generations, and no caller
 abbrev pub new_nodes : ℕ → ℕ → ℕ → Nodes
 new_nodes slots holds start = record {
   log =
@@ -137,7 +137,7 @@ abbrev pub is_free : Tree → List ℕ → (ℕ → ℕ) → ℕ → Bool
 is_free tree last count slot =
     is_vacant (slice_get tree slot) && count slot == 0 && nat_lt (slice_index last slot) (2 ^ 32 - 1)
 
--- the next key of the lowest free slot, the root's left out; none where no slot is free
+-- the next key of the lowest free slot, the root's left out; none if no slot is free
 abbrev pub IsNext : Tree → List ℕ → (ℕ → ℕ) → Option Key → Type 0
 IsNext tree last count None = (slot : ℕ) → 1 ≤ slot → IsFalse (is_free tree last count slot)
 IsNext tree last count (Some key) =

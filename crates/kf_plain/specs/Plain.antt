@@ -23,7 +23,7 @@ pub record Plain : Type 0 where
   pub files : List (Option OpenPlainFile)  -- by the place of its letter in the alphabet
   pub tokens : List (Option Key)  -- by slot, the file that the board hides
 
--- a new board: the root alone, and each slot's last generation is `start`
+-- a new board: only the root, and each slot's last generation is `start`
 abbrev pub new_board : ℕ → ℕ → ℕ → Plain
 new_board slots holds start = record {
   log =
@@ -38,7 +38,7 @@ new_board slots holds start = record {
 
 -- ---- files and holds
 
--- the open file of this letter, where there is one
+-- the open file of this letter, if there is one
 abbrev pub file_at : Plain → ℕ → Option OpenPlainFile
 file_at b file = option_and_then (λ opened. opened) (slice_get b.files file)
 
@@ -47,7 +47,7 @@ abbrev pub is_on : ℕ → Option OpenPlainFile → Bool
 is_on slot None = false
 is_on slot (Some opened) = opened.key.slot == slot
 
--- the file that the board hides in this slot, and alone can show again
+-- the file that the board hides in this slot, and which only the board can show again
 abbrev pub token_at : Plain → ℕ → Option Key
 token_at b slot = option_and_then (λ token. token) (slice_get b.tokens slot)
 

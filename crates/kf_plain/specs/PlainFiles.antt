@@ -35,7 +35,7 @@ open_cause_at log holds limit want key = first_cause (
     ∷ record_cause (λ mode. open_cause mode want (live_in log.tree key)) (record_at log.tree key)
     ∷ [])
 
--- the live node at a path, where it may be opened
+-- the live node at a path, if it may be opened
 abbrev pub opened_node : TreeLog → (ℕ → ℕ) → ℕ → List ℕ → Want → Result Key Refusal
 opened_node log holds limit path want =
     and_then (seen log.tree log.root path) (λ key. ok_unless (open_cause_at log holds limit want key) key)
@@ -89,11 +89,11 @@ abbrev pub ShowsText : Plain → ℕ → ShowResult → Type 0
 ShowsText b slot shown = (shown.number ≡ slice_index b.events slot)
     × (shown.filled ≡ Ok (take 4096 (slice_index_or b.texts slot [])))
 
--- a store puts these bytes in place of the slot's whole text, and answers their number
+-- a store puts these bytes in place of the slot's whole text, and returns their number
 abbrev pub StoresText : Plain → ℕ → List ℕ → Result ℕ Fault → Plain → Type 0
 StoresText b slot bytes answer now = (answer ≡ Ok (length bytes)) × (now ≡ with_text b slot bytes)
 
--- the same, or the fault for want of memory, which changes nothing
+-- the same, or the fault for lack of memory, which changes nothing
 abbrev pub StoresOnBoard : Plain → ℕ → List ℕ → Result ℕ Fault → Plain → Type 0
 StoresOnBoard b slot bytes answer now =
     StoresText b slot bytes answer now ⊎ ((answer ≡ Err (record { number = 12 })) × (now ≡ b))

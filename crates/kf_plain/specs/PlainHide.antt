@@ -23,7 +23,7 @@ hidden_cause log holds limit key = first_cause (
     ∷ hide_cause log.tree key
     ∷ [])
 
--- the file at a path, where it may be hidden
+-- the file at a path, if it may be hidden
 abbrev pub hidden_key : TreeLog → (ℕ → ℕ) → ℕ → List ℕ → Result Key Refusal
 hidden_key log holds limit path = and_then (walked log.tree log.root path) (λ key.
     ok_unless (hidden_cause log holds limit key) key)
@@ -46,7 +46,7 @@ has_token b key = option_map_or (λ token. same_key token key) (token_at b key.s
 abbrev pub shown_cause : Plain → Key → Option Refusal
 shown_cause b key = first_cause (linked_cause b.log.tree key ∷ unless (has_token b key) Invalid ∷ [])
 
--- the node at a path, where the board has its token
+-- the node at a path, if the board has its token
 abbrev pub shown_key : Plain → List ℕ → Result Key Refusal
 shown_key b path = and_then (walked b.log.tree b.log.root path) (λ key. ok_unless (shown_cause b key) key)
 

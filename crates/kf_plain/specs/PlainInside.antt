@@ -45,7 +45,7 @@ plain_of n events texts files tokens = record {
   tokens = plain_tokens tokens;
 }
 
--- at most so many bytes of text are buffered
+-- at most this many bytes of text are buffered
 abbrev pub IsShort : Option (List ℕ) → Type 0
 IsShort None = Unit {0}
 IsShort (Some text) = length text ≤ 4095
@@ -67,7 +67,7 @@ IsTaggedNode slot Dir = Unit {0}
 IsTaggedNode slot (File mode tag) = tag ≡ slot
 IsTaggedNode slot (Link target) = Unit {0}
 
--- the record, where there is one, is tagged with its slot
+-- the record, if there is one, is tagged with its slot
 abbrev pub IsTagged : Option Record → Type 0
 IsTagged None = Unit {0}
 IsTagged (Some r) = IsTaggedNode r.key.slot r.node

@@ -1,4 +1,4 @@
--- What the commands answer that only look.
+-- What the replies are to commands that only look.
 use Rattle.std.specs.Prelude.{ℕ, List, Result}
 use Rattle.std.specs.Option.{option_map, ok_or}
 use Rattle.kf_core.specs.Limits.{most_slots}
@@ -13,7 +13,7 @@ use Rattle.kf_tree.specs.Causes.{list_cause, text_cause}
 use Rattle.kf_plain.specs.Plain.{Plain}
 use Rattle.kf_plain.specs.Settled.{ok_unless}
 
--- what is told of the node at a path
+-- what is reported of the node at a path
 abbrev pub told_stat : Plain → List ℕ → Result Stat Refusal
 told_stat b path = and_then (walked b.log.tree b.log.root path)
     (λ key. ok_or (option_map (stat_of b.log.tree) (record_at b.log.tree key)) NoEntry)

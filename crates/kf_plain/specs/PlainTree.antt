@@ -63,7 +63,7 @@ moved_key log path dir name = and_then (walked log.tree log.root path) (λ key.
     and_then (walked log.tree log.root dir) (λ into.
     ok_unless (rename_cause log.tree log.root key into name) (key, into)))
 
--- the nodes after a move: as they were where the node is there already
+-- the nodes after a move: as they were if the node is there already
 abbrev pub moved_nodes : Nodes → Key → Key → List ℕ → Nodes
 moved_nodes n key into name = if is_there_already n.log.tree key into name then n else record n
     { log = logged n.log (Rename key into name ∷ []) }

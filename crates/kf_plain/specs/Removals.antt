@@ -1,14 +1,14 @@
 -- What the steps of a removal make of the tree, and of the world of callers.
 use Rattle.std.specs.Prelude.{◌≡◌, ◌⊎◌, ℕ, ◌<◌, ◌≤◌, true, false, List, take, length, slice_set, slice_index_or, Contains, Option, Some, None, IsTrue, if◌then◌else◌}
 use Rattle.kf_core.specs.declared.key.Key.{Key}
-use Rattle.kf_core.specs.declared.slot.Marks.{Marks}
+use Rattle.kf_core.specs.declared.slot.NodeFlags.{NodeFlags}
 use Rattle.kf_core.specs.declared.caller.Caller.{Caller}
 use Rattle.kf_core.specs.declared.caller.Phase.TheVariants.{Still, Spent}
 use Rattle.kf_core.specs.declared.records.Record.{Record}
 use Rattle.kf_core.specs.declared.refusal.Refusal.{Refusal}
 use Rattle.kf_core.specs.declared.refusal.Refusal.TheVariants.{NoMemory, TooManyHolds}
 use Rattle.kf_core.specs.Bare.{BareWorld, marks}
-use Rattle.kf_core.specs.Bounded.{BoundedWorld, bounded}
+use Rattle.kf_world.specs.Bounded.{BoundedWorld, bounded}
 use Rattle.kf_core.specs.Steps.{with_marks}
 use Rattle.kf_core.specs.Tree.{Tree, IsIn}
 use Rattle.kf_tree.specs.SlotMarks.{contains_key}
@@ -34,12 +34,12 @@ PinsRefused w keys refusal =
     ⊎ (refusal ≡ NoMemory)
 
 -- a node is linked, and doomed
-abbrev pub IsMarkedDoomed : Option Marks → Type 0
-IsMarkedDoomed found = (m : Marks) × (found ≡ Some m) × (m.doomed ≡ true)
+abbrev pub IsMarkedDoomed : Option NodeFlags → Type 0
+IsMarkedDoomed found = (m : NodeFlags) × (found ≡ Some m) × (m.doomed ≡ true)
 
 -- a node is linked, and not doomed
-abbrev pub IsMarkedUndoomed : Option Marks → Type 0
-IsMarkedUndoomed found = (m : Marks) × (found ≡ Some m) × (m.doomed ≡ false)
+abbrev pub IsMarkedUndoomed : Option NodeFlags → Type 0
+IsMarkedUndoomed found = (m : NodeFlags) × (found ≡ Some m) × (m.doomed ≡ false)
 
 -- each node stands after its children
 abbrev pub AreChildrenFirst : Tree → List Key → Type 0

@@ -5,12 +5,12 @@ use Rattle.kf_core.specs.declared.refusal.Refusal.TheVariants.{NoMemory}
 use Rattle.kf_script.specs.ReplyText.{refusal_text}
 use Rattle.kf_plain.specs.Plain.{Plain}
 
--- this, where there is no cause against it
+-- this, if there is no cause against it
 abbrev pub ok_unless : {X : Type 0} → Option Refusal → X → Result X Refusal
 ok_unless None x = Ok x
 ok_unless (Some refusal) x = Err refusal
 
--- what is done with what the request names; where that is refused, so is the request, and nothing changes
+-- what is done with what the request names; if that is refused, so is the request, and nothing changes
 abbrev pub Settled : {X : Type 0} → Result X Refusal → (X → Type 0) → Plain → List ℕ → Plain → Type 0
 Settled (Ok x) does before reply now = does x
 Settled (Err refusal) does before reply now = (reply ≡ refusal_text refusal) × (now ≡ before)

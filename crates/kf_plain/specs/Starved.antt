@@ -1,4 +1,4 @@
--- What is told where memory is wanting.
+-- The reply when memory is lacking.
 use Rattle.std.specs.Prelude.{ℕ, List}
 use Rattle.kf_core.specs.declared.refusal.Refusal.TheVariants.{NoMemory}
 use Rattle.kf_core.specs.Refusals.{number_of}

@@ -8,7 +8,7 @@ use Rattle.kf_core.specs.Calls.{Visit, unvisited, tried}
 use Rattle.kf_files.specs.declared.contents.Want.{Want}
 use Rattle.kf_files.specs.Files.{open_cause}
 
--- a visit to a node of the one caller: a try gives a call exactly where the node is live
+-- a visit to a node of the one caller: a try gives a call exactly when the node is live
 abbrev pub VisitsLive : {Done : Type 0} → Bool → Type 0 → (Done → Type 0) → Visit Done → Type 0
 VisitsLive live idle does unvisited = idle
 VisitsLive live idle does (tried None) = IsFalse live × idle

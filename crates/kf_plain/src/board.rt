@@ -60,7 +60,7 @@ fn no_files(alloc: Global) -> Result<Vec<Option<BoardFile>>, Refusal>
 }
 
 impl PlainBoard {
-    /// A board with the root alone. `NoMemory` where it could not be had.
+    /// A board with only the root. `NoMemory` if it could not be had.
     pub fn new(alloc: Global, limits: Limits) -> Result<PlainBoard, Refusal>
         ensures made { IfOk result (λ board. board ≡ new_board limits.slots limits.holds 0) }
         ensures refused { IfErr result (λ refusal. refusal ≡ NoMemory) }
@@ -68,7 +68,7 @@ impl PlainBoard {
         PlainBoard::new_at(alloc, limits, 0)
     }
 
-    /// A board with the root alone, whose slots have had `start` generations. `NoMemory` where it could not
+    /// A board with only the root, whose slots have had `start` generations. `NoMemory` if it could not
     /// be had.
     ///
     /// Condition: `start` is at most 2^32 - 2.

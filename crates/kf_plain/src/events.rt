@@ -22,7 +22,7 @@ impl Model for EventTable {
 }
 
 impl EventTable {
-    /// The numbers of so many slots, each 1. `NoMemory` where they could not be had.
+    /// The numbers of this many slots, each 1. `NoMemory` if they could not be had.
     pub fn new(alloc: Global, slots: u32) -> Result<EventTable, Refusal>
         ensures numbers { IfOk result (λ table. table ≡ replicate slots 1) }
         ensures refused { IfErr result (λ refusal. refusal ≡ NoMemory) }
@@ -32,7 +32,7 @@ impl EventTable {
         })
     }
 
-    /// The slot's number now. 0 where there is no such slot.
+    /// The slot's number now. 0 if there is no such slot.
     pub fn at(&self, slot: u32) -> u64
         ensures number { result ≡ slice_index self.now slot }
     {
@@ -42,7 +42,7 @@ impl EventTable {
         }
     }
 
-    /// Raises the slot's number by one (`kernfs_notify`). `NoSpace` where it is 2^64 - 1, and then nothing
+    /// Raises the slot's number by one (`kernfs_notify`). `NoSpace` if it is 2^64 - 1, and then nothing
     /// changes.
     ///
     /// Condition: there is such a slot.

@@ -8,9 +8,10 @@ ghost use Rattle.std.specs.Prelude.{true};
 ghost use Rattle.kf_core.specs.Tree.{is_linked};
 ghost use Rattle.kf_plain.specs.Nodes.{IsNext, PinRefused, Waits, hold_count, new_nodes};
 
-use kf_core::{Key, Limits, Refusal, World};
+use kf_core::{Key, Limits, Refusal};
 use kf_files::Page;
 use kf_tree::State;
+use kf_world::World;
 use std::alloc::Global;
 use std::marker::Model;
 
@@ -46,7 +47,7 @@ impl Model for Nodes {
 }
 
 impl Nodes {
-    /// The root alone, live, and no caller. Each slot's last generation is `start`, and the root's the next.
+    /// Only the root, live, and no caller. Each slot's last generation is `start`, and the root's the next.
     pub fn new_at(alloc: Global, limits: Limits, start: u32) -> Result<Nodes, Refusal>
         requires start { start ≤ 2 ^ 32 - 2 }
         ensures made { IfOk result (λ nodes. nodes ≡ new_nodes limits.slots limits.holds start) }
@@ -79,7 +80,7 @@ impl Nodes {
         self.world.free_key()
     }
 
-    /// A new caller, which holds a linked node. Answers its number.
+    /// A new caller, which holds a linked node. Returns its number.
     /// `NoEntry` (not linked), `TooManyHolds`, `NoMemory`; after a refusal nothing is changed.
     pub fn pin(&mut self, key: Key) -> Result<usize, Refusal>
         requires linked { is_linked self.old.log.tree key ≡ true }

@@ -46,7 +46,7 @@ fn fill(page: &mut Page, text: &[u8])
     }
 }
 
-/// Puts bytes in place of a text: into its own memory where they fit, else into new. After a refusal the
+/// Puts bytes in place of a text: into its own memory if they fit, else into new. After a refusal the
 /// text is as it was.
 fn replace(alloc: Global, text: &mut Vec<u8>, bytes: &[u8]) -> Result<(), AllocError>
     ensures replaced { OnOk result (text.new.items ≡ bytes.now) }
@@ -74,7 +74,7 @@ fn text_in(texts: &mut SlotMap<Vec<u8>>, alloc: Global, slot: usize) -> Vec<u8>
 }
 
 impl TextTable {
-    /// An empty text for each of so many slots.
+    /// An empty text for each of this many slots.
     pub fn new(alloc: Global, slots: u32) -> Result<TextTable, Refusal>
         ensures empty { IfOk result (λ table. table ≡ replicate slots []) }
         ensures refused { IfErr result (λ refusal. refusal ≡ NoMemory) }
@@ -83,7 +83,7 @@ impl TextTable {
         Ok(TextTable { alloc, texts })
     }
 
-    /// A copy of the bytes, taken before anything is changed. `NoMemory` where it could not be had.
+    /// A copy of the bytes, taken before anything is changed. `NoMemory` if it could not be had.
     pub fn copy(&self, bytes: &[u8]) -> Result<Vec<u8>, Refusal>
         ensures same { IfOk result (λ text. text.items ≡ bytes.now) }
         ensures refused { IfErr result (λ refusal. refusal ≡ NoMemory) }
@@ -91,7 +91,7 @@ impl TextTable {
         bytes.to_vec(self.alloc).map_err(|_| Refusal::NoMemory)
     }
 
-    /// The text of a slot. Empty where there is none, and past the last slot.
+    /// The text of a slot. Empty if there is none, and past the last slot.
     fn at(&self, slot: usize) -> &[u8]
         ensures text { result.now ≡ slice_index_or self.now slot [] }
     {

@@ -15,7 +15,7 @@ use Rattle.kf_table.specs.declared.directory.Directory.{Directory}
 use Rattle.kf_table.specs.Directories.{empty_directory, directory_in, without_child, subdirs_at, HasRoomFor}
 use Rattle.kf_table.proofs.Entries.{entry_read, subdirs_read, names_read}
 
--- the box of a slot, where there is one
+-- the box of a slot, if there is one
 abbrev pub box_in : List (Option (Box Directory)) → ℕ → Option (Box Directory)
 box_in boxes slot = option_and_then (λ item. item) (slice_get boxes slot)
 

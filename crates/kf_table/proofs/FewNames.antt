@@ -1,4 +1,4 @@
--- A directory has no more names than there are slots, for no two of its names lead to one slot.
+-- A directory has at most as many names as there are slots, for no two of its names lead to one slot.
 use Rattle.std.proofs.Common.{◌≡◌, ◌≢◌, inl, inr, ℕ, ◌<◌, ◌≤◌, ◌^◌, refl, ap, arith, sym, ◌∙◌, subst, Bool, true, false, List, [], ◌∷◌, length, map}
 use Rattle.std.specs.Prelude.{T, None, Some, slice_get, ◌&&◌, ◌==◌}
 use Rattle.std.specs.Option.{option_and_then, option_map_or}
@@ -62,7 +62,7 @@ find_later e es low name key found = elim (names_tell name e.0) [
   | inr other ↦ rw other.0 found
 ]
 
--- ---- where each pair is an entry of one directory
+-- ---- if each pair is an entry of one directory
 
 -- entries that lead to one slot have one name
 one_name : (t : Tree) (slot : ℕ) (a b : List ℕ) (k l : Key) → IsEntry t slot a k → IsEntry t slot b l → k.slot ≡ l.slot → a ≡ b

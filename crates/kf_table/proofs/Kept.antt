@@ -1,4 +1,4 @@
--- The indexes stay right where a record comes, goes or moves.
+-- The indexes stay right when a record comes, goes or moves.
 use Rattle.std.proofs.Common.{◌≡◌, ◌≢◌, ◌⊎◌, inl, inr, ℕ, ◌+◌, ◌-◌, ◌<◌, refl, ap, arith, sym, ◌∙◌, Bool, true, false, cond, List, length, slice_set, length-set, get_or}
 use Rattle.std.specs.Prelude.{Option, None, Some, slice_get, count_by, ◌&&◌}
 use Rattle.std.specs.Option.{option_and_then}

@@ -81,7 +81,7 @@ module _ (t : Tree) (ds : List Directory) (kept : AreKept t ds) (key dir : Key) 
       | Some p ↦ length-set ds p.slot _
     ]
 
-    -- nothing of the new name is there where the old one is gone
+    -- nothing of the new name is there if the old one is gone
     absent_still : entry_at without_old dir.slot name ≡ None
     absent_still = elim r.parent as (λ o. r.parent ≡ o → entry_at (without_entry o r.name (is_dir r.node) ds) dir.slot name ≡ None) [
       | None ↦ λ e. has_room.absent

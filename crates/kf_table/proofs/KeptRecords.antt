@@ -1,4 +1,4 @@
--- The indexes stay right where a record comes or goes.
+-- The indexes stay right when a record comes or goes.
 use Rattle.std.proofs.Common.{◌≡◌, inl, inr, refl, ap, arith, sym, ◌∙◌, subst, true, List, slice_set, length-set}
 use Rattle.std.specs.Prelude.{Option, None, Some, slice_get, is_some}
 use Rattle.std.specs.Option.{option_and_then, option_map_or}

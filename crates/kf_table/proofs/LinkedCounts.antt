@@ -1,4 +1,4 @@
--- How many slots have a record, where one slot changes.
+-- How many slots have a record, when one slot changes.
 use Rattle.std.proofs.Common.{◌≡◌, ℕ, zero, suc, ◌+◌, ◌<◌, refl, ap, arith, sym, ◌∙◌, Bool, true, false, [], ◌∷◌, length, replicate, cond, slice_set, get_or, Bor}
 use Rattle.std.specs.Prelude.{Option, None, Some, slice_get, count_by, is_some}
 use Rattle.std.specs.Option.{option_map, option_and_then, option_copied}
@@ -61,7 +61,7 @@ module _ (t : Tree) (slot : ℕ) (r : Record) (found : Option (Bor Record)) (wit
   pub as_many : is_some found ≡ true → count_by is_some (slice_set t slot (Some r)) ≡ count_by is_some t
   as_many some = (let d = written t slot (Some r) true within (seen t slot true found known some) in omega (arith, d))
 
-  -- where there was none, not every slot has one
+  -- if there was none, not every slot has one
   pub not_all : is_some found ≡ false → count_by is_some t < length t
   not_all none =
       (let more = one_more none in

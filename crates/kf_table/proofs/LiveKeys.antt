@@ -1,4 +1,4 @@
--- The keys of live records, slot by slot, where the record of one slot changes.
+-- The keys of live records, slot by slot, when the record of one slot changes.
 use Rattle.std.proofs.Common.{◌≡◌, ℕ, zero, suc, ◌<◌, refl, ap, sym, ◌∙◌, arith, List, [], ◌∷◌, length, map, replicate, slice_set}
 use Rattle.std.specs.Prelude.{Option, None, Some, slice_get}
 use Rattle.std.specs.Option.{option_and_then}

@@ -1,4 +1,4 @@
--- What the indexes tell is what the tree has.
+-- What the indexes say is what the tree has.
 use Rattle.std.proofs.Common.{◌≡◌, ◌⊎◌, inl, inr, ℕ, suc, ◌+◌, ◌<◌, ◌≤◌, refl, ap, arith, sym, ◌∙◌, subst, Bool, true, false, cond, List, [], ◌∷◌, length, get_or, Bor}
 use Rattle.std.specs.Prelude.{Option, None, Some, IfSome, IfNone, slice_get, count_by, fold, is_some, not, ◌&&◌, IsTrue, ◌↔◌, ◌==◌}
 use Rattle.std.specs.List.{find as first, list_any}

@@ -21,7 +21,7 @@ abbrev pub directories_code : Coded (List Directory)
 directories_code = coded_list (code_by (Entries × ℕ) (coded× entries_code coded_ℕ)
     (λ d. (d.index, d.subdirs)) (λ p. record { index = p.0; subdirs = p.1 }) (λ _. refl))
 
--- what a box of a slot holds, and a directory without children where there is none
+-- what a box of a slot holds, and a directory without children if there is none
 abbrev pub directory_in : Option (Box Directory) → Directory
 directory_in None = empty_directory
 directory_in (Some kept) = kept.value
@@ -57,12 +57,12 @@ with_entry slot name key is_subdir directories =
     slice_set directories slot
     (with_child name key is_subdir (slice_index_or directories slot empty_directory))
 
--- what is kept, with the record in its directory, where it has one
+-- what is kept, with the record in its directory, if it has one
 abbrev pub with_record : Record → List Directory → List Directory
 with_record r directories = option_map_or
     (λ parent. with_entry parent.slot r.name r.key (is_dir r.node) directories) r.parent directories
 
--- what is kept, without the child of this name, where there is a parent
+-- what is kept, without the child of this name, if there is a parent
 abbrev pub without_entry : Option Key → List ℕ → Bool → List Directory → List Directory
 without_entry None name is_subdir directories = directories
 without_entry (Some parent) name is_subdir directories =
@@ -82,7 +82,7 @@ pub record HasRoomFor (directories : List Directory) (slot : ℕ) (name : List �
   pub few : subdirs_at directories slot + 1 < 2 ^ 64
   pub few_names : names_at directories slot < 2 ^ 32
 
--- where the record has a parent, its name may enter the index of the parent's slot
+-- if the record has a parent, its name may enter the index of the parent's slot
 abbrev pub MayInsert : List Directory → Record → Type 0
 MayInsert directories r = (parent : Key) → r.parent ≡ Some parent → HasRoomFor directories parent.slot r.name
 

@@ -5,7 +5,7 @@ use Rattle.kf_core.specs.declared.records.Record.{Record}
 use Rattle.kf_core.specs.Marks.{are_live}
 use Rattle.kf_core.specs.Tree.{Tree, record_at}
 
--- a record is live where it is activated, not doomed and not hidden
+-- a record is live if it is activated, not doomed and not hidden
 abbrev pub lives : Record → Bool
 lives r = are_live (Some r.marks) && not r.hidden
 
@@ -18,7 +18,7 @@ lives_in (Some r) = lives r
 abbrev pub live_in : Tree → Key → Bool
 live_in t key = lives_in (record_at t key)
 
--- the key of a slot's record, where that is live
+-- the key of a slot's record, if that is live
 abbrev pub live_key : Option Record → Option Key
 live_key None = None
 live_key (Some r) = if lives r then Some r.key else None

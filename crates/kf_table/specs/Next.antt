@@ -10,7 +10,7 @@ use Rattle.kf_core.specs.Tree.{Tree, IsIn}
 abbrev pub before : List ℕ → List ℕ → Bool
 before a b = is_lt (slice_cmp nat_cmp a b)
 
--- whether the name is above the bound, where there is one
+-- whether the name is above the bound, if there is one
 abbrev pub above : Option (List ℕ) → List ℕ → Bool
 above None name = true
 above (Some bound) name = before bound name

@@ -12,9 +12,9 @@ use kf_index::{Listed, Name};
 use std::alloc::Global;
 use std::marker::Model;
 
-/// The directories by slot. Each is in a box, which is made for its first child and let go with its node: a
-/// slot that never had a child costs no more than the place of a box. Contracts see a directory in each
-/// slot, where there is no box one without children.
+/// The directories by slot. Each is in a box, which is made for its first child and dropped with its node: a
+/// slot that never had a child costs only the place of a box. Contracts see a directory in each
+/// slot; if there is no box, one without children.
 #[derive(Drop)]
 pub(crate) struct Directories {
     boxes: SlotMap<Box<Directory>>,
@@ -33,7 +33,7 @@ impl Model for Directories {
     ghost view = { λ directories. map directory_in directories.boxes };
 }
 
-/// The box of a slot, taken out of its place, or a new one where there is none.
+/// The box of a slot, taken out of its place, or a new one if there is none.
 fn box_of(
     boxes: &mut SlotMap<Box<Directory>>,
     alloc: Global,
@@ -66,7 +66,7 @@ impl Directories {
         })
     }
 
-    /// The directory of a slot. None where it is without children and has no box.
+    /// The directory of a slot. None if it is without children and has no box.
     #[inline(always)]
     pub(crate) fn get(&self, slot: u32) -> Option<&Directory>
         ensures kept { IfSome result (λ kept. kept.now ≡ slice_index_or self.now slot empty_directory) }
@@ -133,7 +133,7 @@ impl Directories {
         }
     }
 
-    /// Lets the box of a slot go, unless its directory has a child.
+    /// Drops the box of a slot, unless its directory has a child.
     pub(crate) fn forget(&mut self, slot: u32)
         ensures unchanged { self.new ≡ self.old }
     {
@@ -144,7 +144,7 @@ impl Directories {
         }
     }
 
-    /// Puts a record's name into the index of its directory, where it has one. After a refusal all is as
+    /// Puts a record's name into the index of its directory, if it has one. After a refusal all is as
     /// before.
     pub(crate) fn insert_record(&mut self, entry: &Record) -> Result<(), Refusal>
         requires lawful { MayInsert self.old entry.now }
@@ -161,7 +161,7 @@ impl Directories {
         }
     }
 
-    /// Takes a record's name out of the index of its directory, where it has one.
+    /// Takes a record's name out of the index of its directory, if it has one.
     pub(crate) fn remove_record(&mut self, entry: Option<&Record>)
         requires counted { MayRemove self.old (option_copied entry) }
         ensures removed { self.new ≡ without_record (option_copied entry.entry) self.old }

@@ -10,7 +10,7 @@ use kf_core::{Key, Refusal};
 use kf_index::{Index, Listed, Name};
 use std::alloc::Global;
 
-/// A directory with so many children is large.
+/// A directory with this many children is large.
 const LARGE: usize = 64;
 
 /// The index of a directory's children, and how many of them are directories.
@@ -46,7 +46,7 @@ impl Directory {
         self.index.len() == 0 && self.subdirs == 0
     }
 
-    /// Whether a search takes longer than a look where a hint leads.
+    /// Whether a search takes longer than a look at the slot of a hint.
     #[inline(always)]
     pub(crate) fn is_large(&self) -> bool {
         self.index.len() >= LARGE

@@ -9,7 +9,7 @@ use std::alloc::Global;
 /// So many places there are at first.
 const FIRST: usize = 256;
 
-/// Where so many slots were reached, or fewer, there are four places for each: one child in ten has its place
+/// If at most this many slots were reached, there are four places for each: one child in ten has its place
 /// taken by another. Where more were, there are two.
 const FEW: usize = 4096;
 
@@ -18,10 +18,10 @@ const SPREAD: u64 = 0x61C8_8646_80B5_83EB;
 
 /// By a hash of a directory's slot and a name, the slot in which a record with them was last put: what the
 /// kernel's table of names is to a walk (`dentry_hashtable`). Nobody believes it: who reads a slot here
-/// looks whether the record there is the one that is asked for, and searches the index where it is not. So a
-/// record that goes leaves its slot here, and no clause tells what is read. It serves large directories: in
+/// looks whether the record there is the one that is asked for, and searches the index if it is not. So a
+/// record that goes leaves its slot here, and no clause says what is read. It serves large directories: in
 /// others a search is as short. It takes no memory until one has a child, and grows with the slots that were
-/// reached; where it may not grow it serves as it is.
+/// reached; if it may not grow it serves as it is.
 #[derive(Drop)]
 pub(crate) struct Hints {
     slots: Vec<u32>,
@@ -52,7 +52,7 @@ fn hash_of(name: &[u8]) -> u64 {
     hash
 }
 
-/// So many places there are to be where so many slots were reached.
+/// How many places there are to be once this many slots were reached.
 fn wanted(slots: usize) -> usize
     requires few { slots ≤ 2 ^ 32 }
     ensures few { result ≤ 2 ^ 33 }
@@ -60,8 +60,8 @@ fn wanted(slots: usize) -> usize
     if slots <= FEW { slots * 4 } else { slots * 2 }
 }
 
-/// Makes twice as many places, or the first ones where there are none. Where their memory is refused all is
-/// as before. A hint goes to both places that come of its own, so it is found as it was.
+/// Makes twice as many places, or the first ones if there are none. If their memory is refused all is
+/// as before. A hint goes to both places that come of its old one, so it is found as it was.
 fn double(slots: &mut Vec<u32>)
     requires few { length slots.old.items ≤ 2 ^ 33 }
 {
@@ -86,8 +86,8 @@ impl Hints {
         }
     }
 
-    /// The place for a name in the directory in this slot. The hash of the name alone comes first, so a walk
-    /// need not wait for the slot to begin it.
+    /// The place for a name in the directory in this slot. The hash of the name comes first, by itself, so a
+    /// walk need not wait for the slot to begin it.
     #[inline(always)]
     fn place(&self, dir: u32, name: &[u8]) -> usize {
         let hash = mixed(hash_of(name), dir as u64);
@@ -103,7 +103,7 @@ impl Hints {
         }
     }
 
-    /// From now on this is the slot that `get` answers for this name, where its directory is a large one.
+    /// From now on `get` returns this slot for this name, if its directory is a large one.
     pub(crate) fn put(&mut self, directories: &Directories, dir: u32, name: &[u8], slot: u32) {
         let Some(kept) = directories.get(dir) else {
             return;
@@ -120,7 +120,7 @@ impl Hints {
         }
     }
 
-    /// The same for a record, where it has a directory.
+    /// The same for a record, if it has a directory.
     pub(crate) fn put_record(&mut self, directories: &Directories, entry: &Record) {
         if let Some(parent) = entry.parent {
             self.put(directories, parent.slot, entry.name.bytes(), entry.key.slot);

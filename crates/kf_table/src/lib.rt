@@ -1,12 +1,12 @@
 //! The table of a tree: its records by slot, and beside each the index of its children.
 //!
-//! - `Table::new` has the root alone. `record`, `child`, `children_above`, `parent` and `subdirs` look;
+//! - `Table::new` has only the root. `record`, `child`, `children_above`, `parent` and `subdirs` look;
 //!   `add`, `take_out`, `move_to` and the marks (`doom`, `hide`, `show`, `activate`) change. Memory follows
 //!   the highest slot.
 //! - Contracts see a list of records by slot, so equal tables are equal values.
 //!
 //! It judges nothing: who changes it shows that the tree is lawful afterwards (`Lawful`: parents are
-//! directories that are there, names are lawful and stand once). `kf_tree` does that and answers with
+//! directories that are there, names are lawful and stand once). `kf_tree` does that and fails with
 //! refusals; begin there.
 #![tactic(auto)]
 

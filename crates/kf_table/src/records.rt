@@ -37,7 +37,7 @@ impl Model for Records {
         × (records.linked ≡ count_by is_some records.slots) };
 }
 
-/// The key of a slot's record, where that is live.
+/// The key of a slot's record, if that is live.
 fn live_key(entry: Option<&Record>) -> Option<Key>
     ensures known { result ≡ live_key (option_copied entry.entry) }
 {

@@ -16,7 +16,7 @@ use crate::children::{is_child, is_directory_record};
 use crate::directories::Directories;
 use crate::hints::Hints;
 use crate::records::Records;
-use kf_core::{Key, Marks, NameBytes, Node, Record, Refusal};
+use kf_core::{Key, NameBytes, Node, NodeFlags, Record, Refusal};
 use kf_index::Listed;
 use std::alloc::Global;
 use std::marker::Model;
@@ -43,7 +43,7 @@ impl Model for Table {
 }
 
 impl Table {
-    /// The root alone, and so many slots.
+    /// Only the root, and this many slots.
     pub fn new(alloc: Global, slots: u32, root: Key) -> Result<Table, Refusal>
         requires in_table { root.slot < slots }
         ensures made { IfOk result (λ table. table ≡ root_alone slots root) }
@@ -53,7 +53,7 @@ impl Table {
         let top = Record {
             key: root,
             parent: None,
-            marks: Marks {
+            marks: NodeFlags {
                 activated: true,
                 doomed: false,
             },
@@ -103,7 +103,7 @@ impl Table {
         }
     }
 
-    /// The record of a key, where it is linked.
+    /// The record of a key, if it is linked.
     #[inline(always)]
     pub fn record(&self, key: Key) -> Option<&Record>
         ensures known { option_copied result ≡ record_at self.now key }
@@ -161,7 +161,7 @@ impl Table {
         Some(found)
     }
 
-    /// The record with this name in a directory, and its key, where its hint leads to it.
+    /// The record with this name in a directory, and its key, if its hint leads to it.
     #[inline(always)]
     fn hinted(&self, dir: Key, name: &[u8]) -> Option<(Key, &Record)>
         requires lawful { (root : Key) × Lawful self.now root }
@@ -201,7 +201,7 @@ impl Table {
         }
     }
 
-    /// The names and keys of the children above the bound, or of all where there is no bound, in byte order
+    /// The names and keys of the children above the bound, or of all if there is no bound, in byte order
     /// of names.
     pub fn children_above(&self, dir: Key, bound: Option<&[u8]>) -> Listed<'_>
         requires lawful { (root : Key) × Lawful self.now root }
@@ -268,7 +268,7 @@ impl Table {
         !found.marks.doomed
     }
 
-    /// Dooms the record in a slot, and tells whether it was not doomed before.
+    /// Dooms the record in a slot, and returns whether it was not doomed before.
     pub fn doom(&mut self, slot: u32) -> bool
         ensures changed { self.new ≡ with_changed_slot doomed_record self.old slot }
         ensures newly { result ≡ is_undoomed (slice_get self.old slot) }

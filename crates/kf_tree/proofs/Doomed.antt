@@ -49,7 +49,7 @@ module _ (g : Record → Record) (same : (r : Record) → (g r).marks.doomed ≡
   pub doomed_mapped : (t : Tree) → doomed_count (map (option_map g) t) ≡ doomed_count t
   doomed_mapped t = doomed_on 0 t
 
--- dooming the record of one slot counts it, where it was not doomed
+-- dooming the record of one slot counts it, if it was not doomed
 pub doomed_changed : (t : Tree) (slot : ℕ) → doomed_count (with_changed_slot doomed_record t slot) ≡ doomed_count t + cond (is_undoomed (slice_get t slot)) 1 0
 doomed_changed t slot = go (slice_get t slot) refl
   where
@@ -67,7 +67,7 @@ doomed_changed t slot = go (slice_get t slot) refl
           | false ↦ λ e. omega (arith, e)
         ] d)
 
--- dooming the records of some keys counts no more than are not doomed before
+-- dooming the records of some keys counts at most as many as are not doomed before
 pub doomed_at_most : (keys : List Key) (t : Tree) → doomed_count (with_changed_slots doomed_record t keys) ≤ doomed_count t + undoomed_count t keys
 doomed_at_most [] t = omega arith
 doomed_at_most (key ∷ keys) t =

@@ -25,7 +25,7 @@ list_same [] (y ∷ ys) h = absurd (none-some y (h 0))
 list_same (x ∷ xs) [] h = absurd (none-some x (sym (h 0)))
 list_same (x ∷ xs) (y ∷ ys) h = (let tail = list_same xs ys (λ j. h (suc j)) in ap (λ z. z ∷ xs) (same_Some x y (h 0)) ∙ ap (λ zs. y ∷ zs) tail)
 
--- the key is in the list, or no key of the list has this slot, where each key with the slot is that key
+-- the key is in the list, or no key of the list has this slot, if each key with the slot is that key
 slot_listed : (keys : List Key) (j : ℕ) → ((k : Key) × Contains keys k × (k.slot ≡ j)) ⊎ ((k : Key) → Contains keys k → k.slot ≢ j)
 slot_listed [] j = inr (λ k h e. omega (arith, h.1))
 slot_listed (x ∷ xs) j = elim (eqb_tells x.slot j) [

@@ -171,7 +171,7 @@ listing_whole t root dir l after bound limit names none f = record {
       inl (f.all name h (ap (above bound) (sym r.4) ∙ none r.0 r.2 r.3)));
 }
 
--- what is listed when so many children are left
+-- what is listed when this many children are left
 pub record IsListedSoFar (t : Tree) (dir : Key) (after : Option (List ℕ)) (limit : ℕ) (names : List (List ℕ)) (later : List (List ℕ × Key)) : Type 0 where
   pub bound : Option (List ℕ)
   pub so_far : IsListedTo t dir after bound limit names
@@ -197,7 +197,7 @@ pub listed_all : (t : Tree) (root dir : Key) → Lawful t root → (after : Opti
 unfolding AreNext
 listed_all t root dir l after limit names f = listing_whole t root dir l after f.bound limit names f.left f.so_far
 
--- a live child comes next, where one more may come
+-- a live child comes next, if one more may come
 pub live_next : (t : Tree) (limit less : ℕ) (entry : List ℕ × Key) (later : List (List ℕ × Key)) → limit ≡ less + 1 → live_in t entry.1 ≡ true
     → take limit (live_names t (entry ∷ later)) ≡ entry.0 ∷ take less (live_names t later)
 unfolding live_names

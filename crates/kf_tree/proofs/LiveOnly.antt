@@ -59,7 +59,7 @@ pub root_in : (live_only : Bool) (t : Tree) (root : Key) → Lawful t root → I
 root_in false t root l = l.rooted
 root_in true t root l = in_shown true t (root_record root) (root_record root) l.rooted refl
 
--- the record of a key, where it is shown
+-- the record of a key, if it is shown
 pub record_shown : (live_only : Bool) (t : Tree) (k : Key) → record_at (shown live_only t) k ≡ shown_record live_only (record_at t k)
 record_shown false t k = refl
 record_shown true t k = ap (λ o. option_and_then (with_key k) o) (slice_get-map only_live t k.slot) ∙ go (slice_get t k.slot)
@@ -127,7 +127,7 @@ module _ (dir : Key) (test : Record → Bool) where
       zero_suc : (j : ℕ) → zero ≡ suc j → ⊥
       zero_suc j e = omega (arith, e)
 
--- the child of a name, where it is shown
+-- the child of a name, if it is shown
 pub child_shown : (live_only : Bool) (t : Tree) (root dir : Key) (name : List ℕ) → Lawful t root → child (shown live_only t) dir name ≡ shown_record live_only (child t dir name)
 child_shown false t root dir name l = refl
 child_shown true t root dir name l = first_live dir (λ (r : Record). bytes_eq r.name name) t (λ i j r s e f p q.

@@ -3,7 +3,7 @@ use Rattle.std.proofs.Common.{◌≡◌, inl, inr, refl, ap, sym, ◌∙◌, sub
 use Rattle.std.specs.Prelude.{Option, None, Some, is_some, ◌||◌, ◌&&◌, not}
 use Rattle.std.specs.Option.{option_map}
 use Rattle.kf_core.specs.declared.key.Key.{Key}
-use Rattle.kf_core.specs.declared.slot.Marks.{Marks}
+use Rattle.kf_core.specs.declared.slot.NodeFlags.{NodeFlags}
 use Rattle.kf_core.specs.declared.slot.SlotState.{SlotState}
 use Rattle.kf_core.specs.Keys.{same_key}
 use Rattle.kf_core.proofs.Climbs.{keys_tell}
@@ -24,9 +24,9 @@ contains_more (y ∷ ys) x k = ap (λ b. same_key y k || b) (contains_more ys x 
     go false b c = refl
 
 -- a change that may be made twice, and that may be none
-pub record IsMarking (f : Bool → Marks → Marks) : Type 0 where
-  pub none : (m : Marks) → f false m ≡ m
-  pub twice : (a b : Bool) (m : Marks) → f b (f a m) ≡ f (a || b) m
+pub record IsMarking (f : Bool → NodeFlags → NodeFlags) : Type 0 where
+  pub none : (m : NodeFlags) → f false m ≡ m
+  pub twice : (a b : Bool) (m : NodeFlags) → f b (f a m) ≡ f (a || b) m
 
 pub doomed_marking : IsMarking doomed_if
 doomed_marking = record { none = λ m. refl; twice = λ a b m. ap (λ (c : Bool). record { activated = m.activated; doomed = c }) (go a b m.doomed) }
@@ -49,11 +49,11 @@ risen_marking = record { none = λ m. refl; twice = λ a b m. ap (λ (c : Bool).
     go false true false c = refl
     go false false d c = refl
 
-module _ (f : Bool → Marks → Marks) (marking : IsMarking f) where
+module _ (f : Bool → NodeFlags → NodeFlags) (marking : IsMarking f) where
   pub changed_none : (slots : List SlotState) → Changed f [] slots slots
   changed_none slots k = go (marks_at slots k)
     where
-      go : (o : Option Marks) → o ≡ option_map (f false) o
+      go : (o : Option NodeFlags) → o ≡ option_map (f false) o
       go None = refl
       go (Some m) = ap (λ x. Some x) (sym (marking.none m))
 
@@ -63,19 +63,19 @@ module _ (f : Bool → Marks → Marks) (marking : IsMarking f) where
       one : (contains_key keys k || contains_key (x ∷ []) k) ≡ (contains_key keys k || same_key x k)
       one = ap (λ b. contains_key keys k || b) (elim (same_key x k) as (λ b. (b || false) ≡ b) [ true ↦ refl | false ↦ refl ])
 
-      go : (o : Option Marks) → option_map (f (contains_key (x ∷ []) k)) (option_map (f (contains_key keys k)) o) ≡ option_map (f (contains_key keys k || contains_key (x ∷ []) k)) o
+      go : (o : Option NodeFlags) → option_map (f (contains_key (x ∷ []) k)) (option_map (f (contains_key keys k)) o) ≡ option_map (f (contains_key keys k || contains_key (x ∷ []) k)) o
       go None = refl
       go (Some m) = ap (λ y. Some y) (marking.twice (contains_key keys k) (contains_key (x ∷ []) k) m)
 
   pub changed_linked : (keys : List Key) (old new : List SlotState) (k : Key) → Changed f keys old new → is_some (marks_at old k) ≡ true → is_some (marks_at new k) ≡ true
   changed_linked keys old new k h l = ap is_some (h k) ∙ go (marks_at old k) l
     where
-      go : (o : Option Marks) → is_some o ≡ true → is_some (option_map (f (contains_key keys k)) o) ≡ true
+      go : (o : Option NodeFlags) → is_some o ≡ true → is_some (option_map (f (contains_key keys k)) o) ≡ true
       go None e = e
       go (Some m) e = refl
 
   -- one write of the marks that the change makes
-  pub changed_one : (slots : List SlotState) (key : Key) (m : Marks) → marks_at slots key ≡ Some m → Changed f (key ∷ []) slots (written slots key (Some (f true m)))
+  pub changed_one : (slots : List SlotState) (key : Key) (m : NodeFlags) → marks_at slots key ≡ Some m → Changed f (key ∷ []) slots (written slots key (Some (f true m)))
   changed_one slots key m h k = marks_written slots key k (Some (f true m)) (alone_linked slots key m h) ∙ elim (keys_tell key k) [
     | inl e ↦ ap (λ b. cond b (Some (f true m)) (marks_at slots k)) e.0 ∙ sym (ap (λ b. option_map (f (b || false)) (marks_at slots k)) e.0 ∙ ap (option_map (f true)) (subst (λ x. marks_at slots x ≡ Some m) e.1 h))
     | inr n ↦ ap (λ b. cond b (Some (f true m)) (marks_at slots k)) n.0 ∙ sym (ap (λ b. option_map (f (b || false)) (marks_at slots k)) n.0 ∙ sym (changed_none slots k))

@@ -130,7 +130,7 @@ module _ (t : Tree) (root : Key) (l : Lawful t root) (key : Key) where
         ] refl e)
       ] refl
 
-  -- one record hidden or shown, where that leaves the root's
+  -- one record hidden or shown, if that leaves the root's
   pub lawful_hidden : (b : Bool) → cond (same_key root key) (hidden_record b (root_record root)) (root_record root) ≡ root_record root →
       Lawful (change (λ r. same_key r.key key) (hidden_record b) t) root
   lawful_hidden b root_same = lawful_mapped t (where_chosen (λ r. same_key r.key key) (hidden_record b)) (keeps_where (λ r. same_key r.key key) (hidden_record b) (keeps_hidden b)) root l

@@ -1,4 +1,5 @@
--- The way up from a directory to the first one that is over a target, with a second way up from the target beside it.
+-- The way up from a directory to the first one that is over a target, with a second way up from the target
+-- beside it.
 use Rattle.std.proofs.Common.{◌≡◌, ◌≢◌, ◌⊎◌, inl, inr, ℕ, zero, suc, ◌+◌, ◌-◌, ◌<◌, ◌≤◌, refl, ap, arith, sym, ◌∙◌, subst, true, List, [], ◌∷◌, ◌++◌, length, length-append, get_or, append-nil, rules, Option}
 use Rattle.std.specs.Prelude.{None, Some, is_some, IsTrue}
 use Rattle.std.specs.Option.{option_and_then, option_to_list}
@@ -15,11 +16,12 @@ use Rattle.kf_tree.specs.Ways.{IsWayUp}
 use Rattle.kf_tree.proofs.Apart.{sub_self, sub_up}
 use Rattle.kf_tree.proofs.Over.{one_more, parent_linked}
 
--- the key is so many steps below the root
+-- the key is this many steps below the root
 abbrev pub IsDeep : Tree → Key → ℕ → Key → Type 0
 IsDeep t root depth key = ancestor t depth key ≡ Some root
 
--- beside the base is a directory over the target, over which stands all that is over the base and over the target
+-- beside the base is a directory over the target, over which stands all that is over the base and over the
+-- target
 pub record IsBeside (t : Tree) (root target base other : Key) (base_depth other_depth : ℕ) : Type 0 where
   pub linked : IsTrue (is_linked t other)
   pub over : IsOver t root target other
@@ -27,12 +29,12 @@ pub record IsBeside (t : Tree) (root target base other : Key) (base_depth other_
   pub base_deep : IsDeep t root base_depth base
   pub other_deep : IsDeep t root other_depth other
 
--- the current key is so many steps above the key
+-- the current key is this many steps above the key
 pub record IsCounted (t : Tree) (key current : Key) (steps : ℕ) : Type 0 where
   pub linked : IsTrue (is_linked t current)
   pub met : ancestor t steps key ≡ Some current
 
--- the key stands on the way where so many others are above it
+-- the key stands on the way at the place with this many others above it
 abbrev pub StandsAt : List Key → ℕ → Key → Type 0
 StandsAt way depth key = (depth < length way) × ((d : Key) → get_or way (length way - 1 - depth) d ≡ key)
 
@@ -40,12 +42,12 @@ StandsAt way depth key = (depth < length way) × ((d : Key) → get_or way (leng
 abbrev pub IsWayTo : Tree → Key → List Key → ℕ → Type 0
 IsWayTo t key way steps = (length way ≡ steps) × ((i : ℕ) (d : Key) → i < length way → ancestor t i key ≡ Some (get_or way i d))
 
--- a way up before its next key is pushed, or the whole of it where none is left
+-- a way up before its next key is pushed, or the whole of it if none is left
 abbrev pub IsWayBefore : Tree → Key → Key → List Key → Option Key → Type 0
 IsWayBefore t root key way None = IsWayUp t root key way
 IsWayBefore t root key way (Some current) = IsCounted t key current (length way) × IsWayTo t key way (length way)
 
--- at most so many keys of a way up are left
+-- at most this many keys of a way up are left
 abbrev pub still_up : Tree → List Key → Option Key → ℕ
 still_up t way None = 0
 still_up t way (Some _) = length t - length way
@@ -114,7 +116,7 @@ module _ (t : Tree) (root : Key) (l : Lawful t root) where
     other_deep = b.other_deep;
   }
 
-  -- the base is not over the target, where it is no higher up than what is beside it
+  -- the base is not over the target, if it is no higher up than what is beside it
   pub not_over : (target base other : Key) (base_depth other_depth : ℕ) → IsBeside t root target base other base_depth other_depth → IsTrue (is_linked t base) → base ≢ other → other_depth ≤ base_depth → IsOver t root target base → ⊥
   not_over target base other base_depth other_depth b linked n le o =
       n (sym (no_higher base other base_depth other_depth (b.meets base o (self_over base linked)) b.base_deep b.other_deep le))

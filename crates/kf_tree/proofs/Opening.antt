@@ -1,4 +1,4 @@
--- The tree of the root alone is lawful, and a lawful tree with one command more is the replay of its commands.
+-- The tree of only the root is lawful, and a lawful tree with one command more is the replay of its commands.
 use Rattle.std.proofs.Common.{◌≡◌, inl, inr, ℕ, zero, suc, ◌<◌, ◌≤◌, refl, ap, arith, sym, ◌∙◌, subst, true, false, cond, List, [], ◌∷◌, ◌++◌, length, slice_set, replicate}
 use Rattle.std.specs.Prelude.{Option, None, Some, slice_get}
 use Rattle.std.proofs.lemmas.Option.{same_Some, none-some}
@@ -88,7 +88,7 @@ module _ (n : ℕ) (root : Key) (within : root.slot < n) where
     ready = λ key h. absurd (none-some key h);
   }
 
-  -- the root written over so many empty slots
+  -- the root written over this many empty slots
   pub root_written : (empty : Tree) (entry : Record) → empty ≡ replicate n None → entry ≡ root_record root → slice_set empty root.slot (Some entry) ≡ root_alone n root
   root_written empty entry all is = ap (λ (t : Tree). slice_set t root.slot (Some entry)) all ∙ ap (λ (r : Record). slice_set (empty_slots n) root.slot (Some r)) is
 

@@ -15,7 +15,8 @@ use Rattle.kf_core.proofs.Lists.{count_less}
 use Rattle.kf_tree.proofs.PostOrder.{child_below}
 use Rattle.kf_core.proofs.FoundRecords.{known_parent, subtree_to, subtree_from}
 
--- the base is so many steps up from the directory, none of those below is over the target, and the text grew by `../` for each
+-- the base is this many steps up from the directory, none of those below is over the target, and the text
+-- grew by `../` for each
 pub record HasClimbed (t : Tree) (root dir target base : Key) (old new : List ℕ) : Type 0 where
   pub up : ℕ
   pub is_base : ancestor t up dir ≡ Some base

@@ -7,7 +7,7 @@ use Rattle.std.proofs.lemmas.Option.{same_Some}
 use Rattle.std.proofs.lemmas.Slice.Eq.{bytes_eq-Decides}
 use Rattle.kf_core.specs.declared.key.Key.{Key}
 use Rattle.kf_core.specs.declared.records.Record.{Record}
-use Rattle.kf_core.specs.declared.slot.Marks.{Marks}
+use Rattle.kf_core.specs.declared.slot.NodeFlags.{NodeFlags}
 use Rattle.kf_core.specs.declared.refusal.Refusal.{Refusal}
 use Rattle.kf_core.specs.declared.refusal.Refusal.TheVariants.{NoEntry, NotDir, Exists, Invalid}
 use Rattle.kf_core.specs.Refusals.{unless, first_cause}
@@ -27,10 +27,10 @@ use Rattle.kf_table.proofs.ChildTests.{both, key_is}
 use Rattle.kf_tree.proofs.Allowed.{no_first, passed, not_passed, linked_record, dir_node, name_free}
 use Rattle.kf_tree.proofs.Listed.{child_is}
 
-marks_of_live : (m : Marks) → are_live (Some m) ≡ true → m ≡ live_marks
+marks_of_live : (m : NodeFlags) → are_live (Some m) ≡ true → m ≡ live_marks
 marks_of_live m h = go (m.activated) (m.doomed) refl refl h
   where
-    made : Bool → Bool → Marks
+    made : Bool → Bool → NodeFlags
     made a d = record { activated = a; doomed = d }
 
     go : (a d : Bool) → m.activated ≡ a → m.doomed ≡ d → (m.activated && not m.doomed) ≡ true → m ≡ live_marks

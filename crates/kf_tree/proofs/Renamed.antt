@@ -1,11 +1,11 @@
--- A tree stays lawful where a record moves, but not below itself.
+-- A tree stays lawful when a record moves, but not below itself.
 use Rattle.std.proofs.Common.{◌≡◌, ◌≢◌, ◌⊎◌, inl, inr, ℕ, suc, ◌+◌, ◌-◌, ◌<◌, refl, ap, arith, subst, sym, ◌∙◌, true, false, cond, List}
 use Rattle.std.specs.Prelude.{Option, None, Some}
 use Rattle.std.specs.Option.{option_map, option_and_then}
 use Rattle.std.proofs.lemmas.Option.{same_Some, none-some}
 use Rattle.kf_core.specs.declared.key.Key.{Key}
 use Rattle.kf_core.specs.declared.records.Record.{Record}
-use Rattle.kf_core.specs.declared.slot.Marks.{Marks}
+use Rattle.kf_core.specs.declared.slot.NodeFlags.{NodeFlags}
 use Rattle.kf_core.specs.declared.command.Command.TheVariants.{Rename}
 use Rattle.kf_core.specs.Names.{IsLawfulName}
 use Rattle.kf_core.specs.Keys.{same_key}
@@ -124,14 +124,14 @@ module _ (t : Tree) (root key dir : Key) (name : List ℕ) (l : Lawful t root) (
         dir = move m.into;
         known = ap (record_at moved) (sym at) ∙ find_mapped t move same dir ∙ ap (option_map move) m.into_found;
         is_dir = same_node m.into ∙ m.into_dir;
-        doomed = λ d. absurd (let x : false ≡ true = sym (ap (λ (y : Marks). y.doomed) m.into_is_live) ∙ ap (λ (y : Marks). y.doomed) (sym (same_marks m.into)) ∙ d in cc);
+        doomed = λ d. absurd (let x : false ≡ true = sym (ap (λ (y : NodeFlags). y.doomed) m.into_is_live) ∙ ap (λ (y : NodeFlags). y.doomed) (sym (same_marks m.into)) ∙ d in cc);
         lawful_name = subst (λ (x : Record). IsLawfulName x.name) (sym (f.2 ∙ g.1)) m.lawful;
       })
       | inr g ↦ (let is = f.2 ∙ g.1 in let o = l.in_directory f.0 p f.1 (ap (λ (x : Record). x.parent) (sym is) ∙ e) in record {
         dir = move o.dir;
         known = find_mapped t move same p ∙ ap (option_map move) o.known;
         is_dir = same_node o.dir ∙ o.is_dir;
-        doomed = λ d. ap (λ (x : Record). x.marks.doomed) is ∙ o.doomed (ap (λ (y : Marks). y.doomed) (sym (same_marks o.dir)) ∙ d);
+        doomed = λ d. ap (λ (x : Record). x.marks.doomed) is ∙ o.doomed (ap (λ (y : NodeFlags). y.doomed) (sym (same_marks o.dir)) ∙ d);
         lawful_name = subst (λ (x : Record). IsLawfulName x.name) (sym is) o.lawful_name;
       })
     ]);

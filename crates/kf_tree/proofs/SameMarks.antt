@@ -5,7 +5,7 @@ use Rattle.std.specs.Option.{option_map}
 use Rattle.std.proofs.lemmas.Option.{none-some, slice_get_within}
 use Rattle.kf_core.specs.declared.key.Key.{Key}
 use Rattle.kf_core.specs.declared.key.Node.{Node}
-use Rattle.kf_core.specs.declared.slot.Marks.{Marks}
+use Rattle.kf_core.specs.declared.slot.NodeFlags.{NodeFlags}
 use Rattle.kf_core.specs.declared.slot.SlotState.{SlotState}
 use Rattle.kf_core.specs.declared.records.Record.{Record}
 use Rattle.kf_core.specs.declared.command.Command.TheVariants.{Create, Activate, Doom, Unlink, Rename}
@@ -53,7 +53,7 @@ vacant_in_tree slots t root key same l wide v = go (slice_get t key.slot) refl
         let is_in : IsIn t r = ap (slice_get t) slot ∙ e in
         none-some r.marks (sym (nobody_vacant slots key.slot v.last r.key v.vacant slot) ∙ same r.key ∙ ap (option_map (λ (x : Record). x.marks)) (in_found t r is_in)))
 
--- Create is a birth, and where the node is live a rise
+-- Create is a birth, and if the node is live a rise
 pub same_born : (slots : List SlotState) (t : Tree) (root key parent : Key) (name : List ℕ) (node : Node) → SameMarks slots t → Lawful t root → length slots ≡ length t → IsEmpty slots key →
     SameMarks (written slots key (Some fresh_marks)) (after t (Create key parent name node false))
 same_born slots t root key parent name node same l wide v k =
@@ -68,7 +68,7 @@ same_born_live slots t root key parent name node same l wide v k =
     ∙ twice (same_key key k) (marks_of t k)
     ∙ sym (marks_filled t (new_record key parent name node true) k (vacant_in_tree slots t root key same l wide v))
   where
-    twice : (b : Bool) (m : Option Marks) → cond b (Some live_marks) (cond b (Some fresh_marks) m) ≡ cond b (Some live_marks) m
+    twice : (b : Bool) (m : Option NodeFlags) → cond b (Some live_marks) (cond b (Some fresh_marks) m) ≡ cond b (Some live_marks) m
     twice true m = refl
     twice false m = refl
 

@@ -42,7 +42,7 @@ use Rattle.kf_tree.proofs.Unlinked.{lawful_unlinked}
 abbrev pub stored : TreeLog → Command → TreeLog
 stored s c = record { root = s.root; tree = after s.tree c; commands = s.commands ++ c ∷ []; ready = None }
 
--- it is sound with so much room and so many doomed records, and the command was accepted
+-- it is sound with this much room and this many doomed records, and the command was accepted
 abbrev pub Follows : TreeLog → Command → Option Refusal → ℕ → ℕ → TreeLog → Type 0
 Follows s c cause capacity doomed new = (IsSound new capacity doomed) × (IsAccepted s new cause c)
 
@@ -124,7 +124,7 @@ module _ (s : TreeLog) (before had : ℕ) (sound : IsSound s before had) where
       unmarked : (r : Record) → (cond (in_subtree s.tree key r.key && not r.marks.doomed) (activated_record r) r).marks.doomed ≡ r.marks.doomed
       unmarked r = elim (in_subtree s.tree key r.key && not r.marks.doomed) as (λ b. (cond b (activated_record r) r).marks.doomed ≡ r.marks.doomed) [ true ↦ refl | false ↦ refl ]
 
-  -- no more records are doomed newly than were not doomed
+  -- at most as many records are newly doomed as were not doomed
   pub newly_few : (newly room_for : ℕ) (keys seen : List Key) (tree : List (Option Record)) → tree ≡ with_changed_slots doomed_record s.tree keys → doomed_count tree ≡ doomed_count s.tree + newly →
       seen ≡ keys → room_for ≡ undoomed_count s.tree seen → newly ≤ room_for
   newly_few newly room_for keys seen tree changed counted same is =

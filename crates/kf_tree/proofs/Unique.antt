@@ -124,7 +124,7 @@ compared (suc x) zero = inr (inr (omega arith))
 compared (suc x) (suc y) = elim (compared x y) [ inl e ↦ inl (ap suc e) | inr (inl h) ↦ inr (inl (omega (arith, h))) | inr (inr h) ↦ inr (inr (omega (arith, h))) ]
 
 module _ (t : Tree) (root : Key) (l : Lawful t root) where
-  -- so many steps up from one key lead to the other
+  -- this many steps up from one key lead to the other
   abbrev pub IsOverBy : ℕ → Key → Key → Type 0
   IsOverBy n over key = ancestor t n key ≡ Some over
 

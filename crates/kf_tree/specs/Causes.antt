@@ -14,7 +14,7 @@ use Rattle.kf_core.specs.Tree.{Tree, record_at, marks_of, is_linked, is_dir, in_
 use Rattle.kf_table.specs.Children.{child, has_child, is_there_already}
 use Rattle.kf_table.specs.Live.{live_in}
 
--- there was this cause, or none but want of memory
+-- there was this cause, or none but lack of memory
 abbrev pub Refuses : Option Refusal → Refusal → Type 0
 Refuses cause refusal = (cause ≡ Some refusal) ⊎ ((cause ≡ None) × (refusal ≡ NoMemory))
 
@@ -38,7 +38,7 @@ target_of Dir = None
 target_of (File mode tag) = None
 target_of (Link target) = Some target
 
--- the target of a key's record, where that is a link
+-- the target of a key's record, if that is a link
 abbrev pub link_target : Tree → Key → Option Key
 link_target t key = option_and_then (λ r. target_of r.node) (record_at t key)
 
@@ -71,7 +71,7 @@ create_fault t root parent name node = first_cause (
     ∷ unless (not (has_entry t parent name)) Exists
     ∷ [])
 
--- why a create is refused: what is wrong with it, and after that the want of a next key
+-- why a create is refused: what is wrong with it, and after that the lack of a next key
 abbrev pub create_cause : Tree → Key → Key → List ℕ → Node → Option Key → Option Refusal
 create_cause t root parent name node next = first_cause (
     create_fault t root parent name node

@@ -11,7 +11,7 @@ use Rattle.kf_tree.specs.Causes.{link_target}
 abbrev pub IsOver : Tree → Key → Key → Key → Type 0
 IsOver t root target base = (base ≡ root) ⊎ ((n : ℕ) × (ancestor t (suc n) target ≡ Some base))
 
--- `../` so many times
+-- `../` this many times
 abbrev pub ups : ℕ → List ℕ
 ups zero = []
 ups (suc n) = 46 ∷ 46 ∷ 47 ∷ ups n

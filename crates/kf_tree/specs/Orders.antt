@@ -7,7 +7,7 @@ use Rattle.kf_table.specs.Next.{AreNext}
 use Rattle.kf_tree.specs.Canonical.{Precedes}
 use Rattle.kf_core.specs.PostOrder.{AreApart, StandsBefore}
 
--- the siblings of the node after it, where it is linked and in a directory
+-- the siblings of the node after it, if it is linked and in a directory
 abbrev pub AreLater : Tree → Key → List (List ℕ × Key) → Type 0
 AreLater t key later = (r : Record) (dir : Key) → record_at t key ≡ Some r → r.parent ≡ Some dir
     → AreNext t dir (Some r.name) later

@@ -18,7 +18,7 @@ and_then (Err refusal) next = Err refusal
 
 -- ---- names
 
--- the key of an entry in a directory, where both records are there and the first is a directory
+-- the key of an entry in a directory, if both records are there and the first is a directory
 abbrev pub entry_key : Option Record → Option Record → Result Key Refusal
 entry_key None entry = Err NoEntry
 entry_key (Some dir) entry =
@@ -39,7 +39,7 @@ walk t key (name ∷ names) = and_then (found t key name) (λ next. walk t next 
 abbrev pub walked : Tree → Key → List ℕ → Result Key Refusal
 walked t root path = and_then (ok_or (names_of path) Invalid) (walk t root)
 
--- the record of a slot, where it is live, and else none
+-- the record of a slot, if it is live, and else none
 abbrev pub only_live : Option Record → Option Record
 only_live None = None
 only_live (Some r) = if lives r then Some r else None
@@ -56,13 +56,13 @@ front [] = []
 front (name ∷ []) = []
 front (name ∷ next ∷ names) = name ∷ front (next ∷ names)
 
--- the last of the names; where there is none, the empty name
+-- the last of the names; if there is none, the empty name
 abbrev pub final : List (List ℕ) → List ℕ
 final [] = []
 final (name ∷ []) = name
 final (name ∷ next ∷ names) = final (next ∷ names)
 
--- the names before the last, where none of them is empty, and the last, which may be
+-- the names before the last, if none of them is empty, and the last, which may be
 abbrev pub but_last : List (List ℕ) → Option (List (List ℕ) × List ℕ)
 but_last [] = None
 but_last (name ∷ names) =

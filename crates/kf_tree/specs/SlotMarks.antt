@@ -1,17 +1,17 @@
--- The marks that the slots of a world tell: when they are those of a tree, and what a change of several
+-- The marks that the slots of a world have: when they are those of a tree, and what a change of several
 -- nodes makes of them.
 use Rattle.std.specs.Prelude.{◌≡◌, Bool, not, ◌&&◌, ◌||◌, List, slice_get, Option}
 use Rattle.std.specs.List.{list_any}
 use Rattle.std.specs.Option.{option_map}
 use Rattle.kf_core.specs.declared.key.Key.{Key}
-use Rattle.kf_core.specs.declared.slot.Marks.{Marks}
+use Rattle.kf_core.specs.declared.slot.NodeFlags.{NodeFlags}
 use Rattle.kf_core.specs.declared.slot.SlotState.{SlotState}
 use Rattle.kf_core.specs.Bare.{marks_in}
 use Rattle.kf_core.specs.Keys.{same_key}
 use Rattle.kf_core.specs.Tree.{Tree, marks_of}
 
--- the marks of a key in the slots, where it is linked
-abbrev pub marks_at : List SlotState → Key → Option Marks
+-- the marks of a key in the slots, if it is linked
+abbrev pub marks_at : List SlotState → Key → Option NodeFlags
 marks_at slots key = marks_in (slice_get slots key.slot) key.generation
 
 -- each key has the same marks in both: so both name the same linked, activated and doomed keys
@@ -23,15 +23,15 @@ abbrev pub contains_key : List Key → Key → Bool
 contains_key keys key = list_any (λ k. same_key k key) keys
 
 -- the marks after a doom that may have chosen this key
-abbrev pub doomed_if : Bool → Marks → Marks
+abbrev pub doomed_if : Bool → NodeFlags → NodeFlags
 doomed_if chosen m = record { activated = m.activated; doomed = chosen || m.doomed }
 
--- the marks after an activation that may have chosen this key: activated now, where it was chosen and is
+-- the marks after an activation that may have chosen this key: activated now, if it was chosen and is
 -- not doomed
-abbrev pub risen_if : Bool → Marks → Marks
+abbrev pub risen_if : Bool → NodeFlags → NodeFlags
 risen_if chosen m = record { activated = (chosen && not m.doomed) || m.activated; doomed = m.doomed }
 
 -- the marks of these keys are changed in this way, and all others are as they were
-abbrev pub Changed : (Bool → Marks → Marks) → List Key → List SlotState → List SlotState → Type 0
+abbrev pub Changed : (Bool → NodeFlags → NodeFlags) → List Key → List SlotState → List SlotState → Type 0
 Changed change keys old new =
     (key : Key) → marks_at new key ≡ option_map (change (contains_key keys key)) (marks_at old key)

@@ -11,7 +11,7 @@ pub record IsReady (s : TreeLog) (capacity owed : ℕ) (key : Key) : Type 0 wher
   pub no_cause : hide_cause s.tree key ≡ None
   pub room : length s.commands + 2 + owed ≤ capacity
 
--- the command list has this capacity, and so many later commands are owed
+-- the command list has this capacity, and this many later commands are owed
 pub record IsSound (s : TreeLog) (capacity owed : ℕ) : Type 0 where
   pub kept : IsKept s
   pub few : length s.tree ≤ most_slots

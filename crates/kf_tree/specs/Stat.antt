@@ -1,11 +1,11 @@
--- What is told of a node.
+-- What is reported of a node.
 use Rattle.std.specs.Prelude.{◌+◌, if◌then◌else◌}
 use Rattle.kf_core.specs.declared.records.Record.{Record}
 use Rattle.kf_core.specs.Tree.{Tree, is_dir}
 use Rattle.kf_table.specs.Children.{subdirs}
 use Rattle.kf_tree.specs.declared.stat.Stat.{Stat}
 
--- what is told of a record: a file or link has no child directories, and one link
+-- what is reported of a record: a file or link has no child directories, and one link
 abbrev pub stat_of : Tree → Record → Stat
 stat_of t r = record {
   node = r.node;

@@ -22,7 +22,7 @@ pub record IsKept (s : TreeLog) : Type 0 where
   pub lawful : Lawful s.tree s.root
   pub replayed : s.tree ≡ replay (root_alone (length s.tree) s.root) s.commands
 
--- the root alone, and no command
+-- only the root, and no command
 pub record IsNew (slots : ℕ) (key : Key) (s : TreeLog) : Type 0 where
   pub root : s.root ≡ key
   pub tree : s.tree ≡ root_alone slots key
@@ -61,7 +61,7 @@ pub record IsCompacted (old new : TreeLog) : Type 0 where
   pub not_ready : new.ready ≡ None
   pub kept : IsKept new
 
--- there was this cause, or none but want of memory; and nothing changed
+-- there was this cause, or none but lack of memory; and nothing changed
 pub record IsRefused (old new : TreeLog) (cause : Option Refusal) (refusal : Refusal) : Type 0 where
   pub named : Refuses cause refusal
   pub unchanged : new ≡ old

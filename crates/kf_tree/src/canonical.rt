@@ -121,7 +121,7 @@ fn write_commands(alloc: Global, table: &Table, root: Key) -> Result<Vec<Command
     Ok(commands)
 }
 
-/// The canonical list of commands of a tree, with room for just so many later ones.
+/// The canonical list of commands of a tree, with room for just this many later ones.
 pub(crate) fn canonical_commands(
     alloc: Global,
     table: &Table,

@@ -1,4 +1,4 @@
-//! The find of one name, in the whole tree or among its live records alone.
+//! The find of one name, in the whole tree or among only its live records.
 
 ghost use Rattle.std.specs.Prelude.{◌≡◌, Ok, Err, IfOk, MatchResult};
 ghost use Rattle.std.specs.Option.{option_copied};
@@ -11,7 +11,7 @@ ghost use Rattle.kf_tree.specs.Shown.{shown, shown_record};
 use kf_core::{Key, Record, Refusal};
 use kf_table::{Table, is_directory, is_live};
 
-/// The record, where it is shown.
+/// The record, if it is shown.
 #[inline(always)]
 fn only_shown(entry: Option<&Record>, live_only: bool) -> Option<&Record>
     ensures shown { option_copied result ≡ shown_record live_only (option_copied entry.entry) }

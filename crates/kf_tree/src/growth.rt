@@ -5,7 +5,7 @@ ghost use Rattle.std.specs.Prelude.{◌≡◌, ◌≤◌, ◌<◌, ◌+◌, ◌*
 use kf_core::{Command, NameBytes, Refusal};
 use std::alloc::Global;
 
-/// A name of its own. It takes memory for more than 24 bytes alone, and is refused where there is none.
+/// A copy of a name. It takes memory only for more than 24 bytes, and is refused if there is none.
 pub(crate) fn copy_name(alloc: Global, name: &[u8]) -> Result<NameBytes, Refusal>
     ensures made { IfOk result (λ copy. copy ≡ name.now) }
     ensures short { length name.now ≤ 24 → IsOk result }
@@ -17,7 +17,7 @@ pub(crate) fn copy_name(alloc: Global, name: &[u8]) -> Result<NameBytes, Refusal
     }
 }
 
-/// Takes room for one command, and for so many after it. A list that grows has room for twice its commands,
+/// Takes room for one command, and for this many after it. A list that grows has room for twice its commands,
 /// so that they are copied seldom.
 pub(crate) fn make_room(commands: &mut Vec<Command>, later: usize) -> Result<(), Refusal>
     requires fits { later + 1 < 2 ^ 64 }
@@ -41,7 +41,7 @@ pub(crate) fn make_room(commands: &mut Vec<Command>, later: usize) -> Result<(),
     }
 }
 
-/// Takes room for so many later commands, and gives back what is beyond that.
+/// Takes room for this many later commands, and gives back what is beyond that.
 pub(crate) fn fit_room(commands: &mut Vec<Command>, later: usize) -> Result<(), Refusal>
     ensures items { commands.new.items ≡ commands.old.items }
     ensures room { OnOk result (length commands.old.items + later ≤ vec_capacity commands.new) }

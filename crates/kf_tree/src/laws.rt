@@ -14,7 +14,7 @@ ghost use Rattle.kf_tree.specs.Links.{HasLinkText};
 ghost use Rattle.kf_tree.specs.Listing.{IsListing};
 
 /// The contracts say of a listing, a post-order, a list of commands and a link's text what each has to be,
-/// and not how it is found. There is one such answer and no other, so each of these calls has its answer
+/// and not how it is found. There is one such result and no other, so each of these calls has its result
 /// fixed.
 pub fn answers_are_unique()
     // A directory has one listing above a bound, for each limit.
@@ -32,7 +32,7 @@ pub fn answers_are_unique()
 {}
 
 /// The rule of renames stands twice, and is one: a rename has no cause against it, and goes somewhere else,
-/// exactly where a run of the world may take it as a step.
+/// exactly if a run of the world may take it as a step.
 pub fn renames_have_one_rule()
     ensures one_rule { (t : Tree) (root key dir : Key) (name : List ℕ) → Lawful t root →
         MayMove t key dir name

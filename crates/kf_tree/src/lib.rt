@@ -2,12 +2,12 @@
 //!
 //! - `State::new` makes a tree of the root. Its commands are `create`, `activate`, `rename`, `doom`,
 //!   `unlink`, `hide`, `show`: each does what its definition says (`accepted`), or changes nothing and
-//!   answers the first cause in its order (`refused`). Each that was accepted is stored: the tree is the
+//!   returns the first cause in its order (`refused`). Each that was accepted is stored: the tree is the
 //!   replay of `commands`, and `compact` makes that list as short as it can be.
-//! - `lookup`, `stat`, `names`, `list`, `path_of`, `post_order` and their kin look. `Tour` goes through a
+//! - `lookup`, `stat`, `names`, `list`, `path_of`, `post_order` and the like look. `Tour` goes through a
 //!   subtree in post-order without memory.
 //!
-//! Who calls has little to prove: that the root's slot is one of the table's, and that a key that it gives
+//! A caller has little to prove: that the root's slot is one of the table's, and that a key that it gives
 //! to `create` is of a vacant slot. It does not know who runs in a node: `kf_shared` adds that.
 #![tactic(auto)]
 

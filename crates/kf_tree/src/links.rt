@@ -14,7 +14,7 @@ use kf_core::{Key, Refusal};
 use kf_table::Table;
 use std::alloc::{AllocError, Global};
 
-/// The directory of a target, or the root where it has none.
+/// The directory of a target, or the root if it has none.
 fn over_target(table: &Table, root: Key, target: Key) -> Key
     requires rooted { Lawful table.now root }
     requires linked { IsTrue (is_linked table.now target) }
@@ -28,7 +28,7 @@ fn over_target(table: &Table, root: Key, target: Key) -> Key
     }
 }
 
-/// Pushes a key, where there is one, and answers the one above it.
+/// Pushes a key, if there is one, and returns the one above it.
 fn step_up(table: &Table, key: Option<Key>, way: &mut Vec<Key>) -> Result<Option<Key>, AllocError>
     ensures above { IfOk result (λ next. next ≡ option_and_then (parent_of table.now) key) }
     ensures pushed { OnOk result (way.new.items ≡ way.old.items ++ option_to_list key) }

@@ -18,7 +18,7 @@ pub(crate) fn is_hidden(table: &Table, key: Key) -> bool
     }
 }
 
-/// How many commands are owed for a doomed key: its unlink, and its show where it is hidden.
+/// How many commands are owed for a doomed key: its unlink, and its show if it is hidden.
 pub(crate) fn owed_for(table: &Table, key: Key) -> usize
     ensures value { result ≡ (if hidden_in table.now key then 2 else 1) }
 {
@@ -35,7 +35,7 @@ pub(crate) fn count_undoomed(table: &Table, keys: &[Key]) -> usize
         .count()
 }
 
-/// Dooms the record of each key, and tells how many were not doomed before.
+/// Dooms the record of each key, and returns how many were not doomed before.
 pub(crate) fn doom_each(table: &mut Table, keys: &[Key]) -> usize
     ensures changed { table.new ≡ with_changed_slots doomed_record table.old keys.now }
     ensures counted { doomed_count table.new ≡ doomed_count table.old + result }
@@ -49,7 +49,7 @@ pub(crate) fn doom_each(table: &mut Table, keys: &[Key]) -> usize
     newly
 }
 
-/// Activates the record of each key, where it is not doomed.
+/// Activates the record of each key, if it is not doomed.
 pub(crate) fn activate_each(table: &mut Table, keys: &[Key])
     ensures changed { table.new ≡ with_changed_slots activated_unless_doomed table.old keys.now }
 {

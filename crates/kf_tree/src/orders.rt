@@ -1,5 +1,5 @@
-//! A subtree in post-order or pre-order, from node to node and without a stack. Who goes on takes the later
-//! siblings of a node along, so that an index is searched only on the way up to a directory.
+//! A subtree in post-order or pre-order, from node to node and without a stack. A caller that goes on takes
+//! the later siblings of a node along, so that an index is searched only on the way up to a directory.
 
 ghost use Rattle.std.specs.Prelude.{◌≡◌, ◌≢◌, None, IsTrue, IfSome, IfNone};
 ghost use Rattle.kf_core.specs.declared.key.Key.{Key};
@@ -103,7 +103,7 @@ fn next_aside(table: &Table, key: Key) -> Option<(Key, Listed<'_>)>
     None
 }
 
-/// The node after a leaf in pre-order, with its later siblings: its next sibling, where there is one, without
+/// The node after a leaf in pre-order, with its later siblings: its next sibling, if there is one, without
 /// a search.
 fn next_of_leaf<'t>(table: &'t Table, key: Key, later: Listed<'t>) -> Option<(Key, Listed<'t>)>
     requires lawful { (root : Key) × Lawful table.now root }
@@ -126,7 +126,7 @@ fn next_of_leaf<'t>(table: &'t Table, key: Key, later: Listed<'t>) -> Option<(Ke
     }
 }
 
-/// The node after another in the pre-order of the tree, with its later siblings, or None where it is the
+/// The node after another in the pre-order of the tree, with its later siblings, or None if it is the
 /// last.
 pub(crate) fn next_in_pre_order<'t>(
     table: &'t Table,

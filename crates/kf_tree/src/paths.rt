@@ -48,7 +48,7 @@ fn has_empty_part(parts: &[u8]) -> bool
 }
 
 /// What the parts lead to one after another, from a directory on, whose record is given. No node has an empty
-/// name, so they lead nowhere where one is empty.
+/// name, so they lead nowhere if one is empty.
 fn walk_parts(
     table: &Table,
     start: Key,

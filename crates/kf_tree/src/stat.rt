@@ -1,4 +1,4 @@
-//! What is told of a node.
+//! What is reported of a node.
 
 ghost use Rattle.std.specs.Prelude.{◌≡◌, ◌≤◌, length};
 ghost use Rattle.kf_core.specs.Limits.{most_slots};
@@ -22,7 +22,7 @@ pub struct Stat {
     pub hidden: bool,
 }
 
-/// What is told of a record.
+/// What is reported of a record.
 pub(crate) fn stat_of(table: &Table, entry: &Record) -> Stat
     requires lawful { (root : Key) × Lawful table.now root }
     requires few { length table.now ≤ most_slots }

@@ -19,14 +19,14 @@ use crate::causes::{
 use crate::growth::{copy_name, make_room, store};
 use crate::marks::{activate_each, count_undoomed, doom_each, is_hidden, owed_for};
 use crate::post_order::post_order;
-use kf_core::{Command, Key, Limits, Marks, Node, Record, Refusal};
+use kf_core::{Command, Key, Limits, Node, NodeFlags, Record, Refusal};
 use kf_table::Table;
 use std::alloc::Global;
 use std::marker::Model;
 
 /// The records by slot, and the stored commands. Contracts see the root's key, the tree, the commands, and
 /// the key that is ready to be hidden.
-/// The tree is always lawful, and the replay of the commands from the root alone.
+/// The tree is always lawful, and the replay of the commands from only the root.
 ///
 /// All memory that a command needs is taken before anything changes, so a refused one leaves all as it was.
 /// [`State::unlink`], [`State::hide`] and [`State::show`] take none: the list keeps room for what they store.
@@ -42,7 +42,7 @@ pub struct State {
     ready: Option<Key>,
 }
 
-/// Let go here: so no crate that lets a tree go proves that of each of its parts once more.
+/// Dropped here: so no crate that drops a tree proves once more that each of its parts is dropped.
 impl Drop for State {
     fn drop(self) {
         let State {
@@ -72,8 +72,8 @@ impl Model for State {
 }
 
 impl State {
-    /// The tree of the root alone, with places for so many slots. The root is a live directory.
-    /// `NoMemory` where the table could not be had.
+    /// The tree of only the root, with places for this many slots. The root is a live directory.
+    /// `NoMemory` if the table could not be had.
     ///
     /// Condition: the root's slot is in the table.
     pub fn new(alloc: Global, limits: Limits, root: Key) -> Result<State, Refusal>
@@ -92,13 +92,13 @@ impl State {
         })
     }
 
-    /// Links a new record in a directory, under the next key, activated where it is to be live
+    /// Links a new record in a directory, under the next key, activated if it is to be live
     /// (`kernfs_create_dir_ns`, `__kernfs_create_file`, `kernfs_create_link`).
     /// Refusals in order: `NoEntry` (parent not linked), `NameTooLong` or `Invalid` (name), `NotDir`,
     /// `NoEntry` (parent doomed), `NoEntry` (a link's target is not linked), `Invalid` (it is the root),
     /// `Exists`, `NoSpace` (no next key), `NoMemory`. After a refusal nothing is changed.
     ///
-    /// Condition: the next key's slot is in the table and has no linked node, as [`State::is_vacant`] tells.
+    /// Condition: the next key's slot is in the table and has no linked node, as [`State::is_vacant`] says.
     /// Its generation must be fresh: the state keeps no key of what was unlinked, so under a generation that
     /// the slot had before, a key or link that somebody kept of the old node would name the new one.
     pub fn create(
@@ -126,7 +126,7 @@ impl State {
     /// [`State::create`] under this key, for a caller that has asked [`State::create_fault`] already. The
     /// only refusal is `NoMemory`; after it nothing is changed.
     ///
-    /// Condition: nothing is wrong with the new record, as `create_fault` tells. The key is as `create` asks.
+    /// Condition: nothing is wrong with the new record, as `create_fault` says. The key is as `create` asks.
     pub fn create_at(
         &mut self,
         key: Key,
@@ -148,7 +148,7 @@ impl State {
         self.table.add(Record {
             key,
             parent: Some(parent),
-            marks: Marks {
+            marks: NodeFlags {
                 activated: live,
                 doomed: false,
             },
@@ -205,7 +205,7 @@ impl State {
     /// Moves a record into a directory, under a name (`kernfs_rename_ns`). One that is there already under
     /// that name stays, nothing is stored, and no memory is taken.
     /// Refusals in order: `Invalid` (the root), `NoEntry` (either is not linked), `NameTooLong` or `Invalid`
-    /// (name), `NotDir`, `NoEntry` (either is not live); where it is not there already, `Invalid` (the
+    /// (name), `NotDir`, `NoEntry` (either is not live); if it is not there already, `Invalid` (the
     /// directory is in the record's own subtree), `Exists`, `NoMemory`. After a refusal nothing is changed.
     pub fn rename(&mut self, key: Key, dir: Key, name: &[u8]) -> Result<(), Refusal>
         ensures no_cause { IfOk result
@@ -292,9 +292,9 @@ impl State {
         Ok(())
     }
 
-    /// Takes a doomed record without linked children out, and tells whether the key was linked
-    /// (`kernfs_unlink_sibling` in `__kernfs_remove`). It wants no memory. Refusals in order, of a linked
-    /// key: `Invalid` (not doomed), `Busy` (a linked child). After a refusal, and after the answer false,
+    /// Takes a doomed record without linked children out, and returns whether the key was linked
+    /// (`kernfs_unlink_sibling` in `__kernfs_remove`). It needs no memory. Refusals in order, of a linked
+    /// key: `Invalid` (not doomed), `Busy` (a linked child). After a refusal, and after it returns false,
     /// nothing is changed.
     pub fn unlink(&mut self, key: Key) -> Result<bool, Refusal>
         ensures linked { IfOk result (λ unlinked. is_linked self.old.tree key ≡ unlinked) }
@@ -316,7 +316,7 @@ impl State {
     }
 
     /// Makes the state ready to hide a file, until its next change: takes the memory for that and for the
-    /// show after it, or tells why the node may not be hidden. The tree and the commands stay.
+    /// show after it, or says why the node may not be hidden. The tree and the commands stay.
     /// Refusals in order: `NoEntry` (not linked), `IsDir`, `Invalid` (a link), `NoEntry` (doomed), `Busy`
     /// (hidden), `NoMemory`. After a refusal nothing is changed.
     pub fn may_hide(&mut self, key: Key) -> Result<(), Refusal>
@@ -345,7 +345,7 @@ impl State {
         store(&mut self.commands, Command::Hide { key });
     }
 
-    /// Shows a hidden file again (`kernfs_show` with `show` true), and tells whether the key was linked and
+    /// Shows a hidden file again (`kernfs_show` with `show` true), and returns whether the key was linked and
     /// hidden; if not, nothing is changed. A file that was activated or doomed while it was hidden is then
     /// so. It takes no memory and refuses nothing.
     pub fn show(&mut self, key: Key) -> bool

@@ -1,4 +1,4 @@
-//! What the board answers each request.
+//! The board's reply to each request.
 
 ghost use Rattle.std.specs.Prelude.{◌<◌, Bool};
 ghost use Rattle.kf_plain.specs.PlainStep.{PlainStep};
@@ -10,8 +10,8 @@ use kf_files::Want;
 use kf_replies::tell_stat;
 use kf_script::{Board, Reply, Request};
 
-// Each answer stays a function of its own: the choice among them is then short, and stands where a line was
-// parsed.
+// Each reply stays in its own function: the choice among them is then short, and stays
+// where a line was parsed.
 impl PlainBoard {
     /// `mkdir`: the new key.
     #[inline(never)]
@@ -71,7 +71,7 @@ impl PlainBoard {
         }
     }
 
-    /// `stat`: what is told of the node.
+    /// `stat`: what is reported of the node.
     #[inline(never)]
     fn answer_stat(&mut self, path: &[u8], reply: &mut Reply)
         ensures { (starved : Bool) × PlainStep self.old (stat_words path.now) starved reply.new self.new }

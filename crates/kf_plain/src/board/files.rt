@@ -18,7 +18,7 @@ use kf_files::{FileError, Want};
 use kf_replies::{tell_count, tell_error};
 use kf_script::Reply;
 
-/// Tells the text of an open file that was seen to, from an offset on, or why there is none.
+/// Writes the text of an open file that was seen to, from an offset on, or why there is none.
 fn tell_text(
     reply: &mut Reply,
     told: Result<(), FileError>,
@@ -123,7 +123,7 @@ impl PlainBoard {
         Ok(())
     }
 
-    /// Writes a text into the file of a letter: puts the number that its store answered into the reply, or
+    /// Writes a text into the file of a letter: puts the number that its store returned into the reply, or
     /// why there is none.
     pub(super) fn write(
         &mut self,

@@ -15,7 +15,7 @@ use kf_script::Reply;
 use kf_tree::Stat;
 
 impl PlainBoard {
-    /// What is told of the node at a path, live or not.
+    /// What is reported of the node at a path, live or not.
     pub(super) fn stat(&self, path: &[u8]) -> Result<Stat, Refusal>
         ensures told { result ≡ told_stat self.now path.now }
     {
@@ -24,7 +24,7 @@ impl PlainBoard {
         state.stat(key)
     }
 
-    /// Tells the names in a live directory.
+    /// Writes the names in a live directory.
     pub(super) fn list(&self, path: &[u8], reply: &mut Reply) -> Result<(), Refusal>
         ensures listed { IfOk result (λ _. (dir : Key) × (listed_dir self.now path.now ≡ Ok dir)
             × ((names : List (List ℕ)) × IsListing self.now.log.tree dir None name_limit names
@@ -37,7 +37,7 @@ impl PlainBoard {
         tell_names(reply, names)
     }
 
-    /// Tells the text of a live link.
+    /// Writes the text of a live link.
     pub(super) fn read_link(&self, path: &[u8], reply: &mut Reply) -> Result<(), Refusal>
         ensures read { IfOk result
             (λ _. (link : Key) × (read_link_key self.now path.now ≡ Ok link)

@@ -15,7 +15,7 @@ use super::PlainBoard;
 use kf_core::{Key, Node, Refusal};
 
 impl PlainBoard {
-    /// A directory at a path, activated where it is to be live.
+    /// A directory at a path, activated if it is to be live.
     pub(super) fn make_directory(&mut self, path: &[u8], is_live: bool) -> Result<Key, Refusal>
         ensures made { IfOk result (λ key. IsNextKey self.old (Some key)
             × ((spot : Spot) × (new_spot self.old.log path.now Dir (Some key) ≡ Ok spot)
@@ -48,7 +48,7 @@ impl PlainBoard {
         Ok(key)
     }
 
-    /// A copy of a new file's text, taken before anything is changed. Where there is no memory for it, any
+    /// A copy of a new file's text, taken before anything is changed. If there is no memory for it, any
     /// other cause to refuse the file comes first.
     fn copy_text(
         &self,

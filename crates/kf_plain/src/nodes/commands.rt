@@ -13,7 +13,7 @@ use super::Nodes;
 use kf_core::{Key, Node, Refusal};
 
 impl Nodes {
-    /// Links a new node in a directory, under the next key, activated where it is to be live.
+    /// Links a new node in a directory, under the next key, activated if it is to be live.
     /// Refused as `State::create` is; after a refusal nothing is changed.
     pub fn create(
         &mut self,
@@ -59,7 +59,7 @@ impl Nodes {
     }
 
     /// Puts the canonical list of this tree in place of the stored commands, as `State::compact` does.
-    /// `NoMemory` alone; then nothing is changed.
+    /// Only `NoMemory`; then nothing is changed.
     pub fn compact(&mut self) -> Result<(), Refusal>
         ensures compacted { IfOk result
             (λ _. (commands : List Command) × IsCanonical self.old.log.tree commands

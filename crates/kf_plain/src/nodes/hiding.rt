@@ -22,7 +22,7 @@ pub struct BoardToken {
 
 impl Nodes {
     /// Hides a linked file by a new hold on it (`kernfs_show` with false) while nobody has a reference, so it
-    /// is hidden at once. Answers the token, which alone can show it again.
+    /// is hidden at once. Returns the token, without which it cannot be shown again.
     ///
     /// Refused are `TooManyHolds`, then what `State::may_hide` refuses, and `NoMemory`. After a refusal the
     /// hold is given back.

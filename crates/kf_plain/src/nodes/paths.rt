@@ -40,7 +40,7 @@ impl Nodes {
         self.create(dir, name, node, is_live, next)
     }
 
-    /// Whether a new node can be linked at a path under the next key, want of memory aside. It takes no
+    /// Whether a new node can be linked at a path under the next key, lack of memory aside. It takes no
     /// memory.
     pub fn may_create_at(&self, path: &[u8], node: Node, next: Option<Key>) -> Result<(), Refusal>
         ensures checked { MatchResult result (λ _. Leads (new_spot self.now.log path.now node next))

@@ -19,8 +19,9 @@ ghost use Rattle.kf_plain.specs.Nodes.{AllIdle, OnlyMarks, hold_count, is_full_b
 ghost use Rattle.kf_plain.specs.Removals.{AreChildrenFirst, Cleared, IsMarkedDoomed, IsMarkedUndoomed, PinsRefused, released, still_on, taken_out, with_callers};
 
 use super::Nodes;
-use kf_core::{Key, Refusal, World};
+use kf_core::{Key, Refusal};
 use kf_tree::State;
+use kf_world::World;
 
 /// Whether a linked node is neither activated nor doomed.
 fn is_fresh(state: &State, key: Key) -> bool
@@ -44,7 +45,7 @@ fn rise_each(world: &mut World, keys: &[Key])
     }
 }
 
-/// Gives back the holds of so many callers, from this number to the last.
+/// Gives back the holds of this many callers, from this number to the last.
 fn release_from(world: &mut World, first: usize, count: usize)
     requires last { first + count ≡ length world.old.world.callers }
     requires fits { first + count ≤ 2 ^ 64 }
@@ -58,7 +59,7 @@ fn release_from(world: &mut World, first: usize, count: usize)
     }
 }
 
-/// A new hold of each of these linked nodes, in this order. Answers the number of the first caller.
+/// A new hold of each of these linked nodes, in this order. Returns the number of the first caller.
 /// After a refusal the holds that were taken are given back.
 fn pin_each(world: &mut World, keys: &[Key]) -> Result<usize, Refusal>
     requires some { 0 < length keys.now }
@@ -165,7 +166,7 @@ impl Nodes {
     /// takes them out one by one, each after all that is below it. Then no caller holds one of them that did
     /// not before.
     ///
-    /// Refused are `NoEntry` (not linked) and `Invalid` (the root), `TooManyHolds` where a node has as many
+    /// Refused are `NoEntry` (not linked) and `Invalid` (the root), `TooManyHolds` if a node has as many
     /// holds as there may be, and `NoMemory`. After a refusal the tree is as before, and the holds that were
     /// taken are given back.
     pub fn remove(&mut self, key: Key) -> Result<(), Refusal>

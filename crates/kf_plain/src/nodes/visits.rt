@@ -16,8 +16,9 @@ ghost use Rattle.kf_plain.specs.Visits.{VisitsLive, file_cause};
 use super::Nodes;
 use crate::events::{EventTable, SlotEvents};
 use crate::text_table::TextTable;
-use kf_core::{Key, Node, Refusal, World};
+use kf_core::{Key, Node, Refusal};
 use kf_files::{FileError, HeldFile, Page, Want};
+use kf_world::World;
 
 /// An open file, and the key of its node.
 #[derive(Drop)]
@@ -26,7 +27,7 @@ pub struct BoardFile {
     pub file: HeldFile<World, Box<Page>>,
 }
 
-/// A page of a file that was closed, or else a new one. `NoMemory` where that could not be had.
+/// A page of a file that was closed, or else a new one. `NoMemory` if that could not be had.
 fn take_page(pages: &mut Vec<Box<Page>>) -> Result<Box<Page>, Refusal>
     ensures refused { IfErr result (λ refusal. refusal ≡ NoMemory) }
 {
@@ -121,7 +122,7 @@ impl Nodes {
         file.file.write(&mut self.world, texts, bytes)
     }
 
-    /// Whether a file has changed, as [`HeldFile::poll`] tells.
+    /// Whether a file has changed, as [`HeldFile::poll`] says.
     pub fn poll(&mut self, file: &mut BoardFile, events: &EventTable) -> bool
         requires waits { Waits self.old.callers file.old.file.hold file.old.key }
         ensures polls { Polls
@@ -150,7 +151,7 @@ impl Nodes {
         let BoardFile { key, file } = file;
         let (id, page) = file.close();
         self.release(id, key);
-        // Where it cannot be kept it is let go.
+        // If it cannot be kept it is dropped.
         let _ = self.pages.push(page);
     }
 }

@@ -1,4 +1,5 @@
-//! What a state tells: its commands, paths, listings, and what is told of a node. No call changes anything.
+//! What a state says: its commands, paths, listings, and what is reported of a node. No call changes
+//! anything.
 
 ghost use Rattle.std.specs.Prelude.{◌≡◌, ◌↔◌, IfOk, IfErr, IsTrue, slice_get, MatchResult, None, Some, Ok, Err, true, false, length, IfSome, List, ◌+◌};
 ghost use Rattle.std.specs.Option.{option_copied, option_map, ok_or};
@@ -30,7 +31,7 @@ use kf_core::{Command, Key, Node, Refusal};
 use kf_index::Name;
 
 impl State {
-    /// The root's key. What holds of every state is told here: its tree is lawful, and the replay of its
+    /// The root's key. What holds of every state is said here: its tree is lawful, and the replay of its
     /// commands.
     pub fn root(&self) -> Key
         ensures known { result ≡ self.now.root }
@@ -39,7 +40,7 @@ impl State {
         self.root
     }
 
-    /// The canonical list of the tree at the last [`State::compact`], where there was one, and every command
+    /// The canonical list of the tree at the last [`State::compact`], if there was one, and every command
     /// accepted since, in the order in which they were accepted.
     pub fn commands(&self) -> &[Command]
         ensures listed { result.now ≡ self.now.commands }
@@ -82,7 +83,7 @@ impl State {
         self.table.len() as u32
     }
 
-    /// The key of the linked node in a slot, where there is one.
+    /// The key of the linked node in a slot, if there is one.
     pub fn key_in(&self, slot: u32) -> Option<Key>
         ensures known { result ≡ key_in self.now.tree slot }
         ensures here { IfSome result (λ key. key.slot ≡ slot) }
@@ -101,7 +102,7 @@ impl State {
         self.table.is_below(top, key)
     }
 
-    /// Why [`State::create`] would refuse this new record now, want of memory aside. It takes no memory.
+    /// Why [`State::create`] would refuse this new record now, lack of memory aside. It takes no memory.
     pub fn may_create(
         &self,
         parent: Key,
@@ -126,8 +127,8 @@ impl State {
         create_fault(&self.table, self.root, parent, name, &node)
     }
 
-    /// Why [`State::doom`] would refuse this key now, want of memory aside: `NoEntry` (not linked), then
-    /// `Invalid` (the root). It takes no memory. What holds of every state is told here too.
+    /// Why [`State::doom`] would refuse this key now, lack of memory aside: `NoEntry` (not linked), then
+    /// `Invalid` (the root). It takes no memory. What holds of every state is said here too.
     pub fn may_doom(&self, key: Key) -> Result<(), Refusal>
         ensures checked { MatchResult result
             (λ _. doom_cause self.now.tree self.now.root key ≡ None)
@@ -137,7 +138,7 @@ impl State {
         check_doom(&self.table, self.root, key)
     }
 
-    /// What [`State::unlink`] would answer now, without doing it.
+    /// What [`State::unlink`] would return now, without doing it.
     pub fn may_unlink(&self, key: Key) -> Result<bool, Refusal>
         ensures linked { IfOk result (λ linked. is_linked self.now.tree key ≡ linked) }
         ensures no_cause { IfOk result (λ linked. linked ≡ true → unlink_cause self.now.tree key ≡ None) }
@@ -193,7 +194,7 @@ impl State {
         walk_parent(&self.table, self.root, path)
     }
 
-    /// The names of a directory's live children above a bound, in byte order, at most so many
+    /// The names of a directory's live children above a bound, in byte order, at most this many
     /// (`kernfs_fop_readdir`).
     /// Refusals in order: `NoEntry` (not linked), `NotDir`, `NoMemory`.
     pub fn list(&self, dir: Key, after: Option<&[u8]>, limit: usize) -> Result<Vec<Name>, Refusal>
@@ -207,7 +208,7 @@ impl State {
     }
 
     /// The names that [`State::list`] copies, as they stand in the tree: it takes no memory. Refused as that
-    /// is, but for `NoMemory`.
+    /// is, except for `NoMemory`.
     pub fn names(&self, dir: Key, after: Option<&[u8]>, limit: usize) -> Result<Names<'_>, Refusal>
         ensures no_cause { IfOk result (λ _. list_cause self.now.tree dir ≡ None) }
         ensures listed { IfOk result (λ names.
@@ -218,8 +219,8 @@ impl State {
         Ok(Names::new(&self.table, dir, after, limit))
     }
 
-    /// What is told of a linked node: its kind, its marks, its number of child directories, and its number of
-    /// links. `NoEntry` where it is not linked.
+    /// What is reported of a linked node: its kind, its marks, its number of child directories, and its
+    /// number of links. `NoEntry` if it is not linked.
     pub fn stat(&self, key: Key) -> Result<Stat, Refusal>
         ensures told { result ≡
             ok_or (option_map (stat_of self.now.tree) (record_at self.now.tree key)) Refusal.NoEntry }
@@ -230,7 +231,7 @@ impl State {
         }
     }
 
-    /// The directory of a linked node, and None for the root (`kernfs_get_parent`). `NoEntry` where it is not
+    /// The directory of a linked node, and None for the root (`kernfs_get_parent`). `NoEntry` if it is not
     /// linked.
     pub fn parent_of(&self, key: Key) -> Result<Option<Key>, Refusal>
         ensures told { result ≡
@@ -242,7 +243,7 @@ impl State {
         }
     }
 
-    /// The name of a linked node; the root's is empty (`kernfs_name`). `NoEntry` where it is not linked.
+    /// The name of a linked node; the root's is empty (`kernfs_name`). `NoEntry` if it is not linked.
     pub fn name_of(&self, key: Key) -> Result<&[u8], Refusal>
         ensures told { MatchResult result
             (λ name. option_map (λ r. r.name) (record_at self.now.tree key) ≡ Some name.now)

@@ -1,7 +1,7 @@
 use Rattle.std.proofs.Common.{refl, sym, ◌∙◌, inl, inr, Some, None, [], ◌∷◌}
 use Rattle.kf_core.specs.declared.caller.Phase.TheVariants.{Still}
 use Rattle.kf_core.specs.Calls.{tried}
-use Rattle.kf_core.proofs.WorldVisits.{alone, may_enter}
+use Rattle.kf_world.proofs.WorldVisits.{alone, may_enter}
 use Rattle.kf_table.specs.Live.{live_in}
 use Rattle.kf_plain.proofs.BoardVisits.{visited, opens_visit, opens_cause, told_live, pinned_there, opened_held, opened_may_release, tied_opened, told_opened, tied_given_back, told_given_back, given_back_seen, live_pinned, room_seen}
 use Rattle.kf_plain.proofs.nodes.Nodes.open.Goals as goal

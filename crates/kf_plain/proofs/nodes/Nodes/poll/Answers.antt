@@ -1,5 +1,5 @@
 use Rattle.kf_core.specs.Calls.{tried}
-use Rattle.kf_core.proofs.WorldVisits.{alone}
+use Rattle.kf_world.proofs.WorldVisits.{alone}
 use Rattle.kf_plain.proofs.Callers.{waits_inside}
 use Rattle.kf_plain.proofs.BoardVisits.{visited, tied_slots, to_live, live_seen, seen_waits, can_try}
 use Rattle.kf_plain.proofs.HiddenMarks.{told_by, hiders_waiting}

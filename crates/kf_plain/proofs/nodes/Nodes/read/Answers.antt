@@ -1,5 +1,5 @@
 use Rattle.std.proofs.Common.{refl, ap, ◌∙◌}
-use Rattle.kf_core.proofs.WorldVisits.{alone}
+use Rattle.kf_world.proofs.WorldVisits.{alone}
 use Rattle.kf_plain.proofs.Callers.{waits_inside}
 use Rattle.kf_plain.proofs.BoardVisits.{visited, to_live, either_way, live_seen, tied_slots, seen_same, seen_waits, can_try, reads_by, reads_visit}
 use Rattle.std.proofs.Common.{ℕ}

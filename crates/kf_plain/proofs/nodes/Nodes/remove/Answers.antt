@@ -11,7 +11,7 @@ use Rattle.kf_plain.specs.Removals.{Cleared, PinsRefused, still_on, with_callers
 use Rattle.kf_plain.proofs.Pins.{given_back, may_all_release}
 use Rattle.kf_plain.proofs.Removed.{RefusedSo, no_doom_cause, pins_refused, doom_refused, seen_room, all_different, all_undoomed, same_after, all_doomed, all_children_first, all_idle, tied_removed, told_removed, seen_removed}
 use Rattle.kf_core.specs.Agrees.{AgreesHidden}
-use Rattle.kf_core.specs.Bounded.{BoundedWorld}
+use Rattle.kf_world.specs.Bounded.{BoundedWorld}
 use Rattle.kf_tree.specs.TreeLogs.{TreeLog}
 use Rattle.kf_plain.specs.Nodes.{AreTied}
 use Rattle.kf_plain.proofs.BoardVisits.{tied_slots, held_stays}
@@ -19,7 +19,7 @@ use Rattle.kf_plain.proofs.HiddenMarks.{told_spent}
 use Rattle.kf_plain.proofs.Ties.{logs}
 use Rattle.kf_plain.proofs.nodes.Nodes.remove.Goals as goal
 
--- what holds of a refusal holds of the answer that has it
+-- what holds of a refusal holds of the result that has it
 refused_with : {X : Type 0} (Q : Refusal → Type 0) (result : Result X Refusal) (refusal : Refusal) → IsErrAnd result (λ e. e ≡ refusal) → Q refusal → IfErr result Q
 refused_with Q (Ok x) refusal h q = tt
 refused_with Q (Err e) refusal h q = subst Q (sym h) q

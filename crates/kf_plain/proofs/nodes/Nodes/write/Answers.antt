@@ -1,4 +1,4 @@
-use Rattle.kf_core.proofs.WorldVisits.{alone}
+use Rattle.kf_world.proofs.WorldVisits.{alone}
 use Rattle.kf_plain.proofs.Callers.{waits_inside}
 use Rattle.kf_plain.proofs.BoardVisits.{visited, to_live, live_seen, tied_slots, seen_waits, can_try, writes_by, writes_visit}
 use Rattle.kf_plain.proofs.HiddenMarks.{told_by, hiders_waiting}

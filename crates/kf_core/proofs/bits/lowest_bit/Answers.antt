@@ -1,0 +1,9 @@
+-- There is a bit, since the word is not 0.
+use Rattle.std.proofs.Common.{arith, w64}
+use Rattle.std.proofs.lemmas.Nat.Bits.{bit_at-trailing_zeros}
+use Rattle.kf_core.proofs.bits.lowest_bit.Goals as goal
+
+pub returns : goal.returns
+returns c =
+    let h = bit_at-trailing_zeros w64 c.args.word (omega (arith, c.requires)) c.ranges.word.fits in
+    record { bound = h.0; set = h.1; below = h.2 }

@@ -1,7 +1,0 @@
--- No slot below the block is free.
-use Rattle.std.proofs.Common.{◌*◌}
-use Rattle.kf_core.specs.Counts.{NoneFree}
-use Rattle.kf_core.proofs.world.World.free_in_group.Given as goal
-
-abbrev pub invariant-loop-block : goal.invariant-loop-block
-invariant-loop-block l = NoneFree l.self.world (64 * l.block)

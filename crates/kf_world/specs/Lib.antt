@@ -1,0 +1,4 @@
+pub mod Bounded
+pub mod WorldGuard
+pub mod Hints
+pub mod Counts
