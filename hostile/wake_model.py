@@ -1,30 +1,36 @@
 #!/usr/bin/env python3
-"""Tries the waking of those who sleep at an active word, and of those who sleep at an event number, in every order of
-their steps:  hostile/wake_model.py
+# SPDX-License-Identifier: MIT OR Apache-2.0
+"""Tries the waking of sleepers at an active word, and of sleepers at an event number, in every order of their steps:
+  hostile/wake_model.py
 
-No clause speaks of wakes, so this searches all states of a few threads at one word. It is the algorithm of
-crates/kf_words/src/seat/sleep.rt, step by step: who sleeps counts itself, lets the kernel compare and queue it, and is
-counted no more when it is awake; who takes a user off changes the word, loads the count, and wakes all. At an event
-number (crates/kf_notify/src/sleep.rt, crates/kf_files/src/telling.rt) who waits for a change tries, loads the number
-and sleeps on it; a notify raises it, loads the count, and wakes all; a removal and a hiding mark first, and then do as
-a notify does. A state is stuck where nobody need move any more, and one sleeps without limit for what is true already.
-There must be none. Each of the VARIANTS has one of the steps taken out or turned round: there must be stuck states
-then, or the search sees nothing. Its last line is 'N passed, M failed'."""
+Clauses name the steps of a sleeper and of the thread that wakes it, in their order. No clause sees the kernel's queue,
+so this searches all states of a few threads at one word. It is the algorithm of crates/kf_words/src/seat/sleep.rt, step
+by step. A sleeper counts itself, lets the kernel compare and queue it, and takes itself off the count when it is awake.
+A thread that takes a user off changes the word, loads the count, and wakes all sleepers.
+
+At an event number (crates/kf_notify/src/sleep.rt, crates/kf_files/src/telling.rt) a thread that waits for a change
+tries, loads the number and sleeps on it. A notify raises the number, loads the count, and wakes all. A removal and a
+hiding mark first, and then do as a notify does. A listener (crates/kf_uevents/src/listener.rt) takes the number, looks
+at the list of events, and sleeps on that number. An event is added to the list, and then a notify follows.
+
+A state is stuck if nobody need move any more, and a thread sleeps without limit for what is true already. There must be
+none. Each of the VARIANTS has one of the steps taken out or turned round: then there must be stuck states, or the
+search sees nothing. The last line is 'N passed, M failed'."""
 
 import sys
 from collections import namedtuple
 
-# Of an active word its users, whether its node is doomed and its key hidden, and the count of those who sleep at it.
+# Of an active word: its users, whether its node is doomed and its key hidden, and the count of its sleepers.
 Word = namedtuple("Word", "users doom hide sleepers")
-# Who it is, how far, how many users it saw when it looked, how often it begins again.
+# Of a thread: what it does, how far it is, how many users it saw when it looked, how often it begins again.
 Thread = namedtuple("Thread", "kind at seen again")
 
-# A call need not end, a mark, a try or a hiding not begin, a hidden key not be shown: who is there need not move.
+# A call need not end, a mark, a try or a hiding need not begin, and a hidden key need not be shown.
 AT_WILL = {("call", "runs"), ("call", "breaks"), ("call", "broken"), ("mark", "begin"), ("try", "begin"),
            ("try", "runs"), ("hider", "begin"), ("hider", "hidden")}
 
 WORD_VARIANTS = ["a leave wakes nobody", "a break wakes nobody", "an undo wakes nobody", "one is woken, not all",
-                       "the count is loaded before the word is changed", "who sleeps counts itself when it is queued",
+                       "the count is loaded before the word is changed", "a sleeper counts itself when it is queued",
                  "the kernel compares nothing", "a wait before the mark has no limit"]
 
 
@@ -37,8 +43,8 @@ def what_it_waits_for(kind, word):
 
 
 def took_off(thread, word, after, what, variant):
-    """The step that takes one user off, and what it owes: where the word that it found kept tries out, and is now
-    drained, or unused and hidden, it has still to load the count. (In one variant it has loaded it before: `seen`.)"""
+    """The step that takes one user off, and what it owes. If the word kept tries out, and is now drained, or unused and
+    hidden, the thread has still to load the count. (In one variant it has loaded the count before: `seen`.)"""
     early = variant == "the count is loaded before the word is changed"
     if early and not thread.seen:
         return [(thread._replace(seen=word.sleepers + 1), word)]
@@ -70,9 +76,9 @@ def caller_steps(thread, word, variant):
 
 
 def sleeper_steps(thread, word, variant):
-    """Who waits for a drain, who rests with a receipt, and who hides: it looks, and sleeps where it has to wait."""
+    """A wait for a drain, a rest with a receipt, and a hiding: each looks, and sleeps if it has to wait."""
     kind, at, users = thread.kind, thread.at, word.users
-    late = variant == "who sleeps counts itself when it is queued"
+    late = variant == "a sleeper counts itself when it is queued"
     if kind == "hider" and at == "begin":
         return [(thread._replace(at="look"), word._replace(hide=True))]
     if kind == "hider" and at == "hidden":
@@ -107,7 +113,7 @@ def awake(thread):
 
 
 def woken(threads, variant):
-    """The threads after a wake: all who sleep are awake, or in one variant any one of them."""
+    """The threads after a wake: all sleepers are awake, or in one variant any one of them."""
     asleep = [i for i, it in enumerate(threads) if it.at in ("asleep", "queued")]
     if variant == "one is woken, not all" and asleep:
         return [tuple(awake(it) if i == one else it for i, it in enumerate(threads)) for one in asleep]
@@ -151,22 +157,24 @@ WORD_CASES = {
 
 # ---- the event number of a slot
 
-# The number of a slot, whether its node is doomed and its key hidden, and the count of those who sleep at the number.
-Number = namedtuple("Number", "number doom hide sleepers")
+# Of a slot: its number, whether its node is doomed and its key hidden, and the count of the number's sleepers. And the
+# length of the list of events.
+Number = namedtuple("Number", "number doom hide sleepers events")
 
 NUMBER_VARIANTS = ["a removal wakes and raises nothing", "a removal raises before its mark", "a removal wakes nobody",
                    "a hiding wakes and raises nothing", "a hiding raises before its mark", "a notify wakes nobody",
                    "one is woken, not all", "the count is loaded before the number is raised",
-                   "who waits counts itself when it is queued"]
+                   "a waiter counts itself when it is queued", "a listener looks before it takes the number",
+                   "an event is added after its raise"]
 
 MARKS = {"removal": {"doom": True}, "hiding": {"hide": True}}
 
 
 def waiter_steps(thread, word, variant):
-    """Who waits for a change of its file: it tries, loads the number, and sleeps on it. Once there is one it reads the
-    file again, and may wait again."""
+    """A wait for a change of a file: it tries, loads the number, and sleeps on it. After a change it reads the file
+    again, and may wait again."""
     at, is_out = thread.at, word.doom or word.hide
-    late = variant == "who waits counts itself when it is queued"
+    late = variant == "a waiter counts itself when it is queued"
     if at in ("try", "read") and is_out:
         return [(thread._replace(at="done"), word)]
     if at == "read":
@@ -188,8 +196,29 @@ def waiter_steps(thread, word, variant):
     return []
 
 
+def listener_steps(thread, word, variant):
+    """A listener that reads events, and waits for the next: it takes the number, looks at the list, and sleeps on that
+    number if there is no event more. It has read `again` of them."""
+    at, early = thread.at, variant == "a listener looks before it takes the number"
+    if (at == "look" or at == "listen" and early) and word.events > thread.again:
+        return [(thread._replace(at="listen", again=thread.again + 1), word)]
+    if at == "listen" and early:
+        return [(thread._replace(at="take"), word)]
+    if at == "listen":
+        return [(thread._replace(at="look", seen=word.number), word)]
+    if at == "take":
+        return [(thread._replace(at="in", seen=word.number), word)]
+    if at in ("look", "in"):
+        return [(thread._replace(at="compare"), word._replace(sleepers=word.sleepers + 1))]
+    if at == "compare":
+        return [(thread._replace(at="asleep" if word.number == thread.seen else "out"), word)]
+    if at == "out":
+        return [(thread._replace(at="listen"), word._replace(sleepers=word.sleepers - 1))]
+    return []
+
+
 def order_of(kind, variant):
-    """The steps of a notify, and of a removal or a hiding that tells."""
+    """The steps of a notify, of a removal, a hiding, and an event, each with its notify."""
     steps = ["load", "raise", "count", "wake"]
     if variant == "the count is loaded before the number is raised":
         steps = ["load", "count", "raise", "wake"]
@@ -197,6 +226,8 @@ def order_of(kind, variant):
         steps = ["load", "raise"]
     if kind == "notify":
         return steps
+    if kind == "event":
+        return steps + ["add"] if variant == "an event is added after its raise" else ["add"] + steps
     if variant == f"a {kind} wakes and raises nothing":
         return ["mark", "count", "wake"]
     if variant == f"a {kind} raises before its mark":
@@ -205,8 +236,8 @@ def order_of(kind, variant):
 
 
 def teller_steps(i, word, threads, variant):
-    """The next step of a notify, a removal or a hiding. What it loaded is in `seen`; `again` is 1 where it found nobody
-    asleep."""
+    """The next step of a notify, a removal, a hiding or an event. What it loaded is in `seen`; `again` is 1 if it found
+    nobody asleep."""
     thread = threads[i]
     order = order_of(thread.kind, variant)
     if thread.at == "done":
@@ -214,6 +245,8 @@ def teller_steps(i, word, threads, variant):
     step, moved = order[thread.at], thread._replace(at=thread.at + 1 if thread.at + 1 < len(order) else "done")
     if step == "mark":
         word = word._replace(**MARKS[thread.kind])
+    elif step == "add":
+        word = word._replace(events=word.events + 1)
     elif step == "load":
         moved = moved._replace(seen=word.number)
     elif step == "raise":
@@ -227,23 +260,30 @@ def teller_steps(i, word, threads, variant):
 
 def next_of_number(word, threads, variant):
     for i, thread in enumerate(threads):
-        if thread.kind != "waiter":
+        if thread.kind not in ("waiter", "listener"):
             yield from teller_steps(i, word, threads, variant)
             continue
-        for moved, left in waiter_steps(thread, word, variant):
+        steps = waiter_steps if thread.kind == "waiter" else listener_steps
+        for moved, left in steps(thread, word, variant):
             yield left, threads[:i] + (moved,) + threads[i + 1:]
 
 
+def is_due(it, word):
+    """What it sleeps for is there."""
+    return word.events > it.again if it.kind == "listener" else word.doom or word.hide or word.number != it.seen
+
+
 def is_asleep_for_ever(word, threads):
-    """A notify, a removal or a hiding need not begin; one that has begun goes on."""
+    """A notify, a removal, a hiding or an event need not begin; one that has begun goes on."""
     for it in threads:
         if it.at not in ("asleep", "done", 0):
             return False
-    return any(it.at == "asleep" and (word.doom or word.hide or word.number != it.seen) for it in threads)
+    return any(it.at == "asleep" and is_due(it, word) for it in threads)
 
 
 WAITER, WAITS = Thread("waiter", "try", 1, 0), Thread("waiter", "try", 1, 1)
-NOTIFY, REMOVAL, HIDING = (Thread(kind, 0, 0, 0) for kind in ("notify", "removal", "hiding"))
+NOTIFY, REMOVAL, HIDING, EVENT = (Thread(kind, 0, 0, 0) for kind in ("notify", "removal", "hiding", "event"))
+LISTENER = Thread("listener", "listen", 0, 0)
 
 NUMBER_CASES = {
     "two who wait again, a notify, a removal": [WAITS, WAITS, NOTIFY, REMOVAL],
@@ -251,12 +291,13 @@ NUMBER_CASES = {
     "three who wait, a notify, a removal": [WAITER, WAITER, WAITER, NOTIFY, REMOVAL],
     "two who wait again, a notify, a hiding": [WAITS, WAITS, NOTIFY, HIDING],
     "one who waits again, a notify, a removal, a hiding": [WAITS, NOTIFY, REMOVAL, HIDING],
+    "two listeners, two events": [LISTENER, LISTENER, EVENT, EVENT],
 }
 
 # ---- the search
 
 def search(start, variant, next_of, stuck_in):
-    """How many states there are, and a stuck one, where it meets one: there it ends."""
+    """How many states there are, and a stuck one if there is one: there it ends."""
     seen, todo = {start}, [start]
     while todo:
         word, threads = todo.pop()
@@ -275,7 +316,7 @@ def begun(case):
 
 
 WORDS = ({name: begun(case) for name, case in WORD_CASES.items()}, WORD_VARIANTS, next_states, is_stuck)
-NUMBERS = ({name: (Number(1, False, False, 0), tuple(case)) for name, case in NUMBER_CASES.items()}, NUMBER_VARIANTS,
+NUMBERS = ({name: (Number(1, False, False, 0, 0), tuple(case)) for name, case in NUMBER_CASES.items()}, NUMBER_VARIANTS,
            next_of_number, is_asleep_for_ever)
 
 
@@ -288,7 +329,7 @@ def main():
             passed, failed = passed + (not stuck), failed + bool(stuck)
         for variant in variants:
             where = next((name for name, start in cases.items() if search(start, variant, next_of, stuck_in)[1]), None)
-            print(f"where {variant}: {'somebody is stuck, in ' + where if where else 'NOT SEEN'}")
+            print(f"if {variant}: {'somebody is stuck, in ' + where if where else 'NOT SEEN'}")
             passed, failed = passed + bool(where), failed + (not where)
     print(f"{passed} passed, {failed} failed")
     sys.exit(1 if failed else 0)

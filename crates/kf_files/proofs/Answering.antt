@@ -1,10 +1,10 @@
--- What a read answers, told from what it shows.
+-- What a read returns, stated from what it shows.
 use Rattle.std.proofs.Common.{◌≡◌, ℕ, sym, subst, refl, List, ◌++◌, length, drop, Result, Ok, Err}
 use Rattle.kf_core.specs.Calls.{Visit}
 use Rattle.kf_files.specs.declared.ops.FileError.{FileError}
 use Rattle.kf_files.specs.Files.{FileState, Gives, Reads, ShowResult}
 
--- what is said of a read's answer may be said otherwise
+-- what is said of a read's result may be said otherwise
 pub reads_answered : {V : Visit ShowResult → Type 0} {A A' : Result (List ℕ) FileError → Type 0} {state state' : FileState} {offset count : ℕ}
     → ((answer : Result (List ℕ) FileError) → A answer → A' answer) → Reads V A state offset count state' → Reads V A' state offset count state'
 reads_answered f r = record {

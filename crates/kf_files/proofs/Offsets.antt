@@ -1,4 +1,4 @@
--- Reads and writes at an offset, told from what a callback answered and from a visit.
+-- Reads and writes at an offset, stated from what a callback returned and from a visit.
 use Rattle.std.proofs.Common.{◌≡◌, ◌≢◌, ℕ, true, List, [], ◌∷◌, length, Option, Result, refl}
 use Rattle.kf_core.specs.Calls.{Visit, unvisited, tried}
 use Rattle.kf_files.specs.declared.ops.Fault.{Fault}
@@ -7,13 +7,13 @@ use Rattle.kf_files.specs.Files.{FileState, told_of}
 use Rattle.kf_files.specs.Binary.{front_of, ReadAt, WrittenAt, ReadsAt, NumberedRead, answer_in, after_read}
 use Rattle.kf_files.specs.Waiting.{MayReadAt}
 
--- where there is room there was a read
+-- if there is room there was a read
 pub read-some : {Ops : Type 0} (reads_at : Ops → ℕ → ℕ → ℕ → Result (List ℕ) Fault → Ops → Type 0) (ops : Ops) (tag offset : ℕ) (out out' : List ℕ) (ops' : Ops) (answer : Result ℕ Fault)
     → length out ≢ 0 → reads_at ops tag offset (length out) (front_of answer out') ops' → ReadAt reads_at ops tag offset out out' ops' answer
 read-some reads_at ops tag offset [] out' ops' answer some done = absurd (some refl)
 read-some reads_at ops tag offset (byte ∷ out) out' ops' answer some done = done
 
--- where there are bytes there was a write
+-- if there are bytes there was a write
 pub written-some : {Ops : Type 0} (writes_at : Ops → ℕ → ℕ → List ℕ → Result ℕ Fault → Ops → Type 0) (ops : Ops) (tag offset : ℕ) (bytes : List ℕ) (ops' : Ops) (answer : Result ℕ Fault)
     → length bytes ≢ 0 → writes_at ops tag offset bytes answer ops' → WrittenAt writes_at ops tag offset bytes ops' answer
 written-some writes_at ops tag offset [] ops' answer some done = absurd (some refl)
@@ -34,7 +34,7 @@ reads_at_told f r = record {
   read = λ yes. let s = r.read yes in (s.0, f (tried s.0) s.1, s.2, s.3);
 }
 
--- of callbacks that stay as they are only the answer is told
+-- of callbacks that stay as they are only the result is stated
 pub may_read : {Lent : Type 0} (reads_at : ℕ → ℕ → ℕ → Result (List ℕ) Fault → Type 0) (lent lent' : Lent) (tag offset : ℕ) (out out' : List ℕ) (answer : Result ℕ Fault)
     → ReadAt (λ l t o r a l'. reads_at t o r a × (l' ≡ l)) lent tag offset out out' lent' answer → MayReadAt reads_at tag offset out out' answer
 may_read reads_at lent lent' tag offset [] out' answer h = h.0

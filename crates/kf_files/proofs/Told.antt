@@ -1,4 +1,4 @@
--- A slot told, and slots told one after another.
+-- A slot notified, and slots notified one after another.
 use Rattle.std.proofs.Common.{◌≡◌, inl, inr, ℕ, ◌+◌, ◌-◌, ◌^◌, ◌<◌, ◌≤◌, List, [], ◌∷◌, ◌++◌, length, take, get_or, refl, sym, ◌∙◌, subst}
 use Rattle.std.specs.Prelude.{Result, Ok, Err, IfOk, IfErr}
 use Rattle.std.proofs.lemmas.List.{map_more}
@@ -8,13 +8,13 @@ use Rattle.kf_shared.specs.Removal.{keys_of}
 use Rattle.kf_notify.specs.PostStates.{Numbers, HandleRaised, HandleFound, id_of}
 use Rattle.kf_files.specs.Telling.{WasTold, WereTold}
 
--- by the answer of the handle's notify
+-- by the result of the handle's notify
 pub told_by : {E : Type 0} (old new : Numbers) (slot : ℕ) (result : Result ℕ E) → slot < old.slots → id_of new ≡ id_of old
     → IfOk result (λ number. HandleRaised old slot number new) → IfErr result (λ _. HandleFound old slot (2 ^ 64 - 1) new) → WasTold old slot new
 told_by old new slot (Ok number) near same raised full = record { same = same; told = inl (near, (number, raised)) }
 told_by old new slot (Err why) near same raised full = record { same = same; told = inr (inl (near, full)) }
 
--- where the slot has no number
+-- if the slot has no number
 pub told_nothing : (old : Numbers) (slot : ℕ) → old.slots ≤ slot → WasTold old slot old
 told_nothing old slot past = record { same = refl; told = inr (inr (past, refl)) }
 

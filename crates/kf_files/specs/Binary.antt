@@ -8,31 +8,31 @@ use Rattle.kf_files.specs.declared.ops.FileError.{FileError}
 use Rattle.kf_files.specs.declared.ops.FileError.TheVariants.{Refused}
 use Rattle.kf_files.specs.Files.{FileState, told_of}
 
--- what a read that answered this made of the buffer: the bytes at its front, or its fault
+-- what a read that returned this made of the buffer: the bytes at its front, or its fault
 abbrev pub front_of : Result ℕ Fault → List ℕ → Result (List ℕ) Fault
 front_of (Ok count) out = Ok (take count out)
 front_of (Err fault) out = Err fault
 
--- a read at an offset that made this of the buffer; into no room there is none, and the answer is 0
+-- a read at an offset that made this of the buffer; into no room there is none, and the result is 0
 abbrev pub ReadAt : {Ops : Type 0} → (Ops → ℕ → ℕ → ℕ → Result (List ℕ) Fault → Ops → Type 0)
     → Ops → ℕ → ℕ → List ℕ → List ℕ → Ops → Result ℕ Fault → Type 0
 ReadAt reads_at ops tag offset [] out' ops' answer = (answer ≡ Ok 0) × (ops' ≡ ops)
 ReadAt reads_at ops tag offset (byte ∷ out) out' ops' answer =
     reads_at ops tag offset (length (byte ∷ out)) (front_of answer out') ops'
 
--- a write of these bytes at an offset; of no bytes there is none, and the answer is 0
+-- a write of these bytes at an offset; of no bytes there is none, and the result is 0
 abbrev pub WrittenAt : {Ops : Type 0} → (Ops → ℕ → ℕ → List ℕ → Result ℕ Fault → Ops → Type 0)
     → Ops → ℕ → ℕ → List ℕ → Ops → Result ℕ Fault → Type 0
 WrittenAt writes_at ops tag offset [] ops' answer = (answer ≡ Ok 0) × (ops' ≡ ops)
 WrittenAt writes_at ops tag offset (byte ∷ bytes) ops' answer =
     writes_at ops tag offset (byte ∷ bytes) answer ops'
 
--- a read at an offset: the event number that was taken before it, and what it answered
+-- a read at an offset: the event number that was taken before it, and what it returned
 pub record NumberedRead : Type 0 where
   pub number : ℕ
   pub answer : Result ℕ Fault
 
--- what a read answered
+-- what a read returned
 abbrev pub answer_in : Option NumberedRead → Option (Result ℕ Fault)
 answer_in came = option_map (λ read. read.answer) came
 

@@ -23,7 +23,7 @@ abbrev pub hold_in : {Hold : Type 0} (place : Option Hold) → IsSome place → 
 hold_in (Some hold) there = hold
 hold_in None there = absurd (false≢true there)
 
--- the page's bytes, where they are a text
+-- the page's bytes, if they are a text
 abbrev pub text_in : Bool → List ℕ → Option (List ℕ)
 text_in true bytes = Some bytes
 text_in false bytes = None
@@ -33,7 +33,7 @@ abbrev pub held_refusal : {Hold Page : Type 0} → Result (Held Hold) (Hold × P
 held_refusal (Ok file) = None
 held_refusal (Err back) = Some back.2
 
--- why an open was refused, where it was
+-- why an open was refused, if it was
 abbrev pub refusal_of : {Hold : Type 0} → Result (Opened Hold) (Hold × PostState × Refusal) → Option Refusal
 refusal_of (Ok file) = None
 refusal_of (Err back) = Some back.2
@@ -48,13 +48,13 @@ abbrev pub hold_after : {Hold : Type 0} → Result (Opened Hold) (Hold × PostSt
 hold_after (Ok file) = file.hold
 hold_after (Err back) = back.0
 
--- why an open with a page of the caller's was refused, where it was
+-- why an open with a page that the caller lends was refused, if it was
 abbrev pub paged_refusal : {Hold Page : Type 0}
     → Result (Opened Hold) (Hold × PostState × Page × Refusal) → Option Refusal
 paged_refusal (Ok file) = None
 paged_refusal (Err back) = Some back.3
 
--- the hold after an open with a page of the caller's: in the file, or given back
+-- the hold after an open with a page that the caller lends: in the file, or given back
 abbrev pub paged_after : {Hold Page : Type 0}
     → Result (Opened Hold) (Hold × PostState × Page × Refusal) → Hold
 paged_after (Ok file) = file.hold

@@ -1,4 +1,4 @@
--- What a removal or a hiding tells those who wait, by the event numbers of its slots.
+-- What a removal or a hiding notifies waiters of, by the event numbers of its slots.
 use Rattle.std.specs.Prelude.{◌≡◌, ◌⊎◌, ℕ, ◌-◌, ◌^◌, ◌<◌, ◌≤◌, List, [], ◌∷◌}
 use Rattle.kf_core.specs.declared.key.Key.{Key}
 use Rattle.kf_notify.specs.PostStates.{Numbers, HandleRaised, HandleFound, id_of}
@@ -16,7 +16,7 @@ pub record WasTold (old : Numbers) (slot : ℕ) (new : Numbers) : Type 0 where
   pub same : id_of new ≡ id_of old
   pub told : SlotRaised old slot new ⊎ SlotFull old slot new ⊎ ((old.slots ≤ slot) × (new ≡ old))
 
--- the slots of these keys were told, each once and in this order, and no other was
+-- the slots of these keys were notified, each once and in this order, and no other was
 abbrev pub WereTold : Numbers → List Key → Numbers → Type 0
 WereTold old [] new = new ≡ old
 WereTold old (key ∷ keys) new = (between : Numbers) × WasTold old key.slot between × WereTold between keys new

@@ -1,9 +1,9 @@
--- Visits to a node of a shared tree by one hold. Of callbacks only their answers are told.
+-- Visits to a node of a shared tree by one hold. Of callbacks only their results are stated.
 use Rattle.std.specs.Prelude.{◌≡◌, ◌≢◌, ◌⊎◌, ℕ, true, List, [], ◌∷◌, length, take, Result, Ok}
 use Rattle.kf_core.specs.Calls.{CallView, Visit, Visits}
 use Rattle.kf_words.specs.Callers.{Handle, SeatId, id_of, seat_view, IsSameSeat, Entered, WasTurned, WasLeft}
 use Rattle.kf_words.specs.Layout.{keeps_out}
-use Rattle.kf_words.specs.Runs.{WasLetInLive, WasATryUndone, WasALeave}
+use Rattle.kf_words.specs.Runs.{WasLetInLive, WasATryUndoneThenWake, WasALeaveThenWake}
 use Rattle.kf_files.specs.declared.ops.Fault.{Fault}
 use Rattle.kf_files.specs.Binary.{front_of}
 use Rattle.kf_files.specs.Opened.{Opened}
@@ -17,12 +17,12 @@ module _ {G : Type 0} where
   -- one try found a word that keeps it out, and was undone
   abbrev pub turns_away : G → Handle → Handle → G → Type 0
   turns_away _ hold back _ =
-      IsSameSeat hold back × WasTurned hold back × WasATryUndone (seat_view hold) (seat_view back)
+      IsSameSeat hold back × WasTurned hold back × WasATryUndoneThenWake (seat_view hold) (seat_view back)
 
   -- one step ended the call
   abbrev pub lets_go : G → Handle → Handle → G → Type 0
   lets_go _ call hold _ =
-      IsSameSeat call hold × WasLeft call hold × WasALeave (seat_view call) (seat_view hold)
+      IsSameSeat call hold × WasLeft call hold × WasALeaveThenWake (seat_view call) (seat_view hold)
 
 -- the call as its callback sees it
 abbrev pub call_view : Handle → CallView SeatId
@@ -33,19 +33,19 @@ abbrev pub WaitVisits : {Done : Type 0} → Type 0 → (Done → Type 0) → Han
 WaitVisits idle does hold hold' =
     Visits {Guard = Unit {0}} lets_in turns_away lets_go call_view idle does tt hold tt hold'
 
--- what a store of the first 4,096 bytes may answer; of no bytes there is none, and the answer is 0
+-- what a store of the first 4,096 bytes may return; of no bytes there is none, and the return is 0
 abbrev pub MayStore : (ℕ → List ℕ → Result ℕ Fault → Type 0) → ℕ → List ℕ → Result ℕ Fault → Type 0
 MayStore stores tag [] answer = answer ≡ Ok 0
 MayStore stores tag (byte ∷ bytes) answer = stores tag (take 4096 (byte ∷ bytes)) answer
 
--- what a read at an offset may answer, which made this of the buffer; into no room there is none
+-- what a read at an offset may return, which made this of the buffer; into no room there is none
 abbrev pub MayReadAt : (ℕ → ℕ → ℕ → Result (List ℕ) Fault → Type 0) → ℕ → ℕ → List ℕ → List ℕ
     → Result ℕ Fault → Type 0
 MayReadAt reads_at tag offset [] out' answer = answer ≡ Ok 0
 MayReadAt reads_at tag offset (byte ∷ out) out' answer =
     reads_at tag offset (length (byte ∷ out)) (front_of answer out')
 
--- what a write of these bytes at an offset may answer; of no bytes there is none
+-- what a write of these bytes at an offset may return; of no bytes there is none
 abbrev pub MayWriteAt : (ℕ → ℕ → List ℕ → Result ℕ Fault → Type 0) → ℕ → ℕ → List ℕ
     → Result ℕ Fault → Type 0
 MayWriteAt writes_at tag offset [] answer = answer ≡ Ok 0

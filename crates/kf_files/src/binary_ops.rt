@@ -21,10 +21,10 @@ pub trait BinaryOps<C: ActiveCall> {
     /// A read for this tag at this offset, into this much room, gave these bytes, or this fault.
     ghost reads_at: { Self → ℕ → ℕ → ℕ → Result (List ℕ) Fault → Self → Type 0 };
 
-    /// A write for this tag at this offset of these bytes answered this.
+    /// A write for this tag at this offset of these bytes returned this.
     ghost writes_at: { Self → ℕ → ℕ → List ℕ → Result ℕ Fault → Self → Type 0 };
 
-    /// Puts the bytes from the offset on into the front of `out`, and answers how many those are, 0 past the
+    /// Puts the bytes from the offset on into the front of `out`, and returns how many those are, 0 past the
     /// end; or gives a fault. What it makes of the rest of `out` is its own matter.
     ///
     /// Conditions: the call is Running, and there is room for a byte.
@@ -41,7 +41,7 @@ pub trait BinaryOps<C: ActiveCall> {
         ensures read { reads_at self.old tag offset (length out.old) (front_of result out.new) self.new }
         ensures call { GivenBack (C.view_of call.old) (C.view_of call.new) };
 
-    /// Takes the bytes at the offset, and answers how many it took from their front, or gives a fault.
+    /// Takes the bytes at the offset, and returns how many it took from their front, or gives a fault.
     ///
     /// Conditions: the call is Running, and there is a byte.
     fn write_at(
@@ -67,11 +67,11 @@ pub trait WaitBinaryOps<N: Naming> {
     /// A read for this tag at this offset, into this much room, may give these bytes, or this fault.
     ghost may_read_at: { Self → ℕ → ℕ → ℕ → Result (List ℕ) Fault → Type 0 };
 
-    /// A write for this tag at this offset of these bytes may answer this.
+    /// A write for this tag at this offset of these bytes may return this.
     ghost may_write_at: { Self → ℕ → ℕ → List ℕ → Result ℕ Fault → Type 0 };
 
     /// Puts the bytes from the offset on into the front of `out`, in which there is room for one or more, and
-    /// answers how many those are, 0 past the end; or gives a fault.
+    /// returns how many those are, 0 past the end; or gives a fault.
     fn read_at<R: Wait>(
         &self,
         rt: &R,
@@ -89,7 +89,7 @@ pub trait WaitBinaryOps<N: Naming> {
         ensures seat { IsSameSeat call.old call.new }
         ensures reference { has_reference call.new.phase ≡ true };
 
-    /// Takes the bytes at the offset, one or more, and answers how many it took from their front, or gives a
+    /// Takes the bytes at the offset, one or more, and returns how many it took from their front, or gives a
     /// fault.
     fn write_at<R: Wait>(
         &self,

@@ -35,13 +35,13 @@ fn write_some<C: ActiveCall, B: BinaryOps<C>>(
 
 impl<G: Guard, P: PageHolder> HeldFile<G, P> {
     /// Reads bytes from the offset on into the front of `out`, by one read of a binary attribute under a
-    /// call, after its event number was taken, and answers how many it says they are, a fault as `Callback`
-    /// (`sysfs_kf_bin_read`). A read into no room answers 0 and calls nothing, but it needs a live node
+    /// call, after its event number was taken, and returns how many it says they are, a fault as `Callback`
+    /// (`sysfs_kf_bin_read`). A read into no room returns 0 and calls nothing, but it needs a live node
     /// too. No text is kept, and what is buffered stays.
     ///
     /// Condition: the file's hold may try, as it may after `open` and after each call here.
     ///
-    /// Refusals, in order: `Access` where the file was not opened for reading, `NoDevice` where the node is
+    /// Refusals, in order: `Access` if the file was not opened for reading, `NoDevice` if the node is
     /// not live; both change nothing.
     pub fn read_at<B: BinaryOps<G::Call>, N: EventNumbers<G::Call>>(
         &mut self,
@@ -85,13 +85,13 @@ impl<G: Guard, P: PageHolder> HeldFile<G, P> {
         }
     }
 
-    /// Hands all the bytes to one write of a binary attribute at the offset under a call, and answers what
-    /// it answers, a fault as `Callback` (`sysfs_kf_bin_write`). A write of no bytes answers 0 and calls
+    /// Hands all the bytes to one write of a binary attribute at the offset under a call, and returns what
+    /// it returns, a fault as `Callback` (`sysfs_kf_bin_write`). A write of no bytes returns 0 and calls
     /// nothing, but it needs a live node too. The file stays as it was.
     ///
     /// Condition: the file's hold may try, as it may after `open` and after each call here.
     ///
-    /// Refusals, in order: `Access` where the file was not opened for writing, `NoDevice` where the node is
+    /// Refusals, in order: `Access` if the file was not opened for writing, `NoDevice` if the node is
     /// not live.
     pub fn write_at<B: BinaryOps<G::Call>>(
         &mut self,

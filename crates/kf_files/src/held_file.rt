@@ -65,7 +65,7 @@ impl<G: Guard, P: PageHolder> HeldFile<G, P> {
     /// Condition: the hold may try, as each call of a guard ensures of a hold that it gives back.
     ///
     /// Refusals, in order: `IsDir` a directory, `Invalid` a link, `NoDevice` a node that is not live,
-    /// `Access` reading where the mode has no bit of 0o444, or writing where it has none of 0o222.
+    /// `Access` reading if the mode has no bit of 0o444, or writing if it has none of 0o222.
     /// A refusal gives the hold and the page back.
     pub fn open(
         guard: &mut G,
@@ -102,15 +102,15 @@ impl<G: Guard, P: PageHolder> HeldFile<G, P> {
         })
     }
 
-    /// Reads the text from the offset on, in bytes, into the front of `out`, and answers how many bytes that
-    /// are (`kernfs_fop_read_iter`). At offset 0, and where no text is buffered, the text is shown anew under
+    /// Reads the text from the offset on, in bytes, into the front of `out`, and returns how many bytes that
+    /// are (`kernfs_fop_read_iter`). At offset 0, and if no text is buffered, the text is shown anew under
     /// a call, after its event number was taken. Else it is the buffered text, which needs no live node and
     /// takes no number.
     ///
     /// Condition: the file's hold may try, as it may after `open` and after each call here.
     ///
-    /// Refusals, in order: `Access` where the file was not opened for reading, `NoDevice` where the node is
-    /// not live; both change nothing. A fault of show is answered as `Callback`, and leaves no text. The rest
+    /// Refusals, in order: `Access` if the file was not opened for reading, `NoDevice` if the node is
+    /// not live; both change nothing. A fault of show is returned as `Callback`, and leaves no text. The rest
     /// of `out` stays, and all of it after an error.
     pub fn read<O: Ops<G::Call>, N: EventNumbers<G::Call>>(
         &mut self,
@@ -143,7 +143,7 @@ impl<G: Guard, P: PageHolder> HeldFile<G, P> {
     }
 
     /// Sees to the text of a read at this offset, which [`HeldFile::text_from`] then gives: the first half of
-    /// [`HeldFile::read`], with its condition and its refusals, for who has no buffer of its own.
+    /// [`HeldFile::read`], with its condition and its refusals, for a caller that has no buffer.
     pub fn prepare<O: Ops<G::Call>, N: EventNumbers<G::Call>>(
         &mut self,
         guard: &mut G,
@@ -173,9 +173,9 @@ impl<G: Guard, P: PageHolder> HeldFile<G, P> {
         self.show(guard, ops, numbers)
     }
 
-    /// At most so many bytes of the buffered text from the offset on.
+    /// At most this many bytes of the buffered text from the offset on.
     ///
-    /// Condition: a text is buffered, as it is after `prepare` answered Ok.
+    /// Condition: a text is buffered, as it is after `prepare` returned Ok.
     pub fn text_from(&self, offset: u64, most: usize) -> &[u8]
         requires text { IsSome self.now.state.text }
         ensures bytes { result.now ≡ slice (text_in_file self.now.state) offset most }
@@ -217,13 +217,13 @@ impl<G: Guard, P: PageHolder> HeldFile<G, P> {
         shown
     }
 
-    /// Hands the first 4,096 bytes to one store under a call, and answers what it answers, a fault as
-    /// `Callback` (`kernfs_fop_write_iter`). A write of no bytes answers 0 and calls nothing, but it needs a
+    /// Hands the first 4,096 bytes to one store under a call, and returns what it returns, a fault as
+    /// `Callback` (`kernfs_fop_write_iter`). A write of no bytes returns 0 and calls nothing, but it needs a
     /// live node too. The file stays as it was.
     ///
     /// Condition: the file's hold may try, as it may after `open` and after each call here.
     ///
-    /// Refusals, in order: `Access` where the file was not opened for writing, `NoDevice` where the node is
+    /// Refusals, in order: `Access` if the file was not opened for writing, `NoDevice` if the node is
     /// not live.
     pub fn write<O: Ops<G::Call>>(
         &mut self,

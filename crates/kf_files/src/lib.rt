@@ -3,14 +3,14 @@
 //! - `WaitingFile` is a file over the words, for many threads: `open`, `read`, `write`, `poll`,
 //!   `wait_changed` (`wait_changed_for` with a limit of time), and `read_at`, `write_at` of binary
 //!   attributes. Its callbacks are yours: a type with `WaitOps` (`WaitBinaryOps`), which is lent the tree and
-//!   the runtime, and answers bytes or a `Fault`.
+//!   the runtime, and returns bytes or a `Fault`.
 //! - `OpenFile` is the same over any `Guard`, for one owner, and `HeldFile` both without its event numbers.
-//! - A `Page` is 4,096 bytes; who opens many files lends pages of their own (`PageHolder`).
+//! - A `Page` is 4,096 bytes; a program that opens many files lends its own pages (`PageHolder`).
 //! - `remove_and_tell`, `hide_and_tell` remove or hide, and raise the numbers of what they marked, so that
 //!   sleepers end.
 //!
-//! Who opens shows that the hold is of the tree, and that node and post are of its key. No callback runs but
-//! in a call that began in that very read or write.
+//! A caller that opens shows that the hold is of the tree, and that node and event counter are of its key.
+//! No callback runs except in a call that began in that very read or write.
 #![tactic(auto)]
 
 mod binary_ops;

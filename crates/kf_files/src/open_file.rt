@@ -19,7 +19,7 @@ use std::sync::Wait;
 use std::time::Duration;
 
 /// A file opened by a hold on its node (`struct kernfs_open_file`). It keeps the hold and a post of its slot
-/// until it is closed, and its page: of its own, or one that it was given.
+/// until it is closed, and its page, which is part of it or was lent.
 #[derive(Drop)]
 pub struct OpenFile<G: Guard, P: PageHolder = Page> {
     file: HeldFile<G, P>,
@@ -45,7 +45,7 @@ impl<G: Guard> OpenFile<G> {
     /// Condition: the hold may try, as each call of a guard ensures of a hold that it gives back.
     ///
     /// Refusals, in order: `IsDir` a directory, `Invalid` a link, `NoDevice` a node that is not live,
-    /// `Access` reading where the mode has no bit of 0o444, or writing where it has none of 0o222.
+    /// `Access` reading if the mode has no bit of 0o444, or writing if it has none of 0o222.
     /// A refusal gives the hold and the post back.
     pub fn open(
         guard: &mut G,
@@ -81,8 +81,8 @@ impl<G: Guard> OpenFile<G> {
 }
 
 impl<G: Guard, P: PageHolder> OpenFile<G, P> {
-    /// As [`OpenFile::open`], on a page of the caller's, whose bytes do not matter. A refusal gives the page
-    /// back too.
+    /// As [`OpenFile::open`], on a page that the caller lends, whose bytes do not matter. A refusal gives
+    /// the page back too.
     pub fn open_on(
         guard: &mut G,
         hold: G::Hold,
@@ -107,15 +107,15 @@ impl<G: Guard, P: PageHolder> OpenFile<G, P> {
         }
     }
 
-    /// Reads the text from the offset on, in bytes, into the front of `out`, and answers how many bytes that
-    /// are (`kernfs_fop_read_iter`). At offset 0, and where no text is buffered, the text is shown anew under
+    /// Reads the text from the offset on, in bytes, into the front of `out`, and returns how many bytes that
+    /// are (`kernfs_fop_read_iter`). At offset 0, and if no text is buffered, the text is shown anew under
     /// a call, after its event number was taken. Else it is the buffered text, which needs no live node and
     /// takes no number.
     ///
     /// Condition: the file's hold may try, as it may after `open` and after each call here.
     ///
-    /// Refusals, in order: `Access` where the file was not opened for reading, `NoDevice` where the node is
-    /// not live; both change nothing. A fault of show is answered as `Callback`, and leaves no text. The rest
+    /// Refusals, in order: `Access` if the file was not opened for reading, `NoDevice` if the node is
+    /// not live; both change nothing. A fault of show is returned as `Callback`, and leaves no text. The rest
     /// of `out` stays, and all of it after an error.
     pub fn read<O: Ops<G::Call>>(
         &mut self,
@@ -140,13 +140,13 @@ impl<G: Guard, P: PageHolder> OpenFile<G, P> {
         self.file.read(guard, ops, &mut self.post, offset, out)
     }
 
-    /// Hands the first 4,096 bytes to one store under a call, and answers what it answers, a fault as
-    /// `Callback` (`kernfs_fop_write_iter`). A write of no bytes answers 0 and calls nothing, but it needs a
+    /// Hands the first 4,096 bytes to one store under a call, and returns what it returns, a fault as
+    /// `Callback` (`kernfs_fop_write_iter`). A write of no bytes returns 0 and calls nothing, but it needs a
     /// live node too. The file stays as it was.
     ///
     /// Condition: the file's hold may try, as it may after `open` and after each call here.
     ///
-    /// Refusals, in order: `Access` where the file was not opened for writing, `NoDevice` where the node is
+    /// Refusals, in order: `Access` if the file was not opened for writing, `NoDevice` if the node is
     /// not live.
     pub fn write<O: Ops<G::Call>>(
         &mut self,
@@ -170,7 +170,7 @@ impl<G: Guard, P: PageHolder> OpenFile<G, P> {
     ///
     /// Condition: the file's hold may try, as it may after `open` and after each call here.
     ///
-    /// Refusals, in order: `Access` where the file was not opened for reading, `NoDevice` where the node is
+    /// Refusals, in order: `Access` if the file was not opened for reading, `NoDevice` if the node is
     /// not live; both change nothing.
     pub fn read_at<B: BinaryOps<G::Call>>(
         &mut self,
@@ -199,7 +199,7 @@ impl<G: Guard, P: PageHolder> OpenFile<G, P> {
     ///
     /// Condition: the file's hold may try, as it may after `open` and after each call here.
     ///
-    /// Refusals, in order: `Access` where the file was not opened for writing, `NoDevice` where the node is
+    /// Refusals, in order: `Access` if the file was not opened for writing, `NoDevice` if the node is
     /// not live.
     pub fn write_at<B: BinaryOps<G::Call>>(
         &mut self,
@@ -240,14 +240,15 @@ impl<G: Guard, P: PageHolder> OpenFile<G, P> {
     }
 
     /// Sleeps while the slot's event number is that of the last show, until a notify of the slot, and may
-    /// return for no reason: no clause tells why it did. It makes no try: nobody waits for who sleeps here.
+    /// return for no reason: no clause says why it did. It makes no try: nobody waits for a thread that
+    /// sleeps here.
     ///
     /// Context: sleeps; takes no lock.
     pub fn rest<R: Wait>(&self, rt: &R) {
         self.post.rest(rt, self.file.number());
     }
 
-    /// As [`OpenFile::rest`], for so long at most.
+    /// As [`OpenFile::rest`], for this long at most.
     ///
     /// Context: sleeps; takes no lock.
     pub fn rest_for<R: Wait>(&self, rt: &R, limit: Duration) {

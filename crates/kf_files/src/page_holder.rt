@@ -33,7 +33,7 @@ pub trait PageHolder {
         ensures call { GivenBack (C.view_of call.old) (C.view_of call.new) };
 }
 
-/// Shows on a page, as [`PageHolder::show`] tells.
+/// Shows on a page, as [`PageHolder::show`] does.
 fn show_on<C: ActiveCall, O: Ops<C>>(
     page: &mut Page,
     ops: &mut O,
@@ -85,7 +85,7 @@ impl PageHolder for Box<Page> {
     }
 }
 
-/// A page for a box of its own, with two cache lines behind it: pages that lie side by side are written by
+/// A page for a box, with two cache lines behind it: pages that lie side by side are written by
 /// threads that share no line.
 #[derive(Drop)]
 pub struct PageApart {

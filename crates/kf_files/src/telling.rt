@@ -1,12 +1,12 @@
-//! Removals and hidings that wake who waits for a file to change.
+//! Removals and hidings that wake the threads that wait for a file to change.
 //!
-//! Who waits has tried, found no change, and sleeps on its slot's event number. A removal marks its nodes,
-//! and then raises the number of each, which wakes the sleepers. A bare wake would not do: who had tried
-//! and was not yet asleep would sleep over it. Nor would a raise before the mark: who it wakes may try
-//! before the mark, and sleep again. The same holds of a hiding.
+//! A thread that waits has tried, found no change, and sleeps on its slot's event number. A removal marks its
+//! nodes, and then raises the number of each, which wakes the sleepers. A bare wake would not do: a thread that
+//! had tried and was not yet asleep would miss it. Nor would a raise before the mark: a thread that it wakes
+//! may try before the mark, and sleep again. The same holds for a hiding.
 //!
 //! Each raise is a step of the one run of the event numbers, after all that the handle had seen: so clauses
-//! tell which numbers were raised. That they were raised after the marks no clause tells.
+//! say which numbers were raised. No clause says that they were raised after the marks.
 ghost use Rattle.std.specs.Prelude.{◌≡◌, true, None, IfErr, IfOk, OnErr, OnOk};
 ghost use Rattle.kf_core.specs.declared.caller.Phase.TheVariants as phase_of;
 ghost use Rattle.kf_files.specs.Telling.{WasTold, WereTold};
@@ -68,7 +68,7 @@ pub fn tell_hidden(posts: &mut Posts, hiding: &Hiding)
 /// Refusals: those of [`Editor::begin_removal_of`]. After a refusal nothing is marked, and the lock is let
 /// go.
 ///
-/// Context: sleeps, once it has let the lock go, and takes it for each unlink.
+/// Context: sleeps, once it has unlocked, and locks for each unlink.
 pub fn remove_and_tell<N: Naming, R: Wait>(
     editor: Editor<'_, N>,
     rt: &R,
@@ -95,9 +95,9 @@ pub fn remove_and_tell<N: Naming, R: Wait>(
 ///
 /// Condition: the hold is of this table.
 ///
-/// Refusals: those of [`Editor::hide`]. After a refusal the tree is as before, and the lock is let go.
+/// Refusals: those of [`Editor::hide`]. After a refusal the tree is as before, and unlocked.
 ///
-/// Context: sleeps, once it has let the lock go.
+/// Context: sleeps, once it has unlocked.
 pub fn hide_and_tell<N: Naming, R: Wait>(
     editor: Editor<'_, N>,
     rt: &R,

@@ -14,7 +14,7 @@ use std::sync::Wait;
 
 /// The callbacks of files of the shared tree of this name (`struct sysfs_ops`). Any number of threads may
 /// call them at once, with no lock held, so a callback may take the lock of its tree and may wait. A file's
-/// tag tells it from others. What serves one tree alone may keep holds, posts and keys of it.
+/// tag tells it from others. What serves only one tree may keep holds, event counters and keys of it.
 ///
 /// A show or a store is made only under a running call, which it is lent. It may give up that reference and
 /// take it again, as `remove_self` does, and gives the call back with a reference. A callback that removes
@@ -25,7 +25,7 @@ pub trait WaitOps<N: Naming> {
     /// A show for this tag may fill a page with these bytes, or give this fault.
     ghost may_show: { Self → ℕ → Result (List ℕ) Fault → Type 0 };
 
-    /// A store of these bytes for this tag may answer this.
+    /// A store of these bytes for this tag may return this.
     ghost may_store: { Self → ℕ → List ℕ → Result ℕ Fault → Type 0 };
 
     /// Fills the empty page with the text, or gives a fault. What it filled before a fault is not shown.
@@ -44,7 +44,7 @@ pub trait WaitOps<N: Naming> {
         ensures seat { IsSameSeat call.old call.new }
         ensures reference { has_reference call.new.phase ≡ true };
 
-    /// Takes the bytes, 1 to 4,096 of them, and answers how many it took, or gives a fault.
+    /// Takes the bytes, 1 to 4,096 of them, and returns how many it took, or gives a fault.
     fn store<R: Wait>(
         &self,
         rt: &R,

@@ -83,17 +83,17 @@ impl<'a, W: WaitBinaryOps<N>, N: Naming, R: Wait> BinaryOps<TreeCall<N>> for Len
 
 /// A file of the shared tree of this name, opened by a hold on its node (`struct kernfs_open_file`). It
 /// keeps the hold and a post of its slot until it is closed. Tries and ends take no lock and wait for
-/// nobody: the runtime goes to callbacks alone.
+/// nobody: only callbacks get the runtime.
 ///
-/// Its page is its own, or one that it was given: a [`BoxedFile`] has a box of the caller's, so none of its
-/// 4,096 bytes is moved. A file that is let go gives its hold back by itself.
+/// Its page is part of it, or one that it was given: a [`BoxedFile`] has a box that the caller lends, so
+/// none of its 4,096 bytes is moved. A file that is dropped gives its hold back by itself.
 ///
-/// Its contracts are those of [`OpenFile`], and of each visit to the node they tell what the try found: the
-/// key live where it gave a call, and else a word that keeps it out. Of a callback they tell what it may
-/// answer.
+/// Its contracts are those of [`OpenFile`], and of each visit to the node they say what the try found: the
+/// key live if it gave a call, and else a word that keeps it out. Of a callback they say what it may
+/// return.
 pub struct WaitingFile<N: Naming, P: PageHolder = Page> {
     file: OpenFile<TreeSeats<N>, P>,
-    // Two cache lines between files that lie side by side: threads write to files of their own at once.
+    // Two cache lines between files that lie side by side: threads write to different files at once.
     apart: [u64; 16],
 }
 
@@ -115,7 +115,7 @@ impl<N: Naming> WaitingFile<N> {
     /// Condition: the hold is of this tree's table, the node is the hold's, and the post is of its slot.
     ///
     /// Refusals, in order: `IsDir` a directory, `Invalid` a link, `NoDevice` a node that is not live,
-    /// `Access` reading where the mode has no bit of 0o444, or writing where it has none of 0o222. A
+    /// `Access` reading if the mode has no bit of 0o444, or writing if it has none of 0o222. A
     /// refusal gives the hold and the post back.
     pub fn open(
         hold: Hold,
@@ -151,8 +151,8 @@ impl<N: Naming> WaitingFile<N> {
 }
 
 impl<N: Naming, P: PageHolder> WaitingFile<N, P> {
-    /// As [`WaitingFile::open`], on a page of the caller's, whose bytes do not matter. A refusal gives the
-    /// page back too.
+    /// As [`WaitingFile::open`], on a page that the caller lends, whose bytes do not matter. A refusal gives
+    /// the page back too.
     ///
     /// Condition: the hold is of this tree's table, the node is the hold's, and the post is of its slot.
     pub fn open_on(
@@ -182,12 +182,12 @@ impl<N: Naming, P: PageHolder> WaitingFile<N, P> {
         }
     }
 
-    /// Reads the text from the offset on, in bytes, into the front of `out`, and answers how many bytes that
-    /// are (`kernfs_fop_read_iter`). At offset 0, and where no text is buffered, the text is shown anew under
+    /// Reads the text from the offset on, in bytes, into the front of `out`, and returns how many bytes that
+    /// are (`kernfs_fop_read_iter`). At offset 0, and if no text is buffered, the text is shown anew under
     /// a call, after its event number was taken. Else it is the buffered text, which needs no live node.
     ///
-    /// Refusals, in order: `Access` where the file was not opened for reading, `NoDevice` where the node is
-    /// not live; both change nothing. A fault of show is answered as `Callback`, and leaves no text. The rest
+    /// Refusals, in order: `Access` if the file was not opened for reading, `NoDevice` if the node is
+    /// not live; both change nothing. A fault of show is returned as `Callback`, and leaves no text. The rest
     /// of `out` stays, and all of it after an error. It may never return, as its show may not.
     ///
     /// Context: no lock, and no sleep but its callback's.
@@ -214,11 +214,11 @@ impl<N: Naming, P: PageHolder> WaitingFile<N, P> {
             .read(&mut TreeSeats::new(), &mut shows, offset, out)
     }
 
-    /// Hands the first 4,096 bytes to one store under a call, and answers what it answers, a fault as
-    /// `Callback` (`kernfs_fop_write_iter`). A write of no bytes answers 0 and calls nothing, but it needs a
+    /// Hands the first 4,096 bytes to one store under a call, and returns what it returns, a fault as
+    /// `Callback` (`kernfs_fop_write_iter`). A write of no bytes returns 0 and calls nothing, but it needs a
     /// live node too.
     ///
-    /// Refusals, in order: `Access` where the file was not opened for writing, `NoDevice` where the node is
+    /// Refusals, in order: `Access` if the file was not opened for writing, `NoDevice` if the node is
     /// not live. The file stays as it was. It may never return, as its store may not.
     ///
     /// Context: no lock, and no sleep but its callback's.
@@ -240,11 +240,11 @@ impl<N: Naming, P: PageHolder> WaitingFile<N, P> {
     }
 
     /// Reads bytes of a binary attribute from the offset on into the front of `out`, by one read under a
-    /// call, after its event number was taken, and answers how many it says they are, a fault as `Callback`
-    /// (`sysfs_kf_bin_read`). A read into no room answers 0 and calls nothing, but it needs a live node
+    /// call, after its event number was taken, and returns how many it says they are, a fault as `Callback`
+    /// (`sysfs_kf_bin_read`). A read into no room returns 0 and calls nothing, but it needs a live node
     /// too. No text is kept.
     ///
-    /// Refusals, in order: `Access` where the file was not opened for reading, `NoDevice` where the node is
+    /// Refusals, in order: `Access` if the file was not opened for reading, `NoDevice` if the node is
     /// not live; both change nothing. It may never return, as its callback may not.
     ///
     /// Context: no lock, and no sleep but its callback's.
@@ -271,11 +271,11 @@ impl<N: Naming, P: PageHolder> WaitingFile<N, P> {
             .read_at(&mut TreeSeats::new(), &mut reads, offset, out)
     }
 
-    /// Hands all the bytes to one write of a binary attribute at the offset under a call, and answers what
-    /// it answers, a fault as `Callback` (`sysfs_kf_bin_write`). A write of no bytes answers 0 and calls
+    /// Hands all the bytes to one write of a binary attribute at the offset under a call, and returns what
+    /// it returns, a fault as `Callback` (`sysfs_kf_bin_write`). A write of no bytes returns 0 and calls
     /// nothing, but it needs a live node too.
     ///
-    /// Refusals, in order: `Access` where the file was not opened for writing, `NoDevice` where the node is
+    /// Refusals, in order: `Access` if the file was not opened for writing, `NoDevice` if the node is
     /// not live. The file stays as it was. It may never return, as its callback may not.
     ///
     /// Context: no lock, and no sleep but its callback's.
@@ -315,7 +315,7 @@ impl<N: Naming, P: PageHolder> WaitingFile<N, P> {
 
     /// Waits until the file has changed since its last show, or its node is not live: until a `poll` says so.
     /// It has no reference to the node while it sleeps, so no removal waits for it. A notify wakes it, and so
-    /// does a removal or a hiding that tells ([`crate::remove_and_tell`], [`crate::tell_removed`],
+    /// does a removal or a hiding that notifies ([`crate::remove_and_tell`], [`crate::tell_removed`],
     /// [`crate::tell_hidden`]). It may never return.
     ///
     /// Context: sleeps; takes no lock.
@@ -334,7 +334,7 @@ impl<N: Naming, P: PageHolder> WaitingFile<N, P> {
         unreachable!()
     }
 
-    /// As [`WaitingFile::wait_changed`], for so long at most. False where its last poll told no change: the
+    /// As [`WaitingFile::wait_changed`], for this long at most. False if its last poll found no change: the
     /// limit is over, or the clock could not be read.
     ///
     /// Context: sleeps; takes no lock.
@@ -371,7 +371,7 @@ impl<N: Naming, P: PageHolder> WaitingFile<N, P> {
 }
 
 impl<N: Naming, P: PageHolder + Drop> Drop for WaitingFile<N, P> {
-    /// Gives its hold back, also where a `?` leaves between open and close.
+    /// Gives its hold back, also if a `?` leaves between open and close.
     fn drop(self) {
         let WaitingFile { file, apart: _ } = self;
         let (hold, _post, _page) = file.into_parts();

@@ -29,11 +29,11 @@ stays_raised slots start t seat slot number kinds t' h run =
     let later = never_goes_back slots start run.0 kinds t' (step_keeps slots start t (raises seat slot number) run.0 h run.1) run.2 slot in
     omega arith
 
--- where this seat's last load was of this slot, it found no less than this number
+-- if this seat's last load was of this slot, it found no less than this number
 abbrev HasSeen : Table → ℕ → ℕ → ℕ → Type 0
 HasSeen t seat slot number = (v : View) × IsSeated t seat v × (v.slot ≡ slot → number ≤ v.found)
 
--- a seat's step to this view leaves what another has, and its own where the new view has seen as much
+-- a seat's step to this view leaves what another has, and its own if the new view has seen as much
 stays_seen : (t : Table) (seat other slot number : ℕ) (v w : View) → IsSeated t seat v → HasSeen t other slot number
     → (other ≡ seat → w.slot ≡ slot → number ≤ w.found)
     → (u : View) × (get_elem? (set t.views seat w) other ≡ some u) × (u.slot ≡ slot → number ≤ u.found)
@@ -72,7 +72,7 @@ after_load slots start t other slot number later (kind ∷ more) t' h enough see
     let risen : number_at t slot ≤ number_at run.0 slot = never_goes_back slots start t (kind ∷ []) run.0 h (run.0, run.1, refl) slot in
     after_load slots start run.0 other slot number later more t' kept (omega arith) (still_seen slots t kind run.0 other slot number run.1 enough seen) run.2
 
--- so does a load and a raise, where the slot's number was no less before
+-- so does a load and a raise, if the slot's number was no less before
 before_load : (slots start : ℕ) (t : Table) (other slot number later : ℕ) (kinds more : List StepKind) (t' : Table) → NumbersShown slots start t
     → number ≤ number_at t slot → NumberRun slots t (kinds ++ loads other slot ∷ (more ++ raises other slot later ∷ [])) t' → number < later
 before_load slots start t other slot number later [] more t' h enough run =

@@ -1,4 +1,4 @@
--- Each step of a seat is the next of the one run, and tells so beside its new view.
+-- Each step of a seat is the next of the one run, and says so beside its new view.
 use Rattle.std.proofs.Common.{◌≡◌, ℕ, ◌+◌, ◌<◌, ◌≤◌, refl, sym, subst}
 use Rattle.std.specs.Prelude.{[], slice_index, max}
 use mathlib.Core.Option.{none, some}
@@ -16,7 +16,7 @@ use Rattle.kf_notify.specs.Next.{WasMade, MakesLoad, MakesRaise}
 use Rattle.kf_notify.proofs.Allowed.{seat_within}
 use Rattle.kf_notify.proofs.Keeps.{view_there, between, now_seen, is_now, step_kept, led_here, shown_here, step_here, split_kept}
 
--- what a step tells of the one run
+-- what a step says of the one run
 abbrev next_made : (o : Opening) (t : SeenTable) (h : Kept o t) (id : ℕ) (before : Sight) (at : get_elem? t.views id ≡ some before) (kind : ℕ → StepKind) (i n : ℕ) (w : View)
     → NumberStep o.slots (erased t) (kind id) (stepped (erased t) i n id [] w keeps)
     → WasMade kind before (record { view = w; seen = now_seen o t h id before at (kind id) })

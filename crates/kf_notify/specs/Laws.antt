@@ -1,4 +1,4 @@
--- What the numbers tell at every moment, and over every run of steps.
+-- What the numbers say at every moment, and over every run of steps.
 use Rattle.std.specs.Prelude.{ℕ, ◌≤◌, ◌<◌, List, [], ◌∷◌, ◌++◌, Contains}
 use Rattle.kf_notify.specs.declared.view.View.{View}
 use Rattle.kf_notify.specs.Rule.{Table, NumbersShown, IsSeated, number_at}

@@ -1,4 +1,4 @@
--- What a step of a seat tells: that it was the next of the one run, and what that had come to.
+-- What a step of a seat says: that it was the next of the one run, and what that had come to.
 use Rattle.std.specs.Prelude.{◌≡◌, ℕ, zero, suc, ◌+◌, List, [], ◌∷◌, ◌++◌}
 use Rattle.atomic_table.specs.Table.{Step}
 use Rattle.kf_notify.specs.declared.sight.Seen.{Seen}
@@ -50,7 +50,7 @@ pub record WasNotify (slot number : ℕ) (before after : Sight) : Type 0 where
   pub one_more : number ≡ found + 1
   pub raise : WasRaise slot number loaded after
 
--- so many loads of this slot, one after another and no other step of this seat between them, each of which
+-- this many loads of this slot, one after another and no other step of this seat between them, each of which
 -- found this number
 abbrev pub WereLoads : ℕ → ℕ → ℕ → Sight → Sight → Type 0
 WereLoads slot number zero before after = after ≡ before
@@ -65,11 +65,11 @@ pub record OnlyLoads (slot seen number : ℕ) (before after : Sight) : Type 0 wh
   pub others : WereLoads slot seen count before last
   pub load : WasLoad slot number last after
 
--- what a load tells: the view after it, and that it was the next of the one run
+-- what a load says: the view after it, and that it was the next of the one run
 abbrev pub MakesLoad : Step (Unit {0}) → Sighted → ℕ → Sighted → Type 0
 MakesLoad st me found me' = Loads st (plain me) found (plain me') × WasLoad st.word found me.0 me'.0
 
--- what a raise tells: the view after it, and that it was the next of the one run
+-- what a raise says: the view after it, and that it was the next of the one run
 abbrev pub MakesRaise : Step (Unit {0}) → Sighted → ℕ → Sighted → Type 0
 MakesRaise st me found me' =
     Raises st (plain me) found (plain me') × WasRaise st.word st.first me.0 me'.0

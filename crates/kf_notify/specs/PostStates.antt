@@ -113,7 +113,7 @@ pub record FoundNumber (old : PostState) (number : ℕ) (new : PostState) : Type
   pub no_less : old.known ≤ number
   pub one_step : new.steps ≡ old.steps + 1
 
--- loads alone, the last of which found this number, which is not below any that the post had seen or made
+-- only loads, the last of which found this number, which is not below any that the post had seen or made
 pub record FoundAtLast (old : PostState) (number : ℕ) (new : PostState) : Type 0 where
   pub found : new.found ≡ number
   pub known : new.known ≡ number

@@ -25,15 +25,19 @@ loaded slot found v =
 abbrev pub raised : ℕ → View → View
 raised number v = record v { known = number; made = number; steps = v.steps + 1 }
 
+-- the seat raised the number of this slot, and has loaded no number since
+abbrev pub HasRaised : ℕ → View → Type 0
+HasRaised slot v = (v.slot ≡ slot) × (v.known ≡ v.found + 1)
+
 -- a new seat, which has made no number and no step
 abbrev pub doubled : View → View
 doubled v = record v { made = 0; steps = 0 }
 
--- what a load tells of the view after it: it found no less than what the seat knows of that slot
+-- what a load says of the view after it: it found no less than what the seat knows of that slot
 abbrev pub Loads : Step (Unit {0}) → Seated → ℕ → Seated → Type 0
 Loads st me found me' = (me' ≡ (loaded st.word found me.0, me.1)) × (me.0.start ≤ found)
     × (me.0.slot ≡ st.word → me.0.known ≤ found)
 
--- what a raise tells: that it is on the seat's own slot, and the view after it
+-- what a raise says: that it is on the seat's own slot, and the view after it
 abbrev pub Raises : Step (Unit {0}) → Seated → ℕ → Seated → Type 0
 Raises st me found me' = (st.word ≡ me.0.slot) × (me' ≡ (raised st.first me.0, me.1))

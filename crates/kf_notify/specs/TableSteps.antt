@@ -26,6 +26,6 @@ NumberRun slots t [] t' = t' ≡ t
 NumberRun slots t (kind ∷ kinds) t' =
     (between : Table) × NumberStep slots t kind between × NumberRun slots between kinds t'
 
--- the table at the opening. It has one word even where there is no slot
+-- the table at the opening. It has one word even if there is no slot
 abbrev pub opened_table : ℕ → ℕ → Table
 opened_table slots start = table_opening (replicate (max slots 1) start) [] (opened start)

@@ -1,10 +1,10 @@
 //! How long a wait with a limit has still to go.
 use std::time::{Clock, Duration, Instant};
 
-/// A wait with a limit, from the moment when it began. No clause says what a clock tells.
+/// A wait with a limit, from the moment when it began. No clause says what a clock shows.
 #[derive(Clone, Copy, Drop)]
 pub struct Deadline {
-    // None where the clock could not be read.
+    // None if the clock could not be read.
     start: Option<Instant>,
     limit: Duration,
 }
@@ -18,7 +18,7 @@ impl Deadline {
         }
     }
 
-    /// How long it has still to go; None where it is over. A clock that cannot be read ends it.
+    /// How long it has still to go; None if it is over. A clock that cannot be read ends it.
     pub fn left<R: Clock>(&self, rt: &R) -> Option<Duration> {
         let past = self.start?.elapsed(rt).ok()?;
         let left = self.limit.saturating_sub(past);

@@ -1,11 +1,11 @@
-//! What the numbers tell at every moment, and over every run of steps.
+//! What the numbers say at every moment, and over every run of steps.
 ghost use Rattle.kf_notify.specs.Laws.{NeverBelow, NeverBelowTheFirst};
 ghost use Rattle.kf_notify.specs.Laws.{OpensWell, RuleKept, NeverGoesBack, NoneSkipped};
 ghost use Rattle.kf_notify.specs.Laws.{StaysRaised, LaterIsGreater};
 ghost use Rattle.kf_notify.specs.History.{OpensKept, EndsARun, SeenLeadsHere, RaisedEverAfter, FirstOrRaised};
 ghost use Rattle.kf_notify.specs.History.{OneRunIsSeen, OneEnd};
 
-/// What the words tell between any two steps of any number of posts, for as long as the table lives. It does
+/// What the words say between any two steps of any number of posts, for as long as the table lives. It does
 /// nothing: the rule of the table, which each step keeps, is the premise.
 ///
 /// A slot's number is never below one that any post has seen or made there, nor below the first.

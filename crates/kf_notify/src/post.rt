@@ -58,8 +58,9 @@ impl Post {
     }
 
     /// Raises the slot's event number to one more than a load found, which is above all that this post had
-    /// seen or made, and answers it (`kernfs_notify`). Who waits for it to change is woken; where nobody
-    /// sleeps that makes no system call. `Full` where the number found is 2^64 - 1, and then nothing changes.
+    /// seen or made, and returns it (`kernfs_notify`). A thread that waits for it to change is woken; if
+    /// nobody sleeps that makes no system call. `Full` if the number found is 2^64 - 1, and then nothing
+    /// changes.
     pub fn notify(&mut self) -> Result<u64, Full>
         ensures same { IsSamePost self.old self.new }
         ensures made { IfOk result (λ number. Made self.old number self.new) }
@@ -75,7 +76,7 @@ impl Post {
         Ok(number)
     }
 
-    /// As [`Post::notify`], but it wakes nobody: for who has sleepers of its own, and none in
+    /// As [`Post::notify`], but it wakes nobody: for a caller that has sleepers of its own, and none in
     /// [`Post::wait_past`].
     pub fn notify_quiet(&mut self) -> Result<u64, Full>
         ensures same { IsSamePost self.old self.new }
@@ -95,7 +96,7 @@ impl Post {
         Ok(found + 1)
     }
 
-    /// Waits until the slot's number is not `seen`, and answers it. It may never return.
+    /// Waits until the slot's number is not `seen`, and returns it. It may never return.
     ///
     /// Context: sleeps; takes no lock.
     pub fn wait_past<R: Wait>(&mut self, rt: &R, seen: u64) -> u64
@@ -114,7 +115,7 @@ impl Post {
         unreachable!()
     }
 
-    /// As [`Post::wait_past`], for so long at most: None where the number that was found last is `seen`.
+    /// As [`Post::wait_past`], for at most this long: None if the number that was found last is `seen`.
     ///
     /// Context: sleeps; takes no lock.
     pub fn wait_past_for<R: Wait + Clock>(
@@ -142,14 +143,14 @@ impl Post {
     }
 
     /// Sleeps while the slot's number is `seen`, until a notify of the slot, and may return for no reason:
-    /// no clause tells why it did.
+    /// no clause says why it did.
     ///
     /// Context: sleeps; takes no lock.
     pub fn rest<R: Wait>(&self, rt: &R, seen: u64) {
         self.seat.park(rt, self.slot, seen);
     }
 
-    /// As [`Post::rest`], for so long at most.
+    /// As [`Post::rest`], for at most this long.
     ///
     /// Context: sleeps; takes no lock.
     pub fn rest_for<R: Wait>(&self, rt: &R, seen: u64, limit: Duration) {

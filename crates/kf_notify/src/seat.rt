@@ -44,7 +44,7 @@ impl PostSeat {
             .load::<Loads>(&mut self.token, slot as usize)
     }
 
-    /// Raises the number of its slot to this one, where it is below.
+    /// Raises the number of its slot to this one, if it is below.
     ///
     /// Condition: it is the next of what the seat's last load found there. So no number is skipped.
     pub(crate) fn raise(&mut self, slot: u32, number: u64)

@@ -4,7 +4,7 @@
 use crate::view::View;
 use std::collections::LinkedList;
 
-/// How the table begins: so many slots, each with this number.
+/// How the table begins: this many slots, each with this number.
 #[derive(Clone, Copy)]
 pub struct Opening {
     pub slots: u32,

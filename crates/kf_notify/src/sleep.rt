@@ -1,20 +1,22 @@
-//! Sleeping on the number of a slot, and the wake of those who do.
+//! Sleeping on the number of a slot, and the wake of the sleepers.
 //!
-//! A raise makes no system call where nobody sleeps, and no wake is lost. Who goes to sleep (1) adds itself
-//! to the slot's count of sleepers. Then it (2) has the kernel, in one step, compare the low 32 bits of the
-//! number with those that it saw, and queue it. Who raises the number (3) changes those bits, (4) loads the
-//! count, and (5) wakes all where that is not zero. Each is sequentially consistent; the kernel's compare
-//! stands behind a full barrier.
+//! A raise makes no system call if nobody sleeps, and no wake is lost. A thread that goes to sleep (1) adds
+//! itself to the slot's count of sleepers. Then (2) the kernel, in one step, compares the low 32 bits of
+//! the number with those that the thread saw, and queues it. A thread that raises the number (3) changes
+//! those bits, (4) loads the count, and (5) wakes all sleepers if it is not zero. Each of these is
+//! sequentially consistent, and the kernel's compare is behind a full barrier.
 //!
-//! A sleeper waits for a raise after its (2), which found the number that it saw; so the (4) of that raise
-//! comes after (1) and finds the sleeper counted, and its (5) finds it in the queue. Who is awake takes
-//! itself off the count; one counted a moment too long costs a system call, no more. Two cases are left.
-//! The last number is never raised, so a sleep on it ends by itself within a millisecond. And 2^32 raises
-//! between a look and its (2) would be taken for none.
+//! A sleeper waits for a raise after its (2), which found the number that it saw. So the (4) of that raise
+//! comes after (1) and finds the sleeper counted, and its (5) finds the sleeper in the queue. A thread that
+//! is awake takes itself off the count. If it stays there a moment too long, that costs a system call and
+//! no more. Two cases are left. The last number is never raised, so a sleep on it ends by itself within a
+//! millisecond. And 2^32 raises between a look and its (2) would be taken for none.
 //!
-//! The counts stand beside the table: its rule says nothing of them, and no clause speaks of wakes.
-//! `hostile/wake_model.py` tries each order of these steps.
+//! The counts are beside the table, and its rule does not see them. A clause says that a wake comes after
+//! its raise. No clause says that there is a wake, or that (4) decides: `.ci/unseen_steps` says where a
+//! count may be loaded, and `hostile/wake_model.py` tries each order of these steps.
 ghost use Rattle.std.specs.Prelude.{◌<◌};
+ghost use Rattle.kf_notify.specs.Steps.{HasRaised};
 
 use crate::seat::PostSeat;
 use std::sync::Wait;
@@ -45,7 +47,7 @@ impl PostSeat {
         sleepers.fetch_sub(1, SeqCst);
     }
 
-    /// As `park`, for so long at most.
+    /// As `park`, for at most this long.
     pub(crate) fn park_for<R: Wait>(&self, rt: &R, slot: u32, seen: u64, limit: Duration)
         requires slot { slot < self.now.slots }
     {
@@ -58,9 +60,12 @@ impl PostSeat {
         sleepers.fetch_sub(1, SeqCst);
     }
 
-    /// Wakes all who sleep on the slot's number, if anybody does.
+    /// Wakes all sleepers on the slot's number, if there are any.
+    ///
+    /// Condition: this seat has raised the number, and has loaded none since.
     pub(crate) fn wake_all(&self, slot: u32)
         requires slot { slot < self.now.slots }
+        requires raised { HasRaised slot self.now.token.me.0.view }
     {
         if self.table.sleepers[slot as usize].load(SeqCst) != 0 {
             self.table.numbers.shared.wake_all(slot as usize);

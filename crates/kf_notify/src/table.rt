@@ -31,7 +31,7 @@ pub struct SlotTable {
     pub(crate) sleepers: Vec<AtomicU64>,
 }
 
-/// For so many slots a count of sleepers, each 0.
+/// For this many slots a count of sleepers, each 0.
 ///
 /// Refusal: `NoMemory`.
 pub(crate) fn nobody_asleep(alloc: Global, slots: u32) -> Result<Vec<AtomicU64>, Refusal>

@@ -1,4 +1,4 @@
--- What was done while the lock was held once, as those have seen it who were told before it was let go.
+-- What was done while the lock was held once, as the seats have seen it that were informed before the unlock.
 use Rattle.std.proofs.Common.{◌≡◌, ℕ, Bool, true, false, List, [], ◌∷◌, ◌++◌, refl, sym, ap, ◌∙◌, subst}
 use Rattle.std.specs.Prelude.{MatchBool, Result, Ok, Err, IfOk, OnOk, None, not}
 use Rattle.std.proofs.lemmas.List.{append-nil, append_assoc}
@@ -19,7 +19,7 @@ use Rattle.kf_shared.specs.Sections.{IsTaken, SawMore, WasAdded, WasAddedLate, W
 use Rattle.kf_shared.proofs.Notes.{tree_told, claims_told}
 use Rattle.kf_shared.proofs.Hearing.{prefix_self, prefix_trans, more_told}
 
--- these notes were added, and no other before the lock was let go
+-- these notes were added, and no other before the unlock
 pub late_added : (old new : Locked) (before mid closed after : Handle) (added : List Note) → SawMore before.seen mid.seen → history new ≡ history old ++ added → WasClosed new [] mid closed → SawMore closed.seen after.seen
     → WasAddedLate before.seen after.seen (history old) added
 late_added old new before mid closed after added first notes shut more = record {

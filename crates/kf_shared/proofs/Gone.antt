@@ -1,4 +1,4 @@
--- A key that was linked and is no more is never linked again.
+-- A key that was linked and no longer is, is never linked again.
 use Rattle.std.proofs.Common.{◌≡◌, ◌≢◌, ◌⊎◌, inl, inr, ℕ, ◌+◌, ◌≤◌, refl, ap, arith, ⊎_elim, sym, ◌∙◌, subst, true, false, cond}
 use Rattle.std.specs.Prelude.{Option, None, Some, slice_get, is_some}
 use Rattle.std.proofs.lemmas.Option.{none-some, same_Some, slice_get_within}
@@ -7,7 +7,7 @@ use Rattle.kf_core.specs.declared.caller.Phase.TheVariants.{Parted, Spent}
 use Rattle.kf_core.specs.declared.event.Event.{Event}
 use Rattle.kf_core.specs.declared.event.Event.TheVariants.{Born, Rise, Mark, Move, Pin, Enter, Leave, Break, Restore, Look, Unlink, Part, Hide, LookHidden, Show, Release, Undo}
 use Rattle.kf_core.specs.declared.key.Key.{Key}
-use Rattle.kf_core.specs.declared.slot.Marks.{Marks}
+use Rattle.kf_core.specs.declared.slot.NodeFlags.{NodeFlags}
 use Rattle.kf_core.specs.declared.slot.SlotState.{SlotState}
 use Rattle.kf_core.specs.Bare.{BareWorld, IsCaller, marks, marks_in}
 use Rattle.kf_core.specs.Marks.{fresh_marks, live_marks}
@@ -26,7 +26,7 @@ pub record Gone (w : BareWorld) (key : Key) : Type 0 where
   pub come : HasCome w key
 
 -- another key of its slot, or one of another slot, gets these marks
-elsewhere : (w : BareWorld) (key k : Key) (m : Option Marks) (p : SlotState) → slice_get w.slots key.slot ≡ Some p → key ≢ k → marks w k ≡ None → marks (with_marks w key m) k ≡ None
+elsewhere : (w : BareWorld) (key k : Key) (m : Option NodeFlags) (p : SlotState) → slice_get w.slots key.slot ≡ Some p → key ≢ k → marks w k ≡ None → marks (with_marks w key m) k ≡ None
 elsewhere w key k m p there other none = elim (eqb_tells k.slot key.slot) [
   | inl s ↦ ap (λ x. marks_in (slice_get (with_marks w key m).slots x) k.generation) s.1
       ∙ ap (λ o. marks_in o k.generation) (slice_get-set_same w.slots key.slot _ (slice_get_within w.slots key.slot p there))
@@ -38,20 +38,20 @@ elsewhere w key k m p there other none = elim (eqb_tells k.slot key.slot) [
 ]
 
 -- the slot of a linked key is there
-its_slot : (o : Option SlotState) (generation : ℕ) (m : Marks) → marks_in o generation ≡ Some m → (p : SlotState) × (o ≡ Some p)
+its_slot : (o : Option SlotState) (generation : ℕ) (m : NodeFlags) → marks_in o generation ≡ Some m → (p : SlotState) × (o ≡ Some p)
 its_slot None generation m e = absurd (none-some m e)
 its_slot (Some p) generation m e = (p, refl)
 
-linked_else : (w : BareWorld) (key k : Key) (m : Marks) (m' : Option Marks) → marks w key ≡ Some m → marks w k ≡ None → marks (with_marks w key m') k ≡ None
+linked_else : (w : BareWorld) (key k : Key) (m : NodeFlags) (m' : Option NodeFlags) → marks w key ≡ Some m → marks w k ≡ None → marks (with_marks w key m') k ≡ None
 linked_else w key k m m' e none =
     let p = its_slot (slice_get w.slots key.slot) key.generation m e in
     elsewhere w key k m' p.0 p.1 (λ s. none-some m (sym none ∙ (ap (marks w) (sym s) ∙ e))) none
 
-has_marks : (o : Option Marks) → is_some o ≡ true → (m : Marks) × (o ≡ Some m)
+has_marks : (o : Option NodeFlags) → is_some o ≡ true → (m : NodeFlags) × (o ≡ Some m)
 has_marks None e = absurd (let x : false ≡ true = e in cc)
 has_marks (Some m) e = (m, refl)
 
-no_marks : (o : Option Marks) → is_some o ≡ false → o ≡ None
+no_marks : (o : Option NodeFlags) → is_some o ≡ false → o ≡ None
 no_marks None e = refl
 no_marks (Some m) e = absurd (let x : true ≡ false = e in cc)
 
@@ -83,7 +83,7 @@ stays w (Undo c) w' k s g = subst (λ (x : BareWorld). marks x k ≡ None) (sym 
 pub step_gone : (w : BareWorld) (e : Event) (w' : BareWorld) (k : Key) → BareStep w e w' → Gone w k → Gone w' k
 step_gone w e w' k s g = record { unlinked = stays w e w' k s g; come = step_come w e w' k s g.come }
 
--- the same of a step of the Master that no event tells
+-- the same for a step of the Master that is no event
 pub alone_gone : (k : Key) (kind : StepKind) (w w' : BareWorld) → Alone kind w w' → Gone w k → Gone w' k
 alone_gone k kind w w' a g = record {
   unlinked = ⊎_elim

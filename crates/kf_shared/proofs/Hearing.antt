@@ -1,5 +1,5 @@
--- What is told before the lock is let go, and what a seat has seen since.
-use Rattle.std.proofs.Common.{◌≡◌, ℕ, zero, suc, List, [], ◌∷◌, ◌++◌, refl, sym, ap, ◌∙◌, subst, append_assoc}
+-- What is passed on before the unlock, and what a seat has seen since.
+use Rattle.std.proofs.Common.{◌≡◌, ℕ, zero, suc, ◌-◌, Bool, true, false, List, [], ◌∷◌, ◌++◌, refl, sym, ap, ◌∙◌, subst, append_assoc}
 use Rattle.std.proofs.lemmas.List.{append-nil}
 use mathlib.Core.List.{IsPrefix}
 use Rattle.kf_tree.specs.TreeLogs.{TreeLog}
@@ -8,14 +8,15 @@ use Rattle.kf_words.specs.declared.note.Note.TheVariants.{Border}
 use Rattle.kf_words.specs.declared.sight.Seen.{Seen}
 use Rattle.kf_words.specs.declared.sight.StepKind.{StepKind}
 use Rattle.kf_words.specs.Callers.{TableId, Handle, CallerSight, having_seen, seat_view}
+use Rattle.kf_words.specs.Layout.{wants_wake}
 use Rattle.kf_words.specs.Nodes.{MasterState}
 use Rattle.kf_words.specs.Notes.{history_of}
-use Rattle.kf_words.specs.Made.{WasMade, WereMade, OnlyMade}
+use Rattle.kf_words.specs.Made.{LookedAndRested, Rested, Waited, WakeSpent, WasMade, WasMadeThenWake}
 use Rattle.kf_words.proofs.Noted.{notes_begin}
 use Rattle.kf_shared.specs.Locked.{Locked, history}
 use Rattle.kf_shared.specs.Noted.{IsNoted, WasNoted}
 use Rattle.kf_shared.specs.Removal.{HasHeard}
-use Rattle.kf_shared.specs.Sections.{SawMore, WasTold, WereMadeTold, WasClosed}
+use Rattle.kf_shared.specs.Sections.{SawMore, WasTold, WasClosed}
 use Rattle.kf_shared.proofs.Notes.{noted_border}
 use Rattle.kf_shared.proofs.Told.{Held, tied_words}
 
@@ -36,30 +37,40 @@ made_more kind before after m = (
   sym (append_assoc before.seen.steps m.between (kind m.caller ∷ [])) ∙ sym (ap (λ (s : Seen). s.steps) m.seen),
 )
 
-pub were_more : (kind : ℕ → StepKind) (count : ℕ) (before after : CallerSight) → WereMade kind count before after → SawMore before.seen after.seen
-were_more kind zero before after e = subst (λ (s : CallerSight). SawMore before.seen s.seen) (sym e) (prefix_self before.seen.steps)
-were_more kind (suc count) before after m =
-    prefix_trans before.seen.steps m.0.seen.steps after.seen.steps (were_more kind count before m.0 m.1) (made_more kind m.0 after m.2)
+same_more : (before after : CallerSight) → after ≡ before → SawMore before.seen after.seen
+same_more before after e = subst (λ (s : CallerSight). SawMore before.seen s.seen) (sym e) (prefix_self before.seen.steps)
 
-pub only_more : (kind : ℕ → StepKind) (before after : CallerSight) → OnlyMade kind before after → SawMore before.seen after.seen
-only_more kind before after m = were_more kind (suc m.0) before after m.1
+-- so does a rest
+pub rested_more : (counted : Bool) (before after : CallerSight) → Rested counted before after → SawMore before.seen after.seen
+rested_more true before after r = prefix_trans before.seen.steps r.0.seen.steps after.seen.steps (made_more _ before r.0 r.1) (made_more _ r.0 after r.2)
+rested_more false before after e = same_more before after e
 
-pub told_self : (before : CallerSight) → WasTold before before
-told_self before = record { view = refl; seen = prefix_self before.seen.steps }
+looked_more : (kind : ℕ → StepKind) (test : ℕ → Bool) (count : ℕ) (before after : CallerSight) → LookedAndRested kind test count before after → SawMore before.seen after.seen
+looked_more kind test zero before after e = same_more before after e
+looked_more kind test (suc count) before after l =
+    prefix_trans before.seen.steps l.1.seen.steps after.seen.steps
+    (prefix_trans before.seen.steps l.0.seen.steps l.1.seen.steps (looked_more kind test count before l.0 l.2) (made_more kind l.0 l.1 l.3))
+    (rested_more (test l.1.view.found) l.1 after l.4)
 
-pub told_on : (a b c : CallerSight) → WasTold a b → WasTold b c → WasTold a c
-told_on a b c x y = record { view = y.view ∙ x.view; seen = prefix_trans a.seen.steps b.seen.steps c.seen.steps x.seen y.seen }
+-- and a whole wait
+pub waited_more : (kind : ℕ → StepKind) (test : ℕ → Bool) (before after : CallerSight) → Waited kind test before after → SawMore before.seen after.seen
+waited_more kind test before after w =
+    prefix_trans before.seen.steps w.1.seen.steps after.seen.steps (looked_more kind test w.0 before w.1 w.2) (made_more kind w.1 after w.3)
 
--- what a handle heard it was told
+spent_more : (wanted : Bool) (before after : CallerSight) → WakeSpent wanted before after → SawMore before.seen after.seen
+spent_more true before after w = made_more _ before after w.1.0
+spent_more false before after e = same_more before after e
+
+-- and a step with the wake that it owes
+pub woken_more : (kind : ℕ → StepKind) (before after : CallerSight) → WasMadeThenWake kind before after → SawMore before.seen after.seen
+woken_more kind before after w =
+    prefix_trans before.seen.steps w.0.seen.steps after.seen.steps (made_more kind before w.0 w.1) (spent_more (wants_wake (w.0.view.found - 1)) w.0 after w.2)
+
+-- what a handle heard was passed on to it
 pub heard_told : (before after : Handle) → HasHeard before after → SawMore before.seen after.seen → WasTold (seat_view before) (seat_view after)
 heard_told before after heard more = record { view = ap (λ (h : Handle). (seat_view h).view) heard; seen = more }
 
--- it was told once more
-pub were_told : (kind : ℕ → StepKind) (count : ℕ) (a b c : CallerSight) → WereMadeTold kind count a b → WasTold b c → WereMadeTold kind count a c
-were_told kind zero a b c x y = told_on a b c x y
-were_told kind (suc count) a b c x y = (x.0, x.1, x.2, x.3, told_on x.1 b c x.4 y)
-
--- the lock was taken or is let go, and that was noted
+-- the lock was taken or is unlocked, and that was noted
 pub held_border : (table : TableId) (s : TreeLog) (m m' : MasterState) (claims : List ℕ) → Held table s m claims → WasNoted Border m m' → Held table s m' claims
 held_border table s m m' claims h w =
     (tied_words table s m m' claims h.0 w.words, subst (IsNoted s claims) (sym w.history) (noted_border s claims (history_of m.seen) h.1))
@@ -79,7 +90,3 @@ module _ (old : Locked) (added : List Note) (before between after : Handle) (m1 
     came = came;
     seen = ap history_of same_seen ∙ still ∙ notes ∙ ap (λ l. (l ++ added) ++ Border ∷ []) kept;
   }
-
--- and it made one step more
-pub were_made : (kind : ℕ → StepKind) (count : ℕ) (a b c : CallerSight) → WereMadeTold kind count a b → WasMade kind b c → WereMadeTold kind (suc count) a c
-were_made kind count a b c w m = (b, c, w, m, told_self c)

@@ -1,4 +1,4 @@
--- What the hiding on a guard tells, whatever its lock kept.
+-- What the hiding on a guard says, whatever its lock kept.
 use Rattle.std.proofs.Common.{◌≡◌, ◌⊎◌, inl, inr, refl, sym, Bool, true, false, [], ◌∷◌}
 use Rattle.std.specs.Prelude.{Option, None, Some, Result, Ok, Err, IfErr, OnOk, not}
 use Rattle.std.proofs.lemmas.Option.{same_Some, none-some}

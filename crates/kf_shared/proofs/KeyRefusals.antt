@@ -33,7 +33,7 @@ linked_to_doom t root key none = elim (is_linked t key) as (λ b. is_linked t ke
   | false ↦ λ e. absurd (none-some NoEntry (sym none ∙ ap (λ b. first_cause (unless b NoEntry ∷ unless (not (same_key key root)) Invalid ∷ [])) e))
 ] refl
 
--- a pin is refused for a slot that is full, or for want of memory
+-- a pin is refused for a slot that is full, or for lack of memory
 pin_refusal : (m : MasterView) (slot : ℕ) (why : Refusal) (m' : MasterView) → PinRefused m slot why m' → HoldsRefusal why
 pin_refusal m slot TooManyHolds m' h = inl refl
 pin_refusal m slot NoMemory m' h = inr refl
@@ -96,7 +96,7 @@ doom_key_noted s old mid new held key same none between kept is noted =
     subst (λ k. DoomNoted (locked old.state mid.master mid.claims) new k) is (subst (λ (l : TreeLog). DoomNoted (locked l mid.master mid.claims) new held) between noted) in
     MatchBool-at_true _ _ (linked_to_doom old.state.tree old.state.root key cause) there ∙ ap (λ l. l ++ Did (Doom key) ∷ []) kept
 
--- the lock keeps what it kept, where the tree and what the Master knows of nodes stayed
+-- the lock keeps what it kept, if the tree and what the Master knows of nodes stayed
 pub whole_kept : (table : TableId) (old new : Locked) → IsWhole table old → new.state ≡ old.state → KeepsNodes old.master new.master → new.claims ≡ old.claims → IsWhole table new
 whole_kept table old new whole state words claims = record {
   kept = subst IsKept (sym state) whole.kept;

@@ -158,7 +158,7 @@ noted_same s s' claims notes t root tree commands = record {
     long : length s'.tree ≡ length s.tree
     long = ap length tree
 
--- the lock was taken, or is let go
+-- the lock was taken, or is unlocked
 pub noted_border : (s : TreeLog) (claims : List ℕ) (notes : List Note) → IsNoted s claims notes → IsNoted s claims (notes ++ Border ∷ [])
 noted_border s claims notes t = record {
   began = begins_more _ _ notes Border t.began;
@@ -186,7 +186,7 @@ noted_opening slots root s claims new long none = record {
   stored = inl (refl, new.commands);
 }
 
--- so the history alone tells the tree
+-- so only the history determines the tree
 pub tree_told : (s : TreeLog) (claims : List ℕ) (notes : List Note) → IsNoted s claims notes → s.tree ≡ tree_in notes
 tree_told s claims notes t = t.tree ∙ ap (tree_of (length s.tree) s.root) t.began.1 ∙ sym (ap tree_in t.began.1)
 

@@ -22,14 +22,14 @@ use Rattle.kf_shared.proofs.Ties.{locked}
 use Rattle.kf_core.proofs.Different.{different}
 use Rattle.kf_shared.specs.Removal.{keys_of, FoundFullBelow, HoldsBelowRefused, HoldsInRefused, DoomGivenUp, DoomRefused, SelfRemovalRefused, DoomHolds}
 
--- what is asked at either answer of a test
+-- what is asked at either result of a test
 pub if_true : {b : Bool} (P Q : Type 0) → b ≡ true → P → MatchBool b P Q
 if_true P Q e p = subst (λ b. MatchBool b P Q) (sym e) p
 
 pub if_false : {b : Bool} (P Q : Type 0) → b ≡ false → Q → MatchBool b P Q
 if_false P Q e q = subst (λ b. MatchBool b P Q) (sym e) q
 
--- where there is no cause, only memory was wanting
+-- if there is no cause, only memory was lacking
 pub only_memory : (cause : Option Refusal) (refusal : Refusal) → cause ≡ None → Refuses cause refusal → refusal ≡ NoMemory
 only_memory cause refusal none h = elim h [ inl e ↦ absurd (none-some refusal (sym none ∙ e)) | inr m ↦ m.1 ]
 
@@ -83,7 +83,7 @@ full_below s m top keys below seen kept order parts is key h full =
 pub same_refused : (old mid new : Locked) (key : Key) (refusal : Refusal) → mid.state ≡ old.state → DoomRefused mid new key refusal → DoomRefused old new key refusal
 same_refused old mid new key refusal same h = subst (λ (s : TreeLog). DoomRefused (locked s mid.master mid.claims) new key refusal) same h
 
--- what was told of a tree and a view is told of the same tree
+-- what was said of a tree and a view is said of the same tree
 pub same_tree : (s s' : TreeLog) (m : MasterView) (top : Key) (refusal : Refusal) → s ≡ s' → HoldsBelowRefused s.tree top m refusal → HoldsBelowRefused s'.tree top m refusal
 same_tree s s' m top refusal e h = subst (λ (x : TreeLog). HoldsBelowRefused x.tree top m refusal) e h
 
@@ -95,7 +95,7 @@ keys_more (x ∷ xs) ys = ap (λ ks. x.key ∷ ks) (keys_more xs ys)
 pub doom_holds : (t : Tree) (hold : Handle) (pins : List Handle) → is_linked t hold.key ≡ true → IsPostOrder t hold.key (keys_of pins ++ hold.key ∷ []) → DoomHolds t hold (pins ++ hold ∷ [])
 doom_holds t hold pins linked order = if_true _ _ linked (subst (IsPostOrder t hold.key) (sym (keys_more pins (hold ∷ []))) order)
 
--- why a pin was refused, and what that tells of several
+-- why a pin was refused, and what that says of several
 pub why_refused : (m m' : MasterView) (keys : List Key) (key : Key) (refusal : Refusal) → Contains keys key → PinRefused m key.slot refusal m' → (refusal ≡ TooManyHolds → FoundFull m' key.slot) →
     (refusal ≡ NoMemory) ⊎ ((refusal ≡ TooManyHolds) × ((k : Key) × Contains keys k × FoundFull m' k.slot))
 why_refused m m' keys key TooManyHolds h p full = inr (refl, (key, h, full refl))
@@ -141,7 +141,7 @@ pins_given_up s s' m top keys below seen kept order parts is none same linked re
       | inr f ↦ inl (f.0, full_below s m top keys below seen kept order parts is f.1.0 f.1.1 f.1.2)
     ])))
 
--- a hold of the call's own node was refused, and not for want of memory
+-- a hold of the call's own node was refused, and not for lack of memory
 pub held_met : (s : TreeLog) (m held : MasterState) (claims : List ℕ) (now : Locked) (key : Key) (why told : Refusal) → locked s m claims ≡ now → told ≡ why → same_key key now.state.root ≡ false
     → HeldPinRefused m.view key why held.view → (why ≡ TooManyHolds → FoundFull held.view key.slot) → told ≢ NoMemory → SelfRemovalRefused now (locked s held claims) key told
 held_met s m held claims now key why told is e other h full n =

@@ -71,7 +71,7 @@ same_owner_keys xs ys e = owner_keys xs ∙ ap (map (λ (o : Owner). o.key)) e �
 pub are_of : (table : TableId) (m : MasterState) (hold : Handle) (holds : List Handle) → m.table ≡ table → hold.table ≡ table → AreHolds m hold holds → AreOf table holds
 are_of table m hold holds e t h = subst (AreOf table) (sym h.2) (of_more table h.0 h.1 (λ i d l. (h.4 i d l).table ∙ e) (ap (λ (x : Handle). x.table) h.3 ∙ t))
 
--- a hold alone is the last of no others
+-- a single hold is the last of no others
 pub alone_holds : (m : MasterState) (hold : Handle) (holds : List Handle) → holds ≡ hold ∷ [] → AreHolds m hold holds
 alone_holds m hold holds e = ([], hold, e, refl, λ i d l. absurd (omega (arith, l)))
 
@@ -122,7 +122,7 @@ same_state : (b : Bool) (Accepted : Type 0) (old new : Locked) → MatchBool b A
 same_state true Accepted old new p = p
 same_state false Accepted old new e = ap (λ (l : Locked). l.state) e
 
--- a plain removal makes no word step where the node is gone
+-- a plain removal makes no word step if the node is gone
 pub done_marked : (old new : Locked) (key : Key) → DoomDone old new key → DoomMarked old new key
 done_marked old new key h = same_state (is_linked old.state.tree key) (IsAccepted old.state new.state (doom_cause old.state.tree old.state.root key) (Doom key)) old new h
 

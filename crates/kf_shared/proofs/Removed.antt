@@ -52,7 +52,7 @@ last_finished (h ∷ front) [] hold all = absurd all
 last_finished (h ∷ front) (r ∷ receipts) hold all =
     (let rest = last_finished front receipts hold all.1 in (r ∷ rest.0, rest.1, ap (λ l. r ∷ l) rest.2, rest.3))
 
--- a removal that was told before the lock was let go has the holds that it had
+-- a removal that was passed on before the unlock has the holds that it had
 pub owners_closed : {Such : Handle → Type 0} (new : Locked) (removing closed : List Handle) → Last Such removing → IsClosedAt new removing closed → owners_of closed ≡ owners_of removing
 owners_closed new removing closed l closes =
     let its = closes l.0 l.1 l.2 in
@@ -61,7 +61,7 @@ owners_closed new removing closed l closes =
 pub keys_closed : {Such : Handle → Type 0} (new : Locked) (removing closed : List Handle) → Last Such removing → IsClosedAt new removing closed → keys_of closed ≡ keys_of removing
 keys_closed new removing closed l closes = same_owner_keys closed removing (owners_closed new removing closed l closes)
 
--- what was added before the lock was let go the last receipt has seen
+-- what was added before the unlock the last receipt has seen
 pub last_closed : {Such : Handle → Type 0} (old new : Locked) (note : Note) (removing closed receipts : List Handle) → Adds old new note → Last Such removing → IsClosedAt new removing closed → AllFinished closed receipts
     → Last (λ receipt. IsPrefix ((history old ++ note ∷ []) ++ Border ∷ []) (history_of receipt.seen)) receipts
 last_closed old new note removing closed receipts noted l closes finished =
@@ -81,7 +81,7 @@ doom_added old new key noted = go (is_linked old.state.tree key) noted
     go true e = e
     go false e = e ∙ sym (append-nil (history old))
 
--- a doom, the lock let go, and the waits
+-- a doom, the unlock, and the waits
 module _ (old new : Locked) (hold : Handle) (removing closed receipts : List Handle) (m : MasterState) (holds : AreHolds m hold removing) (order : DoomHolds old.state.tree hold removing) (after : CameAfter old hold)
     (noted : DoomNoted old new hold.key) (closes : IsClosedAt new removing closed) (finished : AllFinished closed receipts) where
   abbrev its : (last : Handle) × (closed ≡ holds.0 ++ last ∷ []) × WasClosed new [] holds.1 last
@@ -93,7 +93,7 @@ module _ (old new : Locked) (hold : Handle) (removing closed receipts : List Han
   shut : WasClosed new [] holds.1 last
   shut = its.2
 
-  -- where the node is not linked the given hold is the last
+  -- if the node is not linked the given hold is the last
   came : IsPrefix (history_of hold.seen) (history old)
   came = go (is_linked old.state.tree hold.key) order after noted
     where
@@ -117,7 +117,7 @@ module _ (old new : Locked) (hold : Handle) (removing closed receipts : List Han
         },
       )
 
--- the same as the history tells it, where the lock was just taken
+-- the same as the history says it, if the lock was just taken
 pub was_removed : (table : TableId) (old : Locked) (hold : Handle) (receipts : List Handle) → IsWhole table old → IsTaken (history old)
     → Last (λ receipt. WasAdded hold.seen receipt.seen (history old) (doom_note old.state.tree hold.key)) receipts → IsDoomList old.state.tree hold.key (keys_of receipts) → Last (WasRemoved hold (keys_of receipts)) receipts
 was_removed table old hold receipts whole taken l listed =
@@ -144,7 +144,7 @@ next_made before all done rest rest' receipts receipts' hold receipt e next push
   (f.0 ++ receipt ∷ [], push ∙ ap (λ l. l ++ receipt ∷ []) f.1 ∙ append_assoc before f.0 (receipt ∷ []), one_finished done f.0 hold receipt f.2 more one),
 )
 
--- all are, where there was no receipt before
+-- all are, if there was no receipt before
 pub all_made : (before holds receipts : List Handle) → before ≡ [] → AreFinished before holds receipts → AllFinished holds receipts
 all_made before holds receipts none f = subst (AllFinished holds) (sym (f.1 ∙ ap (λ l. l ++ f.0) none ∙ (let r : [] ++ f.0 ≡ f.0 = refl in r))) f.2
 

@@ -33,7 +33,7 @@ linked_in_slot t key linked = go (slice_get t key.slot) linked
     go (Some None) h = absurd (cc h)
     go (Some (Some r)) h = ap Some (found (same_key r.key key) r refl h)
 
--- the slot of a key that is found is one of the tree's
+-- the slot of a key that is found is a slot of the tree
 pub found_within : (t : Tree) (slot : ℕ) (key : Key) → key_in t slot ≡ Some key → slot < length t
 found_within t slot key h = go (slice_get t slot) refl h
   where
@@ -49,7 +49,7 @@ linked_within t key linked = found_within t key.slot key (linked_in_slot t key l
 pub rooms_more : (m m' : MasterView) (keys : List Key) (key : Key) → All (λ k. FoundRoom m k.slot) keys → KeepsRooms m m' → FoundRoom m' key.slot → All (λ k. FoundRoom m' k.slot) (keys ++ key ∷ [])
 rooms_more m m' keys key before keeps here = All-push (λ k. FoundRoom m' k.slot) keys key (λ i d h. keeps _ (before i d h)) here
 
--- where each node that a tour passed before its top has room, each node below the top has
+-- if each node that a tour passed before its top has room, each node below the top has
 pub all_rooms : (t : Tree) (top key : Key) (m : MasterView) (keys : List Key) → key ≡ top → IsPostOrder t top (keys ++ key ∷ []) → All (λ k. FoundRoom m k.slot) keys → FoundRoomBelow t top m
 all_rooms t top key m keys ends order rooms k b = elim (Contains-append_cases keys (key ∷ []) k ((order.members k).1 (b.linked, b.below))) [
   | inl among ↦ All-contains (λ x. FoundRoom m x.slot) keys k rooms among

@@ -1,4 +1,5 @@
--- While the lock is free the tree tells what the words do, so what lasts over runs of the words is told of the tree.
+-- While the lock is free the tree says what the words do, so what lasts over runs of the words holds of the
+-- tree.
 use Rattle.std.proofs.Common.{◌≡◌, inl, inr, ℕ, ◌+◌, ◌≤◌, Bool, true, false, cond, not, ◌&&◌, refl, sym, ap, ◌∙◌, subst, ⊎_elim, arith, ne_eqb}
 use Rattle.std.specs.Prelude.{slice_get, Option, None, Some, is_some, if◌then◌else◌}
 use Rattle.std.specs.Option.{option_map}
@@ -9,7 +10,7 @@ use Rattle.kf_core.specs.declared.caller.Phase.{Phase}
 use Rattle.kf_core.specs.declared.caller.Phase.TheVariants.{Turned, Running, Hidden}
 use Rattle.kf_core.specs.declared.event.Event.TheVariants.{Enter}
 use Rattle.kf_core.specs.declared.key.Key.{Key}
-use Rattle.kf_core.specs.declared.slot.Marks.{Marks}
+use Rattle.kf_core.specs.declared.slot.NodeFlags.{NodeFlags}
 use Rattle.kf_core.specs.declared.slot.SlotState.{SlotState}
 use Rattle.kf_core.specs.declared.records.Record.{Record}
 use Rattle.kf_core.specs.Marks.{are_live, are_doomed}
@@ -76,7 +77,7 @@ runs_linked slots limit t u kinds s h r free key gone c runs =
     let linked : is_linked s.state.tree key ≡ true = same_linked u s free key ∙ safe.running_linked c key runs in
     let x : true ≡ false = sym linked ∙ gone in cc
 
-dead : (o : Option Marks) → are_doomed o ≡ true → are_live o ≡ false
+dead : (o : Option NodeFlags) → are_doomed o ≡ true → are_live o ≡ false
 dead None e = refl
 dead (Some m) e = off m.activated m.doomed e
   where

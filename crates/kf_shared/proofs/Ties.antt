@@ -38,7 +38,7 @@ bearable m (Some k) key h e = subst (MayBear m.view) (same_Some k key e) h
 empty_slot : (m : MasterState) (key : Key) → IsVacant m.view key → IsEmpty m.view.slots key
 empty_slot m key v = record { last = v.last; vacant = v.vacant }
 
--- what is told of words and tree after a command and its events
+-- what is said of words and tree after a command and its events
 tied : (table : TableId) (s s' : TreeLog) (m m' : MasterState) (claims : List ℕ) (cause : Option Refusal) (c : Command) → IsTied table (locked s m claims) → IsAccepted s s' cause c →
     m'.table ≡ m.table → length m'.view.slots ≡ length m.view.slots → length m'.nodes ≡ length m.nodes → SameMarks m'.view.slots (after s.tree c) → HasNodes m'.nodes (after s.tree c) → IsTied table (locked s' m' claims)
 tied table s s' m m' claims cause c t a same_table wide all same nodes = record {
@@ -87,7 +87,7 @@ pub tied_shown : (table : TableId) (s s' : TreeLog) (m : MasterState) (claims : 
 tied_shown table s s' m claims key cause true t a = tied table s s' m m claims cause (Show key) t a refl refl refl (same_hidden m.view.slots s.tree key false t.marks) (nodes_hidden m.nodes s.tree key false t.nodes)
 tied_shown table s s' m claims key cause false t e = tied_state table s s' m claims t e
 
--- the slot of the key that a search answered is vacant in the tree
+-- the slot of the key that a search returned is vacant in the tree
 pub vacant_next : (table : TableId) (s : TreeLog) (m m1 : MasterState) (claims : List ℕ) (next : Option Key) → IsTied table (locked s m claims) → IsKept s → KeepsNodes m m1 → IfSome next (λ k. MayBear m1.view k) →
     IfSome next (λ key. slice_get s.tree key.slot ≡ Some None)
 vacant_next table s m m1 claims None t k n h = h

@@ -1,4 +1,5 @@
--- What the lock keeps is tied, and is that of the whole history, after each of its commands and the note of it.
+-- What the lock keeps is tied, and is that of the whole history, after each of its commands and the note of
+-- it.
 use Rattle.std.proofs.lemmas.List.{length-append}
 use Rattle.std.proofs.Common.{◌≡◌, ◌≢◌, ℕ, ◌+◌, arith, List, [], ◌∷◌, ◌++◌, length, refl, sym, ap, ◌∙◌, subst, slice_set, true, false, Bool}
 use Rattle.std.specs.Prelude.{Option}
@@ -20,7 +21,7 @@ use Rattle.kf_shared.specs.Locked.{IsTied}
 use Rattle.kf_shared.proofs.Notes.{noted_did, noted_claimed, noted_compacted, noted_same, last_stored_more}
 use Rattle.kf_shared.proofs.Ties.{locked, tied_master, tied_same}
 
--- what holds of the lock's value
+-- what holds of the value behind the lock
 abbrev pub Held : TableId → TreeLog → MasterState → List ℕ → Type 0
 Held table s m claims = IsTied table (locked s m claims) × IsNoted s claims (history_of m.seen)
 
@@ -79,7 +80,7 @@ module _ (s s' : TreeLog) (m m1 m2 : MasterState) (cause : Option Refusal) (c : 
   pub noted_last : (claims : List ℕ) → IsNoted s claims (history_of m.seen) → IsNoted s' claims (history_of m2.seen)
   noted_last claims t = subst (IsNoted s' claims) (sym adds_last) (noted_did s s' claims (history_of m.seen) cause c t accepted)
 
--- a rename stored a command exactly where there are more commands than before
+-- a rename stored a command exactly if there are more commands than before
 module _ (s s' : TreeLog) (cause : Option Refusal) (c : Command) (stays : Bool) (same : stays ≡ true → s' ≡ s) (accepted : stays ≡ false → IsAccepted s s' cause c) where
   longer : stays ≡ false → length s'.commands ≡ length s.commands + 1
   longer e = ap length (accepted e).stored ∙ length-append s.commands (c ∷ [])

@@ -1,4 +1,4 @@
--- What an unlink tells of what the lock keeps.
+-- What an unlink says of what the lock keeps.
 use Rattle.std.proofs.Common.{◌≡◌, inl, inr, ℕ, refl, ap, sym, ◌∙◌, subst, Bool, true, false, List}
 use Rattle.std.specs.Prelude.{Option, None, Some, MatchBool, if◌then◌else◌}
 use Rattle.std.proofs.lemmas.Bool.{MatchBool-at_true}
@@ -20,7 +20,7 @@ use Rattle.kf_shared.proofs.Ties.{locked, tied_unlinked}
 pub refused_by_tree : (s : TreeLog) (old : Locked) (key seen : Key) (refusal : Refusal) → s ≡ old.state → seen ≡ key → unlink_cause s.tree seen ≡ Some refusal → UnlinkRefused old old key refusal
 refused_by_tree s old key seen refusal same is cause = inl (subst (λ k. unlink_cause old.state.tree k ≡ Some refusal) is (subst (λ (l : TreeLog). unlink_cause l.tree seen ≡ Some refusal) same cause), refl)
 
--- a word that was found in use was looked at alone
+-- a word that was found in use was only looked at
 still_there : (m m' : MasterState) (slot : ℕ) → m'.table ≡ m.table → m'.nodes ≡ m.nodes → history_of m'.seen ≡ history_of m.seen → UnlinkAnswer m.view slot false m'.view → KeepsNodes m m'
 still_there m m' slot table nodes unnoted told = record { history = unnoted; table = table; limit = ap (λ (v : MasterView). v.limit) told.2; nodes = nodes; slots = ap (λ (v : MasterView). v.slots) told.2 }
 

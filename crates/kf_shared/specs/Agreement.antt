@@ -1,4 +1,4 @@
--- When the Master's nodes are those of the tree, and what a change of marks alone leaves of the Master.
+-- When the Master's nodes are those of the tree, and what a change of only marks leaves of the Master.
 use Rattle.std.specs.Prelude.{◌≡◌, List, length, slice_get, Some}
 use Rattle.kf_core.specs.declared.key.Key.{Key}
 use Rattle.kf_core.specs.declared.key.Node.{Node}

@@ -12,11 +12,11 @@ use Rattle.kf_tree.specs.Causes.{Refuses, hide_cause, hidden_in}
 use Rattle.kf_tree.specs.TreeLogs.{IsAccepted}
 use Rattle.kf_words.specs.Callers.{CallerSight}
 use Rattle.kf_words.specs.Callers.{Handle, IsSameSeat, FoundHidden, seat_view}
-use Rattle.kf_words.specs.Runs.{WasAHide, OnlyLookedHidden}
+use Rattle.kf_words.specs.Runs.{WasAHide, WaitedForHidden}
 use Rattle.kf_words.specs.declared.note.Note.TheVariants.{Did}
 use Rattle.kf_shared.specs.Locked.{Locked, Adds, history}
 
--- why a node of this kind is not hidden: files alone are
+-- why a node of this kind is not hidden: only files are
 abbrev pub kind_cause : Node → Option Refusal
 kind_cause Dir = Some IsDir
 kind_cause (File mode tag) = None
@@ -34,26 +34,26 @@ HideRefused t hold back refusal =
     ⊎ ((hold_cause t hold ≡ None) × (refusal ≡ Busy) × IsSameSeat hold back × FoundHidden hold back
     × WasAHide (seat_view hold) (seat_view back))
 
--- the key is shown, and that is stored; where it is not linked and hidden the tree is as before
+-- the key is shown, and that is stored; if it is not linked and hidden the tree is as before
 abbrev pub ShowDone : Locked → Locked → Key → Type 0
 ShowDone old new key = MatchBool (hidden_in old.state.tree key)
     (IsAccepted old.state new.state None (Show key)) (new.state ≡ old.state)
 
--- that the key is shown was noted, where it is linked and hidden; else no note was added
+-- that the key is shown was noted, if it is linked and hidden; else no note was added
 abbrev pub ShowNoted : Locked → Locked → Key → Type 0
 ShowNoted old new key = MatchBool (hidden_in old.state.tree key)
     (Adds old new (Did (Show key))) (history new ≡ history old)
 
--- one step hid the key, and all others were looks
+-- one step hid the key, and then it waited until nobody used the node
 abbrev pub HidAndLooked : CallerSight → CallerSight → Type 0
-HidAndLooked before after = (hid : CallerSight) × WasAHide before hid × OnlyLookedHidden hid after
+HidAndLooked before after = (hid : CallerSight) × WasAHide before hid × WaitedForHidden hid after
 
--- what the tree may say against the hiding of a file, and the want of memory
+-- what the tree may say against the hiding of a file, and the lack of memory
 abbrev pub IsHideRefusal : Refusal → Type 0
 IsHideRefusal why = (why ≡ NoEntry) ⊎ (why ≡ IsDir) ⊎ (why ≡ Invalid) ⊎ (why ≡ Busy) ⊎ (why ≡ NoMemory)
 
--- why a hiding was refused, whatever the tree. The hold is as it was where its node is no file, or where the
--- tree or want of memory was against it; or its step found the key hidden by another caller
+-- why a hiding was refused, whatever the tree. The hold is as it was if its node is no file, or if the
+-- tree or lack of memory was against it; or its step found the key hidden by another caller
 abbrev pub HidingRefused : Handle → Handle → Refusal → Type 0
 HidingRefused hold back why =
     ((kind_cause hold.node ≡ Some why) × (back ≡ hold))

@@ -54,7 +54,7 @@ pub record IsWhole (table : TableId) (s : Locked) : Type 0 where
 abbrev pub Adds : Locked → Locked → Note → Type 0
 Adds old new note = history new ≡ history old ++ note ∷ []
 
--- this call's search for a free slot answered this key, the next of its slot
+-- this call's search for a free slot returned this key, the next of its slot
 pub record HasFound (m : MasterView) (next : Option Key) (m' : MasterView) : Type 0 where
   pub searched : Searched m (option_map (λ (key : Key). key.slot) next) m'
   pub vacant : IfSome next (λ key. IsVacant m' key)

@@ -20,11 +20,11 @@ commands_of (Compacted ∷ notes) = commands_of notes
 commands_of (Began slots root ∷ notes) = commands_of notes
 commands_of (Border ∷ notes) = commands_of notes
 
--- the tree of so many slots that a history made of the root alone
+-- the tree of this many slots that a history made of only the root
 abbrev pub tree_of : ℕ → Key → List Note → Tree
 tree_of slots root notes = replay (root_alone slots root) (commands_of notes)
 
--- the tree that a history made, whose first note tells how many slots it has, and its root
+-- the tree that a history made, whose first note says how many slots it has, and its root
 abbrev pub tree_in : List Note → Tree
 tree_in [] = []
 tree_in (Did command ∷ notes) = []
@@ -46,11 +46,11 @@ abbrev pub claims_from : List ℕ → List Note → List ℕ
 claims_from claims [] = claims
 claims_from claims (note ∷ notes) = claims_from (claims_after claims note) notes
 
--- the claims that a history made in so many slots, of which none was claimed
+-- the claims that a history made in this many slots, of which none was claimed
 abbrev pub claims_of : ℕ → List Note → List ℕ
 claims_of slots notes = claims_from (replicate slots 0) notes
 
--- the claims that a history made, whose first note tells how many slots there are
+-- the claims that a history made, whose first note says how many slots there are
 abbrev pub claims_in : List Note → List ℕ
 claims_in [] = []
 claims_in (Did command ∷ notes) = []
@@ -83,7 +83,7 @@ abbrev pub IsStored : TreeLog → List Note → Type 0
 IsStored log notes =
     ((compacts notes ≡ false) × (log.commands ≡ commands_of notes)) ⊎ IsStoredSince log notes
 
--- the history begins with the making of a tree of so many slots, of this root
+-- the history begins with the making of a tree of this many slots, of this root
 abbrev pub BeginsWith : ℕ → Key → List Note → Type 0
 BeginsWith slots root notes = (more : List Note) × (notes ≡ Began slots root ∷ more)
 

@@ -1,4 +1,4 @@
--- What the receipts of a removal tell, and why it is refused.
+-- What the receipts of a removal say, and why it is refused.
 use Rattle.std.specs.Prelude.{◌≡◌, ◌≢◌, ◌⊎◌, List, [], ◌∷◌, ◌++◌, map, All, AllPairs, MatchBool, None, Some, true, Result, MatchResult}
 use Rattle.kf_core.specs.declared.key.Key.{Key}
 use Rattle.kf_core.specs.declared.refusal.Refusal.{Refusal}
@@ -38,7 +38,7 @@ abbrev pub EndsAt : List Handle → Handle → Type 0
 EndsAt handles hold =
     (front : List Handle) × (last : Handle) × (handles ≡ front ++ last ∷ []) × IsSameSeat hold last
 
--- the keys of the node's subtree, in post-order; where the node is not linked, its own alone
+-- the keys of the node's subtree, in post-order; if the node is not linked, only its own
 abbrev pub IsDoomList : Tree → Key → List Key → Type 0
 IsDoomList t key keys = MatchBool (is_linked t key) (IsPostOrder t key keys) (keys ≡ key ∷ [])
 
@@ -47,7 +47,7 @@ abbrev pub HasBelow : Tree → Key → Type 0
 HasBelow t top = (key : Key) × (key ≢ top) × (in_subtree t top key ≡ true)
 
 -- why the removal of a node of this tree is refused: it is the root; else a node below has no room for a hold
--- more, or there was no memory; where it is no longer linked there was no memory
+-- more, or there was no memory; if it is no longer linked there was no memory
 abbrev pub RemovalRefused : Tree → Key → Key → Refusal → Type 0
 RemovalRefused t root key why = MatchBool (is_linked t key)
     (MatchBool (same_key key root)
@@ -74,7 +74,7 @@ RemovalRefusal why = (why ≡ Invalid) ⊎ HoldsRefusal why
 abbrev pub SelfRemovalRefusal : Refusal → Type 0
 SelfRemovalRefusal why = (why ≡ NoEntry) ⊎ RemovalRefusal why
 
--- where the node is linked, nothing is against its doom
+-- if the node is linked, nothing is against its doom
 abbrev pub MayBeDoomed : TreeLog → Key → Type 0
 MayBeDoomed s key = is_linked s.tree key ≡ true → doom_cause s.tree s.root key ≡ None
 

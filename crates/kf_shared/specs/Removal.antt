@@ -22,7 +22,7 @@ use Rattle.kf_shared.specs.Locked.{Locked, Adds, history}
 abbrev pub keys_of : List Handle → List Key
 keys_of holds = map (λ h. h.key) holds
 
--- a new hold of the key that it tells, whichever that is
+-- a new hold of the key that it names, whichever that is
 abbrev pub IsNew : MasterState → Handle → Type 0
 IsNew m hold = IsNewHold m hold.key hold
 
@@ -40,36 +40,36 @@ abbrev pub EndsSeeing : List Handle → Seen → Type 0
 EndsSeeing holds seen =
     (front : List Handle) × (last : Handle) × (holds ≡ front ++ last ∷ []) × (last.seen ≡ seen)
 
--- where the node is linked, its doom came after all that the hold had seen
+-- if the node is linked, its doom came after all that the hold had seen
 abbrev pub CameAfter : Locked → Handle → Type 0
 CameAfter old hold =
     is_linked old.state.tree hold.key ≡ true → IsPrefix (history_of hold.seen) (history old)
 
--- where the node was linked, the last hold has seen all that the Master has when its doom is done: the whole
+-- if the node was linked, the last hold has seen all that the Master has when its doom is done: the whole
 -- history, which ends by the doom
 abbrev pub SawItsDoom : Locked → Locked → Handle → List Handle → Type 0
 SawItsDoom old new hold holds = is_linked old.state.tree hold.key ≡ true → EndsSeeing holds new.master.seen
 
--- one hold for each node of the subtree, in post-order; where the node is no longer linked, the given hold
--- alone
+-- one hold for each node of the subtree, in post-order; if the node is no longer linked, only the given
+-- hold
 abbrev pub DoomHolds : Tree → Handle → List Handle → Type 0
 DoomHolds t hold holds =
     MatchBool (is_linked t hold.key) (IsPostOrder t hold.key (keys_of holds)) (holds ≡ hold ∷ [])
 
--- the node and all below it are doomed, and that is stored; where it is no longer linked the tree is as
+-- the node and all below it are doomed, and that is stored; if it is no longer linked the tree is as
 -- before
 abbrev pub DoomMarked : Locked → Locked → Key → Type 0
 DoomMarked old new key = MatchBool (is_linked old.state.tree key)
     (IsAccepted old.state new.state (doom_cause old.state.tree old.state.root key) (Doom key))
     (new.state ≡ old.state)
 
--- the node and all below it are doomed, and that is stored; where it is no longer linked nothing is changed,
+-- the node and all below it are doomed, and that is stored; if it is no longer linked nothing is changed,
 -- and no word step is made
 abbrev pub DoomDone : Locked → Locked → Key → Type 0
 DoomDone old new key = MatchBool (is_linked old.state.tree key)
     (IsAccepted old.state new.state (doom_cause old.state.tree old.state.root key) (Doom key)) (new ≡ old)
 
--- the doom was noted, where the node is linked; else no note was added
+-- the doom was noted, if the node is linked; else no note was added
 abbrev pub DoomNoted : Locked → Locked → Key → Type 0
 DoomNoted old new key =
     MatchBool (is_linked old.state.tree key) (Adds old new (Did (Doom key))) (history new ≡ history old)
@@ -122,7 +122,7 @@ DoomGivenUp s key m refusal = MatchBool (same_key key s.root)
     (refusal ≡ Invalid)
     (((refusal ≡ TooManyHolds) × FoundFullBelow s.tree key m) ⊎ (refusal ≡ NoMemory))
 
--- why a doom is refused: it is of the root; else the holds were refused; where the node is no longer linked
+-- why a doom is refused: it is of the root; else the holds were refused; if the node is no longer linked
 -- there was no memory
 abbrev pub DoomRefused : Locked → Locked → Key → Refusal → Type 0
 DoomRefused old new key refusal = MatchBool (is_linked old.state.tree key)

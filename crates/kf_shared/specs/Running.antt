@@ -31,7 +31,7 @@ abbrev pub WhileFree : (ℕ → ℕ → Table → Table → Locked → Type 0) �
 WhileFree Law = (slots limit : ℕ) (t u : Table) (kinds : List StepKind) (s : Locked) → Shown slots limit t
     → WordRun t kinds u → IsFreeLock u s → Law slots limit t u s
 
--- a new tree goes with a table that meets the rule, where nobody is there but its Master
+-- a new tree goes with a table that meets the rule, if nobody is there but its Master
 abbrev pub StartsWell : Type 0
 StartsWell = (slots limit start : ℕ) (s : Locked) (table : TableId) → 1 ≤ slots → limit ≤ 65535
     → IsWhole table s → s.master.view ≡ opened limit slots start
@@ -47,7 +47,7 @@ IsReplay = WhileFree
 abbrev pub IsOfHistory : Type 0
 IsOfHistory = WhileFree (λ slots limit t u s. IsToldBy s (history s))
 
--- the tree and the words tell the same of each key: whether it is linked, activated, doomed
+-- the tree and the words say the same of each key: whether it is linked, activated, doomed
 abbrev pub TreeAgrees : Type 0
 TreeAgrees = WhileFree (λ slots limit t u s. Agrees s.state.tree (world u))
 
@@ -55,7 +55,7 @@ TreeAgrees = WhileFree (λ slots limit t u s. Agrees s.state.tree (world u))
 abbrev pub lets_in : Tree → Table → Key → Bool
 lets_in tree u key = are_live (marks_of tree key) && not (is_hidden (world u) key)
 
--- a try, where it is the next step, lets its caller run exactly where the tree has its node live, and no
+-- a try, if it is the next step, lets its caller run exactly if the tree has its node live, and no
 -- caller hides it
 abbrev pub StartsLive : Type 0
 StartsLive = WhileFree
@@ -102,7 +102,7 @@ abbrev pub HiddenIsStill : Type 0
 HiddenIsStill = OverRuns
     (λ slots limit t u. (c : ℕ) (key : Key) → IsCaller (world u) c key Hidden → NoneRunning (world u) key)
 
--- a birth, where it is the next step, finds only spent callers on its slot
+-- a birth, if it is the next step, finds only spent callers on its slot
 abbrev pub HeldNotGiven : Type 0
 HeldNotGiven =
     OverRuns (λ slots limit t u. (slot : ℕ) (v : Table) → WordStep u (births slot) v

@@ -1,5 +1,5 @@
--- What was done while the lock was held once, as the history tells it to those who saw it.
-use Rattle.std.specs.Prelude.{◌≡◌, ℕ, zero, suc, Bool, true, false, not, None, ⊤, List, [], ◌∷◌, ◌++◌}
+-- What was done while the lock was held once, as the history says it to those that saw it.
+use Rattle.std.specs.Prelude.{◌≡◌, ◌⊎◌, ℕ, zero, suc, Bool, true, false, not, None, ⊤, List, [], ◌∷◌, ◌++◌}
 use mathlib.Core.List.{IsPrefix}
 use Rattle.kf_core.specs.declared.key.Key.{Key}
 use Rattle.kf_core.specs.declared.command.Command.TheVariants.{Doom, Unlink, Hide, Show}
@@ -12,7 +12,7 @@ use Rattle.kf_words.specs.declared.sight.StepKind.TheVariants.{Parts as parts}
 use Rattle.kf_words.specs.Notes.{history_of}
 use Rattle.kf_words.specs.Callers.{Handle, CallerSight}
 use Rattle.kf_tree.specs.Causes.{hidden_in}
-use Rattle.kf_words.specs.Made.{WasMade, WasAHide, WasARestore, OnlyLooked, OnlyLookedHidden}
+use Rattle.kf_words.specs.Made.{Rested, WasMade, WasAHide, WasARestore, WaitedForDrain, WaitedForHidden}
 use Rattle.kf_shared.specs.Hiding.{hold_cause}
 use Rattle.kf_shared.specs.Locked.{Locked, history, is_claimed}
 use Rattle.kf_shared.specs.Noted.{tree_in, claims_in}
@@ -32,31 +32,40 @@ pub record WasTold (before after : CallerSight) : Type 0 where
   pub view : after.view ≡ before.view
   pub seen : SawMore before.seen after.seen
 
--- so many steps of this kind, and no other of this seat; before, between and after them it was told what
+-- this many steps of this kind, and no other of this seat; before, between and after them it learned what
 -- others had seen
 abbrev pub WereMadeTold : (ℕ → StepKind) → ℕ → CallerSight → CallerSight → Type 0
 WereMadeTold kind zero before after = WasTold before after
 WereMadeTold kind (suc count) before after = (told : CallerSight) × (made : CallerSight)
     × WereMadeTold kind count before told × WasMade kind told made × WasTold made after
 
--- all that a hold does while its node is finished: it looks until it sees the drain, and then, as it is told
--- what was done under the lock, whether the node has left the tree
-abbrev pub OnlyWaited : CallerSight → CallerSight → Type 0
-OnlyWaited before after =
-    (saw : CallerSight) × OnlyLooked before saw × ((count : ℕ) × WereMadeTold parts (suc count) saw after)
+-- this many times it learned what was done under the lock. Each time it then rested, or looked whether the
+-- node had left the tree
+abbrev pub RestedOrLooked : ℕ → CallerSight → CallerSight → Type 0
+RestedOrLooked zero before after = after ≡ before
+RestedOrLooked (suc count) before after = (between : CallerSight) × (told : CallerSight)
+    × RestedOrLooked count before between × WasTold between told
+    × (((counted : Bool) × Rested counted told after) ⊎ WasMade parts told after)
 
--- one step hid the key; then the token was told what was done under the lock, and all its other steps were
--- looks
+-- all the steps of a hold while its node is finished: it waits for the drain, then rests or looks, any
+-- number of times, and looks for the last time after it learned what was done under the lock
+abbrev pub OnlyWaited : CallerSight → CallerSight → Type 0
+OnlyWaited before after = (saw : CallerSight) × (between : CallerSight) × (told : CallerSight)
+    × WaitedForDrain before saw × ((count : ℕ) × RestedOrLooked count saw between)
+    × WasTold between told × WasMade parts told after
+
+-- one step hid the key, then the token learned what was done under the lock, and then it waited until nobody
+-- used the node
 abbrev pub HidToldAndLooked : CallerSight → CallerSight → Type 0
 HidToldAndLooked before after = (hid : CallerSight) × (told : CallerSight) × WasAHide before hid
-    × WasTold hid told × OnlyLookedHidden told after
+    × WasTold hid told × WaitedForHidden told after
 
--- this note, where it is so
+-- this note, if it is so
 abbrev pub note_where : Bool → Note → List Note
 note_where true note = note ∷ []
 note_where false note = []
 
--- what the doom of a key adds to the history of this tree: nothing, where its node is not linked
+-- what the doom of a key adds to the history of this tree: nothing, if its node is not linked
 abbrev pub doom_note : Tree → Key → List Note
 doom_note t key = note_where (is_linked t key) (Did (Doom key))
 
@@ -64,7 +73,7 @@ doom_note t key = note_where (is_linked t key) (Did (Doom key))
 abbrev pub unlink_note : Tree → Key → List Note
 unlink_note t key = note_where (is_linked t key) (Did (Unlink key))
 
--- what it adds that a file is shown: nothing, where it is not linked or not hidden
+-- what it adds that a file is shown: nothing, if it is not linked or not hidden
 abbrev pub show_note : Tree → Key → List Note
 show_note t key = note_where (hidden_in t key) (Did (Show key))
 
@@ -72,7 +81,7 @@ show_note t key = note_where (hidden_in t key) (Did (Show key))
 abbrev pub self_notes : Tree → Key → List Note
 self_notes t key = doom_note t key ++ Claimed key ∷ []
 
--- before the lock is let go: nothing changed of a handle but what it has seen; what it had seen came before,
+-- before the unlock: nothing changed of a handle but what it has seen; what it had seen came before,
 -- and these notes were added and no other, and that it has seen
 pub record WasClosed (old : Locked) (added : List Note) (before after : Handle) : Type 0 where
   pub heard : HasHeard before after
@@ -86,7 +95,7 @@ IsClosedAt old holds holds' = (front : List Handle) (last : Handle) → holds �
     → (after : Handle) × (holds' ≡ front ++ after ∷ []) × WasClosed old [] last after
 
 -- this was the history, which begins with all that was seen before. These notes came next, and no other
--- before the lock was let go, and that was seen
+-- before the unlock, and that was seen
 pub record WasAdded (before after : Seen) (found added : List Note) : Type 0 where
   pub came : IsPrefix (history_of before) found
   pub next : IsPrefix ((found ++ added) ++ Border ∷ []) (history_of after)
@@ -107,7 +116,7 @@ WasRemoved hold keys receipt = (found : List Note)
     × WasDone hold.seen receipt.seen found (doom_note (tree_in found) hold.key)
     × IsDoomList (tree_in found) hold.key keys
 
--- the node's unlink, where it was linked when the lock was taken, is all that was done while the lock was
+-- the node's unlink, if it was linked when the lock was taken, is all that was done while the lock was
 -- held, and the receipt has seen that
 abbrev pub WasFinished : Handle → Handle → Type 0
 WasFinished hold receipt = (found : List Note)
@@ -126,14 +135,14 @@ abbrev pub AreFinished : List Handle → List Handle → List Handle → Type 0
 AreFinished before holds receipts =
     (made : List Handle) × (receipts ≡ before ++ made) × AllFinished holds made
 
--- that the file is shown, where it was linked and hidden when the lock was taken, is all that was done while
+-- that the file is shown, if it was linked and hidden when the lock was taken, is all that was done while
 -- the lock was held, and the hold has seen that
 abbrev pub WasShownAlone : Handle → Handle → Type 0
 WasShownAlone hidden hold = (found : List Note)
     × WasDone hidden.seen hold.seen found (show_note (tree_in found) hidden.key)
 
 -- this was the history. What was seen before is a beginning of that with these notes, which came next, and no
--- other before the lock was let go, and that was seen
+-- other before the unlock, and that was seen
 pub record WasAddedLate (before after : Seen) (found added : List Note) : Type 0 where
   pub came : IsPrefix (history_of before) (found ++ added)
   pub next : IsPrefix ((found ++ added) ++ Border ∷ []) (history_of after)
@@ -151,7 +160,7 @@ WasHiddenAlone hold token = (found : List Note)
     × (hold_cause (tree_in found) hold ≡ None)
 
 -- in the tree that was found when the lock was taken, these are the keys of the subtree; the node was the
--- first to be claimed exactly where the claims did not have it; its doom and its claim are all that was done
+-- first to be claimed exactly if the claims did not have it; its doom and its claim are all that was done
 -- while the lock was held, and the call has seen that
 pub record WasSelfRemoved (before after : Handle) (first : Bool) (keys : List Key) : Type 0 where
   pub found : List Note
@@ -159,7 +168,7 @@ pub record WasSelfRemoved (before after : Handle) (first : Bool) (keys : List Ke
   pub first_is : first ≡ not (is_claimed (claims_in found) before.key)
   pub listed : IsDoomList (tree_in found) before.key keys
 
--- the call was told that this is the history; it was restored; and after that there was no note more, so
+-- the call learned that this is the history; it was restored; and after that there was no further note, so
 -- nobody had taken the lock in between
 abbrev pub WasRestoredAt : List Note → CallerSight → Type 0
 WasRestoredAt found after = (told : CallerSight) × (restored : CallerSight) × (history_of told.seen ≡ found)

@@ -13,10 +13,10 @@ use kf_words::{Hold, Holds};
 
 /// A hold of the live node that a path names, with no lock of the tree and no wait: a look-up finds its key,
 /// a maker of the same tree's holds counts it, and a load says that the path leads there still. (It is the
-/// caller's to `enter`, which tells whether the node is live then.)
+/// caller's to `enter`, which says whether the node is live then.)
 ///
 /// None is no refusal: ask under the lock, by [`Editor::hold`](crate::Editor::hold). `Looker::look` had no
-/// answer, `Holds::pin` refused, or the words of look-ups changed between.
+/// found nothing, `Holds::pin` refused, or the words of look-ups changed between.
 pub fn hold_path(looker: &mut Looker, holds: &mut Holds, path: &[u8]) -> Option<Hold>
     ensures root { looker.new.root ≡ looker.old.root }
     ensures slots { looker.new.slots ≡ looker.old.slots }

@@ -1,5 +1,5 @@
-//! The lock is taken, and let go: what stands in the history between was done while it was held once. Who is
-//! told of that before the lock goes has seen it ever after.
+//! The lock is taken, and unlocked: what stands in the history between was done while it was held once. A
+//! caller that learns of that before the unlock has seen it ever after.
 ghost use Rattle.std.specs.Prelude.{◌≡◌, [], ◌∷◌, ◌++◌, IfOk};
 ghost use mathlib.Core.List.{IsPrefix};
 ghost use Rattle.kf_core.specs.declared.caller.Phase.TheVariants as phase_of;
@@ -19,7 +19,7 @@ use kf_core::Refusal;
 use kf_words::{Call, Drained, Hidden, Hiding, Hold};
 
 impl<N: Naming> Locked<N> {
-    /// Notes that the lock was taken, or is about to be let go.
+    /// Notes that the lock was taken, or is about to be unlocked.
     pub(crate) fn border(&mut self)
         ensures state { self.new.state ≡ self.old.state }
         ensures words { KeepsWords self.old.master self.new.master }
@@ -29,7 +29,7 @@ impl<N: Naming> Locked<N> {
         note_border(&mut self.master);
     }
 
-    /// Tells a hold all that was done while the lock was held, which is about to be let go.
+    /// Passes on to a hold all that was done while the lock was held, which is about to be unlocked.
     pub(crate) fn close(&mut self, hold: &mut Hold)
         requires table { hold.old.table ≡ N.table }
         ensures hold { WasClosed self.old [] hold.old hold.new }
@@ -59,8 +59,8 @@ impl<N: Naming> Locked<N> {
         self.master.meet_call(call);
     }
 
-    /// Takes a drained node out of the tree, as `unlink` does, and tells its receipt that this is all that
-    /// was done while the lock was held, which is about to be let go.
+    /// Takes a drained node out of the tree, as `unlink` does, and passes on to its receipt that this is all
+    /// that was done while the lock was held, which is about to be unlocked.
     pub(crate) fn unlink_alone(&mut self, drained: &mut Drained) -> Result<bool, Refusal>
         requires table { drained.old.table ≡ N.table }
         ensures same { HasHeard drained.old drained.new }
@@ -75,8 +75,8 @@ impl<N: Naming> Locked<N> {
         unlinked
     }
 
-    /// Shows a hidden file again, as `show` does, and tells its hold that this is all that was done while the
-    /// lock was held, which is about to be let go.
+    /// Shows a hidden file again, as `show` does, and passes on to its hold that this is all that was done
+    /// while the lock was held, which is about to be unlocked.
     pub(crate) fn show_alone(&mut self, hidden: Hidden) -> Hold
         requires table { hidden.table ≡ N.table }
         ensures hold { IsSameSeat hidden result × WasShown hidden result }

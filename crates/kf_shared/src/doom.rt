@@ -9,7 +9,7 @@ ghost use Rattle.kf_core.specs.Tree.{is_linked};
 ghost use Rattle.kf_tree.specs.Causes.{doom_cause};
 ghost use Rattle.kf_tree.specs.TreeLogs.{IsAccepted};
 ghost use Rattle.kf_words.specs.Callers.{Handle, IsSameSeat, having_seen, seat_view};
-ghost use Rattle.kf_words.specs.Made.{WasABreak};
+ghost use Rattle.kf_words.specs.Made.{WasABreakThenWake};
 ghost use Rattle.kf_words.specs.Nodes.{IsLastKey, KeepsNodes};
 ghost use Rattle.kf_words.specs.declared.note.Note.TheVariants.{Did};
 ghost use mathlib.Core.List.{IsPrefix};
@@ -26,8 +26,8 @@ use kf_core::{Key, Refusal};
 use kf_words::{Call, Hold, Parted};
 
 impl<N: Naming> Locked<N> {
-    /// Why the doom of a linked node is refused where memory was refused: TooManyHolds where a node below is
-    /// found full, and NoMemory where each is found to have room.
+    /// Why the doom of a linked node is refused if memory was refused: TooManyHolds if a node below is
+    /// found full, and NoMemory if each is found to have room.
     fn full_or_no_memory(&mut self, key: Key) -> Refusal
         requires linked { is_linked self.old.state.tree key ≡ true }
         requires not_root { same_key key self.old.state.root ≡ false }
@@ -38,7 +38,7 @@ impl<N: Naming> Locked<N> {
         full_or_no_memory(self.state.state(), &mut self.master, key)
     }
 
-    /// The refusal that a self-removal answers: want of memory only where no node of the subtree, its own
+    /// The refusal that a self-removal returns: lack of memory only if no node of the subtree, its own
     /// among them, is found full.
     fn memory_last(&mut self, key: Key, refusal: Refusal) -> Refusal
         requires last { refusal ≡ refusal_of.NoMemory → IsLastKey self.old.master.view key }
@@ -56,7 +56,7 @@ impl<N: Naming> Locked<N> {
         full_or_no_memory(self.state.state(), &mut self.master, key)
     }
 
-    /// The refusal that the doom of a linked node answers: want of memory only where no node below is found
+    /// The refusal that the doom of a linked node returns: lack of memory only if no node below is found
     /// full.
     fn memory_last_below(&mut self, key: Key, refusal: Refusal) -> Refusal
         requires linked { is_linked self.old.state.tree key ≡ true }
@@ -131,7 +131,7 @@ impl<N: Naming> Locked<N> {
         }
     }
 
-    /// The doom of a linked node, given up where memory was refused.
+    /// The doom of a linked node, given up if memory was refused.
     fn doom_linked(&mut self, hold: Hold) -> Result<Vec<Hold>, (Hold, Refusal)>
         requires table { hold.table ≡ N.table }
         requires linked { is_linked self.old.state.tree hold.key ≡ true }
@@ -256,7 +256,7 @@ impl<N: Naming> Locked<N> {
         }
     }
 
-    /// A hold of its own of a call's node, and the removal that it starts. Want of memory is told as it is
+    /// A new hold of a call's node, and the removal that it starts. Lack of memory is reported as it is
     /// met.
     fn start_held(&mut self, call: &Call, receipts: &mut Vec<Parted>) -> Result<Vec<Hold>, Refusal>
         requires table { call.now.table ≡ N.table }
@@ -296,7 +296,7 @@ impl<N: Naming> Locked<N> {
         requires running { call.old.phase ≡ phase_of.Running }
         ensures seat { IsSameSeat call.old call.new }
         ensures broken { OnOk result (call.new.phase ≡ phase_of.Broken) }
-        ensures made { OnOk result (WasABreak (seat_view call.old) (seat_view call.new)) }
+        ensures made { OnOk result (WasABreakThenWake (seat_view call.old) (seat_view call.new)) }
         ensures kept { OnErr result (call.new ≡ call.old) }
         ensures holds { IfOk result
             (λ r. (hold : Handle) × (hold.key ≡ call.old.key) × IsNew self.old.master hold

@@ -15,7 +15,7 @@ ghost use Rattle.kf_table.specs.Children.{is_there_already};
 ghost use Rattle.kf_tree.specs.TreeLogs.{IsAccepted, IsRefused, IsCompacted};
 ghost use Rattle.kf_words.specs.Callers.{Handle, IsSameSeat, WasHidden, WasShown, seat_view};
 ghost use Rattle.kf_words.specs.Nodes.{KeepsNodes, IsVacant, UnlinkAnswer, WasPinned};
-ghost use Rattle.kf_words.specs.Made.{WasABreak};
+ghost use Rattle.kf_words.specs.Made.{WasABreakThenWake};
 ghost use Rattle.kf_words.specs.Runs.{WasAHide, WasAShow};
 ghost use Rattle.kf_live.specs.Live.{Say};
 ghost use Rattle.kf_live.specs.Lookers.{links_seen};
@@ -51,7 +51,7 @@ impl<'a, N: Naming> Model for Editor<'a, N> {
 }
 
 impl<'a, N: Naming> Editor<'a, N> {
-    /// The tree with its stored commands. What holds whenever the lock is got is told here: the tree is
+    /// The tree with its stored commands. What holds whenever the lock is got is said here: the tree is
     /// lawful and the replay of its commands, and the words name the same linked, activated and doomed keys.
     pub fn state(&self) -> &State
         ensures same { result.now ≡ self.now.state }
@@ -60,10 +60,10 @@ impl<'a, N: Naming> Editor<'a, N> {
         self.guard.state()
     }
 
-    /// One who looks names up without the lock, and was told of all that the tree says now: none of its
+    /// A reader of names without the lock, which is informed of all that the tree says now: none of its
     /// look-ups goes back behind that.
     ///
-    /// Refusal: NoMemory, where the words of look-ups may have no owner more.
+    /// Refusal: NoMemory, if the words of look-ups can have no further owner.
     pub fn looker(&mut self) -> Result<Looker, Refusal>
         ensures told { IfOk result
             (λ looker. 0 < looker.slots → Say (links_seen looker) self.old.state.tree) }
@@ -81,7 +81,7 @@ impl<'a, N: Naming> Editor<'a, N> {
         self.state().stored()
     }
 
-    /// How many commands would be stored after [`Editor::compact`], at most, as [`State::compacted`] tells.
+    /// How many commands would be stored after [`Editor::compact`], at most, as [`State::compacted`] says.
     pub fn compacted(&self) -> usize
         ensures known { result + 1 ≡
             linked_count self.now.state.tree + owed_count self.now.state.tree }
@@ -91,7 +91,7 @@ impl<'a, N: Naming> Editor<'a, N> {
         self.state().compacted()
     }
 
-    /// Links a node in a directory, live where it is asked to be, under the next key of the lowest slot that
+    /// Links a node in a directory, live if it is asked to be, under the next key of the lowest slot that
     /// was found free (`kernfs_create_dir_ns`, `__kernfs_create_file`, `kernfs_create_link`).
     ///
     /// Refusals, in order: NoEntry (parent not linked), NameTooLong (over 255 bytes) or Invalid (name),
@@ -138,7 +138,7 @@ impl<'a, N: Naming> Editor<'a, N> {
     /// nothing is stored.
     ///
     /// Refusals, in order: Invalid (the root), NoEntry (either is not linked), NameTooLong (over 255 bytes)
-    /// or Invalid (name), NotDir, NoEntry (either is not live). Then, where it is not there already: Invalid
+    /// or Invalid (name), NotDir, NoEntry (either is not live). Then, if it is not there already: Invalid
     /// (the directory is in the node's own subtree), Exists, NoMemory. After a refusal the tree is as before.
     pub fn rename(&mut self, key: Key, dir: Key, name: &[u8]) -> Result<(), Refusal>
         ensures no_cause { IfOk result (λ _. move_cause self.old key dir name.now ≡ None) }
@@ -180,7 +180,7 @@ impl<'a, N: Naming> Editor<'a, N> {
 
     /// Dooms the subtree of the hold's node, and gives a hold for each of its nodes: each after all that is
     /// below it, siblings in byte order of names, the given hold last (the marking half of `kernfs_remove`).
-    /// Where the node is no longer linked, the given hold alone comes back and nothing is stored. Where it is
+    /// If the node is no longer linked, only the given hold comes back and nothing is stored. If it is
     /// linked, the doom comes after all of the history that the given hold had seen, and that hold comes back
     /// having seen all of it, its doom last.
     ///
@@ -205,7 +205,7 @@ impl<'a, N: Naming> Editor<'a, N> {
         self.guard.doom(hold)
     }
 
-    /// Takes a drained node out of the tree (`kernfs_unlink_sibling`). False where it is no longer linked.
+    /// Takes a drained node out of the tree (`kernfs_unlink_sibling`). False if it is no longer linked.
     ///
     /// Condition: the receipt is of this table.
     ///
@@ -228,7 +228,7 @@ impl<'a, N: Naming> Editor<'a, N> {
     }
 
     /// Hides a file: until it is shown again each try for a reference to it is refused. The callbacks that
-    /// run there go on, and `wait_hidden` waits for them; call it with the lock let go.
+    /// run there go on, and `wait_hidden` waits for them; call it while the tree is unlocked.
     ///
     /// Condition: the hold is of this table.
     ///
@@ -252,8 +252,8 @@ impl<'a, N: Naming> Editor<'a, N> {
         self.guard.hide(hold)
     }
 
-    /// Shows a hidden file again. From now on a try is let in where the node is linked, activated and not
-    /// doomed, whatever became of it meanwhile. Where the node has left the tree nothing is stored. It
+    /// Shows a hidden file again. From now on a try is let in if the node is linked, activated and not
+    /// doomed, whatever became of it meanwhile. If the node has left the tree nothing is stored. It
     /// refuses nothing and takes no memory.
     ///
     /// Condition: the token is of this table.
@@ -284,8 +284,8 @@ impl<'a, N: Naming> Editor<'a, N> {
         self.guard.compact()
     }
 
-    /// Lets the lock go, and gives the tree back, on which a removal that was begun is then finished. What
-    /// the lock keeps is others' from then on, so no clause tells of it.
+    /// Unlocks, and gives the tree back, on which a removal that was begun is then finished. What
+    /// the lock keeps is others' from then on, so no clause speaks of it.
     pub fn let_go(self) -> &'a SharedTree<N> {
         let tree = self.tree;
         drop(self);
@@ -293,7 +293,7 @@ impl<'a, N: Naming> Editor<'a, N> {
     }
 
     /// As `doom`, with room for the receipts made before anything is marked: [`Removing::finish`] then waits,
-    /// with the lock let go, and takes no memory.
+    /// while the tree is unlocked, and takes no memory.
     ///
     /// Condition: the hold is of this table.
     ///
@@ -326,11 +326,11 @@ impl<'a, N: Naming> Editor<'a, N> {
         }
     }
 
-    /// Begins the removal of a call's own node: takes holds of its own of the subtree's nodes, dooms them,
+    /// Begins the removal of a call's own node: takes new holds of the subtree's nodes, dooms them,
     /// claims the node, and breaks the call's protection. True for the first that claims the node.
-    /// [`Removing::finish`] then waits, with the lock let go; after that the call may be restored.
+    /// [`Removing::finish`] then waits, while the tree is unlocked; after that the call may be restored.
     ///
-    /// Conditions: the call is Running, and of this table. After an answer it is Broken.
+    /// Conditions: the call is Running, and of this table. After an Ok it is Broken.
     ///
     /// Refusals: those of [`SharedTree::remove_self`]. After a refusal the call is as it was, nothing is
     /// marked, and the node is not claimed.
@@ -339,7 +339,7 @@ impl<'a, N: Naming> Editor<'a, N> {
         requires running { call.old.phase ≡ phase_of.Running }
         ensures seat { IsSameSeat call.old call.new }
         ensures broken { OnOk result (call.new.phase ≡ phase_of.Broken) }
-        ensures made { OnOk result (WasABreak (seat_view call.old) (seat_view call.new)) }
+        ensures made { OnOk result (WasABreakThenWake (seat_view call.old) (seat_view call.new)) }
         ensures kept { OnErr result (call.new ≡ call.old) }
         ensures holds { IfOk result
             (λ r. (hold : Handle) × (hold.key ≡ call.old.key) × IsNew self.old.master hold

@@ -28,7 +28,7 @@ fn kind_fault(node: Node) -> Option<Refusal>
 }
 
 impl<N: Naming> Locked<N> {
-    /// Hides the file of a hold: the tree is asked first, then the word, and then the tree is told.
+    /// Hides the file of a hold: the tree is asked first, then the word, and then the tree is changed.
     pub fn hide(&mut self, hold: Hold) -> Result<Hiding, (Hold, Refusal)>
         requires table { hold.table ≡ N.table }
         ensures hiding { IfOk result (λ hiding. IsSameSeat hold hiding × WasHidden hold hiding) }
@@ -59,7 +59,7 @@ impl<N: Naming> Locked<N> {
         }
     }
 
-    /// Shows a hidden file again, in the words and, where it is linked there, in the tree.
+    /// Shows a hidden file again, in the words and, if it is linked there, in the tree.
     pub fn show(&mut self, hidden: Hidden) -> Hold
         requires table { hidden.table ≡ N.table }
         ensures hold { IsSameSeat hidden result × WasShown hidden result }

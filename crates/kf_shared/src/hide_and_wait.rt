@@ -18,11 +18,11 @@ use kf_words::{Hidden, Hold, wait_hidden};
 use std::sync::Wait;
 
 impl<N: Naming> SharedTree<N> {
-    /// Hides a file, and waits, with the lock let go, until nobody has a reference to it: then no callback
-    /// runs there, save one that broke its own protection, and none starts until the file is shown. Nothing
-    /// else is done while the lock is held, and the token has seen that. It may never return: it waits for
-    /// every callback that runs on the file, its caller's own among them, and for the lock, which its caller
-    /// must not have.
+    /// Hides a file, and waits, while the tree is unlocked, until nobody has a reference to it: then no
+    /// callback runs there, save one that broke its own protection, and none starts until the file is shown.
+    /// Nothing else is done while the lock is held, and the token has seen that. It may never return: it
+    /// waits for every callback that runs on the file, its caller's own among them, and for the lock, which
+    /// its caller must not have.
     ///
     /// Condition: the hold is of this tree's table.
     ///
@@ -63,14 +63,14 @@ impl<N: Naming> SharedTree<N> {
 }
 
 impl<N: Naming> Editor<'_, N> {
-    /// As `hide`, and then it lets the lock go and waits until nobody has a reference to the file, as
+    /// As `hide`, and then it unlocks and waits until nobody has a reference to the file, as
     /// [`SharedTree::hide`] does.
     ///
     /// Condition: the hold is of this table.
     ///
-    /// Refusals: those of `hide`. After a refusal the tree is as before, and the lock is let go.
+    /// Refusals: those of `hide`. After a refusal the tree is as before, and unlocked.
     ///
-    /// Context: sleeps, once it has let the lock go.
+    /// Context: sleeps, once it has unlocked.
     pub fn hide_and_wait<R: Wait>(self, rt: &R, hold: Hold) -> Result<Hidden, (Hold, Refusal)>
         requires table { hold.table ≡ N.table }
         ensures same { IfOk result (λ hidden. IsSameSeat hold hidden) }

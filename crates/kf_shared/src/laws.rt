@@ -6,8 +6,8 @@ ghost use Rattle.kf_shared.specs.Running.{StartsWell, IsReplay, IsOfHistory, Tre
 /// rule of the words, which a new tree meets.
 ///
 /// The tree is the replay of its stored commands. Tree, claims and stored commands are those of the history
-/// that the Master has seen, which is all of it (`words_kept`). The tree tells of each key what the words
-/// tell. A try lets its caller run exactly where the tree has the node live and nobody hides it. Whoever
+/// that the Master has seen, which is all of it (`words_kept`). The tree says of each key what the words
+/// say. A try lets its caller run exactly if the tree has the node live and nobody hides it. Whoever
 /// runs, from a new tree on, was let in by a try that found the key live in the words. Nobody runs on a node
 /// that is out of the tree. Once a node was marked, each try on it is refused ever after, and the tree never
 /// has it live. Once a removal's receipt was there, nobody runs on its node ever after and the tree does not

@@ -6,11 +6,11 @@
 //!   `remove_key`, `remove_path` mark, unlock, wait and unlink, and return a receipt (`Parted`) for each
 //!   node; `begin_removal` leaves the waiting to `Removing::finish`. A callback removes its own node by
 //!   `remove_self`.
-//! - `Locked` is the same tree for who has a lock of another kind.
+//! - `Locked` is the same tree for a program that has a lock of another kind.
 //! - `SharedTree::with_looks` keeps words for look-ups too: an `Editor` gives a `Looker`, by which a thread
 //!   finds names without the lock (`kf_live`), and takes holds of them (`hold_path`). Other trees store none.
 //!
-//! A caller shows that what it hands in is of this tree (`table`: kept by the types where one name `N` is
+//! A caller shows that what it hands in is of this tree (`table`: kept by the types if one name `N` is
 //! used), and that a call that removes itself runs. `running_tree` is the law of words, tree and lock
 //! together.
 #![tactic(auto)]

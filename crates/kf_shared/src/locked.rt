@@ -35,7 +35,7 @@ pub struct Locked<N: Naming> {
     pub(crate) name: PhantomData<N>,
 }
 
-/// What the lock keeps is let go here: so no crate that lets a tree or an `Editor` go proves that of each of
+/// What the lock keeps is dropped here: so no crate that drops a tree or an `Editor` proves that of each of
 /// the tree's parts once more.
 impl<N: Naming> Drop for Locked<N> {
     fn drop(self) {
@@ -63,7 +63,7 @@ impl<N: Naming> Model for Locked<N> {
         × IsNoted s.state s.claims.items (history_of s.master.seen) };
 }
 
-/// Puts the claim of a key into the claims by slot. False where it was there.
+/// Puts the claim of a key into the claims by slot. False if it was there.
 fn put_claim(claims: &mut Vec<u32>, key: Key) -> bool
     ensures first { result ≡ not (is_claimed claims.old.items key) }
     ensures claimed { claims.new.items ≡ slice_set claims.old.items key.slot key.generation }
@@ -108,10 +108,10 @@ impl<N: Naming> Locked<N> {
         self.state.state()
     }
 
-    /// One who looks names up without the lock, and was told of all that the tree says now: none of its
+    /// A reader of names without the lock, which is informed of all that the tree says now: none of its
     /// look-ups goes back behind that.
     ///
-    /// Refusal: NoMemory, where the words of look-ups may have no owner more.
+    /// Refusal: NoMemory, if the words of look-ups can have no further owner.
     pub fn looker(&mut self) -> Result<Looker, Refusal>
         ensures told { IfOk result
             (λ looker. 0 < looker.slots → Say (links_seen looker) self.old.state.tree) }
@@ -122,7 +122,7 @@ impl<N: Naming> Locked<N> {
         self.state.looker()
     }
 
-    /// Links a node in the slot that the search for a free one found. Where there is a cause against it
+    /// Links a node in the slot that the search for a free one found. If there is a cause against it
     /// whichever key is next, nothing is searched.
     pub fn create(
         &mut self,
@@ -222,7 +222,7 @@ impl<N: Naming> Locked<N> {
         self.master.pin(key)
     }
 
-    /// Takes a drained node out of the tree. False where it is no longer linked.
+    /// Takes a drained node out of the tree. False if it is no longer linked.
     pub fn unlink(&mut self, drained: &Drained) -> Result<bool, Refusal>
         requires table { drained.now.table ≡ N.table }
         ensures linked { IfOk result (λ unlinked. is_linked self.old.state.tree drained.now.key ≡ unlinked) }
@@ -248,7 +248,7 @@ impl<N: Naming> Locked<N> {
         Ok(true)
     }
 
-    /// Claims the removal of a node by itself. False where it was claimed before.
+    /// Claims the removal of a node by itself. False if it was claimed before.
     pub fn claim(&mut self, key: Key) -> bool
         ensures first { result ≡ not (is_claimed self.old.claims key) }
         ensures claimed { self.new.claims ≡ slice_set self.old.claims key.slot key.generation }
@@ -272,7 +272,7 @@ impl<N: Naming> Locked<N> {
         }
     }
 
-    /// Whether a node is linked, as the words tell it too. It makes no word step.
+    /// Whether a node is linked, as the words say it too. It makes no word step.
     pub(crate) fn is_linked(&self, key: Key) -> bool
         ensures { result ≡ is_linked self.now.state.tree key }
     {

@@ -6,7 +6,7 @@ ghost use Rattle.kf_shared.specs.Agreement.{OnlyMarks};
 use kf_core::Key;
 use kf_words::Master;
 
-/// Dooms a linked node, where it is not doomed yet.
+/// Dooms a linked node, if it is not doomed yet.
 fn doom_one(master: &mut Master, key: Key)
     requires linked { is_some (marks_at master.old.view.slots key) ≡ true }
     ensures marks { Changed doomed_if (key ∷ []) master.old.view.slots master.new.view.slots }
@@ -19,7 +19,7 @@ fn doom_one(master: &mut Master, key: Key)
     }
 }
 
-/// Activates a linked node, where it is neither activated nor doomed.
+/// Activates a linked node, if it is neither activated nor doomed.
 fn rise_one(master: &mut Master, key: Key)
     requires linked { is_some (marks_at master.old.view.slots key) ≡ true }
     ensures marks { Changed risen_if (key ∷ []) master.old.view.slots master.new.view.slots }

@@ -2,7 +2,7 @@
 
 use std::marker::Brand;
 
-/// A name for one table of words, which exists in proofs alone. Whoever calls a function that is generic over
+/// A name for one table of words, which exists only in proofs. Whoever calls a function that is generic over
 /// it says in one line of its proof which table is meant; a program passes [`Brand`].
 pub trait Naming {
     ghost use Rattle.kf_words.specs.Callers.{TableId};

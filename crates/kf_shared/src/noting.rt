@@ -36,7 +36,7 @@ pub(crate) fn note_opening(master: &mut Master, state: &LiveTree)
     master.note::<Brand, LiveTree>(state);
 }
 
-/// Notes that the lock was taken, or is about to be let go.
+/// Notes that the lock was taken, or is about to be unlocked.
 pub(crate) fn note_border(master: &mut Master)
     ensures { WasNoted Border master.old master.new }
 {

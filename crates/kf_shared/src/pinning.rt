@@ -11,7 +11,7 @@ use kf_tree::State;
 use kf_words::{Hold, Master, Parted};
 use std::alloc::Global;
 
-/// Gives these holds back: nothing is left of them that a clause could tell of.
+/// Gives these holds back: nothing is left of them that a clause could speak of.
 pub fn release_each(mut holds: Vec<Hold>) {
     while let Some(hold) = holds.pop() {
         hold.release();
@@ -46,8 +46,8 @@ pub fn pin_each(master: &mut Master, alloc: Global, keys: &[Key]) -> Result<Vec<
     Ok(holds)
 }
 
-/// What a removal answers where memory was refused: TooManyHolds where a node below the top is found full,
-/// and NoMemory where each is found to have room. It takes no memory, and looks at the nodes below alone.
+/// What a removal returns if memory was refused: TooManyHolds if a node below the top is found full,
+/// and NoMemory if each is found to have room. It takes no memory, and looks only at the nodes below.
 pub fn full_or_no_memory(state: &State, master: &mut Master, top: Key) -> Refusal
     requires slots { length master.old.view.slots ≡ length state.now.tree }
     ensures kept { KeepsNodes master.old master.new }
@@ -67,7 +67,7 @@ pub fn full_or_no_memory(state: &State, master: &mut Master, top: Key) -> Refusa
     Refusal::NoMemory
 }
 
-/// A list of this hold alone.
+/// A list of only this hold.
 pub fn alone(alloc: Global, hold: Hold) -> Result<Vec<Hold>, (Hold, Refusal)>
     ensures holds { IfOk result (λ holds. holds.items ≡ hold ∷ []) }
     ensures refused { IfErr result (λ r. (r.0 ≡ hold) × (r.1 ≡ refusal_of.NoMemory)) }

@@ -8,7 +8,7 @@ use kf_tree::State;
 use std::marker::Model;
 use std::sync::RwLockReadGuard;
 
-/// The tree while its lock is held to look alone: many threads may have a `Reader` at once, and none an
+/// The tree while its lock is held only to look: many threads may have a `Reader` at once, and none an
 /// [`Editor`](crate::Editor) meanwhile. To a contract it is what the lock keeps.
 #[derive(Drop)]
 pub struct Reader<'a, N: Naming> {

@@ -17,12 +17,12 @@ use kf_words::{Call, Drained, Hold, Parted, wait_drained};
 use std::sync::Wait;
 
 impl<N: Naming> SharedTree<N> {
-    /// Waits until the hold's node is drained, takes it out of the tree under the lock, waiting on while that
-    /// is refused, and parts (`kernfs_drain`, then `kernfs_unlink_sibling`). The holds of one doom are
+    /// Waits until the hold's node is drained, takes it out of the tree under the lock, waiting on while
+    /// that is refused, and parts (`kernfs_drain`, then `kernfs_unlink_sibling`). The holds of one doom are
     /// finished in their order: another order may wait for itself. Nothing else is done while the lock is
     /// held for the unlink, and the receipt has seen that. It takes no memory, and may never return: it
-    /// waits, with the lock let go, for every callback that runs on the node, its caller's own among them,
-    /// and for the lock, which its caller must not have.
+    /// waits, while the tree is unlocked, for every callback that runs on the node, its caller's own among
+    /// them, and for the lock, which its caller must not have.
     ///
     /// Condition: the hold is of this tree's table.
     ///
@@ -90,14 +90,14 @@ impl<N: Naming> SharedTree<N> {
         receipts
     }
 
-    /// Dooms the subtree of the hold's node, and waits until each of its nodes is drained and out of the tree
-    /// (`kernfs_remove`). The receipts stand in the order of the doom: each node after all that is below it,
-    /// siblings in byte order of names, the given hold's last. Where the node is no longer linked, the
-    /// receipt is for it alone. Which tree that was the history tells: it had come after all that the hold
+    /// Dooms the subtree of the hold's node, and waits until each of its nodes is drained and out of the
+    /// tree (`kernfs_remove`). The receipts stand in the order of the doom: each node after all that is
+    /// below it, siblings in byte order of names, the given hold's last. If the node is no longer linked,
+    /// the receipt is only for it. Which tree that was the history says: it had come after all that the hold
     /// had seen, the doom is all that was done while the lock was held, and the last receipt has seen that.
-    /// It may never return: it waits, with the lock let go, for every callback that runs in the subtree, its
-    /// caller's own among them, and for the lock, which its caller must not have. A callback that removes its
-    /// own node calls `remove_self`.
+    /// It may never return: it waits, while the tree is unlocked, for every callback that runs in the
+    /// subtree, its caller's own among them, and for the lock, which its caller must not have. A callback
+    /// that removes its own node calls `remove_self`.
     ///
     /// Condition: the hold is of this tree's table.
     ///
@@ -122,16 +122,16 @@ impl<N: Naming> SharedTree<N> {
     }
 
     /// Removes the node of a call from within its own callback (`kernfs_remove_self`). Under the lock it
-    /// takes holds of its own of the subtree's nodes, dooms them, claims the node, and breaks the call's
+    /// takes new holds of the subtree's nodes, dooms them, claims the node, and breaks the call's
     /// protection. It waits as `remove` does; then, under the lock, it restores the call. True for the first
-    /// self-removal of the node in the whole history, also where a plain removal is under way; every other
-    /// answers false, after its own waiting. Nothing else is done while the lock is held. The last receipt is
-    /// for the call's node, and where the node has left the tree already it is the only one. It may never
+    /// self-removal of the node in the whole history, also if a plain removal is under way; every other
+    /// returns false, after its own waiting. Nothing else is done while the lock is held. The last receipt is
+    /// for the call's node, and if the node has left the tree already it is the only one. It may never
     /// return: it waits for every other callback that runs in the subtree, and for the lock, which its caller
-    /// must not have. A callback that runs on two nodes, one above the other, waits for itself where it
+    /// must not have. A callback that runs on two nodes, one above the other, waits for itself if it
     /// removes the upper.
     ///
-    /// Conditions: the call is Running, and of this tree's table. After an answer it is Restored.
+    /// Conditions: the call is Running, and of this tree's table. After an Ok it is Restored.
     ///
     /// Refusals, in order: Invalid (the root), NoEntry (the slot has had a later node), TooManyHolds (a node
     /// of the subtree was found without room for a hold), NoMemory (each had room, or the node is no longer
@@ -162,18 +162,18 @@ impl<N: Naming> SharedTree<N> {
 }
 
 impl<N: Naming> Editor<'_, N> {
-    /// Dooms the subtree of the hold's node, lets the lock go, and waits until each of its nodes is drained
+    /// Dooms the subtree of the hold's node, unlocks, and waits until each of its nodes is drained
     /// and out of the tree (`kernfs_remove`). What was looked up under this lock is what is removed: the
-    /// receipts are of the subtree as this tree has it, in post-order, the given hold's last. Where the node
-    /// is no longer linked, the receipt is for it alone. The call takes the `Editor` and lets the lock go
+    /// receipts are of the subtree as this tree has it, in post-order, the given hold's last. If the node
+    /// is no longer linked, the receipt is only for it. The call takes the `Editor` and unlocks
     /// itself. Like [`SharedTree::remove`] it may never return.
     ///
     /// Condition: the hold is of this table.
     ///
-    /// Refusals: those of `doom`. After a refusal nothing is marked, the lock is let go, and the hold comes
+    /// Refusals: those of `doom`. After a refusal nothing is marked, the tree is unlocked, and the hold comes
     /// back as it was.
     ///
-    /// Context: sleeps, once it has let the lock go.
+    /// Context: sleeps, once it has unlocked.
     pub fn remove<R: Wait>(self, rt: &R, hold: Hold) -> Result<Vec<Parted>, (Hold, Refusal)>
         requires table { hold.table ≡ N.table }
         ensures alone { IfOk result (λ receipts. Last (λ receipt. WasAdded hold.seen receipt.seen
@@ -197,15 +197,15 @@ impl<N: Naming> Editor<'_, N> {
     }
 
     /// Removes the node of a call from within its own callback (`kernfs_remove_self`), as
-    /// [`SharedTree::remove_self`] does, of the subtree as this tree has it. True where this lock's claims
-    /// do not have the node. It lets the lock go before it waits, and takes it again to restore the call.
+    /// [`SharedTree::remove_self`] does, of the subtree as this tree has it. True if this lock's claims
+    /// do not have the node. It unlocks before it waits, and takes it again to restore the call.
     ///
-    /// Conditions: the call is Running, and of this table. After an answer it is Restored.
+    /// Conditions: the call is Running, and of this table. After an Ok it is Restored.
     ///
     /// Refusals: those of [`SharedTree::remove_self`]. After a refusal the call is as it was, nothing is
-    /// marked, the node is not claimed, and the lock is let go.
+    /// marked, the node is not claimed, and the tree is unlocked.
     ///
-    /// Context: sleeps, once it has let the lock go, and takes it again.
+    /// Context: sleeps, once it has unlocked, and locks again.
     pub fn remove_self<R: Wait>(
         self,
         rt: &R,

@@ -52,9 +52,9 @@ impl<N: Naming> Editor<'_, N> {
     /// Removes the node of a key with all below it, as `remove` does. The receipts are in post-order, the
     /// node's own last, which has seen that nothing came between the doom and the end of the lock.
     ///
-    /// Refusals: those of `begin_removal_of`. After a refusal nothing is marked, and the lock is let go.
+    /// Refusals: those of `begin_removal_of`. After a refusal nothing is marked, and the tree is unlocked.
     ///
-    /// Context: sleeps, once it has let the lock go, and takes it for each unlink.
+    /// Context: sleeps, once it has unlocked, and locks for each unlink.
     pub fn remove_key<R: Wait>(self, rt: &R, key: Key) -> Result<Vec<Parted>, Refusal>
         ensures alone { IfOk result (λ receipts. Last (λ receipt. IsPrefix
             ((history self.entry ++ Did (Doom key) ∷ []) ++ Border ∷ []) (history_of receipt.seen))
@@ -74,7 +74,7 @@ impl<N: Naming> Editor<'_, N> {
     /// Removes the node of this name in a directory, live or not.
     ///
     /// Refusals, in order: NoEntry (the directory is not linked), NotDir, NoEntry (no such child), then those
-    /// of `begin_removal_of`. After a refusal nothing is marked, and the lock is let go.
+    /// of `begin_removal_of`. After a refusal nothing is marked, and the tree is unlocked.
     ///
     /// Context: as `remove_key`.
     pub fn remove_name<R: Wait>(self, rt: &R, dir: Key, name: &[u8]) -> Result<Vec<Parted>, Refusal>
@@ -92,7 +92,7 @@ impl<N: Naming> Editor<'_, N> {
     /// Removes the node that a path names, live or not; links are not followed.
     ///
     /// Refusals, in order: those of [`kf_tree::State::walk`], then those of `begin_removal_of`. After a
-    /// refusal nothing is marked, and the lock is let go.
+    /// refusal nothing is marked, and the tree is unlocked.
     ///
     /// Context: as `remove_key`.
     pub fn remove_path<R: Wait>(self, rt: &R, path: &[u8]) -> Result<Vec<Parted>, Refusal>

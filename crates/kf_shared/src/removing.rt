@@ -12,8 +12,8 @@ use std::marker::{Model, PhantomData};
 use std::sync::Wait;
 
 /// The holds of nodes that a removal of this tree has marked, each after all that is below it, and room for
-/// their receipts. To a contract it is the list of the holds. It must be spent, by [`Removing::finish`], with
-/// the lock let go.
+/// their receipts. To a contract it is the list of the holds. It must be spent, by [`Removing::finish`], while
+/// the tree is unlocked.
 pub struct Removing<N: Naming> {
     holds: Vec<Hold>,
     receipts: Vec<Parted>,
@@ -50,19 +50,19 @@ impl<N: Naming> Removing<N> {
         }
     }
 
-    /// The holds of the nodes that it has marked, each after all that is below it: who tells others of the
-    /// removal reads their keys here.
+    /// The holds of the nodes that it has marked, each after all that is below it: a caller that reports to
+    /// others of the removal reads their keys here.
     pub fn holds(&self) -> &[Hold]
         ensures known { result.now ≡ self.now }
     {
         self.holds.as_slice()
     }
 
-    /// Waits, with the lock let go, until each node is drained, and takes it out of the tree. The receipts
-    /// stand in the order of the holds, each of its hold's own seat, and each has seen the unlink: nothing
-    /// else was done while the lock was held for it. It takes no memory, and may never return: it waits for
-    /// every callback that runs on the nodes, its caller's own among them, and for the lock, which its caller
-    /// must not have.
+    /// Waits, while the tree is unlocked, until each node is drained, and takes it out of the tree. The
+    /// receipts stand in the order of the holds, each of its hold's own seat, and each has seen the unlink:
+    /// nothing else was done while the lock was held for it. It takes no memory, and may never return: it
+    /// waits for every callback that runs on the nodes, its caller's own among them, and for the lock, which
+    /// its caller must not have.
     ///
     /// Context: sleeps; takes the tree's lock, which its caller must not have.
     pub fn finish<R: Wait>(self, rt: &R, tree: &SharedTree<N>) -> Vec<Parted>
@@ -81,8 +81,8 @@ impl<N: Naming> Removing<N> {
 }
 
 impl<N: Naming> Locked<N> {
-    /// Tells the last of a removal's holds all that was done while the lock was held, which is about to be
-    /// let go.
+    /// Passes on to the last of a removal's holds all that was done while the lock was held, which is about to be
+    /// unlocked.
     pub(crate) fn close_removal(&mut self, removing: &mut Removing<N>)
         ensures last { IsClosedAt self.old removing.old removing.new }
     {
@@ -93,8 +93,8 @@ impl<N: Naming> Locked<N> {
     }
 }
 
-/// Gives the receipts of a removal back. Each frees its node's slot where nobody holds that any more. Nothing
-/// is left of them that a clause could tell of.
+/// Gives the receipts of a removal back. Each frees its node's slot if nobody holds that any more. Nothing
+/// is left of them that a clause could speak of.
 pub fn release_all(mut receipts: Vec<Parted>) {
     while let Some(receipt) = receipts.pop() {
         receipt.release();

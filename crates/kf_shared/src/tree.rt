@@ -69,10 +69,10 @@ impl NewTree {
         self.state.state()
     }
 
-    /// The tree without a lock, under the name of its table, for one owner or for a lock of the caller's own.
-    /// It takes no memory.
+    /// The tree without a lock, under the name of its table, for one owner or for a lock that the caller
+    /// provides. It takes no memory.
     ///
-    /// Condition: the name is that of the tree's table of words.
+    /// Condition: the name is that of this tree's table of words.
     pub fn owned<N: Naming>(self) -> Locked<N>
         requires { self.master.table ≡ N.table }
         ensures same { result ≡ self }
@@ -94,7 +94,7 @@ impl NewTree {
 
     /// The tree behind its lock, under the name of its table. It takes no memory.
     ///
-    /// Condition: the name is that of the tree's table of words.
+    /// Condition: the name is that of this tree's table of words.
     pub fn named<N: Naming>(self) -> SharedTree<N>
         requires { self.master.table ≡ N.table }
     {
@@ -125,7 +125,7 @@ pub struct SharedTree<N: Naming> {
 }
 
 impl SharedTree<Brand> {
-    /// The tree of the root alone, a live directory of slot 0 and generation 1 (`kernfs_create_root`).
+    /// The tree of only the root, a live directory of slot 0 and generation 1 (`kernfs_create_root`).
     ///
     /// Refusal: NoMemory.
     pub fn new(alloc: Global, limits: Limits) -> Result<NewTree, Refusal>
@@ -138,7 +138,7 @@ impl SharedTree<Brand> {
         SharedTree::with_looks(alloc, limits, 0, 0)
     }
 
-    /// The same, where each slot has already had `start` generations. The root has the next.
+    /// The same, if each slot has already had `start` generations. The root has the next.
     ///
     /// Condition: `start` is at most 4294967294.
     ///
@@ -154,8 +154,8 @@ impl SharedTree<Brand> {
         SharedTree::with_looks(alloc, limits, start, 0)
     }
 
-    /// The same, with words for the look-ups of so many slots, which take 88 bytes each: nodes of higher
-    /// slots are found under the lock alone.
+    /// The same, with words for the look-ups of this many slots, which take 88 bytes each: nodes of higher
+    /// slots are found only under the lock.
     ///
     /// Conditions: `start` is at most 4294967294; `looks` is at most [`kf_core::MOST_SLOTS`].
     ///
@@ -217,7 +217,7 @@ impl<N: Naming> SharedTree<N> {
     }
 
     /// Waits until nobody changes the tree, as one of any number who look at once: a [`Reader`] can change
-    /// nothing. What holds of the tree is what `edit` tells. What may not be called over an [`Editor`] may
+    /// nothing. What holds of the tree is what `edit` says. What may not be called over an [`Editor`] may
     /// not be called over a `Reader`. Nor may a second `read`, since one who waits to edit may be let in
     /// first.
     ///

@@ -6,13 +6,13 @@ use Rattle.std.specs.Int.Bits.{bit_or, or_add_and}
 use Rattle.std.proofs.lemmas.Bool.{eqb-true}
 use Rattle.std.proofs.lemmas.Bool.Decides.{eqb_tells}
 use Rattle.std.specs.Prelude.{nat_eq}
-use Rattle.kf_core.specs.declared.slot.Marks.{Marks}
+use Rattle.kf_core.specs.declared.slot.NodeFlags.{NodeFlags}
 use Rattle.kf_core.specs.declared.slot.SlotState.{SlotState}
 use Rattle.kf_core.specs.declared.caller.Phase.{Phase}
 use Rattle.kf_core.specs.declared.caller.Phase.TheVariants.{Still, Turned, Running, Broken, Restored, Drained, Parted, Hiding, Hidden, Spent}
 use Rattle.kf_core.specs.Marks.{are_live, are_doomed}
 use Rattle.kf_core.specs.Phases.{has_reference, is_waiting, is_hiding, is_spent}
-use Rattle.kf_words.specs.Layout.{bit, bias, doom, hide, linked, has_bias, has_hide, is_drained, is_unused, has_linked, IsFree}
+use Rattle.kf_words.specs.Layout.{bit, bias, doom, hide, linked, has_bias, has_doom, has_hide, is_drained, is_unused, has_linked, IsFree}
 use Rattle.kf_words.specs.Rule.{ShowsMarks, ShowsHolds}
 
 pub bool_cases : (b : Bool) → (b ≡ true) ⊎ (b ≡ false)
@@ -32,7 +32,7 @@ has_bias_of true false n h small = eq-eqb _ _ (omega arith)
 has_bias_of false true n h small = ne_eqb _ _ (λ e. omega arith)
 has_bias_of false false n h small = ne_eqb _ _ (λ e. omega arith)
 
--- the bit of a hidden key, where one caller hides it, and where none does
+-- the bit of a hidden key, if one caller hides it, and if none does
 has_hide_one : (b d : Bool) (n h : ℕ) → n ≤ 65535 → h ≡ 1 → has_hide (n + bit b bias + bit d doom + h * hide) ≡ true
 has_hide_one b d n h small one = let x = bit≤ b bias in let y = bit≤ d doom in eq-eqb _ _ (omega arith)
 
@@ -43,22 +43,22 @@ pub not_not : (b : Bool) → not (not b) ≡ b
 not_not true = refl
 not_not false = refl
 
--- bias is clear exactly where the node has the marks of a live one
-pub bias_shows : (word : ℕ) (o : Option Marks) (n h : ℕ) → n ≤ 65535 → ShowsMarks word o n h → has_bias word ≡ not (are_live o)
+-- bias is clear exactly if the node has the marks of a live one
+pub bias_shows : (word : ℕ) (o : Option NodeFlags) (n h : ℕ) → n ≤ 65535 → ShowsMarks word o n h → has_bias word ≡ not (are_live o)
 bias_shows word o n h small s = ap has_bias s.1 ∙ has_bias_of (not (are_live o)) s.0 n h small
 
--- hide is set exactly where a caller hides the key
-pub hide_set : (word : ℕ) (o : Option Marks) (n h : ℕ) → n ≤ 65535 → ShowsMarks word o n h → 1 ≤ h → has_hide word ≡ true
+-- hide is set exactly if a caller hides the key
+pub hide_set : (word : ℕ) (o : Option NodeFlags) (n h : ℕ) → n ≤ 65535 → ShowsMarks word o n h → 1 ≤ h → has_hide word ≡ true
 hide_set word o n h small s one = let most = s.3 in ap has_hide s.1 ∙ has_hide_one (not (are_live o)) s.0 n h small (omega arith)
 
-pub hide_clear : (word : ℕ) (o : Option Marks) (n h : ℕ) → n ≤ 65535 → ShowsMarks word o n h → h ≡ 0 → has_hide word ≡ false
+pub hide_clear : (word : ℕ) (o : Option NodeFlags) (n h : ℕ) → n ≤ 65535 → ShowsMarks word o n h → h ≡ 0 → has_hide word ≡ false
 hide_clear word o n h small s none = ap has_hide s.1 ∙ has_hide_none (not (are_live o)) s.0 n h small none
 
-pub hiders_one : (word : ℕ) (o : Option Marks) (n h : ℕ) → n ≤ 65535 → ShowsMarks word o n h → has_hide word ≡ true → h ≡ 1
+pub hiders_one : (word : ℕ) (o : Option NodeFlags) (n h : ℕ) → n ≤ 65535 → ShowsMarks word o n h → has_hide word ≡ true → h ≡ 1
 hiders_one word o n zero small s e = absurd (let x : true ≡ false = sym e ∙ hide_clear word o n 0 small s refl in cc)
 hiders_one word o n (suc h) small s e = let most = s.3 in omega arith
 
-pub hiders_none : (word : ℕ) (o : Option Marks) (n h : ℕ) → n ≤ 65535 → ShowsMarks word o n h → has_hide word ≡ false → h ≡ 0
+pub hiders_none : (word : ℕ) (o : Option NodeFlags) (n h : ℕ) → n ≤ 65535 → ShowsMarks word o n h → has_hide word ≡ false → h ≡ 0
 hiders_none word o n zero small s e = refl
 hiders_none word o n (suc h) small s e = absurd (let x : true ≡ false = sym (hide_set word o n (suc h) small s (omega arith)) ∙ e in cc)
 
@@ -76,12 +76,12 @@ drained_of false true n h small (inr e) = absurd (omega arith)
 drained_of false false n h small (inl e) = absurd (omega arith)
 drained_of false false n h small (inr e) = absurd (omega arith)
 
-doomed_by : (o : Option Marks) → (IsTrue (is_some o) → are_doomed o ≡ true) → are_doomed o ≡ true
+doomed_by : (o : Option NodeFlags) → (IsTrue (is_some o) → are_doomed o ≡ true) → are_doomed o ≡ true
 doomed_by None h = refl
 doomed_by (Some m) h = h refl
 
 -- a drained word has no user, and its node is doomed
-pub drained_shows : (word : ℕ) (o : Option Marks) (n h : ℕ) → n ≤ 65535 → ShowsMarks word o n h → is_drained word ≡ true → (n ≡ 0) × (are_doomed o ≡ true)
+pub drained_shows : (word : ℕ) (o : Option NodeFlags) (n h : ℕ) → n ≤ 65535 → ShowsMarks word o n h → is_drained word ≡ true → (n ≡ 0) × (are_doomed o ≡ true)
 drained_shows word o n h small s e =
     let which : (word ≡ bias + doom) ⊎ (word ≡ bias + doom + hide) = elim (or_is (nat_eq word (bias + doom)) (nat_eq word (bias + doom + hide)) e) [ inl x ↦ inl (eqb-true word (bias + doom) x) | inr x ↦ inr (eqb-true word (bias + doom + hide) x) ] in
     let x = drained_of (not (are_live o)) s.0 n h small (elim which [ inl y ↦ inl (sym s.1 ∙ y) | inr y ↦ inr (sym s.1 ∙ y) ]) in
@@ -94,17 +94,17 @@ unused_of true false n h small e = omega arith
 unused_of false true n h small e = omega arith
 unused_of false false n h small e = omega arith
 
-pub unused_shows : (word : ℕ) (o : Option Marks) (n h : ℕ) → n ≤ 65535 → ShowsMarks word o n h → is_unused word ≡ true → n ≡ 0
+pub unused_shows : (word : ℕ) (o : Option NodeFlags) (n h : ℕ) → n ≤ 65535 → ShowsMarks word o n h → is_unused word ≡ true → n ≡ 0
 unused_shows word o n h small s e = unused_of (not (are_live o)) s.0 n h small (sym (ap (λ (w : ℕ). w % bias) s.1) ∙ eqb-true (word % bias) 0 e)
 
 -- one user more, and one less, in the arithmetic of 64 bits
-pub one_more : (word : ℕ) (o : Option Marks) (n m h : ℕ) → n ≤ 65535 → m ≡ n + 1 → ShowsMarks word o n h → ShowsMarks ((word + 1) % 18446744073709551616) o m h
+pub one_more : (word : ℕ) (o : Option NodeFlags) (n m h : ℕ) → n ≤ 65535 → m ≡ n + 1 → ShowsMarks word o n h → ShowsMarks ((word + 1) % 18446744073709551616) o m h
 one_more word o n m h few e s =
     let small = word_small (not (are_live o)) s.0 n h few s.3 in
     let is = s.1 in
     (s.0, omega arith, s.2, s.3)
 
-pub one_less : (word : ℕ) (o : Option Marks) (n m h : ℕ) → n ≤ 65535 → n ≡ m + 1 → ShowsMarks word o n h → ShowsMarks ((word + 18446744073709551615) % 18446744073709551616) o m h
+pub one_less : (word : ℕ) (o : Option NodeFlags) (n m h : ℕ) → n ≤ 65535 → n ≡ m + 1 → ShowsMarks word o n h → ShowsMarks ((word + 18446744073709551615) % 18446744073709551616) o m h
 one_less word o n m h few e s =
     let small = word_small (not (are_live o)) s.0 n h few s.3 in
     let is = s.1 in
@@ -132,7 +132,7 @@ set_and n e =
     subst (λ (k : ℕ). bit_and k hide ≡ hide) whole (and_or_self hide (n - hide))
 
 -- the bit of a hidden key comes, and goes
-pub hide_comes : (word : ℕ) (o : Option Marks) (n h h' : ℕ) → n ≤ 65535 → ShowsMarks word o n h → has_hide word ≡ false → h' ≡ h + 1 → ShowsMarks (bit_or word hide) o n h'
+pub hide_comes : (word : ℕ) (o : Option NodeFlags) (n h h' : ℕ) → n ≤ 65535 → ShowsMarks word o n h → has_hide word ≡ false → h' ≡ h + 1 → ShowsMarks (bit_or word hide) o n h'
 hide_comes word o n h h' few s clear more =
     let none : h ≡ 0 = hiders_none word o n h few s clear in
     let apart : bit_and word hide ≡ 0 = clear_and word clear in
@@ -147,10 +147,10 @@ hide_again word set small =
     omega arith
 
 -- the word without it
-pub hide_taken : (word : ℕ) (o : Option Marks) (n h : ℕ) → n ≤ 65535 → ShowsMarks word o n h → h ≡ 1 → ShowsMarks (word - hide) o n 0
+pub hide_taken : (word : ℕ) (o : Option NodeFlags) (n h : ℕ) → n ≤ 65535 → ShowsMarks word o n h → h ≡ 1 → ShowsMarks (word - hide) o n 0
 hide_taken word o n h few s one = let is = s.1 in (s.0, omega arith, s.2, omega arith)
 
-pub hide_goes : (word : ℕ) (o : Option Marks) (n h h' : ℕ) → n ≤ 65535 → ShowsMarks word o n h → h ≡ h' + 1 → ShowsMarks ((word + 18446744056529682432) % 18446744073709551616) o n h'
+pub hide_goes : (word : ℕ) (o : Option NodeFlags) (n h h' : ℕ) → n ≤ 65535 → ShowsMarks word o n h → h ≡ h' + 1 → ShowsMarks ((word + 18446744056529682432) % 18446744073709551616) o n h'
 hide_goes word o n h h' few s less =
     let small = word_small (not (are_live o)) s.0 n h few s.3 in
     let is = s.1 in
@@ -208,7 +208,7 @@ pub hold_less : (limit word : ℕ) (place : SlotState) (n m : ℕ) → word < 18
 hold_less limit word place n m small e s = let is = s.0 in let few = s.1 in let b : ℕ = bit (is_some place.marks) linked in let g : ℕ = place.generation in let is' : word ≡ g * 4294967296 + b + n = is in
     let now : (word + 18446744073709551615) % 18446744073709551616 ≡ g * 4294967296 + b + m = omega arith in (now, omega arith)
 
--- one hold more, where the word is below 2 ^ 64
+-- one hold more, if the word is below 2 ^ 64
 pub hold_more : (limit word : ℕ) (place : SlotState) (n : ℕ) → limit ≤ 65535 → word < 18446744073709551616 → n < limit → ShowsHolds limit word place n → ShowsHolds limit ((word + 1) % 18446744073709551616) place (n + 1)
 hold_more limit word place n few small room s = let is = s.0 in let g : ℕ = place.generation in (more (is_some place.marks) g n word few small room is, omega arith)
   where
@@ -240,7 +240,19 @@ no_linked n e = ne_eqb _ _ (λ one. (bit_set_by_shift n 31).0 (and_mask (n / 214
 some_linked : (n : ℕ) → bit_and n linked ≢ 0 → has_linked n ≡ true
 some_linked n ne = eq-eqb _ _ (sym (and_mask (n / 2147483648) 1) ∙ (bit_set_by_shift n 31).1 ne)
 
+no_doom : (n : ℕ) → bit_and n doom ≡ 0 → has_doom n ≡ false
+no_doom n e = ne_eqb _ _ (λ one. (bit_set_by_shift n 33).0 (and_mask (n / 8589934592) 1 ∙ one) e)
+
+some_doom : (n : ℕ) → bit_and n doom ≢ 0 → has_doom n ≡ true
+some_doom n ne = eq-eqb _ _ (sym (and_mask (n / 8589934592) 1) ∙ (bit_set_by_shift n 33).1 ne)
+
 -- the tests in the code
+pub has_doom_test : (n : ℕ) → not (nat_eq (bit_and n doom) 0) ≡ has_doom n
+has_doom_test n = elim (eqb_tells (bit_and n doom) 0) [
+  | inl e ↦ ap not e.0 ∙ sym (no_doom n e.1)
+  | inr e ↦ ap not e.0 ∙ sym (some_doom n e.1)
+]
+
 pub has_hide_test : (n : ℕ) → not (nat_eq (bit_and n hide) 0) ≡ has_hide n
 has_hide_test n = elim (eqb_tells (bit_and n hide) 0) [
   | inl e ↦ ap not e.0 ∙ sym (no_hide n e.1)

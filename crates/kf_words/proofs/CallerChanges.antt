@@ -263,7 +263,7 @@ module _ {words : List ℕ} {m : MasterView} {cs : List CallerView} (j : ℕ) {c
     turns new is as_was = let u = users_now (has_reference c.phase || c.undo_due) (has_reference c.phase || c.undo_due) refl as_was in
         on_active_word new (is (users slot (set cs j c')) (omega arith))
 
-  -- the world stays where the caller's phase does
+  -- the world stays if the caller's phase does
   pub unmoved : with_phase world j c.key c.phase ≡ world
   unmoved = ap (λ (l : List Caller). let w : BareWorld = record { slots = m.slots; callers = l } in w) (stays (map caller cs) j (caller c) there)
     where

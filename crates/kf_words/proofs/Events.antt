@@ -14,7 +14,7 @@ use Rattle.kf_core.specs.declared.caller.Phase.{Phase}
 use Rattle.kf_core.specs.declared.caller.Phase.TheVariants.{Still, Turned, Running, Broken, Restored, Drained, Parted, Hiding, Hidden, Spent}
 use Rattle.kf_core.specs.declared.event.Event.{Event}
 use Rattle.kf_core.specs.declared.event.Event.TheVariants.{Enter, Leave, Break, Restore, Look, Part, Hide, LookHidden, Show, Release, Pin}
-use Rattle.kf_core.specs.declared.slot.Marks.{Marks}
+use Rattle.kf_core.specs.declared.slot.NodeFlags.{NodeFlags}
 use Rattle.kf_core.specs.declared.slot.SlotState.{SlotState}
 use Rattle.kf_core.specs.Bare.{BareWorld, IsLast, marks, marks_in, is_hidden, is_live}
 use Rattle.kf_core.specs.Marks.{fresh_marks, are_doomed}
@@ -63,7 +63,7 @@ module _ (m : MasterView) (cs : List CallerView) (j : ℕ) (c : CallerView) (at 
   tried : (event : Event) (phase : Phase) (due : Bool) (found : ℕ) → core.BareStep (bare_world m cs) event (core.with_phase (bare_world m cs) j c.key phase) → Moves m cs j (after_step phase due found (with_try c)) event
   tried event phase due found = subst (λ (w : BareWorld). core.BareStep (bare_world m cs) event w) (becomes (after_step phase due found (with_try c)) refl)
 
-  -- the world stays where the phase does
+  -- the world stays if the phase does
   stays : (due : Bool) (found : ℕ) → bare_world m (set cs j (after_step c.phase due found c)) ≡ bare_world m cs
   stays due found = sym (becomes (after_step c.phase due found c) refl) ∙ ap (λ (l : List Caller). let w : BareWorld = record { slots = m.slots; callers = l } in w) (same (map caller cs) j (caller c) there)
     where
@@ -202,11 +202,11 @@ remade : (m : MasterView) (cs : List CallerView) (slot : ℕ) (state state' : Sl
 remade m cs slot state state' is = ap (λ (x : SlotState). let w : BareWorld = record { slots = set m.slots slot x; callers = map caller cs } in w) is
 
 -- the state of a linked key
-state_is : (m : MasterView) (key : Key) (x : Marks) → marks_of m key ≡ Some x → state_at m key.slot ≡ record { generation = key.generation; marks = Some x }
+state_is : (m : MasterView) (key : Key) (x : NodeFlags) → marks_of m key ≡ Some x → state_at m key.slot ≡ record { generation = key.generation; marks = Some x }
 state_is m key x there =
     let s = linked_state m key (ap is_some there) in
     let same : s.0 ≡ x = same_Some s.0 x (sym (ap (λ o. marks_in o key.generation) s.1 ∙ ap (λ (b : Bool). if b then Some s.0 else None) (eq-eqb key.generation key.generation refl)) ∙ there) in
-    get_or_from_slice_get m.slots key.slot _ no_state s.1 ∙ ap (λ (y : Marks). let z : SlotState = record { generation = key.generation; marks = Some y } in z) same
+    get_or_from_slice_get m.slots key.slot _ no_state s.1 ∙ ap (λ (y : NodeFlags). let z : SlotState = record { generation = key.generation; marks = Some y } in z) same
 
 pub rise_is_rise : RiseIsRise
 rise_is_rise slots limit t shown key there =
@@ -223,7 +223,7 @@ birth_is_born slots limit t shown slot state parent name node is_fresh its =
     let u = free_is_unheld slots limit t shown slot state its f.2 in (
       record {
         last = state.generation;
-        unlinked = its ∙ ap (λ (o : Option Marks). let x : SlotState = record { generation = state.generation; marks = o } in Some x) u.0;
+        unlinked = its ∙ ap (λ (o : Option NodeFlags). let x : SlotState = record { generation = state.generation; marks = o } in Some x) u.0;
         next = refl;
         unheld = u.1;
       },

@@ -7,7 +7,7 @@ use lib.ListN.{get_elem?}
 use Rattle.atomic_table.specs.Table.{Allows, stepped, keeps}
 use Rattle.kf_core.specs.declared.key.Key.{Key}
 use Rattle.kf_core.specs.declared.event.Event.TheVariants.{Pin, Enter}
-use Rattle.kf_core.specs.declared.slot.Marks.{Marks}
+use Rattle.kf_core.specs.declared.slot.NodeFlags.{NodeFlags}
 use Rattle.kf_core.specs.declared.slot.SlotState.{SlotState}
 use Rattle.kf_core.specs.Bare.{BareWorld, IsCaller, marks_in}
 use Rattle.kf_core.specs.Phases.{is_waiting}
@@ -94,7 +94,7 @@ module _ (slots limit : ℕ) (t t' : Table) (h : Shown slots limit t) (j : ℕ) 
       (sleep_allowed slots limit (length t.homes) (suc j) me (sleepers_index c.key.slot) f refl refl)
       (λ me' e. ap (λ (x : Seated). x.0) e) fits becomes (inl (ap (bare_world h.master) same))
 
-  -- where the rule is met by what the step makes of the word and of the caller's view
+  -- if the rule is met by what the step makes of the word and of the caller's view
   caller_shown : (word n : ℕ) (c' : CallerView) → Shows (set t.words word n) h.master (set h.callers j c') → t' ≡ stepped t word n (suc j) [] (seat.Caller c') keeps → Shown slots limit t'
   caller_shown word n c' shown_so becomes = record {
     master = h.master;
@@ -217,7 +217,7 @@ module _ (slots limit : ℕ) (t t' : Table) (h : Shown slots limit t) (j : ℕ) 
       (subst (λ (w : BareWorld). BareStep (bare_world h.master h.callers) (Pin (length h.callers) key) w) (sym is')
       (hand_on_is_pin slots limit t h j c at key pinned (subst (λ (w : BareWorld). MayPin w key) is may)))
 
--- what a step of the Master tells, by its slot
+-- what a step of the Master says, by its slot
 pub slot_view : (after : ℕ → ℕ → MasterView → MasterView) (m : MasterView) (n i slot : ℕ) (me' : Seated) → slot_of i ≡ slot → me' ≡ (seat.Master (after (slot_of i) n m), []) → me'.0 ≡ seat.Master (after slot n m)
 slot_view after m n i slot me' back e = ap (λ (x : Seated). x.0) e ∙ ap (λ (k : ℕ). seat.Master (after k n m)) back
 
@@ -269,7 +269,7 @@ module _ (slots limit : ℕ) (t t' : Table) (h0 : Shown slots limit t) (m : Mast
       )
 
   -- marks of a slot's last key
-  pub last_marks : (slot : ℕ) (state : SlotState) (o : Option Marks) → slice_get m.slots slot ≡ Some state → state.marks ≡ o → marks_of m (last_key slot state) ≡ o
+  pub last_marks : (slot : ℕ) (state : SlotState) (o : Option NodeFlags) → slice_get m.slots slot ≡ Some state → state.marks ≡ o → marks_of m (last_key slot state) ≡ o
   last_marks slot state o its is = ap (λ (x : Option SlotState). marks_in x state.generation) its ∙ shown state.generation state.marks ∙ is
 
   split_views : t' ≡ record { words = t.words; homes = t.homes; views = set t.views 0 (seat.Master (after_split m)) ++ seat.Caller (hold_for m m.pinning) ∷ [] }

@@ -52,7 +52,7 @@ module _ (o : Opening) (t : SeenTable) (h : Kept o t) (id : ℕ) (before : Sight
   abbrev pub now_seen : StepKind → Seen
   now_seen kind = record { opening = before.seen.opening; steps = (before.seen.steps ++ between) ++ kind ∷ [] }
 
-  -- a beginning of the run after such a step, with all notes where it is the Master's
+  -- a beginning of the run after such a step, with all notes if it is the Master's
   abbrev IsNow : StepKind → Seen → Type 0
   IsNow kind seen = IsBeginning o seen (h.log ++ kind ∷ []) × (id ≡ 0 → history_of seen ≡ notes_of (h.log ++ kind ∷ []))
 

@@ -4,7 +4,7 @@ use Rattle.std.specs.Prelude.{slice_get, Option, Some, None, is_some}
 use Rattle.std.specs.Option.{option_map}
 use Rattle.std.proofs.lemmas.Option.{slice_get_within, get_or_from_slice_get, none-some, same_Some}
 use Rattle.kf_core.specs.declared.key.Key.{Key}
-use Rattle.kf_core.specs.declared.slot.Marks.{Marks}
+use Rattle.kf_core.specs.declared.slot.NodeFlags.{NodeFlags}
 use Rattle.kf_core.specs.declared.slot.SlotState.{SlotState}
 use Rattle.kf_core.specs.Marks.{fresh_marks}
 use Rattle.kf_core.proofs.SlotStates.{in_place}
@@ -55,7 +55,7 @@ not_below zero (suc b) h = absurd (h (omega arith))
 not_below (suc a) (suc b) h = let r = not_below a b (λ l. h (omega arith)) in omega arith
 
 -- a linked key is the last of its slot
-pub linked_state : (m : MasterView) (key : Key) → is_some (marks_of m key) ≡ true → (x : Marks) × (slice_get m.slots key.slot ≡ Some (record { generation = key.generation; marks = Some x }))
+pub linked_state : (m : MasterView) (key : Key) → is_some (marks_of m key) ≡ true → (x : NodeFlags) × (slice_get m.slots key.slot ≡ Some (record { generation = key.generation; marks = Some x }))
 linked_state m key there = let x = linked_marks (marks_of m key) there in (x.0, in_place (slice_get m.slots key.slot) key.generation x.0 x.1)
 
 pub last_of_linked : (m : MasterView) (key : Key) → is_some (marks_of m key) ≡ true → IsLastKey m key
@@ -76,7 +76,7 @@ last_is m m' key last same =
     let its = ap (λ (l : List SlotState). slice_get l key.slot) same ∙ x.1 in
     ap (last_key key.slot) (get_or_from_slice_get m'.slots key.slot x.0 no_state its) ∙ same_key (last_key key.slot x.0) key refl x.2
 
-unlinked : (o : Option Marks) → is_some o ≡ false → o ≡ None
+unlinked : (o : Option NodeFlags) → is_some o ≡ false → o ≡ None
 unlinked None e = refl
 unlinked (Some x) e = absurd (let y : true ≡ false = e in cc)
 
@@ -88,7 +88,7 @@ next_there m slot found near tells free =
     let generation : found / 4294967296 ≡ p.0.generation = tells.0 ∙ ap (λ (s : SlotState). s.generation) its in
     let gone : p.0.marks ≡ None = unlinked p.0.marks (sym (ap (λ (s : SlotState). is_some s.marks) its) ∙ sym tells.1 ∙ free_unlinked found free) in
     let left = free.1 in
-    (p.0.generation, p.1 ∙ ap (λ (o : Option Marks). let s : SlotState = record { generation = p.0.generation; marks = o } in Some s) gone, omega arith)
+    (p.0.generation, p.1 ∙ ap (λ (o : Option NodeFlags). let s : SlotState = record { generation = p.0.generation; marks = o } in Some s) gone, omega arith)
 
 -- the slots when the last node of one has left
 pub slots_unlinked : (m m' : MasterView) (key : Key) → IsLastKey m key → m'.slots ≡ m.slots → (without_node key.slot m').slots ≡ slots_with m.slots key None
@@ -97,7 +97,7 @@ slots_unlinked m m' key last same =
     ∙ ap (λ (g : ℕ). slice_set m.slots key.slot (record { generation = g; marks = None })) (ap (λ (k : Key). k.generation) (last_is m m' key last same))
 
 -- the slots when a node of these marks gets others
-pub slots_remarked : (m : MasterView) (key : Key) (change : Marks → Marks) (x : Marks) → marks_of m key ≡ Some x → slice_set m.slots key.slot (remarked change (state_at m key.slot)) ≡ slots_with m.slots key (Some (change x))
+pub slots_remarked : (m : MasterView) (key : Key) (change : NodeFlags → NodeFlags) (x : NodeFlags) → marks_of m key ≡ Some x → slice_set m.slots key.slot (remarked change (state_at m key.slot)) ≡ slots_with m.slots key (Some (change x))
 slots_remarked m key change x had =
     let its : slice_get m.slots key.slot ≡ Some (record { generation = key.generation; marks = Some x }) = in_place (slice_get m.slots key.slot) key.generation x had in
     ap (λ (s : SlotState). slice_set m.slots key.slot (remarked change s)) (get_or_from_slice_get m.slots key.slot (record { generation = key.generation; marks = Some x }) no_state its)

@@ -5,7 +5,7 @@ use Rattle.kf_core.specs.declared.key.Key.{Key}
 use Rattle.kf_core.specs.declared.caller.Phase.TheVariants.{Spent}
 use Rattle.kf_core.specs.declared.event.Event.{Event}
 use Rattle.kf_core.specs.declared.event.Event.TheVariants.{Enter}
-use Rattle.kf_core.specs.declared.slot.Marks.{Marks}
+use Rattle.kf_core.specs.declared.slot.NodeFlags.{NodeFlags}
 use Rattle.kf_core.specs.Bare.{BareWorld, marks}
 use Rattle.kf_core.specs.Steps.{BareStep}
 use Rattle.kf_core.specs.Steps as core
@@ -16,7 +16,7 @@ pub record TakenOut (kind : StepKind) (w w' : BareWorld) : Type 0 where
   pub slot : ℕ
   pub kind_is : kind ≡ unlinks slot
   pub key : Key
-  pub had : Marks
+  pub had : NodeFlags
   pub linked : marks w key ≡ Some had
   pub doomed : had.doomed ≡ true
   pub is : w' ≡ core.with_marks w key None
@@ -31,7 +31,7 @@ pub record Came (kind : StepKind) (w w' : BareWorld) : Type 0 where
 abbrev pub with_spent : BareWorld → Key → BareWorld
 with_spent w key = record { slots = w.slots; callers = w.callers ++ record { key = key; phase = Spent } ∷ [] }
 
--- a caller came to a key and gave its hold back at once. The key may be pinned, where it is not the Master's to say
+-- a caller came to a key and gave its hold back at once. The key may be pinned, if it is not the Master's to say
 pub record Passed (kind : StepKind) (w w' : BareWorld) : Type 0 where
   pub key : Key
   pub may : core.MayPin w key ⊎ (kind ≡ answers)

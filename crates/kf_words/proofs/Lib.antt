@@ -39,6 +39,7 @@ pub mod Pinned
 pub mod NodeReads
 pub mod NodeReading
 pub mod NodeHeld
+pub mod Wakes
 pub mod MasterMade
 pub mod NodeMade
 pub mod Waits

@@ -4,7 +4,7 @@ use Rattle.std.specs.Prelude.{Some, None, Option}
 use Rattle.kf_core.specs.declared.command.Command.TheVariants.{Doom}
 use Rattle.kf_words.specs.declared.note.Note.TheVariants.{Did}
 use Rattle.kf_core.specs.declared.caller.Phase.TheVariants.{Still, Turned, Running, Broken, Restored, Drained, Parted, Hiding, Hidden, Spent}
-use Rattle.kf_words.specs.TableSteps.{Table, births, breaks, hides, leaves, loads_hold, looks, looks_hidden, looks_over, marks_node, parts, pins_hold, releases, misses, counts, shares, restores, shows, sleeps, awakes, splits, stores_fresh, takes_bias, tries, undoes, unlinks, unpins_hold, notes, reports, answers, compares, WordStep, misses_at, counts_at, hands_on, stores_node, reads_node}
+use Rattle.kf_words.specs.TableSteps.{Table, births, breaks, hides, leaves, loads_hold, looks, looks_hidden, looks_over, marks_node, parts, pins_hold, releases, misses, counts, shares, restores, shows, sleeps, awakes, loads_sleepers, splits, stores_fresh, takes_bias, tries, undoes, unlinks, unpins_hold, notes, reports, answers, compares, WordStep, misses_at, counts_at, hands_on, stores_node, reads_node}
 use Rattle.kf_words.specs.declared.view.CallerView.{CallerView}
 use Rattle.kf_words.specs.declared.view.MasterView.{MasterView}
 use Rattle.kf_words.specs.Steps.{spent_hold}
@@ -223,14 +223,17 @@ s20 = (caller_at Still 4 0 17179869184 false, (refl, refl), record { there = ref
 s21 : WordStep t21 (undoes 1) t22
 s21 = (caller_at Turned 5 1 12884901889 true, (refl, refl), record { there = refl; fits = ltb-true 12884901890 18446744073709551616 refl; becomes = refl })
 
-s22 : WordStep t22 (sleeps 1) a22
-s22 = (caller_at Turned 6 1 12884901889 false, tt, record { there = refl; fits = ltb-true 0 18446744073709551616 refl; becomes = refl })
+s22 : WordStep t22 (sleeps 1 1) a22
+s22 = (caller_at Turned 6 1 12884901889 false, refl, record { there = refl; fits = ltb-true 0 18446744073709551616 refl; becomes = refl })
 
 a_breaks : WordStep a22 (breaks 0) a23
 a_breaks = (caller_at Running 5 3 0 false, (refl, refl), record { there = refl; fits = ltb-true 12884901889 18446744073709551616 refl; becomes = refl })
 
-awake : WordStep a23 (awakes 1) t23
-awake = (caller_at Turned 6 1 12884901889 false, tt, record { there = refl; fits = ltb-true 1 18446744073709551616 refl; becomes = refl })
+loads_count : WordStep a23 (loads_sleepers 1 0) a23
+loads_count = (caller_at Broken 6 3 12884901889 false, refl, record { there = refl; fits = ltb-true 1 18446744073709551616 refl; becomes = refl })
+
+awake : WordStep a23 (awakes 1 1) t23
+awake = (caller_at Turned 6 1 12884901889 false, refl, record { there = refl; fits = ltb-true 1 18446744073709551616 refl; becomes = refl })
 
 s23 : WordStep t23 (looks 1) t24
 s23 = (caller_at Turned 6 1 12884901889 false, (refl, refl), record { there = refl; fits = ltb-true 12884901888 18446744073709551616 refl; becomes = refl })
@@ -365,4 +368,4 @@ s_node : WordStep t35 (stores_node 1 0 0) t35
 s_node = (master_at 1 (None) (None) (Some 1) (record { slot = 1; word = 4294967296 } ∷ []) (record { slot = 1; word = 0 } ∷ []) (None), ((ltb-true 1 2 refl, refl), ltb-true 0 5 refl), record { there = refl; fits = ltb-true 0 18446744073709551616 refl; becomes = refl })
 
 pub lives : WordLife
-lives = (t1, tt, s0, (t2, tt, s1, (t3, tt, s2, (t4, tt, s3, (t5, tt, s4, (t6, tt, s5, (t7, inl refl, s6, (t8, tt, s7, (t9, tt, s8, (t10, inr (0, (caller_at Still 0 0 0 false, refl, refl, still_holds)), s9, (t11, tt, s10, (t12, tt, s11, (t13, tt, s12, (t14, tt, s13, (t15, tt, s14, (t16, tt, s15, (t17, tt, s16, (t18, tt, s17, (t19, tt, s18, (t19, tt, n19, (t20, tt, s19, (t21, tt, s20, (t22, tt, s21, (a22, tt, s22, (a23, tt, a_breaks, (t23, tt, awake, (t24, tt, s23, (t25, tt, s24, (t26, tt, s25, (t27, tt, s26, (t28, tt, s27, (t29, tt, s28, (t30, (1, (caller_at Drained 8 1 6442450946 false, refl, refl, refl, refl)), s29, (t31, tt, s30, (b31, tt, s31, (t32, tt, b_releases, (c32, tt, c_counts, (d32, tt, d_shares, (e32, tt, e_releases, (t33, tt, s32, (t34, tt, s33, (t35, tt, s34, (t35, tt, s_node, (t36, tt, s35, (t37, tt, s36, (t38, tt, s37, (t39, tt, s38, (t40, tt, s39, (t41, tt, s40, (t42, inl refl, s41, (t43, tt, s42, (t44, tt, s43, (t45, (with_one_more (next_caller Still 2 0 10737418241 false), record { slot = 1; generation = 2 }, refl, refl, inl refl), s44, (t46, tt, s45, (t47, tt, s46, (t47, tt, s47, (t48, inl refl, s48, refl)))))))))))))))))))))))))))))))))))))))))))))))))))))))))
+lives = (t1, tt, s0, (t2, tt, s1, (t3, tt, s2, (t4, tt, s3, (t5, tt, s4, (t6, tt, s5, (t7, inl refl, s6, (t8, tt, s7, (t9, tt, s8, (t10, inr (0, (caller_at Still 0 0 0 false, refl, refl, still_holds)), s9, (t11, tt, s10, (t12, tt, s11, (t13, tt, s12, (t14, tt, s13, (t15, tt, s14, (t16, tt, s15, (t17, tt, s16, (t18, tt, s17, (t19, tt, s18, (t19, tt, n19, (t20, tt, s19, (t21, tt, s20, (t22, tt, s21, (a22, tt, s22, (a23, tt, a_breaks, (a23, tt, loads_count, (t23, tt, awake, (t24, tt, s23, (t25, tt, s24, (t26, tt, s25, (t27, tt, s26, (t28, tt, s27, (t29, tt, s28, (t30, (1, (caller_at Drained 8 1 6442450946 false, refl, refl, refl, refl)), s29, (t31, tt, s30, (b31, tt, s31, (t32, tt, b_releases, (c32, tt, c_counts, (d32, tt, d_shares, (e32, tt, e_releases, (t33, tt, s32, (t34, tt, s33, (t35, tt, s34, (t35, tt, s_node, (t36, tt, s35, (t37, tt, s36, (t38, tt, s37, (t39, tt, s38, (t40, tt, s39, (t41, tt, s40, (t42, inl refl, s41, (t43, tt, s42, (t44, tt, s43, (t45, (with_one_more (next_caller Still 2 0 10737418241 false), record { slot = 1; generation = 2 }, refl, refl, inl refl), s44, (t46, tt, s45, (t47, tt, s46, (t47, tt, s47, (t48, inl refl, s48, refl))))))))))))))))))))))))))))))))))))))))))))))))))))))))))

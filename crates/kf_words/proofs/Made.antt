@@ -1,4 +1,4 @@
--- Each step of a caller is the next of the one run, and tells so beside its new view.
+-- Each step of a caller is the next of the one run, and says so beside its new view.
 use Rattle.std.proofs.Common.{◌≡◌, ℕ, suc, ◌<◌, Bool, true, false, List, [], ◌∷◌, ◌++◌, length, if◌then◌else◌, refl, sym, ap, ◌∙◌, subst, append_assoc}
 use Rattle.std.specs.Prelude.{slice_index}
 use mathlib.Core.Option.{some, some-injective}
@@ -16,15 +16,15 @@ use Rattle.kf_words.specs.declared.view.View.{View}
 use Rattle.kf_words.specs.declared.view.View.TheVariants as seat
 use Rattle.kf_words.specs.Layout.{hide, active_index, hold_index, sleepers_index, keeps_out, is_drained, is_unused, has_linked}
 use Rattle.kf_words.specs.Rule.{Shown, bare_world}
-use Rattle.kf_words.specs.Steps.{Seated, Sighted, plain, caller_of, after_try, after_undo, after_leave, after_break, after_restore, after_look, after_part, after_hide, after_look_hidden, after_show, after_release, CallerBecomes, ShowsKey}
+use Rattle.kf_words.specs.Steps.{Seated, Sighted, plain, caller_of, after_try, after_undo, after_leave, after_break, after_restore, after_look, after_part, after_hide, after_look_hidden, after_show, after_release, unmoved, CallerBecomes, ShowsKey}
 use Rattle.kf_words.specs.Callers.{CallerSight, caller_sight, IsAtRest, HasReference, IsInPhase}
-use Rattle.kf_words.specs.TableSteps.{Table, world, StepKind, tries, undoes, leaves, breaks, restores, looks, parts, hides, looks_hidden, shows, releases, sleeps, awakes, plus, minus, same, with_hide, Plays, CallerPlays, IsSeated, WordStep}
+use Rattle.kf_words.specs.TableSteps.{Table, world, StepKind, tries, undoes, leaves, breaks, restores, looks, parts, hides, looks_hidden, shows, releases, sleeps, awakes, loads_sleepers, plus, minus, same, with_hide, Plays, CallerPlays, IsSeated, WordStep}
 use Rattle.kf_words.specs.History.{erased, Kept}
-use Rattle.kf_words.specs.Made.{WasLetInLive, WasMade, WasUndone, WasFound}
+use Rattle.kf_words.specs.Made.{WasLetInLive, WasMade, WasUndone, WasFound, LoadedSleepers, WakeSpent}
 use Rattle.kf_words.proofs.Seating.{caller_seat}
 use Rattle.kf_words.proofs.WordSteps.{word_step, world_is, at_seat, in_world}
 use Rattle.kf_words.proofs.Runs.{let_in_live}
-use Rattle.kf_words.proofs.Keeps.{view_there, between, now_seen, is_now, still_before, step_kept, led_here, shown_here}
+use Rattle.kf_words.proofs.Keeps.{view_there, between, now_seen, is_now, step_kept, led_here, shown_here}
 use Rattle.kf_words.proofs.Noted.{put}
 use Rattle.kf_words.specs.Notes.{note_of}
 use Rattle.kf_words.proofs.CallerAllowed.{no_step, show_allowed}
@@ -33,7 +33,7 @@ use Rattle.kf_words.proofs.CallerAllowed.{no_step, show_allowed}
 abbrev pub IsQuiet : (ℕ → StepKind) → Type 0
 IsQuiet kind = (j : ℕ) → note_of (kind j) ≡ []
 
--- what a step on the word i tells, where that is the word of this index of the caller's slot
+-- what a step on the word i says, if that is the word of this index of the caller's slot
 abbrev pub MadeAt : (ℕ → ℕ) → ℕ → Sighted → (ℕ → StepKind) → (ℕ → Seated → Type 0) → ℕ → Sighted → Type 0
 MadeAt index i me kind told n me' = (i ≡ index (caller_of me.0.view).key.slot) × (told n (plain me') × WasMade kind (caller_sight me.0) (caller_sight me'.0))
 
@@ -45,7 +45,7 @@ module _ (o : Opening) (homes id : ℕ) (me : Sighted) (i : ℕ) (is : plain me 
   abbrev MadeFinding : (ℕ → StepKind) → ℕ → CallerSight → Type 0
   MadeFinding kind n s' = (m : WasMade kind (caller_sight me.0) s') × (slice_index m.found.words i ≡ n)
 
-  -- what the step tells of the view after it, by the word that it found
+  -- what the step says of the view after it, by the word that it found
   abbrev Tells : (ℕ → CallerView → CallerView) → (ℕ → Seated → Type 0) → Type 0
   Tells aft told = (t : Table) → Shown o.slots o.holds t → length t.homes ≡ homes → get_elem? t.views id ≡ some me.0.view → slice_index t.words i < 18446744073709551616
       → told (slice_index t.words i) (seat.Caller (aft (slice_index t.words i) me_c), me.1)
@@ -100,25 +100,7 @@ module _ (o : Opening) (homes id : ℕ) (me : Sighted) (i : ℕ) (is : plain me 
       let r = finding kind quiet f aft told tells makes t h far at small in
       (r.0, r.1, r.2, r.3, (r.4.0, r.4.1.0))
 
-  -- a step on the count of sleepers is one of the run, and its seat learns nothing by it
-  pub sleep_kept : (kind : ℕ → StepKind) → IsQuiet kind → (f : ℕ → ℕ) → ((t t' : Table) (j : ℕ) → Plays t (suc j) i f (seat.Caller me_c) (seat.Caller me_c) t' → WordStep t (kind j) t')
-      → Allows (Kept o) homes id me i f (λ n me'. me' ≡ me)
-  sleep_kept kind quiet f makes t h far at small =
-      let e : Table = erased t in
-      let n : ℕ = slice_index t.words i in
-      let own : get_elem? e.views id ≡ some me.0.view = view_there t.views id me.0 at in
-      let at' : get_elem? e.views id ≡ some (seat.Caller me_c) = own ∙ ap (λ (x : Seated). some x.0) is in
-      let p = caller_seat h.shown.master h.shown.callers id me_c (subst (λ (l : List View). get_elem? l id ≡ some (seat.Caller me_c)) h.shown.views at') in
-      let j : ℕ = p.0 in
-      let there : IsSeated e j me_c = subst (λ (k : ℕ). get_elem? e.views k ≡ some (seat.Caller me_c)) p.1 at' in
-      let e' : Table = stepped e i (f n) (suc j) [] (seat.Caller me_c) keeps in
-      let step : WordStep e (kind j) e' = makes e e' j (record { there = there; fits = small; becomes = refl }) in
-      let mine : WordStep e (kind j) (stepped e i (f n) id [] me.0.view keeps) =
-      subst (λ (v : View). WordStep e (kind j) (stepped e i (f n) id [] v keeps)) (sym (ap (λ (x : Seated). x.0) is))
-      (subst (λ (k : ℕ). WordStep e (kind j) (stepped e i (f n) k [] (seat.Caller me_c) keeps)) (sym p.1) step) in
-      (me.0, keeps, tt, step_kept o t h id me.0 at i (f n) me.0 (kind j) mine (still_before o t h id me.0 at (kind j) (quiet j)) (λ _. quiet j) refl, refl)
-
--- a step may tell besides what holds of its word
+-- a step may say besides what holds of its word
 on_kept : (o : Opening) (homes id : ℕ) (me : Sighted) (i : ℕ) (f : ℕ → ℕ) (told : ℕ → Sighted → Type 0) (Is : Type 0) → Is
     → Allows (Kept o) homes id me i f told → Allows (Kept o) homes id me i f (λ n me'. Is × told n me')
 on_kept o homes id me i f told Is is allowed t h far at small = let r = allowed t h far at small in (r.0, r.1, r.2, r.3, (is, r.4))
@@ -199,15 +181,23 @@ module _ (o : Opening) (homes id : ℕ) (me : Sighted) (i : ℕ) (is : plain me 
   abbrev by_c : CallerView
   by_c = caller_of me.0.view
 
-  asleep : (kind : ℕ → StepKind) → IsQuiet kind → (f : ℕ → ℕ) → ((t t' : Table) (j : ℕ) → Plays t (suc j) (sleepers_index by_c.key.slot) f (seat.Caller by_c) (seat.Caller by_c) t' → WordStep t (kind j) t')
-      → Allows (Kept o) homes id me i f (λ n me'. me' ≡ me)
-  asleep kind quiet f makes = subst (λ (k : ℕ). Allows (Kept o) homes id me k f (λ n me'. me' ≡ me)) its (sleep_kept o homes id me (sleepers_index by_c.key.slot) is kind quiet f makes)
+  pub sleep_made : Allows (Kept o) homes id me i (plus 1) (MadeAt sleepers_index i me (sleeps by_c.key.slot) (CallerBecomes unmoved no_step (plain me)))
+  sleep_made = step_made o homes id me i is sleepers_index its (sleeps by_c.key.slot) (λ j. refl) (plus 1) unmoved (CallerBecomes unmoved no_step (plain me))
+      (λ t h far at small. refl) (λ t t' j p. (by_c, refl, p))
 
-  pub sleep_made : Allows (Kept o) homes id me i (plus 1) (λ n me'. me' ≡ me)
-  sleep_made = asleep sleeps (λ j. refl) (plus 1) (λ t t' j p. (by_c, tt, p))
+  pub awake_made : Allows (Kept o) homes id me i (minus 1) (MadeAt sleepers_index i me (awakes by_c.key.slot) (CallerBecomes unmoved no_step (plain me)))
+  awake_made = step_made o homes id me i is sleepers_index its (awakes by_c.key.slot) (λ j. refl) (minus 1) unmoved (CallerBecomes unmoved no_step (plain me))
+      (λ t h far at small. refl) (λ t t' j p. (by_c, refl, p))
 
-  pub awake_made : Allows (Kept o) homes id me i (minus 1) (λ n me'. me' ≡ me)
-  awake_made = asleep awakes (λ j. refl) (minus 1) (λ t t' j p. (by_c, tt, p))
+  pub sleepers_load_made : Allows (Kept o) homes id me i same
+      (λ n me'. (i ≡ sleepers_index by_c.key.slot) × (CallerBecomes unmoved no_step (plain me) n (plain me') × LoadedSleepers (caller_sight me.0) (caller_sight me'.0) n))
+  sleepers_load_made =
+      let told : ℕ → Seated → Type 0 = CallerBecomes unmoved no_step (plain me) in
+      let at : ℕ = sleepers_index by_c.key.slot in
+      let Told : ℕ → Sighted → Type 0 = λ n me'. told n (plain me') × LoadedSleepers (caller_sight me.0) (caller_sight me'.0) n in
+      on_kept o homes id me i same Told (i ≡ at) (sym its)
+      (subst (λ (k : ℕ). Allows (Kept o) homes id me k same Told) its
+      (finding o homes id me at is (loads_sleepers by_c.key.slot) (λ j. refl) same unmoved told (λ t h far at small. refl) (λ t t' j p. (by_c, refl, p))))
 
 -- what a caller's step finds goes into its view
 module _ (before after : CallerSight) (kind : ℕ → StepKind) (x : WasMade kind before after) where
@@ -233,7 +223,7 @@ module _ (before after : CallerSight) (kind : ℕ → StepKind) (x : WasMade kin
       }
 
 -- a view after a step that takes one of two courses keeps what was found
-either_found : (b : Bool) (x y : CallerView) (n : ℕ) → x.found ≡ n → y.found ≡ n → (if b then x else y).found ≡ n
+pub either_found : (b : Bool) (x y : CallerView) (n : ℕ) → x.found ≡ n → y.found ≡ n → (if b then x else y).found ≡ n
 either_found true x y n p q = p
 either_found false x y n p q = q
 
@@ -249,7 +239,7 @@ look_hidden_found before after x = step_found before after looks_hidden x after_
 pub try_found : (before after : CallerSight) → WasMade tries before after → WasFound before after (active_index before.view.key.slot) after.view.found
 try_found before after x = step_found before after tries x after_try IsAtRest active_index (plus 1) (λ n c. either_found (keeps_out n) _ _ n refl refl) x.step
 
--- what was found stays so while the run goes on, where the seat's last step leaves the word that it tells
+-- what was found stays so while the run goes on, if the seat's last step leaves the word that it says
 pub found_later : (before between after : CallerSight) (kind : ℕ → StepKind) (word : ℕ) → WasFound before between word between.view.found → WasMade kind between after → after.view.found ≡ between.view.found
     → WasFound before after word after.view.found
 found_later before middle after kind word f x same =
@@ -268,6 +258,12 @@ found_later before middle after kind word f x same =
           ∙ ap (λ (l : List StepKind). let y : Seen = record { opening = before.seen.opening; steps = l } in y)
           (append_assoc (log ++ f.later) x.between (kind x.caller ∷ []) ∙ append_assoc log f.later more);
     }
+
+-- and while it spends the wake that it owes
+pub found_spent : (before middle after : CallerSight) (word : ℕ) (wanted : Bool) → WasFound before middle word middle.view.found → WakeSpent wanted middle after → after.view.found ≡ middle.view.found
+    → WasFound before after word after.view.found
+found_spent before middle after word true f x same = found_later before middle after (loads_sleepers middle.view.key.slot) word f x.1.0 same
+found_spent before middle after word false f x same = subst (λ (s : CallerSight). WasFound before s word s.view.found) (sym x) f
 
 -- a try that let its caller run found its key live
 pub was_live : (before after : CallerSight) → WasMade tries before after → after.view.phase ≡ Running → WasLetInLive before after

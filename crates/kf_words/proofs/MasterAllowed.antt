@@ -7,7 +7,7 @@ use Rattle.std.proofs.lemmas.List.{set-get_or}
 use mathlib.Core.Option.{some, none}
 use lib.ListN.{get_elem?}
 use Rattle.atomic_table.specs.Table.{State, step, Allows, Splits, keeps}
-use Rattle.kf_core.specs.declared.slot.Marks.{Marks}
+use Rattle.kf_core.specs.declared.slot.NodeFlags.{NodeFlags}
 use Rattle.kf_core.specs.declared.slot.SlotState.{SlotState}
 use Rattle.kf_core.specs.Marks.{fresh_marks}
 use Rattle.kf_words.specs.declared.view.CallerView.{CallerView}
@@ -49,7 +49,7 @@ allows count limit homes id me i f after is owes t h _ at small =
       refl,
     )
 
--- a step may tell besides what holds of its word
+-- a step may say besides what holds of its word
 pub on_word : (holds : State (Unit {0}) View → Type 0) (homes id : ℕ) (me : Seated) (i : ℕ) (f : ℕ → ℕ) (told : ℕ → Seated → Type 0) (Is : Type 0) → Is
     → Allows holds homes id me i f told → Allows holds homes id me i f (λ n me'. Is × told n me')
 on_word holds homes id me i f told Is is allowed t h far at small = let r = allowed t h far at small in (r.0, r.1, r.2, r.3, (is, r.4))
@@ -96,7 +96,7 @@ hold_allows count limit homes id me slot i f after is its owes =
     on_word (Shown count limit) homes id me i f (MasterBecomes after (step 0 i 0 0 none) me) (i ≡ hold_index (slot_of i)) (hold_here slot i its)
     (slot_allows count limit homes id me slot i f after is (hold_slot slot i its) (subst (λ (k : ℕ). OwesSlot (master_of me.0) slot k f after) its owes))
 
--- what the step tells, by the slot
+-- what the step says, by the slot
 pub told : (me me' : Seated) (slot i found : ℕ) (after : ℕ → ℕ → MasterView → MasterView) → me ≡ (seat.Master (master_of me.0), []) → slot_of i ≡ slot
     → me' ≡ (seat.Master (after (slot_of i) found (master_of me.0)), me.1) → me' ≡ (seat.Master (after slot found (master_of me.0)), [])
 told me me' slot i found after is back now =
@@ -117,7 +117,7 @@ pub unpin_owes : (m : MasterView) (slot : ℕ) (state : SlotState) → slice_get
 unfolding OwesSlot
 unpin_owes m slot state its has_pin words cs shows small = (refl, refl, pin_back words m cs shows slot state its has_pin small)
 
-pub unlink_owes : (m : MasterView) (slot : ℕ) (state : SlotState) (x : Marks) (found : ℕ) → slice_get m.slots slot ≡ Some state → state.marks ≡ Some x → m.looked ≡ Some (record { slot = slot; word = found }) → is_drained found ≡ true → OwesSlot m slot (hold_index slot) (λ n. (n + (2 ^ 64 - linked)) % 2 ^ 64) (unread without_node)
+pub unlink_owes : (m : MasterView) (slot : ℕ) (state : SlotState) (x : NodeFlags) (found : ℕ) → slice_get m.slots slot ≡ Some state → state.marks ≡ Some x → m.looked ≡ Some (record { slot = slot; word = found }) → is_drained found ≡ true → OwesSlot m slot (hold_index slot) (λ n. (n + (2 ^ 64 - linked)) % 2 ^ 64) (unread without_node)
 unfolding OwesSlot
 unlink_owes m slot state x found its there was hit words cs shows small = (
   length-set m.slots slot _,
@@ -221,11 +221,11 @@ load_allowed count limit homes id me slot i is its near t h far at small =
     (r.0, r.1, r.2, r.3, (r.4.0, (r.4.1, subst (λ (k : ℕ). TellsSlot m k (get_or t.words i 0)) (sym (hold_slot slot i its)) (generation, node))))
 
 -- the state that the step writes, at a state that is known
-remarked_is : (m : MasterView) (slot : ℕ) (state : SlotState) (x : Marks) (change : Marks → Marks) → slice_get m.slots slot ≡ Some state → state.marks ≡ Some x
+remarked_is : (m : MasterView) (slot : ℕ) (state : SlotState) (x : NodeFlags) (change : NodeFlags → NodeFlags) → slice_get m.slots slot ≡ Some state → state.marks ≡ Some x
     → remarked change (state_at m slot) ≡ record { generation = state.generation; marks = Some (change x) }
 remarked_is m slot state x change its there =
     ap (remarked change) (get_or_from_slice_get m.slots slot state no_state its)
-    ∙ ap (λ (o : Option Marks). let p : SlotState = record { generation = state.generation; marks = option_map change o } in p) there
+    ∙ ap (λ (o : Option NodeFlags). let p : SlotState = record { generation = state.generation; marks = option_map change o } in p) there
 
 rise_owes : (m : MasterView) (slot : ℕ) (state : SlotState) → slice_get m.slots slot ≡ Some state → state.marks ≡ Some fresh_marks → OwesSlot m slot (active_index slot) (λ n. (n + (2 ^ 64 - bias)) % 2 ^ 64) (unread (with_marks activated_marks))
 unfolding OwesSlot
@@ -241,7 +241,7 @@ pub rise_allowed : (count limit homes id : ℕ) (me : Seated) (slot i : ℕ) (st
 rise_allowed count limit homes id me slot i state is at its there =
     active_allows count limit homes id me slot i (λ n. (n + (2 ^ 64 - bias)) % 2 ^ 64) (unread (with_marks activated_marks)) is at (rise_owes (master_of me.0) slot state its there)
 
-mark_owes : (m : MasterView) (slot : ℕ) (state : SlotState) (x : Marks) (k : ℕ) → slice_get m.slots slot ≡ Some state → state.marks ≡ Some x → x.doomed ≡ false → k ≡ bit x.activated bias + doom
+mark_owes : (m : MasterView) (slot : ℕ) (state : SlotState) (x : NodeFlags) (k : ℕ) → slice_get m.slots slot ≡ Some state → state.marks ≡ Some x → x.doomed ≡ false → k ≡ bit x.activated bias + doom
     → OwesSlot m slot (active_index slot) (λ n. (n + k) % 2 ^ 64) (unread (with_marks doomed_marks))
 unfolding OwesSlot
 mark_owes m slot state x k its there undoomed bits words cs shows small = (
@@ -251,7 +251,7 @@ mark_owes m slot state x k its there undoomed bits words cs shows small = (
       (sym (remarked_is m slot state x doomed_marks its there)) (mark_node words m cs shows slot state its x k there undoomed bits),
 )
 
-pub mark_allowed : (count limit homes id : ℕ) (me : Seated) (slot i : ℕ) (state : SlotState) (x : Marks) (k : ℕ) → me ≡ (seat.Master (master_of me.0), []) → active_index slot ≡ i → slice_get (master_of me.0).slots slot ≡ Some state → state.marks ≡ Some x → x.doomed ≡ false → k ≡ bit x.activated bias + doom
+pub mark_allowed : (count limit homes id : ℕ) (me : Seated) (slot i : ℕ) (state : SlotState) (x : NodeFlags) (k : ℕ) → me ≡ (seat.Master (master_of me.0), []) → active_index slot ≡ i → slice_get (master_of me.0).slots slot ≡ Some state → state.marks ≡ Some x → x.doomed ≡ false → k ≡ bit x.activated bias + doom
     → Allows (Shown count limit) homes id me i (λ n. (n + k) % 2 ^ 64) (On active_index (MasterBecomes (unread (with_marks doomed_marks))) (step 0 i 0 0 none) me)
 mark_allowed count limit homes id me slot i state x k is at its there undoomed bits =
     active_allows count limit homes id me slot i (λ n. (n + k) % 2 ^ 64) (unread (with_marks doomed_marks)) is at (mark_owes (master_of me.0) slot state x k its there undoomed bits)

@@ -1,11 +1,11 @@
--- Each step of the Master is the next of the one run, and tells so beside its new view.
+-- Each step of the Master is the next of the one run, and says so beside its new view.
 use Rattle.std.proofs.Common.{◌≡◌, ℕ, ◌+◌, ◌<◌, false, List, [], ◌∷◌, ◌++◌, length, set, refl, sym, ap, ◌∙◌, subst}
 use Rattle.std.specs.Prelude.{slice_index, Some, None}
 use mathlib.Core.Option.{some, none}
 use mathlib.Core.List.{IsPrefix}
 use lib.ListN.{get_elem?}
 use Rattle.atomic_table.specs.Table.{Allows, Splits, Joins, step, stepped, keeps}
-use Rattle.kf_core.specs.declared.slot.Marks.{Marks}
+use Rattle.kf_core.specs.declared.slot.NodeFlags.{NodeFlags}
 use Rattle.kf_core.specs.Marks.{fresh_marks}
 use Rattle.kf_words.specs.declared.note.Note.{Note}
 use Rattle.kf_words.specs.declared.sight.Opening.{Opening}
@@ -31,7 +31,7 @@ module _ (o : Opening) (homes id : ℕ) (me : Sighted) (slot : ℕ) (is : plain 
   abbrev m : MasterView
   m = master_of me.0.view
 
-  -- what the step on the word i tells of the view after it, by the word that it found
+  -- what the step on the word i says of the view after it, by the word that it found
   abbrev Tells : ℕ → (ℕ → ℕ → MasterView → MasterView) → (ℕ → Seated → Type 0) → Type 0
   Tells i after told = (t : Table) → Shown o.slots o.holds t → length t.homes ≡ homes → get_elem? t.views id ≡ some me.0.view → slice_index t.words i < 18446744073709551616
       → told (slice_index t.words i) (seat.Master (after (slot_of i) (slice_index t.words i) m), me.1)
@@ -113,7 +113,7 @@ module _ (o : Opening) (homes id : ℕ) (me : Sighted) (slot : ℕ) (is : plain 
     pub birth_made : slot < length m.slots → m.fresh ≡ Some slot → Allows (Kept o) homes id me i (plus (one_generation + linked)) (MasterMakes hold_index births (MasterBecomes (unread with_birth)) (step 0 i 0 0 none) me)
     birth_made near fresh = on_hold_word births (λ j. refl) (plus (one_generation + linked)) (unread with_birth) (λ t t' p. (m, (near, fresh), p))
 
-    pub unlink_made : ((x : Marks) × HasMarks m slot x) → HasLooked m slot → Allows (Kept o) homes id me i (minus linked) (MasterMakes hold_index unlinks (MasterBecomes (unread without_node)) (step 0 i 0 0 none) me)
+    pub unlink_made : ((x : NodeFlags) × HasMarks m slot x) → HasLooked m slot → Allows (Kept o) homes id me i (minus linked) (MasterMakes hold_index unlinks (MasterBecomes (unread without_node)) (step 0 i 0 0 none) me)
     unlink_made marks looked = on_hold_word unlinks (λ j. refl) (minus linked) (unread without_node) (λ t t' p. (m, (marks, looked), p))
 
   -- the steps on the active word
@@ -132,7 +132,7 @@ module _ (o : Opening) (homes id : ℕ) (me : Sighted) (slot : ℕ) (is : plain 
     pub rise_made : HasMarks m slot fresh_marks → Allows (Kept o) homes id me i (minus bias) (MasterMakes active_index takes_bias (MasterBecomes (unread (with_marks activated_marks))) (step 0 i 0 0 none) me)
     rise_made marks = on_active_word takes_bias (λ j. refl) (minus bias) (unread (with_marks activated_marks)) (λ t t' p. (m, marks, p))
 
-    pub mark_made : (x : Marks) (k : ℕ) → HasMarks m slot x → x.doomed ≡ false → k ≡ bit x.activated bias + doom
+    pub mark_made : (x : NodeFlags) (k : ℕ) → HasMarks m slot x → x.doomed ≡ false → k ≡ bit x.activated bias + doom
         → Allows (Kept o) homes id me i (plus k) (MasterMakes active_index marks_node (MasterBecomes (unread (with_marks doomed_marks))) (step 0 i 0 0 none) me)
     mark_made x k marks undoomed bits = on_active_word marks_node (λ j. refl) (plus k) (unread (with_marks doomed_marks))
         (λ t t' p. (x, (m, (marks, undoomed), subst (λ (b : ℕ). Plays t 0 (active_index slot) (plus b) (seat.Master m) (seat.Master (with_marks doomed_marks slot m)) t') bits p)))

@@ -6,7 +6,7 @@ use mathlib.Core.Logic.{dite}
 use native.Mathlib.Decide.{ℕ_discrete}
 use Rattle.kf_core.specs.declared.key.Key.{Key}
 use Rattle.kf_core.specs.declared.caller.Caller.{Caller}
-use Rattle.kf_core.specs.declared.slot.Marks.{Marks}
+use Rattle.kf_core.specs.declared.slot.NodeFlags.{NodeFlags}
 use Rattle.kf_core.specs.declared.slot.SlotState.{SlotState}
 use Rattle.kf_core.specs.declared.caller.Phase.{Phase}
 use Rattle.kf_core.specs.declared.caller.Phase.TheVariants.{Still, Turned, Running, Broken, Restored, Drained, Parted, Hiding, Hidden, Spent}
@@ -204,7 +204,7 @@ module _ (words : List ℕ) (m : MasterView) (cs : List CallerView) (shows : Sho
         let v = hiders≤holders slot in
         (omega arith, omega arith, f.1, f.2, omega arith, omega arith)
 
-    pub unlinked_state : (o : Option Marks) → is_some o ≡ false → o ≡ None
+    pub unlinked_state : (o : Option NodeFlags) → is_some o ≡ false → o ≡ None
     unlinked_state None e = refl
     unlinked_state (Some x) e = absurd (let y : true ≡ false = e in cc)
 
@@ -219,7 +219,7 @@ module _ (words : List ℕ) (m : MasterView) (cs : List CallerView) (shows : Sho
         (changed (set words (active_index slot) bias) state m.pinning (Some slot) m.loads m.at_birth None (inl refl)
         (length-set words (active_index slot) bias)
         (subst (λ (x : ℕ). ShowsMarks x state.marks (users slot cs) (hiders slot cs)) (sym stored)
-        (subst (λ (o : Option Marks). ShowsMarks bias o (users slot cs) (hiders slot cs)) (sym gone)
+        (subst (λ (o : Option NodeFlags). ShowsMarks bias o (users slot cs) (hiders slot cs)) (sym gone)
         (subst (λ (x : ℕ). ShowsMarks bias None x (hiders slot cs)) (sym u.4) (subst (λ (x : ℕ). ShowsMarks bias None 0 x) (sym u.5) (false, refl, (λ e. absurd (let x : false ≡ true = e in cc)), omega arith)))))
         (subst (λ (x : ℕ). ShowsHolds m.limit x state (holders slot cs + pins_in m.pinning slot)) (sym (hold_kept slot bias)) shown_holds)
         (λ k ne short. (get_or-set_other words (active_index slot) (active_index k) bias 0 (λ e. ne (omega arith)), hold_kept k bias, refl))
@@ -252,7 +252,7 @@ module _ (words : List ℕ) (m : MasterView) (cs : List CallerView) (shows : Sho
         let one = tally-one (is_holder slot) cs c y x.1 (ap (λ (b : Bool). b && not (is_spent y.phase)) (eq-eqb y.key.slot slot its_slot) ∙ ap (λ (p : Phase). not (is_spent p)) its_phase ∙ ap not unspent) in
         omega arith)
 
-    -- a node is born where the active word is fresh
+    -- a node is born if the active word is fresh
     pub birth : m.fresh ≡ Some slot → hold < 18446744073709551616
         → Shows (set words (hold_index slot) ((hold + (one_generation + linked)) % 2 ^ 64))
         (record (on_hold m) { slots = set m.slots slot (record { generation = state.generation + 1; marks = Some fresh_marks }); at_birth = m.loads }) cs
@@ -276,13 +276,13 @@ module _ (words : List ℕ) (m : MasterView) (cs : List CallerView) (shows : Sho
         (nothing_loaded _) (nothing_fresh _) (no_look _)
         (born_keeps (bare_world m cs) key shows.safe (record {
           last = g;
-          unlinked = its ∙ ap (λ (o : Option Marks). let x : SlotState = record { generation = g; marks = o } in Some x) (unlinked_state state.marks gone);
+          unlinked = its ∙ ap (λ (o : Option NodeFlags). let x : SlotState = record { generation = g; marks = o } in Some x) (unlinked_state state.marks gone);
           next = refl;
           unheld = λ c k phase there same. only_spent c k phase there same nobody;
         }))
 
     -- a node leaves the tree, after its word was found drained
-    pub unlink : (x : Marks) (found : ℕ) → state.marks ≡ Some x → m.looked ≡ Some (record { slot = slot; word = found }) → is_drained found ≡ true → hold < 18446744073709551616
+    pub unlink : (x : NodeFlags) (found : ℕ) → state.marks ≡ Some x → m.looked ≡ Some (record { slot = slot; word = found }) → is_drained found ≡ true → hold < 18446744073709551616
         → Shows (set words (hold_index slot) ((hold + (2 ^ 64 - linked)) % 2 ^ 64))
         (record (on_hold m) { slots = set m.slots slot (record { generation = state.generation; marks = None }) }) cs
     unlink x found there was_looked hit small =
@@ -290,7 +290,7 @@ module _ (words : List ℕ) (m : MasterView) (cs : List CallerView) (shows : Sho
         let new : ℕ = (hold + (2 ^ 64 - linked)) % 2 ^ 64 in
         let node : SlotState = record { generation = state.generation; marks = None } in
         let g : ℕ = state.generation in
-        let its_bit : bit (is_some state.marks) linked ≡ 2147483648 = ap (λ (o : Option Marks). bit (is_some o) linked) there in
+        let its_bit : bit (is_some state.marks) linked ≡ 2147483648 = ap (λ (o : Option NodeFlags). bit (is_some o) linked) there in
         let was : hold ≡ g * 4294967296 + bit (is_some state.marks) linked + (holders slot cs + pins_in m.pinning slot) = shown_holds.0 in
         let now : (hold + 18446744071562067968) % 18446744073709551616 ≡ g * 4294967296 + 0 + (holders slot cs + pins_in m.pinning slot) = omega arith in
         let s = shows.marks slot state its in
@@ -305,7 +305,7 @@ module _ (words : List ℕ) (m : MasterView) (cs : List CallerView) (shows : Sho
         (nothing_loaded _) (nothing_fresh _) (no_look _)
         (marks_keep (bare_world m cs) key x None shows.safe known (λ _. refl) (inl d.1))
       where
-        not_both : (o : Option Marks) → are_doomed o ≡ true → are_live o ≡ false
+        not_both : (o : Option NodeFlags) → are_doomed o ≡ true → are_live o ≡ false
         not_both None e = refl
         not_both (Some y) e = off y.activated y.doomed e
           where
@@ -316,7 +316,7 @@ module _ (words : List ℕ) (m : MasterView) (cs : List CallerView) (shows : Sho
             off false false e = refl
 
     -- the marks of the node change with its active word
-    remark : (x : Marks) (change : Marks → Marks) (new : ℕ) → state.marks ≡ Some x → ShowsMarks new (Some (change x)) (users slot cs) (hiders slot cs)
+    remark : (x : NodeFlags) (change : NodeFlags → NodeFlags) (new : ℕ) → state.marks ≡ Some x → ShowsMarks new (Some (change x)) (users slot cs) (hiders slot cs)
         → (e : Event) → core.BareStep (bare_world m cs) e (core.with_marks (bare_world m cs) (last_key slot state) (Some (change x)))
         → Shows (set words (active_index slot) new) (record (on_active m) { slots = set m.slots slot (record { generation = state.generation; marks = Some (change x) }) }) cs
     remark x change new there is e event =
@@ -326,13 +326,13 @@ module _ (words : List ℕ) (m : MasterView) (cs : List CallerView) (shows : Sho
         (length-set words (active_index slot) new)
         (subst (λ (y : ℕ). ShowsMarks y (Some (change x)) (users slot cs) (hiders slot cs)) (sym (get_or-set_same words (active_index slot) new 0 (omega arith))) is)
         (subst (λ (y : ℕ). ShowsHolds m.limit y node (holders slot cs + pins_in m.pinning slot)) (sym (hold_kept slot new))
-        (shown_holds.0 ∙ ap (λ (o : Option Marks). state.generation * one_generation + bit (is_some o) linked + (holders slot cs + pins_in m.pinning slot)) there, shown_holds.1))
+        (shown_holds.0 ∙ ap (λ (o : Option NodeFlags). state.generation * one_generation + bit (is_some o) linked + (holders slot cs + pins_in m.pinning slot)) there, shown_holds.1))
         (λ k ne short. (get_or-set_other words (active_index slot) (active_index k) new 0 (λ e. ne (omega arith)), hold_kept k new, refl))
         (λ i load e. subst (λ (y : ℕ). StillHolds m.limit load.word y) (sym (hold_kept load.slot new)) (shows.loads i load e))
         (nothing_fresh _) (no_look _)
         (step_keeps (bare_world m cs) e (core.with_marks (bare_world m cs) (last_key slot state) (Some (change x))) shows.safe event)
 
-    pub marks_known : (x : Marks) → state.marks ≡ Some x → marks (bare_world m cs) (last_key slot state) ≡ Some x
+    pub marks_known : (x : NodeFlags) → state.marks ≡ Some x → marks (bare_world m cs) (last_key slot state) ≡ Some x
     marks_known x there = ap (λ o. marks_in o state.generation) its ∙ shown state.generation state.marks ∙ there
 
     pub rise : state.marks ≡ Some fresh_marks → Shows (set words (active_index slot) ((active_word words slot + (2 ^ 64 - bias)) % 2 ^ 64)) (record (on_active m) { slots = set m.slots slot (record { generation = state.generation; marks = Some live_marks }) }) cs
@@ -340,7 +340,7 @@ module _ (words : List ℕ) (m : MasterView) (cs : List CallerView) (shows : Sho
         let n : ℕ = users slot cs in
         let word : ℕ = active_word words slot in
         let h : ℕ = hiders slot cs in
-        let s : ShowsMarks word (Some fresh_marks) n h = subst (λ (o : Option Marks). ShowsMarks word o n h) there (shows.marks slot state its) in
+        let s : ShowsMarks word (Some fresh_marks) n h = subst (λ (o : Option NodeFlags). ShowsMarks word o n h) there (shows.marks slot state its) in
         let plain : bit s.0 doom ≡ 0 = ap (λ (b : Bool). bit b doom) (s.2 refl) in
         let few = users_few in
         let one = s.3 in
@@ -348,13 +348,13 @@ module _ (words : List ℕ) (m : MasterView) (cs : List CallerView) (shows : Sho
         let now : (word + 18446744069414584320) % 18446744073709551616 ≡ n + 0 + 0 + h * hide = omega arith in
         remark fresh_marks activated_marks _ there (false, now, (λ _. refl), s.3) (Rise (last_key slot state)) (marks_known fresh_marks there, refl)
 
-    pub mark_node : (x : Marks) (k : ℕ) → state.marks ≡ Some x → x.doomed ≡ false → k ≡ bit x.activated bias + doom
+    pub mark_node : (x : NodeFlags) (k : ℕ) → state.marks ≡ Some x → x.doomed ≡ false → k ≡ bit x.activated bias + doom
         → Shows (set words (active_index slot) ((active_word words slot + k) % 2 ^ 64)) (record (on_active m) { slots = set m.slots slot (record { generation = state.generation; marks = Some (doomed_marks x) }) }) cs
     mark_node x k there undoomed bits =
         let n : ℕ = users slot cs in
         let word : ℕ = active_word words slot in
         let h : ℕ = hiders slot cs in
-        let s : ShowsMarks word (Some x) n h = subst (λ (o : Option Marks). ShowsMarks word o n h) there (shows.marks slot state its) in
+        let s : ShowsMarks word (Some x) n h = subst (λ (o : Option NodeFlags). ShowsMarks word o n h) there (shows.marks slot state its) in
         remark x doomed_marks _ there (true, marked_word x.activated x.doomed s.0 n h word k undoomed (s.2 refl) users_few s.3 s.1 bits, (λ _. refl), s.3) (Mark (last_key slot state)) (x, marks_known x there, undoomed, refl)
       where
         marked_word : (a d d' : Bool) (n h word k : ℕ) → d ≡ false → d' ≡ d → n ≤ 65535 → h ≤ 1 → word ≡ n + bit (not (a && not d)) bias + bit d' doom + h * hide → k ≡ bit a bias + doom → (word + k) % 18446744073709551616 ≡ n + bit (not (a && false)) bias + doom + h * hide

@@ -7,7 +7,7 @@ use native.Mathlib.Decide.{ℕ_discrete}
 use Rattle.kf_core.specs.declared.key.Key.{Key}
 use Rattle.kf_core.specs.declared.event.Event.{Event}
 use Rattle.kf_core.specs.declared.event.Event.TheVariants.{Born, Rise, Mark, Move, Pin, Enter, Leave, Break, Restore, Look, Unlink, Part, Hide, LookHidden, Show, Release, Undo}
-use Rattle.kf_core.specs.declared.slot.Marks.{Marks}
+use Rattle.kf_core.specs.declared.slot.NodeFlags.{NodeFlags}
 use Rattle.kf_core.specs.declared.slot.SlotState.{SlotState}
 use Rattle.kf_core.specs.Bare.{BareWorld, marks, marks_in, is_linked}
 use Rattle.kf_core.specs.Marks.{fresh_marks, live_marks}
@@ -28,7 +28,7 @@ pub record Gone (w : BareWorld) (k : Key) : Type 0 where
   pub come : k.generation ≤ last.generation
   pub out : last.generation ≡ k.generation → last.marks ≡ None
 
-gone_written : (w : BareWorld) (key k : Key) (m : Option Marks) (p : SlotState) → slice_get w.slots key.slot ≡ Some p → (k.slot ≡ key.slot → (h : Gone w k) → h.last ≡ p → k.generation < key.generation) → Gone w k → Gone (with_marks w key m) k
+gone_written : (w : BareWorld) (key k : Key) (m : Option NodeFlags) (p : SlotState) → slice_get w.slots key.slot ≡ Some p → (k.slot ≡ key.slot → (h : Gone w k) → h.last ≡ p → k.generation < key.generation) → Gone w k → Gone (with_marks w key m) k
 gone_written w key k m p is later h = dite (ℕ_discrete k.slot key.slot)
     (λ e.
     let one : h.last ≡ p = same_Some _ _ (sym h.there ∙ ap (λ (i : ℕ). slice_get w.slots i) e ∙ is) in
@@ -47,14 +47,14 @@ gone_written w key k m p is later h = dite (ℕ_discrete k.slot key.slot)
     })
 
 -- a linked node is another
-gone_linked : (w : BareWorld) (key k : Key) (m : Marks) (m' : Option Marks) → marks w key ≡ Some m → Gone w k → Gone (with_marks w key m') k
+gone_linked : (w : BareWorld) (key k : Key) (m : NodeFlags) (m' : Option NodeFlags) → marks w key ≡ Some m → Gone w k → Gone (with_marks w key m') k
 gone_linked w key k m m' e =
     gone_written w key k m' (slot_state key.generation (Some m)) (in_place (slice_get w.slots key.slot) key.generation m e)
     (λ same h one. dite (ℕ_discrete k.generation key.generation)
     (λ g. absurd (none-some m (sym (h.out (ap (λ (x : SlotState). x.generation) one ∙ sym g)) ∙ ap (λ (x : SlotState). x.marks) one)))
     (λ ne. let c = h.come in let g : h.last.generation ≡ key.generation = ap (λ (x : SlotState). x.generation) one in omega (arith, ne, c, g)))
 
-gone_born : (w : BareWorld) (key k : Key) (m : Option Marks) → MayBeBorn w key → Gone w k → Gone (with_marks w key m) k
+gone_born : (w : BareWorld) (key k : Key) (m : Option NodeFlags) → MayBeBorn w key → Gone w k → Gone (with_marks w key m) k
 gone_born w key k m may = gone_written w key k m (slot_state may.last None) may.unlinked
     (λ same h one. let c = h.come in let g : h.last.generation ≡ may.last = ap (λ (x : SlotState). x.generation) one in let n = may.next in omega (arith, c, g, n))
 
@@ -76,7 +76,7 @@ gone_step w (Leave c) w' k s h = gone_still w w' k (slots_of w w' _ s.4 refl) h
 gone_step w (Break c) w' k s h = gone_still w w' k (slots_of w w' _ s.2 refl) h
 gone_step w (Restore c) w' k s h = gone_still w w' k (slots_of w w' _ s.2 refl) h
 gone_step w (Look c) w' k s h = gone_still w w' k (slots_of w w' _ s.1 refl) h
-gone_step w (Unlink c) w' k s h = let m : (m : Marks) × (marks w s.0 ≡ Some m) = linked_marks (marks w s.0) s.2 in subst (λ x. Gone x k) (sym s.3) (gone_linked w s.0 k m.0 None m.1 h)
+gone_step w (Unlink c) w' k s h = let m : (m : NodeFlags) × (marks w s.0 ≡ Some m) = linked_marks (marks w s.0) s.2 in subst (λ x. Gone x k) (sym s.3) (gone_linked w s.0 k m.0 None m.1 h)
 gone_step w (Part c) w' k s h = gone_still w w' k (slots_of w w' _ s.1 refl) h
 gone_step w (Hide c) w' k s h = gone_still w w' k (slots_of w w' _ s.1 refl) h
 gone_step w (LookHidden c) w' k s h = gone_still w w' k (slots_of w w' _ s.1 refl) h
@@ -99,7 +99,7 @@ gone_for_good slots limit kinds t u k g r = run_holds (λ x. Gone x k) (λ x e y
 
 pub gone_unlinked : (w : BareWorld) (k : Key) → Gone w k → is_linked w k ≡ true → ⊥
 gone_unlinked w k h node =
-    let x : (m : Marks) × (marks w k ≡ Some m) = linked_marks (marks w k) node in
+    let x : (m : NodeFlags) × (marks w k ≡ Some m) = linked_marks (marks w k) node in
     let is = in_place (slice_get w.slots k.slot) k.generation x.0 x.1 in
     let one : h.last ≡ slot_state k.generation (Some x.0) = same_Some _ _ (sym h.there ∙ is) in
     none-some x.0 (sym (h.out (ap (λ (y : SlotState). y.generation) one)) ∙ ap (λ (y : SlotState). y.marks) one)
@@ -112,12 +112,12 @@ unlinked_gone w k h none = record {
   out = λ g. no_marks h.last.marks (sym (ap is_some (ap (λ (o : Option SlotState). marks_in o k.generation) h.there ∙ ap (λ (b : Bool). if b then h.last.marks else None) (eq-eqb h.last.generation k.generation g))) ∙ none);
 }
   where
-    no_marks : (o : Option Marks) → is_some o ≡ false → o ≡ None
+    no_marks : (o : Option NodeFlags) → is_some o ≡ false → o ≡ None
     no_marks None e = refl
     no_marks (Some x) e = absurd (let y : true ≡ false = e in cc)
 
 -- a linked key's slot is at its generation, with a node
-pub linked_here : (w : BareWorld) (k : Key) → is_linked w k ≡ true → (m : Marks) × (slice_get w.slots k.slot ≡ Some (slot_state k.generation (Some m)))
+pub linked_here : (w : BareWorld) (k : Key) → is_linked w k ≡ true → (m : NodeFlags) × (slice_get w.slots k.slot ≡ Some (slot_state k.generation (Some m)))
 linked_here w k node =
-    let x : (m : Marks) × (marks w k ≡ Some m) = linked_marks (marks w k) node in
+    let x : (m : NodeFlags) × (marks w k ≡ Some m) = linked_marks (marks w k) node in
     (x.0, in_place (slice_get w.slots k.slot) k.generation x.0 x.1)

@@ -16,7 +16,7 @@ use Rattle.kf_words.specs.declared.view.View.TheVariants as seat
 use Rattle.kf_words.specs.Layout.{active_index, hold_index, sleepers_index, node_index}
 use Rattle.kf_words.specs.Rule.{Shown}
 use Rattle.kf_words.specs.Steps.{master_of, state_at, no_state, after_split, new_hold, after_share}
-use Rattle.kf_words.specs.TableSteps.{Table, StepKind, master_in, WordStep, tries, undoes, leaves, breaks, restores, looks, parts, hides, looks_hidden, shows, releases, misses, counts, shares, sleeps, awakes, loads_hold, pins_hold, unpins_hold, splits, stores_fresh, births, takes_bias, marks_node, looks_over, unlinks, misses_at, counts_at, hands_on, stores_node, reads_node, notes, reports, answers, compares}
+use Rattle.kf_words.specs.TableSteps.{Table, StepKind, master_in, WordStep, tries, undoes, leaves, breaks, restores, looks, parts, hides, looks_hidden, shows, releases, misses, counts, shares, sleeps, awakes, loads_sleepers, loads_hold, pins_hold, unpins_hold, splits, stores_fresh, births, takes_bias, marks_node, looks_over, unlinks, misses_at, counts_at, hands_on, stores_node, reads_node, notes, reports, answers, compares}
 use Rattle.kf_words.specs.NodeWords.{NodeNotes, noted_by}
 
 -- a step that puts no word of a node, and is no birth
@@ -38,8 +38,9 @@ plain (releases j) = true
 plain (misses j) = true
 plain (counts j) = true
 plain (shares j) = true
-plain (sleeps j) = true
-plain (awakes j) = true
+plain (sleeps slot j) = true
+plain (awakes slot j) = true
+plain (loads_sleepers slot j) = true
 plain (loads_hold j) = true
 plain (pins_hold j) = true
 plain (unpins_hold j) = true
@@ -77,8 +78,9 @@ unnoted (releases j) e w = refl
 unnoted (misses j) e w = refl
 unnoted (counts j) e w = refl
 unnoted (shares j) e w = refl
-unnoted (sleeps j) e w = refl
-unnoted (awakes j) e w = refl
+unnoted (sleeps slot j) e w = refl
+unnoted (awakes slot j) e w = refl
+unnoted (loads_sleepers slot j) e w = refl
 unnoted (loads_hold j) e w = refl
 unnoted (pins_hold j) e w = refl
 unnoted (unpins_hold j) e w = refl
@@ -116,8 +118,9 @@ which (releases j) = inl refl
 which (misses j) = inl refl
 which (counts j) = inl refl
 which (shares j) = inl refl
-which (sleeps j) = inl refl
-which (awakes j) = inl refl
+which (sleeps slot j) = inl refl
+which (awakes slot j) = inl refl
+which (loads_sleepers slot j) = inl refl
 which (loads_hold j) = inl refl
 which (pins_hold j) = inl refl
 which (unpins_hold j) = inl refl
@@ -146,7 +149,7 @@ pub record Leaves (t t' : Table) : Type 0 where
   pub nodes : (slot : ℕ) (state : SlotState) → slice_get (slots_in t') slot ≡ Some state
       → (old : SlotState) × (slice_get (slots_in t) slot ≡ Some old) × (old.generation ≡ state.generation) × (is_some state.marks ≡ true → is_some old.marks ≡ true)
 
--- where the Master's slots are the same
+-- if the Master's slots are the same
 same_nodes : (l l' : List SlotState) → l' ≡ l → (slot : ℕ) (state : SlotState) → slice_get l' slot ≡ Some state
     → (old : SlotState) × (slice_get l slot ≡ Some old) × (old.generation ≡ state.generation) × (is_some state.marks ≡ true → is_some old.marks ≡ true)
 same_nodes l l' e slot state at = (state, ap (λ (x : List SlotState). slice_get x slot) (sym e) ∙ at, refl, (λ h. h))
@@ -232,7 +235,7 @@ by_master t t' i n m m' there apart becomes wide nodes =
           (r.0, ap (λ (l : List SlotState). slice_get l slot) before ∙ r.1, r.2, r.3);
     }
 
--- the state of one slot is written, with its generation, and with a node only where it had one
+-- the state of one slot is written, with its generation, and with a node only if it had one
 one_written : (l : List SlotState) (s : ℕ) (was new : SlotState) → slice_get l s ≡ Some was → was.generation ≡ new.generation → (is_some new.marks ≡ true → is_some was.marks ≡ true)
     → (slot : ℕ) (state : SlotState) → slice_get (set l s new) slot ≡ Some state
     → (old : SlotState) × (slice_get l slot ≡ Some old) × (old.generation ≡ state.generation) × (is_some state.marks ≡ true → is_some old.marks ≡ true)
@@ -251,7 +254,7 @@ on_hold k slot place few e = omega (arith, few, e)
 on_sleepers : (k slot place : ℕ) → place < 5 → node_index place slot ≢ sleepers_index k
 on_sleepers k slot place few e = omega (arith, few, e)
 
--- the state that a slot is read to have, where it is known
+-- the state that a slot is read to have, if it is known
 pub state_is : (m : MasterView) (slot : ℕ) (state : SlotState) → slice_get m.slots slot ≡ Some state → state_at m slot ≡ state
 state_is m slot state its = get_or_from_slice_get m.slots slot state no_state its
 
@@ -272,8 +275,9 @@ leaves_alone slots limit t (parts j) t' h e s = by_caller t t' _ _ j _ (on_hold 
 leaves_alone slots limit t (releases j) t' h e s = by_caller t t' _ _ j _ (on_hold s.0.key.slot) s.2.becomes
 leaves_alone slots limit t (misses j) t' h e s = by_caller t t' _ _ j _ (on_hold s.0.key.slot) s.2.becomes
 leaves_alone slots limit t (counts j) t' h e s = by_caller t t' _ _ j _ (on_hold s.0.key.slot) s.2.becomes
-leaves_alone slots limit t (sleeps j) t' h e s = by_caller t t' _ _ j _ (on_sleepers s.0.key.slot) s.2.becomes
-leaves_alone slots limit t (awakes j) t' h e s = by_caller t t' _ _ j _ (on_sleepers s.0.key.slot) s.2.becomes
+leaves_alone slots limit t (sleeps slot j) t' h e s = by_caller t t' _ _ j _ (on_sleepers s.0.key.slot) s.2.becomes
+leaves_alone slots limit t (awakes slot j) t' h e s = by_caller t t' _ _ j _ (on_sleepers s.0.key.slot) s.2.becomes
+leaves_alone slots limit t (loads_sleepers slot j) t' h e s = by_caller t t' _ _ j _ (on_sleepers s.0.key.slot) s.2.becomes
 leaves_alone slots limit t (misses_at slot j) t' h e s = by_caller t t' _ _ j _ (on_hold slot) s.2.becomes
 leaves_alone slots limit t (counts_at slot j) t' h e s = by_caller t t' _ _ j _ (on_hold slot) s.2.becomes
 leaves_alone slots limit t (reads_node slot place j) t' h e s = by_load t t' _ j _ s.2.becomes

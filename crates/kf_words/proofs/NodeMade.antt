@@ -1,4 +1,4 @@
--- A word of a node that the Master puts is the next step of the one run, and tells which word, and the number.
+-- A word of a node that the Master puts is the next step of the one run, and says which word, and the number.
 use Rattle.std.proofs.Common.{◌≡◌, ℕ, ◌<◌, [], length, refl, sym, subst, arith}
 use Rattle.std.specs.Prelude.{Some}
 use mathlib.Core.Option.{none}

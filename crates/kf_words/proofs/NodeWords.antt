@@ -58,7 +58,7 @@ noted_birth w slots limit t t' s step h =
           ∙ ap (λ (b : Bool). if b then w.now slot place else w.born slot place) (sym (ne_eqb slot s ne)));
     }
 
--- where the slot's active word is fresh, no node is linked there
+-- if the slot's active word is fresh, no node is linked there
 fresh_unlinked : (slots limit : ℕ) (t : Table) (h : Shown slots limit t) (s : ℕ) (state : SlotState) → h.master.fresh ≡ Some s → slice_get h.master.slots s ≡ Some state → is_some state.marks ≡ false
 fresh_unlinked slots limit t h s state fresh its = (unheld t.words h.master h.callers h.shows s state its (h.shows.fresh s fresh).2).2
 

@@ -32,7 +32,7 @@ pub nothing_more : {A : Type 0} (xs ys : List A) → xs ++ ys ≡ xs → ys ≡ 
 nothing_more [] ys e = e
 nothing_more (x ∷ xs) ys e = nothing_more xs ys (ap tail_of e)
 
--- the first of a list stays so where one more is put behind
+-- the first of a list stays so if one more is put behind
 pub first_stays : {A : Type 0} (l : List A) (x y : A) → get_elem? (l ++ x ∷ []) 0 ≡ some y → (k : ℕ) (z : A) → get_elem? l k ≡ some z → get_elem? l 0 ≡ some y
 first_stays [] x y e k z there = absurd (some-ne-none z (sym there))
 first_stays (w ∷ ws) x y e k z there = e

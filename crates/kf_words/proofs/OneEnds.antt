@@ -6,14 +6,14 @@ use mathlib.Core.Option.{some, some-injective}
 use lib.ListN.{get_elem?}
 use Rattle.atomic_table.specs.Table.{stepped, keeps}
 use Rattle.kf_core.specs.declared.key.Key.{Key}
-use Rattle.kf_core.specs.declared.slot.Marks.{Marks}
+use Rattle.kf_core.specs.declared.slot.NodeFlags.{NodeFlags}
 use Rattle.kf_core.specs.declared.slot.SlotState.{SlotState}
 use Rattle.kf_core.specs.declared.caller.Phase.TheVariants.{Running, Broken, Drained, Hiding, Hidden}
 use Rattle.kf_core.specs.Marks.{fresh_marks}
 use Rattle.kf_words.specs.declared.view.CallerView.{CallerView}
 use Rattle.kf_words.specs.declared.view.MasterView.{MasterView}
 use Rattle.kf_words.specs.declared.view.View.TheVariants as seat
-use Rattle.kf_words.specs.TableSteps.{Table, StepKind, CallerPlays, MasterPlays, MasterSplits, CallerShares, WordStep, WordRun, tries, undoes, leaves, breaks, restores, looks, parts, hides, looks_hidden, shows, releases, misses, counts, shares, sleeps, awakes, loads_hold, pins_hold, unpins_hold, splits, stores_fresh, births, takes_bias, marks_node, looks_over, unlinks, notes, reports, answers, compares, CallerReports, MasterAnswers, plus, minus, same, with_hide, HasUndoDue, MayRelease, MayCount, MaySleep, SeesRoom, HasPin, SeesFree, HasFresh, IsUndoomed, SeesDrained, CallerPlaysAt, CallerLoads, CallerHandsOn, misses_at, counts_at, hands_on, stores_node, reads_node, MayCountAt, MayNote}
+use Rattle.kf_words.specs.TableSteps.{Table, StepKind, CallerPlays, MasterPlays, MasterSplits, CallerShares, WordStep, WordRun, tries, undoes, leaves, breaks, restores, looks, parts, hides, looks_hidden, shows, releases, misses, counts, shares, sleeps, awakes, loads_sleepers, loads_hold, pins_hold, unpins_hold, splits, stores_fresh, births, takes_bias, marks_node, looks_over, unlinks, notes, reports, answers, compares, CallerReports, MasterAnswers, plus, minus, same, with_hide, HasUndoDue, MayRelease, MayCount, IsAt, SeesRoom, HasPin, SeesFree, HasFresh, IsUndoomed, SeesDrained, CallerPlaysAt, CallerLoads, CallerHandsOn, misses_at, counts_at, hands_on, stores_node, reads_node, MayCountAt, MayNote}
 use Rattle.kf_words.specs.Steps.{after_try, after_undo, after_leave, after_break, after_restore, after_look, after_part, after_hide, after_look_hidden, after_show, after_release, after_miss, after_count, after_share, new_hold, unmoved, with_load, with_pin, without_pin, after_store, with_birth, with_look, without_node, unread, with_marks, activated_marks, doomed_marks, after_split, hold_for, spent_hold, state_at, after_count_at, kept}
 use Rattle.kf_words.specs.Rule.{last_key}
 use Rattle.kf_words.specs.Layout.{bit, bias, doom, hide, linked, one_generation, active_index, hold_index, sleepers_index, node_index}
@@ -86,7 +86,7 @@ module _ (t u v : Table) where
       ∙ sym q.5
 
 -- the marks of a slot are one
-one_marks : (slot : ℕ) (m m' : MasterView) (x y : Marks) → IsUndoomed slot x m → IsUndoomed slot y m' → m ≡ m' → x ≡ y
+one_marks : (slot : ℕ) (m m' : MasterView) (x y : NodeFlags) → IsUndoomed slot x m → IsUndoomed slot y m' → m ≡ m' → x ≡ y
 one_marks slot m m' x y a b is =
     let state : SlotState = a.0.0 in
     let state' : SlotState = b.0.0 in
@@ -108,8 +108,9 @@ one_step t u v (releases j) p q = by_caller t u v after_release MayRelease hold_
 one_step t u v (misses j) p q = by_caller t u v after_miss IsAtRest hold_index same j p q
 one_step t u v (counts j) p q = by_caller t u v after_count (MayCount t) hold_index (plus 1) j p q
 one_step t u v (shares j) p q = by_share t u v j p q
-one_step t u v (sleeps j) p q = by_caller t u v unmoved MaySleep sleepers_index (plus 1) j p q
-one_step t u v (awakes j) p q = by_caller t u v unmoved MaySleep sleepers_index (minus 1) j p q
+one_step t u v (sleeps slot j) p q = by_caller t u v unmoved (IsAt slot) sleepers_index (plus 1) j p q
+one_step t u v (awakes slot j) p q = by_caller t u v unmoved (IsAt slot) sleepers_index (minus 1) j p q
+one_step t u v (loads_sleepers slot j) p q = by_caller t u v unmoved (IsAt slot) sleepers_index same j p q
 one_step t u v (loads_hold slot) p q = by_master t u v with_load (λ m. slot < length m.slots) hold_index same slot p q
 one_step t u v (pins_hold slot) p q = by_master t u v (unread with_pin) (SeesRoom slot) hold_index (plus 1) slot p q
 one_step t u v (unpins_hold slot) p q = by_master t u v (unread without_pin) (HasPin slot) hold_index (minus 1) slot p q
@@ -132,7 +133,7 @@ one_step t u v (marks_node slot) p q =
     let master : p.1.0 ≡ q.1.0 = one_master t u v p.1.0 q.1.0 p.1.2.there q.1.2.there in
     let marks : p.0 ≡ q.0 = one_marks slot p.1.0 q.1.0 p.0 q.0 p.1.1 q.1.1 master in
     by_master t u v (unread (with_marks doomed_marks)) (IsUndoomed slot q.0) active_index (plus (bit q.0.activated bias + doom)) slot
-    (subst (λ (x : Marks). MasterPlays (unread (with_marks doomed_marks)) (IsUndoomed slot x) active_index (plus (bit x.activated bias + doom)) t slot u) marks p.1) q.1
+    (subst (λ (x : NodeFlags). MasterPlays (unread (with_marks doomed_marks)) (IsUndoomed slot x) active_index (plus (bit x.activated bias + doom)) t slot u) marks p.1) q.1
 
 pub one_end : OneEnd
 one_end t u v [] p q = p ∙ sym q

@@ -50,7 +50,7 @@ same_shown slots limit s t words views h = record {
   shows = subst (λ (l : List ℕ). Shows l h.master h.callers) (sym words) h.shows;
 }
 
--- what the table asks of each kind of step, for the one view that it tells
+-- what the table asks of each kind of step, for the one view that it says
 pub by_play : (slots limit place word : ℕ) (f : ℕ → ℕ) (t t' : Table) (before after : View) (told : ℕ → Seated → Type 0)
     → Allows (Shown slots limit) (length t.homes) place (before, []) word f told
     → Shown slots limit t → get_elem? t.views place ≡ some before → slice_index t.words word < 18446744073709551616

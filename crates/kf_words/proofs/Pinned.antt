@@ -118,7 +118,7 @@ module _ (o : Opening) (homes id : ℕ) (me : Sighted) (is : plain me ≡ (seat.
             ∙ ap (λ (x : Option Key). let y : Table = record { words = t.words; homes = t.homes; views = set e.views (suc p.0) (seat.Caller (after_share my)) ++ seat.Caller (hold_on x) ∷ [] } in y) pinned,
       )
 
--- what an exchange tells of its seat, where it found the word that it expected and where it did not
+-- what an exchange says of its seat, if it found the word that it expected and if it did not
 module _ (slot old found : ℕ) (me me' : Sighted) (is : plain me ≡ (seat.Caller (caller_of me.0.view), [])) (told : plain me' ≡ (seat.Caller (after_exchange_at slot old found (caller_of me.0.view)), (plain me).1)) where
   view_is : caller_of me'.0.view ≡ after_exchange_at slot old found (caller_of me.0.view)
   view_is = ap (λ (x : Seated). caller_of x.0) told

@@ -25,7 +25,7 @@ passed_limit m m' slot s = ap (λ (x : MasterView). x.limit) s.2 ∙ with_loads_
 pub passed_pinning : (m m' : MasterView) (slot : ℕ) → HasPassed m slot m' → m'.pinning ≡ m.pinning
 passed_pinning m m' slot s = ap (λ (x : MasterView). x.pinning) s.2 ∙ with_loads_pinning s.0 m
 
--- a slot is unlinked at the first view where it is at a later one of the search
+-- a slot is unlinked at the first view if it is at a later one of the search
 at_first : (m m' : MasterView) (slot i : ℕ) (b : Bool) → HasPassed m slot m' → is_unlinked m'.slots i ≡ b → is_unlinked m.slots i ≡ b
 at_first m m' slot i b s e = ap (λ (l : List SlotState). is_unlinked l i) (sym (passed_slots m m' slot s)) ∙ e
 
@@ -41,7 +41,7 @@ loads_more m m' m'' slot word unlinked taken is s =
     subst (λ (n : ℕ). HasPassed m n m'') e
     (s.0 ++ load ∷ [], inr (at_first m m' slot slot true s unlinked, s.0, word, taken, refl, s.1), is ∙ ap (λ (x : MasterView). with_load slot word x) s.2 ∙ sym (with_loads_more s.0 load m))
 
--- so many slots that all have nodes
+-- this many slots that all have nodes
 passes_over : (m m' : MasterView) (slot count : ℕ) → ((i : ℕ) → slot ≤ i → i < slot + count → is_unlinked m'.slots i ≡ false) → HasPassed m slot m' → HasPassed m (slot + count) m'
 passes_over m m' slot zero all s = let e : slot ≡ slot + 0 = omega arith in subst (λ (n : ℕ). HasPassed m n m') e s
 passes_over m m' slot (suc count) all s =
@@ -150,7 +150,7 @@ full_linked many full slots i state linked old slot marked =
     (λ lacks. lacks_not (slice_get (slice_set slots i state) slot) (λ y is. elim (after_set slots i slot state y is) [ inl h ↦ ap (λ (s : SlotState). is_some s.marks) (sym h) ∙ linked | inr h ↦ has_node (slice_get slots slot) y h lacks ]))
     (old slot marked)
 
--- where a node leaves its slot, the mark is taken away
+-- if a node leaves its slot, the mark is taken away
 full_left : (many : ℕ) (full : List Bool) (slots : List SlotState) (i : ℕ) (state : SlotState) → AreFull many full slots → AreFull many (slice_set full (i / many) false) (slice_set slots i state)
 full_left many full slots i state old slot marked =
     let untouched : ((i / many) ≢ (slot / many)) → slice_get full (slot / many) ≡ Some true → is_unlinked (slice_set slots i state) slot ≡ false = λ differs was.
@@ -219,7 +219,7 @@ marked_on full full' full_groups slots old blocks as_many =
     let few = old.few in
     record { blocks = blocks; groups = old.groups; covered = omega arith; grouped = omega arith; few = omega arith }
 
--- a group is marked where each slot of its blocks was seen to have a node
+-- a group is marked if each slot of its blocks was seen to have a node
 pub marked_group : (full full_groups : List Bool) (slots : List SlotState) (group : ℕ) (all : Bool) → AreMarked full full_groups slots → (all ≡ true → (i : ℕ) → group ≡ i / 8192 → is_unlinked slots i ≡ false) → AreMarked full (slice_set full_groups group all) slots
 marked_group full full_groups slots group all old seen =
     let many = length-set full_groups group all in

@@ -65,7 +65,7 @@ tally-one p [] j c e h = absurd (some-ne-none c (sym e))
 tally-one p (x ∷ xs) zero c e h = let is : bit (p x) 1 ≡ 1 = ap (λ (b : Bool). bit b 1) (ap p (some-injective x c e) ∙ h) in omega arith
 tally-one p (x ∷ xs) (suc j) c e h = let r = tally-one p xs j c e h in omega arith
 
--- where the count is not 0, somebody passes
+-- if the count is not 0, somebody passes
 pub tally-some : (p : CallerView → Bool) (cs : List CallerView) → 1 ≤ tally p cs → (j : ℕ) × (c : CallerView) × (get_elem? cs j ≡ some c) × (p c ≡ true)
 tally-some p [] h = absurd (omega arith)
 tally-some p (x ∷ xs) h = elim (p x) as (λ b. p x ≡ b → (j : ℕ) × (c : CallerView) × (get_elem? (x ∷ xs) j ≡ some c) × (p c ≡ true)) [

@@ -62,7 +62,7 @@ module _ (m : MasterView) (cs : List CallerView) (j : ℕ) (c : CallerView) (at 
     on true = refl
     on false = refl
 
-    -- who is counted but for what the caller counted is so still, and the new seat besides
+    -- who is counted except what the caller counted is so still, and the new seat besides
     counted : (p : CallerView → Bool) → p (after_share c) ≡ p c → tally p shared ≡ tally p cs + bit (p new) 1
     counted p same =
         let a = tally-set p cs j c (after_share c) at in

@@ -1,4 +1,4 @@
--- A caller tells the Master what it has seen, and is told what the Master has.
+-- A caller reports to the Master what it has seen, and hears what the Master has.
 use Rattle.std.proofs.Common.{◌≡◌, ◌≢◌, ℕ, zero, suc, List, [], ◌∷◌, ◌++◌, refl, sym, ap, ◌∙◌, subst}
 use mathlib.Core.Option.{some}
 use lib.ListN.{get_elem?}

@@ -5,7 +5,7 @@ use Rattle.kf_core.specs.declared.caller.Caller.{Caller}
 use Rattle.kf_core.specs.declared.caller.Phase.{Phase}
 use Rattle.kf_core.specs.declared.slot.SlotState.{SlotState}
 use Rattle.kf_core.specs.declared.key.Key.{Key}
-use Rattle.kf_core.specs.declared.slot.Marks.{Marks}
+use Rattle.kf_core.specs.declared.slot.NodeFlags.{NodeFlags}
 use Rattle.kf_core.specs.Bare.{BareWorld, marks, marks_in, is_hidden}
 use Rattle.kf_core.specs.Marks.{are_live}
 use Rattle.kf_core.specs.Phases.{has_reference, is_hiding, saw_unused}
@@ -84,7 +84,7 @@ lets_in_the_live slots limit t shown slot state its =
     let world : BareWorld = bare_world shown.master shown.callers in
     let known : marks world key ≡ state.marks = ap (λ o. marks_in o state.generation) its ∙ at_place state.generation state.marks in
     ap (λ (b : Bool). b || has_hide (active_word t.words slot)) told.0 ∙ ap (λ (b : Bool). not (are_live state.marks) || b) told.1 ∙ either (are_live state.marks) (is_hidden world key)
-    ∙ ap (λ (o : Option Marks). not (are_live o && not (is_hidden world key))) (sym known)
+    ∙ ap (λ (o : Option NodeFlags). not (are_live o && not (is_hidden world key))) (sym known)
   where
     either : (a b : Bool) → (not a || b) ≡ not (a && not b)
     either true true = refl
@@ -105,7 +105,7 @@ no_reference m cs slot state empty c phase is = no (has_reference phase) (λ cou
     no true h = absurd (h refl)
     no false h = refl
 
--- where a word is not used, nobody has a reference to the last key of its slot
+-- if a word is not used, nobody has a reference to the last key of its slot
 pub unused_is_unused : (slots limit : ℕ) (t : State (Unit {0}) View) (shown : Shown slots limit t) (slot : ℕ) (state : SlotState) → slice_get shown.master.slots slot ≡ Some state → is_unused (active_word t.words slot) ≡ true → NoReference (bare_world shown.master shown.callers) (last_key slot state)
 unused_is_unused slots limit t shown slot state its hit =
     let cs : List CallerView = shown.callers in

@@ -1,4 +1,4 @@
--- The seat in the Master's token is the token as contracts see it: what a step asks or tells of one, it does of both.
+-- The seat in the Master's token is the token as contracts see it: what a step asks or says of one, it does of both.
 use Rattle.std.proofs.Common.{◌≡◌, ℕ, [], sym, ap, ◌∙◌, subst}
 use mathlib.Core.Option.{none}
 use Rattle.atomic_table.specs.Table.{State, Step, step, Allows, Splits, Joins}

@@ -1,27 +1,35 @@
--- What a wait does: one step of a kind, and then another.
-use Rattle.std.proofs.Common.{◌≡◌, ◌≢◌, ℕ, zero, suc, ◌+◌, subst, sym, ◌∙◌, arith}
+-- What a wait does: it looks and rests, and looks again.
+use Rattle.std.proofs.Common.{◌≡◌, ◌≢◌, ℕ, zero, suc, ◌+◌, Bool, refl, ap, subst, sym, ◌∙◌, arith}
+use Rattle.kf_words.specs.declared.view.CallerView.{CallerView}
 use Rattle.kf_words.specs.Callers.{CallerSight}
+use Rattle.kf_words.specs.Layout.{is_drained}
+use Rattle.kf_words.specs.Steps.{after_look}
 use Rattle.kf_words.specs.TableSteps.{StepKind}
-use Rattle.kf_words.specs.Made.{WasMade, WereMade, OnlyMade}
+use Rattle.kf_words.specs.Made.{WasMade, WereMade, LookedAndRested, Rested, Waited}
 use Rattle.kf_words.specs.Another.{WereOutrun}
+use Rattle.kf_words.proofs.Made.{either_found}
 
--- one more of them, after any number
-pub one_more : (kind : ℕ → StepKind) (before between after : CallerSight)
-    → ((count : ℕ) × WereMade kind count before between) → WasMade kind between after
-    → (count : ℕ) × WereMade kind count before after
-one_more kind before between after so_far step = (suc so_far.0, (between, so_far.1, step))
+-- looks and rests, any number of them
+abbrev pub SoFar : (ℕ → StepKind) → (ℕ → Bool) → CallerSight → CallerSight → Type 0
+SoFar kind is_counted before after = (count : ℕ) × LookedAndRested kind is_counted count before after
 
--- and with it there is one at least
-pub at_least_one : (kind : ℕ → StepKind) (before between after : CallerSight)
-    → ((count : ℕ) × WereMade kind count before between) → WasMade kind between after → OnlyMade kind before after
-at_least_one kind before between after so_far step = (so_far.0, (between, so_far.1, step))
+-- one more look, which found this word, and one more rest
+pub one_more : (kind : ℕ → StepKind) (is_counted : ℕ → Bool) (found : ℕ) (before rested looked after : CallerSight)
+    → SoFar kind is_counted before rested → WasMade kind rested looked → looked.view.found ≡ found
+    → Rested (is_counted found) looked after → SoFar kind is_counted before after
+one_more kind is_counted found before rested looked after so_far step its rest =
+    (suc so_far.0, (rested, looked, so_far.1, step, subst (λ (n : ℕ). Rested (is_counted n) looked after) (sym its) rest))
 
--- the same between views that are told in other words
-pub since : (kind : ℕ → StepKind) (start first between last end : CallerSight) → first ≡ start → end ≡ last
-    → ((count : ℕ) × WereMade kind count first between) → WasMade kind between last → OnlyMade kind start end
-since kind start first between last end is_start is_end so_far step =
-    subst (λ x. OnlyMade kind x end) is_start
-    (subst (λ x. OnlyMade kind first x) (sym is_end) (at_least_one kind _ _ _ so_far step))
+-- the word that a look found is in the view after it
+pub found_by_look : (found : ℕ) (before after : CallerView) → after ≡ after_look found before → after.found ≡ found
+found_by_look found before after e = ap (λ (c : CallerView). c.found) e ∙ either_found (is_drained found) _ _ found refl refl
+
+-- the look that ends the wait, between views that are said in other words
+pub since : (kind : ℕ → StepKind) (is_counted : ℕ → Bool) (start first rested last end : CallerSight) → first ≡ start → end ≡ last
+    → SoFar kind is_counted first rested → WasMade kind rested last → Waited kind is_counted start end
+since kind is_counted start first rested last end is_start is_end so_far step =
+    subst (λ x. Waited kind is_counted x end) is_start
+    (subst (λ x. Waited kind is_counted first x) (sym is_end) (so_far.0, rested, so_far.1, step))
 
 -- steps that others outran are steps that counted nothing
 pub outrun_missed : (kind : ℕ → StepKind) (count : ℕ) (before after : CallerSight) → WereOutrun kind count before after → WereMade kind count before after

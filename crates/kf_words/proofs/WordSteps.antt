@@ -7,7 +7,7 @@ use Rattle.atomic_table.specs.Table.{step}
 use Rattle.kf_core.specs.declared.key.Key.{Key}
 use Rattle.kf_core.specs.declared.key.Node.TheVariants.{Dir}
 use Rattle.kf_core.specs.declared.event.Event.TheVariants.{Born, Rise, Mark, Enter, Leave, Break, Restore, Look, Part, Hide, LookHidden, Show, Release, Undo}
-use Rattle.kf_core.specs.declared.slot.Marks.{Marks}
+use Rattle.kf_core.specs.declared.slot.NodeFlags.{NodeFlags}
 use Rattle.kf_core.specs.declared.slot.SlotState.{SlotState}
 use Rattle.kf_core.specs.Bare.{BareWorld}
 use Rattle.kf_core.specs.Marks.{fresh_marks, are_doomed}
@@ -18,7 +18,7 @@ use Rattle.kf_words.specs.declared.view.View.TheVariants as seat
 use Rattle.kf_words.specs.Layout.{bit, bias, doom, hide, linked, one_generation, active_index, hold_index, node_index, is_drained, has_hide, is_unused, has_linked}
 use Rattle.kf_words.specs.Rule.{Shown, bare_world, caller, last_key}
 use Rattle.kf_words.specs.Steps.{Seated, no_state, state_at, after_try, after_undo, after_leave, after_break, after_restore, after_look, after_part, after_hide, after_look_hidden, after_show, after_release, after_miss, with_load, with_pin, without_pin, after_store, with_birth, with_marks, activated_marks, doomed_marks, with_look, without_node, unread, CallerBecomes, On, MasterBecomes, LoadsHold, ShowsKey}
-use Rattle.kf_words.specs.TableSteps.{Table, StepKind, tries, undoes, leaves, breaks, restores, looks, parts, hides, looks_hidden, shows, releases, misses, counts, shares, sleeps, awakes, loads_hold, pins_hold, unpins_hold, splits, stores_fresh, births, takes_bias, marks_node, looks_over, unlinks, notes, reports, answers, compares, plus, minus, same, with_hide, world, WordStep, misses_at, counts_at, hands_on, stores_node, reads_node}
+use Rattle.kf_words.specs.TableSteps.{Table, StepKind, tries, undoes, leaves, breaks, restores, looks, parts, hides, looks_hidden, shows, releases, misses, counts, shares, sleeps, awakes, loads_sleepers, loads_hold, pins_hold, unpins_hold, splits, stores_fresh, births, takes_bias, marks_node, looks_over, unlinks, notes, reports, answers, compares, plus, minus, same, with_hide, world, WordStep, misses_at, counts_at, hands_on, stores_node, reads_node}
 use Rattle.kf_words.proofs.Bits.{bool_cases}
 use Rattle.kf_words.proofs.CallerAllowed.{no_step, try_allowed, undo_allowed, leave_allowed, break_allowed, restore_allowed, look_allowed, release_allowed, part_allowed, miss_allowed, hide_allowed, look_hidden_allowed, show_allowed}
 use Rattle.kf_words.proofs.NodeSteps.{noted}
@@ -137,8 +137,9 @@ word_step slots limit t (stores_node slot place n) t' g s =
     note_goes slots limit t t' g m s.2.there (stores_node slot place n) (node_index place slot) n
     (noted t.words m g.callers (met slots limit t t' g m s.2.there).shows slot place n s.1.1) s.2.becomes
 word_step slots limit t (shares j) t' h s = share_goes slots limit t t' h j s.0 s.2 s.1.0.0 s.1.1 s.3
-word_step slots limit t (sleeps j) t' h s = sleeper_goes slots limit t t' h j s.0 s.2.there (sleeps j) (plus 1) s.2.fits s.2.becomes
-word_step slots limit t (awakes j) t' h s = sleeper_goes slots limit t t' h j s.0 s.2.there (awakes j) (minus 1) s.2.fits s.2.becomes
+word_step slots limit t (sleeps slot j) t' h s = sleeper_goes slots limit t t' h j s.0 s.2.there (sleeps slot j) (plus 1) s.2.fits s.2.becomes
+word_step slots limit t (awakes slot j) t' h s = sleeper_goes slots limit t t' h j s.0 s.2.there (awakes slot j) (minus 1) s.2.fits s.2.becomes
+word_step slots limit t (loads_sleepers slot j) t' h s = sleeper_goes slots limit t t' h j s.0 s.2.there (loads_sleepers slot j) same s.2.fits s.2.becomes
 word_step slots limit t (loads_hold slot) t' g s =
     let m : MasterView = s.0 in
     master_goes slots limit t t' g m s.2.there (loads_hold slot) slot (hold_index slot) same (with_load) (On hold_index LoadsHold (step 0 (hold_index slot) 0 0 none) (seat.Master m, []))
@@ -185,7 +186,7 @@ word_step slots limit t (takes_bias slot) t' g s =
     (λ me' e. slot_view (unread (with_marks activated_marks)) m (slice_index t.words (active_index slot)) (active_index slot) slot me' (active_slot slot (active_index slot) refl) e.1) s.2.fits s.2.becomes
     (happens _ _ _ (Rise key) (rise_is_rise slots limit t (met slots limit t t' g m s.2.there) key (last_marks slots limit t t' g m s.2.there slot s.1.0 (Some fresh_marks) s.1.1 s.1.2)) (λ c e. absurd (let x : Rise key ≡ Enter c = e in cc)))
 word_step slots limit t (marks_node slot) t' g r =
-    let x : Marks = r.0 in
+    let x : NodeFlags = r.0 in
     let s = r.1 in
     let m : MasterView = s.0 in
     let state : SlotState = s.1.0.0 in
@@ -202,7 +203,7 @@ word_step slots limit t (looks_over slot) t' g s =
     (inl refl)
 word_step slots limit t (unlinks slot) t' g s =
     let m : MasterView = s.0 in
-    let x : Marks = s.1.0.0 in
+    let x : NodeFlags = s.1.0.0 in
     let state : SlotState = s.1.0.1.0 in
     let its = s.1.0.1.1 in
     let had = s.1.0.1.2 in

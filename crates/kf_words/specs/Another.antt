@@ -1,4 +1,4 @@
--- What it tells to make another hold from a hold.
+-- What it means to make another hold from a hold.
 use Rattle.std.specs.Prelude.{◌≡◌, ◌≢◌, ◌≤◌, ℕ, zero, suc, ◌+◌, []}
 use Rattle.atomic_table.specs.declared.shared.Seat.{Seat}
 use Rattle.kf_core.specs.declared.caller.Phase.TheVariants.{Still}
@@ -13,7 +13,7 @@ use Rattle.kf_words.specs.Callers.{Handle, CallerSight, seat_view}
 use Rattle.kf_words.specs.TableSteps.{StepKind, misses}
 use Rattle.kf_words.specs.Made.{WasMade, WereMade, WasDoubled}
 
--- the hold is as it was, but for how many steps it made, what the last found, and what it has seen
+-- the hold is as it was, except how many steps it made, what the last found, and what it has seen
 pub record StaysAs (old new : Handle) : Type 0 where
   pub phase : new.phase ≡ old.phase
   pub tries : new.tries ≡ old.tries
@@ -31,7 +31,7 @@ pub record IsAnother (hold other : Handle) : Type 0 where
   pub still : other.phase ≡ Still
   pub steps : other.steps ≡ 0
 
--- steps on a hold word that counted nothing, from so many to so many, and no other
+-- steps on a hold word that counted nothing, from this many to this many, and no other
 abbrev pub Missed : (ℕ → StepKind) → ℕ → ℕ → CallerSight → CallerSight → Type 0
 Missed kind least most before after =
     (count : ℕ) × (least ≤ count) × (count ≤ most) × WereMade kind count before after
@@ -41,7 +41,7 @@ abbrev pub WasCountedFor : CallerSight → CallerSight → Seen → Type 0
 WasCountedFor before after seen =
     (missed : CallerSight) × Missed misses 0 63 before missed × WasDoubled missed after seen
 
--- so many such steps, and each but the first found another word than the one before it
+-- this many such steps, and each but the first found another word than the one before it
 abbrev pub WereOutrun : (ℕ → StepKind) → ℕ → CallerSight → CallerSight → Type 0
 WereOutrun kind zero before after = after ≡ before
 WereOutrun kind (suc count) before after = (between : CallerSight) × WereOutrun kind count before between
@@ -51,8 +51,8 @@ WereOutrun kind (suc count) before after = (between : CallerSight) × WereOutrun
 abbrev pub HasNoSpare : Handle → Type 0
 HasNoSpare h = h.seen.opening.holds ≤ holds_in h.found + 1
 
--- another hold is refused as one too many where the last step found a word without a spare place, and for
--- want of memory where it found one with such a place; as busy where others changed the word between each of
+-- another hold is refused as one too many if the last step found a word without a spare place, and for
+-- want of memory if it found one with such a place; as busy if others changed the word between each of
 -- 64 steps and the next; for no other cause
 abbrev pub AnotherRefused : Handle → Handle → Refusal → Type 0
 AnotherRefused before after TooManyHolds = HasNoSpare after

@@ -1,4 +1,4 @@
--- What contracts see of a caller's seat, and what each call tells of it.
+-- What contracts see of a caller's seat, and what each call says of it.
 use Rattle.std.specs.Prelude.{◌≡◌, ℕ, ◌+◌, Bool, true, false, Option}
 pub use Rattle.atomic_table.specs.Seated.{TableId}
 use Rattle.kf_core.specs.declared.key.Key.{Key}
@@ -47,7 +47,7 @@ pub record CallerSight : Type 0 where
   pub view : CallerView
   pub seen : Seen
 
--- what a seat knows, where it is a caller's
+-- what a seat knows, if it is a caller's
 abbrev pub caller_sight : Sight → CallerSight
 caller_sight s = record { view = caller_of s.view; seen = s.seen }
 
@@ -59,7 +59,7 @@ view_of s = caller_of s.token.me.0.view
 abbrev pub sight_of : CallerSeat → CallerSight
 sight_of s = caller_sight s.token.me.0
 
--- the node of this kind, with this tag where it is a file, and this target where it is a link
+-- the node of this kind, with this tag if it is a file, and this target if it is a link
 abbrev pub node_of : NodeKind → ℕ → Key → Node
 node_of kind.Dir _ _ = node.Dir
 node_of (kind.File mode) tag _ = node.File mode tag
@@ -203,7 +203,7 @@ seat_view h = record {
   seen = h.seen;
 }
 
--- what a step that took one user off an active word owes to those who sleep there: a wake, where one of them
+-- what a step that took one user off an active word owes to the sleepers there: a wake, if one of them
 -- may wait for the word that is left without that user
 pub record Owed : Type 0 where
   pub slot : ℕ

@@ -7,7 +7,7 @@ use Rattle.kf_core.specs.declared.name_bytes.NameBytes.{NameBytes}
 use Rattle.kf_core.specs.declared.caller.Phase.TheVariants.{Turned, Running, Broken, Drained, Hiding, Hidden, Spent}
 use Rattle.kf_core.specs.declared.event.Event.{Event}
 use Rattle.kf_core.specs.declared.event.Event.TheVariants.{Born, Rise, Mark, Pin, Enter, Leave, Break, Restore, Look, Unlink, Part, Hide, LookHidden, Show, Release, Undo}
-use Rattle.kf_core.specs.declared.slot.Marks.{Marks}
+use Rattle.kf_core.specs.declared.slot.NodeFlags.{NodeFlags}
 use Rattle.kf_core.specs.declared.slot.SlotState.{SlotState}
 use Rattle.kf_core.specs.Marks.{fresh_marks}
 use Rattle.kf_core.specs.Phases.{may_release}
@@ -40,7 +40,7 @@ Moves m cs j c' event = BareStep (bare_world m cs) event (bare_world m (slice_se
 abbrev pub Changes : MasterView → List CallerView → MasterView → Event → Type 0
 Changes m cs m' event = BareStep (bare_world m cs) event (bare_world m' cs)
 
--- a try, which finds the active word as it is, is an Enter: the caller runs exactly where its node is live
+-- a try, which finds the active word as it is, is an Enter: the caller runs exactly if its node is live
 abbrev pub TryIsEnter : Type 0
 TryIsEnter = OfEachCaller
     (λ words m cs j c. IsAtRest c → Moves m cs j (after_try (active_word words c.key.slot) c) (Enter j))
@@ -86,7 +86,7 @@ ReleaseIsRelease = OfEachCaller
     (λ words m cs j c. may_release c.phase ≡ true → (found : ℕ)
     → Moves m cs j (after_release found c) (Release j))
 
--- the bit of a hidden key set where the word had it clear is a Hide
+-- the bit of a hidden key set if the word had it clear is a Hide
 abbrev pub HideIsHide : Type 0
 HideIsHide = OfEachCaller
     (λ words m cs j c. IsAtRest c → has_hide (active_word words c.key.slot) ≡ false
@@ -111,7 +111,7 @@ ShareIsPin = OfEachCaller
     → BareStep (bare_world m cs) (Pin (length cs) c.key)
     (bare_world m (slice_set cs j (after_share c) ++ new_hold c.key ∷ [])))
 
--- a hold that a caller counted, of whatever key, is a Pin of that key where it gets its seat, if the node is
+-- a hold that a caller counted, of whatever key, is a Pin of that key when it gets its seat, if the node is
 -- linked then or held
 abbrev pub HandOnIsPin : Type 0
 HandOnIsPin = OfEachCaller
@@ -141,10 +141,10 @@ RiseIsRise = OfTheMaster
 -- the mark of a linked node that is not doomed yet is a Mark
 abbrev pub MarkIsMark : Type 0
 MarkIsMark = OfTheMaster
-    (λ m cs. (key : Key) (x : Marks) → marks_of m key ≡ Some x → x.doomed ≡ false
+    (λ m cs. (key : Key) (x : NodeFlags) → marks_of m key ≡ Some x → x.doomed ≡ false
     → Changes m cs (with_marks doomed_marks key.slot m) (Mark key))
 
--- a birth in the slot where the last step stored a new active word is a Born of the slot's next key
+-- a birth in the slot in which the last step stored a new active word is a Born of the slot's next key
 abbrev pub BirthIsBorn : Type 0
 BirthIsBorn = OfTheMaster
     (λ m cs. (slot : ℕ) (state : SlotState) (parent : Key) (name : NameBytes) (node : Node)
@@ -158,7 +158,7 @@ UnlinkIsUnlink = OfTheMaster
     (λ m cs. (j : ℕ) (c : CallerView) → slice_get cs j ≡ Some c → c.phase ≡ Drained
     → is_some (marks_of m c.key) ≡ true → Changes m cs (without_node c.key.slot m) (Unlink j))
 
--- a hold that gets its seat is a Pin of the slot's last key, where that may be pinned
+-- a hold that gets its seat is a Pin of the slot's last key, if that may be pinned
 abbrev pub SplitIsPin : Type 0
 SplitIsPin = OfTheMaster
     (λ m cs. (slot : ℕ) (state : SlotState) → m.pinning ≡ Some slot → slice_get m.slots slot ≡ Some state

@@ -122,7 +122,7 @@ SeenLeadsHere = OfEachKept
     × (later : List StepKind) × (mid : Table) × (s.seen.steps ++ later ≡ log) × Shown o.slots o.holds mid
     × WordRun (opened_as o) s.seen.steps mid × WordRun mid later (erased t))
 
--- where a caller was drained or parted on a key at any moment of the one run so far, nobody is running on
+-- if a caller was drained or parted on a key at any moment of the one run so far, nobody is running on
 -- that key in the table as it is
 abbrev pub DrainedEverAfter : Type 0
 DrainedEverAfter = OfEachKept
@@ -148,7 +148,7 @@ OneHistory = OfEachKept
     (λ o t log. (i j : ℕ) (a b : Sight) → get_elem? t.views i ≡ some a → get_elem? t.views j ≡ some b
     → IsPrefix (history_of a.seen) (history_of b.seen) ⊎ IsPrefix (history_of b.seen) (history_of a.seen))
 
--- where one run goes on from another, no note is taken away
+-- if one run goes on from another, no note is taken away
 abbrev pub NotesStay : Type 0
 NotesStay = (first more : List StepKind) → IsPrefix (notes_of first) (notes_of (first ++ more))
 

@@ -1,4 +1,4 @@
--- What the words tell at every moment, whatever steps the seats have made.
+-- What the words say at every moment, whatever steps the seats have made.
 use Rattle.std.specs.Prelude.{◌≡◌, ℕ, ◌-◌, not, Some, None, is_some, slice_get, true}
 use Rattle.atomic_table.specs.Table.{State}
 use Rattle.kf_core.specs.declared.slot.SlotState.{SlotState}
@@ -18,15 +18,15 @@ abbrev pub AlwaysSafe : Type 0
 AlwaysSafe = (slots limit : ℕ) (t : State (Unit {0}) View) (shown : Shown slots limit t)
     → Safe (bare_world shown.master shown.callers)
 
--- a slot's active word lets a try in exactly where the slot's last key is live
+-- a slot's active word lets a try in exactly if the slot's last key is live
 abbrev pub LetsInTheLive : Type 0
 LetsInTheLive = (slots limit : ℕ) (t : State (Unit {0}) View) (shown : Shown slots limit t) (slot : ℕ)
     (state : SlotState) → slice_get shown.master.slots slot ≡ Some state
     → keeps_out (active_word t.words slot)
     ≡ not (is_live (bare_world shown.master shown.callers) (last_key slot state))
 
--- a slot's active word has bias exactly where its last key is not linked, activated and undoomed, and hide
--- exactly where a caller hides that key
+-- a slot's active word has bias exactly if its last key is not linked, activated and undoomed, and hide
+-- exactly if a caller hides that key
 abbrev pub TellsTheHidden : Type 0
 TellsTheHidden = (slots limit : ℕ) (t : State (Unit {0}) View) (shown : Shown slots limit t) (slot : ℕ)
     (state : SlotState) → slice_get shown.master.slots slot ≡ Some state
@@ -42,7 +42,7 @@ HiddenIsRefused = (slots limit : ℕ) (t : State (Unit {0}) View) (shown : Shown
     × (c.phase ≡ Hidden → NoneRunning (bare_world shown.master shown.callers) c.key)
 
 -- the step by which a hidden caller shows its key again takes the bit off and leaves the rest. The word then
--- lets a try in exactly where the key is linked, activated and undoomed, whatever became of it meanwhile
+-- lets a try in exactly if the key is linked, activated and undoomed, whatever became of it meanwhile
 abbrev pub ShownLetsIn : Type 0
 ShownLetsIn = (slots limit : ℕ) (t : State (Unit {0}) View) (shown : Shown slots limit t) (j : ℕ)
     (c : CallerView) → slice_get shown.callers j ≡ Some c → c.phase ≡ Hidden
@@ -50,21 +50,21 @@ ShownLetsIn = (slots limit : ℕ) (t : State (Unit {0}) View) (shown : Shown slo
     × (keeps_out (active_word t.words c.key.slot - hide)
     ≡ not (are_live (marks (bare_world shown.master shown.callers) c.key)))
 
--- where a slot's active word is drained, its last key is doomed and nobody has a reference to the node
+-- if a slot's active word is drained, its last key is doomed and nobody has a reference to the node
 abbrev pub DrainedIsUnused : Type 0
 DrainedIsUnused = (slots limit : ℕ) (t : State (Unit {0}) View) (shown : Shown slots limit t) (slot : ℕ)
     (state : SlotState) → slice_get shown.master.slots slot ≡ Some state
     → is_drained (active_word t.words slot) ≡ true → (are_doomed state.marks ≡ true)
     × NoReference (bare_world shown.master shown.callers) (last_key slot state)
 
--- where the slot's hold word is free, no node is linked there and nobody holds the slot
+-- if the slot's hold word is free, no node is linked there and nobody holds the slot
 abbrev pub FreeIsUnheld : Type 0
 FreeIsUnheld = (slots limit : ℕ) (t : State (Unit {0}) View) (shown : Shown slots limit t) (slot : ℕ)
     (state : SlotState) → slice_get shown.master.slots slot ≡ Some state
     → IsFree (hold_word t.words slot) → (state.marks ≡ None)
     × OnlySpent (bare_world shown.master shown.callers) slot
 
--- a slot's hold word has the bit of a linked node exactly where one is linked there
+-- a slot's hold word has the bit of a linked node exactly if one is linked there
 abbrev pub TellsTheLinked : Type 0
 TellsTheLinked = (slots limit : ℕ) (t : State (Unit {0}) View) (shown : Shown slots limit t) (slot : ℕ)
     (state : SlotState) → slice_get shown.master.slots slot ≡ Some state

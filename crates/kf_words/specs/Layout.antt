@@ -1,6 +1,6 @@
 -- The two words of a slot: where they stand, where their bits stand, and what is tested of a word that was
 -- found.
-use Rattle.std.specs.Prelude.{◌≡◌, ℕ, ◌+◌, ◌-◌, ◌*◌, ◌/◌, ◌%◌, ◌<◌, ◌||◌, ◌&&◌, Bool, true, false, ◌==◌, List, [], ◌∷◌, slice_index, slice_set}
+use Rattle.std.specs.Prelude.{◌≡◌, ℕ, ◌+◌, ◌-◌, ◌*◌, ◌/◌, ◌%◌, ◌<◌, ◌||◌, ◌&&◌, not, Bool, true, false, ◌==◌, List, [], ◌∷◌, slice_index, slice_set}
 use Rattle.std.specs.List.{repeat}
 
 -- each slot has a cache line of eight words to itself: its active word, behind that its hold word, then the
@@ -61,7 +61,7 @@ linked = 2147483648
 abbrev pub one_generation : ℕ
 one_generation = 4294967296
 
--- b where it is set, else 0
+-- b if it is set, else 0
 abbrev pub bit : Bool → ℕ → ℕ
 bit true b = b
 bit false b = 0
@@ -69,6 +69,10 @@ bit false b = 0
 -- whether this active word has the bit of a node that is not at once linked, activated and undoomed
 abbrev pub has_bias : ℕ → Bool
 has_bias word = (word / bias) % 2 == 1
+
+-- the node of this active word is doomed
+abbrev pub has_doom : ℕ → Bool
+has_doom word = (word / doom) % 2 == 1
 
 -- the key of this active word is hidden
 abbrev pub has_hide : ℕ → Bool
@@ -85,6 +89,11 @@ is_drained word = (word == bias + doom) || (word == bias + doom + hide)
 -- nobody uses the node of this active word
 abbrev pub is_unused : ℕ → Bool
 is_unused word = word % bias == 0
+
+-- whoever sleeps at this active word is woken by the last user to go: the node is doomed, and somebody uses
+-- it
+abbrev pub last_user_wakes : ℕ → Bool
+last_user_wakes word = has_doom word && not (is_unused word)
 
 -- a sleeper may wait for this active word: the node is doomed or its key hidden, and nobody uses the node
 abbrev pub wants_wake : ℕ → Bool
@@ -122,7 +131,7 @@ MayPinAt limit word = (has_linked word ≡ true) × HasSpare limit word
 abbrev pub empty_line : ℕ → List ℕ
 empty_line start = bias ∷ start * one_generation ∷ 0 ∷ 0 ∷ 0 ∷ 0 ∷ 0 ∷ 0 ∷ []
 
--- the lines at the opening: no slot has had more than `start` generations, but for the root's, which has a
+-- the lines at the opening: no slot has had more than `start` generations, except the root's, which has a
 -- live node of the next
 abbrev pub opening_words : ℕ → ℕ → List ℕ
 opening_words slots start = slice_set (slice_set (repeat slots (empty_line start)) (active_index 0) 0)

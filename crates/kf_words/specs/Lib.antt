@@ -15,5 +15,6 @@ pub mod Pins
 pub mod Makers
 pub mod NodeWords
 pub mod NodeReads
+pub mod Wakes
 pub mod Runs
 pub mod Life

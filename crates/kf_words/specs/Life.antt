@@ -3,13 +3,13 @@ use Rattle.std.specs.Prelude.{ℕ, Bool, true, false, List, [], ◌∷◌, map, 
 use Rattle.kf_core.specs.declared.command.Command.TheVariants.{Doom}
 use Rattle.kf_core.specs.declared.caller.Phase.{Phase}
 use Rattle.kf_core.specs.declared.caller.Phase.TheVariants.{Still, Spent}
-use Rattle.kf_core.specs.declared.slot.Marks.{Marks}
+use Rattle.kf_core.specs.declared.slot.NodeFlags.{NodeFlags}
 use Rattle.kf_words.specs.declared.view.CallerView.{CallerView}
 use Rattle.kf_words.specs.declared.view.MasterView.{MasterView}
 use Rattle.kf_words.specs.declared.view.Load.{Load}
 use Rattle.kf_words.specs.declared.view.View.TheVariants as seat
 use Rattle.kf_words.specs.declared.note.Note.TheVariants.{Did}
-use Rattle.kf_words.specs.TableSteps.{Table, StepKind, births, breaks, hides, leaves, loads_hold, looks, looks_hidden, looks_over, marks_node, parts, pins_hold, releases, misses, counts, shares, restores, shows, sleeps, awakes, splits, stores_fresh, takes_bias, tries, undoes, unlinks, unpins_hold, notes, reports, answers, compares, misses_at, counts_at, hands_on, stores_node, reads_node}
+use Rattle.kf_words.specs.TableSteps.{Table, StepKind, births, breaks, hides, leaves, loads_hold, looks, looks_hidden, looks_over, marks_node, parts, pins_hold, releases, misses, counts, shares, restores, shows, sleeps, awakes, loads_sleepers, splits, stores_fresh, takes_bias, tries, undoes, unlinks, unpins_hold, notes, reports, answers, compares, misses_at, counts_at, hands_on, stores_node, reads_node}
 use Rattle.kf_words.specs.declared.view.View.{View}
 use Rattle.kf_words.specs.declared.sight.Opening.{Opening}
 use Rattle.kf_words.specs.declared.sight.Sight.{Sight}
@@ -18,7 +18,7 @@ use Rattle.kf_words.specs.Runs.{AttendedRun}
 use Rattle.kf_words.specs.History.{Kept, opened_as}
 
 -- the marks of a node, by whether it is activated and whether it is doomed
-abbrev pub with_marks_of : Bool → Bool → Marks
+abbrev pub with_marks_of : Bool → Bool → NodeFlags
 with_marks_of activated doomed = record { activated = activated; doomed = doomed }
 
 -- a caller that came for the first node of slot 1
@@ -43,7 +43,7 @@ abbrev pub with_one_more : CallerView → CallerView
 with_one_more c = record c { pinning = Some c.key }
 
 -- the Master of two slots, with three holds at most, by what it knows of slot 1
-abbrev pub master_at : ℕ → Option Marks → Option ℕ → Option ℕ → List Load → List Load → Option Load
+abbrev pub master_at : ℕ → Option NodeFlags → Option ℕ → Option ℕ → List Load → List Load → Option Load
     → MasterView
 master_at last marks pinning fresh loads at_birth looked = record {
   limit = 3;
@@ -76,8 +76,9 @@ word_life = loads_hold 1 ∷ stores_fresh 1 ∷ births 1 ∷ takes_bias 1 ∷ lo
     ∷ splits 1 ∷ loads_hold 1 ∷ pins_hold 1 ∷ splits 1 ∷ tries 0 ∷ hides 1
     ∷ looks_hidden 1 ∷ leaves 0 ∷ looks_hidden 1 ∷ tries 0 ∷ undoes 0 ∷ shows 1 ∷ tries 0
     ∷ notes (Did (Doom (record { slot = 1; generation = 1 })))
-    ∷ marks_node 1 ∷ tries 1 ∷ undoes 1 ∷ sleeps 1 ∷ breaks 0 ∷ awakes 1 ∷ looks 1 ∷ restores 0
-    ∷ parts 1 ∷ looks_over 1 ∷ leaves 0 ∷ looks_over 1 ∷ unlinks 1 ∷ parts 1 ∷ misses 0 ∷ releases 1
+    ∷ marks_node 1 ∷ tries 1 ∷ undoes 1 ∷ sleeps 1 1 ∷ breaks 0 ∷ loads_sleepers 1 0 ∷ awakes 1 1 ∷ looks 1
+    ∷ restores 0 ∷ parts 1 ∷ looks_over 1 ∷ leaves 0 ∷ looks_over 1 ∷ unlinks 1 ∷ parts 1 ∷ misses 0
+    ∷ releases 1
     ∷ counts 0 ∷ shares 0 ∷ releases 2 ∷ releases 0
     ∷ loads_hold 1 ∷ stores_fresh 1 ∷ stores_node 1 0 0 ∷ births 1 ∷ loads_hold 1 ∷ pins_hold 1
     ∷ unpins_hold 1 ∷ loads_hold 1 ∷ pins_hold 1 ∷ splits 1 ∷ misses_at 1 3 ∷ counts_at 1 3 ∷ hands_on 3
@@ -106,7 +107,7 @@ abbrev pub saw_life : View → Sight
 saw_life v =
     record { view = v; seen = record { opening = life_opening; steps = word_life }; shown = [] }
 
--- the table at its end meets the rule, where each seat has seen the whole of it
+-- the table at its end meets the rule, and each seat there has seen the whole of it
 abbrev pub LifeIsKept : Type 0
 LifeIsKept =
     Kept life_opening (record { words = lived.words; homes = lived.homes; views = map saw_life lived.views })

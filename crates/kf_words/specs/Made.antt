@@ -1,5 +1,5 @@
--- What a step of a seat tells: which kind of step it was, the next of the one run, and what that had come to.
-use Rattle.std.specs.Prelude.{◌≡◌, ℕ, zero, suc, ◌≢◌, Bool, true, false, ◌==◌, if◌then◌else◌, List, [], ◌∷◌, ◌++◌, slice_index}
+-- What a step of a seat says: which kind of step it was, the next of the one run, and what that had come to.
+use Rattle.std.specs.Prelude.{◌≡◌, ℕ, zero, suc, ◌-◌, ◌≢◌, Bool, true, false, ◌==◌, if◌then◌else◌, List, [], ◌∷◌, ◌++◌, slice_index}
 use mathlib.Core.Option.{some}
 use lib.ListN.{get_elem?}
 use Rattle.atomic_table.specs.Table.{Step}
@@ -9,13 +9,13 @@ use mathlib.Core.List.{IsPrefix}
 use Rattle.kf_words.specs.declared.note.Note.{Note}
 use Rattle.kf_words.specs.declared.sight.Seen.{Seen}
 use Rattle.kf_words.specs.declared.view.View.TheVariants as seat
-use Rattle.kf_words.specs.Layout.{active_index, hold_index, node_index, place_of, slot_of}
+use Rattle.kf_words.specs.Layout.{active_index, hold_index, sleepers_index, node_index, place_of, slot_of, last_user_wakes, wants_wake}
 use Rattle.kf_words.specs.Rule.{Shown}
-use Rattle.kf_words.specs.Steps.{Seated, Sighted, plain, caller_of, after_try, after_undo, after_leave, after_break, after_restore, after_look, after_part, after_hide, after_look_hidden, after_release, after_miss, after_count, after_share, kept, CallerBecomes, MasterBecomes, ShowsKey}
+use Rattle.kf_words.specs.Steps.{Seated, Sighted, plain, caller_of, after_try, after_undo, after_leave, after_break, after_restore, after_look, after_part, after_hide, after_look_hidden, after_release, after_miss, after_count, after_share, unmoved, kept, CallerBecomes, MasterBecomes, ShowsKey}
 use Rattle.kf_words.specs.declared.view.CallerView.{CallerView}
 use Rattle.kf_words.specs.Callers.{Handle, Owed, CallerSight, caller_sight, seat_view}
 use Rattle.kf_words.specs.Nodes.{MasterSight, master_sight}
-use Rattle.kf_words.specs.TableSteps.{Table, world, StepKind, IsSeated, WordStep, WordRun, tries, undoes, leaves, breaks, restores, looks, parts, hides, looks_hidden, shows, releases, misses, counts, loads_hold, pins_hold, stores_fresh, births, looks_over, unlinks, notes, compares, stores_node}
+use Rattle.kf_words.specs.TableSteps.{Table, world, StepKind, IsSeated, WordStep, WordRun, tries, undoes, leaves, breaks, restores, looks, parts, hides, looks_hidden, shows, releases, misses, counts, sleeps, awakes, loads_sleepers, loads_hold, pins_hold, stores_fresh, births, looks_over, unlinks, notes, compares, stores_node}
 use Rattle.kf_words.specs.Notes.{notes_of}
 use Rattle.kf_words.specs.History.{opened_as}
 use Rattle.kf_words.specs.NodeWords.{kind_word, first_word, second_word}
@@ -43,7 +43,7 @@ pub record WasMade (kind : ℕ → StepKind) (before after : CallerSight) : Type
   pub is : IsSeated left caller after.view
   pub seen : SawNext before.seen between (kind caller) after.seen
 
--- what a caller's step tells: that it is on the word that this index has of the caller's slot, the view after
+-- what a caller's step says: that it is on the word that this index has of the caller's slot, the view after
 -- it, and that it was the next of the one run
 abbrev pub Makes : (ℕ → ℕ) → (ℕ → StepKind) → (Step (Unit {0}) → Seated → ℕ → Seated → Type 0)
     → Step (Unit {0}) → Sighted → ℕ → Sighted → Type 0
@@ -51,11 +51,48 @@ Makes index kind tells st me found me' =
     (st.word ≡ index (caller_of me.0.view).key.slot)
     × (tells st (plain me) found (plain me') × WasMade kind (caller_sight me.0) (caller_sight me'.0))
 
--- what a step on the count of sleepers tells, which is no step on a word that the rule reads
-abbrev pub Stays : Step (Unit {0}) → Sighted → ℕ → Sighted → Type 0
-Stays st me found me' = me' ≡ me
+-- what a step on the count of its slot's sleepers says, which leaves the view as it was
+abbrev pub MakesOnSleepers : (ℕ → ℕ → StepKind) → Step (Unit {0}) → Sighted → ℕ → Sighted → Type 0
+MakesOnSleepers kind st me found me' =
+    Makes sleepers_index (kind (caller_of me.0.view).key.slot) (CallerBecomes unmoved) st me found me'
 
--- what a try on the active word tells: whether the caller runs, or has the try to undo
+-- as WasMade: this seat made a step of this kind on the count of its slot's sleepers
+abbrev pub WasMadeOnSleepers : (ℕ → ℕ → StepKind) → CallerSight → CallerSight → Type 0
+WasMadeOnSleepers kind before after = WasMade (kind before.view.key.slot) before after
+
+-- this seat counted itself among the sleepers of its slot, and then took itself off the count
+abbrev pub WasAsleep : CallerSight → CallerSight → Type 0
+WasAsleep before after = (counted : CallerSight)
+    × WasMadeOnSleepers sleeps before counted × WasMadeOnSleepers awakes counted after
+
+-- this seat rested: it slept, counted among the sleepers, if it was to be counted, and else made no step
+abbrev pub Rested : Bool → CallerSight → CallerSight → Type 0
+Rested true before after = WasAsleep before after
+Rested false before after = after ≡ before
+
+-- this seat loaded the count of its slot's sleepers, by a step that found this number
+abbrev pub LoadedSleepers : CallerSight → CallerSight → ℕ → Type 0
+LoadedSleepers before after found = (made : WasMadeOnSleepers loads_sleepers before after)
+    × (slice_index made.found.words (sleepers_index before.view.key.slot) ≡ found)
+
+-- what a load of the count of sleepers says: the number that it found. The view stays as it was
+abbrev pub MakesSleeperLoad : Step (Unit {0}) → Sighted → ℕ → Sighted → Type 0
+MakesSleeperLoad st me found me' = (st.word ≡ sleepers_index (caller_of me.0.view).key.slot)
+    × (CallerBecomes unmoved st (plain me) found (plain me')
+    × LoadedSleepers (caller_sight me.0) (caller_sight me'.0) found)
+
+-- the wake that a step owes was spent: if it is wanted, this seat's next step loaded the count of sleepers.
+-- If not, this seat made no step
+abbrev pub WakeSpent : Bool → CallerSight → CallerSight → Type 0
+WakeSpent true before after = (found : ℕ) × LoadedSleepers before after found
+WakeSpent false before after = after ≡ before
+
+-- a step of this kind, which took one user off the active word, and after it the wake that it owes
+abbrev pub WasMadeThenWake : (ℕ → StepKind) → CallerSight → CallerSight → Type 0
+WasMadeThenWake kind before after = (made : CallerSight) × WasMade kind before made
+    × WakeSpent (wants_wake (made.view.found - 1)) made after
+
+-- what a try on the active word says: whether the caller runs, or has the try to undo
 abbrev pub MakesTry : Step (Unit {0}) → Sighted → ℕ → Sighted → Type 0
 MakesTry = Makes active_index tries (CallerBecomes after_try)
 
@@ -67,18 +104,18 @@ WasATry = WasMade tries
 abbrev pub WasAUndo : CallerSight → CallerSight → Type 0
 WasAUndo = WasMade undoes
 
--- a refused try was taken back, by a step that found this word, which the view after it does not tell
+-- a refused try was taken back, by a step that found this word, which the view after it does not say
 abbrev pub WasUndone : CallerSight → CallerSight → ℕ → Type 0
 WasUndone before after found = (made : WasAUndo before after)
     × (slice_index made.found.words (active_index before.view.key.slot) ≡ found)
 
--- what the step tells that takes a refused try back: with the view also the word that it found
+-- what the step says that takes a refused try back: with the view also the word that it found
 abbrev pub MakesUndo : Step (Unit {0}) → Sighted → ℕ → Sighted → Type 0
 MakesUndo st me found me' = (st.word ≡ active_index (caller_of me.0.view).key.slot)
     × (CallerBecomes (λ _. after_undo) st (plain me) found (plain me')
     × WasUndone (caller_sight me.0) (caller_sight me'.0) found)
 
--- what the end of a call tells, which is a step on the active word
+-- what the end of a call says, which is a step on the active word
 abbrev pub MakesLeave : Step (Unit {0}) → Sighted → ℕ → Sighted → Type 0
 MakesLeave = Makes active_index leaves (CallerBecomes after_leave)
 
@@ -86,7 +123,7 @@ MakesLeave = Makes active_index leaves (CallerBecomes after_leave)
 abbrev pub WasALeave : CallerSight → CallerSight → Type 0
 WasALeave = WasMade leaves
 
--- what a step on the active word tells that gives the reference up inside a call
+-- what a step on the active word says that gives the reference up inside a call
 abbrev pub MakesBreak : Step (Unit {0}) → Sighted → ℕ → Sighted → Type 0
 MakesBreak = Makes active_index breaks (CallerBecomes after_break)
 
@@ -94,7 +131,7 @@ MakesBreak = Makes active_index breaks (CallerBecomes after_break)
 abbrev pub WasABreak : CallerSight → CallerSight → Type 0
 WasABreak = WasMade breaks
 
--- what a step on the active word tells that takes a reference again inside a call
+-- what a step on the active word says that takes a reference again inside a call
 abbrev pub MakesRestore : Step (Unit {0}) → Sighted → ℕ → Sighted → Type 0
 MakesRestore = Makes active_index restores (CallerBecomes after_restore)
 
@@ -102,7 +139,7 @@ MakesRestore = Makes active_index restores (CallerBecomes after_restore)
 abbrev pub WasARestore : CallerSight → CallerSight → Type 0
 WasARestore = WasMade restores
 
--- what a waiting caller's load of the active word tells: whether that is drained
+-- what a waiting caller's load of the active word says: whether that is drained
 abbrev pub MakesLook : Step (Unit {0}) → Sighted → ℕ → Sighted → Type 0
 MakesLook = Makes active_index looks (CallerBecomes after_look)
 
@@ -110,7 +147,7 @@ MakesLook = Makes active_index looks (CallerBecomes after_look)
 abbrev pub WasALook : CallerSight → CallerSight → Type 0
 WasALook = WasMade looks
 
--- what a drained caller's load of the hold word tells: whether a node is linked still
+-- what a drained caller's load of the hold word says: whether a node is linked still
 abbrev pub MakesPart : Step (Unit {0}) → Sighted → ℕ → Sighted → Type 0
 MakesPart = Makes hold_index parts (CallerBecomes after_part)
 
@@ -118,7 +155,7 @@ MakesPart = Makes hold_index parts (CallerBecomes after_part)
 abbrev pub WasAPart : CallerSight → CallerSight → Type 0
 WasAPart = WasMade parts
 
--- what a step tells that sets the bit of a hidden key: whether it was clear, so that this caller hides it
+-- what a step says that sets the bit of a hidden key: whether it was clear, so that this caller hides it
 abbrev pub MakesHide : Step (Unit {0}) → Sighted → ℕ → Sighted → Type 0
 MakesHide = Makes active_index hides (CallerBecomes after_hide)
 
@@ -126,7 +163,7 @@ MakesHide = Makes active_index hides (CallerBecomes after_hide)
 abbrev pub WasAHide : CallerSight → CallerSight → Type 0
 WasAHide = WasMade hides
 
--- what a hider's load of the active word tells: whether nobody uses the node
+-- what a hider's load of the active word says: whether nobody uses the node
 abbrev pub MakesLookHidden : Step (Unit {0}) → Sighted → ℕ → Sighted → Type 0
 MakesLookHidden = Makes active_index looks_hidden (CallerBecomes after_look_hidden)
 
@@ -134,7 +171,7 @@ MakesLookHidden = Makes active_index looks_hidden (CallerBecomes after_look_hidd
 abbrev pub WasALookHidden : CallerSight → CallerSight → Type 0
 WasALookHidden = WasMade looks_hidden
 
--- what a step tells that takes the bit of a hidden key off: also that it found the bit set
+-- what a step says that takes the bit of a hidden key off: also that it found the bit set
 abbrev pub MakesShow : Step (Unit {0}) → Sighted → ℕ → Sighted → Type 0
 MakesShow = Makes active_index shows ShowsKey
 
@@ -142,7 +179,7 @@ MakesShow = Makes active_index shows ShowsKey
 abbrev pub WasAShow : CallerSight → CallerSight → Type 0
 WasAShow = WasMade shows
 
--- what a step on the hold word tells that gives a caller's hold back
+-- what a step on the hold word says that gives a caller's hold back
 abbrev pub MakesRelease : Step (Unit {0}) → Sighted → ℕ → Sighted → Type 0
 MakesRelease = Makes hold_index releases (CallerBecomes after_release)
 
@@ -154,7 +191,7 @@ WasARelease = WasMade releases
 abbrev pub WasAMiss : CallerSight → CallerSight → Type 0
 WasAMiss = WasMade misses
 
--- what a caller's load of the hold word tells, which names the most holds of a slot
+-- what a caller's load of the hold word says, which names the most holds of a slot
 abbrev pub MakesMiss : Step (Unit {0}) → Sighted → ℕ → Sighted → Type 0
 MakesMiss st me found me' =
     Makes hold_index misses (CallerBecomes after_miss) st me found me' × (st.first ≡ me.0.seen.opening.holds)
@@ -167,12 +204,12 @@ WasACount = WasMade counts
 abbrev pub after_exchange : ℕ → ℕ → CallerView → CallerView
 after_exchange old found c = if found == old then after_count found c else after_miss found c
 
--- the exchange counted one hold more where it found the word that it expected, and else nothing
+-- the exchange counted one hold more if it found the word that it expected, and else nothing
 abbrev pub WasAnExchange : ℕ → ℕ → CallerSight → CallerSight → Type 0
 WasAnExchange old found before after =
     (found ≡ old → WasACount before after) × (found ≢ old → WasAMiss before after)
 
--- what an exchange on the hold word tells
+-- what an exchange on the hold word says
 abbrev pub MakesExchange : Step (Unit {0}) → Sighted → ℕ → Sighted → Type 0
 MakesExchange st me found me' = (st.word ≡ hold_index (caller_of me.0.view).key.slot)
     × (CallerBecomes (after_exchange st.first) st (plain me) found (plain me')
@@ -187,40 +224,63 @@ pub record WasDoubled (before after : CallerSight) (seen : Seen) : Type 0 where
   pub same : after.seen ≡ counted.seen
   pub told : seen ≡ counted.seen
 
--- so many steps of this kind, one after another and no other of this seat between them, each as WasMade says
+-- this many steps of this kind, one after another and no other of this seat between them, each as WasMade
+-- says
 abbrev pub WereMade : (ℕ → StepKind) → ℕ → CallerSight → CallerSight → Type 0
 WereMade kind zero before after = after ≡ before
 WereMade kind (suc count) before after =
     (between : CallerSight) × WereMade kind count before between × WasMade kind between after
 
--- one step of this kind or more, and no other
-abbrev pub OnlyMade : (ℕ → StepKind) → CallerSight → CallerSight → Type 0
-OnlyMade kind before after = (count : ℕ) × WereMade kind (suc count) before after
+-- this many looks, by steps of this kind, and after each a rest. It is counted among the sleepers if the word
+-- that the look found passes this test
+abbrev pub LookedAndRested : (ℕ → StepKind) → (ℕ → Bool) → ℕ → CallerSight → CallerSight → Type 0
+LookedAndRested kind is_counted zero before after = after ≡ before
+LookedAndRested kind is_counted (suc count) before after = (rested : CallerSight) × (looked : CallerSight)
+    × LookedAndRested kind is_counted count before rested × WasMade kind rested looked
+    × Rested (is_counted looked.view.found) looked after
 
--- all that a wait for a drain does: it looks, and looks again
-abbrev pub OnlyLooked : CallerSight → CallerSight → Type 0
-OnlyLooked = OnlyMade looks
+-- all the steps of a wait: it looks and rests, any number of times, and then looks once more
+abbrev pub Waited : (ℕ → StepKind) → (ℕ → Bool) → CallerSight → CallerSight → Type 0
+Waited kind is_counted before after = (count : ℕ) × (rested : CallerSight)
+    × LookedAndRested kind is_counted count before rested × WasMade kind rested after
 
--- the same of a wait for a hidden key
-abbrev pub OnlyLookedHidden : CallerSight → CallerSight → Type 0
-OnlyLookedHidden = OnlyMade looks_hidden
+-- all the steps of a wait for a drain. A rest is counted if the last user to go is to wake the sleepers
+abbrev pub WaitedForDrain : CallerSight → CallerSight → Type 0
+WaitedForDrain = Waited looks last_user_wakes
+
+-- all the steps of a wait until nobody uses a node whose key is hidden. Each rest is counted
+abbrev pub WaitedForHidden : CallerSight → CallerSight → Type 0
+WaitedForHidden = Waited looks_hidden (λ _. true)
 
 -- a try, and the step that takes it back
 abbrev pub WasATryUndone : CallerSight → CallerSight → Type 0
 WasATryUndone before after = (tried : CallerSight) × WasATry before tried × WasAUndo tried after
+
+-- this seat ended a call, and spent the wake that this owes
+abbrev pub WasALeaveThenWake : CallerSight → CallerSight → Type 0
+WasALeaveThenWake = WasMadeThenWake leaves
+
+-- this seat gave a call's reference up, and spent the wake that this owes
+abbrev pub WasABreakThenWake : CallerSight → CallerSight → Type 0
+WasABreakThenWake = WasMadeThenWake breaks
+
+-- a try, the step that takes it back, and then the wake that this owes
+abbrev pub WasATryUndoneThenWake : CallerSight → CallerSight → Type 0
+WasATryUndoneThenWake before after = (tried : CallerSight) × (undone : CallerSight) × (found : ℕ)
+    × WasATry before tried × WasUndone tried undone found × WakeSpent (wants_wake (found - 1)) undone after
 
 -- what a refused try owes, by the word that its second step found
 abbrev pub OwedForUndo : Handle → Handle → Owed → Type 0
 OwedForUndo before after due = (due.slot ≡ after.key.slot) × (tried : CallerSight)
     × WasATry (seat_view before) tried × WasUndone tried (seat_view after) due.found
 
--- a try as WasMade says, which found a table where the key was live
+-- a try as WasMade says, which found a table in which the key was live
 pub record WasLetInLive (before after : CallerSight) : Type 0 where
   pub try : WasATry before after
   pub live : is_live (world try.found) after.view.key ≡ true
 
--- the one run had gone on, from all that the caller had seen before, to a table where the word was as found
--- and the caller's view as it was; and it went on from there to what the caller has seen after
+-- the one run had gone on, from all that the caller had seen before, to a table in which the word was as
+-- found and the caller's view as it was; and it went on from there to what the caller has seen after
 pub record WasFound (before after : CallerSight) (word found : ℕ) : Type 0 where
   pub between : List StepKind
   pub later : List StepKind
@@ -289,14 +349,14 @@ pub record WasCounted (slot : ℕ) (before : MasterSight) (seat after : Seen) : 
   pub told : seat ≡ counted.seen
   pub same : after ≡ counted.seen
 
--- what a word of a node that is put tells: which of them, and the number
+-- what a word of a node that is put says: which of them, and the number
 abbrev pub PutsNodeWord : Step (Unit {0}) → Sighted → ℕ → Sighted → Type 0
 PutsNodeWord st me found me' = (st.word ≡ node_index (place_of st.word) (slot_of st.word))
     × (MasterBecomes kept st (plain me) found (plain me')
     × WasMadeByMaster (stores_node (slot_of st.word) (place_of st.word) st.first) (master_sight me.0)
     (master_sight me'.0))
 
--- what a step of the Master tells: that it is on the word that this index has of some slot, the view after
+-- what a step of the Master says: that it is on the word that this index has of some slot, the view after
 -- it, and that it was the next of the one run
 abbrev pub MasterMakes : (ℕ → ℕ) → (ℕ → StepKind) → (Step (Unit {0}) → Seated → ℕ → Seated → Type 0)
     → Step (Unit {0}) → Sighted → ℕ → Sighted → Type 0
@@ -304,12 +364,12 @@ MasterMakes index kind tells st me found me' = (st.word ≡ index (slot_of st.wo
     × (tells st (plain me) found (plain me')
     × WasMadeByMaster (kind (slot_of st.word)) (master_sight me.0) (master_sight me'.0))
 
--- what a step of the Master tells that adds a note to the run, on whatever word: it changes no view
+-- what a step of the Master says that adds a note to the run, on whatever word: it changes no view
 abbrev pub MakesNote : Note → Step (Unit {0}) → Sighted → ℕ → Sighted → Type 0
 MakesNote note st me found me' =
     (plain me' ≡ plain me) × WasMadeByMaster (notes note) (master_sight me.0) (master_sight me'.0)
 
--- what a step of the Master tells that compares what it was told with the run so far: that is a beginning. It
+-- what a step of the Master says that compares what it was told with the run so far: that is a beginning. It
 -- changes no view
 abbrev pub MakesCompare : Step (Unit {0}) → Sighted → ℕ → Sighted → Type 0
 MakesCompare st me found me' = (plain me' ≡ plain me) × WasMadeByMaster compares (master_sight me.0)

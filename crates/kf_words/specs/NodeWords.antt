@@ -7,7 +7,7 @@ use Rattle.kf_core.specs.Bare.{is_linked}
 use Rattle.kf_words.specs.declared.sight.Opening.{Opening}
 use Rattle.kf_words.specs.declared.sight.Seen.{Seen}
 use Rattle.kf_words.specs.Layout.{node_index}
-use Rattle.kf_words.specs.TableSteps.{Table, StepKind, world, WordRun, tries, undoes, leaves, breaks, restores, looks, parts, hides, looks_hidden, shows, releases, misses, counts, shares, sleeps, awakes, loads_hold, pins_hold, unpins_hold, splits, stores_fresh, births, takes_bias, marks_node, looks_over, unlinks, misses_at, counts_at, hands_on, stores_node, reads_node, notes, reports, answers, compares}
+use Rattle.kf_words.specs.TableSteps.{Table, StepKind, world, WordRun, tries, undoes, leaves, breaks, restores, looks, parts, hides, looks_hidden, shows, releases, misses, counts, shares, sleeps, awakes, loads_sleepers, loads_hold, pins_hold, unpins_hold, splits, stores_fresh, births, takes_bias, marks_node, looks_over, unlinks, misses_at, counts_at, hands_on, stores_node, reads_node, notes, reports, answers, compares}
 use Rattle.kf_words.specs.History.{opened_as}
 
 -- the three words of a node: its kind, a file's mode or the slot of a link's target, and a file's tag or the
@@ -73,8 +73,9 @@ noted_by (releases j) w = w
 noted_by (misses j) w = w
 noted_by (counts j) w = w
 noted_by (shares j) w = w
-noted_by (sleeps j) w = w
-noted_by (awakes j) w = w
+noted_by (sleeps slot j) w = w
+noted_by (awakes slot j) w = w
+noted_by (loads_sleepers slot j) w = w
 noted_by (loads_hold slot) w = w
 noted_by (pins_hold slot) w = w
 noted_by (unpins_hold slot) w = w
@@ -103,7 +104,7 @@ abbrev pub node_born : Seen → ℕ → Node
 node_born seen slot = node_in ((notes_after no_notes seen.steps).born slot 0)
     ((notes_after no_notes seen.steps).born slot 1) ((notes_after no_notes seen.steps).born slot 2)
 
--- where a key is linked in two tables of a run, each word of its node is, in every table between the two, the
+-- if a key is linked in two tables of a run, each word of its node is, in every table between the two, the
 -- one that stood there when the key was born
 abbrev pub ReadAsBorn : Type 0
 ReadAsBorn = (o : Opening) → 1 ≤ o.slots → o.holds ≤ 65535 → (first mid last : List StepKind) (t u v : Table)

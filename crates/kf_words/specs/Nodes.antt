@@ -1,4 +1,4 @@
--- What contracts see of the Master, and what each of its calls tells.
+-- What contracts see of the Master, and what each of its calls says.
 use Rattle.std.specs.Prelude.{◌≡◌, ◌≤◌, ◌<◌, ◌↔◌, ◌⊎◌, ℕ, zero, suc, ◌+◌, Bool, true, false, not, ◌&&◌, ◌==◌, List, [], ◌∷◌, ◌++◌, length, Option, None, Some, is_some, slice_get, slice_set, IsTrue}
 use Rattle.std.specs.Option.{option_map}
 use Rattle.kf_core.specs.declared.key.Key.{Key}
@@ -6,7 +6,7 @@ use Rattle.kf_core.specs.declared.key.Node.{Node}
 use Rattle.kf_core.specs.declared.caller.Phase.TheVariants.{Still}
 use Rattle.kf_core.specs.declared.refusal.Refusal.{Refusal}
 use Rattle.kf_core.specs.declared.refusal.Refusal.TheVariants.{NoEntry, NoMemory, Access, Busy, Exists, NoDevice, NotDir, IsDir, Invalid, TooManyHolds, NoSpace, NameTooLong}
-use Rattle.kf_core.specs.declared.slot.Marks.{Marks}
+use Rattle.kf_core.specs.declared.slot.NodeFlags.{NodeFlags}
 use Rattle.kf_core.specs.declared.slot.SlotState.{SlotState}
 use Rattle.kf_core.specs.Bare.{marks_in}
 use Rattle.kf_words.specs.declared.master_seat.MasterSeat.{MasterSeat}
@@ -31,7 +31,7 @@ pub record MasterSight : Type 0 where
   pub view : MasterView
   pub seen : Seen
 
--- what a seat knows, where it is the Master's
+-- what a seat knows, if it is the Master's
 abbrev pub master_sight : Sight → MasterSight
 master_sight s = record { view = master_of s.view; seen = s.seen }
 
@@ -43,16 +43,16 @@ sight_in m = record { view = m.view; seen = m.seen }
 abbrev pub master_view : MasterSeat → MasterView
 master_view s = master_of s.token.me.0.view
 
--- the marks of a node, where it is linked
-abbrev pub marks_of : MasterView → Key → Option Marks
+-- the marks of a node, if it is linked
+abbrev pub marks_of : MasterView → Key → Option NodeFlags
 marks_of m key = marks_in (slice_get m.slots key.slot) key.generation
 
 -- the generation that a slot was given last, or 0
 abbrev pub last_of : MasterView → ℕ → Option ℕ
 last_of m slot = option_map (λ (state : SlotState). state.generation) (slice_get m.slots slot)
 
--- the slots, where that of the key has its generation and these marks
-abbrev pub slots_with : List SlotState → Key → Option Marks → List SlotState
+-- the slots, in which that of the key has its generation and these marks
+abbrev pub slots_with : List SlotState → Key → Option NodeFlags → List SlotState
 slots_with slots key marks = slice_set slots key.slot (record { generation = key.generation; marks = marks })
 
 -- the same table with the same limit of holds, nothing about nodes changed, and no note added
@@ -76,7 +76,7 @@ FoundFree m slot = Found IsFree m slot
 abbrev pub FoundRoom : MasterView → ℕ → Type 0
 FoundRoom m slot = Found (HasRoom m.limit) m slot
 
--- where a load found room for one hold more, that still counts as found
+-- if a load found room for one hold more, that still counts as found
 abbrev pub KeepsRooms : MasterView → MasterView → Type 0
 KeepsRooms m m' = (slot : ℕ) → FoundRoom m slot → FoundRoom m' slot
 
@@ -100,7 +100,7 @@ pub record MayBear (m : MasterView) (key : Key) : Type 0 where
   pub vacant : IsVacant m key
   pub free : FoundFree m key.slot
 
--- no node is linked in a slot of this state, where there is one
+-- no node is linked in a slot of this state, if there is one
 abbrev pub lacks_node : Option SlotState → Bool
 lacks_node None = false
 lacks_node (Some state) = not (is_some state.marks)
@@ -139,7 +139,7 @@ pub record FoundNone (m : MasterView) (m' : MasterView) : Type 0 where
   pub all : length m.slots ≤ below
   pub view : m' ≡ with_loads loads m
 
--- what a search for a free slot answers
+-- what a search for a free slot returns
 abbrev pub Searched : MasterView → Option ℕ → MasterView → Type 0
 Searched m None m' = FoundNone m m'
 Searched m (Some slot) m' = FoundFirst m slot m'
@@ -163,7 +163,7 @@ abbrev pub WasUnpinned : MasterView → ℕ → MasterView → Type 0
 WasUnpinned m slot m' =
     (found : ℕ) × HasRoom m.limit found × (m' ≡ without_pin slot (with_pin slot (with_load slot found m)))
 
--- a pin is refused as one hold too many where its load found the slot full, and for want of memory where the
+-- a pin is refused as one hold too many if its load found the slot full, and for want of memory if the
 -- hold that was counted has been taken back; for no other cause
 abbrev pub PinRefused : MasterView → ℕ → Refusal → MasterView → Type 0
 PinRefused m slot TooManyHolds m' = WasFull m slot m'
@@ -183,7 +183,7 @@ PinRefused m slot NameTooLong m' = ⊥
 abbrev pub IsLastKey : MasterView → Key → Type 0
 IsLastKey m key = last_of m key.slot ≡ Some key.generation
 
--- a pin of a held key is refused before any step where the key is not the last of its slot, and else as a pin
+-- a pin of a held key is refused before any step if the key is not the last of its slot, and else as a pin
 -- is
 abbrev pub HeldPinRefused : MasterView → Key → Refusal → MasterView → Type 0
 HeldPinRefused m key NoEntry m' = (¬ IsLastKey m key) × (m' ≡ m)
@@ -207,14 +207,14 @@ pub record IsNewHold (m : MasterState) (key : Key) (hold : Handle) : Type 0 wher
   pub still : hold.phase ≡ Still
   pub steps : hold.steps ≡ 0
 
--- true exactly where one load of the active word found it drained; a second step then took the node out
+-- true exactly if one load of the active word found it drained; a second step then took the node out
 abbrev pub UnlinkAnswer : MasterView → ℕ → Bool → MasterView → Type 0
 UnlinkAnswer m slot true m' =
     (found : ℕ) × (is_drained found ≡ true) × (m' ≡ without_node slot (with_look slot found m))
 UnlinkAnswer m slot false m' = (found : ℕ) × (is_drained found ≡ false) × (m' ≡ with_look slot found m)
 
 -- the slot has a node with these marks
-abbrev pub HasMarks : MasterView → ℕ → Marks → Type 0
+abbrev pub HasMarks : MasterView → ℕ → NodeFlags → Type 0
 HasMarks m slot x = (state : SlotState) × (slice_get m.slots slot ≡ Some state) × (state.marks ≡ Some x)
 
 -- the last step found the slot's active word drained

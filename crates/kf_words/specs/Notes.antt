@@ -1,11 +1,11 @@
--- The history: what was done while the Master was in hand, as the one run of all steps tells it.
+-- The history: what was done while the Master was in hand, as the one run of all steps says it.
 use Rattle.std.specs.Prelude.{List, [], ◌∷◌, ◌++◌}
 use Rattle.kf_words.specs.declared.note.Note.{Note}
 use Rattle.kf_words.specs.declared.sight.StepKind.{StepKind}
 use Rattle.kf_words.specs.declared.sight.StepKind.TheVariants as step
 use Rattle.kf_words.specs.declared.sight.Seen.{Seen}
 
--- the note that a step adds, where it adds one
+-- the note that a step adds, if it adds one
 abbrev pub note_of : StepKind → List Note
 note_of (step.Tries j) = []
 note_of (step.Undoes j) = []
@@ -21,8 +21,9 @@ note_of (step.Releases j) = []
 note_of (step.Misses j) = []
 note_of (step.Counts j) = []
 note_of (step.Shares j) = []
-note_of (step.Sleeps j) = []
-note_of (step.Awakes j) = []
+note_of (step.Sleeps slot j) = []
+note_of (step.Awakes slot j) = []
+note_of (step.LoadsSleepers slot j) = []
 note_of (step.LoadsHold slot) = []
 note_of (step.PinsHold slot) = []
 note_of (step.UnpinsHold slot) = []

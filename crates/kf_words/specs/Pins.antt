@@ -1,4 +1,4 @@
--- What it tells to make a hold of the node of a key from any hold of the same table.
+-- What it means to make a hold of the node of a key from any hold of the same table.
 use Rattle.std.specs.Prelude.{◌≡◌, ◌≢◌, ◌⊎◌, ◌≤◌, ◌<◌, ℕ, ◌+◌, true, [], Some, if◌then◌else◌, ◌==◌}
 use Rattle.atomic_table.specs.Table.{Step}
 use Rattle.atomic_table.specs.declared.shared.Seat.{Seat}
@@ -20,7 +20,7 @@ use Rattle.kf_words.specs.Made.{WasMade}
 use Rattle.kf_words.specs.NodeWords.{node_in, node_born}
 use Rattle.kf_words.specs.Another.{Missed, WereOutrun}
 
--- what a load of the hold word of any slot tells, which names the most holds of a slot
+-- what a load of the hold word of any slot says, which names the most holds of a slot
 abbrev pub MakesMissAt : Step (Unit {0}) → Sighted → ℕ → Sighted → Type 0
 MakesMissAt st me found me' = (st.word ≡ hold_index (slot_of st.word))
     × (CallerBecomes after_miss st (plain me) found (plain me')
@@ -33,18 +33,18 @@ abbrev pub after_exchange_at : ℕ → ℕ → ℕ → CallerView → CallerView
 after_exchange_at slot old found c =
     if found == old then after_count_at slot found c else after_miss found c
 
--- the exchange counted one hold more where it found the word that it expected, and else nothing
+-- the exchange counted one hold more if it found the word that it expected, and else nothing
 abbrev pub WasAnExchangeAt : ℕ → ℕ → ℕ → CallerSight → CallerSight → Type 0
 WasAnExchangeAt slot old found before after = (found ≡ old → WasMade (counts_at slot) before after)
     × (found ≢ old → WasMade (misses_at slot) before after)
 
--- what an exchange on the hold word of any slot tells
+-- what an exchange on the hold word of any slot says
 abbrev pub MakesExchangeAt : Step (Unit {0}) → Sighted → ℕ → Sighted → Type 0
 MakesExchangeAt st me found me' = (st.word ≡ hold_index (slot_of st.word))
     × (CallerBecomes (after_exchange_at (slot_of st.word) st.first) st (plain me) found (plain me')
     × WasAnExchangeAt (slot_of st.word) st.first found (caller_sight me.0) (caller_sight me'.0))
 
--- what a load of a word of any slot's node tells: which of them
+-- what a load of a word of any slot's node says: which of them
 abbrev pub MakesRead : Step (Unit {0}) → Sighted → ℕ → Sighted → Type 0
 MakesRead st me found me' = (st.word ≡ node_index (place_of st.word) (slot_of st.word))
     × (CallerBecomes after_miss st (plain me) found (plain me')
@@ -62,8 +62,8 @@ pub record IsHoldOf (hold : Handle) (key : Key) (other : Handle) : Type 0 where
   pub still : other.phase ≡ Still
   pub steps : other.steps ≡ 0
 
--- one hold more of this key was counted, in a table of the one run where its node was linked, and went to a
--- new seat, which has seen as much of the one run as the seat that counted it
+-- one hold more of this key was counted, in a table of the one run in which its node was linked, and went
+-- to a new seat, which has seen as much of the one run as the seat that counted it
 pub record WasPinnedBy (key : Key) (before after : CallerSight) (seen : Seen) : Type 0 where
   pub counted : CallerSight
   pub count : WasMade (counts_at key.slot) before counted
@@ -100,7 +100,7 @@ WasReadAndPinned key node before after seen = (read : CallerSight) × WasRead ke
 abbrev pub WasHeldFor : Key → CallerSight → CallerSight → Handle → Type 0
 WasHeldFor key before after other = WasReadAndPinned key other.node before after other.seen
 
--- why no hold is made of a key of this generation where its slot's hold word is so, by the most holds of a
+-- why no hold is made of a key of this generation if its slot's hold word is so, by the most holds of a
 -- slot: the node is gone, or the slot has no spare place
 abbrev pub IsWhyNot : ℕ → ℕ → ℕ → Refusal → Type 0
 IsWhyNot generation limit word NoEntry = ¬ IsOf generation word
@@ -120,7 +120,7 @@ IsWhyNot generation limit word NameTooLong = ⊥
 abbrev pub FoundWhyNot : Key → Handle → Refusal → Type 0
 FoundWhyNot key h why = IsWhyNot key.generation h.seen.opening.holds h.found why
 
--- a hold of a key is refused as the last step found its slot's hold word; for want of memory where that was
+-- a hold of a key is refused as the last step found its slot's hold word; for want of memory if that was
 -- of the key and had a spare place; as busy where others changed the word between each of 64 steps and the
 -- next; for no other cause
 abbrev pub HoldOfRefused : Key → Handle → Handle → Refusal → Type 0

@@ -6,7 +6,7 @@ use Rattle.atomic_table.specs.Table.{State}
 use Rattle.kf_core.specs.declared.key.Key.{Key}
 use Rattle.kf_core.specs.declared.caller.Caller.{Caller}
 use Rattle.kf_core.specs.declared.caller.Phase.TheVariants.{Turned}
-use Rattle.kf_core.specs.declared.slot.Marks.{Marks}
+use Rattle.kf_core.specs.declared.slot.NodeFlags.{NodeFlags}
 use Rattle.kf_core.specs.declared.slot.SlotState.{SlotState}
 use Rattle.kf_core.specs.Bare.{BareWorld, IsLast}
 use Rattle.kf_core.specs.Marks.{are_live, are_doomed}
@@ -63,13 +63,14 @@ abbrev pub pins_in : Option ℕ → ℕ → ℕ
 pins_in None slot = 0
 pins_in (Some s) slot = bit (s == slot) 1
 
--- the active word has so many users, bias unless the node has the marks of a live one, doom where a linked
--- node is doomed, and hide where a caller hides the key. At most one caller hides it
-abbrev pub ShowsMarks : ℕ → Option Marks → ℕ → ℕ → Type 0
+-- the active word has this many users, bias unless the node has the marks of a live one, doom if a linked
+-- node is doomed, and hide if a caller hides the key. At most one caller hides it
+abbrev pub ShowsMarks : ℕ → Option NodeFlags → ℕ → ℕ → Type 0
 ShowsMarks word marks n h = (d : Bool) × (word ≡ n + bit (not (are_live marks)) bias + bit d doom + h * hide)
     × (IsTrue (is_some marks) → d ≡ are_doomed marks) × (h ≤ 1)
 
--- the hold word has the last generation, the bit of a linked node, and so many holds, which are not too many
+-- the hold word has the last generation, the bit of a linked node, and this many holds, which are not too
+-- many
 abbrev pub ShowsHolds : ℕ → ℕ → SlotState → ℕ → Type 0
 ShowsHolds limit word state n =
     (word ≡ state.generation * one_generation + bit (is_some state.marks) linked + n) × (n ≤ limit)
@@ -112,7 +113,7 @@ module _ (words : List ℕ) (m : MasterView) (cs : List CallerView) where
     -- the active word that the Master's last step stored is still as stored, in a free slot
     pub fresh : (slot : ℕ) → m.fresh ≡ Some slot → (slot < length m.slots) × (active_word words slot ≡ bias)
         × IsFree (hold_word words slot)
-    -- where the Master's last step found a drained word, the node is doomed, and nobody is running on it
+    -- if the Master's last step found a drained word, the node is doomed, and nobody is running on it
     pub looked : (load : Load) (state : SlotState) → m.looked ≡ Some load → IsTrue (is_drained load.word)
         → slice_get m.slots load.slot ≡ Some state
         → (are_doomed state.marks ≡ true) × NoneRunning (bare_world m cs) (last_key load.slot state)
@@ -122,7 +123,7 @@ module _ (words : List ℕ) (m : MasterView) (cs : List CallerView) where
 abbrev pub seats : MasterView → List CallerView → List View
 seats m cs = seat.Master m ∷ map seat.Caller cs
 
--- the rule of a table of so many slots, each with at most so many holds
+-- the rule of a table of this many slots, each with at most this many holds
 pub record Shown (slots limit : ℕ) (t : State (Unit {0}) View) : Type 0 where
   pub master : MasterView
   pub callers : List CallerView

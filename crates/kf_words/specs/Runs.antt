@@ -11,7 +11,7 @@ use Rattle.kf_core.specs.Safe.{Safe, NoneRunning, NoneHolding}
 use Rattle.kf_core.specs.Steps.{BareRun, OnlySpent}
 use Rattle.kf_words.specs.Rule.{Shown}
 pub use Rattle.kf_words.specs.TableSteps.{Table, master_in, world, StepKind, WordStep, WordRun, AttendedRun, opened_table, tries, parts, births}
-pub use Rattle.kf_words.specs.Made.{WasALeave, WasAHide, WasAShow, WereMade, OnlyMade, OnlyLooked, OnlyLookedHidden, WasATryUndone, WasLetInLive}
+pub use Rattle.kf_words.specs.Made.{WasALeave, WasAHide, WasAShow, WereMade, WaitedForDrain, WaitedForHidden, WasATryUndone, WasATryUndoneThenWake, WasALeaveThenWake, WasLetInLive}
 
 -- the table opens with the rule, and as the opening world
 abbrev pub OpensWell : Type 0
@@ -37,13 +37,13 @@ RunIsRun = (slots limit : ℕ) (t u : Table) (kinds : List StepKind) → Shown s
 abbrev pub RunIsSafe : Type 0
 RunIsSafe = OverRuns (λ slots limit t u. Safe (world u))
 
--- where a caller is drained or parted on a key at the start of a run, nobody is running on that key at its
+-- if a caller is drained or parted on a key at the start of a run, nobody is running on that key at its
 -- end
 abbrev pub DrainedForGood : Type 0
 DrainedForGood = OverRuns (λ slots limit t u. (c : ℕ) (key : Key) (phase : Phase)
     → IsCaller (world t) c key phase → IsTrue (saw_drain phase) → NoneRunning (world u) key)
 
--- a try of this key, where it is the next step, is refused
+-- a try of this key, if it is the next step, is refused
 abbrev pub TryIsRefused : Table → Key → Type 0
 TryIsRefused u key = (j : ℕ) (phase : Phase) (v : Table)
     → IsCaller (world u) j key phase → WordStep u (tries j) v → IsCaller (world v) j key Turned
@@ -70,7 +70,7 @@ BornUnheld =
     OverRuns (λ slots limit t u. (slot : ℕ) (v : Table) → WordStep u (births slot) v
     → OnlySpent (world u) slot)
 
--- a try after a run lets a caller run only where its key is live
+-- a try after a run lets a caller run only if its key is live
 abbrev pub LetInLive : Type 0
 LetInLive = OverRuns (λ slots limit t u. (j : ℕ) (key : Key) (v : Table)
     → WordStep u (tries j) v → IsCaller (world v) j key Running → is_live (world u) key ≡ true)

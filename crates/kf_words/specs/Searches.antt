@@ -17,7 +17,7 @@ abbrev pub SearchesOn : MasterView → ℕ → ℕ → Option ℕ → MasterView
 SearchesOn m from to None m' = (first : MasterView) → HasPassed first from m → HasPassed first to m'
 SearchesOn m from to (Some slot) m' = (first : MasterView) → HasPassed first from m → FoundFirst first slot m'
 
--- each slot of so many that have a mark together has a node linked, or is the root's, or is not there
+-- each of the slots that share a mark has a node linked, or is the root's, or is not there
 abbrev pub AreFull : ℕ → List Bool → List SlotState → Type 0
 AreFull many full slots =
     (slot : ℕ) → slice_get full (slot / many) ≡ Some true → is_unlinked slots slot ≡ false

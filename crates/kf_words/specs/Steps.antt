@@ -5,7 +5,7 @@ use Rattle.atomic_table.specs.Table.{Me, Step}
 use Rattle.kf_core.specs.declared.key.Key.{Key}
 use Rattle.kf_core.specs.declared.caller.Phase.{Phase}
 use Rattle.kf_core.specs.declared.caller.Phase.TheVariants.{Still, Turned, Running, Broken, Restored, Drained, Parted, Hiding, Hidden, Spent}
-use Rattle.kf_core.specs.declared.slot.Marks.{Marks}
+use Rattle.kf_core.specs.declared.slot.NodeFlags.{NodeFlags}
 use Rattle.kf_core.specs.declared.slot.SlotState.{SlotState}
 use Rattle.kf_core.specs.Marks.{fresh_marks, live_marks}
 use Rattle.kf_words.specs.declared.view.CallerView.{CallerView}
@@ -78,7 +78,7 @@ after_step phase undo_due found c = record {
 abbrev pub with_try : CallerView → CallerView
 with_try c = record c { tries = c.tries + 1 }
 
--- a try: the caller runs where the word lets it in, and else has to undo the try
+-- a try: the caller runs if the word lets it in, and else has to undo the try
 abbrev pub after_try : ℕ → CallerView → CallerView
 after_try found c = if keeps_out found then after_step Turned true found
     (with_try c) else after_step Running false found (with_try c)
@@ -99,19 +99,19 @@ after_break found c = after_step Broken false found c
 abbrev pub after_restore : ℕ → CallerView → CallerView
 after_restore found c = after_step Restored false found c
 
--- the caller's view after a load of the active word: Drained where it found that drained, and else in its
+-- the caller's view after a load of the active word: Drained if it found that drained, and else in its
 -- phase of before
 abbrev pub after_look : ℕ → CallerView → CallerView
 after_look found c =
     if is_drained found then after_step Drained false found c else after_step c.phase c.undo_due found c
 
--- the caller's view after it set the bit of a hidden key: Hiding where that was clear, and else in its phase
+-- the caller's view after it set the bit of a hidden key: Hiding if that was clear, and else in its phase
 -- of before
 abbrev pub after_hide : ℕ → CallerView → CallerView
 after_hide found c =
     if has_hide found then after_step c.phase c.undo_due found c else after_step Hiding false found c
 
--- the hider's view after a load of the active word: Hidden where nobody uses the node, and else in its phase
+-- the hider's view after a load of the active word: Hidden if nobody uses the node, and else in its phase
 -- of before
 abbrev pub after_look_hidden : ℕ → CallerView → CallerView
 after_look_hidden found c =
@@ -125,7 +125,7 @@ after_show found c = after_step Still false found c
 abbrev pub after_release : ℕ → CallerView → CallerView
 after_release found c = after_step Spent false found c
 
--- the caller's view after a load of the hold word: Parted where it found no node linked, and else in its
+-- the caller's view after a load of the hold word: Parted if it found no node linked, and else in its
 -- phase of before
 abbrev pub after_part : ℕ → CallerView → CallerView
 after_part found c =
@@ -175,20 +175,20 @@ abbrev pub on_hold : MasterView → MasterView
 on_hold m = record m { fresh = None; loads = []; looked = None }
 
 -- the slot with the marks of its linked node changed, and its generation as before
-abbrev pub remarked : (Marks → Marks) → SlotState → SlotState
+abbrev pub remarked : (NodeFlags → NodeFlags) → SlotState → SlotState
 remarked change state = record { generation = state.generation; marks = option_map change state.marks }
 
 -- the node of one slot got other marks
-abbrev pub with_marks : (Marks → Marks) → ℕ → MasterView → MasterView
+abbrev pub with_marks : (NodeFlags → NodeFlags) → ℕ → MasterView → MasterView
 with_marks change slot m =
     record (on_active m) { slots = slice_set m.slots slot (remarked change (state_at m slot)) }
 
 -- the marks with the node activated, doomed or not as before
-abbrev pub activated_marks : Marks → Marks
+abbrev pub activated_marks : NodeFlags → NodeFlags
 activated_marks m = record { activated = true; doomed = m.doomed }
 
 -- the marks with the node doomed, activated or not as before
-abbrev pub doomed_marks : Marks → Marks
+abbrev pub doomed_marks : NodeFlags → NodeFlags
 doomed_marks m = record { activated = m.activated; doomed = true }
 
 -- a load of a hold word
@@ -241,7 +241,7 @@ abbrev pub hold_for : MasterView → Option ℕ → CallerView
 hold_for m None = no_caller
 hold_for m (Some slot) = new_hold (last_key slot (state_at m slot))
 
--- the Master's view after it stored a new active word in this slot, where a node is to be born
+-- the Master's view after it stored a new active word in this slot, in which a node is to be born
 abbrev pub after_store : ℕ → MasterView → MasterView
 after_store slot m = record (on_active m) { fresh = Some slot }
 
@@ -273,7 +273,7 @@ unread after slot found m = after slot m
 abbrev pub kept : ℕ → ℕ → MasterView → MasterView
 kept slot found m = m
 
--- what a step tells its caller: the view is that of before, changed in this way
+-- what a step says to its caller: the view is that of before, changed in this way
 abbrev pub CallerBecomes : (ℕ → CallerView → CallerView) → Step (Unit {0}) → Seated → ℕ → Seated → Type 0
 CallerBecomes after st me found me' = me' ≡ (seat.Caller (after found (caller_of me.0)), me.1)
 
@@ -281,7 +281,7 @@ CallerBecomes after st me found me' = me' ≡ (seat.Caller (after found (caller_
 abbrev pub ShowsKey : Step (Unit {0}) → Seated → ℕ → Seated → Type 0
 ShowsKey st me found me' = CallerBecomes after_show st me found me' × (has_hide found ≡ true)
 
--- what a step tells the Master: the view is that of before, changed in this way at the slot of the word
+-- what a step says to the Master: the view is that of before, changed in this way at the slot of the word
 abbrev pub MasterBecomes : (ℕ → ℕ → MasterView → MasterView) → Step (Unit {0}) → Seated → ℕ → Seated → Type 0
 MasterBecomes after st me found me' =
     me' ≡ (seat.Master (after (slot_of st.word) found (master_of me.0)), me.1)
@@ -291,12 +291,12 @@ abbrev pub On : (ℕ → ℕ) → (Step (Unit {0}) → Seated → ℕ → Seated
     → Seated → Type 0
 On index tells st me found me' = (st.word ≡ index (slot_of st.word)) × tells st me found me'
 
--- a load of a hold word tells the last generation, and whether a node is linked
+-- a load of a hold word says the last generation, and whether a node is linked
 abbrev pub TellsSlot : MasterView → ℕ → ℕ → Type 0
 TellsSlot m slot found = (found / one_generation ≡ (state_at m slot).generation)
     × (has_linked found ≡ is_some (state_at m slot).marks)
 
--- what the Master's load of a hold word tells: its view after it, and what the word says of the slot
+-- what the Master's load of a hold word says: its view after it, and what the word says of the slot
 abbrev pub LoadsHold : Step (Unit {0}) → Seated → ℕ → Seated → Type 0
 LoadsHold st me found me' =
     MasterBecomes with_load st me found me' × TellsSlot (master_of me.0) (slot_of st.word) found

@@ -6,7 +6,7 @@ use Rattle.atomic_table.specs.Table.{State, stepped, keeps}
 use Rattle.atomic_table.specs.Table.{opening as table_opening}
 use Rattle.kf_core.specs.declared.key.Key.{Key}
 use Rattle.kf_core.specs.declared.caller.Phase.TheVariants.{Turned, Running, Broken, Drained, Hiding, Hidden, Spent}
-use Rattle.kf_core.specs.declared.slot.Marks.{Marks}
+use Rattle.kf_core.specs.declared.slot.NodeFlags.{NodeFlags}
 use Rattle.kf_core.specs.Marks.{fresh_marks}
 use Rattle.kf_core.specs.Phases.{may_release}
 use Rattle.kf_core.specs.Bare.{BareWorld}
@@ -16,7 +16,7 @@ use Rattle.kf_words.specs.declared.view.MasterView.{MasterView}
 use Rattle.kf_words.specs.declared.view.View.{View}
 use Rattle.kf_words.specs.declared.view.View.TheVariants as seat
 pub use Rattle.kf_words.specs.declared.sight.StepKind.{StepKind}
-pub use Rattle.kf_words.specs.declared.sight.StepKind.TheVariants.{Tries as tries, Undoes as undoes, Leaves as leaves, Breaks as breaks, Restores as restores, Looks as looks, Parts as parts, Hides as hides, LooksHidden as looks_hidden, Shows as shows, Releases as releases, Misses as misses, Counts as counts, Shares as shares, Sleeps as sleeps, Awakes as awakes, LoadsHold as loads_hold, PinsHold as pins_hold, UnpinsHold as unpins_hold, Splits as splits, StoresFresh as stores_fresh, Births as births, TakesBias as takes_bias, MarksNode as marks_node, LooksOver as looks_over, Unlinks as unlinks, Notes as notes, Reports as reports, Answers as answers, Compares as compares, MissesAt as misses_at, CountsAt as counts_at, HandsOn as hands_on, StoresNode as stores_node, ReadsNode as reads_node}
+pub use Rattle.kf_words.specs.declared.sight.StepKind.TheVariants.{Tries as tries, Undoes as undoes, Leaves as leaves, Breaks as breaks, Restores as restores, Looks as looks, Parts as parts, Hides as hides, LooksHidden as looks_hidden, Shows as shows, Releases as releases, Misses as misses, Counts as counts, Shares as shares, Sleeps as sleeps, Awakes as awakes, LoadsSleepers as loads_sleepers, LoadsHold as loads_hold, PinsHold as pins_hold, UnpinsHold as unpins_hold, Splits as splits, StoresFresh as stores_fresh, Births as births, TakesBias as takes_bias, MarksNode as marks_node, LooksOver as looks_over, Unlinks as unlinks, Notes as notes, Reports as reports, Answers as answers, Compares as compares, MissesAt as misses_at, CountsAt as counts_at, HandsOn as hands_on, StoresNode as stores_node, ReadsNode as reads_node}
 use Rattle.kf_words.specs.Layout.{bit, bias, doom, hide, linked, one_generation, active_index, hold_index, sleepers_index, opening_words, HasSpare, node_index, MayPinAt}
 use Rattle.kf_words.specs.Rule.{bare_world, last_key}
 use Rattle.kf_words.specs.Steps.{caller_of, no_master, master_of, state_at, after_try, after_undo, after_leave, after_break, after_restore, after_look, after_part, after_hide, after_look_hidden, after_show, after_release, after_miss, after_count, after_share, new_hold, spent_hold, unmoved, after_split, hold_for, with_load, with_pin, without_pin, after_store, with_birth, with_marks, activated_marks, doomed_marks, with_look, without_node, unread, opened, after_count_at, kept}
@@ -67,7 +67,7 @@ pub record Plays (t : Table) (place word : ℕ) (f : ℕ → ℕ) (before after 
 abbrev pub IsSeated : Table → ℕ → CallerView → Type 0
 IsSeated t j c = get_elem? t.views (suc j) ≡ some (seat.Caller c)
 
--- a step of the caller of this number on a word of its slot, where its own view allows it; what it finds goes
+-- a step of the caller of this number on a word of its slot, if its own view allows it; what it finds goes
 -- into its view
 abbrev pub CallerPlays : (ℕ → CallerView → CallerView) → (CallerView → Type 0) → (ℕ → ℕ) → (ℕ → ℕ) → Table → ℕ
     → Table → Type 0
@@ -75,7 +75,7 @@ CallerPlays after May index f t j t' = (c : CallerView) × May c
     × Plays t (suc j) (index c.key.slot) f (seat.Caller c)
     (seat.Caller (after (slice_index t.words (index c.key.slot)) c)) t'
 
--- a step of the Master on a word of this slot, where its own view allows it; what it finds goes into its view
+-- a step of the Master on a word of this slot, if its own view allows it; what it finds goes into its view
 abbrev pub MasterPlays : (ℕ → ℕ → MasterView → MasterView) → (MasterView → Type 0) → (ℕ → ℕ) → (ℕ → ℕ) → Table
     → ℕ → Table → Type 0
 MasterPlays after May index f t slot t' = (m : MasterView) × May m
@@ -124,7 +124,7 @@ CallerShares t j t' = (c : CallerView) × MayShare c × IsSeated t j c
       views = slice_set t.views (suc j) (seat.Caller (after_share c)) ++ seat.Caller (new_hold c.key) ∷ [];
     })
 
--- a step of the caller of this number on the hold word of any slot, where its own view allows it; what it
+-- a step of the caller of this number on the hold word of any slot, if its own view allows it; what it
 -- finds goes into its view
 abbrev pub CallerPlaysAt : ℕ → (ℕ → CallerView → CallerView) → (CallerView → Type 0) → (ℕ → ℕ) → Table → ℕ
     → Table → Type 0
@@ -146,9 +146,9 @@ CallerHandsOn t j t' = (c : CallerView) × (key : Key) × IsAtRest c × (c.pinni
       views = slice_set t.views (suc j) (seat.Caller (after_share c)) ++ seat.Caller (new_hold key) ∷ [];
     })
 
--- the caller may step on the count of its slot's sleepers, whatever its view says
-abbrev pub MaySleep : CallerView → Type 0
-MaySleep c = Unit {0}
+-- the caller has this slot
+abbrev pub IsAt : ℕ → CallerView → Type 0
+IsAt slot c = c.key.slot ≡ slot
 
 -- a caller of this slot holds it
 abbrev pub HoldsSlot : Table → ℕ → ℕ → Type 0
@@ -181,12 +181,12 @@ abbrev pub MayNote : ℕ → ℕ → MasterView → Type 0
 MayNote slot place m = HasFresh slot m × (place < 5)
 
 -- the slot has a node with these marks, which is not doomed
-abbrev pub IsUndoomed : ℕ → Marks → MasterView → Type 0
+abbrev pub IsUndoomed : ℕ → NodeFlags → MasterView → Type 0
 IsUndoomed slot x m = HasMarks m slot x × (x.doomed ≡ false)
 
 -- the slot has a node, and the Master's last step found its active word drained
 abbrev pub SeesDrained : ℕ → MasterView → Type 0
-SeesDrained slot m = ((x : Marks) × HasMarks m slot x) × HasLooked m slot
+SeesDrained slot m = ((x : NodeFlags) × HasMarks m slot x) × HasLooked m slot
 
 -- the Master's step changes no word and no view
 abbrev pub MasterStays : Table → Table → Type 0
@@ -226,8 +226,9 @@ WordStep t (releases j) t' = CallerPlays after_release MayRelease hold_index (mi
 WordStep t (misses j) t' = CallerPlays after_miss IsAtRest hold_index same t j t'
 WordStep t (counts j) t' = CallerPlays after_count (MayCount t) hold_index (plus 1) t j t'
 WordStep t (shares j) t' = CallerShares t j t'
-WordStep t (sleeps j) t' = CallerPlays unmoved MaySleep sleepers_index (plus 1) t j t'
-WordStep t (awakes j) t' = CallerPlays unmoved MaySleep sleepers_index (minus 1) t j t'
+WordStep t (sleeps slot j) t' = CallerPlays unmoved (IsAt slot) sleepers_index (plus 1) t j t'
+WordStep t (awakes slot j) t' = CallerPlays unmoved (IsAt slot) sleepers_index (minus 1) t j t'
+WordStep t (loads_sleepers slot j) t' = CallerPlays unmoved (IsAt slot) sleepers_index same t j t'
 WordStep t (loads_hold slot) t' = MasterPlays with_load (λ m. slot < length m.slots) hold_index same t slot t'
 WordStep t (pins_hold slot) t' = MasterPlays (unread with_pin) (SeesRoom slot) hold_index (plus 1) t slot t'
 WordStep t (unpins_hold slot) t' =
@@ -240,7 +241,7 @@ WordStep t (births slot) t' =
 WordStep t (takes_bias slot) t' =
     MasterPlays (unread (with_marks activated_marks)) (λ m. HasMarks m slot fresh_marks) active_index
     (minus bias) t slot t'
-WordStep t (marks_node slot) t' = (x : Marks)
+WordStep t (marks_node slot) t' = (x : NodeFlags)
     × MasterPlays (unread (with_marks doomed_marks)) (IsUndoomed slot x) active_index
     (plus (bit x.activated bias + doom)) t slot t'
 WordStep t (looks_over slot) t' =
@@ -296,8 +297,9 @@ IsAttended t (releases j) = Unit {0}
 IsAttended t (misses j) = Unit {0}
 IsAttended t (counts j) = Unit {0}
 IsAttended t (shares j) = Unit {0}
-IsAttended t (sleeps j) = Unit {0}
-IsAttended t (awakes j) = Unit {0}
+IsAttended t (sleeps slot j) = Unit {0}
+IsAttended t (awakes slot j) = Unit {0}
+IsAttended t (loads_sleepers slot j) = Unit {0}
 IsAttended t (loads_hold j) = Unit {0}
 IsAttended t (pins_hold j) = Unit {0}
 IsAttended t (unpins_hold j) = Unit {0}

@@ -3,7 +3,7 @@ ghost use Rattle.std.specs.Prelude.{◌≡◌, true};
 ghost use Rattle.kf_core.specs.Phases.{has_reference};
 ghost use Rattle.kf_core.specs.declared.caller.Phase.TheVariants as phase_of;
 ghost use Rattle.kf_words.specs.Callers.{IsSameSeat, WasLeft, WasBroken, WasRestored, is_in_call, seat_view};
-ghost use Rattle.kf_words.specs.Made.{WasALeave, WasABreak, WasARestore};
+ghost use Rattle.kf_words.specs.Made.{WasALeaveThenWake, WasABreakThenWake, WasARestore};
 
 use crate::hold::Hold;
 use crate::seat::CallerSeat;
@@ -58,11 +58,12 @@ impl Call {
         requires { has_reference self.phase ≡ true }
         ensures same { IsSameSeat self result }
         ensures hold { WasLeft self result }
-        ensures made { WasALeave (seat_view self) (seat_view result) }
+        ensures made { WasALeaveThenWake (seat_view self) (seat_view result) }
     {
         let (hold, due) = self.leave_quiet();
-        due.spend(&hold.seat);
-        hold
+        let Hold { mut seat } = hold;
+        due.spend(&mut seat);
+        Hold { seat }
     }
 
     /// Gives the reference up inside the callback (`kernfs_break_active_protection`), in one word step.
@@ -72,10 +73,10 @@ impl Call {
         requires { self.old.phase ≡ phase_of.Running }
         ensures same { IsSameSeat self.old self.new }
         ensures call { WasBroken self.old self.new }
-        ensures made { WasABreak (seat_view self.old) (seat_view self.new) }
+        ensures made { WasABreakThenWake (seat_view self.old) (seat_view self.new) }
     {
         let due = self.break_quiet();
-        due.spend(&self.seat);
+        due.spend(&mut self.seat);
     }
 
     /// Takes a reference again, whatever became of the node (`kernfs_unbreak_active_protection`), in one word

@@ -1,9 +1,9 @@
 //! Waiting for a drain.
-ghost use Rattle.std.specs.Prelude.{◌≡◌, true};
+ghost use Rattle.std.specs.Prelude.{◌≡◌, Bool, true};
 ghost use Rattle.kf_core.specs.declared.caller.Phase.TheVariants as phase_of;
-ghost use Rattle.kf_words.specs.Callers.{IsSameSeat, seat_view};
+ghost use Rattle.kf_words.specs.Callers.{IsSameSeat, having_seen, seat_view};
 ghost use Rattle.kf_words.specs.Layout.{is_drained};
-ghost use Rattle.kf_words.specs.Made.{OnlyLooked};
+ghost use Rattle.kf_words.specs.Made.{Rested, WaitedForDrain};
 
 use crate::hold::Hold;
 use crate::layout::is_drained;
@@ -13,21 +13,22 @@ use std::sync::Wait;
 impl Drained {
     /// Sleeps while the drained node is in use again. Two things can use it: a caller that had broken its
     /// protection restores it, or a try was refused and its count is not yet taken back. It wakes when the
-    /// last user leaves, or after a millisecond where there is none, and may wake earlier. It makes no step
+    /// last user leaves, or after a millisecond if there is none, and may wake earlier. It makes no step
     /// on the slot's active word or hold word.
     ///
     /// Context: sleeps; takes no lock.
     pub fn rest<R: Wait>(&mut self, rt: &R)
-        ensures { self.new ≡ self.old }
+        ensures as_before { self.new ≡ having_seen self.new.seen self.old }
+        ensures rested { (counted : Bool) × Rested counted (seat_view self.old) (seat_view self.new) }
     {
         let seen = self.seat.peek();
         self.seat.rest(rt, seen);
     }
 }
 
-/// Waits until the node is doomed and nobody has a reference to it (`kernfs_drain`).
-/// It may never return. All its steps on the slot's active word and hold word are looks at the active word;
-/// how many is not told.
+/// Waits until the node is doomed and nobody has a reference to it (`kernfs_drain`). It may never return.
+/// All its steps on the slot's active word and hold word are looks at the active word. It rests after each
+/// look but the last.
 ///
 /// Why no callback is missed: a caller counts itself by the very step that looks for the mark, so its step
 /// and the mark come one after the other in the order of one word. A try that comes first is counted in the
@@ -36,12 +37,11 @@ impl Drained {
 /// late.
 ///
 /// Context: sleeps; takes no lock, and its caller must not have the tree's.
-#[tactic(auto, using(crate::proofs::Waits::at_least_one))]
 pub fn wait_drained<R: Wait>(rt: &R, hold: Hold) -> Drained
     ensures same { IsSameSeat hold result }
     ensures drained { result.phase ≡ phase_of.Drained }
     ensures found { is_drained result.found ≡ true }
-    ensures looked { OnlyLooked (seat_view hold) (seat_view result) }
+    ensures waited { WaitedForDrain (seat_view hold) (seat_view result) }
     ensures untried { result.tries ≡ hold.tries }
 {
     let Hold { mut seat } = hold;

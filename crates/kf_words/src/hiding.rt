@@ -3,7 +3,7 @@ ghost use Rattle.std.specs.Prelude.{◌≡◌, true, IfOk, IfErr, MatchResult};
 ghost use Rattle.kf_core.specs.declared.caller.Phase.TheVariants as phase_of;
 ghost use Rattle.kf_words.specs.Callers.{IsSameSeat, SawUnused, SawUser, WasShown, seat_view};
 ghost use Rattle.kf_words.specs.Layout.{is_unused};
-ghost use Rattle.kf_words.specs.Made.{FoundThere, OnlyLookedHidden, WasALookHidden, WasAShow};
+ghost use Rattle.kf_words.specs.Made.{FoundThere, WaitedForHidden, WasALookHidden, WasAShow};
 
 use crate::hold::Hold;
 use crate::layout::is_unused;
@@ -96,17 +96,16 @@ impl Hidden {
     }
 }
 
-/// Waits until nobody has a reference to the node whose key it hides.
-/// It may never return. All its steps on the slot's active word and hold word are looks at the active word;
-/// how many is not told.
+/// Waits until nobody has a reference to the node whose key it hides. It may never return. All its steps on
+/// the slot's active word and hold word are looks at the active word. It sleeps after each look but the
+/// last.
 ///
 /// Context: sleeps; takes no lock, and its caller must not have the tree's.
-#[tactic(auto, using(crate::proofs::Waits::at_least_one))]
 pub fn wait_hidden<R: Wait>(rt: &R, hiding: Hiding) -> Hidden
     ensures same { IsSameSeat hiding result }
     ensures hidden { result.phase ≡ phase_of.Hidden }
     ensures found { is_unused result.found ≡ true }
-    ensures looked { OnlyLookedHidden (seat_view hiding) (seat_view result) }
+    ensures waited { WaitedForHidden (seat_view hiding) (seat_view result) }
 {
     let Hiding { mut seat } = hiding;
     for _ in rt.forever() {

@@ -6,7 +6,7 @@ ghost use Rattle.kf_words.specs.Another.{StaysAs, IsAnother, WasCountedFor, Anot
 ghost use Rattle.kf_words.specs.Pins.{IsHoldOf, WasHeldFor, IsRefused, HasSlotOf};
 ghost use Rattle.kf_words.specs.TableSteps.{misses};
 ghost use Rattle.kf_core.specs.declared.refusal.Refusal.TheVariants as refusal_of;
-ghost use Rattle.kf_words.specs.Made.{FoundThere, WasATry, WasATryUndone, WasALook, WasAHide, WasLetInLive};
+ghost use Rattle.kf_words.specs.Made.{FoundThere, WasATry, WasATryUndoneThenWake, WasALook, WasAHide, WasLetInLive};
 
 use crate::call::Call;
 use crate::hiding::Hiding;
@@ -49,7 +49,7 @@ impl Hold {
     }
 
     /// Tries for an active reference (`kernfs_get_active`). A hold that comes back found that the node is not
-    /// live, or its key hidden. It takes one word step where it answers a call, and two where it gives the
+    /// live, or its key hidden. It takes one word step if it returns a call, and two if it gives the
     /// hold back.
     pub fn enter(self) -> Result<Call, Hold>
         ensures same { MatchResult result (λ call. IsSameSeat self call) (λ hold. IsSameSeat self hold) }
@@ -58,19 +58,20 @@ impl Hold {
         ensures found { MatchResult result (λ call. FoundThere self call)
             (λ hold. FoundThere self hold) }
         ensures made { MatchResult result (λ call. WasATry (seat_view self) (seat_view call))
-            (λ hold. WasATryUndone (seat_view self) (seat_view hold)) }
+            (λ hold. WasATryUndoneThenWake (seat_view self) (seat_view hold)) }
         ensures live { IfOk result (λ call. WasLetInLive (seat_view self) (seat_view call)) }
     {
         match self.enter_quiet() {
             Ok(call) => Ok(call),
             Err((hold, due)) => {
-                due.spend(&hold.seat);
-                Err(hold)
+                let Hold { mut seat } = hold;
+                due.spend(&mut seat);
+                Err(Hold { seat })
             }
         }
     }
 
-    /// Looks, in one word step, whether the node is doomed and nobody uses it. Gives the hold back where it
+    /// Looks, in one word step, whether the node is doomed and nobody uses it. Gives the hold back if it
     /// is not so, also while a refused try is not yet taken back (one look of `kernfs_drain`).
     pub fn look(self) -> Result<Drained, Hold>
         ensures same { MatchResult result (λ saw. IsSameSeat self saw) (λ hold. IsSameSeat self hold) }
@@ -89,7 +90,7 @@ impl Hold {
         }
     }
 
-    /// Hides the key, in one word step: until it is shown again, each try is refused. Err where a caller
+    /// Hides the key, in one word step: until it is shown again, each try is refused. Err if a caller
     /// hides it already. Called under the lock of the tree.
     pub fn hide(self) -> Result<Hiding, Hold>
         ensures same { MatchResult result (λ hiding. IsSameSeat self hiding) (λ hold. IsSameSeat self hold) }
@@ -110,8 +111,8 @@ impl Hold {
     /// meanwhile: a slot that is held is not given again. The last place of a slot is not taken: it is for a
     /// hold that the tree's Master gives.
     ///
-    /// Refusals, in order: TooManyHolds where the slot has as many holds as there may be, or one fewer; Busy
-    /// where other holds came or went at each of 64 tries; NoMemory where the table can have no owner more
+    /// Refusals, in order: TooManyHolds if the slot has as many holds as there may be, or one fewer; Busy
+    /// if other holds came or went at each of 64 tries; NoMemory if the table can have no owner more
     /// (its `Arc` is at its last count). After each the slot has the holds that it had.
     pub fn another(&mut self) -> Result<Hold, Refusal>
         ensures same { IsSameSeat self.old self.new }
@@ -131,9 +132,9 @@ impl Hold {
     /// hold was counted, and is read from the words of the slot. The last place of a slot is not taken: it is
     /// for a hold that the tree's Master gives.
     ///
-    /// Refusals, in order: NoEntry where the table has no such slot, or the key's node is linked there no
-    /// more; TooManyHolds where the slot has as many holds as there may be, or one fewer; Busy where other
-    /// holds came or went at each of 64 tries; NoMemory where the table can have no owner more (its `Arc` is
+    /// Refusals, in order: NoEntry if the table has no such slot, or the key's node is linked there no
+    /// more; TooManyHolds if the slot has as many holds as there may be, or one fewer; Busy if other
+    /// holds came or went at each of 64 tries; NoMemory if the table can have no owner more (its `Arc` is
     /// at its last count). After each the slot has the holds that it had.
     pub fn pin(&mut self, key: Key) -> Result<Hold, Refusal>
         ensures same { IsSameSeat self.old self.new }
@@ -153,7 +154,7 @@ impl Hold {
     }
 
     /// Gives its hold of the slot back (`kernfs_put`), in one word step. Nothing is left of it that a clause
-    /// could tell of.
+    /// could speak of.
     pub fn release(self) {
         let Hold { mut seat } = self;
         release_seat(&mut seat);

@@ -1,22 +1,23 @@
-//! What the words tell at every moment, and which event each step is.
+//! What the words say at every moment, and which event each step is.
 ghost use Rattle.kf_words.specs.Laws.{AlwaysSafe, LetsInTheLive, DrainedIsUnused, FreeIsUnheld, TellsTheLinked, TellsTheHidden, HiddenIsRefused, ShownLetsIn};
 ghost use Rattle.kf_words.specs.Events.{TryIsEnter, UndoIsUndo, LookIsLook, PartIsPart, LeaveIsLeave, BreakIsBreak, RestoreIsRestore, ReleaseIsRelease, HideIsHide, LookHiddenIsLook, ShowIsShow, MissIsNothing, RiseIsRise, MarkIsMark, BirthIsBorn, UnlinkIsUnlink, SplitIsPin, HeldSplitIsPin, ShareIsPin, RestIsNothing, ReportPasses, AnswerPasses, HandOnIsPin};
 ghost use Rattle.kf_words.specs.History.{EndsARun, SeenLeadsHere, DrainedEverAfter, OneRunIsSeen, OneEnd, HistoryIsSeen, OneHistory, NotesStay};
 ghost use Rattle.kf_words.specs.Life.{WordLife, LifeIsKept};
 ghost use Rattle.kf_words.specs.NodeReads.{ReadIsBorn};
 ghost use Rattle.kf_words.specs.NodeWords.{ReadAsBorn};
+ghost use Rattle.kf_words.specs.Wakes.{SleepersAreFound};
 ghost use Rattle.kf_words.specs.Runs.{OpensWell, RuleKept, RunIsRun, RunIsSafe, MarkedKeepsOut, DrainedForGood, HiddenKeepsOut, PassedForGood, BornUnheld, LetInLive, TakenLive};
 
-/// What the words tell between any two steps of any number of seats, for as long as the table lives. It does
+/// What the words say between any two steps of any number of seats, for as long as the table lives. It does
 /// nothing: the rule of the table, which each step keeps, is the premise, and its clauses say what follows.
 ///
 /// The world of the seats is safe: nobody is running on a key on which another saw the drain, and who holds a
-/// slot holds its last generation. A try is let in exactly where the last key of the slot is live, and
+/// slot holds its last generation. A try is let in exactly if the last key of the slot is live, and
 /// refused while a caller hides the key. Once that caller saw nobody there, nobody is running there. After
-/// the step by which it shows the key again, the word lets a try in exactly where the key is linked,
-/// activated and undoomed. Where the active word is drained, the key is doomed and nobody has a reference to
-/// it. Where the hold word is free, no node is linked in the slot and nobody holds it, and a hold word has
-/// the bit of a linked node exactly where one is linked.
+/// the step by which it shows the key again, the word lets a try in exactly if the key is linked,
+/// activated and undoomed. If the active word is drained, the key is doomed and nobody has a reference to
+/// it. If the hold word is free, no node is linked in the slot and nobody holds it, and a hold word has
+/// the bit of a linked node exactly if one is linked.
 pub fn words_tell()
     ensures always_safe { AlwaysSafe }
     ensures lets_in_the_live { LetsInTheLive }
@@ -32,7 +33,7 @@ pub fn words_tell()
 /// nothing: the rule of the table is the premise, and its clauses say what the new view of the seat that
 /// steps makes of the world.
 ///
-/// A caller's try is an Enter, which runs exactly where the node is live, and the step that takes a refused
+/// A caller's try is an Enter, which runs exactly if the node is live, and the step that takes a refused
 /// one back an Undo. A look that finds the word drained is a Look, and a load that finds no node linked a
 /// Part. The bit of a hidden key set where it was clear is a Hide, a load by a hider that finds nobody a
 /// LookHidden, and the bit taken off a Show. Any other such step leaves the world as it is. The ends of
@@ -40,9 +41,9 @@ pub fn words_tell()
 /// Master, a birth is a Born of the slot's next key, activation and mark are a Rise and a Mark. A node taken
 /// out is an Unlink of any drained caller of it. A hold that gets its seat is a Pin of a new caller, on a
 /// linked key or one that somebody holds. A caller that counts one hold more leaves the world as it is, and
-/// the seat that gets it is a Pin of the caller's key, linked or not. Where it counted one of another key,
+/// the seat that gets it is a Pin of the caller's key, linked or not. If it counted one of another key,
 /// the seat that gets it is a Pin of that key if it is linked then, or held. The Master's other steps leave
-/// the world as it is. A seat that carries to the Master what a caller has seen, or the Master's answer,
+/// the world as it is. A seat that carries to the Master what a caller has seen, or the Master's reply,
 /// holds nothing: it is a Pin and at once a Release.
 pub fn words_step()
     ensures try_is_enter { TryIsEnter }
@@ -71,18 +72,19 @@ pub fn words_step()
 {}
 
 /// What holds over every run of steps of any number of seats, in any order, from any table that meets the
-/// rule. It does nothing: a step is one of the kinds that `words_step` names, made where the view of its own
+/// rule. It does nothing: a step is one of the kinds that `words_step` names, made if the view of its own
 /// seat allows it.
 ///
-/// The table opens with the rule, as the opening world. Each step keeps the rule, so the world stays safe. A
-/// run is a run of events where the Master gives a seat to a hold of a node that is linked or held, and takes
-/// a node out while a caller is drained there: `pin` asks for the first, `pin_held` and `unlink` for such a
-/// caller. Once a key was marked, each try there is refused, ever after. While a caller is drained or parted
-/// on a key, nobody is running on that key, nor ever after. While a caller hides a key, a try there is
-/// refused, and once it is hidden nobody is running there until it is shown. Once a slot was given again,
-/// only spent callers are on its earlier keys, ever after. A birth finds only spent callers on its slot, and
-/// a try lets a caller run only where its key is live. So whoever runs ran at the start, or was let in by a
-/// try of the run while its key was live.
+/// The table opens with the rule, as the opening world. Each step keeps the rule, so the world stays safe.
+/// A run in which the Master gives a seat only to a hold of a node that is linked or held, and takes a node
+/// out only while a caller is drained there, is a run of events: `pin` asks for the first, `pin_held` and
+/// `unlink` for such a caller. Once a key was marked, each try there is refused, ever after. While a caller
+/// is drained or parted on a key, nobody is running on that key, nor ever after. While a caller hides a
+/// key, a try there is refused, and once it is hidden nobody is running there until it is shown. Once a
+/// slot was given again, only spent callers are on its earlier keys, ever after. A birth finds only spent
+/// callers on its slot, and a try lets a caller run only if its key is live. So whoever runs ran at the
+/// start, or was let in by a try of the run while its key was live. As long as a caller sleeps at a slot,
+/// whoever loads the count of that slot's sleepers finds a number above 0.
 pub fn words_run()
     ensures opens_well { OpensWell }
     ensures rule_kept { RuleKept }
@@ -95,6 +97,7 @@ pub fn words_run()
     ensures born_unheld { BornUnheld }
     ensures let_in_live { LetInLive }
     ensures taken_live { TakenLive }
+    ensures sleepers_are_found { SleepersAreFound }
 {}
 
 /// What the rule of the table keeps of the one run, between any two steps, whatever the seats do. It does
@@ -102,9 +105,9 @@ pub fn words_run()
 ///
 /// The table is always at the end of a run of `words_run` from its opening. What a seat has seen is a
 /// beginning of that run: it leads to a table that met the rule, and from there the run went on to the table
-/// as it is. Where a caller was drained or parted on a key at any moment of the run so far, nobody is
+/// as it is. If a caller was drained or parted on a key at any moment of the run so far, nobody is
 /// running on that key now. Of two seats, one has seen as much as the other or more. Steps of one list lead
-/// to one table, so what a seat has seen names that table. Where a key is linked in two tables of a run, the
+/// to one table, so what a seat has seen names that table. If a key is linked in two tables of a run, the
 /// words of its node are, in every table between the two, those that stood there when it was born. So is
 /// what a caller reads of a node between a look that finds its key linked and a step that counts a hold of
 /// it.

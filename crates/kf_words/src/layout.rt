@@ -1,9 +1,9 @@
 //! Where the words of a slot stand, the numbers of which active words and hold words are made, and the tests
 //! on a word that was found.
 ghost use Rattle.std.specs.Prelude.{◌≡◌, ◌<◌, ◌+◌, ◌-◌, ◌↔◌, IsTrue};
-ghost use Rattle.kf_words.specs.Layout.{active_index, hold_index, sleepers_index, node_index, keeps_out, has_bias, has_hide, is_drained, is_unused, wants_wake, has_linked, bit, bias, doom, IsFree, HasRoom, HasSpare};
+ghost use Rattle.kf_words.specs.Layout.{active_index, hold_index, sleepers_index, node_index, keeps_out, has_bias, has_doom, has_hide, is_drained, is_unused, last_user_wakes, wants_wake, has_linked, bit, bias, doom, IsFree, HasRoom, HasSpare};
 
-use kf_core::Marks;
+use kf_core::NodeFlags;
 
 /// The words of a cache line. Each slot has a line to itself, so that calls of one node never wait for those
 /// of another: its active word, behind that its hold word, then the count of those who sleep at the active
@@ -67,6 +67,14 @@ fn has_bias(word: u64) -> bool
     word & BIAS != 0
 }
 
+/// Whether the node of this active word is doomed.
+#[tactic(auto, using(crate::proofs::Bits::has_doom_test))]
+fn has_doom(word: u64) -> bool
+    ensures { result ≡ has_doom word }
+{
+    word & DOOM != 0
+}
+
 /// Whether the key of this active word is hidden.
 #[tactic(auto, using(crate::proofs::Bits::has_hide_test))]
 pub(crate) fn has_hide(word: u64) -> bool
@@ -94,6 +102,14 @@ pub(crate) fn is_unused(word: u64) -> bool
     ensures { result ≡ is_unused word }
 {
     word & USERS == 0
+}
+
+/// Whether the last user to go wakes whoever sleeps at this active word: the node is doomed, and somebody
+/// uses it.
+pub(crate) fn last_user_wakes(word: u64) -> bool
+    ensures { result ≡ last_user_wakes word }
+{
+    has_doom(word) && !is_unused(word)
 }
 
 /// Whether a sleeper may wait for this active word: the node is doomed or its key hidden, and nobody uses it.
@@ -142,7 +158,7 @@ pub(crate) fn has_spare(word: u64, limit: u32) -> bool
 }
 
 /// What the mark adds to the active word of a node with these marks.
-pub(crate) fn mark_bits(marks: Marks) -> u64
+pub(crate) fn mark_bits(marks: NodeFlags) -> u64
     ensures { result ≡ bit marks.activated bias + doom }
 {
     if marks.activated { BIAS + DOOM } else { DOOM }

@@ -13,7 +13,7 @@ use crate::layout::has_room;
 use crate::master_seat::MasterSeat;
 use crate::note::Said;
 use crate::seat::CallerSeat;
-use kf_core::{Key, Marks, Node, Refusal, SlotState};
+use kf_core::{Key, Node, NodeFlags, Refusal, SlotState};
 use std::marker::Model;
 use std::sync::Arc;
 
@@ -24,7 +24,7 @@ pub struct Master {
     pub(crate) slots: Vec<SlotState>,
     pub(crate) nodes: Vec<Node>,
     pub(crate) holds: u32,
-    /// By block of 64 slots, whether each of its slots, but for the root's, is known to have a node linked.
+    /// By block of 64 slots, whether each of its slots, except the root's, is known to have a node linked.
     pub(crate) full: Vec<bool>,
     /// The same by group of 128 blocks.
     pub(crate) full_groups: Vec<bool>,
@@ -48,8 +48,8 @@ impl Model for Master {
 }
 
 impl Master {
-    /// The marks of a node, where it is linked. It makes no word step.
-    pub fn marks(&self, key: Key) -> Option<Marks>
+    /// The marks of a node, if it is linked. It makes no word step.
+    pub fn marks(&self, key: Key) -> Option<NodeFlags>
         ensures { result ≡ marks_of self.now.view key }
     {
         match self.slots.get(key.slot as usize) {
@@ -59,7 +59,7 @@ impl Master {
     }
 
     /// The generation that a slot was given last: that of the node there, or of the last that is gone, or 0.
-    /// None where the table has no such slot. It makes no word step.
+    /// None if the table has no such slot. It makes no word step.
     pub fn last(&self, slot: u32) -> Option<u32>
         ensures { result ≡ last_of self.now.view slot }
     {
@@ -69,7 +69,7 @@ impl Master {
         }
     }
 
-    /// Whether the slot of a key may have one hold more, in one word step. False, with no step, where the
+    /// Whether the slot of a key may have one hold more, in one word step. False, with no step, if the
     /// table has no such slot.
     pub fn room(&mut self, key: Key) -> bool
         ensures kept { KeepsNodes self.old self.new }
@@ -93,7 +93,7 @@ impl Master {
     ///
     /// Condition: the node is linked.
     ///
-    /// Refusals, in order: TooManyHolds where the slot has as many holds as there may be; NoMemory where the
+    /// Refusals, in order: TooManyHolds if the slot has as many holds as there may be; NoMemory if the
     /// table can have no owner more (its `Arc` is at its last count). After each the slot has the holds that
     /// it had.
     pub fn pin(&mut self, key: Key) -> Result<Hold, Refusal>
@@ -114,7 +114,7 @@ impl Master {
     ///
     /// Condition: the call is of this table.
     ///
-    /// Refusals, in order: NoEntry where the slot has had a later node, before any word step; TooManyHolds
+    /// Refusals, in order: NoEntry if the slot has had a later node, before any word step; TooManyHolds
     /// and NoMemory as of `pin`.
     pub fn pin_held(&mut self, call: &Call) -> Result<Hold, Refusal>
         requires { call.now.table ≡ self.old.table }

@@ -6,7 +6,7 @@ ghost use Rattle.kf_core.specs.Marks.{fresh_marks};
 ghost use Rattle.kf_words.specs.Layout.{active_index, hold_index};
 ghost use Rattle.kf_words.specs.Rule.{last_key};
 ghost use Rattle.kf_words.specs.Steps.{with_load, with_pin, without_pin, after_split, new_hold, state_at, with_look, without_node, after_store, with_birth, TellsSlot, with_marks, activated_marks, doomed_marks, plain};
-ghost use Rattle.kf_core.specs.declared.slot.Marks.{Marks};
+ghost use Rattle.kf_core.specs.declared.slot.NodeFlags.{NodeFlags};
 ghost use Rattle.kf_words.specs.Nodes.{HasMarks, HasLooked, FoundRoom, FoundFree, master_sight, master_view};
 ghost use Rattle.kf_words.specs.TableSteps.{loads_hold, pins_hold, stores_fresh, births, takes_bias, marks_node, looks_over, unlinks, notes, stores_node};
 ghost use Rattle.kf_words.specs.Made.{WasMadeByMaster, WasNoted};
@@ -23,7 +23,7 @@ use crate::plays::{
 };
 use crate::sight::Sight;
 use atomic_table::Seat;
-use kf_core::{Marks, Node};
+use kf_core::{Node, NodeFlags};
 
 impl MasterSeat {
     /// Where the active word of a slot stands.
@@ -196,7 +196,7 @@ impl MasterSeat {
 
     /// Marks the node of a slot, which has these marks, as doomed. It wakes nobody: one who waits for a node
     /// that is not doomed yet sleeps for a millisecond at most.
-    pub(crate) fn mark_node(&mut self, slot: u32, marks: Marks)
+    pub(crate) fn mark_node(&mut self, slot: u32, marks: NodeFlags)
         requires marks { HasMarks (master_view self.old) slot marks }
         requires undoomed { marks.doomed ≡ false }
         ensures table { self.new.token.table_id ≡ self.old.token.table_id }
@@ -229,7 +229,7 @@ impl MasterSeat {
 
     /// Takes out the node of a slot whose active word the last step found drained.
     pub(crate) fn unlink(&mut self, slot: u32)
-        requires marks { (x : Marks) × HasMarks (master_view self.old) slot x }
+        requires marks { (x : NodeFlags) × HasMarks (master_view self.old) slot x }
         requires drained { HasLooked (master_view self.old) slot }
         ensures table { self.new.token.table_id ≡ self.old.token.table_id }
         ensures view { master_view self.new ≡ without_node slot (master_view self.old) }

@@ -1,4 +1,4 @@
-//! The Master and a hold tell each other what they have seen, while both are in hand.
+//! The Master and a hold exchange what they have seen, while both are in hand.
 ghost use Rattle.std.specs.Prelude.{◌≡◌, ◌≢◌};
 ghost use mathlib.Core.List.{IsPrefix};
 ghost use Rattle.kf_core.specs.declared.caller.Phase.TheVariants as phase_of;
@@ -33,9 +33,9 @@ impl Master {
         seat.take_over::<Brand>(answer);
     }
 
-    /// A hold tells the Master what it has seen of the history, and has from now on seen all that the Master
-    /// has. So what it had seen is a beginning of the history that whoever has the Master finds. Five word
-    /// steps, which change nothing.
+    /// A hold reports to the Master what it has seen of the history, and has from now on seen all that the
+    /// Master has. So what it had seen is a beginning of the history that whoever has the Master finds.
+    /// Five word steps, which change nothing.
     ///
     /// Condition: the hold is of this table.
     pub fn meet(&mut self, hold: &mut Hold)

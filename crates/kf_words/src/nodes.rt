@@ -1,7 +1,7 @@
 //! What the Master does to nodes: they are born, activated, doomed and unlinked.
 ghost use Rattle.std.specs.Prelude.{◌≡◌, true, false, Some, None, is_some, slice_set, IfSome, if◌then◌else◌};
 ghost use Rattle.std.specs.Option.{option_map};
-ghost use Rattle.kf_core.specs.declared.slot.Marks.{Marks};
+ghost use Rattle.kf_core.specs.declared.slot.NodeFlags.{NodeFlags};
 ghost use Rattle.kf_core.specs.Marks.{fresh_marks, live_marks, are_doomed};
 ghost use Rattle.kf_words.specs.Steps.{with_birth, after_store, with_marks, activated_marks, doomed_marks};
 ghost use Rattle.kf_words.specs.TableSteps.{takes_bias, marks_node};
@@ -13,11 +13,11 @@ use crate::blocks::{block_of, group_of};
 use crate::layout::is_drained;
 use crate::master::Master;
 use crate::receipt::Drained;
-use kf_core::{Key, Marks, Node, SlotState};
+use kf_core::{Key, Node, NodeFlags, SlotState};
 
 impl Master {
-    /// The lowest slot from 1 up that is found free, with its next generation. None where no slot was found
-    /// free. It takes one word step for each slot up to that one where no node is linked.
+    /// The lowest slot from 1 up that is found free, with its next generation. None if no slot was found
+    /// free. It takes one word step for each slot up to that one in which no node is linked.
     pub fn free_key(&mut self) -> Option<Key>
         ensures kept { KeepsNodes self.old self.new }
         ensures searched { Searched self.old.view (option_map (λ key. key.slot) result) self.new.view }
@@ -36,7 +36,7 @@ impl Master {
 
     /// A node is born in a slot that was found free: linked, not activated, not doomed (`kernfs_add_one`).
     ///
-    /// Condition: the last `free_key` answered this key, with no birth, pin or unlink since.
+    /// Condition: the last `free_key` returned this key, with no birth, pin or unlink since.
     pub fn born(&mut self, key: Key, node: Node)
         requires { MayBear self.old.view key }
         ensures table { self.new.table ≡ self.old.table }
@@ -52,7 +52,7 @@ impl Master {
         self.nodes[key.slot as usize] = node;
         self.slots[key.slot as usize] = SlotState {
             generation: key.generation,
-            marks: Some(Marks {
+            marks: Some(NodeFlags {
                 activated: false,
                 doomed: false,
             }),
@@ -74,7 +74,7 @@ impl Master {
         self.steps.take_bias(key.slot);
         self.slots[key.slot as usize] = SlotState {
             generation: key.generation,
-            marks: Some(Marks {
+            marks: Some(NodeFlags {
                 activated: true,
                 doomed: false,
             }),
@@ -92,14 +92,14 @@ impl Master {
         ensures view { self.new.view ≡ with_marks doomed_marks key.slot self.old.view }
         ensures made { WasMadeByMaster (marks_node key.slot) (sight_in self.old) (sight_in self.new) }
         ensures history { history_of self.new.seen ≡ history_of self.old.seen }
-        ensures slots { (x : Marks) → marks_of self.old.view key ≡ Some x →
+        ensures slots { (x : NodeFlags) → marks_of self.old.view key ≡ Some x →
             self.new.view.slots ≡ slots_with self.old.view.slots key (Some (doomed_marks x)) }
     {
         if let Some(marks) = self.marks(key) {
             self.steps.mark_node(key.slot, marks);
             self.slots[key.slot as usize] = SlotState {
                 generation: key.generation,
-                marks: Some(Marks {
+                marks: Some(NodeFlags {
                     activated: marks.activated,
                     doomed: true,
                 }),
@@ -107,7 +107,7 @@ impl Master {
         }
     }
 
-    /// Takes a node out of the tree, where its active word is found drained (`kernfs_unlink_sibling`). False
+    /// Takes a node out of the tree, if its active word is found drained (`kernfs_unlink_sibling`). False
     /// where it was not: a refused try may be in flight there, or a caller that broke its protection has a
     /// reference again.
     ///

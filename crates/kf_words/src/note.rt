@@ -11,7 +11,7 @@ pub enum Note {
     Claimed(Key),
     /// The stored commands gave way to others that make the same tree.
     Compacted,
-    /// A tree of so many slots was made, of this root alone.
+    /// A tree of this many slots was made, of this root alone.
     Began(u32, Key),
     /// The lock was taken, or is about to be let go: what stands between two of these was done while it was
     /// held once.

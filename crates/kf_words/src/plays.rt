@@ -112,7 +112,7 @@ impl Play<(), Sight> for Misses {
     ghost then = { MakesMiss };
 }
 
-/// A caller counts one hold more, where the word is as it expects.
+/// A caller counts one hold more, if the word is as it expects.
 pub(crate) struct Counts;
 
 impl Play<(), Sight> for Counts {
@@ -150,7 +150,7 @@ impl Play<(), Sight> for ReadsNode {
     ghost then = { MakesRead };
 }
 
-/// A caller counts one hold more of any key, where the hold word is as it expects.
+/// A caller counts one hold more of any key, if the hold word is as it expects.
 pub(crate) struct CountsAt;
 
 impl Play<(), Sight> for CountsAt {
@@ -174,18 +174,29 @@ impl Split<Sight> for HandsOn {
 pub(crate) struct Sleeps;
 
 impl Play<(), Sight> for Sleeps {
-    ghost use Rattle.kf_words.specs.Made.{Stays};
+    ghost use Rattle.kf_words.specs.TableSteps.{sleeps};
+    ghost use Rattle.kf_words.specs.Made.{MakesOnSleepers};
 
-    ghost then = { Stays };
+    ghost then = { MakesOnSleepers sleeps };
 }
 
-/// A caller is no longer among its slot's sleepers.
+/// A caller takes itself off the count of its slot's sleepers.
 pub(crate) struct Awakes;
 
 impl Play<(), Sight> for Awakes {
-    ghost use Rattle.kf_words.specs.Made.{Stays};
+    ghost use Rattle.kf_words.specs.TableSteps.{awakes};
+    ghost use Rattle.kf_words.specs.Made.{MakesOnSleepers};
 
-    ghost then = { Stays };
+    ghost then = { MakesOnSleepers awakes };
+}
+
+/// A caller loads the count of its slot's sleepers.
+pub(crate) struct LoadsSleepers;
+
+impl Play<(), Sight> for LoadsSleepers {
+    ghost use Rattle.kf_words.specs.Made.{MakesSleeperLoad};
+
+    ghost then = { MakesSleeperLoad };
 }
 
 /// The Master loads a hold word.

@@ -1,5 +1,5 @@
-//! The steps of a hold and a call that wake nobody, for a caller who has sleepers of its own or none: what is
-//! owed to sleepers is in their answer. `enter`, `leave` and `break_protection` are these and the wake.
+//! The steps of a hold and a call that wake nobody, for a caller that has sleepers of its own or none: what
+//! is owed to sleepers is in their results. `enter`, `leave` and `break_protection` are these and the wake.
 ghost use Rattle.std.specs.Prelude.{◌≡◌, true, IfOk, IfErr, MatchResult};
 ghost use Rattle.kf_core.specs.Phases.{has_reference};
 ghost use Rattle.kf_core.specs.declared.caller.Phase.TheVariants as phase_of;
@@ -42,7 +42,7 @@ impl Hold {
 }
 
 impl Call {
-    /// As `leave`, and answers also the wake that its step owes.
+    /// As `leave`, and returns also the wake that its step owes.
     ///
     /// Condition: Running or Restored.
     pub fn leave_quiet(self) -> (Hold, WakeDue)
@@ -57,7 +57,7 @@ impl Call {
         (Hold { seat: seat.moved() }, due)
     }
 
-    /// As `break_protection`, and answers the wake that its step owes.
+    /// As `break_protection`, and returns the wake that its step owes.
     ///
     /// Condition: Running.
     pub fn break_quiet(&mut self) -> WakeDue

@@ -71,7 +71,7 @@ impl Drained {
     }
 
     /// Gives its hold of the slot back (`kernfs_put`), in one word step. Nothing is left of it that a clause
-    /// could tell of.
+    /// could speak of.
     pub fn release(self) {
         let Drained { mut seat } = self;
         release_seat(&mut seat);
@@ -89,7 +89,7 @@ impl Parted {
     }
 
     /// Gives its hold of the slot back (`kernfs_put`), in one word step. Nothing is left of it that a clause
-    /// could tell of.
+    /// could speak of.
     pub fn release(self) {
         let Parted { mut seat } = self;
         release_seat(&mut seat);

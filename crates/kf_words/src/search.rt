@@ -11,8 +11,8 @@ use crate::master_seat::MasterSeat;
 use kf_core::SlotState;
 
 impl MasterSeat {
-    /// The first slot of a block that is found free. It loads no hold word of a slot where a node is linked,
-    /// and passes over a block that is marked full. Where it finds a node in each slot, it marks the block.
+    /// The first slot of a block that is found free. It loads no hold word of a slot that has a node,
+    /// and passes over a block that is marked full. If it finds a node in each slot, it marks the block.
     fn free_in_block(&mut self, slots: &[SlotState], full: &mut [bool], block: usize) -> Option<u32>
         requires slots { slots.now ≡ (master_view self.old).slots }
         requires block { block < length full.old }
@@ -46,7 +46,7 @@ impl MasterSeat {
     }
 
     /// The first slot of a group of blocks that is found free, block by block. It passes over a group that is
-    /// marked full. Where each of its blocks is marked in the end, it marks the group.
+    /// marked full. If each of its blocks is marked in the end, it marks the group.
     fn free_in_group(
         &mut self,
         slots: &[SlotState],

@@ -21,7 +21,7 @@ use kf_core::Key;
 use std::sync::Arc;
 pub use steps::release_seat;
 
-/// What a node is, but for a file's tag and a link's target.
+/// What a node is, except a file's tag and a link's target.
 #[derive(Clone, Copy)]
 enum NodeKind {
     Dir,

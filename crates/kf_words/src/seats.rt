@@ -29,7 +29,7 @@ impl Guard for Seats {
     ghost use Rattle.std.specs.Prelude.{◌≡◌, true};
     ghost use Rattle.kf_core.specs.Phases.{has_reference};
     ghost use Rattle.kf_words.specs.Callers.{IsSameSeat, Entered, WasTurned, WasLeft, seat_view};
-    ghost use Rattle.kf_words.specs.Made.{WasLetInLive, WasATryUndone, WasALeave};
+    ghost use Rattle.kf_words.specs.Made.{WasLetInLive, WasATryUndoneThenWake, WasALeaveThenWake};
 
     type Hold = Hold;
 
@@ -41,12 +41,12 @@ impl Guard for Seats {
         × WasLetInLive (seat_view hold) (seat_view call) };
 
     ghost refuses = { λ _ hold back _. IsSameSeat hold back × WasTurned hold back
-        × WasATryUndone (seat_view hold) (seat_view back) };
+        × WasATryUndoneThenWake (seat_view hold) (seat_view back) };
 
     ghost may_leave = { λ _ call. has_reference call.phase ≡ true };
 
     ghost leaves = { λ _ call hold _. IsSameSeat call hold × WasLeft call hold
-        × WasALeave (seat_view call) (seat_view hold) };
+        × WasALeaveThenWake (seat_view call) (seat_view hold) };
 
     fn enter(&mut self, hold: Hold) -> Result<Call, Hold> {
         hold.enter()

@@ -5,8 +5,8 @@ use crate::note::Note;
 use crate::view::View;
 use std::collections::LinkedList;
 
-/// How the table begins: so many slots, each with at most so many holds, the last generation `start` and no
-/// node. The root's slot alone has a node, which is live and of the next generation.
+/// How the table begins: this many slots, each with at most this many holds, the last generation `start`
+/// and no node. The root's slot alone has a node, which is live and of the next generation.
 #[derive(Clone, Copy)]
 pub struct Opening {
     pub holds: u32,
@@ -30,8 +30,6 @@ pub enum StepKind {
     Misses(u64),
     Counts(u64),
     Shares(u64),
-    Sleeps(u64),
-    Awakes(u64),
     LoadsHold(u64),
     PinsHold(u64),
     UnpinsHold(u64),
@@ -50,6 +48,10 @@ pub enum StepKind {
     MissesAt(u64, u64),
     CountsAt(u64, u64),
     HandsOn(u64),
+    /// On the slot whose sleepers it is about, and the caller.
+    Sleeps(u64, u64),
+    Awakes(u64, u64),
+    LoadsSleepers(u64, u64),
     /// On the slot of any node, and which of its words: the word that is put, and the caller that loads it.
     StoresNode(u64, u64, u64),
     ReadsNode(u64, u64, u64),

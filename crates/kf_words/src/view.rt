@@ -29,7 +29,7 @@ pub struct Load {
 pub struct MasterView {
     /// The most holds of one slot.
     pub limit: u64,
-    /// By slot, the last generation, and the marks of its node where one is linked.
+    /// By slot, the last generation, and the marks of its node if one is linked.
     pub slots: LinkedList<SlotState>,
     /// The slot of a hold that is counted and has no seat yet.
     pub pinning: Option<u32>,
@@ -39,7 +39,7 @@ pub struct MasterView {
     pub loads: LinkedList<Load>,
     /// Its loads of hold words that counted at its last birth.
     pub at_birth: LinkedList<Load>,
-    /// The load of an active word, where that was its last step.
+    /// The load of an active word, if that was its last step.
     pub looked: Option<Load>,
 }
 

@@ -1,14 +1,15 @@
-//! The wake that a step owes to those who sleep at its slot.
-ghost use Rattle.std.specs.Prelude.{◌≡◌, ◌-◌, false};
-ghost use Rattle.kf_words.specs.Callers.{is_wanted};
+//! The wake that a step owes to the sleepers of its slot.
+ghost use Rattle.std.specs.Prelude.{◌≡◌, ◌-◌, true, false};
+ghost use Rattle.kf_words.specs.Callers.{IsSameSeat, handle_of, is_wanted, sight_of, view_of};
 ghost use Rattle.kf_words.specs.Layout.{wants_wake};
+ghost use Rattle.kf_words.specs.Made.{WakeSpent};
 
 use crate::layout::ends_a_wait;
 use crate::seat::CallerSeat;
 use std::marker::Model;
 
-/// Whether those who sleep at a slot are to be woken. It is spent by a `match`: a step that lets it go does
-/// not compile.
+/// Whether the sleepers of a slot are to be woken. It is spent by a `match`: code that forgets it does not
+/// compile.
 pub enum Wake {
     /// One of them may wait for what the step left.
     Wanted,
@@ -16,9 +17,9 @@ pub enum Wake {
     Unwanted,
 }
 
-/// What a step that took one user off an active word owes to those who sleep there: a wake, where the word
-/// that it found tells that one of them may wait for what is left. It is spent by a wake, by `none` where no
-/// wake is wanted, or by `told`: a step that lets it go does not compile.
+/// What a step that took one user off an active word owes to the sleepers there: a wake, if by the word
+/// that it found one of them may wait for what is left. It is spent by a wake, by `none` if no wake is
+/// wanted, or by `told`: code that forgets it does not compile.
 pub struct WakeDue {
     slot: u32,
     found: u64,
@@ -33,7 +34,7 @@ impl Model for WakeDue {
 }
 
 impl WakeDue {
-    /// What the step owes that found this word, and took one user off it.
+    /// What a step owes that found this word, and took one user off it.
     pub(crate) fn new(slot: u32, found: u64) -> WakeDue
         ensures slot { result.slot ≡ slot }
         ensures found { result.found ≡ found }
@@ -41,8 +42,8 @@ impl WakeDue {
         WakeDue { slot, found }
     }
 
-    /// Whether to wake the sleepers: the step took off the last user, and the node is doomed or hidden, which
-    /// is what they wait for.
+    /// Whether to wake the sleepers: the step took off the last user, and the node is doomed or hidden,
+    /// which is what they wait for.
     pub fn is_wanted(&self) -> bool
         ensures { result ≡ wants_wake (self.now.found - 1) }
     {
@@ -58,7 +59,7 @@ impl WakeDue {
         let WakeDue { slot: _, found: _ } = self;
     }
 
-    /// Tells what it owes, for a caller that wakes its sleepers by its own means. The answer has to be
+    /// Whether a wake is owed, for a caller that wakes its sleepers by its own means. The result has to be
     /// matched.
     pub fn told(self) -> Wake
         ensures { is_wanted result ≡ wants_wake (self.found - 1) }
@@ -71,17 +72,24 @@ impl WakeDue {
         }
     }
 
-    /// Wakes all who sleep at the slot, which is the seat's. It makes a system call only where somebody does.
-    fn wake(self, seat: &CallerSeat)
-        requires { self.slot ≡ seat.now.key.slot }
+    /// Wakes all sleepers of the slot, which is the seat's: it loads their count, and makes a system call
+    /// only if there are any.
+    fn wake(self, seat: &mut CallerSeat)
+        requires { self.slot ≡ seat.old.key.slot }
+        ensures same { IsSameSeat (handle_of seat.old) (handle_of seat.new) }
+        ensures view { view_of seat.new ≡ view_of seat.old }
+        ensures spent { WakeSpent true (sight_of seat.old) (sight_of seat.new) }
     {
         let WakeDue { slot: _, found: _ } = self;
         seat.wake_all();
     }
 
-    /// Wakes all who sleep at the slot, where a wake is wanted.
-    pub(crate) fn spend(self, seat: &CallerSeat)
-        requires { self.slot ≡ seat.now.key.slot }
+    /// Wakes all sleepers of the slot, if a wake is wanted.
+    pub(crate) fn spend(self, seat: &mut CallerSeat)
+        requires { self.slot ≡ seat.old.key.slot }
+        ensures same { IsSameSeat (handle_of seat.old) (handle_of seat.new) }
+        ensures view { view_of seat.new ≡ view_of seat.old }
+        ensures spent { WakeSpent (wants_wake (self.found - 1)) (sight_of seat.old) (sight_of seat.new) }
     {
         if self.is_wanted() {
             self.wake(seat);

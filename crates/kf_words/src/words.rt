@@ -18,7 +18,7 @@ use crate::master_seat::MasterSeat;
 use crate::master_token::MasterToken;
 use crate::sight::Opening;
 use crate::table::WordTable;
-use kf_core::{Limits, Marks, Node, Refusal, SlotState};
+use kf_core::{Limits, Node, NodeFlags, Refusal, SlotState};
 use std::alloc::{AllocError, Global};
 use std::marker::Model;
 use std::sync::Arc;
@@ -64,7 +64,7 @@ fn first_slots(alloc: Global, slots: u32, start: u32) -> Result<Vec<SlotState>, 
     }; slots as usize]?;
     states[0] = SlotState {
         generation: start + 1,
-        marks: Some(Marks {
+        marks: Some(NodeFlags {
             activated: true,
             doomed: false,
         }),
@@ -142,7 +142,7 @@ impl Words {
         Words::new_at(alloc, limits, 0)
     }
 
-    /// The same, where each slot has already had `start` generations. The root has the next.
+    /// The same, if each slot has already had `start` generations. The root has the next.
     ///
     /// Condition: `start` is at most 4294967294.
     ///

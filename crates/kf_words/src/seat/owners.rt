@@ -41,7 +41,7 @@ impl CallerSeat {
         })
     }
 
-    /// The one way in which a seat ends, and only where its hold was given back: the view says Spent after
+    /// The one way in which a seat ends, and only if its hold was given back: the view says Spent after
     /// the step of `release_seat` alone. Its owner is left.
     pub(crate) fn end_to_owner(self) -> Owner
         requires { (view_of self).phase ≡ phase_of.Spent }

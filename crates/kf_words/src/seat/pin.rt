@@ -1,5 +1,5 @@
 //! A hold of any key from a seat of the same table: one hold more is counted on the hold word of the key's
-//! slot, where that has the key's node linked and a spare place, and a new seat gets it. No lock is asked
+//! slot, if that has the key's node linked and a spare place, and a new seat gets it. No lock is asked
 //! for.
 ghost use Rattle.std.specs.Prelude.{◌≡◌, ◌≢◌, ◌<◌, true, false, None, IfOk, IfErr, IfSome};
 ghost use Rattle.kf_words.specs.Layout.{IsOf, HasSpare};
@@ -23,7 +23,7 @@ use kf_core::{Key, Node, Refusal};
 /// How often an exchange is tried where other holds come and go between.
 const TRIES: u32 = 64;
 
-/// Why no hold is made of a key of this generation where its slot's hold word is so.
+/// Why no hold is made of a key of this generation if its slot's hold word is so.
 fn why_not(word: u64, generation: u32, most: u32) -> Option<Refusal>
     ensures refused { IfSome result (λ why. IsWhyNot generation most word why) }
     ensures linked { result ≡ None → IsOf generation word }
@@ -80,7 +80,7 @@ impl CallerSeat {
         self.table.shared.load::<ReadsNode>(&mut self.token, word)
     }
 
-    /// Counts one hold more of a key where the hold word of its slot is as expected, and gives it a new seat.
+    /// Counts one hold more of a key if the hold word of its slot is as expected, and gives it a new seat.
     /// Err is the word that was found instead.
     fn exchange_for(&mut self, key: Key, expected: u64) -> Result<Seat<(), Sight>, u64>
         requires rests { IsAtRest (view_of self.old) }
@@ -108,8 +108,8 @@ impl CallerSeat {
         Ok(self.table.shared.split_seat::<HandsOn>(&mut self.token))
     }
 
-    /// One try at a hold of a key, where the hold word of its slot is as guessed. Err is the word that was
-    /// found instead, or why no hold is made where it is so.
+    /// One try at a hold of a key, if the hold word of its slot is as guessed. Err is the word that was
+    /// found instead, or why no hold is made if it is so.
     fn try_pin(&mut self, key: Key, guess: u64) -> Result<Seat<(), Sight>, Result<u64, Refusal>>
         requires rests { IsAtRest (view_of self.old) }
         requires there { HasSlotOf (handle_of self.old) key }
@@ -168,7 +168,7 @@ impl CallerSeat {
         Err(Refusal::Busy)
     }
 
-    /// Why there is no hold of a key where the table can have no owner more: for want of memory only where
+    /// Why there is no hold of a key if the table can have no owner more: for want of memory only if
     /// the node is linked and its slot has a place.
     fn refuse_pin(&mut self, key: Key) -> Refusal
         requires rests { IsAtRest (view_of self.old) }

@@ -20,7 +20,7 @@ use std::sync::Arc;
 const TRIES: u32 = 64;
 
 impl CallerSeat {
-    /// The hold word as it is now, by a load that tells its seat nothing.
+    /// The hold word as it is now, by a load that the rule does not see.
     fn peek_holds(&self) -> u64 {
         self.table.shared.peek(self.hold_index())
     }
@@ -42,7 +42,7 @@ impl CallerSeat {
             .compare_exchange::<Misses>(&mut self.token, word, most, most)
     }
 
-    /// Counts one hold more where the hold word is as expected, and gives it a new seat. Err is the word that
+    /// Counts one hold more if the hold word is as expected, and gives it a new seat. Err is the word that
     /// was found instead.
     fn exchange(&mut self, expected: u64) -> Result<Seat<(), Sight>, u64>
         requires rests { IsAtRest (view_of self.old) }
@@ -67,8 +67,8 @@ impl CallerSeat {
         Ok(self.table.shared.split_seat::<SharesHold>(&mut self.token))
     }
 
-    /// One try at a hold more, where the hold word is as guessed. Err is the word that was found instead, and
-    /// None where that has no spare place.
+    /// One try at a hold more, if the hold word is as guessed. Err is the word that was found instead, and
+    /// None if that has no spare place.
     fn try_another(&mut self, guess: u64) -> Result<Seat<(), Sight>, Option<u64>>
         requires { IsAtRest (view_of self.old) }
         ensures same { IsSameSeat (handle_of self.old) (handle_of self.new) }
@@ -121,7 +121,7 @@ impl CallerSeat {
         Err(Refusal::Busy)
     }
 
-    /// Why there is no other hold where the table can have no owner more: for want of memory only where the
+    /// Why there is no other hold if the table can have no owner more: for want of memory only if the
     /// slot has a place.
     fn refuse_another(&mut self) -> Refusal
         requires { IsAtRest (view_of self.old) }

@@ -1,25 +1,32 @@
-//! Sleeping on the active word of a seat's slot, and the wake of those who do.
+//! Sleeping on the active word of a seat's slot, and the wake of the sleepers.
 //!
-//! A step that takes the last user off a word makes no system call where nobody sleeps, and no wake is lost.
-//! A seat that goes to sleep (1) adds itself to the slot's count of sleepers. Then it (2) has the kernel, in
-//! one step, compare the users of the active word with those that it saw, one or more, and queue it. A seat
-//! that takes a user off (3) changes the active word, (4) loads the count, and (5) wakes all where that is
-//! not zero. Each is sequentially consistent; the kernel's compare stands behind a full barrier.
+//! A step that takes the last user off a word makes no system call if nobody sleeps, and no wake is lost. A
+//! seat that goes to sleep (1) adds itself to the slot's count of sleepers. Then (2) the kernel, in one
+//! step, compares the users of the active word with those that the seat saw, one or more, and queues it. A
+//! seat that takes a user off (3) changes the active word, (4) loads the count, and (5) wakes all sleepers
+//! if it is not zero. Each of these is sequentially consistent, and the kernel's compare is behind a full
+//! barrier.
 //!
 //! A sleeper waits for the step that leaves the word with no user. That step's (3) comes after the
-//! sleeper's (2), which found users; so its (4) comes after (1) and finds the sleeper counted, and its (5)
-//! finds it in the queue. Who is awake takes itself off the count; one counted a moment too long costs a
-//! system call, no more.
+//! sleeper's (2), which found users. So its (4) comes after (1) and finds the sleeper counted, and its (5)
+//! finds the sleeper in the queue. A seat that is awake takes itself off the count. If it stays there a
+//! moment too long, that costs a system call and no more.
 //!
-//! The count stands in a word of its own, which no birth stores to: whoever sleeps holds the slot. No
-//! clause speaks of wakes: `hostile/wake_model.py` tries each order of these steps.
-ghost use Rattle.std.specs.Prelude.{◌≡◌, ◌<◌};
+//! The count has a word of its own, to which no birth stores: a sleeper holds the slot. (1), (3), (4) and
+//! the step that takes a sleeper off the count are steps of the one run. Clauses name them in this order
+//! (`WasAsleep`, `WasMadeThenWake`), and the law `sleepers_are_found` says that (4) finds a sleeper. It is
+//! not proved that the number found decides, and no clause sees the kernel's queue. `.ci/unseen_steps` says
+//! where a load may be that the rule does not see, and `hostile/wake_model.py` tries each order of these
+//! steps.
+ghost use Rattle.std.specs.Prelude.{◌≡◌, ◌<◌, ℕ};
 ghost use Rattle.std.specs.Arc.{arc_value};
-ghost use Rattle.kf_words.specs.Callers.{handle_of};
-ghost use Rattle.kf_words.specs.Layout.{sleepers_index};
+ghost use Rattle.kf_words.specs.Callers.{IsSameSeat, handle_of, sight_of, view_of};
+ghost use Rattle.kf_words.specs.Layout.{last_user_wakes, sleepers_index};
+ghost use Rattle.kf_words.specs.Made.{LoadedSleepers, Rested, WasAsleep, WasMadeOnSleepers};
+ghost use Rattle.kf_words.specs.TableSteps.{awakes, sleeps};
 
-use crate::layout::{DOOM, USERS, sleepers_index};
-use crate::plays::{Awakes, Sleeps};
+use crate::layout::{USERS, last_user_wakes, sleepers_index};
+use crate::plays::{Awakes, LoadsSleepers, Sleeps};
 use crate::seat::CallerSeat;
 use std::sync::Wait;
 use std::time::Duration;
@@ -35,7 +42,9 @@ impl CallerSeat {
 
     /// Counts itself among the sleepers.
     fn fall_asleep(&mut self)
-        ensures { handle_of self.new ≡ handle_of self.old }
+        ensures same { IsSameSeat (handle_of self.old) (handle_of self.new) }
+        ensures view { view_of self.new ≡ view_of self.old }
+        ensures made { WasMadeOnSleepers sleeps (sight_of self.old) (sight_of self.new) }
     {
         let word = self.sleepers_index();
         self.table
@@ -43,9 +52,11 @@ impl CallerSeat {
             .fetch_add::<Sleeps>(&mut self.token, word, 1);
     }
 
-    /// Counts itself among the sleepers no more.
+    /// Takes itself off the count of sleepers.
     fn awake(&mut self)
-        ensures { handle_of self.new ≡ handle_of self.old }
+        ensures same { IsSameSeat (handle_of self.old) (handle_of self.new) }
+        ensures view { view_of self.new ≡ view_of self.old }
+        ensures made { WasMadeOnSleepers awakes (sight_of self.old) (sight_of self.new) }
     {
         let word = self.sleepers_index();
         self.table
@@ -53,11 +64,13 @@ impl CallerSeat {
             .fetch_sub::<Awakes>(&mut self.token, word, 1);
     }
 
-    /// Sleeps until a wake if the word has as many users as `seen`, which are one or more, and may return for
-    /// no reason. Each step by which the last user leaves the word drained, or unused and hidden, wakes all
-    /// sleepers.
+    /// Sleeps until a wake if the word has as many users as `seen`, which are one or more, and may return
+    /// for no reason. It is counted among the sleepers meanwhile. Each step by which the last user leaves
+    /// the word drained, or unused and hidden, wakes all sleepers.
     pub(crate) fn park<R: Wait>(&mut self, rt: &R, seen: u64)
-        ensures { handle_of self.new ≡ handle_of self.old }
+        ensures same { IsSameSeat (handle_of self.old) (handle_of self.new) }
+        ensures view { view_of self.new ≡ view_of self.old }
+        ensures slept { WasAsleep (sight_of self.old) (sight_of self.new) }
     {
         self.fall_asleep();
         let word = self.active_index();
@@ -74,28 +87,46 @@ impl CallerSeat {
             .park_timeout(rt, word, users, Duration::from_millis(1));
     }
 
-    /// Sleeps while the word has as many users as `seen`. Where the node is doomed, the last user to go wakes
+    /// Sleeps while the word has as many users as `seen`. If the node is doomed, the last user to go wakes
     /// all sleepers. The mark wakes nobody, and changes none of the bits that a sleep compares when it
-    /// begins. So before the mark, or where there is no user, the sleep ends by itself within a millisecond.
+    /// begins. So before the mark, or if there is no user, the sleep ends by itself within a millisecond.
     pub(crate) fn rest<R: Wait>(&mut self, rt: &R, seen: u64)
-        ensures { handle_of self.new ≡ handle_of self.old }
+        ensures same { IsSameSeat (handle_of self.old) (handle_of self.new) }
+        ensures view { view_of self.new ≡ view_of self.old }
+        ensures rested { Rested (last_user_wakes seen) (sight_of self.old) (sight_of self.new) }
     {
-        if seen & DOOM != 0 && seen & USERS != 0 {
+        if last_user_wakes(seen) {
             self.park(rt, seen);
         } else {
             self.nap(rt, seen);
         }
     }
 
-    /// The active word as it is now, by a load that tells its seat nothing.
+    /// Loads the count of its slot's sleepers.
+    fn load_sleepers(&mut self) -> u64
+        ensures same { IsSameSeat (handle_of self.old) (handle_of self.new) }
+        ensures view { view_of self.new ≡ view_of self.old }
+        ensures made { LoadedSleepers (sight_of self.old) (sight_of self.new) result }
+    {
+        let word = self.sleepers_index();
+        self.table
+            .shared
+            .load::<LoadsSleepers>(&mut self.token, word)
+    }
+
+    /// The active word as it is now, by a load that the rule does not see.
     pub(crate) fn peek(&self) -> u64 {
         self.table.shared.peek(self.active_index())
     }
 
-    /// Wakes all who sleep on the active word, if anybody does. Since each of them wakes, none takes a wake
-    /// that another needs, and no waiter has to pass one on.
-    pub(crate) fn wake_all(&self) {
-        if self.table.shared.peek(self.sleepers_index()) != 0 {
+    /// Wakes all sleepers on the active word, if there are any, by the count that it loads. Since each of
+    /// them wakes, none takes a wake that another needs, and no waiter has to pass one on.
+    pub(crate) fn wake_all(&mut self)
+        ensures same { IsSameSeat (handle_of self.old) (handle_of self.new) }
+        ensures view { view_of self.new ≡ view_of self.old }
+        ensures made { (found : ℕ) × LoadedSleepers (sight_of self.old) (sight_of self.new) found }
+    {
+        if self.load_sleepers() != 0 {
             self.table.shared.wake_all(self.active_index());
         }
     }

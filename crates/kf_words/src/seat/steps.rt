@@ -24,7 +24,7 @@ impl CallerSeat {
         active_index(self.key.slot)
     }
 
-    /// Counts one user more, and answers the word as it was.
+    /// Counts one user more, and returns the word as it was.
     pub(crate) fn try_reference(&mut self) -> u64
         requires { IsAtRest (view_of self.old) }
         ensures same { IsSameSeat (handle_of self.old) (handle_of self.new) }
@@ -110,7 +110,7 @@ impl CallerSeat {
         self.table.shared.load::<Looks>(&mut self.token, word)
     }
 
-    /// Sets the bit of a hidden key, and answers the word as it was.
+    /// Sets the bit of a hidden key, and returns the word as it was.
     pub(crate) fn set_hide(&mut self) -> u64
         requires { IsAtRest (view_of self.old) }
         ensures same { IsSameSeat (handle_of self.old) (handle_of self.new) }

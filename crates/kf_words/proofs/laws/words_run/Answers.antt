@@ -1,5 +1,6 @@
 -- The clauses on runs of the words, each by the lemma of its name.
 use Rattle.kf_words.proofs.Runs.{opens_well, rule_kept, run_is_run, run_is_safe, marked_keeps_out, drained_for_good, hidden_keeps_out, passed_for_good, born_unheld, let_in_live, taken_live}
+use Rattle.kf_words.proofs.Wakes.{sleepers_are_found}
 use Rattle.kf_words.proofs.laws.words_run.Goals as goal
 
 pub returns-clause-opens_well : goal.returns-clause-opens_well
@@ -34,3 +35,6 @@ returns-clause-let_in_live c = let_in_live
 
 pub returns-clause-taken_live : goal.returns-clause-taken_live
 returns-clause-taken_live c = taken_live
+
+pub returns-clause-sleepers_are_found : goal.returns-clause-sleepers_are_found
+returns-clause-sleepers_are_found c = sleepers_are_found

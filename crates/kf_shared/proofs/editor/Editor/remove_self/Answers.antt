@@ -4,10 +4,11 @@ use Rattle.kf_shared.specs.Removal.{keys_of}
 use Rattle.kf_shared.specs.Receipts.{IsDoomList}
 use Rattle.kf_shared.proofs.Receipts.{receipts_end, receipts_listed, end_key, listed_different}
 use Rattle.kf_words.specs.Callers.{seat_view}
+use Rattle.kf_words.specs.declared.sight.StepKind.TheVariants.{Breaks as breaks}
 use Rattle.kf_shared.specs.Locked.{Locked, history}
 use Rattle.kf_shared.specs.Sections.{IsTaken, WasClosed}
 use Rattle.kf_shared.proofs.Alone.{late_added, self_added}
-use Rattle.kf_shared.proofs.Hearing.{made_more}
+use Rattle.kf_shared.proofs.Hearing.{woken_more}
 use Rattle.kf_shared.proofs.Refusals.{may_be_doomed}
 use Rattle.kf_shared.proofs.editor.Editor.remove_self.Goals as goal
 
@@ -33,7 +34,7 @@ pub returns-clause-alone : goal.returns-clause-alone
 returns-clause-alone g c =
     let here : c.deref_mut.result.now ≡ c.begin_self_removal.new.self = search rules in
     late_added c.args.self c.begin_self_removal.new.self c.args.call.now c.begin_self_removal.new.call c.close_call.new.call c.restore_alone.new.call _
-    (made_more _ (seat_view c.args.call.now) (seat_view c.begin_self_removal.new.call) c.in_ok-first.ensures.made)
+    (woken_more breaks (seat_view c.args.call.now) (seat_view c.begin_self_removal.new.call) c.in_ok-first.ensures.made)
     (self_added c.args.self c.begin_self_removal.new.self c.args.call.now.key c.in_ok-first.ensures.noted)
     (subst (λ (l : Locked). WasClosed l [] c.begin_self_removal.new.call c.close_call.new.call) here c.close_call.ensures.call) c.restore_alone.ensures.later
 

@@ -1,33 +1,33 @@
-use Rattle.std.proofs.Common.{sym, subst, ◌∙◌}
+use Rattle.std.proofs.Common.{sym, ◌∙◌}
 use Rattle.kf_words.specs.Callers.{seat_view}
 use Rattle.kf_shared.proofs.Hearing.{made_more, prefix_trans}
-use Rattle.kf_shared.proofs.Finishing.{IsWaiting, waits_first, waits_told, waits_on, waited_all, was_ok}
+use Rattle.kf_shared.proofs.Finishing.{told_more, waits_first, waits_rested, waits_on, waited_all, was_ok}
 use Rattle.kf_shared.proofs.Removed.{finished_on}
 use Rattle.kf_shared.proofs.tree.SharedTree.finish.Goals as goal
 
 pub loop-init : goal.loop-init
-loop-init g c = waits_first c.args.hold c.wait_drained-drained.result c.wait_drained-drained.ensures.same c.wait_drained-drained.ensures.looked
+loop-init g c = waits_first c.args.hold c.wait_drained-drained.result c.wait_drained-drained.ensures.same c.wait_drained-drained.ensures.waited
 
 pub loop-preserved-then-is_err : goal.loop-preserved-then-is_err
 loop-preserved-then-is_err g c =
     let u = c.unlink_alone-unlinked in
-    subst (IsWaiting c.args.hold) (sym c.rest.ensures) (waits_told c.args.hold c.loop.drained u.new.drained c.loop.invariant u.ensures.same u.ensures.later)
+    waits_rested c.args.hold c.loop.drained u.new.drained c.loop.invariant u.ensures.same u.ensures.later c.rest.new.self c.rest.ensures.as_before c.rest.ensures.rested
 
 pub loop-preserved : goal.loop-preserved
 loop-preserved g c =
     let u = c.unlink_alone-unlinked in
-    waits_on c.args.hold u.new.drained c.in-Err.back (waits_told c.args.hold c.loop.drained u.new.drained c.loop.invariant u.ensures.same u.ensures.later) c.in-Err.ensures.same c.in-Err.ensures.made
+    waits_on c.args.hold c.loop.drained u.new.drained c.loop.invariant u.ensures.same u.ensures.later c.in-Err.back c.in-Err.ensures.same c.in-Err.ensures.made
 
 pub returns-in-Ok-clause-waited : goal.returns-in-Ok-clause-waited
 returns-in-Ok-clause-waited g c =
     let u = c.unlink_alone-unlinked in
-    waited_all c.args.hold u.new.drained c.in-Ok.parted (waits_told c.args.hold c.loop.drained u.new.drained c.loop.invariant u.ensures.same u.ensures.later) c.in-Ok.ensures.made
+    waited_all c.args.hold c.loop.drained u.new.drained c.loop.invariant u.ensures.same u.ensures.later c.in-Ok.parted c.in-Ok.ensures.made
 
 pub returns-in-Ok-clause-later : goal.returns-in-Ok-clause-later
 returns-in-Ok-clause-later g c =
     let u = c.unlink_alone-unlinked in
     prefix_trans c.args.hold.seen.steps u.new.drained.seen.steps c.in-Ok.parted.seen.steps
-    (waits_told c.args.hold c.loop.drained u.new.drained c.loop.invariant u.ensures.same u.ensures.later).later (made_more _ (seat_view u.new.drained) (seat_view c.in-Ok.parted) c.in-Ok.ensures.made)
+    (told_more c.args.hold c.loop.drained u.new.drained c.loop.invariant u.ensures.same u.ensures.later) (made_more _ (seat_view u.new.drained) (seat_view c.in-Ok.parted) c.in-Ok.ensures.made)
 
 pub returns-in-Ok-clause-finished : goal.returns-in-Ok-clause-finished
 returns-in-Ok-clause-finished g c =

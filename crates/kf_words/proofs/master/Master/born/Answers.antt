@@ -1,4 +1,4 @@
--- The slot of a new node gets its next generation, with the marks of a fresh one. (Where `search rules` fails, it
+-- The slot of a new node gets its next generation, with the marks of a fresh one. (If `search rules` fails, it
 -- ends at once.)
 use Rattle.std.proofs.Common.{rules, List, length-set, refl, arith, sym, ap, ◌∙◌, subst}
 use Rattle.std.specs.Prelude.{Some}

@@ -2,7 +2,7 @@
 use Rattle.std.proofs.Common.{◌≡◌, List, length-set, slice_set, refl, arith, sym, ap, ◌∙◌}
 use Rattle.std.specs.Prelude.{Some}
 use Rattle.kf_core.specs.declared.key.Key.{Key}
-use Rattle.kf_core.specs.declared.slot.Marks.{Marks}
+use Rattle.kf_core.specs.declared.slot.NodeFlags.{NodeFlags}
 use Rattle.kf_core.specs.declared.slot.SlotState.{SlotState}
 use Rattle.kf_words.specs.declared.view.MasterView.{MasterView}
 use Rattle.kf_words.specs.Steps.{doomed_marks, remarked, state_at}
@@ -15,7 +15,7 @@ pub invariant_of-self : goal.invariant_of-self
 invariant_of-self c =
     let key : Key = c.args.key in
     let own : MasterView = master_view c.self.inside.steps in
-    let x : Marks = c.in-Some.marks in
+    let x : NodeFlags = c.in-Some.marks in
     let had : marks_of own key ≡ Some x = ap (λ (s : MasterState). marks_of s.view key) c.self.view_is ∙ sym c.marks.ensures ∙ c.in-Some.is in
     let slots : List SlotState = c.self.inside.slots.items in
     let state : SlotState = record { generation = key.generation; marks = Some (doomed_marks x) } in
