@@ -1,4 +1,5 @@
 pub mod Said
+pub mod Doomed
 pub mod Frames
 pub mod Single
 pub mod Writers

@@ -1,5 +1,5 @@
 -- What the links say after a command on one node.
-use Rattle.std.proofs.Common.{◌≡◌, ◌≢◌, ◌⊎◌, inl, inr, refl, ap, sym, ◌∙◌, subst, Bool, true, false, cond, List, [], ◌∷◌, ℕ, slice_set}
+use Rattle.std.proofs.Common.{◌≡◌, ◌≢◌, ◌<◌, length, ◌⊎◌, inl, inr, refl, ap, sym, ◌∙◌, subst, Bool, true, false, cond, List, [], ◌∷◌, ℕ, slice_set}
 use Rattle.std.specs.Prelude.{Option, None, Some, slice_get, not, ◌&&◌, Result, Ok, Err, IfOk, IfErr, IfSome, IfNone, MatchBool}
 use Rattle.std.specs.Option.{option_map}
 use Rattle.std.proofs.lemmas.Option.{same_Some, none-some, slice_get_within}
@@ -24,19 +24,21 @@ use Rattle.kf_table.specs.Live.{lives, live_in, lives_in}
 use Rattle.kf_tree.specs.Causes.{doomed_in, unlink_cause}
 use Rattle.kf_tree.specs.SlotMarks.{contains_key}
 use Rattle.kf_tree.specs.TreeLogs.{TreeLog, IsAccepted}
+use Rattle.kf_looks.specs.declared.found.Found.{Found}
 use Rattle.kf_looks.specs.declared.view.Link.{Link}
 use Rattle.kf_looks.specs.Links.{link, is_of, child_of}
 use Rattle.kf_looks.proofs.Naming.{of_tells, of_own}
 use Rattle.kf_looks.specs.Links.{IsOfSlot}
 use Rattle.kf_looks.specs.Lines.{bytes_in}
 use Rattle.kf_live.specs.declared.telling.Spot.{Spot}
-use Rattle.kf_live.specs.Live.{SayBut, Say, StandsAt, SameBut, IsOut, Stood, IsMove, without, found_of, live_found}
-use Rattle.kf_live.proofs.Said.{one_record, one_place, of_slot}
+use Rattle.kf_live.specs.Live.{SayBut, Say, StandsAt, SameBut, StaysDoomed, IsOut, Stood, IsMove, IsLeftAt, without, found_of, live_found}
+use Rattle.kf_live.proofs.Doomed.{is_doomed, doomed_not_live, was_active}
+use Rattle.kf_live.proofs.Said.{one_record, one_place, of_slot, told_none}
 use Rattle.kf_live.proofs.Frames.{said_created, said_quiet, was_there, is_there, only_key}
 
 -- ---- a new node
 
-module _ (t : Tree) (key parent : Key) (name : List ℕ) (node : Node) (links : List Link) (vacant : slice_get t key.slot ≡ Some None) where
+module _ (t : Tree) (root key parent : Key) (name : List ℕ) (node : Node) (links : List Link) (lawful : Lawful t root) (vacant : slice_get t key.slot ≡ Some None) where
   abbrev made : Bool → Record
   made = new_record key parent name node
 
@@ -47,45 +49,11 @@ module _ (t : Tree) (key parent : Key) (name : List ℕ) (node : Node) (links : 
   not_there = find_at t key None vacant
 
   pub said_born : (b : Bool) → Say links t → SayBut (key ∷ []) links (after t (Create key parent name node b))
-  said_born b = said_created t (after t (Create key parent name node b)) key links (only_made b) not_there
+  said_born b = said_created t (after t (Create key parent name node b)) key links (only_made b) root lawful not_there
 
   pub said_unborn : (b : Bool) → b ≡ false → Say links t → Say links (after t (Create key parent name node b))
-  said_unborn b e = said_quiet t (after t (Create key parent name node b)) key links (only_made b) (ap lives_in not_there)
+  said_unborn b e says = said_quiet t (after t (Create key parent name node b)) key links (only_made b) root lawful not_there says
       (ap lives_in (in_found (slice_set t key.slot (Some (made b))) (made b) (slice_get-set_same t key.slot (Some (made b)) (slice_get_within t key.slot None vacant))) ∙ ap (λ c. lives (made c)) e)
-
--- ---- a node that leaves the tree
-
-doomed_not_live : (o : Option Record) → are_doomed (option_map (λ (r : Record). r.marks) o) ≡ true → lives_in o ≡ false
-doomed_not_live None h = refl
-doomed_not_live (Some r) h = ap (λ d. (r.marks.activated && not d) && not r.hidden) h ∙ none r.marks.activated
-  where
-    none : (b : Bool) → ((b && false) && not r.hidden) ≡ false
-    none true = refl
-    none false = refl
-
-unlinked_doomed : (t : Tree) (key : Key) → unlink_cause t key ≡ None → doomed_in t key ≡ true
-unlinked_doomed t key h = elim (doomed_in t key) as (λ b. first_cause (unless b Invalid ∷ unless (not (has_child t key)) Busy ∷ []) ≡ None → b ≡ true) [
-  | true ↦ λ e. refl
-  | false ↦ λ e. absurd (none-some Invalid (sym e))
-] h
-
-said_cleared : (t : Tree) (r : Record) (links : List Link) → IsIn t r → live_in t r.key ≡ false → Say links t → Say links (slice_set t r.key.slot None)
-said_cleared t r links i quiet = said_quiet t (slice_set t r.key.slot None) r.key links (λ k n. find_cleared t r k i n) quiet
-    (ap lives_in (find_at (slice_set t r.key.slot None) r.key None (slice_get-set_same t r.key.slot None (slice_get_within t r.key.slot (Some r) i))))
-
-said_gone : (t : Tree) (key : Key) (links : List Link) → is_linked t key ≡ true → unlink_cause t key ≡ None → Say links t → Say links (after t (Unlink key))
-said_gone t key links linked cause says =
-    (let r = linked_here t key linked in
-    let quiet : live_in t key ≡ false = doomed_not_live (record_at t key) (unlinked_doomed t key cause) in
-    subst (Say links) (ap (λ (k : Key). slice_set t k.slot None) r.2 ∙ sym (ap (λ b. cond b (slice_set t key.slot None) t) linked))
-    (said_cleared t r.0 links r.1 (ap (live_in t) r.2 ∙ quiet) says))
-
-pub said_unlinked : (result : Result Bool Refusal) (s s' : TreeLog) (key : Key) (links : List Link) → IfOk result (λ b. is_linked s.tree key ≡ b)
-    → IfOk result (λ b. MatchBool b (IsAccepted s s' (unlink_cause s.tree key) (Unlink key)) (s' ≡ s)) → IfErr result (λ why. (is_linked s.tree key ≡ true) × (unlink_cause s.tree key ≡ Some why) × (s' ≡ s))
-    → Say links s.tree → Say links s'.tree
-said_unlinked (Ok true) s s' key links linked accepted refused says = subst (Say links) (sym accepted.changed) (said_gone s.tree key links linked accepted.no_cause says)
-said_unlinked (Ok false) s s' key links linked accepted refused says = subst (λ (x : TreeLog). Say links x.tree) (sym accepted) says
-said_unlinked (Err why) s s' key links linked accepted refused says = subst (λ (x : TreeLog). Say links x.tree) (sym refused.2) says
 
 -- ---- a node that moves
 
@@ -105,15 +73,20 @@ moved_only t key dir name k n = find_mapped t (going key dir name) same_keys k �
       | inr s ↦ ap (λ b. Some (cond b (moved_record dir name r) r)) s.0
     ]
 
-module _ (t t' : Tree) (root key : Key) (lawful : Lawful t root) (links : List Link) (says : Say links t) (same : SameBut key t t') where
-  pub withdrawn_none : IsOut t key → SayBut (key ∷ []) links t'
-  withdrawn_none out = record {
+module _ (t t' : Tree) (root key : Key) (lawful : Lawful t root) (links : List Link) (says : Say links t) (same : SameBut key t t') (stays : StaysDoomed key t t') where
+  -- what is found of a record that is elsewhere
+  stays_found : (d : Key) (n : List ℕ) (found : Found) (is : child_of links d n ≡ Some found) → (says.known d n found is).0.key ≢ key
+      → (s : Record) × StandsAt t' d n s × (found.key ≡ s.key) × (doomed_in t' d ≡ false → (contains_key (key ∷ []) s.key ≡ true) ⊎ ((lives s ≡ true) × (found ≡ found_of s)))
+  stays_found d n found is other = (let was = says.known d n found is in
+      (was.0, is_there t t' key links same d n was.0 other was.1, was.2, λ active. elim (was.3 (was_active t t' key same stays d active)) [ inl never ↦ absurd (cc (never)) | inr now ↦ inr now ]))
+
+  pub withdrawn_none : ((d : Key) (n : List ℕ) (found : Found) (is : child_of links d n ≡ Some found) → (says.known d n found is).0.key ≢ key) → SayBut (key ∷ []) links t'
+  withdrawn_none other = record {
     told = λ d n s there live. elim (keys_tell s.key key) [
       | inl e ↦ inl (only_key t t' key links same s.key e.1)
-      | inr other ↦ elim (says.told d n s (was_there t t' key links same d n s other.1 there) live) [ inl never ↦ absurd (cc (never)) | inr is ↦ inr is ]
+      | inr apart ↦ elim (says.told d n s (was_there t t' key links same d n s apart.1 there) live) [ inl never ↦ absurd (cc (never)) | inr is ↦ inr is ]
     ];
-    known = λ d n found is. (let was = says.known d n found is in
-        (was.0, is_there t t' key links same d n was.0 (out d n was.0 was.1) was.1, was.2, elim was.3 [ inl never ↦ absurd (cc (never)) | inr now ↦ inr now ]));
+    known = λ d n found is. stays_found d n found is (other d n found is);
   }
 
   module _ (dir : Key) (name : List ℕ) (r : Record) (own : r.key ≡ key) (stood : StandsAt t dir name r) where
@@ -141,22 +114,21 @@ module _ (t t' : Tree) (root key : Key) (lawful : Lawful t root) (links : List L
             ] refl)
       ];
       known = λ d n found. elim (is_of d n gone) as (λ b. is_of d n gone ≡ b → cond b None (child_of links d n) ≡ Some found → (s : Record) × StandsAt t' d n s × (found.key ≡ s.key)
-          × ((contains_key (key ∷ []) s.key ≡ true) ⊎ ((lives s ≡ true) × (found ≡ found_of s)))) [
+          × (doomed_in t' d ≡ false → (contains_key (key ∷ []) s.key ≡ true) ⊎ ((lives s ≡ true) × (found ≡ found_of s)))) [
             | true ↦ λ e is. absurd (none-some found is)
-            | false ↦ λ e is. (let was = says.known d n found is in
-                (was.0, is_there t t' key links same d n was.0 (apart d n was.0 was.1 e) was.1, was.2, elim was.3 [ inl never ↦ absurd (cc (never)) | inr now ↦ inr now ]))
+            | false ↦ λ e is. (let was = says.known d n found is in stays_found d n found is (apart d n was.0 was.1 e))
           ] refl;
     }
 
--- what was found at the place where the record stood has its slot
+-- what was found in the record's place has its slot
 pub move_slot : (links : List Link) (key : Key) (was : Option Spot) (t : Tree) → IsMove links key was t → IfSome was (λ spot. IsOfSlot links spot.dir (bytes_in spot.name) key.slot)
 move_slot links key None t m = tt
 move_slot links key (Some spot) t m = subst (λ (k : Key). IsOfSlot links spot.dir (bytes_in spot.name) k.slot) m.stood.1 (of_slot m.before m.root m.lawful links [] spot.dir (bytes_in spot.name) m.stood.0 m.says m.stood.2)
 
--- and once it is taken away all is said but what is to be told of the record now
+-- once that is taken away, only what the tree now says of the record is owed
 pub move_says : (links : List Link) (key : Key) (was : Option Spot) (t : Tree) → IsMove links key was t → SayBut (key ∷ []) (without was links) t
-move_says links key None t m = withdrawn_none m.before t m.root key m.lawful links m.says m.same m.stood
-move_says links key (Some spot) t m = withdrawn_one m.before t m.root key m.lawful links m.says m.same spot.dir (bytes_in spot.name) m.stood.0 m.stood.1 m.stood.2
+move_says links key None t m = withdrawn_none m.before t m.root key m.lawful links m.says m.same m.stays_doomed (λ d n found is. (let was = m.says.known d n found is in m.stood d n was.0 was.1))
+move_says links key (Some spot) t m = withdrawn_one m.before t m.root key m.lawful links m.says m.same m.stays_doomed spot.dir (bytes_in spot.name) m.stood.0 m.stood.1 m.stood.2
 
 pub stood_there : (t : Tree) (key : Key) (was : Option Spot) → IfSome was (λ spot. (r : Record) × (r.key ≡ key) × StandsAt t spot.dir (bytes_in spot.name) r × (spot.child ≡ live_found r)) → IfNone was (IsOut t key) → Stood t key was
 stood_there t key None there out = out
@@ -165,3 +137,71 @@ stood_there t key (Some spot) there out = (there.0, there.1, there.2)
 pub moved_or_stays : (s s' : TreeLog) (key dir : Key) (name : List ℕ) (cause : Option Refusal) (stays : Bool) → (stays ≡ true → s' ≡ s) → (stays ≡ false → IsAccepted s s' cause (Rename key dir name)) → SameBut key s.tree s'.tree
 moved_or_stays s s' key dir name cause true same accepted k n = ap (λ (x : TreeLog). record_at x.tree k) (same refl)
 moved_or_stays s s' key dir name cause false same accepted k n = ap (λ t. record_at t k) (accepted refl).changed ∙ moved_only s.tree key dir name k n
+
+moved_doomed : (t : Tree) (key dir : Key) (name : List ℕ) → StaysDoomed key t (after t (Rename key dir name))
+moved_doomed t key dir name active = go (record_at t key) (ap is_doomed (sym (find_mapped t (going key dir name) same_keys key)) ∙ active)
+  where
+    same_keys : (r : Record) → (going key dir name r).key ≡ r.key
+    same_keys r = elim (same_key r.key key) as (λ b. (cond b (moved_record dir name r) r).key ≡ r.key) [ true ↦ refl | false ↦ refl ]
+
+    go : (o : Option Record) → is_doomed (option_map (going key dir name) o) ≡ false → is_doomed o ≡ false
+    go None h = h
+    go (Some r) h = elim (same_key r.key key) as (λ b. (cond b (moved_record dir name r) r).marks.doomed ≡ false → r.marks.doomed ≡ false) [ true ↦ λ e. e | false ↦ λ e. e ] h
+
+pub moved_or_stays_doomed : (s s' : TreeLog) (key dir : Key) (name : List ℕ) (cause : Option Refusal) (stays : Bool) → (stays ≡ true → s' ≡ s) → (stays ≡ false → IsAccepted s s' cause (Rename key dir name)) → StaysDoomed key s.tree s'.tree
+moved_or_stays_doomed s s' key dir name cause true same accepted active = ap (λ (x : TreeLog). doomed_in x.tree key) (sym (same refl)) ∙ active
+moved_or_stays_doomed s s' key dir name cause false same accepted active = moved_doomed s.tree key dir name (ap (λ t. doomed_in t key) (sym (accepted refl).changed) ∙ active)
+
+-- ---- a node that leaves the tree
+
+-- an unlink that said true was accepted
+pub was_accepted : (s s' : TreeLog) (key : Key) (unlinked : Bool) → unlinked ≡ true → MatchBool unlinked (IsAccepted s s' (unlink_cause s.tree key) (Unlink key)) (s' ≡ s)
+    → IsAccepted s s' (unlink_cause s.tree key) (Unlink key)
+was_accepted s s' key unlinked is h = subst (λ b. MatchBool b (IsAccepted s s' (unlink_cause s.tree key) (Unlink key)) (s' ≡ s)) is h
+
+unlinked_doomed : (t : Tree) (key : Key) → unlink_cause t key ≡ None → doomed_in t key ≡ true
+unlinked_doomed t key h = elim (doomed_in t key) as (λ b. first_cause (unless b Invalid ∷ unless (not (has_child t key)) Busy ∷ []) ≡ None → b ≡ true) [
+  | true ↦ λ e. refl
+  | false ↦ λ e. absurd (none-some Invalid (sym e))
+] h
+
+module _ (t : Tree) (root key : Key) (lawful : Lawful t root) (links : List Link) (says : Say links t) where
+  -- what the links find in the place that the record left has its slot
+  pub left_slot : (left : Option Spot) → IsLeftAt t key left → IfSome left (λ spot. IsOfSlot links spot.dir (bytes_in spot.name) key.slot)
+  left_slot None there = tt
+  left_slot (Some spot) there = subst (λ (k : Key). IsOfSlot links spot.dir (bytes_in spot.name) k.slot) there.1 (of_slot t root lawful links [] spot.dir (bytes_in spot.name) there.0 says there.2)
+
+  module _ (linked : is_linked t key ≡ true) (cause : unlink_cause t key ≡ None) where
+    abbrev cleared : Tree
+    cleared = slice_set t key.slot None
+
+    unlinked : after t (Unlink key) ≡ cleared
+    unlinked = ap (λ b. cond b cleared t) linked
+
+    others_stay : SameBut key t cleared
+    others_stay k n = (let r = linked_here t key linked in
+        subst (λ (x : Key). record_at (slice_set t x.slot None) k ≡ record_at t k) r.2 (find_cleared t r.0 k r.1 (λ e. n (e ∙ r.2))))
+
+    not_linked : record_at cleared key ≡ None
+    not_linked = (let r = linked_here t key linked in
+        find_at cleared key None (slice_get-set_same t key.slot None (subst (λ (x : Key). x.slot < length t) r.2 (slice_get_within t r.0.key.slot (Some r.0) r.1))))
+
+    stays : StaysDoomed key t cleared
+    stays active = absurd (let never : true ≡ false = ap is_doomed (sym not_linked) ∙ active in cc (never))
+
+    is_out : IsOut cleared key
+    is_out dir name r there e = none-some r (sym not_linked ∙ ap (record_at cleared) (sym e) ∙ there.known)
+
+    -- if the record left no such place, the links do not find it
+    none_leads : IsLeftAt t key None → (d : Key) (n : List ℕ) (found : Found) (is : child_of links d n ≡ Some found) → (says.known d n found is).0.key ≢ key
+    none_leads nowhere d n found is e = (let was = says.known d n found is in
+        elim (was.3 (nowhere d n was.0 was.1 e)) [
+          | inl never ↦ absurd (cc (never))
+          | inr now ↦ absurd (let never : false ≡ true = sym (doomed_not_live (record_at t key) (unlinked_doomed t key cause)) ∙ ap lives_in (ap (record_at t) (sym e) ∙ was.1.known) ∙ now.0 in cc (never))
+        ])
+
+    pub said_gone : (left : Option Spot) → IsLeftAt t key left → Say (without left links) (after t (Unlink key))
+    said_gone None nowhere = subst (λ u. Say links u) (sym unlinked) (told_none cleared links [] key
+        (withdrawn_none t cleared root key lawful links says others_stay stays (none_leads nowhere)) is_out)
+    said_gone (Some spot) there = subst (λ u. Say (link spot.dir (bytes_in spot.name) None ∷ links) u) (sym unlinked) (told_none cleared (link spot.dir (bytes_in spot.name) None ∷ links) [] key
+        (withdrawn_one t cleared root key lawful links says others_stay stays spot.dir (bytes_in spot.name) there.0 there.1 there.2) is_out)

@@ -1,4 +1,4 @@
--- What the writer's links say, where there are words.
+-- What the writer's links say, if there are words.
 use Rattle.std.proofs.Common.{◌≡◌, sym, subst, List}
 use Rattle.std.specs.Prelude.{◌<◌, Option, None, Some, IsSomeAnd}
 use Rattle.kf_looks.specs.declared.looks.Looks.{Looks}

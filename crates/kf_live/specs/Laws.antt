@@ -1,4 +1,4 @@
--- What look-ups by links tell of a tree of which the links say all.
+-- What look-ups by links find of a tree.
 use Rattle.std.specs.Prelude.{◌≡◌, ℕ, true, List, Some, Ok}
 use Rattle.kf_core.specs.declared.key.Key.{Key}
 use Rattle.kf_core.specs.declared.records.Record.{Record}
@@ -9,11 +9,20 @@ use Rattle.kf_tree.specs.Paths.{seen}
 use Rattle.kf_looks.specs.declared.found.Found.{Found}
 use Rattle.kf_looks.specs.declared.view.Link.{Link}
 use Rattle.kf_looks.specs.Paths.{led}
-use Rattle.kf_live.specs.Live.{Say, found_of}
+use Rattle.kf_live.specs.Live.{AreSound, Say, found_of}
 
--- what the links find at a path is the live node that the path names in the tree, with its kind
+-- the path leads in the tree to this node, which is live, and is what the record says
+abbrev pub Leads : Tree → Key → List ℕ → Found → Type 0
+Leads t root path found = (seen t root path ≡ Ok found.key)
+    × ((r : Record) × (record_at t found.key ≡ Some r) × (lives r ≡ true) × (found ≡ found_of r))
+
+-- what links find at a path, if they say what the tree says, is the live node that the path names in the
+-- tree, with its kind
 abbrev pub LeadAlike : Type 0
 LeadAlike = (links : List Link) (t : Tree) (root : Key) (path : List ℕ) (found : Found)
-    → Say links t → Lawful t root → led links root path ≡ Some found
-    → (seen t root path ≡ Ok found.key)
-    × ((r : Record) × (record_at t found.key ≡ Some r) × (lives r ≡ true) × (found ≡ found_of r))
+    → Say links t → Lawful t root → led links root path ≡ Some found → Leads t root path found
+
+-- and already if they are sound: they may still lack names
+abbrev pub LeadSoundly : Type 0
+LeadSoundly = (links : List Link) (t : Tree) (root : Key) (path : List ℕ) (found : Found)
+    → AreSound links t → Lawful t root → led links root path ≡ Some found → Leads t root path found

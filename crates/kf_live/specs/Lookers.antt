@@ -1,4 +1,4 @@
--- Who looks names up beside the tree's owner, and what such a one has seen.
+-- A reader that looks names up beside the tree's owner, and what it has seen.
 use Rattle.std.specs.Prelude.{ℕ, List}
 use Rattle.kf_core.specs.declared.key.Key.{Key}
 use Rattle.kf_looks.specs.declared.view.Link.{Link}

@@ -1,4 +1,4 @@
-//! The tree that look-ups are told of.
+//! The tree that publishes its live names to look-ups.
 ghost use Rattle.std.specs.Prelude.{◌≡◌, ◌<◌, ◌≤◌, IfOk, IfErr, MatchBool, Some, None, true, false, slice_get};
 ghost use Rattle.kf_core.specs.declared.command.Command.TheVariants.{Create, Activate, Doom, Unlink, Rename, Hide, Show};
 ghost use Rattle.kf_core.specs.Tree.{is_linked};
@@ -12,7 +12,9 @@ ghost use Rattle.kf_live.specs.Live.{Say};
 ghost use Rattle.kf_live.specs.Lookers.{links_seen};
 
 use crate::looker::Looker;
-use crate::publishing::{place_before, publish, publish_move, publish_one};
+use crate::publishing::{
+    place_before, place_left, publish, publish_gone, publish_move, publish_one,
+};
 use kf_core::{Key, Limits, Node, Refusal};
 use kf_looks::{Looks, Writer};
 use kf_tree::State;
@@ -43,9 +45,9 @@ impl Model for LiveTree {
 }
 
 impl LiveTree {
-    /// The tree of the root alone, as [`State::new`] makes it, and words for the look-ups of so many slots.
-    /// Nodes of higher slots are found in the tree alone. With no slot the words are told of nothing, and
-    /// each look-up is sent to the tree.
+    /// The tree that has only the root, as [`State::new`] makes it, and words for look-ups of that many
+    /// slots. Nodes of higher slots are found only in the tree. With no slot nothing is published, and each
+    /// look-up is sent to the tree.
     ///
     /// Conditions: the root's slot is in the table; there are at most [`kf_core::MOST_SLOTS`] slots of words.
     ///
@@ -66,9 +68,9 @@ impl LiveTree {
         })
     }
 
-    /// A looker that was told of all that the tree says now: none of its look-ups goes back behind that.
+    /// A looker that has seen all that the tree says now: none of its look-ups goes back behind that.
     ///
-    /// Refusal: NoMemory, where the words may have no owner more.
+    /// Refusal: NoMemory, if the words may have no further owner.
     pub fn looker(&mut self) -> Result<Looker, Refusal>
         ensures told { IfOk result
             (λ looker. 0 < looker.slots → Say (links_seen looker) self.old.tree) }
@@ -105,7 +107,8 @@ impl LiveTree {
         Ok(())
     }
 
-    /// As [`State::doom_in_order`].
+    /// As [`State::doom_in_order`]. Only the top's name is taken away from look-ups: no path leads below it
+    /// then. Each node below keeps its line until it is unlinked.
     pub fn doom_in_order(&mut self, key: Key, order: &[Key]) -> Result<(), Refusal>
         requires in_order { IsPostOrder self.old.tree key order.now }
         ensures accepted { IfOk result (λ _.
@@ -113,8 +116,9 @@ impl LiveTree {
         ensures refused { IfErr result (λ refusal.
             IsRefused self.old self.new (doom_cause self.old.tree self.old.root key) refusal) }
     {
+        let _ = self.state.root();
         self.state.doom_in_order(key, order)?;
-        self.writer = publish(&self.looks, self.writer.take(), &self.state, order);
+        self.writer = publish_one(&self.looks, self.writer.take(), &self.state, key);
         Ok(())
     }
 
@@ -134,6 +138,7 @@ impl LiveTree {
             (Create key parent name.now node live)) }
         ensures refused { IfErr result (λ refusal. (refusal ≡ refusal_of.NoMemory) × (self.new ≡ self.old)) }
     {
+        let _ = self.state.root();
         self.state.create_at(key, parent, name, node, live)?;
         if live {
             self.writer = publish_one(&self.looks, self.writer.take(), &self.state, key);
@@ -172,7 +177,13 @@ impl LiveTree {
             (is_linked self.old.tree key ≡ true) × (unlink_cause self.old.tree key ≡ Some refusal)
             × (self.new ≡ self.old)) }
     {
-        self.state.unlink(key)
+        let _ = self.state.root();
+        let left = place_left(&self.looks, &self.state, key);
+        let unlinked = self.state.unlink(key)?;
+        if unlinked {
+            self.writer = publish_gone(&self.looks, self.writer.take(), left, key);
+        }
+        Ok(unlinked)
     }
 
     /// As [`State::may_hide`].

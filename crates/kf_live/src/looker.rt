@@ -11,9 +11,9 @@ use kf_looks::{Looks, Sight};
 use std::marker::Model;
 use std::sync::Arc;
 
-/// One who looks names up while the tree's owner changes it: without a lock, and without waiting for anybody.
+/// Looks names up while the tree's owner changes the tree: without a lock, and without waiting for anybody.
 /// It keeps the words, so it may outlive the tree; each thread has its own. Contracts see the tree's root,
-/// and what it has seen.
+/// and what the looker has seen.
 #[derive(Drop)]
 pub struct Looker {
     pub(crate) looks: Arc<Looks>,
@@ -34,18 +34,18 @@ impl Model for Looker {
 }
 
 impl Looker {
-    /// For how many slots there are words: nodes of higher slots are found in the tree alone.
+    /// For how many slots there are words: nodes of higher slots are found only in the tree.
     pub fn slots(&self) -> u64
         ensures known { result ≡ self.now.slots }
     {
         self.looks.slots
     }
 
-    /// Where a path leads among the live nodes, and what stands there: as it was at one moment, after all
-    /// changes that this looker has seen. It takes no lock, writes nothing and waits for nobody.
+    /// The node to which a path leads among the live nodes: as it was at one moment, after all changes that
+    /// this looker has seen. It takes no lock, writes nothing and waits for nobody.
     ///
     /// None is no refusal: ask the tree itself. A name is longer than 24 bytes or is not there, the words
-    /// have no line for its node, the path has another form, or a change came between.
+    /// have no line for its node, the path has another form, or a change came during each try.
     pub fn look(&mut self, path: &[u8]) -> Option<Sight>
         ensures root { self.new.root ≡ self.old.root }
         ensures slots { self.new.slots ≡ self.old.slots }
@@ -78,7 +78,7 @@ impl Looker {
 
     /// Another looker, for another thread, which has seen what this one has.
     ///
-    /// Refusal: NoMemory, where the words may have no owner more.
+    /// Refusal: NoMemory, if the words may have no further owner.
     pub fn another(&mut self) -> Result<Looker, Refusal>
         ensures root { IfOk result (λ looker. looker.root ≡ self.old.root) }
         ensures slots { IfOk result (λ looker. looker.slots ≡ self.old.slots) }

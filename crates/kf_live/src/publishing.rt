@@ -1,16 +1,20 @@
-//! Telling the words what became of several nodes, in one section. Without words nothing is told.
+//! Publishing what became of nodes. Without words nothing is published.
 ghost use Rattle.std.specs.Prelude.{◌≡◌, ◌<◌, ◌∷◌, [], IfSome};
+ghost use Rattle.kf_core.specs.Tree.{Tree};
 ghost use Rattle.kf_looks.specs.Lines.{bytes_in};
 ghost use Rattle.kf_looks.specs.Links.{IsOfSlot};
 ghost use Rattle.kf_looks.specs.Writing.{links_of};
-ghost use Rattle.kf_live.specs.Live.{SayBut, Say, IsMove, Stood, Writes, without};
+ghost use Rattle.kf_live.specs.Live.{AreSound, SayBut, Say, IsLeftAt, IsMove, Stood, Writes, without};
 
-use crate::telling::{Spot, place_of, tell, tell_each};
+use crate::telling::{Spot, is_in_doomed, place_of, tell, tell_each, tell_one};
 use kf_core::Key;
 use kf_looks::{Looks, Section, Writer};
 use kf_tree::State;
 
-/// Tells the words what the tree now says of each of these nodes: look-ups see all of it at once.
+/// Publishes what the tree now says of each of these nodes, one after the other: look-ups wait for one of
+/// them at most.
+///
+/// Condition: what the words say already is right, and lacks only names.
 pub(crate) fn publish(
     looks: &Looks,
     writer: Option<Writer>,
@@ -18,6 +22,7 @@ pub(crate) fn publish(
     keys: &[Key],
 ) -> Option<Writer>
     requires says { Writes looks.now (λ links. SayBut keys.now links state.now.tree) writer }
+    requires sound { Writes looks.now (λ links. AreSound links state.now.tree) writer }
     ensures says { Writes looks.now (λ links. Say links state.now.tree) result }
 {
     if looks.slots == 0 {
@@ -26,12 +31,10 @@ pub(crate) fn publish(
     let Some(writer) = writer else {
         return None;
     };
-    let section = looks.start(writer);
-    let section = tell_each(looks, section, state, keys);
-    Some(looks.publish(section))
+    Some(tell_each(looks, writer, state, keys))
 }
 
-/// Tells the words what the tree now says of one node.
+/// Publishes what the tree now says of one node.
 pub(crate) fn publish_one(
     looks: &Looks,
     writer: Option<Writer>,
@@ -41,14 +44,31 @@ pub(crate) fn publish_one(
     requires says { Writes looks.now (λ links. SayBut (key ∷ []) links state.now.tree) writer }
     ensures says { Writes looks.now (λ links. Say links state.now.tree) result }
 {
-    publish(looks, writer, state, &[key])
+    if looks.slots == 0 {
+        return writer;
+    }
+    let Some(writer) = writer else {
+        return None;
+    };
+    Some(tell_one(looks, writer, state, key))
 }
 
-/// Where a node stands before it is moved. Without words nobody asks.
+/// The place of a node before it is moved. Without words it is not needed.
 pub(crate) fn place_before(looks: &Looks, state: &State, key: Key) -> Option<Spot>
     ensures stood { 0 < looks.now.slots → Stood state.now.tree key result }
 {
     if looks.slots == 0 {
+        return None;
+    }
+    place_of(state, key)
+}
+
+/// The place in which the words may still have a doomed node before it is unlinked: under its short name, if
+/// its directory is doomed too. A doom takes away only the name of its top, and no path leads below that.
+pub(crate) fn place_left(looks: &Looks, state: &State, key: Key) -> Option<Spot>
+    ensures left { 0 < looks.now.slots → IsLeftAt state.now.tree key result }
+{
+    if looks.slots == 0 || !is_in_doomed(state, key) {
         return None;
     }
     place_of(state, key)
@@ -68,7 +88,8 @@ fn withdraw(looks: &Looks, section: Section, was: Option<Spot>, key: Key) -> Sec
     }
 }
 
-/// Tells the words that a node went away from where it was, and where the tree now has it.
+/// Publishes that a node left its former place, and its place in the tree now: both in one change, so that
+/// no look-up finds neither.
 pub(crate) fn publish_move(
     looks: &Looks,
     writer: Option<Writer>,
@@ -85,7 +106,35 @@ pub(crate) fn publish_move(
     let Some(writer) = writer else {
         return None;
     };
+    let place = place_of(state, key);
     let section = withdraw(looks, looks.start(writer), was, key);
-    let section = tell(looks, section, state, key);
+    match place {
+        Some(spot) => Some(looks.publish(tell(looks, section, state, &spot, key))),
+        None => Some(looks.publish(section)),
+    }
+}
+
+/// Publishes that a doomed node left the tree: if the words may still have it, its name is taken away.
+pub(crate) fn publish_gone(
+    looks: &Looks,
+    writer: Option<Writer>,
+    left: Option<Spot>,
+    key: Key,
+) -> Option<Writer>
+    requires of_slot { Writes looks.now (λ links. IfSome left
+        (λ spot. IsOfSlot links spot.dir (bytes_in spot.name) key.slot)) writer }
+    ensures gone { (t : Tree) → Writes looks.now (λ links. Say (without left links) t) writer
+        → Writes looks.now (λ links. Say links t) result }
+{
+    if looks.slots == 0 {
+        return writer;
+    }
+    let Some(spot) = left else {
+        return writer;
+    };
+    let Some(writer) = writer else {
+        return None;
+    };
+    let section = looks.take(looks.start(writer), spot.dir, &spot.name, key.slot);
     Some(looks.publish(section))
 }

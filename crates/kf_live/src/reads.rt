@@ -1,4 +1,4 @@
-//! What a live tree answers as its [`State`] does, changing nothing.
+//! What a live tree returns as its [`State`] does, changing nothing.
 ghost use Rattle.std.specs.Prelude.{◌≡◌, IfOk, IfErr, MatchResult, None, Some, true};
 ghost use Rattle.kf_core.specs.PostOrder.{IsPostOrder};
 ghost use Rattle.kf_core.specs.Tree.{is_linked};

@@ -1,17 +1,19 @@
-//! Telling the words what became of nodes.
-ghost use Rattle.std.specs.Prelude.{◌≡◌, ◌∷◌, List, Some, None, IfSome, IfNone};
+//! What the words are to say of a node, and writing it.
+ghost use Rattle.std.specs.Prelude.{◌≡◌, ◌∷◌, List, Some, None, IfSome, IfNone, false};
 ghost use Rattle.kf_core.specs.declared.key.Key.{Key};
 ghost use Rattle.kf_core.specs.declared.records.Record.{Record};
+ghost use Rattle.kf_tree.specs.Causes.{doomed_in};
 ghost use Rattle.kf_looks.specs.Lines.{bytes_in};
 ghost use Rattle.kf_looks.specs.Links.{IsOfSlot};
 ghost use Rattle.kf_looks.specs.Writing.{links_of};
-ghost use Rattle.kf_live.specs.Live.{SayBut, Say, StandsAt, live_found, IsOut, IsGiven};
+ghost use Rattle.kf_live.specs.Live.{AreSound, SayBut, Say, StandsAt, live_found, IsLeftAt, IsOut, IsGiven};
 
 use kf_core::Key;
-use kf_looks::{Found, Looks, Section, ShortName};
+use kf_looks::{Found, Looks, Section, ShortName, Writer};
 use kf_tree::State;
+use std::hint::spin_loop;
 
-/// Where a node stands, and what look-ups are to find there: none, where it is not live.
+/// The place of a node, and what look-ups are to find there: none if it is not live.
 #[derive(Clone, Copy)]
 pub struct Spot {
     pub dir: Key,
@@ -19,7 +21,7 @@ pub struct Spot {
     pub child: Option<Found>,
 }
 
-/// Where a node stands, if it has a directory and a short name there.
+/// The place of a node, if it has a directory and a short name there.
 pub(crate) fn place_of(state: &State, key: Key) -> Option<Spot>
     ensures stands { IfSome result (λ spot. (r : Record) × (r.key ≡ key)
         × StandsAt state.now.tree spot.dir (bytes_in spot.name) r × (spot.child ≡ live_found r)) }
@@ -47,8 +49,28 @@ pub(crate) fn place_of(state: &State, key: Key) -> Option<Spot>
     Some(Spot { dir, name, child })
 }
 
+/// Whether a node is doomed, or no longer linked.
+fn is_doomed(state: &State, key: Key) -> bool
+    ensures value { result ≡ doomed_in state.now.tree key }
+{
+    match state.stat(key) {
+        Ok(stat) => stat.doomed,
+        Err(_) => true,
+    }
+}
+
+/// Whether a node stands in a doomed directory.
+pub(crate) fn is_in_doomed(state: &State, key: Key) -> bool
+    ensures not_doomed { result ≡ false → IsLeftAt state.now.tree key None }
+{
+    match state.parent_of(key) {
+        Ok(Some(dir)) => is_doomed(state, dir),
+        _ => false,
+    }
+}
+
 /// Gives a name its child, unless the child's line says so already. What it says already is not written
-/// again, as where a live node is activated once more.
+/// again, as when a live node is activated once more.
 fn give_once(looks: &Looks, section: Section, spot: &Spot, child: Found) -> Section
     requires table { section.seat.table_id ≡ looks.now.table.shared.table_id }
     requires of_slot { IsOfSlot (links_of section.seat) spot.now.dir (bytes_in spot.now.name) child.key.slot }
@@ -63,34 +85,68 @@ fn give_once(looks: &Looks, section: Section, spot: &Spot, child: Found) -> Sect
     looks.give(section, spot.dir, &spot.name, child)
 }
 
-/// Tells the words what the tree now says of a node.
-pub(crate) fn tell(looks: &Looks, section: Section, state: &State, key: Key) -> Section
+/// Writes what the tree now says of a node, which stands there.
+pub(crate) fn tell(looks: &Looks, section: Section, state: &State, spot: &Spot, key: Key) -> Section
     requires table { section.seat.table_id ≡ looks.now.table.shared.table_id }
+    requires stands { (r : Record) × (r.key ≡ key)
+        × StandsAt state.now.tree spot.now.dir (bytes_in spot.now.name) r × (spot.now.child ≡ live_found r) }
     requires says { (owed : List Key) × SayBut owed (links_of section.seat) state.now.tree }
     ensures table { result.seat.table_id ≡ section.seat.table_id }
     ensures told { (owed : List Key) → SayBut (key ∷ owed) (links_of section.seat) state.now.tree
         → SayBut owed (links_of result.seat) state.now.tree }
+    ensures sound { AreSound (links_of section.seat) state.now.tree
+        → AreSound (links_of result.seat) state.now.tree }
 {
     let _ = state.root();
-    let Some(spot) = place_of(state, key) else {
-        return section;
-    };
     match spot.child {
-        Some(found) => give_once(looks, section, &spot, found),
+        Some(found) => give_once(looks, section, spot, found),
         None => looks.take(section, spot.dir, &spot.name, key.slot),
     }
 }
 
-/// Tells the words what the tree now says of each of these nodes.
-pub(crate) fn tell_each(looks: &Looks, section: Section, state: &State, keys: &[Key]) -> Section
-    requires table { section.seat.table_id ≡ looks.now.table.shared.table_id }
-    requires says { SayBut keys.now (links_of section.seat) state.now.tree }
-    ensures table { result.seat.table_id ≡ section.seat.table_id }
+/// Publishes what the tree now says of a node, in one change for itself: look-ups wait only for that. The
+/// node's place is looked up before the change begins.
+pub(crate) fn tell_one(looks: &Looks, writer: Writer, state: &State, key: Key) -> Writer
+    requires table { writer.seat.table_id ≡ looks.now.table.shared.table_id }
+    requires says { (owed : List Key) × SayBut owed (links_of writer.seat) state.now.tree }
+    ensures table { result.seat.table_id ≡ writer.seat.table_id }
+    ensures told { (owed : List Key) → SayBut (key ∷ owed) (links_of writer.seat) state.now.tree
+        → SayBut owed (links_of result.seat) state.now.tree }
+    ensures sound { AreSound (links_of writer.seat) state.now.tree
+        → AreSound (links_of result.seat) state.now.tree }
+{
+    let Some(spot) = place_of(state, key) else {
+        return writer;
+    };
+    let section = tell(looks, looks.start(writer), state, &spot, key);
+    looks.publish(section)
+}
+
+/// Pauses after every sixteenth change, for about as long as a look-up takes: changes that follow each other
+/// at once leave look-ups no time between two of them.
+fn pause_after(changes: u32) {
+    if changes % 16 == 0 {
+        for _ in 0..16 {
+            spin_loop();
+        }
+    }
+}
+
+/// Publishes what the tree now says of each of these nodes, each in one change for itself. Between two of
+/// them the links are sound: a path that they lead along leads in the tree to the same live node.
+pub(crate) fn tell_each(looks: &Looks, writer: Writer, state: &State, keys: &[Key]) -> Writer
+    requires table { writer.seat.table_id ≡ looks.now.table.shared.table_id }
+    requires says { SayBut keys.now (links_of writer.seat) state.now.tree }
+    requires sound { AreSound (links_of writer.seat) state.now.tree }
+    ensures table { result.seat.table_id ≡ writer.seat.table_id }
     ensures says { Say (links_of result.seat) state.now.tree }
 {
-    let mut section = section;
+    let mut writer = writer;
+    let mut changes: u32 = 0;
     for key in keys {
-        section = tell(looks, section, state, *key);
+        writer = tell_one(looks, writer, state, *key);
+        changes = changes.wrapping_add(1);
+        pause_after(changes);
     }
-    section
+    writer
 }

@@ -1,4 +1,4 @@
-//! What the tests of look-ups build on: each helper stops the test where its call does not answer as asked.
+//! What the tests of look-ups build on: each helper stops the test if its call does not return what is asked.
 ghost use Rattle.std.specs.Prelude.{◌≡◌, ◌<◌, []};
 ghost use Rattle.kf_looks.specs.Writing.{links_of};
 ghost use Rattle.kf_live_tests.specs.Chains.{NoneFrom};
@@ -27,7 +27,7 @@ pub(crate) fn key(slot: u32) -> Key
     }
 }
 
-/// Words for so many slots, with no name.
+/// Words for that many slots, with no name.
 pub(crate) fn made<R: Abort>(rt: &R, alloc: Global, slots: u32) -> (Looks, Writer)
     ensures table { result.1.seat.table_id ≡ result.0.table.shared.table_id }
     ensures empty { links_of result.1.seat ≡ [] }

@@ -1,5 +1,6 @@
 //! The tests of `kf_looks`, over its public calls: proved over it, and not with it. They show what no clause
-//! says: that a look-up answers. (That it does beside a tree, as commands come, `kf_shared_tests` shows.)
+//! says: that a look-up finds its node. (That it does so beside a tree, as commands come, is shown by
+//! `kf_shared_tests`.)
 #![tactic(auto)]
 
 #[cfg(test)]

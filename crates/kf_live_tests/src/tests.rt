@@ -1,4 +1,4 @@
-//! That look-ups answer: names of each length, in words that are full, and by deep paths.
+//! That look-ups find names of each length, in words that are full, and by deep paths.
 use crate::fixtures::{FILE, chain, found, key, made, named};
 use kf_core::{Key, Node};
 use std::alloc::Global;
@@ -36,7 +36,7 @@ fn names_of_1_to_24_bytes_are_found(rt: HostRuntime) {
     }
 }
 
-/// How many of so many names are found, each in a directory of its own, in words for just so many.
+/// How many of `count` names are found, each in another directory, in words for just as many slots.
 fn found_in_full<R: Abort>(rt: &R, alloc: Global, count: u32) -> u32 {
     assert!(rt; count < 1048576);
     let (looks, writer) = made(rt, alloc, count + 1);

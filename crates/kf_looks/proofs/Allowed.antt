@@ -15,7 +15,7 @@ use Rattle.kf_looks.specs.declared.view.Role.{Role}
 use Rattle.kf_looks.specs.declared.view.Role.TheVariants.{Idle, Reading, Writing}
 use Rattle.kf_looks.specs.declared.view.View.{View}
 use Rattle.kf_looks.specs.Links.{IsLater}
-use Rattle.kf_looks.specs.Lines.{SaysTrue, words_for, link_at, word_at}
+use Rattle.kf_looks.specs.Lines.{lines_at, SaysTrue, words_for, link_at, word_at}
 use Rattle.kf_looks.specs.Rule.{Table, Knows, IsPlan, Kept, opened, plan_of, AllIn}
 use Rattle.kf_looks.specs.Steps.{Seated, view, grown, MakesSeat, MakesBegin, MakesPeek, MakesCheck, MakesRecall, MakesMove, MakesPut, MakesEntry, moved, put, entered, told, like, heard, given_up, MakesCompare}
 use Rattle.kf_looks.specs.Writing.{IsWriter}
@@ -32,10 +32,10 @@ seats_after K views me w mine others j v e =
     ⊎_elim (λ (t : (j ≡ me) × (w ≡ v)). subst (λ (x : ℕ × View). K x.0 x.1) (λ i. (sym t.0 i, t.1 i)) mine)
     (λ (t : (j ≢ me) × (get_elem? views j ≡ some v)). others j v t.0 t.1) (at_set views me j w v e)
 
-later_again : (a b c : List Link) → IsLater a b → IsLater b c → IsLater a c
+pub later_again : (a b c : List Link) → IsLater a b → IsLater b c → IsLater a c
 later_again a b c ab bc = (ab.0 ++ bc.0, ab.1 ∙ (ap (λ (l : List Link). ab.0 ++ l) bc.1 ∙ sym (append_assoc ab.0 bc.0 c)))
 
--- what a seat other than the writer knows stays so, where the version grows, or is odd
+-- what a seat other than the writer knows stays true if the version grows, or is odd
 others_know : (v v' : ℕ) (d d' : List ℕ) (l l' : List Link) (j : ℕ) → v ≤ v' → (v ≡ v' → v % 2 ≡ 0 → d ≡ d') → j ≢ 0 → (role : Role)
     → Knows v d l j role → Knows v' d' l' j role
 others_know v v' d d' l l' j more same other Idle k = tt
@@ -102,18 +102,18 @@ begin_allowed slots count id me t r _ at _ = let x : ℕ = get_or t.words 0 0 in
 
 -- what a seat knows after one read more
 grown_knows : (slots : ℕ) (t : Table) (r : Kept slots t) (id i : ℕ) → i < words_for slots → (role : Role) → Knows r.version r.draft r.links id role
-    → Knows r.version r.draft r.links id (grown i (get_or t.words (i + 1) 0) role)
+    → Knows r.version r.draft r.links id (grown i (get_or t.words (i + lines_at) 0) role)
 grown_knows slots t r id i inside Idle k = tt
 grown_knows slots t r id i inside (Reading at reads) k = (k.0, k.1, λ (now : at ≡ r.version). (sym (r.draft_is i inside), k.2 now))
 grown_knows slots t r id i inside (Writing plan) k = k
 
-pub peek_allowed : (slots count id : ℕ) (me : Seated) (i : ℕ) → i < words_for slots → Allows (Kept slots) count id me (i + 1) (λ n. n) (MakesPeek (step count (i + 1) 0 0 none) me)
-peek_allowed slots count id me i inside t r _ at _ = let x : ℕ = get_or t.words (i + 1) 0 in let mine = r.seats id me.0 at in
-    let w : View = view me.0.slots (grown i x me.0.role) me.0.seen in let back : i ≡ (i + 1) - 1 = omega arith in (
+pub peek_allowed : (slots count id : ℕ) (me : Seated) (i : ℕ) → i < words_for slots → Allows (Kept slots) count id me (i + lines_at) (λ n. n) (MakesPeek (step count (i + lines_at) 0 0 none) me)
+peek_allowed slots count id me i inside t r _ at _ = let x : ℕ = get_or t.words (i + lines_at) 0 in let mine = r.seats id me.0 at in
+    let w : View = view me.0.slots (grown i x me.0.role) me.0.seen in let back : i ≡ (i + lines_at) - lines_at = omega arith in (
       w,
       keeps,
       tt,
-      unmoved slots t r (i + 1) id me.1 w (mine.0, grown_knows slots t r id i inside me.0.role mine.1, mine.2),
+      unmoved slots t r (i + lines_at) id me.1 w (mine.0, grown_knows slots t r id i inside me.0.role mine.1, mine.2),
       ap (λ (z : ℕ). (view me.0.slots (grown z x me.0.role) me.0.seen, me.1)) back,
     )
 
@@ -142,13 +142,13 @@ plan_kept : (v : ℕ) (d : List ℕ) (l : List Link) (id : ℕ) (role : Role) �
 plan_kept v d l id role writes k = subst (Knows v d l id) writes k
 
 -- the writer finds the words of its plan
-pub recall_allowed : (slots count id : ℕ) (me : Seated) (i : ℕ) → i < words_for slots → IsWriter me.0 → Allows (Kept slots) count id me (i + 1) (λ n. n) (MakesRecall (step count (i + 1) 0 0 none) me)
+pub recall_allowed : (slots count id : ℕ) (me : Seated) (i : ℕ) → i < words_for slots → IsWriter me.0 → Allows (Kept slots) count id me (i + lines_at) (λ n. n) (MakesRecall (step count (i + lines_at) 0 0 none) me)
 recall_allowed slots count id me i inside writes t r _ at _ = let mine = r.seats id me.0 at in let k = plan_kept r.version r.draft r.links id me.0.role writes mine.1 in
-    let back : i ≡ (i + 1) - 1 = omega arith in (
+    let back : i ≡ (i + lines_at) - lines_at = omega arith in (
       me.0,
       keeps,
       tt,
-      unmoved slots t r (i + 1) id me.1 me.0 mine,
+      unmoved slots t r (i + lines_at) id me.1 me.0 mine,
       (refl, r.draft_is i inside ∙ (ap (λ (d : List ℕ). get_or d i 0) (sym k.0.draft_is) ∙ ap (λ (z : ℕ). get_or (plan_of me.0.role).draft z 0) back)),
     )
 
@@ -170,7 +170,7 @@ move_allowed slots count id me v writes next says t r _ at _ =
         wide = length-set t.words 0 v ∙ wide;
         long = r.long;
         version_is = get_or-set_same t.words 0 v 0 (omega arith);
-        draft_is = λ i inside. get_or-set_other t.words 0 (i + 1) v 0 (λ e. omega arith) ∙ r.draft_is i inside;
+        draft_is = λ i inside. get_or-set_other t.words 0 (i + lines_at) v 0 (λ e. omega arith) ∙ r.draft_is i inside;
         says = λ even. subst (λ (x : List ℕ × List Link). SaysTrue slots x.0 x.1) (λ i. (p.draft_is i, p.links_are i)) (says even);
         seats = seats_after (λ j x. Fits slots v r.draft r.links j x) t.views id w
             (mine.0, (record { version_is = sym next; draft_is = p.draft_is; links_are = p.links_are }, first), mine.2)
@@ -183,10 +183,10 @@ move_allowed slots count id me v writes next says t r _ at _ =
       refl,
     )
 
--- the writer changes a word, and maybe tells of later links
+-- the writer changes a word, and maybe adds later links
 word_changed : (slots count id : ℕ) (me : Seated) (i x : ℕ) (newer : List Link) (next : Plan) → i < words_for slots → IsWriter me.0 → (plan_of me.0.role).version % 2 ≡ 1
     → next ≡ record (plan_of me.0.role) { draft = set (plan_of me.0.role).draft i x; links = newer ++ (plan_of me.0.role).links }
-    → Allows (Kept slots) count id me (i + 1) (λ _. x) (λ _ me'. me' ≡ (view me.0.slots (Writing next) me.0.seen, me.1))
+    → Allows (Kept slots) count id me (i + lines_at) (λ _. x) (λ _ me'. me' ≡ (view me.0.slots (Writing next) me.0.seen, me.1))
 word_changed slots count id me i x newer next inside writes odd is t r _ at _ =
     let mine = r.seats id me.0 at in let k = plan_kept r.version r.draft r.links id me.0.role writes mine.1 in let p = k.0 in
     let plan : Plan = plan_of me.0.role in let now : plan.version ≡ r.version = p.version_is in let wide = r.wide in let long = r.long in
@@ -199,13 +199,13 @@ word_changed slots count id me i x newer next inside writes odd is t r _ at _ =
         version = r.version;
         draft = set r.draft i x;
         links = links;
-        wide = length-set t.words (i + 1) x ∙ wide;
+        wide = length-set t.words (i + lines_at) x ∙ wide;
         long = length-set r.draft i x ∙ long;
-        version_is = get_or-set_other t.words (i + 1) 0 x 0 (λ e. omega arith) ∙ r.version_is;
+        version_is = get_or-set_other t.words (i + lines_at) 0 x 0 (λ e. omega arith) ∙ r.version_is;
         draft_is = λ j within. dite (ℕ_discrete j i)
-            (λ same. subst (λ (z : ℕ). get_or (set t.words (i + 1) x) (z + 1) 0 ≡ get_or (set r.draft i x) z 0) (sym same)
-            (get_or-set_same t.words (i + 1) x 0 (omega arith) ∙ sym (get_or-set_same r.draft i x 0 (omega arith))))
-            (λ other. get_or-set_other t.words (i + 1) (j + 1) x 0 (λ e. other (omega arith)) ∙ (r.draft_is j within ∙ sym (get_or-set_other r.draft i j x 0 other)));
+            (λ same. subst (λ (z : ℕ). get_or (set t.words (i + lines_at) x) (z + lines_at) 0 ≡ get_or (set r.draft i x) z 0) (sym same)
+            (get_or-set_same t.words (i + lines_at) x 0 (omega arith) ∙ sym (get_or-set_same r.draft i x 0 (omega arith))))
+            (λ other. get_or-set_other t.words (i + lines_at) (j + lines_at) x 0 (λ e. other (omega arith)) ∙ (r.draft_is j within ∙ sym (get_or-set_other r.draft i j x 0 other)));
         says = λ even. absurd (omega arith);
         seats = seats_after (λ j v. Fits slots r.version (set r.draft i x) links j v) t.views id w (
           mine.0,
@@ -229,25 +229,25 @@ word_changed slots count id me i x newer next inside writes odd is t r _ at _ =
     )
 
 pub put_allowed : (slots count id : ℕ) (me : Seated) (i x : ℕ) → i < words_for slots → IsWriter me.0 → (plan_of me.0.role).version % 2 ≡ 1
-    → Allows (Kept slots) count id me (i + 1) (λ _. x) (λ _. MakesPut (step count (i + 1) x 0 none) me x)
+    → Allows (Kept slots) count id me (i + lines_at) (λ _. x) (λ _. MakesPut (step count (i + lines_at) x 0 none) me x)
 put_allowed slots count id me i x inside writes odd =
-    let back : (i + 1) - 1 ≡ i = omega arith in
-    word_changed slots count id me i x [] (put ((i + 1) - 1) x (plan_of me.0.role)) inside writes odd (ap (λ (z : ℕ). put z x (plan_of me.0.role)) back)
+    let back : (i + lines_at) - lines_at ≡ i = omega arith in
+    word_changed slots count id me i x [] (put ((i + lines_at) - lines_at) x (plan_of me.0.role)) inside writes odd (ap (λ (z : ℕ). put z x (plan_of me.0.role)) back)
 
 pub enter_allowed : (slots count id : ℕ) (me : Seated) (i x : ℕ) → i < words_for slots → IsWriter me.0 → (plan_of me.0.role).version % 2 ≡ 1
-    → Allows (Kept slots) count id me (i + 1) (λ _. x) (λ _. MakesEntry (step count (i + 1) x 0 none) me x)
+    → Allows (Kept slots) count id me (i + lines_at) (λ _. x) (λ _. MakesEntry (step count (i + lines_at) x 0 none) me x)
 enter_allowed slots count id me i x inside writes odd =
-    let back : (i + 1) - 1 ≡ i = omega arith in let plan : Plan = plan_of me.0.role in
-    word_changed slots count id me i x (link_at (set plan.draft i x) (i / 8) ∷ []) (entered ((i + 1) - 1) x plan) inside writes odd (ap (λ (z : ℕ). entered z x plan) back)
+    let back : (i + lines_at) - lines_at ≡ i = omega arith in let plan : Plan = plan_of me.0.role in
+    word_changed slots count id me i x (link_at (set plan.draft i x) (i / 8) ∷ []) (entered ((i + lines_at) - lines_at) x plan) inside writes odd (ap (λ (z : ℕ). entered z x plan) back)
 
--- a new reader keeps the rule, told of what the writer knows
+-- a new reader that has seen what the writer knows keeps the rule
 pub tell_allowed : (slots id : ℕ) (v : View) → IsWriter v → Splits (Kept slots) id v v (told v)
 tell_allowed slots id v writes t r at = let mine = r.seats id v at in let k = plan_kept r.version r.draft r.links id v.role writes mine.1 in
     let all : r.links ≡ (plan_of v.role).links = sym k.0.links_are in
     subst (λ (l : List View). Kept slots (record { words = t.words; homes = t.homes; views = l ++ told v ∷ [] })) (sym (set_again t.views id v at))
     (seated slots t r (told v) mine.0 refl ([], all))
 
--- or of what another reader has seen
+-- so does one that has seen what another reader has
 pub copy_allowed : (slots id : ℕ) (v : View) → Splits (Kept slots) id v v (like v)
 copy_allowed slots id v t r at = let mine = r.seats id v at in
     subst (λ (l : List View). Kept slots (record { words = t.words; homes = t.homes; views = l ++ like v ∷ [] })) (sym (set_again t.views id v at))
@@ -293,7 +293,7 @@ zeros zero i = refl
 zeros (suc n) zero = refl
 zeros (suc n) (suc i) = zeros n i
 
--- words of zeros tell no child
+-- words of zeros have no child
 pub none_told : (n line : ℕ) → (link_at (replicate n (let z : ℕ = 0 in z)) line).child ≡ None
 none_told n line = let shape : word_at (replicate n (let z : ℕ = 0 in z)) line 7 ≡ 0 = zeros n (8 * line + 7) in rw shape refl
 
@@ -304,16 +304,16 @@ pub zeros_say : (slots n : ℕ) (links : List Link) → SaysTrue slots (replicat
 zeros_say slots n links line inside child is = absurd (none_some child (sym (none_told n line) ∙ is))
 
 -- the table opens with the rule
-pub opening_kept : (slots version : ℕ) → Kept slots (opening (set (replicate (words_for slots + 1) (let z : ℕ = 0 in z)) 0 version) [] (opened slots version))
-opening_kept slots version = let n : ℕ = words_for slots in let z : ℕ = 0 in let none : List ℕ = replicate n z in let all : List ℕ = replicate (n + 1) z in
-    let long : length all ≡ n + 1 = length-replicate (n + 1) z in record {
+pub opening_kept : (slots version : ℕ) → Kept slots (opening (set (replicate (words_for slots + lines_at) (let z : ℕ = 0 in z)) 0 version) [] (opened slots version))
+opening_kept slots version = let n : ℕ = words_for slots in let z : ℕ = 0 in let none : List ℕ = replicate n z in let all : List ℕ = replicate (n + lines_at) z in
+    let long : length all ≡ n + lines_at = length-replicate (n + lines_at) z in record {
       version = version;
       draft = none;
       links = [];
       wide = length-set all 0 version ∙ long;
       long = length-replicate n z;
       version_is = get_or-set_same all 0 version z (omega arith);
-      draft_is = λ i inside. get_or-set_other all 0 (i + 1) version z (λ e. omega arith) ∙ (get_or-replicate (n + 1) (i + 1) z z (omega arith) ∙ sym (get_or-replicate n i z z inside));
+      draft_is = λ i inside. get_or-set_other all 0 (i + lines_at) version z (λ e. omega arith) ∙ (get_or-replicate (n + lines_at) (i + lines_at) z z (omega arith) ∙ sym (get_or-replicate n i z z inside));
       says = λ even. zeros_say slots n [];
       seats = λ j v e. let f = first_only (opened slots version) v j e in
           subst (λ (x : ℕ × View). Fits slots version none [] x.0 x.1) (λ i. (sym f.0 i, f.1 i))

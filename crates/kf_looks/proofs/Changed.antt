@@ -15,8 +15,7 @@ use Rattle.kf_looks.specs.Steps.{entered}
 use Rattle.kf_looks.specs.Writing.{plan, links_of, WritesTrue, Plans, Keeps, IsFilled, SameLines}
 use Rattle.kf_looks.proofs.Entering.{says_still, placed_still, others_filled, line_told, says_more, placed_more}
 
--- the line where a child of a slot is written: its own, or where the words have none for it the one that nobody
--- reads
+-- the line of a child: that of its slot, or, if the words have none for it, the one that nobody reads
 pub record IsLineOf (slots slot line : ℕ) : Type 0 where
   pub inside : line ≤ slots
   pub its : slot < slots → slot ≡ line

@@ -1,4 +1,4 @@
--- What reads tell of the words, and of links.
+-- What reads show of the words, and of links.
 use Rattle.std.proofs.Common.{◌≡◌, ℕ, ◌<◌, List, ◌∷◌, get_or, sym, ap, ◌∙◌, Some, lit<}
 use Rattle.kf_core.specs.declared.key.Key.{Key}
 use Rattle.kf_looks.specs.declared.found.Found.{Found}
@@ -33,7 +33,7 @@ pub tells_on : (a b : Role) (Fact Then : List ℕ → Type 0) → ((content : Li
 tells_on a b Fact Then on ab at reads is = let f = ab at reads is in
     (f.0, f.1, λ content all. let x = f.2 content all in (x.0, on content x.1))
 
--- words alike tell the same link
+-- equal words say the same link
 pub same_link : (f g : ℕ → ℕ) → ((k : ℕ) → k < 8 → f k ≡ g k) → link_by f ≡ link_by g
 same_link f g same = let at = λ (k : ℕ) (few : k < 8). same k few in λ i. record {
   dir = key_of (at 0 (lit< tt) i);

@@ -9,7 +9,7 @@ use Rattle.kf_looks.specs.Links.{top, walked}
 use Rattle.kf_core.specs.Paths.{is_slash, is_empty}
 use Rattle.kf_looks.specs.Paths.{led}
 
--- the names of a path whose parts are none of them empty lead where the path does
+-- if no part of a path is empty, its names lead to the same node as the path
 from_parts : (links : List Link) (root : Key) (rest : List ℕ) (last : Found) → (length rest ≡ 0 → ⊥)
     → list_any is_empty (slice_split is_slash rest) ≡ false → walked links (top root) (slice_split is_slash rest) ≡ Some last
     → led links root (47 ∷ rest) ≡ Some last

@@ -1,4 +1,4 @@
--- What the tests of directories and names tell, and what a link more makes of the links.
+-- What the tests of directories and names show, and what one more link makes of the links.
 use Rattle.std.proofs.Common.{◌≡◌, ◌≢◌, ◌⊎◌, inl, inr, ℕ, true, false, List, ◌∷◌, refl, ap, ◌∙◌, cond}
 use Rattle.std.proofs.lemmas.Bool.{and_parts, and_from}
 use Rattle.std.proofs.lemmas.Bool.Decides.{eqb_tells}

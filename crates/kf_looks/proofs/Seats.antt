@@ -105,6 +105,6 @@ moved_true a b version old made =
       placed = subst (λ (x : ℕ × List ℕ). IsPlaced x.0 x.1) (λ i. (sym made.slots i, sym draft i)) old.placed;
     }
 
--- a version that is odd at the end alone is even elsewhere
+-- a version that is odd only at the end is even elsewhere
 pub even_unless : (version last : ℕ) → (version % 2 ≡ 1 → version ≡ last) → version ≢ last → version % 2 ≡ 0
 even_unless version last odd other = dite (ℕ_discrete (version % 2) 1) (λ e. absurd (other (odd e))) (λ e. omega arith)

@@ -16,14 +16,14 @@ one_more count word byte later small =
     subst (λ (n : ℕ). bytes_before n (word * 256 + byte) later ≡ bytes_before count word (byte ∷ later)) (sym (add-one count))
     (rw (high, low) refl)
 
--- so many bytes and one more stay below the next power
+-- n bytes and one more stay below the next power
 pub below_more : (count word byte : ℕ) → word < 256 ^ count → byte < 256 → word * 256 + byte < 256 ^ (count + 1)
 below_more count word byte below small =
     let next : 256 ^ (count + 1) ≡ 256 ^ count * 256 = pow_more 256 count in
     let p : ℕ = 256 ^ count in
     omega (arith, next, below, small)
 
--- where fewer than eight bytes are in a word, there is room for one more
+-- if fewer than eight bytes are in a word, there is room for one more
 pub room : (count word : ℕ) → count < 8 → word < 256 ^ count → word < 72057594037927936
 room count word few below =
     let most : 256 ^ count ≤ 256 ^ 7 = pow-le-pow_right {n = 256} (omega arith) {i = count} {j = 7} (omega arith) in omega (arith, most, below)
@@ -96,7 +96,7 @@ first_of_eight count word eight few all later =
     let same : take count eight ≡ front = ap (take count) whole ∙ (ap (λ (n : ℕ). take n (front ++ rest)) (sym size) ∙ take-append_seam front rest) in
     behind count high later ∙ ap (λ (l : List ℕ). l ++ later) (sym same)
 
--- so many bytes are eight times as many bits
+-- n bytes are eight times as many bits
 bits_of : (count : ℕ) → 2 ^ (8 * count) ≡ 256 ^ count
 bits_of zero = refl
 bits_of (suc count) =

@@ -15,7 +15,7 @@ abbrev pub OnlyAt : List Link → Key → List ℕ → Key → Type 0
 OnlyAt links dir name key = (d : Key) (n : List ℕ) (child : Found) → child_of links d n ≡ Some child
     → child.key ≡ key → (d ≡ dir) × (n ≡ name)
 
--- a key stood under one name alone, which was then taken away, and no later link gives it a name, as keys are
+-- a key stood under only one name, which was then taken away, and no later link gives it a name, as keys are
 -- born once. Then no names lead to it any more, from any other directory on
 abbrev pub NeverFoundAgain : Type 0
 NeverFoundAgain = (older newer : List Link) (dir : Key) (name : List ℕ) (key : Key)

@@ -1,5 +1,5 @@
--- What the words say after the version: a line of eight words for each slot and one that nobody reads, then
--- the hints, which nobody believes.
+-- What the words say behind the version: a line of eight words for each slot and one that nobody reads, then
+-- the hints, which are never believed.
 use Rattle.std.specs.Prelude.{◌≡◌, ℕ, ◌+◌, ◌*◌, ◌<◌, List, Some, slice_index}
 use Rattle.kf_looks.specs.declared.found.Found.{Found}
 use Rattle.kf_looks.specs.declared.view.Link.{Link}
@@ -12,11 +12,15 @@ use Rattle.kf_looks.specs.ShortNames.{bytes_of}
 abbrev pub bytes_in : ShortName → List ℕ
 bytes_in name = bytes_of name.count name.first name.second name.third
 
--- the words of so many slots behind the version: the lines, three hints a slot, and sixteen more of them
+-- the word at which the lines begin: before them are the version and five words that nobody reads
+abbrev pub lines_at : ℕ
+lines_at = 6
+
+-- how many words the slots have behind that: the lines, three hints a slot, and sixteen more hints
 abbrev pub words_for : ℕ → ℕ
 words_for slots = 11 * slots + 24
 
--- the link that the eight words of a line tell: the directory, how many bytes the name has, and those, the
+-- the link that the eight words of a line say: the directory, how many bytes the name has, the bytes, the
 -- child's key, its target or tag, and its shape
 abbrev pub link_by : (ℕ → ℕ) → Link
 link_by word = record {
@@ -29,11 +33,11 @@ link_by word = record {
 abbrev pub word_at : List ℕ → ℕ → ℕ → ℕ
 word_at content line k = slice_index content (8 * line + k)
 
--- the link that a line tells
+-- the link that a line says
 abbrev pub link_at : List ℕ → ℕ → Link
 link_at content line = link_by (word_at content line)
 
--- where the line has a child, the links say that the name has it
+-- if a line has a child, the links say that the name has that child
 abbrev pub SaysTrue : ℕ → List ℕ → List Link → Type 0
 SaysTrue slots content links = (line : ℕ) → line < slots → (child : Found)
     → (link_at content line).child ≡ Some child

@@ -25,7 +25,7 @@ child_of (l ∷ older) dir name = if is_of dir name l then l.child else child_of
 abbrev pub top : Key → Found
 top key = record { key = key; node = Dir }
 
--- where the names lead one after another
+-- what the names lead to one after another
 abbrev pub walked : List Link → Found → List (List ℕ) → Option Found
 walked links here [] = Some here
 walked links here (name ∷ names) =

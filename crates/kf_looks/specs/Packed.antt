@@ -15,11 +15,11 @@ abbrev pub node_of : ℕ → ℕ → Node
 node_of shape more = if shape == 1 then Dir else
     (if shape == 2 then Link (key_of more) else File ((shape - 3) % 65536) more)
 
--- the node that three words tell, where the shape is not 0
+-- the node that three words say, if the shape is not 0
 abbrev pub found_of : ℕ → ℕ → ℕ → Found
 found_of key more shape = record { key = key_of key; node = node_of shape more }
 
--- the child that three words tell; none where the shape is 0
+-- the child that three words say; none if the shape is 0
 abbrev pub child_by : ℕ → ℕ → ℕ → Option Found
 child_by key more shape =
     if shape == 0 then None else Some (record { key = key_of key; node = node_of shape more })

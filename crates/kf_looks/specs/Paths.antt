@@ -1,4 +1,4 @@
--- Where a path leads.
+-- What a path leads to.
 use Rattle.std.specs.Prelude.{ℕ, List, Option}
 use Rattle.std.specs.Option.{option_and_then}
 use Rattle.kf_core.specs.Paths.{names_of}
@@ -7,6 +7,6 @@ use Rattle.kf_looks.specs.declared.found.Found.{Found}
 use Rattle.kf_looks.specs.declared.view.Link.{Link}
 use Rattle.kf_looks.specs.Links.{top, walked}
 
--- where a path leads from a directory on, which itself is what `/` leads to
+-- what a path leads to from a directory on; `/` leads to the directory itself
 abbrev pub led : List Link → Key → List ℕ → Option Found
 led links root path = option_and_then (walked links (top root)) (names_of path)

@@ -9,20 +9,20 @@ use Rattle.kf_looks.specs.declared.view.View.{View}
 use Rattle.kf_looks.specs.Lines.{SaysTrue}
 use Rattle.kf_looks.specs.Rule.{AllIn}
 
--- the seat is still that of the same table, of so many slots, and has seen the same links
+-- the seat is still that of the same table, of as many slots, and has seen the same links
 pub record IsSameSeat (old new : Seat (Unit {0}) View) : Type 0 where
   pub table : new.table_id ≡ old.table_id
   pub slots : new.me.0.slots ≡ old.me.0.slots
   pub seen : new.me.0.seen ≡ old.me.0.seen
   pub carried : new.me.1 ≡ old.me.1
 
--- there were more reads, and where all of them stand in a content, this holds of that content
+-- there were more reads, and if all of them stand in a content, this holds of that content
 abbrev pub Follows : Role → Role → (List ℕ → Type 0) → Type 0
 Follows before after Fact = (at : ℕ) (reads : List Read) → before ≡ Reading at reads
     → (more : List Read) × (after ≡ Reading at more)
     × ((content : List ℕ) → AllIn content more → AllIn content reads × Fact content)
 
--- where the content is true of some links, this holds of those links
+-- if the content is true of some links, this holds of those links
 abbrev pub Tells : ℕ → (List Link → Type 0) → List ℕ → Type 0
 Tells slots Fact content = (links : List Link) → SaysTrue slots content links → Fact links
 

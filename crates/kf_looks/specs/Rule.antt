@@ -10,7 +10,7 @@ use Rattle.kf_looks.specs.declared.view.Role.{Role}
 use Rattle.kf_looks.specs.declared.view.Role.TheVariants.{Idle, Reading, Writing}
 use Rattle.kf_looks.specs.declared.view.View.{View}
 use Rattle.kf_looks.specs.Links.{IsLater}
-use Rattle.kf_looks.specs.Lines.{SaysTrue, words_for}
+use Rattle.kf_looks.specs.Lines.{SaysTrue, lines_at, words_for}
 
 abbrev pub Table : Type 0
 Table = State (Unit {0}) View
@@ -35,8 +35,8 @@ pub record IsPlan (version : ℕ) (draft : List ℕ) (links : List Link) (plan :
   pub draft_is : plan.draft ≡ draft
   pub links_are : plan.links ≡ links
 
--- a reader's reads stand in the words while the version is the even one that it found first. The first seat
--- alone writes
+-- a reader's reads stand in the words while the version is the even one that it found first. Only the first
+-- seat writes
 abbrev pub Knows : ℕ → List ℕ → List Link → ℕ → Role → Type 0
 Knows version draft links seat Idle = Unit {0}
 Knows version draft links seat (Reading at reads) =
@@ -49,10 +49,10 @@ pub record Kept (slots : ℕ) (t : Table) : Type 0 where
   pub version : ℕ
   pub draft : List ℕ
   pub links : List Link
-  pub wide : length t.words ≡ words_for slots + 1
+  pub wide : length t.words ≡ words_for slots + lines_at
   pub long : length draft ≡ words_for slots
   pub version_is : slice_index t.words 0 ≡ version
-  pub draft_is : (i : ℕ) → i < words_for slots → slice_index t.words (i + 1) ≡ slice_index draft i
+  pub draft_is : (i : ℕ) → i < words_for slots → slice_index t.words (i + lines_at) ≡ slice_index draft i
   pub says : version % 2 ≡ 0 → SaysTrue slots draft links
   pub seats : (seat : ℕ) (v : View) → get_elem? t.views seat ≡ some v
       → (v.slots ≤ slots) × Knows version draft links seat v.role × IsLater links v.seen

@@ -1,7 +1,7 @@
 -- A name of at most 24 bytes as four numbers: how many bytes it has, and three words with eight bytes each.
 use Rattle.std.specs.Prelude.{ℕ, ◌-◌, ◌/◌, ◌%◌, zero, suc, List, [], ◌∷◌, min}
 
--- the last so many bytes of a number, the last the lowest, before others
+-- the last n bytes of a number, the last the lowest, before others
 abbrev pub bytes_before : ℕ → ℕ → List ℕ → List ℕ
 bytes_before zero word later = later
 bytes_before (suc count) word later = bytes_before count (word / 256) (word % 256 ∷ later)

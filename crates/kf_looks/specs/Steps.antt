@@ -1,4 +1,4 @@
--- What each step makes of the view of its own seat.
+-- What each step makes of the view of its seat.
 use Rattle.std.specs.Prelude.{◌≡◌, ℕ, ◌+◌, ◌-◌, ◌/◌, ◌%◌, List, [], ◌∷◌, slice_index, slice_set}
 use Rattle.atomic_table.specs.Table.{Me, Step}
 use Rattle.kf_looks.specs.declared.view.Link.{Link}
@@ -8,7 +8,7 @@ use Rattle.kf_looks.specs.declared.view.Role.{Role}
 use Rattle.kf_looks.specs.declared.view.Role.TheVariants.{Idle, Reading, Writing}
 use Rattle.kf_looks.specs.declared.view.View.{View}
 use Rattle.kf_looks.specs.Links.{IsLater}
-use Rattle.kf_looks.specs.Lines.{SaysTrue, link_at}
+use Rattle.kf_looks.specs.Lines.{SaysTrue, lines_at, link_at}
 use Rattle.kf_looks.specs.Rule.{AllIn, plan_of}
 
 -- the view of a seat, and the slots that it holds, of which there are none
@@ -41,9 +41,10 @@ abbrev pub MakesBegin : Step (Unit {0}) → Seated → ℕ → Seated → Type 0
 MakesBegin st me found me' = Begun found me.0 me'.0 × (me'.1 ≡ me.1)
 
 abbrev pub MakesPeek : Step (Unit {0}) → Seated → ℕ → Seated → Type 0
-MakesPeek st me found me' = me' ≡ (view me.0.slots (grown (st.word - 1) found me.0.role) me.0.seen, me.1)
+MakesPeek st me found me' =
+    me' ≡ (view me.0.slots (grown (st.word - lines_at) found me.0.role) me.0.seen, me.1)
 
--- the links that are seen now are all that were seen, and maybe later ones. Where the version is the one that
+-- the links that are seen now are all that were seen, and maybe later ones. If the version is the one that
 -- was found first, all reads stand in one content, which is true of these links
 pub record Passed (found : ℕ) (old new : View) : Type 0 where
   pub slots_are : new.slots ≡ old.slots
@@ -63,7 +64,7 @@ moved plan = record plan { version = plan.version + 1 }
 abbrev pub put : ℕ → ℕ → Plan → Plan
 put word value plan = record plan { draft = slice_set plan.draft word value }
 
--- the last word of a line is put: the link that the line now tells comes first
+-- the last word of a line is put: the link that the line now says comes first
 abbrev pub entered : ℕ → ℕ → Plan → Plan
 entered word value plan = record plan {
   draft = slice_set plan.draft word value;
@@ -73,7 +74,7 @@ entered word value plan = record plan {
 -- a word behind the version is the one that the writer planned
 abbrev pub MakesRecall : Step (Unit {0}) → Seated → ℕ → Seated → Type 0
 MakesRecall st me found me' =
-    (me' ≡ me) × (found ≡ slice_index (plan_of me.0.role).draft (st.word - 1))
+    (me' ≡ me) × (found ≡ slice_index (plan_of me.0.role).draft (st.word - lines_at))
 
 -- what the writer's step makes of its plan
 abbrev pub Becomes : Plan → Seated → Seated → Type 0
@@ -83,10 +84,10 @@ abbrev pub MakesMove : Step (Unit {0}) → Seated → ℕ → Seated → Type 0
 MakesMove st me found me' = Becomes (moved (plan_of me.0.role)) me me'
 
 abbrev pub MakesPut : Step (Unit {0}) → Seated → ℕ → Seated → Type 0
-MakesPut st me found me' = Becomes (put (st.word - 1) st.first (plan_of me.0.role)) me me'
+MakesPut st me found me' = Becomes (put (st.word - lines_at) st.first (plan_of me.0.role)) me me'
 
 abbrev pub MakesEntry : Step (Unit {0}) → Seated → ℕ → Seated → Type 0
-MakesEntry st me found me' = Becomes (entered (st.word - 1) st.first (plan_of me.0.role)) me me'
+MakesEntry st me found me' = Becomes (entered (st.word - lines_at) st.first (plan_of me.0.role)) me me'
 
 -- a new reader has seen all links that the writer has made
 abbrev pub told : View → View

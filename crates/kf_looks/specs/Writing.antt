@@ -29,7 +29,7 @@ pub record WritesTrue (v : View) (version : ℕ) : Type 0 where
   pub says : SaysTrue v.slots (plan_of v.role).draft (plan_of v.role).links
   pub placed : IsPlaced v.slots (plan_of v.role).draft
 
--- the seat is still that of the same table, of so many slots, and plans this
+-- the seat is still that of the same table, of as many slots, and plans this
 pub record Plans (old new : Seat (Unit {0}) View) (next : Plan) : Type 0 where
   pub table : new.table_id ≡ old.table_id
   pub slots : new.me.0.slots ≡ old.me.0.slots
@@ -40,7 +40,7 @@ pub record IsSameWriter (old new : Seat (Unit {0}) View) : Type 0 where
   pub table : new.table_id ≡ old.table_id
   pub me : new.me ≡ old.me
 
--- the seat is still the writer's of the same table, of so many slots, at the same version and with the same
+-- the seat is still the writer's of the same table, of as many slots, at the same version and with the same
 -- links
 pub record Keeps (old new : Seat (Unit {0}) View) : Type 0 where
   pub table : new.table_id ≡ old.table_id
@@ -49,7 +49,7 @@ pub record Keeps (old new : Seat (Unit {0}) View) : Type 0 where
   pub version_is : (plan new).version ≡ (plan old).version
   pub links_are : links_of new ≡ links_of old
 
--- so many of these words were put from a place on, and all others are as before
+-- the first n of these words were put from a place on, and all others are as before
 pub record IsFilled (old new : List ℕ) (at : ℕ) (words : List ℕ) (count : ℕ) : Type 0 where
   pub long : length new ≡ length old
   pub words_are : (k : ℕ) → k < count → slice_index new (at + k) ≡ slice_index words k

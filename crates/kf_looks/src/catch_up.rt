@@ -1,4 +1,4 @@
-//! Telling a reader that is there already.
+//! Showing all changes to a reader that is there already.
 ghost use Rattle.std.specs.Prelude.{◌≡◌, []};
 ghost use Rattle.kf_looks.specs.Links.{IsLater};
 ghost use Rattle.kf_looks.specs.Lookers.{seen};
@@ -12,7 +12,7 @@ use crate::table::LookSeat;
 use crate::writer::Writer;
 
 impl Looks {
-    /// A seat is given up, of which the writer then knows what it has seen: the links of the writer begin
+    /// A seat is given up, and the writer then knows what the seat has seen: the links of the writer begin
     /// with that.
     fn hear(&self, writer: &mut LookSeat, other: LookSeat)
         requires table { writer.old.table_id ≡ self.now.table.shared.table_id }
@@ -27,8 +27,8 @@ impl Looks {
         self.table.shared.load::<Compares>(writer, 0);
     }
 
-    /// Tells a reader of all links: none of its look-ups goes back behind them. They begin with all that it
-    /// had seen.
+    /// Shows a reader all links: none of its look-ups goes back behind them. They begin with all that it had
+    /// seen.
     ///
     /// Conditions: the writer and the reader are of these words.
     pub fn catch_up(&self, writer: &mut Writer, looker: Looker) -> Looker

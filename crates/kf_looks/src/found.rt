@@ -1,8 +1,8 @@
 //! What a look-up finds.
 use kf_core::{Key, Node};
 
-/// A node that a name led to: its key, and what it is. What `stat`, `readlink` and an `open` ask of a node
-/// that is found stands here: its kind, a file's mode and tag, a link's target.
+/// A node that a name led to: its key, and what it is. This is what `stat`, `readlink` and an `open` need of
+/// a node: its kind, a file's mode and tag, a link's target.
 #[derive(Clone, Copy, Debug, PartialEq, Eq)]
 pub struct Found {
     pub key: Key,

@@ -1,5 +1,4 @@
-//! Where a name is looked for: in which line it may stand. Nobody believes a hint: what the line itself says
-//! is compared.
+//! Hints: in which line a name may stand. A hint is never believed: what the line itself says is compared.
 ghost use Rattle.std.specs.Prelude.{◌≡◌, ◌+◌, ◌*◌, ◌<◌, ◌≤◌, ⊤};
 ghost use Rattle.kf_looks.specs.Lines.{words_for};
 ghost use Rattle.kf_looks.specs.Reading.{IsSameSeat, Follows};
@@ -37,8 +36,8 @@ fn name_hash(name: &ShortName) -> u64 {
 }
 
 impl Looks {
-    /// Where the hints of a name are, by the slot of its directory. A walk gives the line that the
-    /// directory's own hint told: so it asks for the next hint before that line has come.
+    /// The place of a name's hints, by the slot of its directory. A walk passes the line that the hint of the
+    /// directory named: so the processor loads the next hint before that line has come.
     #[inline(always)]
     pub(crate) fn place(&self, dir: u64, name: &ShortName) -> Place
         ensures first { 8 * self.now.slots + 8 ≤ result.first }

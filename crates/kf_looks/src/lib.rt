@@ -1,11 +1,13 @@
-//! Look-ups that take no lock and write no shared word: where a path leads, as the words of one version say.
+//! Look-ups that take no lock and write no shared word: the node to which a path leads, as the words of one
+//! version say. The version is that of a seqlock.
 //!
-//! - `Looks::new` gives words for so many slots, and their one `Writer`. A change is a `Section`: `start`,
-//!   `give` and `take` for each name that came or went, `publish`. The version is odd between, and look-ups
-//!   wait for nobody.
-//! - `Looker` is what one thread has seen; it takes no memory and is registered nowhere. `look` answers
-//!   where a path led at one moment after all that it had seen, or None: ask the owner of the tree. `again`
-//!   is one load: what was found still stands. `catch_up` tells a `Looker` of all changes so far.
+//! - `Looks::new` makes words for a number of slots, and their one `Writer`. A change is a `Section`:
+//!   `start`, `give` and `take` for each name that came or went, `publish`. The version is odd between them,
+//!   and a look-up that meets an odd or another version tries again.
+//! - `Looker` is what one thread has seen; it takes no memory and is registered nowhere. `look` returns the
+//!   node to which a path led at one moment after all that the looker had seen, or None: ask the owner of the
+//!   tree. `again` is one load: what was found still stands. After `catch_up` a `Looker` has seen all changes
+//!   so far.
 //!
 //! The writer shows that a name which it gives or takes is of the child's own slot (`of_slot`). Names of
 //! more than 24 bytes have no words.

@@ -1,32 +1,32 @@
 //! The words that hold names, and who sits at them.
 ghost use Rattle.std.specs.Prelude.{◌≡◌, ◌+◌, ◌≤◌, [], IfOk};
 ghost use Rattle.kf_core.specs.Limits.{most_slots};
-ghost use Rattle.kf_looks.specs.Lines.{words_for};
+ghost use Rattle.kf_looks.specs.Lines.{lines_at, words_for};
 ghost use Rattle.kf_looks.specs.Lookers.{seen};
 ghost use Rattle.kf_looks.specs.Steps.{told};
 ghost use Rattle.kf_looks.specs.Writing.{links_of, IsWriter};
 
 use crate::plays::{Copies, Sits, Tells};
 use crate::reader::Looker;
-use crate::table::{LookSeat, LookTable, Opening};
+use crate::table::{LINES_AT, LookSeat, LookTable, Opening};
 use crate::writer::Writer;
 use crate::writer_token::WriterToken;
 use std::alloc::{AllocError, Global};
 
 /// The words. Any number of threads look names up there, and none of them writes.
 ///
-/// They take 88 bytes for each slot and 200 more. Without a slot no look-up answers.
+/// They take 88 bytes for each slot and 240 more. Without a slot no look-up finds anything.
 #[derive(Drop)]
 pub struct Looks {
     pub table: LookTable,
     pub slots: u64,
     ghost few: { slots ≤ most_slots },
-    ghost wide: { table.shared.table_id.words ≡ words_for slots + 1 },
+    ghost wide: { table.shared.table_id.words ≡ words_for slots + lines_at },
     ghost keyed: { table.shared.key.slots ≡ slots },
 }
 
 impl Looks {
-    /// Words for the nodes of so many slots, with no name. With no slot the version is odd for ever.
+    /// Words for the nodes of that many slots, with no name. With no slot the version is odd for ever.
     ///
     /// Condition: there are at most [`kf_core::MOST_SLOTS`] slots.
     pub fn new(alloc: Global, slots: u32) -> Result<(Looks, Writer), AllocError>
@@ -37,7 +37,7 @@ impl Looks {
     {
         let version = if slots == 0 { u64::MAX } else { 0 };
         let slots = slots as u64;
-        let mut words = vec![in alloc; 0u64; slots as usize * 11 + 25]?;
+        let mut words = vec![in alloc; 0u64; slots as usize * 11 + 24 + LINES_AT]?;
         words[0] = version;
         let opening = Opening { slots, version };
         let (table, seat) = LookTable::of_words(alloc, words.as_slice(), &opening)?;
@@ -55,7 +55,7 @@ impl Looks {
         }
     }
 
-    /// A reader that was told of all links: none of its look-ups goes back behind them.
+    /// A reader that has seen all links: none of its look-ups goes back behind them.
     pub fn looker_after(&self, writer: &mut Writer) -> Looker
         requires table { writer.old.seat.table_id ≡ self.now.table.shared.table_id }
         ensures table { result.seat.table_id ≡ self.now.table.shared.table_id }
@@ -69,7 +69,7 @@ impl Looks {
         }
     }
 
-    /// A seat of one who was told of all links.
+    /// The seat of a reader that has seen all links.
     fn tell(&self, writer: &mut LookSeat) -> LookSeat
         requires table { writer.old.table_id ≡ self.now.table.shared.table_id }
         requires writes { IsWriter writer.old.me.0 }
@@ -82,8 +82,8 @@ impl Looks {
         self.table.shared.split_seat::<Tells>(writer)
     }
 
-    /// A reader that was told of what another has seen, as the one in a receipt: none of its look-ups goes
-    /// back behind that.
+    /// A reader that has seen what another has, such as the one in a receipt: none of its look-ups goes back
+    /// behind that.
     pub fn looker_like(&self, other: &mut Looker) -> Looker
         requires table { other.old.seat.table_id ≡ self.now.table.shared.table_id }
         ensures table { result.seat.table_id ≡ self.now.table.shared.table_id }

@@ -63,7 +63,7 @@ pub(crate) fn node_in(shape: u64, more: u64) -> Node
     }
 }
 
-/// The child that three words tell.
+/// The child that three words say.
 pub(crate) fn child_in(key: u64, more: u64, shape: u64) -> Option<Found>
     ensures same { result ≡ child_by key more shape }
 {

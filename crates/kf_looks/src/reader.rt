@@ -1,18 +1,18 @@
 //! A reader's single steps on the words.
 ghost use Rattle.std.specs.Prelude.{◌≡◌, ◌+◌, ◌<◌, []};
-ghost use Rattle.kf_looks.specs.Lines.{words_for};
+ghost use Rattle.kf_looks.specs.Lines.{lines_at, words_for};
 ghost use Rattle.kf_looks.specs.Reading.{IsSameSeat};
 ghost use Rattle.kf_looks.specs.Steps.{Begun, Passed, grown};
 
 use crate::looks::Looks;
 use crate::plays::{Begins, Checks, Peeks};
-use crate::table::LookSeat;
+use crate::table::{LINES_AT, LookSeat};
 
 /// A reader: it has no bytes. Contracts see the links that it has seen.
 #[derive(Drop)]
 pub struct Looker {
     pub seat: LookSeat,
-    ghost sized: { seat.table_id.words ≡ words_for seat.me.0.slots + 1 },
+    ghost sized: { seat.table_id.words ≡ words_for seat.me.0.slots + lines_at },
     ghost bare: { seat.me.1 ≡ [] },
 }
 
@@ -36,10 +36,10 @@ impl Looks {
         ensures same { IsSameSeat seat.old seat.new }
         ensures read { seat.new.me.0.role ≡ grown index result seat.old.me.0.role }
     {
-        self.table.shared.load::<Peeks>(seat, index + 1)
+        self.table.shared.load::<Peeks>(seat, index + LINES_AT)
     }
 
-    /// Loads the version again. Where it is the one found first, all that was read stood there at once.
+    /// Loads the version again. If it is the one found first, all that was read stood there at once.
     #[inline(always)]
     pub(crate) fn check(&self, seat: &mut LookSeat) -> u64
         requires table { seat.old.table_id ≡ self.now.table.shared.table_id }

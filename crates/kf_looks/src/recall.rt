@@ -1,4 +1,4 @@
-//! What the writer reads of its own words.
+//! What the writer reads of the words.
 ghost use Rattle.std.specs.Prelude.{◌≡◌, ◌+◌, ◌<◌, ℕ, true, Some, length, slice_index};
 ghost use Rattle.kf_looks.specs.Lines.{bytes_in, word_at, words_for};
 ghost use Rattle.kf_looks.specs.Links.{child_of};
@@ -9,7 +9,7 @@ use crate::looks::Looks;
 use crate::packed::key_word;
 use crate::plays::Recalls;
 use crate::short_name::ShortName;
-use crate::table::LookSeat;
+use crate::table::{LINES_AT, LookSeat};
 use crate::walk::child_there;
 use crate::writer::Section;
 use kf_core::Key;
@@ -23,7 +23,7 @@ impl Looks {
         ensures same { IsSameWriter seat.old seat.new }
         ensures planned { result ≡ slice_index (plan seat.old).draft index }
     {
-        self.table.shared.load::<Recalls>(seat, index + 1)
+        self.table.shared.load::<Recalls>(seat, index + LINES_AT)
     }
 
     /// The eight words of a line, which are those that the writer planned.

@@ -48,7 +48,7 @@ fn eight_at(text: &[u8], at: usize) -> u64
     ])
 }
 
-/// So many bytes of a text, up to eight, as one word. Where eight are there, all are read at once.
+/// `count` bytes of a text, up to eight, as one word. If the text has eight there, all are read at once.
 #[inline(always)]
 fn word_at(text: &[u8], at: usize, count: usize) -> u64
     requires few { count ≤ 8 }
@@ -66,7 +66,7 @@ fn word_at(text: &[u8], at: usize, count: usize) -> u64
 }
 
 impl ShortName {
-    /// The first so many bytes of a text. None for no byte, and for more than 24.
+    /// The first `count` bytes of a text. None for no byte, and for more than 24.
     #[inline(always)]
     pub(crate) fn at_front(text: &[u8], count: usize) -> Option<ShortName>
         requires inside { count ≤ length text.now }

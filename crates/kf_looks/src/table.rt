@@ -1,10 +1,14 @@
 //! The table of words and its rule. Word 0 is the version, which is odd while the writer changes the others:
-//! a line of eight words for each slot and one that nobody reads, and then the hints.
+//! from word `LINES_AT` on a line of eight words for each slot and one that nobody reads, and then the hints.
 use crate::view::View;
 use atomic_table::{Seat, Table, TableRule};
 use std::alloc::Global;
 
-/// How the table begins: with lines for so many slots, at this version.
+/// The word at which the lines begin. An allocator's large blocks begin 16 bytes behind the edge of a cache
+/// line, so each line of the table is one cache line, and the version has a cache line for itself.
+pub(crate) const LINES_AT: usize = 6;
+
+/// How the table begins: with lines for that many slots, at this version.
 #[derive(Clone, Copy)]
 pub struct Opening {
     pub slots: u64,

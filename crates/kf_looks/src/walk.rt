@@ -1,5 +1,5 @@
-//! Look-ups: where a path leads, without the lock.
-ghost use Rattle.std.specs.Prelude.{◌≡◌, ◌≢◌, ◌<◌, true, false, List, Some, IfSome, slice_index};
+//! Look-ups: the node to which a path leads, without the lock.
+ghost use Rattle.std.specs.Prelude.{◌≡◌, ◌≢◌, ◌<◌, true, false, List, Some, IfOk, IfSome, slice_index};
 ghost use Rattle.std.specs.List.{list_any, slice_split};
 ghost use Rattle.kf_looks.specs.Lines.{bytes_in, link_at, link_by};
 ghost use Rattle.kf_looks.specs.Links.{link, top, walked, child_of, IsLater};
@@ -17,8 +17,22 @@ use crate::reader::Looker;
 use crate::short_name::ShortName;
 use crate::table::LookSeat;
 use kf_core::{Key, Node};
+use std::hint::spin_loop;
 
-/// Where a walk is: what the words say of a node, and in which line the node may stand itself.
+/// How many times a look-up tries. One try takes about a tenth of a microsecond, and so does the change of
+/// one node, so nearly every look-up passes within a few tries. The bound keeps a look-up from spinning
+/// beside a writer that never pauses: after some microseconds it is better to wait for the lock.
+const TRIES: u32 = 64;
+
+/// Why one try of a look-up found nothing.
+enum Miss {
+    /// The words have no such path. Another try would find the same.
+    NotThere,
+    /// The version was odd, or moved during the try. Another try may find the path.
+    Changed,
+}
+
+/// The node that a walk has reached: what the words say of it, and in which line it may stand itself.
 #[derive(Clone, Copy)]
 struct Here {
     line: u64,
@@ -59,7 +73,7 @@ pub(crate) fn child_there(line: &[u64; 8], dir: u64, name: &ShortName) -> Option
 }
 
 impl Looks {
-    /// What a line says of its child, where it says that the child has this name in this directory.
+    /// What a line says of its child, if it says that the child has this name in this directory.
     #[inline(always)]
     fn child_at(&self, seat: &mut LookSeat, line: usize, dir: u64, name: &ShortName) -> Option<Here>
         requires table { seat.old.table_id ≡ self.now.table.shared.table_id }
@@ -105,8 +119,8 @@ impl Looks {
         })
     }
 
-    /// The child of a name in a directory, as the words read say. Which line the directory may have is not
-    /// believed.
+    /// The child of a name in a directory, as the words that were read say. The line that the directory may
+    /// have is not believed.
     #[inline(always)]
     fn step(&self, seat: &mut LookSeat, dir: &Here, name: &ShortName) -> Option<Here>
         requires table { seat.old.table_id ≡ self.now.table.shared.table_id }
@@ -125,7 +139,7 @@ impl Looks {
         Some(child)
     }
 
-    /// Where the parts of a text lead one after another, as the words read say.
+    /// What the parts of a text lead to one after another, as the words that were read say.
     fn follow(&self, seat: &mut LookSeat, from: Key, parts: &[u8]) -> Option<Found>
         requires table { seat.old.table_id ≡ self.now.table.shared.table_id }
         requires slots { seat.old.me.0.slots ≡ self.now.slots }
@@ -151,7 +165,7 @@ impl Looks {
         Some(here.found())
     }
 
-    /// Where a path leads, as the words read say.
+    /// What a path leads to, as the words that were read say.
     fn lead(&self, seat: &mut LookSeat, root: Key, path: &[u8]) -> Option<Found>
         requires table { seat.old.table_id ≡ self.now.table.shared.table_id }
         requires slots { seat.old.me.0.slots ≡ self.now.slots }
@@ -172,12 +186,38 @@ impl Looks {
         Some(last)
     }
 
-    /// Where a path leads from a directory on, and what stands there, after the links that are then seen:
-    /// all that this reader had seen, and maybe later ones. It takes no lock, writes nothing and waits for
-    /// nobody: it loads the version twice, and for each name its hint and eight words.
+    /// One try of [`Looks::look`].
+    #[inline(always)]
+    fn look_once(&self, looker: &mut Looker, root: Key, path: &[u8]) -> Result<Sight, Miss>
+        requires table { looker.old.seat.table_id ≡ self.now.table.shared.table_id }
+        ensures table { looker.new.seat.table_id ≡ looker.old.seat.table_id }
+        ensures later { IsLater (seen looker.new) (seen looker.old) }
+        ensures found { IfOk result
+            (λ sight. led (seen looker.new) root path.now ≡ Some sight.found) }
+        ensures stands { IfOk result (λ sight. Stands looker.new.seat.me.0 sight.version
+            (λ links. led links root path.now ≡ Some sight.found)) }
+    {
+        let version = self.begin(&mut looker.seat);
+        if version % 2 != 0 {
+            return Err(Miss::Changed);
+        }
+        let found = self.lead(&mut looker.seat, root, path);
+        if self.check(&mut looker.seat) != version {
+            return Err(Miss::Changed);
+        }
+        match found {
+            Some(found) => Ok(Sight { found, version }),
+            None => Err(Miss::NotThere),
+        }
+    }
+
+    /// The node to which a path leads from a directory on, by the links that the reader has then seen: all
+    /// those before, and maybe later ones. It takes no lock, writes nothing and waits for
+    /// nobody: it loads the version twice, and for each name its hint and eight words. If a change came
+    /// during the try, it tries again, at most 64 times.
     ///
-    /// None is no refusal: ask under the lock. A name is longer than 24 bytes, is not there or has no line,
-    /// the path has another form, or a change came between.
+    /// None is no refusal: ask under the lock. A name is longer than 24 bytes, is not there or has no line;
+    /// or the path has another form; or a change came during each try.
     pub fn look(&self, looker: &mut Looker, root: Key, path: &[u8]) -> Option<Sight>
         requires table { looker.old.seat.table_id ≡ self.now.table.shared.table_id }
         ensures table { looker.new.seat.table_id ≡ looker.old.seat.table_id }
@@ -187,15 +227,15 @@ impl Looks {
         ensures stands { IfSome result (λ sight. Stands looker.new.seat.me.0 sight.version
             (λ links. led links root path.now ≡ Some sight.found)) }
     {
-        let version = self.begin(&mut looker.seat);
-        if version % 2 != 0 {
-            return None;
+        let tries = if self.slots == 0 { 0 } else { TRIES };
+        for _ in 0..tries {
+            match self.look_once(looker, root, path) {
+                Ok(sight) => return Some(sight),
+                Err(Miss::NotThere) => return None,
+                Err(Miss::Changed) => spin_loop(),
+            }
         }
-        let found = self.lead(&mut looker.seat, root, path)?;
-        if self.check(&mut looker.seat) != version {
-            return None;
-        }
-        Some(Sight { found, version })
+        None
     }
 
     /// Whether what this reader found still stands, in one load. Then it is true of the links that are now
@@ -213,7 +253,7 @@ impl Looks {
         ensures found { result ≡ true
             → led (seen looker.new) root path.now ≡ Some sight.now.found }
     {
-        // The contract alone names these.
+        // Only the contract names these.
         let _ = root;
         let _ = path.len();
         self.check(&mut looker.seat) == sight.version

@@ -1,6 +1,6 @@
-//! The one who changes the words.
+//! The writer, which changes the words.
 ghost use Rattle.std.specs.Prelude.{◌≡◌, ◌+◌, ◌*◌, ◌%◌, ◌<◌, ◌∷◌, Some, None, IfSome, ◌≤◌, length};
-ghost use Rattle.kf_looks.specs.Lines.{bytes_in, words_for, SaysTrue};
+ghost use Rattle.kf_looks.specs.Lines.{SaysTrue, bytes_in, lines_at, words_for};
 ghost use Rattle.kf_looks.specs.Links.{link, IsOfSlot};
 ghost use Rattle.kf_looks.specs.Steps.{entered, moved, put};
 ghost use Rattle.kf_looks.specs.Writing.{plan, links_of, IsWriter, WritesTrue, Plans, Keeps, IsFilled, SameLines};
@@ -11,28 +11,28 @@ use crate::looks::Looks;
 use crate::packed::{child_words, key_word};
 use crate::plays::{Enters, Moves, Puts};
 use crate::short_name::ShortName;
-use crate::table::LookSeat;
+use crate::table::{LINES_AT, LookSeat};
 use crate::writer_token::WriterToken;
 use kf_core::Key;
 
 const HALF: u64 = 4294967296;
 
-/// The one who changes the words, as the tree's lock keeps it. Contracts see all links.
+/// The one writer of the words, which lies behind the tree's lock. Contracts see all links.
 #[derive(Drop)]
 pub struct Writer {
     pub seat: WriterToken,
     pub(crate) version: u64,
-    ghost sized: { seat.table_id.words ≡ words_for seat.me.0.slots + 1 },
+    ghost sized: { seat.table_id.words ≡ words_for seat.me.0.slots + lines_at },
     ghost knows: { WritesTrue seat.me.0 version },
     ghost rests: { version % 2 ≡ 1 → version ≡ 18446744073709551615 },
 }
 
-/// The words while they are changed: look-ups are sent to the lock meanwhile.
+/// The words while they are changed: no look-up passes meanwhile.
 #[derive(Drop)]
 pub struct Section {
     pub seat: WriterToken,
     pub(crate) version: u64,
-    ghost sized: { seat.table_id.words ≡ words_for seat.me.0.slots + 1 },
+    ghost sized: { seat.table_id.words ≡ words_for seat.me.0.slots + lines_at },
     ghost knows: { WritesTrue seat.me.0 version },
     ghost odd: { version % 2 ≡ 1 },
 }
@@ -58,10 +58,12 @@ impl Looks {
         requires odd { (plan seat.old).version % 2 ≡ 1 }
         ensures made { Plans seat.old seat.new (put index value (plan seat.old)) }
     {
-        self.table.shared.store::<Puts>(seat, index + 1, value);
+        self.table
+            .shared
+            .store::<Puts>(seat, index + LINES_AT, value);
     }
 
-    /// Changes the last word of a line: the link that the line now tells is made.
+    /// Changes the last word of a line: the link that the line now says is made.
     fn enter(&self, seat: &mut LookSeat, index: usize, value: u64)
         requires table { seat.old.table_id ≡ self.now.table.shared.table_id }
         requires inside { index < words_for self.now.slots }
@@ -69,7 +71,9 @@ impl Looks {
         requires odd { (plan seat.old).version % 2 ≡ 1 }
         ensures made { Plans seat.old seat.new (entered index value (plan seat.old)) }
     {
-        self.table.shared.store::<Enters>(seat, index + 1, value);
+        self.table
+            .shared
+            .store::<Enters>(seat, index + LINES_AT, value);
     }
 
     /// Changes the words of a line but the last.
@@ -87,8 +91,7 @@ impl Looks {
         }
     }
 
-    /// The word of the first hint that is this one; or, where one is to be given, that is free or has the
-    /// tag.
+    /// The word of the first hint that is this one; or, if one is to be given, that is free or has the tag.
     fn way(&self, seat: &mut LookSeat, place: Place, hint: u64, given: bool) -> Option<usize>
         requires table { seat.old.table_id ≡ self.now.table.shared.table_id }
         requires inside { place.first + 16 ≤ words_for self.now.slots }
@@ -123,7 +126,7 @@ impl Looks {
         }
     }
 
-    /// Begins a change: until it is published, each look-up is sent to the lock. It waits for no reader.
+    /// Begins a change: no look-up passes until it is published. It waits for no reader.
     pub fn start(&self, writer: Writer) -> Section
         requires table { writer.seat.table_id ≡ self.now.table.shared.table_id }
         ensures table { result.seat.table_id ≡ writer.seat.table_id }
@@ -231,7 +234,7 @@ impl Looks {
         self.change(section, dir, name, slot, None)
     }
 
-    /// Publishes the change: look-ups answer again. After 2^63 changes they do not.
+    /// Publishes the change: look-ups pass again. After 2^63 changes they no longer do.
     pub fn publish(&self, section: Section) -> Writer
         requires table { section.seat.table_id ≡ self.now.table.shared.table_id }
         ensures table { result.seat.table_id ≡ section.seat.table_id }

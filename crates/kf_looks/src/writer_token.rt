@@ -1,12 +1,12 @@
-//! The writer's token. Whoever has a `&` to it can do nothing with it, so many threads may have one at once:
-//! they may look at what lies beside a writer, as those do who only read the tree.
+//! The writer's token. A `&` to it allows nothing, so any number of threads may have one at once: they may
+//! look at what lies beside a writer, as threads do that only read the tree.
 ghost use Rattle.std.specs.Prelude.{◌≡◌};
 
 use crate::view::View;
 use atomic_table::Seat;
 use std::marker::Model;
 
-/// The writer's seat at the table, which is reached through a `&mut` alone. To a contract it is that seat.
+/// The writer's seat at the table, which is reached only through a `&mut`. To a contract it is that seat.
 #[derive(Drop)]
 pub struct WriterToken {
     pub(crate) seat: Seat<(), View>,

@@ -1,10 +1,11 @@
-use Rattle.std.proofs.Common.{arith, sym, ◌∙◌, subst, List, [], ◌∷◌}
+use Rattle.std.proofs.Common.{rules, arith, sym, ◌∙◌, subst, List, [], ◌∷◌}
 use Rattle.std.specs.Prelude.{IfSome}
 use Rattle.kf_looks.specs.declared.view.Link.{Link}
 use Rattle.kf_looks.specs.Lines.{bytes_in}
 use Rattle.kf_looks.specs.Links.{IsOfSlot}
 use Rattle.kf_looks.specs.Writing.{links_of}
 use Rattle.kf_live.specs.Live.{SayBut, IsMove, without}
+use Rattle.kf_live.proofs.Said.{told_none}
 use Rattle.kf_live.proofs.Single.{move_slot, move_says}
 use Rattle.kf_live.proofs.Writers.{writer_there}
 use Rattle.kf_live.proofs.publishing.publish_move.Goals as goal
@@ -15,8 +16,8 @@ withdraw-section-requires-clause-of_slot c =
     subst (λ (links : List Link). IfSome c.args.was (λ spot. IsOfSlot links spot.dir (bytes_in spot.name) c.args.key.slot)) (sym c.start.ensures.links)
     (move_slot (links_of c.in-Some.writer.seat) c.args.key c.args.was c.args.state.now.tree at.1)
 
-pub tell-section-requires-clause-says : goal.tell-section-requires-clause-says
-tell-section-requires-clause-says c =
+pub tell-requires-clause-says : goal.tell-requires-clause-says
+tell-requires-clause-says c =
     let at = writer_there c.args.looks.now (λ links. IsMove links c.args.key c.args.was c.args.state.now.tree) c.args.writer c.in-Some.writer c.in-Some.is c.requires.says (omega arith) in (
       c.args.key ∷ [],
       subst (λ (links : List Link). SayBut (c.args.key ∷ []) links c.args.state.now.tree) (sym c.withdraw-section.ensures.links)
@@ -24,16 +25,30 @@ tell-section-requires-clause-says c =
           (move_says (links_of c.in-Some.writer.seat) c.args.key c.args.was c.args.state.now.tree at.1)),
     )
 
-pub returns : goal.returns
-returns c =
+pub returns-in-Some-place : goal.returns-in-Some-place
+returns-in-Some-place c =
     let at = writer_there c.args.looks.now (λ links. IsMove links c.args.key c.args.was c.args.state.now.tree) c.args.writer c.in-Some.writer c.in-Some.is c.requires.says (omega arith) in
     record {
       says = λ _. (
-        c.publish.ensures.table ∙ c.tell-section.ensures.table ∙ c.withdraw-section.ensures.table ∙ c.start.ensures.table ∙ at.0,
+        c.publish.ensures.table ∙ c.tell.ensures.table ∙ c.withdraw-section.ensures.table ∙ c.start.ensures.table ∙ at.0,
         subst (λ (links : List Link). SayBut [] links c.args.state.now.tree) (sym c.publish.ensures.links)
-            (c.tell-section.ensures.told []
+            (c.tell.ensures.told []
             (subst (λ (links : List Link). SayBut (c.args.key ∷ []) links c.args.state.now.tree) (sym c.withdraw-section.ensures.links)
             (subst (λ (links : List Link). SayBut (c.args.key ∷ []) (without c.args.was links) c.args.state.now.tree) (sym c.start.ensures.links)
             (move_says (links_of c.in-Some.writer.seat) c.args.key c.args.was c.args.state.now.tree at.1)))),
+      );
+    }
+
+pub returns-in-None : goal.returns-in-None
+returns-in-None c =
+    let at = writer_there c.args.looks.now (λ links. IsMove links c.args.key c.args.was c.args.state.now.tree) c.args.writer c.in-Some.writer c.in-Some.is c.requires.says (omega arith) in
+    record {
+      says = λ _. (
+        c.publish-in-None.ensures.table ∙ c.withdraw-section.ensures.table ∙ c.start.ensures.table ∙ at.0,
+        subst (λ (links : List Link). SayBut [] links c.args.state.now.tree) (sym c.publish-in-None.ensures.links)
+            (subst (λ (links : List Link). SayBut [] links c.args.state.now.tree) (sym c.withdraw-section.ensures.links)
+            (subst (λ (links : List Link). SayBut [] (without c.args.was links) c.args.state.now.tree) (sym c.start.ensures.links)
+            (told_none c.args.state.now.tree (without c.args.was (links_of c.in-Some.writer.seat)) [] c.args.key
+            (move_says (links_of c.in-Some.writer.seat) c.args.key c.args.was c.args.state.now.tree at.1) (search rules)))),
       );
     }

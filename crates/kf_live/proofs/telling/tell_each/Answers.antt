@@ -7,13 +7,14 @@ use Rattle.kf_live.proofs.telling.tell_each.Goals as goal
 
 pub loop-key-preserved : goal.loop-key-preserved
 loop-key-preserved c = record {
-  table = c.tell-section.ensures.table ∙ c.loop-key.invariant.table;
-  says = c.tell-section.ensures.told (drop (c.loop-key.key-index + 1) c.args.keys.now)
-      (subst (λ ks. SayBut ks (links_of c.loop-key.section.seat) c.args.state.now.tree) (drop_one c.args.keys.now c.loop-key.key-index (record { slot = 0; generation = 0 }) c.loop-key-test.true) c.loop-key.invariant.says);
+  table = c.tell_one-writer.ensures.table ∙ c.loop-key.invariant.table;
+  says = c.tell_one-writer.ensures.told (drop (c.loop-key.key-index + 1) c.args.keys.now)
+      (subst (λ ks. SayBut ks (links_of c.loop-key.writer.seat) c.args.state.now.tree) (drop_one c.args.keys.now c.loop-key.key-index (record { slot = 0; generation = 0 }) c.loop-key-test.true) c.loop-key.invariant.says);
+  sound = c.tell_one-writer.ensures.sound c.loop-key.invariant.sound;
 }
 
-pub tell-section-requires : goal.tell-section-requires
-tell-section-requires c = record {
+pub tell_one-writer-requires : goal.tell_one-writer-requires
+tell_one-writer-requires c = record {
   table = c.loop-key.invariant.table ∙ c.requires.table;
   says = (drop c.loop-key.key-index c.args.keys.now, c.loop-key.invariant.says);
 }
@@ -21,5 +22,5 @@ tell-section-requires c = record {
 pub returns : goal.returns
 returns c = record {
   table = c.loop-key.invariant.table;
-  says = subst (λ ks. SayBut ks (links_of c.loop-key.section.seat) c.args.state.now.tree) (drop_all c.loop-key.key-index c.args.keys.now c.loop-key-test.false) c.loop-key.invariant.says;
+  says = subst (λ ks. SayBut ks (links_of c.loop-key.writer.seat) c.args.state.now.tree) (drop_all c.loop-key.key-index c.args.keys.now c.loop-key-test.false) c.loop-key.invariant.says;
 }

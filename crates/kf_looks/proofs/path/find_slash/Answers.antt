@@ -5,7 +5,7 @@ use Rattle.kf_core.specs.Paths.{is_slash}
 use Rattle.kf_looks.proofs.Slashes.{first_in_mask}
 use Rattle.kf_looks.proofs.path.find_slash.Goals as goal
 
--- a mask that is not empty tells the first slash
+-- a mask that is not empty shows the first slash
 first_found : (text : List ℕ) (n mask : ℕ) → n ≤ 64 → n ≤ length text → mask ≡ mask_l (map is_slash (take n text)) → mask ≢ 0
     → Some (count_trailing_zeros 64 mask) ≡ position is_slash text
 first_found text n mask few long told some =

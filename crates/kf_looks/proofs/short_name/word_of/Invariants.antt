@@ -2,7 +2,7 @@ use Rattle.std.proofs.Common.{◌≡◌, ◌<◌, ◌^◌, ◌++◌, ℕ, List, 
 use Rattle.kf_looks.specs.ShortNames.{bytes_before}
 use Rattle.kf_looks.proofs.short_name.word_of.Given as goal
 
--- the word has the bytes so far, and no more
+-- the word has exactly the bytes so far
 abbrev pub invariant-loop-byte : goal.invariant-loop-byte
 invariant-loop-byte l = record {
   bytes : (later : List ℕ) → bytes_before l.byte-index l.word later ≡ take l.byte-index l.bytes ++ later;

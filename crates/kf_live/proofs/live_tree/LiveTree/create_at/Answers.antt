@@ -15,12 +15,12 @@ publish_one-requires c = record {
   says = writes_on (arc_value c.self.inside.looks) c.deref.result.now (λ (links : List Link). Say links c.self.inside.state.tree) (λ (links : List Link). SayBut (c.args.key ∷ []) links c.create_at.new.self.tree)
       c.self.inside.writer c.take.result c.take.ensures.value c.deref.ensures c.self.invariant
       (λ links says. subst (SayBut (c.args.key ∷ []) links) (sym c.in_ok-create_at.ensures.accepted.changed)
-      (said_born c.self.inside.state.tree c.args.key c.args.parent c.args.name.now c.args.node links
+      (said_born c.self.inside.state.tree c.self.inside.state.root c.args.key c.args.parent c.args.name.now c.args.node links c.root.ensures.kept.lawful
       (subst (λ (s : TreeLog). slice_get s.tree c.args.key.slot ≡ Some None) (sym c.self.view_is) c.requires.vacant) c.args.live says));
 }
 
 pub invariant_of-self-else-live : goal.invariant_of-self-else-live
 invariant_of-self-else-live c = writes_then (arc_value c.self.inside.looks) (λ (links : List Link). Say links c.self.inside.state.tree) (λ (links : List Link). Say links c.create_at.new.self.tree) c.self.inside.writer c.self.invariant
     (λ links says. subst (Say links) (sym c.in_ok-create_at.ensures.accepted.changed)
-    (said_unborn c.self.inside.state.tree c.args.key c.args.parent c.args.name.now c.args.node links
+    (said_unborn c.self.inside.state.tree c.self.inside.state.root c.args.key c.args.parent c.args.name.now c.args.node links c.root.ensures.kept.lawful
     (subst (λ (s : TreeLog). slice_get s.tree c.args.key.slot ≡ Some None) (sym c.self.view_is) c.requires.vacant) c.args.live c.if-live.false says))

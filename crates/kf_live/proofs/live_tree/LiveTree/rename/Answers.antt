@@ -3,7 +3,7 @@ use Rattle.std.specs.Arc.{arc_value}
 use Rattle.kf_looks.specs.declared.looks.Looks.{Looks}
 use Rattle.kf_looks.specs.declared.view.Link.{Link}
 use Rattle.kf_live.specs.Live.{Say, IsMove}
-use Rattle.kf_live.proofs.Single.{moved_or_stays}
+use Rattle.kf_live.proofs.Single.{moved_or_stays, moved_or_stays_doomed}
 use Rattle.kf_live.proofs.Writers.{writes_on}
 use Rattle.kf_live.proofs.live_tree.LiveTree.rename.Goals as goal
 
@@ -18,5 +18,6 @@ publish_move-requires c = record {
         says = says;
         stood = c.place_before-was.ensures.stood (subst (λ (l : Looks). 0 < l.slots) (c.deref-2.ensures ∙ sym c.deref.ensures) some);
         same = moved_or_stays c.self.inside.state c.rename.new.self c.args.key c.args.dir c.args.name.now _ _ c.in_ok-rename.ensures.stays c.in_ok-rename.ensures.accepted;
+        stays_doomed = moved_or_stays_doomed c.self.inside.state c.rename.new.self c.args.key c.args.dir c.args.name.now _ _ c.in_ok-rename.ensures.stays c.in_ok-rename.ensures.accepted;
       }) some;
 }
