@@ -1,8 +1,9 @@
 #!/usr/bin/env python3
+# SPDX-License-Identifier: MIT OR Apache-2.0
 """Compares two programs on random scripts: `fuzz.py PROGRAM PROGRAM COUNT [SEED]`.
 
-They must answer the same bytes. A program may have words behind it. A script that the two answer differently is
-kept in a temporary file."""
+Their replies must be the same bytes. PROGRAM may have arguments after it. A script with different replies is kept in a
+temporary file."""
 import random
 import subprocess
 import sys
@@ -18,7 +19,7 @@ ODD_LINES = [
     "open a /a wr", "open 1 /a r", "poll aa", "close ", "\0", "", "x" * 8192, "x" * 8193,
     "file /a 644 " + "t" * 8180, "file /a 644 " + "t" * 8181, "write a " + "w" * 20_000,
 ]
-# Of a program with workers: the plain board answers these without one.
+# For a program with workers: the back end for one caller replies to these lines without workers.
 WORKER_LINES = [
     "plug", "plug d0", "plug d0 on and on", "plug  x", "unplug d0", "unplug", "unplug d0 now", "wait",
     "wait 1",

@@ -1,7 +1,8 @@
 #!/usr/bin/env python3
-"""Tells the memory that a program has in use once it has answered a script:  memory.py SCRIPT PROGRAM [ARGUMENT..]
+# SPDX-License-Identifier: MIT OR Apache-2.0
+"""Prints the memory that a program uses after its replies to a script:  memory.py SCRIPT PROGRAM [ARGUMENT..]
 
-It prints the megabytes that are in memory then, and the most that there were."""
+It prints the megabytes that are in memory then, and the most that were."""
 import subprocess
 import sys
 import threading

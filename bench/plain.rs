@@ -1,15 +1,16 @@
-//! A plain program that answers the scripts of `kernfs_run` with the same bytes, to measure that one by:
-//! `bench/run` builds it, std alone, nothing proved. A directory is a `BTreeMap` of its names.
+// SPDX-License-Identifier: MIT OR Apache-2.0
+//! A plain program with the same replies as `kernfs_run`, as a baseline for measurements. `bench/run` builds it. It
+//! uses only std, and nothing is proved. A directory is a `BTreeMap` of its names.
 //!
-//! `plain [--slots N] [--line-writes] [--keep-commands] [--tuned] < SCRIPT`. A line is answered where it lies, in what
-//! was read. Replies are gathered as `kernfs_run` does it, whole lines of at most 4,096 bytes, and written before each
-//! read; after `--line-writes` each is written by itself. Commands are counted; after `--keep-commands` they are kept
-//! too, as `kernfs_run` keeps them. It is written as one writes it with std; after `--tuned` it does what a profile of
-//! it suggests: numbers without `fmt`, a path walked before it is searched for an empty name, and standard output as a
-//! file, without std's lock and buffer of lines.
+//! `plain [--slots N] [--line-writes] [--keep-commands] [--tuned] < SCRIPT`. A line is parsed in place, in the buffer
+//! of the read. Replies are batched as in `kernfs_run`: whole lines of at most 4,096 bytes, written before each read; with
+//! `--line-writes` each is written by itself. Commands are counted; with `--keep-commands` they are stored too, as
+//! `kernfs_run` stores them. It is ordinary code for std. With `--tuned` it does what a profile of it suggests: numbers
+//! without `fmt`, a path walked before it is searched for an empty name, and standard output as a file, without std's
+//! lock and line buffer.
 //!
-//! Two duties of `kernfs_run` it never has: it ends where memory is wanting, and has no refusal for that; and it counts
-//! no reference to a node while that shows or stores.
+//! It lacks two duties of `kernfs_run`: if memory is refused, it aborts instead of replying with a refusal, and it does
+//! not count references to a node while the node shows or stores.
 
 use std::cmp::Reverse;
 use std::collections::{BTreeMap, BinaryHeap};
@@ -18,13 +19,13 @@ use std::io::{self, BufRead, Read, StdoutLock, Write};
 use std::os::fd::AsFd;
 use std::process::ExitCode;
 
-/// The longest line that is a command, without its newline.
+/// The length of the longest command, without its newline.
 const LINE_LIMIT: usize = 8192;
-/// The bytes that one read may give.
+/// The most bytes of one read.
 const CHUNK: usize = 1 << 16;
-/// The most bytes of replies that are gathered: as many as a pipe takes whole.
+/// The most bytes of replies in a batch: as many as a pipe takes at once.
 const KEPT: usize = 4096;
-/// The bytes of a page: a store is handed no more, and a show one byte less.
+/// The bytes of a page: a store gets at most this many, and a show has one less.
 const PAGE: usize = 4096;
 /// The most holds that a slot may have.
 const HOLDS: u32 = 65_535;
@@ -45,7 +46,7 @@ enum Refusal {
     TooManyHolds,
     NoSpace,
     NameTooLong,
-    /// The line is no command.
+    /// The line is not a command.
     Line,
 }
 
@@ -106,7 +107,7 @@ impl Node {
     }
 }
 
-/// A slot is free where it has no node and no hold. The key of its last node stays known.
+/// A slot is free if it has no node and no hold. The key of its last node stays known.
 struct Slot {
     generation: u32,
     holds: u32,
@@ -120,7 +121,7 @@ struct OpenFile {
     key: Key,
     reads: bool,
     writes: bool,
-    /// What the last show gave, with the event number that was taken before it.
+    /// The text of the last show, with the event number that was read before it.
     text: Option<Vec<u8>>,
     number: u64,
 }
@@ -133,10 +134,10 @@ struct Board {
     tuned: bool,
 }
 
-/// What is told, one reply after another.
+/// The replies, one after another.
 struct Replies {
     bytes: Vec<u8>,
-    /// Numbers are written by hand.
+    /// Whether numbers are written without `fmt`.
     tuned: bool,
 }
 
@@ -242,7 +243,7 @@ impl Board {
         }
     }
 
-    /// The node of a key, where it is linked.
+    /// The node of a key, if it is linked.
     fn linked(&self, key: Key) -> Option<&Node> {
         let slot = self.slot(key.slot);
         slot.node
@@ -269,8 +270,8 @@ impl Board {
         self.walk_names(parts, live_only)
     }
 
-    /// Goes from the root by names between slashes. No node has an empty name, so a walk that meets one is
-    /// refused; tuned, only then is it asked whether that was the cause.
+    /// Walks from the root by the names between slashes. No node has an empty name, so a walk that meets one is
+    /// refused; if tuned, only then does it check whether that was the cause.
     fn walk_names(&self, names: &[u8], live_only: bool) -> Result<u32, Refusal> {
         let parts = names.split(|byte| *byte == b'/');
         let has_empty = || parts.clone().any(<[u8]>::is_empty);
@@ -301,7 +302,7 @@ impl Board {
         Ok((self.walk_names(&parts[..at], false)?, &parts[at + 1..]))
     }
 
-    /// Puts a node that stands nowhere yet into a directory.
+    /// Puts a node without a parent into a directory.
     fn enter_directory(&mut self, dir: u32, name: &[u8], child: u32, is_dir: bool) {
         let Kind::Dir { children, subdirs } = &mut self.node_mut(dir).kind else {
             unreachable!("a directory")
@@ -356,7 +357,7 @@ impl Board {
         self.create(dir, name, Kind::Link { target }, true)
     }
 
-    /// The slots of a subtree, each directory before what is in it.
+    /// The slots of a subtree, each directory before its contents.
     fn subtree(&self, top: u32) -> Vec<u32> {
         let mut slots = vec![top];
         let mut seen = 0;
@@ -469,7 +470,7 @@ impl Board {
         self.free_if_unused(slot);
     }
 
-    /// The slots from the root to a node, both counted.
+    /// The slots from the root to a node, including both.
     fn way_to(&self, slot: u32) -> Vec<u32> {
         let mut way = vec![slot];
         let mut current = slot;
@@ -671,7 +672,7 @@ impl Board {
         Ok(())
     }
 
-    /// One command for each node but the root, directories before what is in them, and one for each hidden
+    /// One command for each node except the root, directories before their contents, and one for each hidden
     /// file.
     fn compact(&mut self) {
         let nodes = self.slots[1..].iter().filter_map(|slot| slot.node.as_ref());
@@ -686,7 +687,7 @@ impl Board {
         self.commands.kept = Some(created.chain(hidden).collect());
     }
 
-    /// Puts the reply to a line after what the buffer has.
+    /// Appends the reply to a line to the buffer.
     fn answer(&mut self, line: &[u8], reply: &mut Replies) -> Result<(), Refusal> {
         match cut(line) {
             (b"file", rest) => {
@@ -774,7 +775,7 @@ impl Board {
     }
 }
 
-/// The command that makes the node of a slot.
+/// The command that creates the node of a slot.
 fn creation(slots: &[Slot], slot: u32) -> Command {
     let key = |slot: u32| Key {
         slot,
@@ -790,7 +791,7 @@ fn creation(slots: &[Slot], slot: u32) -> Command {
     }
 }
 
-/// The text of a key's file, where that is live.
+/// The text of a key's file, if that is live.
 fn live_text(slot: &Slot, key: Key) -> Option<&[u8]> {
     let node = slot.node.as_ref()?;
     match &node.kind {
@@ -809,7 +810,7 @@ fn check_file(node: &Node) -> Result<(), Refusal> {
     }
 }
 
-/// The bytes before the first space, and those behind it.
+/// The bytes before the first space, and those after it.
 fn cut(text: &[u8]) -> (&[u8], &[u8]) {
     match text.iter().position(|byte| *byte == b' ') {
         Some(at) => (&text[..at], &text[at + 1..]),
@@ -846,7 +847,7 @@ fn number_of(word: &[u8], digits: usize, greatest: u64) -> Result<u64, Refusal> 
     }
 }
 
-/// A change of the tree. A list of them makes the tree again.
+/// A change of the tree. A list of them creates the tree again.
 #[allow(dead_code)]
 enum Command {
     Create {
@@ -963,7 +964,7 @@ impl Script {
         Ok(())
     }
 
-    /// Writes so many of the bytes that are gathered, from the first on.
+    /// Writes this many of the batched bytes, from the first on.
     fn write_replies(&mut self, count: usize) -> io::Result<()> {
         let bytes = &self.replies.bytes[..count];
         if bytes.is_empty() {
@@ -981,7 +982,7 @@ impl Script {
         self.write_replies(self.replies.bytes.len())
     }
 
-    /// Reads once, and answers how many bytes came. Nothing is kept back meanwhile.
+    /// Reads once, and returns how many bytes came. All replies are written before.
     fn read(&mut self, chunk: &mut [u8]) -> io::Result<usize> {
         self.write_all_replies()?;
         self.input.read(chunk)
@@ -989,7 +990,7 @@ impl Script {
 
     fn run(&mut self) -> io::Result<()> {
         let mut chunk = vec![0; CHUNK];
-        // the line that a read has cut: of one that is too long, one byte more than a command may have
+        // the line that a read has cut; of one that is too long, one byte more than a command may have
         let mut part: Vec<u8> = Vec::new();
         loop {
             let count = self.read(&mut chunk)?;
@@ -1017,7 +1018,7 @@ impl Script {
     }
 }
 
-/// Puts more of a line behind what there is of it.
+/// Appends more of a line to its beginning.
 fn keep(part: &mut Vec<u8>, more: &[u8]) {
     let room = LINE_LIMIT + 1 - part.len();
     part.extend_from_slice(&more[..room.min(more.len())]);

@@ -1,4 +1,5 @@
 #!/usr/bin/env python3
+# SPDX-License-Identifier: MIT OR Apache-2.0
 """Measures trees of each shape and size beside a plain program:  trees.py PROGRAM PLAIN [SHAPE..]
 
 Each of the two may have words behind it, and both must reply the same. Times are those that a program has the processor
@@ -70,7 +71,7 @@ class Running:
 
 
 def parts_of(shape, nodes):
-    """What is done with a tree of so many nodes: its name, how many nodes it is done with, and its script."""
+    """The parts of a run with a tree of this many nodes: name, number of nodes, and script."""
     rng = random.Random(shape.__name__)
     made = list(itertools.islice(shape(rng), nodes))
     paths = [line.split(" ")[1] for line in made]
@@ -86,7 +87,7 @@ def parts_of(shape, nodes):
 
 
 def same_replies(programs, slots, script):
-    """Ends the run where the programs do not reply the same."""
+    """Ends the run if the programs give different replies."""
     told = [subprocess.run([*shlex.split(it), "--slots", str(slots)], input=script, capture_output=True, check=True).stdout
             for it in programs]
     if any(it != told[0] for it in told) or b"err" in told[0]:
@@ -163,7 +164,7 @@ def tell_shape(programs, shape):
 
 
 def tell_empty(programs):
-    """Prints what a tree of the root alone takes that has room for the most nodes."""
+    """Prints what a tree takes that has only the root, and room for the most nodes."""
     for program in programs:
         with Running(program, MOST_SLOTS) as running:
             took = running.time_of()

@@ -1,4 +1,5 @@
 #!/usr/bin/env python3
+# SPDX-License-Identifier: MIT OR Apache-2.0
 """Writes the scripts that bench/run measures: `workloads.py FOLDER [NAME..]` makes FOLDER/NAME.kf for these
 names, or for all, and prints them; of scripts for workers FOLDER/NAME_1.kf, NAME_2.kf and NAME_4.kf, by how many
 workers they have, and of those for one worker beside other nodes FOLDER/NAME_10.kf and NAME_4000.kf, by how many of
@@ -180,7 +181,7 @@ def retained(rng):
 
 
 def beside(nodes):
-    """So many nodes that stay."""
+    """This many nodes that stay."""
     yield "mkdir /old"
     yield "mkdir /many"
     for number in range(nodes - 2):
@@ -189,7 +190,7 @@ def beside(nodes):
 
 
 def makes(nodes):
-    """A directory made and removed again by one worker, beside so many nodes."""
+    """A directory created and removed again by one worker, beside this many nodes."""
     yield from beside(nodes)
     for _ in range(36_000):
         yield "@1 mkdir /new"
@@ -197,14 +198,14 @@ def makes(nodes):
 
 
 def refusals(nodes):
-    """A directory that is there already, made in vain by one worker, beside so many nodes."""
+    """An existing directory, whose creation by one worker is refused, beside this many nodes."""
     yield from beside(nodes)
     for _ in range(65_000):
         yield "@1 mkdir /old"
 
 
 def readers(workers, spacing):
-    """Workers who read: the first an attribute in slot 1, each further one so many slots on. 60,000 reads in all."""
+    """Workers that read: the first an attribute in slot 1, each further one this many slots on. 60,000 reads in all."""
     for number in range(3 * spacing + 1):
         yield f"file /value{number} 444 {number}"
     yield "wait"

@@ -1,42 +1,60 @@
 //! What a turn takes each of several threads that run at once, at best.
 
 use crate::grown::{ASIDE, Bench};
-use crate::tables::Table;
 use crate::turns::{Turn, make};
 use kf_core::Refusal;
 use kf_shared::Naming;
-use std::io;
 use std::sync::Wait;
 use std::sync::atomic::{AtomicU64, Ordering};
 use std::thread::{Threads, for_each_mut};
 use std::time::{Clock, Instant};
 
-/// A figure is the best of so many rounds, of which the first warm up. A round is the mean of its threads'
-/// times.
+/// A figure is the best of this many rounds. A round counts if its threads worked at once, and its figure is
+/// the mean of their times.
 const ROUNDS: u32 = 25;
 
-/// The most threads of a round: four, and one who changes the tree beside them.
+/// How many rounds are made at most: on a busy machine few of them count.
+const MOST_ROUNDS: u32 = 100;
+
+/// The most threads of a round: four, and one that changes the tree beside them.
 const THREADS: usize = 5;
 
 /// How often a thread looks whether the others have come too, before it begins without them.
 const LOOKS: u32 = 10_000_000;
 
-/// A thread: what it does at which slot, and how many nanoseconds it took in the last round.
+/// From when to when a thread worked, in nanoseconds of one clock.
+#[derive(Clone, Copy)]
+pub(crate) struct Span {
+    start: u128,
+    end: u128,
+}
+
+/// A thread: what it does at which slot, and when it worked in the last round.
 #[derive(Clone, Copy)]
 pub(crate) struct Seat {
     turn: Turn,
     slot: u32,
-    pub(crate) took: Result<u128, Refusal>,
+    pub(crate) worked: Result<Span, Refusal>,
 }
 
 impl Seat {
     pub(crate) fn new(turn: Turn, slot: u32) -> Seat {
-        let took = Ok(0);
-        Seat { turn, slot, took }
+        let worked = Ok(Span { start: 0, end: 0 });
+        Seat { turn, slot, worked }
     }
 }
 
-/// Comes, and waits until so many have.
+/// The time now. (A machine whose clock cannot be read has none.)
+pub(crate) fn now<R: Clock>(rt: &R) -> Result<Instant, Refusal> {
+    Instant::now(rt).or(Err(Refusal::NoDevice))
+}
+
+/// How many nanoseconds have passed since this moment.
+pub(crate) fn since<R: Clock>(rt: &R, moment: Instant) -> Result<u128, Refusal> {
+    Ok(now(rt)?.saturating_duration_since(moment).as_nanos())
+}
+
+/// Comes, and waits until this many threads have.
 fn meet(come: &AtomicU64, threads: u64) {
     come.fetch_add(1, Ordering::SeqCst);
     for _ in 0..LOOKS {
@@ -46,23 +64,21 @@ fn meet(come: &AtomicU64, threads: u64) {
     }
 }
 
-/// Makes so many turns, and tells how many nanoseconds they took. (A machine whose clock cannot be read
-/// has none.)
+/// Makes this many turns, and returns from when to when.
 fn time<N: Naming, R: Wait + Clock>(
     rt: &R,
     bench: &Bench<N>,
-    turn: Turn,
-    slot: u32,
+    seat: &Seat,
     turns: u32,
-) -> Result<u128, Refusal> {
-    let start = Instant::now(rt).or(Err(Refusal::NoDevice))?;
-    make(rt, bench, turn, slot, turns)?;
-    let took = start.elapsed(rt).or(Err(Refusal::NoDevice))?;
-    Ok(took.as_nanos())
+) -> Result<Span, Refusal> {
+    let start = since(rt, bench.origin)?;
+    make(rt, bench, seat.turn, seat.slot, turns)?;
+    let end = since(rt, bench.origin)?;
+    Ok(Span { start, end })
 }
 
-/// Has a thread sit down, which begins when so many have.
-fn sit<N: Naming, R: Wait + Clock>(
+/// Has a thread work once this many have come.
+fn work<N: Naming, R: Wait + Clock>(
     rt: &R,
     bench: &Bench<N>,
     seat: &mut Seat,
@@ -70,7 +86,7 @@ fn sit<N: Naming, R: Wait + Clock>(
     turns: u32,
 ) {
     meet(&bench.come, threads);
-    seat.took = time(rt, bench, seat.turn, seat.slot, turns);
+    seat.worked = time(rt, bench, seat, turns);
     bench.busy.fetch_sub(1, Ordering::SeqCst);
 }
 
@@ -88,27 +104,34 @@ pub(crate) fn make_round<N: Naming + Send + Sync, R: Threads + Wait + Clock + Sy
         rt,
         seats,
         THREADS,
-        &|_, seat| sit(rt, bench, seat, threads, turns),
+        &|_, seat| work(rt, bench, seat, threads, turns),
     );
 }
 
-/// The mean of the threads' times. None where one had ended when another still had a quarter of its time to
-/// go: then they did not run at once.
-fn mean(seats: &[Seat]) -> Result<Option<u128>, Refusal> {
-    let (mut all, mut least, mut most) = (0u128, u128::MAX, 0u128);
+/// The mean of the times of the first threads, as many as are counted. None unless all threads of the round
+/// worked at once for three quarters of the longest of these times.
+fn mean(seats: &[Seat], counted: usize) -> Result<Option<u128>, Refusal> {
+    let (mut all, mut longest, mut last_start, mut first_end) = (0u128, 0u128, 0u128, u128::MAX);
+    let mut left = counted;
     for seat in seats {
-        let took = seat.took?;
-        all = all.saturating_add(took);
-        least = least.min(took);
-        most = most.max(took);
+        let span = seat.worked?;
+        last_start = last_start.max(span.start);
+        first_end = first_end.min(span.end);
+        if left > 0 {
+            let took = span.end.saturating_sub(span.start);
+            all = all.saturating_add(took);
+            longest = longest.max(took);
+            left = left.saturating_sub(1);
+        }
     }
-    if least.saturating_mul(4) < most.saturating_mul(3) {
+    let at_once = first_end.saturating_sub(last_start);
+    if at_once.saturating_mul(4) < longest.saturating_mul(3) {
         return Ok(None);
     }
-    Ok(Some(all / seats.len().max(1) as u128))
+    Ok(Some(all / counted.max(1) as u128))
 }
 
-/// The best of all rounds, of which the first so many seats count. None where these never ran at once.
+/// The best of the rounds that count. None if none did.
 fn best<N: Naming + Send + Sync, R: Threads + Wait + Clock + Sync>(
     rt: &R,
     bench: &Bench<N>,
@@ -116,45 +139,38 @@ fn best<N: Naming + Send + Sync, R: Threads + Wait + Clock + Sync>(
     counted: usize,
     turns: u32,
 ) -> Result<Option<u128>, Refusal> {
-    let counted = counted.min(seats.len());
-    let mut best = None;
-    for _ in 0..ROUNDS {
-        make_round(rt, bench, seats, turns);
-        if let Some(last) = seats.last() {
-            last.took?;
+    let (mut best, mut good) = (None, 0u32);
+    for _ in 0..MOST_ROUNDS {
+        if good >= ROUNDS {
+            break;
         }
-        if let Some(time) = mean(&seats[..counted])? {
+        make_round(rt, bench, seats, turns);
+        if let Some(time) = mean(seats, counted)? {
             best = Some(time.min(best.unwrap_or(time)));
+            good = good.saturating_add(1);
         }
     }
     Ok(best)
 }
 
-/// Prints the nanoseconds of a turn, and none where they were not found.
-fn print_turn<R: Print>(rt: &R, time: Option<u128>, turns: u32) -> io::Result<()> {
-    let Some(time) = time else {
-        return rt.print("           -");
-    };
-    let tenths = time.saturating_mul(10) / turns.max(1) as u128;
-    print!(rt; "{:>10}.{}", tenths / 10, tenths % 10)
-}
-
-/// Measures a thread at each of these slots, and prints the nanoseconds that a turn took each of them.
-pub(crate) fn column<N: Naming + Send + Sync, R: Threads + Wait + Clock + Print + Sync>(
+/// What a turn takes each of the threads at these slots, in tenths of a nanosecond. None if no round counted.
+pub(crate) fn tenths<N: Naming + Send + Sync, R: Threads + Wait + Clock + Sync>(
     rt: &R,
     bench: &Bench<N>,
-    table: &Table,
     turn: Turn,
     slots: &[u32],
-) -> anyhow::Result<()> {
+    turns: u32,
+    beside_changes: bool,
+) -> Result<Option<u128>, Refusal> {
     let mut seats = Vec::new(bench.alloc);
     for slot in slots {
         seats.push(Seat::new(turn, *slot))?;
     }
-    if table.beside_changes {
+    if beside_changes {
         seats.push(Seat::new(Turn::Change, ASIDE))?;
     }
-    let time = best(rt, bench, seats.as_mut_slice(), slots.len(), table.turns)?;
-    print_turn(rt, time, table.turns)?;
-    Ok(())
+    match best(rt, bench, seats.as_mut_slice(), slots.len(), turns)? {
+        Some(time) => Ok(Some(time.saturating_mul(10) / turns.max(1) as u128)),
+        None => Ok(None),
+    }
 }

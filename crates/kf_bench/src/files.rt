@@ -1,5 +1,5 @@
 //! Reads of a file that is open, and visits: an open by the path, a read and a close. A close gives hold,
-//! post and page back, and the next open takes them.
+//! event counter and page back, and the next open takes them.
 
 ghost use Rattle.std.specs.Prelude.{◌≡◌, IfOk};
 
@@ -51,13 +51,13 @@ impl<N: Naming> WaitOps<N> for FourBytes {
 
 /// What a thread keeps of a file that is closed.
 #[derive(Drop)]
-struct Kept {
+pub(crate) struct Kept {
     post: Post,
     page: Box<PageApart>,
 }
 
-/// A post of a slot, and a page.
-fn keep(alloc: Global, slot: u32) -> Result<Kept, Refusal>
+/// An event counter of a slot, and a page.
+pub(crate) fn keep(alloc: Global, slot: u32) -> Result<Kept, Refusal>
     ensures slot { IfOk result (λ kept. kept.post.slot ≡ slot) }
 {
     if slot >= FEW {
@@ -106,7 +106,7 @@ fn read_once<N: Naming, R: Wait>(
     }
 }
 
-/// Reads the file in a slot so often.
+/// Reads the file in a slot this many times.
 pub(crate) fn read<N: Naming, R: Wait>(
     rt: &R,
     alloc: Global,
@@ -135,8 +135,41 @@ fn hold_locked<N: Naming, R: Wait>(
     editor.hold(key)
 }
 
-/// Visits the file in a slot so often, which it finds without the lock (and under it where that has no
-/// answer), or always under it.
+/// Finds the file in a slot by its path, without the lock if that is asked for and succeeds, and else under
+/// it. Opens it, reads and closes it. Returns what is kept of it, and whether it took the lock.
+pub(crate) fn visit_once<N: Naming, R: Wait>(
+    rt: &R,
+    tree: &SharedTree<N>,
+    looker: &mut Looker,
+    holds: &mut Holds,
+    locked: bool,
+    slot: u32,
+    kept: Kept,
+) -> Result<(Kept, bool), Refusal>
+    requires table { holds.old.by.table ≡ N.table }
+    requires slot { kept.post.slot ≡ slot }
+    ensures table { holds.new.by.table ≡ N.table }
+    ensures slot { IfOk result (λ r. r.0.post.slot ≡ slot) }
+{
+    let path = path_of(slot);
+    let found = if locked {
+        None
+    } else {
+        hold_path(looker, holds, path)
+    };
+    let takes_lock = found.is_none();
+    let hold = match found {
+        Some(hold) => hold,
+        None => hold_locked(rt, tree, path)?,
+    };
+    let mut file = open::<N>(hold, slot, kept)?;
+    read_once(rt, tree, &mut file)?;
+    let (hold, post, page) = file.into_parts();
+    holds.release(hold);
+    Ok((Kept { post, page }, takes_lock))
+}
+
+/// Visits the file in a slot this many times.
 fn visit_by<N: Naming, R: Wait>(
     rt: &R,
     alloc: Global,
@@ -149,28 +182,15 @@ fn visit_by<N: Naming, R: Wait>(
     requires table { holds.old.by.table ≡ N.table }
 {
     let mut looker = tree.edit(rt).looker()?;
-    let path = path_of(slot);
     let mut kept = keep(alloc, slot)?;
     for _ in 0..turns {
-        let found = if locked {
-            None
-        } else {
-            hold_path(&mut looker, holds, path)
-        };
-        let hold = match found {
-            Some(hold) => hold,
-            None => hold_locked(rt, tree, path)?,
-        };
-        let mut file = open::<N>(hold, slot, kept)?;
-        read_once(rt, tree, &mut file)?;
-        let (hold, post, page) = file.into_parts();
-        holds.release(hold);
-        kept = Kept { post, page };
+        let (next, _) = visit_once(rt, tree, &mut looker, holds, locked, slot, kept)?;
+        kept = next;
     }
     Ok(())
 }
 
-/// Visits the file in a slot so often, and keeps the owners of its holds between.
+/// Visits the file in a slot this many times, and keeps the owners of its holds between.
 pub(crate) fn visit<N: Naming, R: Wait>(
     rt: &R,
     alloc: Global,

@@ -3,24 +3,26 @@
 
 ghost use Rattle.std.specs.Prelude.{◌≡◌, IfOk};
 
+use crate::clock::now;
 use kf_core::{Key, Node, Refusal};
 use kf_shared::{Editor, Naming, SharedTree};
 use kf_words::{Hold, Holds};
 use std::alloc::Global;
 use std::sync::atomic::AtomicU64;
-use std::sync::{RwLock, Wait};
+use std::sync::{Arc, RwLock, Wait};
+use std::time::{Clock, Instant};
 
 /// More slots than nodes: the words of a small tree would lie among other memory, on lines that they share
 /// with it.
 pub(crate) const SLOTS: u32 = 8192;
 
-/// The slot of a directory that is on no path which is measured.
+/// The slot of a directory that is on no measured path.
 pub(crate) const ASIDE: u32 = 2;
 
 /// The slot of a directory with nothing in it.
 pub(crate) const LEAF: u32 = 63;
 
-/// So many of these are a line, as the words of a slot have.
+/// This many words, or locks, are a line, as a slot's words have one.
 pub(crate) const LINE: u32 = 8;
 
 /// The directories below one another, by name. All stand in the slots from 1 up.
@@ -28,22 +30,26 @@ const NAMES: [&[u8]; 8] = [
     b"devices", b"virtual", b"network", b"adapter", b"queues0", b"streams", b"monitor", b"current",
 ];
 
-/// A word and a lock, to compare.
+/// What a node's word is compared with: a word and a lock.
 #[derive(Drop)]
 pub(crate) struct Plain {
     pub(crate) word: AtomicU64,
     pub(crate) lock: RwLock<u64>,
 }
 
-/// The tree, a line of words and of locks for each slot, and how many threads have come to a round and have
-/// not ended it.
+/// The tree, a line of words and of locks for each slot, an object that threads share by counting, how many
+/// threads have come to a round and have not ended it, whether the thread that changes the tree has ended,
+/// and the moment from which times are counted.
 #[derive(Drop)]
 pub(crate) struct Bench<N: Naming> {
     pub(crate) alloc: Global,
     pub(crate) tree: SharedTree<N>,
     pub(crate) plain: Vec<Plain>,
+    pub(crate) counted: Arc<AtomicU64>,
     pub(crate) come: AtomicU64,
     pub(crate) busy: AtomicU64,
+    pub(crate) over: AtomicU64,
+    pub(crate) origin: Instant,
 }
 
 /// Makes a directory of each name in a directory.
@@ -74,8 +80,8 @@ fn grow<N: Naming, R: Wait>(rt: &R, tree: &SharedTree<N>) -> Result<(), Refusal>
 }
 
 impl<N: Naming> Bench<N> {
-    /// What is measured in a new tree.
-    pub(crate) fn new<R: Wait>(
+    /// What is measured, in a new tree.
+    pub(crate) fn new<R: Wait + Clock>(
         rt: &R,
         alloc: Global,
         tree: SharedTree<N>,
@@ -92,8 +98,11 @@ impl<N: Naming> Bench<N> {
             alloc,
             tree,
             plain,
+            counted: Arc::new(alloc, AtomicU64::new(0))?,
             come: AtomicU64::new(0),
             busy: AtomicU64::new(0),
+            over: AtomicU64::new(0),
+            origin: now(rt)?,
         })
     }
 }

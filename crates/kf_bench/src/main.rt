@@ -1,16 +1,26 @@
-//! What the parts of the library cost on this machine, in nanoseconds at best: `kf_bench words` tells it of
-//! calls, `kf_bench tree` of look-ups of a path and of holds of files, and `kf_bench files` of reads of files
-//! and of opens by their paths. `kf_bench wait` has four waiters for a node that is hidden, unused and not
-//! marked, for a second: who runs it counts how often they sleep. With none of these words it does nothing.
-//! Where what is measured cannot be set up, or a turn of it fails, it says so, and ends with 1.
+//! What the parts of the library cost on this machine, in nanoseconds at best:
+//!
+//! - `kf_bench words`: calls of nodes; `kf_bench tree`: look-ups of a path and holds of files; `kf_bench
+//!   files`: reads of files, and opens by their paths;
+//! - `kf_bench hot`: what all threads do at one node and at one file, beside what could be used instead; with
+//!   `--json` an object on each line;
+//! - `kf_bench tails`: the slowest calls, undisturbed and beside a thread that changes the tree;
+//! - `kf_bench wait`: four threads wait for a second for a node that is hidden, unused and not marked.
+//!   Whoever runs this counts how often they sleep.
+//!
+//! With none of these words it does nothing. If what is measured cannot be set up, or a turn of it fails, it
+//! says so and exits with 1.
 #![tactic(auto)]
 
-ghost use Rattle.std.specs.Prelude.{◌≡◌};
+ghost use Rattle.std.specs.Prelude.{◌≡◌, ◌≤◌};
 
 mod clock;
 mod files;
+mod growing;
 mod grown;
+mod hist;
 mod tables;
+mod tails;
 mod turns;
 mod waiters;
 
@@ -25,7 +35,8 @@ use std::marker::Brand;
 use std::sync::Wait;
 use std::thread::Threads;
 use std::time::Clock;
-use tables::{FILES, TREE, WORDS, tell_all};
+use tables::{FILES, HOT, TREE, WORDS, print_all};
+use tails::{TAIL_SLOTS, print_tails};
 
 /// What is measured.
 #[derive(Clone, Copy)]
@@ -33,18 +44,40 @@ enum Part {
     Words,
     Tree,
     Files,
+    Hot { as_objects: bool },
+    Tails,
     Wait,
+}
+
+impl Part {
+    /// How many slots the tree has.
+    fn slots(self) -> u32
+        ensures range { result ≤ 1048576 }
+    {
+        match self {
+            Part::Tails => TAIL_SLOTS,
+            _ => SLOTS,
+        }
+    }
 }
 
 /// What the program's first argument asks for.
 fn asked<R: Env + Alloc>(rt: &R) -> io::Result<Option<Part>> {
-    let Some(word) = env::args(rt)?.nth(1) else {
+    let mut words = env::args(rt)?;
+    let _program = words.next();
+    let Some(word) = words.next() else {
         return Ok(None);
+    };
+    let as_objects = match words.next() {
+        Some(option) => option.as_str() == "--json",
+        None => false,
     };
     Ok(match word.as_str() {
         "words" => Some(Part::Words),
         "tree" => Some(Part::Tree),
         "files" => Some(Part::Files),
+        "hot" => Some(Part::Hot { as_objects }),
+        "tails" => Some(Part::Tails),
         "wait" => Some(Part::Wait),
         _ => None,
     })
@@ -61,9 +94,11 @@ fn run<N: Naming + Send + Sync, R: Threads + Wait + Clock + Print + Sync>(
 {
     let bench = Bench::new(rt, alloc, new.named::<N>())?;
     match part {
-        Part::Words => tell_all(rt, &bench, &WORDS),
-        Part::Tree => tell_all(rt, &bench, &TREE),
-        Part::Files => tell_all(rt, &bench, &FILES),
+        Part::Words => print_all(rt, &bench, &WORDS, false),
+        Part::Tree => print_all(rt, &bench, &TREE, false),
+        Part::Files => print_all(rt, &bench, &FILES, false),
+        Part::Hot { as_objects } => print_all(rt, &bench, &HOT, as_objects),
+        Part::Tails => print_tails(rt, &bench),
         Part::Wait => Ok(waiters::wait(rt, &bench)?),
     }
 }
@@ -72,7 +107,8 @@ fn main(rt: HostRuntime) -> anyhow::Result<()> {
     let Some(part) = asked(&rt)? else {
         return Ok(());
     };
-    let limits = Limits::new(SLOTS, 16).context("so many slots and holds are within the limits")?;
-    let new = SharedTree::<Brand>::with_looks(rt.alloc(), limits, 0, SLOTS)?;
+    let slots = part.slots();
+    let limits = Limits::new(slots, 16).context("these slots and holds are within the limits")?;
+    let new = SharedTree::<Brand>::with_looks(rt.alloc(), limits, 0, slots)?;
     run::<Brand, _>(&rt, rt.alloc(), new, part)
 }

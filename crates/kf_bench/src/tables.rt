@@ -1,9 +1,10 @@
 //! What each part measures: the columns and lines of its tables.
 
-use crate::clock::column;
+use crate::clock::tenths;
 use crate::grown::Bench;
 use crate::turns::Turn;
 use kf_shared::Naming;
+use std::io;
 use std::sync::Wait;
 use std::thread::Threads;
 use std::time::Clock;
@@ -11,8 +12,8 @@ use std::time::Clock;
 /// What a line is called, and the slot of each of its threads.
 type Crowd = (&'static str, &'static [u32]);
 
-/// A table: its head, what each column has a thread do, how often in one round, whether one changes the tree
-/// beside, and the lines.
+/// A table: its head, what each column has a thread do, how often in one round, whether another thread
+/// changes the tree beside, and the lines.
 #[derive(Clone, Copy)]
 pub(crate) struct Table {
     head: &'static str,
@@ -40,6 +41,18 @@ const BY_PATH: [Crowd; 5] = [
     ("4 threads, one file", &[65, 65, 65, 65]),
 ];
 
+const ONE_NODE: [Crowd; 3] = [
+    ("1 thread", &[1]),
+    ("2 threads", &[1, 1]),
+    ("4 threads", &[1, 1, 1, 1]),
+];
+
+const ONE_FILE: [Crowd; 3] = [
+    ("1 thread", &[65]),
+    ("2 threads", &[65, 65]),
+    ("4 threads", &[65, 65, 65, 65]),
+];
+
 const OWN_FILES: [Crowd; 3] = [
     ("1 thread", &[65]),
     ("2 threads", &[65, 66]),
@@ -63,7 +76,7 @@ pub(crate) const TREE: [Table; 3] = [
         crowds: &BY_PATH,
     },
     Table {
-        head: "beside one who changes the tree",
+        head: "beside a thread that changes the tree",
         columns: &[Turn::Look, Turn::LookLocked],
         turns: 100_000,
         beside_changes: true,
@@ -94,7 +107,7 @@ pub(crate) const FILES: [Table; 3] = [
         crowds: &BY_PATH,
     },
     Table {
-        head: "beside one who changes the tree",
+        head: "beside a thread that changes the tree",
         columns: &[Turn::Visit, Turn::VisitLocked],
         turns: 100_000,
         beside_changes: true,
@@ -102,9 +115,80 @@ pub(crate) const FILES: [Table; 3] = [
     },
 ];
 
+/// What all threads do at one node, and at one file.
+pub(crate) const HOT: [Table; 2] = [
+    Table {
+        head: "ns a turn at one node                words   additions      RwLock         Arc",
+        columns: &[Turn::Enter, Turn::Add, Turn::Lock, Turn::Clone],
+        turns: 1_000_000,
+        beside_changes: false,
+        crowds: &ONE_NODE,
+    },
+    Table {
+        head: "ns a turn at one file                 hold        open",
+        columns: &[Turn::Pin, Turn::Visit],
+        turns: 100_000,
+        beside_changes: false,
+        crowds: &ONE_FILE,
+    },
+];
+
+/// Prints the nanoseconds of a turn, and none if they were not found.
+fn print_turn<R: Print>(rt: &R, tenths: Option<u128>) -> io::Result<()> {
+    match tenths {
+        None => rt.print("           -"),
+        Some(tenths) => print!(rt; "{:>10}.{}", tenths / 10, tenths % 10),
+    }
+}
+
+/// Prints an object on a line: what was done, by how many threads, and the nanoseconds of a turn.
+fn print_object<R: Print>(
+    rt: &R,
+    what: &str,
+    threads: usize,
+    tenths: Option<u128>,
+) -> io::Result<()> {
+    match tenths {
+        None => println!(rt; "{{\"what\":\"{what}\",\"threads\":{threads},\"ns\":null}}"),
+        Some(tenths) => {
+            println!(rt;
+                "{{\"what\":\"{what}\",\"threads\":{threads},\"ns\":{}.{}}}",
+                tenths / 10,
+                tenths % 10
+            )
+        }
+    }
+}
+
 impl Table {
-    /// Measures each column by each crowd.
-    fn tell<N: Naming + Send + Sync, R: Threads + Wait + Clock + Print + Sync>(
+    /// Measures one column by the threads at these slots.
+    fn measure<N: Naming + Send + Sync, R: Threads + Wait + Clock + Sync>(
+        &self,
+        rt: &R,
+        bench: &Bench<N>,
+        turn: Turn,
+        slots: &[u32],
+    ) -> anyhow::Result<Option<u128>> {
+        Ok(tenths(rt, bench, turn, slots, self.turns, self.beside_changes)?)
+    }
+
+    /// Measures each column by each crowd, and prints an object for each.
+    fn print_objects<N: Naming + Send + Sync, R: Threads + Wait + Clock + Print + Sync>(
+        &self,
+        rt: &R,
+        bench: &Bench<N>,
+    ) -> anyhow::Result<()> {
+        for turn in self.columns {
+            for (_, slots) in self.crowds {
+                let found = self.measure(rt, bench, *turn, slots)?;
+                print_object(rt, turn.name(), slots.len(), found)?;
+            }
+        }
+        Ok(())
+    }
+
+    /// Measures each column by each crowd, and prints the table.
+    fn print<N: Naming + Send + Sync, R: Threads + Wait + Clock + Print + Sync>(
         &self,
         rt: &R,
         bench: &Bench<N>,
@@ -113,7 +197,8 @@ impl Table {
         for (what, slots) in self.crowds {
             print!(rt; "{what:<30}")?;
             for turn in self.columns {
-                column(rt, bench, self, *turn, slots)?;
+                let found = self.measure(rt, bench, *turn, slots)?;
+                print_turn(rt, found)?;
             }
             println!(rt; "")?;
         }
@@ -121,14 +206,19 @@ impl Table {
     }
 }
 
-/// Measures what these tables tell.
-pub(crate) fn tell_all<N: Naming + Send + Sync, R: Threads + Wait + Clock + Print + Sync>(
+/// Measures these tables, and prints them, or an object for each figure.
+pub(crate) fn print_all<N: Naming + Send + Sync, R: Threads + Wait + Clock + Print + Sync>(
     rt: &R,
     bench: &Bench<N>,
     tables: &[Table],
+    as_objects: bool,
 ) -> anyhow::Result<()> {
     for table in tables {
-        table.tell(rt, bench)?;
+        if as_objects {
+            table.print_objects(rt, bench)?;
+        } else {
+            table.print(rt, bench)?;
+        }
     }
     Ok(())
 }

@@ -1,4 +1,4 @@
-//! What a thread does so often in a round: each of these is a column of a table, or stands beside one.
+//! What a thread does again and again in a round: each of these is a column of a table, or runs beside one.
 
 use crate::files::{read, visit};
 use crate::grown::{ASIDE, Bench, LINE, hold_of, key_in, maker, path_of};
@@ -6,8 +6,8 @@ use crate::waiters::{remove, wait_in};
 use kf_core::Refusal;
 use kf_shared::{Naming, SharedTree};
 use std::alloc::Global;
-use std::sync::Wait;
 use std::sync::atomic::{AtomicU64, Ordering};
+use std::sync::{Arc, Wait};
 use std::thread;
 use std::time::{Clock, Duration};
 
@@ -20,7 +20,9 @@ pub(crate) enum Turn {
     Add,
     /// Locks the first lock of its slot's line for reading and unlocks it.
     Lock,
-    /// Looks up the path of its slot's file without the lock, or under it where a change came between.
+    /// Clones and drops the object that all threads share.
+    Clone,
+    /// Looks up the path of its slot's file without the lock, or under it if a change came between.
     Look,
     /// Looks it up under the lock.
     LookLocked,
@@ -40,6 +42,28 @@ pub(crate) enum Turn {
     WaitDrained,
     /// Removes its slot's node a second later.
     Remove,
+}
+
+impl Turn {
+    /// What the turn is called if it is reported by itself.
+    pub(crate) fn name(self) -> &'static str {
+        match self {
+            Turn::Enter => "enter and leave",
+            Turn::Add => "two additions",
+            Turn::Lock => "RwLock",
+            Turn::Clone => "Arc",
+            Turn::Look => "look-up",
+            Turn::LookLocked => "look-up, locked",
+            Turn::Pin => "hold and release",
+            Turn::HoldLocked => "hold and release, locked",
+            Turn::Read => "read",
+            Turn::Visit => "open, read, close",
+            Turn::VisitLocked => "open, read, close, locked",
+            Turn::Change => "change",
+            Turn::WaitDrained => "wait",
+            Turn::Remove => "remove",
+        }
+    }
 }
 
 /// How often the tree is changed at most: each time after this many microseconds.
@@ -89,6 +113,14 @@ fn lock<N: Naming, R: Wait>(
     Ok(())
 }
 
+/// Clones the object that all threads share, and drops the clone.
+fn clone<N: Naming>(bench: &Bench<N>, turns: u32) -> Result<(), Refusal> {
+    for _ in 0..turns {
+        let _clone = Arc::try_clone(&bench.counted).or(Err(Refusal::NoMemory))?;
+    }
+    Ok(())
+}
+
 /// Looks up without the lock, or always under it.
 fn look<N: Naming, R: Wait>(
     rt: &R,
@@ -107,7 +139,7 @@ fn look<N: Naming, R: Wait>(
     Ok(())
 }
 
-/// Takes holds without the lock, or under it.
+/// Takes holds without the lock or, if so asked, under it.
 fn hold<N: Naming, R: Wait>(
     rt: &R,
     alloc: Global,
@@ -133,8 +165,7 @@ fn hold<N: Naming, R: Wait>(
     told
 }
 
-/// Moves a directory that is on no path which is measured to another name and back, until only this thread is
-/// busy.
+/// Moves a directory that is on no measured path to another name and back, until only this thread is busy.
 fn change<N: Naming, R: Wait + Clock>(
     rt: &R,
     tree: &SharedTree<N>,
@@ -156,7 +187,7 @@ fn change<N: Naming, R: Wait + Clock>(
     Ok(())
 }
 
-/// Does so often what is asked.
+/// Does what is asked, this many times.
 pub(crate) fn make<N: Naming, R: Wait + Clock>(
     rt: &R,
     bench: &Bench<N>,
@@ -168,6 +199,7 @@ pub(crate) fn make<N: Naming, R: Wait + Clock>(
         Turn::Enter => enter(rt, &bench.tree, slot, turns),
         Turn::Add => add(bench, slot, turns),
         Turn::Lock => lock(rt, bench, slot, turns),
+        Turn::Clone => clone(bench, turns),
         Turn::Look => look(rt, &bench.tree, false, slot, turns),
         Turn::LookLocked => look(rt, &bench.tree, true, slot, turns),
         Turn::Pin => hold(rt, bench.alloc, &bench.tree, false, slot, turns),

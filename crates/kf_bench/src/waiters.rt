@@ -1,4 +1,4 @@
-//! Four who wait for a node that nobody uses, and that is not marked yet.
+//! Four threads that wait for a node that nobody uses, and that is not marked yet.
 
 use crate::clock::{Seat, make_round};
 use crate::grown::{Bench, LEAF, hold_of, key_in};
@@ -43,8 +43,8 @@ pub(crate) fn remove<N: Naming, R: Wait + Clock>(
     Ok(())
 }
 
-/// Four wait for the drain of a hidden node that nobody uses, until it is marked a second later. (Where the
-/// mark is refused they wait for ever.)
+/// Four threads wait for the drain of a hidden node that nobody uses, until it is marked a second later. (If
+/// the mark is refused they wait for ever.)
 pub(crate) fn wait<N: Naming + Send + Sync, R: Threads + Wait + Clock + Sync>(
     rt: &R,
     bench: &Bench<N>,
@@ -58,7 +58,7 @@ pub(crate) fn wait<N: Naming + Send + Sync, R: Threads + Wait + Clock + Sync>(
     make_round(rt, bench, seats.as_mut_slice(), 1);
     hidden.show().release();
     for seat in seats {
-        seat.took?;
+        seat.worked?;
     }
     Ok(())
 }
