@@ -1,5 +1,6 @@
-"""Crowds of workers: four on six shared paths whose directories come and go, and on a file, a directory and a link of each
-worker's own, whose replies must each be one that some order of the lines explains; and sixteen of which each round is over."""
+# SPDX-License-Identifier: MIT OR Apache-2.0
+"""Crowds of workers. Four work on six shared paths whose directories come and go, and each on its own file, directory and link:
+some order of the lines must explain each reply. Sixteen check that each round ends before the next."""
 
 from random import Random
 
@@ -12,15 +13,15 @@ DIR, FILE = b"dir subdirs=0 nlink=2 ", b"file mode=666 "
 
 
 class Worker:
-    """What is known of a worker: the rounds in which the shared files that it has open were opened; the text of its own
-    file, whether that is hidden, and in its directory; whether its link is there."""
+    """What is known of a worker: the rounds in which it opened its open shared files; the text of its own file, whether that
+    is hidden and whether it is in the worker's directory; whether its link exists."""
 
     def __init__(self):
         self.opened, self.own = {}, b"new"
         self.is_hidden = self.is_moved = self.is_linked = False
 
     def about_a_path(self, kind, path, removed):
-        """The replies that some order explains to a line about a shared path, at which a node was last removed in the round
+        """The replies that some order explains for a line about a shared path, if a node there was last removed in the round
         `removed`, or in this one."""
         is_dir, opened = len(path) == 2, self.opened.get(path)
         if kind in ("read", "write", "close") and not opened:
@@ -44,7 +45,7 @@ class Worker:
         }.get(kind)
 
     def about_its_own(self, kind):
-        """The reply to a line about what is its own."""
+        """The reply to a line about the worker's own nodes."""
         if kind == "hide":
             return NO_ENTRY if self.is_moved else BUSY if self.is_hidden else OK
         if kind == "show":
@@ -60,7 +61,7 @@ class Worker:
         return OK if may_be[kind] else NO_ENTRY
 
     def note(self, kind, path, number, reply, now):
-        """What a line that was answered so has changed."""
+        """Keeps what a line with this reply has changed."""
         if kind == "open" and reply == OK:
             self.opened[path] = now
         elif kind == "close":
@@ -112,7 +113,7 @@ def crowd(seed):
 
 
 def lines_of(rounds):
-    """What is made ahead, 14 lines; the rounds; and then all is closed, shown and removed, and each slot given again."""
+    """14 lines create what is needed. After the rounds all is closed, shown and removed, and each slot is used again."""
     yield from (line % own for own in WORKERS for line in (b"file /own%d 666 new", b"mkdir /dir%d"))
     yield b"wait"
     yield from (b"@%d open z /own%d rw" % (own, own) for own in WORKERS)
@@ -128,7 +129,7 @@ def lines_of(rounds):
 
 
 def unexplained(rounds, replies):
-    """Nothing, or the first reply that no order of the lines explains, or what the tree has at the end."""
+    """None, or the first reply that no order of the lines explains, or what is left in the tree at the end."""
     workers, removed = {own: Worker() for own in WORKERS}, dict.fromkeys(PATHS, 0)
     replies = iter(replies[14:])
     for now, steps in enumerate(rounds, start=1):
@@ -150,7 +151,7 @@ def unexplained(rounds, replies):
 
 
 def rounds_of_sixteen():
-    """Sixteen workers who move a directory of their own to and fro, and how many commands the next round finds."""
+    """Sixteen workers each move a directory to and fro, and the next round counts the commands."""
     names = range(1, 17)
     lines = [b"mkdir /%d" % it for it in names] + [b"wait"]
     replies = [b"ok %d.1" % it for it in names] + [b"ok"]

@@ -1,25 +1,26 @@
-"""Scripts whose names, texts, lines and listings have each length around each bound, with the replies that they must have."""
+# SPDX-License-Identifier: MIT OR Apache-2.0
+"""Scripts whose names, texts, lines and listings have each length around each bound, with the expected replies."""
 
 from heapq import heappop, heappush
 from zlib import crc32
 
 NAME, PAGE, LINE, TEXT = 255, 4096, 8192, b"err Line 22"
 ONE_CALLER, ONE_WORKER = (), ("--workers", "1")
-# Who runs the lines of a script: the words that ask for it, and what stands ahead of each line.
+# The runner of a script's lines: the arguments that ask for it, and the prefix of each line.
 SEATS = {"one caller": (ONE_CALLER, b""), "one worker": (ONE_WORKER, b""), "a worker's lines": (ONE_WORKER, b"@1 ")}
-# What workers are given is read whole, and so has a bound.
+# A script for workers is read whole, so its size has a bound.
 LONGEST_SCRIPT = 1_048_576
-# Bytes of which no two neighbours are alike, so that a text that was cut or moved is another one.
+# Bytes in which neighbours always differ, so that a text that was cut or moved is another one.
 BYTES = bytes(33 + 7 * at % 89 for at in range(89)) * 800
 
 
 class Run:
-    """A script that grows, and its replies. It knows which slot a new node takes, and with which generation."""
+    """A script that grows, and its replies. It knows the slot and the generation of each new node."""
 
     def __init__(self, slots=1024, seat="one caller"):
         self.lines, self.replies, self.size = [], [], 0
         self.options, self.ahead = SEATS[seat]
-        # how long a line may be without what stands ahead of it
+        # how long a line may be without its prefix
         self.line = LINE - len(self.ahead)
         self.unused, self.generations = list(range(1, slots)), [0] * slots
 
@@ -29,7 +30,7 @@ class Run:
         self.size += len(self.lines[-1]) + 1
 
     def make(self, line):
-        """A line that makes a node, and the slot that it takes: the lowest one that is free, with its next generation."""
+        """A line that creates a node. Returns the slot that it takes: the lowest free one, with its next generation."""
         slot = heappop(self.unused)
         self.generations[slot] += 1
         self.ask(line, b"ok %d.%d" % (slot, self.generations[slot]))
@@ -49,7 +50,7 @@ class Run:
 
 
 def cut(piece, lengths, slots, seat):
-    """Runs that each have some of the lengths, within the bound of what workers are given."""
+    """Runs that each have some of the lengths, within the bound for workers."""
     run = Run(slots, seat)
     for length in lengths:
         next_one = Run(slots, seat)
@@ -62,7 +63,7 @@ def cut(piece, lengths, slots, seat):
 
 
 def names(run, length):
-    """The length is looked at first, and the name of no bytes is none."""
+    """The length is checked first, and a name of no bytes is not a name."""
     name = BYTES.replace(b"/", b"_")[:length]
     for command in (b"mkdir /%s", b"file /%s 644 x", b"link /%s /a", b"mv /a / %s"):
         slot = run.make(b"mkdir /a")
@@ -78,14 +79,14 @@ def names(run, length):
                 run.free(b"rm /a", made[:1])
             run.free(b"rm /" + name, made[-1:])
         else:
-            # words are never empty; a path may end in a slash, and the name behind it is not lawful
+            # words are never empty; a path may end in a slash, and the name after it is not allowed
             refusal = b"err NameTooLong 36" if length else TEXT if line.startswith(b"mv") else b"err Invalid 22"
             run.ask(line, refusal)
             run.free(b"rm /a", [slot])
 
 
 def names_in_order(run, length):
-    """Names of this length that differ in one byte, and each with a byte more behind it, in byte order."""
+    """Names of this length that differ in one byte, and each with one more byte, in byte order."""
     same = b"k" * length
     chosen = {same} | {same[:at] + bytes([byte]) + same[at + 1 :] for at in range(length) for byte in (1, 127, 128, 255)}
     chosen = [name + more for name in chosen for more in (b"", b"\1")]
@@ -109,7 +110,7 @@ def first_texts(run, length):
 
 
 def writes(run, length):
-    """A write hands over at most one page, which becomes the whole text; of no bytes, it changes nothing."""
+    """A write passes at most one page, which becomes the whole text; a write of no bytes changes nothing."""
     if not run.lines:
         run.make(b"file /t 666 old")
         run.ask(b"open f /t rw", b"ok")
@@ -124,7 +125,7 @@ def writes(run, length):
 
 
 def stored(run, length):
-    """A text of this length in place of the longest, and a text of one byte in place of that."""
+    """A text of this length replaces the longest one, and a text of one byte replaces that."""
     if not run.lines:
         run.make(b"file /t 666 old")
         run.ask(b"open f /t rw", b"ok")
@@ -134,7 +135,7 @@ def stored(run, length):
 
 
 def reads(run, length):
-    """A read gives as many bytes as there are from its offset on, and not more than it is asked for."""
+    """A read returns the bytes from its offset on, but not more than it asks for."""
     shown = BYTES[: PAGE - 1]
     if not run.lines:
         run.make(b"file /t 444 " + BYTES[: PAGE + 1])
@@ -151,10 +152,10 @@ def lines(run, length):
 
 
 def names_of(length):
-    """Names that are so long together, with a space between two, in byte order."""
+    """Names of this length in total, with a space between two, in byte order."""
     chosen = []
     while length > NAME:
-        # (what is left must be enough for a space and one byte more)
+        # (the rest must be enough for a space and one more byte)
         size = NAME - 1 if length == NAME + 1 else NAME
         chosen.append((b"%04d" % len(chosen)).ljust(size, b"n"))
         length -= size + 1
@@ -170,7 +171,7 @@ def listings(run, length):
 
 
 def link_texts(run, length):
-    """A link's text has the names on the way to its target, which a line has room for."""
+    """A link's text has the names on the way to its target, which fit in a line."""
     chosen = names_of(min(length, run.line - len(b"link /l /")))
     slots = [run.make(b"mkdir /" + b"/".join(chosen[: count + 1])) for count in range(len(chosen))]
     slots.append(run.make(b"link /l /" + b"/".join(chosen)))
@@ -180,7 +181,7 @@ def link_texts(run, length):
 
 
 def ways_up(run, length):
-    """A link in a directory so deep, to a directory beside the first one above it."""
+    """A link in a directory of this depth, to a directory beside the topmost one above it."""
     slots = [run.make(b"mkdir /t")] + [run.make(b"mkdir " + b"/a" * count) for count in range(1, length + 1)]
     slots.append(run.make(b"link %s/l /t" % (b"/a" * length)))
     run.ask(b"readlink %s/l" % (b"/a" * length), b"../" * length + b"t")
@@ -189,7 +190,7 @@ def ways_up(run, length):
 
 
 def many_names(run, length):
-    """A directory that takes all slots, in a listing. Workers are given names that they have room for."""
+    """A directory that takes all slots, in a listing. For workers the names are short enough to fit."""
     if run.options:
         length = min(length, (LONGEST_SCRIPT - 100) // 4095 - len(run.ahead + b"mkdir /\n"))
     chosen = [b"%04d" % (at * 2039 % 4095) for at in range(4095)]
@@ -204,7 +205,7 @@ def around(*bounds, by=6):
     return sorted({at for bound in bounds for at in range(max(bound - by, 0), bound + by + 1)})
 
 
-# What is tried, by name: a piece of a script, the lengths it is tried with, and the slots of its tree.
+# The tests, by name: a piece of a script, its lengths, and the slots of its tree.
 TRIED = {
     "names of 0 to 300 bytes": (names, range(301), 1024),
     "names that differ in one byte, in byte order": (names_in_order, range(1, 26), 1024),
@@ -228,7 +229,7 @@ TRIED = {
 
 
 def runs(name, seat):
-    """The runs of one of these, each with the words that ask for it."""
+    """The runs of one of these, each with its arguments."""
     piece, chosen, slots = TRIED[name]
     for run in cut(piece, chosen, slots, seat):
         yield run, ("--slots", str(slots), *run.options)

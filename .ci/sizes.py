@@ -1,16 +1,17 @@
-"""Scripts that make large trees, with the replies that they must have: every slot in one directory and in one chain, of few
-slots and of the most that there are, links across a chain, names of each length, and a long list of commands."""
+# SPDX-License-Identifier: MIT OR Apache-2.0
+"""Scripts that make large trees, with the expected replies: every slot in one directory and in one chain, with few slots and
+with the maximum, links across a chain, names of each length, and a long list of commands."""
 
 from lengths import BYTES, NAME, Run
 
-# Of most scripts, three of which fit into what workers are given; and the most that there are.
+# For most scripts, three of which fit in a script for workers; and the maximum.
 SLOTS, MOST_SLOTS = 4096, 1_048_576
-# The program needs some 128 KiB, and a function that took stack for each node of a chain would need more than is left.
+# The program needs about 128 KiB, and a function that used stack for each node of a chain would need more than the rest.
 STACK = 160 * 1024
 
 
 def name_of(number):
-    """A name that takes memory of its own, in the order of numbers."""
+    """A name that needs an allocation; the names are ordered as the numbers are."""
     return b"%04d" % number + b"-" * 26
 
 
@@ -20,7 +21,7 @@ def shuffled(count):
 
 
 def emptied(run, top, slots):
-    """A tree that has all slots is compacted, and goes."""
+    """A tree that takes all slots is compacted and removed."""
     run.ask(b"mkdir /more", b"err NoSpace 28")
     run.ask(b"activate /%s" % top, b"ok")
     run.ask(b"compact", b"ok")
@@ -44,7 +45,7 @@ def one_directory(run):
 
 
 def put_above(run, count):
-    """So many directories, each put above `/a`, whose name it takes. The slots that they take."""
+    """This many directories, each put above `/a`, whose name it takes. Returns their slots."""
     slots = []
     for _ in range(count):
         slots.append(run.make(b"mkdir /b"))
@@ -54,7 +55,7 @@ def put_above(run, count):
 
 
 def one_chain(run):
-    """A line is too short for the way to the last directory."""
+    """A line is too short for the path to the last directory."""
     slots = [run.make(b"mkdir /a"), *put_above(run, len(run.unused))]
     run.ask(b"ls " + b"/a" * min(SLOTS - 2, (run.line - len(b"ls ")) // 2), b"a")
     run.ask(b"stat /a", b"dir subdirs=1 nlink=3 live")
@@ -63,7 +64,7 @@ def one_chain(run):
 
 
 def three_times(fill):
-    """What fills all slots, three times over."""
+    """Fills all slots, three times."""
     return lambda run: [fill(run) for _ in range(3)]
 
 
@@ -81,7 +82,7 @@ def links_across(run):
 
 
 def removed_one_by_one(run):
-    """The widest directory, whose files go in another order than they came."""
+    """The widest directory, whose files are removed in another order than they were created."""
     slot_of = {at: run.make(b"file /%s 644" % name_of(at)) for at in shuffled(SLOTS - 1)}
     run.ask(b"ls /", b" ".join(name_of(at) for at in range(SLOTS - 1)))
     for at in range(1, SLOTS - 1, 2):
@@ -96,7 +97,7 @@ def removed_one_by_one(run):
 
 
 def slots_again(run):
-    """Slots that were freed in another order are given again, the lowest first."""
+    """Slots that were freed in another order are used again, the lowest first."""
     slot_of = {at: run.make(b"mkdir /%d" % at) for at in range(SLOTS - 1)}
     for at in shuffled(SLOTS - 1)[: SLOTS // 2]:
         run.free(b"rm /%d" % at, [slot_of.pop(at)])
@@ -143,7 +144,7 @@ def names_compacted(run):
     run.ask(b"ls /d", b" ".join(last[:length] for length in range(1, NAME + 1)))
 
 
-# What is tried, by name.
+# The tests, by name.
 TRIED = {
     "every slot in one directory, three times over": three_times(one_directory),
     "every slot in one chain, three times over": three_times(one_chain),
@@ -154,7 +155,7 @@ TRIED = {
     "names of each length, moved and compacted": names_compacted,
 }
 
-# Too large for what workers are given.
+# Too large for a script for workers.
 TRIED_WITH_MOST_SLOTS = {
     "1,048,576 slots in one directory": one_directory,
     "1,048,576 slots in one chain": one_chain,

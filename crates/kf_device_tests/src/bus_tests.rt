@@ -38,8 +38,8 @@ const WITHOUT_VALUE: [Step; 11] = [
     Step::Unplugs(b"d2", None),
 ];
 
-/// A removal that is refused within a store of `delete` leaves the device where `delete` has no room, and the
-/// rest of it for an unplug where `value` has none.
+/// A removal that is refused within a store of `delete` leaves the device if `delete` has no room, and the
+/// rest of it for an unplug if `value` has none.
 const REFUSED: [Step; 9] = [
     Step::Plugs(b"d0", b"on", None),
     Step::Refuses(b"/devices/d0/delete", b"/devices/d0/serial"),

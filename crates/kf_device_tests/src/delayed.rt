@@ -1,4 +1,4 @@
-//! The callbacks of a bus, which wait for others before they go on or answer.
+//! The callbacks of a bus, which wait for others before they go on or return.
 
 use crate::fixtures::{count_of, wait_for};
 use kf_device::Bus;
@@ -11,14 +11,14 @@ use std::sync::atomic::{AtomicU64, Ordering};
 #[derive(Drop)]
 pub(crate) struct Delayed<'a, N: Naming> {
     bus: &'a Bus<N>,
-    /// How often `d0` was plugged anew, by who tells that.
+    /// How often `d0` was plugged anew, by the thread that says that.
     pub(crate) plugged: AtomicU64,
     /// How many callbacks have begun. A store asks the bus once two have.
     pub(crate) begun: AtomicU64,
-    /// How many removals have answered.
+    /// How many removals have returned.
     pub(crate) answered: AtomicU64,
     /// A show that has its text stays inside until the value of `d0` is marked, and then looks 10,000 times
-    /// whether a removal has answered: how many looks saw one that had.
+    /// whether a removal has returned: how many looks saw one that had.
     pub(crate) early: AtomicU64,
 }
 

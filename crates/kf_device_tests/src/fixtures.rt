@@ -28,7 +28,7 @@ pub(crate) const WRITE: Want = Want {
     write: true,
 };
 
-/// A tree of 64 slots, each of which may have so many holds.
+/// A tree of 64 slots, each of which may have this many holds.
 pub(crate) fn made<R: Abort>(rt: &R, alloc: Global, holds: u32) -> NewTree {
     let Some(limits) = Limits::new(64, holds) else {
         panic!(rt; "no such limits")
@@ -50,7 +50,7 @@ pub(crate) fn count_of(counter: &AtomicU64) -> u64 {
     counter.load(Ordering::SeqCst)
 }
 
-/// Waits until so many were counted there. Whether they were.
+/// Waits until this many were counted there. Whether they were.
 pub(crate) fn wait_for(count: u64, counter: &AtomicU64) -> bool {
     for _ in 0..1_000_000_000u64 {
         if count_of(counter) >= count {
@@ -123,7 +123,7 @@ pub(crate) fn opened_by<N: Naming, R: Abort + Wait>(
     }
 }
 
-/// The same with numbers of its own.
+/// The same with new event numbers.
 pub(crate) fn opened<N: Naming, R: Abort + Wait>(
     rt: &R,
     alloc: Global,

@@ -1,4 +1,4 @@
-//! What a bus is asked for, one call after another, and what each must answer.
+//! What a bus is asked for, one call after another, and what each must return.
 ghost use Rattle.std.specs.Prelude.{◌≡◌};
 
 use crate::fixtures::{BOTH, READ, WRITE, held, new_bus, opened, plants};
@@ -17,13 +17,13 @@ pub(crate) enum Step {
     Unplugs(&'static [u8], Option<Refusal>),
     /// A read of the file of a path gives this.
     Shows(&'static [u8], &'static [u8]),
-    /// What a store of these bytes into the file of a path is answered by.
+    /// What a store of these bytes into the file of a path returns.
     Stores(&'static [u8], &'static [u8], Result<usize, FileError>),
     /// While holds of these two paths are out, a store of `delete` of `d0` finds no room for one.
     Refuses(&'static [u8], &'static [u8]),
     /// How many live children a directory has.
     Has(&'static [u8], usize),
-    /// Of at least and at most so many devices the bus keeps texts.
+    /// Of at least and at most this many devices the bus keeps texts.
     Keeps(usize, usize),
     /// The live node of a path is removed with all below it, past the bus.
     Removes(&'static [u8]),
@@ -155,7 +155,7 @@ fn is_right<N: Naming, R: Abort + Wait>(
     }
 }
 
-/// Takes the steps. The first whose answer is not as it must be stops the test.
+/// Takes the steps. The first that returns something else than it must stops the test.
 pub(crate) fn take<N: Naming, R: Abort + Wait>(
     rt: &R,
     alloc: Global,

@@ -41,7 +41,7 @@ enum Part {
     Looks,
 }
 
-/// Crowds on a device that is there. Neither an unplug nor a `delete` answers before a show has ended, two
+/// Crowds on a device that is there. Neither an unplug nor a `delete` returns before a show has ended, two
 /// stores of one `delete` meet in their callbacks, a `delete` leaves a later device of the name, and whoever
 /// plugs has its text ready.
 const CROWDS: [[Part; 4]; 5] = [
@@ -112,7 +112,7 @@ fn replug<N: Naming, R: Wait>(rt: &R, tree: &SharedTree<N>, bus: &Bus<N>) {
     }
 }
 
-// Whether each second device is there, with its value and its link, once the store has answered.
+// Whether each second device is there, with its value and its link, once the store has returned.
 fn replugs<N: Naming, R: Abort + Wait>(
     rt: &R,
     alloc: Global,

@@ -1,12 +1,14 @@
-//! Files of a group by their paths: who opens them, what they show and take, how often their callbacks are
-//! called, and who is told of a change.
+//! Files of a group by their paths: what opens them, what they show and take, how often their callbacks are
+//! called, and who sees a change.
 ghost use Rattle.std.specs.Prelude.{◌≡◌};
 
 use crate::counted::Counted;
-use crate::fixtures::made;
+use crate::fixtures::made_with;
 use crate::steps::{Step, walk};
 use kf_core::Refusal;
-use kf_driver::{Driver, End, Notifier, Notifying, Number, Opener, Row, Signed, Switch, post_of};
+use kf_driver::{
+    Driver, End, Notifier, Notifying, Number, Opener, ReadOnly, Row, Signed, Switch, post_of,
+};
 use kf_files::{Fault, FileError, Want};
 use kf_groups::{Attribute, Group, create_group};
 use kf_notify::{Post, Posts};
@@ -23,8 +25,8 @@ const INVALID: FileError = FileError::Callback(Fault { number: 22 });
 
 const RANGE: FileError = FileError::Callback(Fault { number: 34 });
 
-static STEPS: [(&[u8], Step); 59] = [
-    // What opens without the lock, of the slots that have words of look-ups, and what does not.
+static STEPS: [(&[u8], Step); 72] = [
+    // Files in slots that have words for look-ups open without the lock, and others do not.
     (b"/c", Step::Opens(Want::BOTH, true, None)),
     (b"/g/r", Step::Opens(Want::READ, true, None)),
     (b"/unknown", Step::Opens(Want::READ, false, None)),
@@ -38,6 +40,27 @@ static STEPS: [(&[u8], Step); 59] = [
         Step::Opens(Want::WRITE, false, Some(Refusal::Access)),
     ),
     (b"/c", Step::Opens(Want::WRITE, true, None)),
+    (b"/all_read", Step::Opens(Want::READ, false, None)),
+    (
+        b"/all_read",
+        Step::Opens(Want::WRITE, false, Some(Refusal::Access)),
+    ),
+    (b"/owner_writes", Step::Opens(Want::WRITE, false, None)),
+    (
+        b"/owner_writes",
+        Step::Opens(Want::READ, false, Some(Refusal::Access)),
+    ),
+    // What is opened is the file of the whole path, with the lock (of the long ones) and without it.
+    (b"/n", Step::OpensAndShows(b"5\n")),
+    (b"/s", Step::OpensAndShows(b"-1\n")),
+    (
+        b"/temperature_of_the_first_core",
+        Step::OpensAndShows(b"1\n"),
+    ),
+    (
+        b"/temperature_of_the_first_coil",
+        Step::OpensAndShows(b"2\n"),
+    ),
     // One read is one show, and one write is one store, also after a fault.
     (b"/c", Step::Shows(Ok(b"0000"))),
     (b"/c", Step::Shows(Ok(b"0001"))),
@@ -84,15 +107,39 @@ static STEPS: [(&[u8], Step); 59] = [
     (b"/w", Step::Shows(Ok(b"1\n"))),
     (b"/w", Step::Stores(b"False\n", Ok(6))),
     (b"/w", Step::Shows(Ok(b"0\n"))),
-    // Who polls is told by a store of what tells, and by its name.
+    // A store that raises the event number of its file is seen by a poll, and so is a notify by the name.
     (b"/v", Step::Tells(b"1", b"/w")),
     (b"/v", Step::Tells(b"1", b"/n")),
+    (b"/v", Step::Tells(b"1", b"/s")),
     (b"/v", Step::Shows(Ok(b"1\n"))),
+    // A store that is refused raises no number.
+    (b"/v", Step::Refuses(b"2", b"/w")),
+    (b"/v", Step::Refuses(b"2", b"/w")),
+    (b"/v", Step::Shows(Ok(b"1\n"))),
+    (b"/v", Step::Tells(b"0", b"/w")),
     (b"/w", Step::Notifies(b"w", b"/v")),
     (b"/v", Step::Notifies(b"v", b"/w")),
     (b"/n", Step::Notifies(b"n", b"/s")),
     (b"/c", Step::Opens(Want::BOTH, true, None)),
     (b"/w", Step::Shows(Ok(b"0\n"))),
+];
+
+/// What opens in a tree that has no words for look-ups.
+static WITHOUT_LOOKS: [(&[u8], Step); 5] = [
+    (b"/c", Step::Opens(Want::BOTH, false, None)),
+    (
+        b"/none",
+        Step::Opens(Want::READ, false, Some(Refusal::NoEntry)),
+    ),
+    (b"/n", Step::OpensAndShows(b"5\n")),
+    (
+        b"/temperature_of_the_first_core",
+        Step::OpensAndShows(b"1\n"),
+    ),
+    (
+        b"/temperature_of_the_first_coil",
+        Step::OpensAndShows(b"2\n"),
+    ),
 ];
 
 /// Its slots are 1 and 2.
@@ -142,7 +189,7 @@ const FILES: Group<'static> = Group {
     ],
 };
 
-/// Makes the files, and gives a post of that of the switch which tells who polls it.
+/// Makes the files, and the post of the switch, whose stores raise its event number.
 fn plant<N: Naming, R: Wait>(
     rt: &R,
     tree: &SharedTree<N>,
@@ -152,15 +199,36 @@ fn plant<N: Naming, R: Wait>(
     let root = editor.state().root();
     create_group(&mut editor, root, &GROUP)?;
     create_group(&mut editor, root, &FILES)?;
+    let others = [
+        Attribute::read_only(b"all_read", 7),
+        Attribute::write_only(b"owner_writes", 8),
+        Attribute::read_only(b"temperature_of_the_first_core", 9),
+        Attribute::read_only(b"temperature_of_the_first_coil", 10),
+    ];
+    create_group(&mut editor, root, &Group::new(None, &others))?;
     post_of(editor.state(), posts, root, b"v")
 }
 
-/// The rows of a switch, two numbers and what counts itself.
-type Others = Row<Switch, Row<Signed, Row<Number, Row<Counted, End>>>>;
+/// The rows of two numbers that are only read.
+type Temperatures = Row<ReadOnly<Number>, Row<ReadOnly<Number>, End>>;
+
+fn temperatures() -> Temperatures {
+    let core = Attribute::read_only(b"temperature_of_the_first_core", 9);
+    let coil = Attribute::read_only(b"temperature_of_the_first_coil", 10);
+    let rows = Row::new(coil, ReadOnly(Number::new(2, 9)), End);
+    Row::new(core, ReadOnly(Number::new(1, 9)), rows)
+}
+
+/// The rows of a switch, two numbers, callbacks that count themselves, and the temperatures.
+type Others = Row<Switch, Row<Signed, Row<Number, Row<Counted, Temperatures>>>>;
 
 fn others() -> Others {
     let calls = AtomicU64::new(0);
-    let rows = Row::new(Attribute::read_write(b"c", 5), Counted { calls }, End);
+    let rows = Row::new(
+        Attribute::read_write(b"c", 5),
+        Counted { calls },
+        temperatures(),
+    );
     let rows = Row::new(
         Attribute::read_write(b"n", 4),
         Number::new(5, u64::MAX),
@@ -186,30 +254,44 @@ fn answer<N: Naming, R: Abort + Wait>(
     opener: &mut Opener<N>,
     posts: &mut Posts,
     post: Post,
+    steps: &[(&[u8], Step)],
 ) {
     let driver = Driver::new(table(rt, post));
-    walk(rt, tree, &driver, opener, posts, &STEPS);
+    walk(rt, tree, &driver, opener, posts, steps);
 }
 
 fn opened<N: Naming, R: Abort + Wait>(
     rt: &R,
     alloc: Global,
     tree: &SharedTree<N>,
+    steps: &[(&[u8], Step)],
 ) -> Result<(), Refusal> {
-    let mut posts = Posts::new(alloc, 9)?;
+    let mut posts = Posts::new(alloc, 13)?;
     let mut opener = Opener::new(alloc, &mut tree.edit(rt), posts.another()?)?;
     let post = plant(rt, tree, &mut posts)?;
-    answer(rt, tree, &mut opener, &mut posts, post);
+    answer(rt, tree, &mut opener, &mut posts, post, steps);
     Ok(())
 }
 
-fn files<N: Naming, R: Abort + Wait>(rt: &R, alloc: Global, new: NewTree) -> Result<(), Refusal>
+fn files<N: Naming, R: Abort + Wait>(
+    rt: &R,
+    alloc: Global,
+    new: NewTree,
+    steps: &[(&[u8], Step)],
+) -> Result<(), Refusal>
     requires { new.master.table ≡ N.table }
 {
-    opened(rt, alloc, &new.named::<N>())
+    opened(rt, alloc, &new.named::<N>(), steps)
 }
 
 #[test]
 fn files_answer_as_their_attributes_do(rt: HostRuntime) -> Result<(), Refusal> {
-    files::<Brand, _>(&rt, rt.alloc(), made(&rt, rt.alloc(), 16, 2))
+    let new = made_with(&rt, rt.alloc(), 16, 2, 8);
+    files::<Brand, _>(&rt, rt.alloc(), new, &STEPS)
+}
+
+#[test]
+fn files_open_in_a_tree_without_look_ups(rt: HostRuntime) -> Result<(), Refusal> {
+    let new = made_with(&rt, rt.alloc(), 16, 2, 0);
+    files::<Brand, _>(&rt, rt.alloc(), new, &WITHOUT_LOOKS)
 }

@@ -1,4 +1,6 @@
-//! What the tests build on: a tree that was just made.
+//! The tree that the tests begin with.
+
+ghost use Rattle.std.specs.Prelude.{◌≤◌};
 
 use kf_core::Limits;
 use kf_shared::{NewTree, SharedTree};
@@ -6,12 +8,27 @@ use std::alloc::Global;
 use std::marker::Brand;
 use std::process::Abort;
 
-/// A tree of so many slots, each of which may have so many holds, with words for the look-ups of eight.
+/// A tree of `slots` slots with at most `holds` holds each, and with words for the look-ups of eight slots.
 pub(crate) fn made<R: Abort>(rt: &R, alloc: Global, slots: u32, holds: u32) -> NewTree {
+    made_with(rt, alloc, slots, holds, 8)
+}
+
+/// The same with words for the look-ups of `looks` slots.
+///
+/// Condition: `looks` is at most 8.
+pub(crate) fn made_with<R: Abort>(
+    rt: &R,
+    alloc: Global,
+    slots: u32,
+    holds: u32,
+    looks: u32,
+) -> NewTree
+    requires few { looks ≤ 8 }
+{
     let Some(limits) = Limits::new(slots, holds) else {
         panic!(rt; "no such limits")
     };
-    match SharedTree::<Brand>::with_looks(alloc, limits, 0, 8) {
+    match SharedTree::<Brand>::with_looks(alloc, limits, 0, looks) {
         Ok(tree) => tree,
         Err(_) => panic!(rt; "no memory"),
     }

@@ -1,4 +1,4 @@
-//! Steps with files one after another, each opened by its path, and what each must answer. The calls of a
+//! Steps with files one after another, each opened by its path, and what each step must find. The calls of a
 //! step are proved once, however many steps there are.
 
 use kf_core::Refusal;
@@ -11,19 +11,23 @@ use std::sync::Wait;
 
 #[derive(Clone, Copy)]
 pub(crate) enum Step {
-    /// Whether the file opens for this without the lock, and why it does not open at all.
+    /// Whether the file opens for this use without the lock, and why it does not open at all.
     Opens(Want, bool, Option<Refusal>),
-    /// What a read of the text gives.
+    /// The file that the opener opens shows this text.
+    OpensAndShows(&'static [u8]),
+    /// What a read returns.
     Shows(Result<&'static [u8], FileError>),
-    /// What a write of this text is answered by.
+    /// What a write of this text returns.
     Stores(&'static [u8], Result<usize, FileError>),
-    /// A write of this text is seen by who polls the file, and not by who polls that of the other path.
+    /// A write of this text is seen by a poll of the file, and not by a poll of the file at the other path.
     Tells(&'static [u8], &'static [u8]),
-    /// So are three notifies by this name in the root's directory.
+    /// A write of this text is refused, and no poll of either file sees it.
+    Refuses(&'static [u8], &'static [u8]),
+    /// The same of three notifies by this name in the root's directory.
     Notifies(&'static [u8], &'static [u8]),
 }
 
-/// Opens the file without the lock, closes it, and opens and closes it as it may be.
+/// Opens the file without the lock and closes it, and does both again, with the lock if need be.
 fn opens<N: Naming, R: Wait>(
     rt: &R,
     tree: &SharedTree<N>,
@@ -45,7 +49,31 @@ fn opens<N: Naming, R: Wait>(
     }
 }
 
-/// Whether a read is answered so: by this text, or by an error.
+/// Whether the opener opens the file, and what it opened shows this text.
+fn opens_and_shows<N: Naming, T: DriverTable, R: Wait>(
+    rt: &R,
+    tree: &SharedTree<N>,
+    driver: &Driver<T>,
+    opener: &mut Opener<N>,
+    path: &[u8],
+    text: &[u8],
+) -> bool {
+    let Ok(mut file) = opener.open(rt, tree, path, Want::READ) else {
+        return false;
+    };
+    let mut out = [0u8; 32];
+    let is_shown = match file.read(rt, tree, driver, 0, &mut out) {
+        Ok(count) => match out.get(..count) {
+            Some(given) => given == text,
+            None => false,
+        },
+        Err(_) => false,
+    };
+    opener.close(file);
+    is_shown
+}
+
+/// Whether a read returns this text, or this error.
 fn shows<N: Naming, T: DriverTable, R: Wait>(
     rt: &R,
     tree: &SharedTree<N>,
@@ -64,7 +92,7 @@ fn shows<N: Naming, T: DriverTable, R: Wait>(
     }
 }
 
-/// Whether each of three notifies makes a number.
+/// Whether each of three notifies raises the number.
 fn notifies<N: Naming, R: Wait>(
     rt: &R,
     tree: &SharedTree<N>,
@@ -81,7 +109,8 @@ fn notifies<N: Naming, R: Wait>(
     true
 }
 
-/// Shows both files, takes the step, and answers whether the first has changed since, and not the other.
+/// Shows both files and takes the step. Returns whether the first has changed since, if it is to, and the
+/// other has not.
 fn is_polled<N: Naming, T: DriverTable, R: Wait>(
     rt: &R,
     tree: &SharedTree<N>,
@@ -94,12 +123,13 @@ fn is_polled<N: Naming, T: DriverTable, R: Wait>(
     let are_shown = file.read(rt, tree, driver, 0, &mut out).is_ok()
         && other.read(rt, tree, driver, 0, &mut out).is_ok();
     let are_quiet = !file.poll() && !other.poll();
-    let is_told = match step {
-        Step::Tells(text, _) => file.write(rt, tree, driver, text).is_ok(),
-        Step::Notifies(name, _) => notifies(rt, tree, posts, name),
-        _ => false,
+    let (is_done, changes) = match step {
+        Step::Tells(text, _) => (file.write(rt, tree, driver, text).is_ok(), true),
+        Step::Refuses(text, _) => (file.write(rt, tree, driver, text).is_err(), false),
+        Step::Notifies(name, _) => (notifies(rt, tree, posts, name), true),
+        _ => (false, true),
     };
-    are_shown && are_quiet && is_told && file.poll() && !other.poll()
+    are_shown && are_quiet && is_done && file.poll() == changes && !other.poll()
 }
 
 fn is_right<N: Naming, T: DriverTable, R: Wait>(
@@ -112,17 +142,17 @@ fn is_right<N: Naming, T: DriverTable, R: Wait>(
 ) -> Result<bool, Refusal> {
     let mut file = open_path(&mut tree.edit(rt), posts, path, Want::BOTH)?;
     match step {
-        Step::Opens(..) => Ok(false),
+        Step::Opens(..) | Step::OpensAndShows(_) => Ok(false),
         Step::Shows(told) => Ok(shows(rt, tree, driver, &mut file, told)),
         Step::Stores(text, told) => Ok(file.write(rt, tree, driver, text) == told),
-        Step::Tells(_, beside) | Step::Notifies(_, beside) => {
+        Step::Tells(_, beside) | Step::Refuses(_, beside) | Step::Notifies(_, beside) => {
             let mut other = open_path(&mut tree.edit(rt), posts, beside, Want::BOTH)?;
             Ok(is_polled(rt, tree, driver, posts, (&mut file, &mut other), step))
         }
     }
 }
 
-/// Takes the steps. The first whose answer is not as it must be stops the test.
+/// Takes the steps. The first that does not find what it must stops the test.
 pub(crate) fn walk<N: Naming, T: DriverTable, R: Abort + Wait>(
     rt: &R,
     tree: &SharedTree<N>,
@@ -137,6 +167,7 @@ pub(crate) fn walk<N: Naming, T: DriverTable, R: Abort + Wait>(
             Step::Opens(want, is_found, why) => {
                 opens(rt, tree, opener, path, want) == (is_found, why)
             }
+            Step::OpensAndShows(text) => opens_and_shows(rt, tree, driver, opener, path, text),
             _ => is_right(rt, tree, driver, posts, path, *step) == Ok(true),
         };
         if !is_right {

@@ -1,4 +1,5 @@
-//! The tests of `kf_uevents`: what a list of events tells and loses.
+//! The tests of `kf_uevents`: what a listener reads, what it misses, and how it sleeps.
 
+mod sleeping_tests;
 mod steps;
 mod tests;

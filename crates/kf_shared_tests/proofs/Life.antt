@@ -6,7 +6,7 @@ use Rattle.kf_core.specs.declared.key.Node.TheVariants.{Dir}
 use Rattle.kf_core.specs.declared.command.Command.{Command}
 use Rattle.kf_core.specs.declared.command.Command.TheVariants.{Doom, Unlink}
 use Rattle.kf_core.specs.declared.records.Record.{Record}
-use Rattle.kf_core.specs.declared.slot.Marks.{Marks}
+use Rattle.kf_core.specs.declared.slot.NodeFlags.{NodeFlags}
 use Rattle.kf_core.specs.Marks.{live_marks}
 use Rattle.kf_core.specs.Commands.{replay, root_alone}
 use Rattle.kf_core.specs.Lawful.{Lawful}
@@ -69,7 +69,7 @@ unlinked = create first_key ∷ Doom first_key ∷ Unlink first_key ∷ []
 abbrev made_again : List Command
 made_again = create first_key ∷ Doom first_key ∷ Unlink first_key ∷ create next_key ∷ []
 
-is_dir : (generation : ℕ) (marks : Marks) (r : Record) → Some (dir_of generation marks) ≡ Some r → r.node ≡ Dir
+is_dir : (generation : ℕ) (marks : NodeFlags) (r : Record) → Some (dir_of generation marks) ≡ Some r → r.node ≡ Dir
 is_dir generation marks r e = ap (λ (x : Record). x.node) (sym (same_Some (dir_of generation marks) r e))
 
 module _ (table : TableId) where
@@ -86,7 +86,7 @@ module _ (table : TableId) where
     claims = claims;
   }
 
-  -- the lock is free over it, where its parts go with one another
+  -- the lock is free over it, if its parts go with one another
   free_over : (steps : List StepKind) (u : Table) (o : Option Record) (commands : List Command) (claims : List ℕ) → Lawful (tree_with o) root_key → tree_with o ≡ replay (root_alone 2 root_key) commands
       → SameMarks (master_in u.views).slots (tree_with o) → HasNodes two_nodes (tree_with o) → length (master_in u.views).slots ≡ 2 → length claims ≡ 2
       → IsNoted (locked steps u o commands claims).state claims (notes_of steps) → IsFreeLock u (locked steps u o commands claims)

@@ -1,5 +1,5 @@
--- The trees of a node's life: the root alone, and the root with one directory. Each is lawful, and goes with the
--- slots of the words.
+-- The trees of a node's life: only the root, and the root with one directory. Each is lawful, and goes with
+-- the slots of the words.
 use Rattle.std.proofs.Common.{◌≡◌, ◌⊎◌, inl, inr, ℕ, zero, suc, Bool, true, false, cond, List, [], ◌∷◌, refl, sym, ap, ◌∙◌, subst, ⊎_elim, arith, eqb}
 use Rattle.std.specs.Prelude.{Option, None, Some, slice_get, count_by, is_some}
 use Rattle.std.specs.Option.{option_map, option_and_then}
@@ -9,7 +9,7 @@ use Rattle.kf_core.specs.declared.key.Key.{Key}
 use Rattle.kf_core.specs.declared.key.Node.{Node}
 use Rattle.kf_core.specs.declared.key.Node.TheVariants.{Dir}
 use Rattle.kf_core.specs.declared.records.Record.{Record}
-use Rattle.kf_core.specs.declared.slot.Marks.{Marks}
+use Rattle.kf_core.specs.declared.slot.NodeFlags.{NodeFlags}
 use Rattle.kf_core.specs.declared.slot.SlotState.{SlotState}
 use Rattle.kf_core.specs.Marks.{live_marks}
 use Rattle.kf_core.specs.Tree.{Tree, parent_of, climb, ancestor, marks_of}
@@ -24,7 +24,7 @@ abbrev pub root : Record
 root = root_record root_key
 
 -- the directory of a generation of slot 1, with these marks
-abbrev pub dir_of : ℕ → Marks → Record
+abbrev pub dir_of : ℕ → NodeFlags → Record
 dir_of generation marks = record {
   key = record { slot = 1; generation = generation };
   parent = Some root_key;
@@ -39,7 +39,7 @@ abbrev pub tree_with : Option Record → Tree
 tree_with o = Some root ∷ o ∷ []
 
 -- the slots of the words, by the last generation of the second, and the marks of its node
-abbrev pub slots_with : ℕ → Option Marks → List SlotState
+abbrev pub slots_with : ℕ → Option NodeFlags → List SlotState
 slots_with generation marks =
     record { generation = 1; marks = Some live_marks } ∷ record { generation = generation; marks = marks } ∷ []
 
@@ -68,7 +68,7 @@ lawful_alone = record {
         (λ (b : (slot ≡ 1) × (None ≡ Some r)). absurd (none-some r b.1))
         (which None slot r h)
 
-module _ (generation : ℕ) (marks : Marks) where
+module _ (generation : ℕ) (marks : NodeFlags) where
   abbrev dir : Record
   dir = dir_of generation marks
 
@@ -132,12 +132,12 @@ module _ (generation : ℕ) (marks : Marks) where
         (its r.key.slot r h);
   }
 
--- the marks of a record, where it is chosen
+-- the marks of a record, if it is chosen
 chosen : (b : Bool) (r : Record) → cond b (Some r.marks) None ≡ option_map (λ (x : Record). x.marks) (cond b (Some r) None)
 chosen true r = refl
 chosen false r = refl
 
-none_chosen : (b : Bool) → cond b (let o : Option Marks = None in o) None ≡ None
+none_chosen : (b : Bool) → cond b (let o : Option NodeFlags = None in o) None ≡ None
 none_chosen true = refl
 none_chosen false = refl
 
@@ -152,7 +152,7 @@ same_alone generation key = go key.slot key.generation
     go (suc zero) g = none_chosen (eqb generation g)
     go (suc (suc slot)) g = refl
 
-pub same_with : (generation : ℕ) (marks : Marks) → SameMarks (slots_with generation (Some marks)) (tree_with (Some (dir_of generation marks)))
+pub same_with : (generation : ℕ) (marks : NodeFlags) → SameMarks (slots_with generation (Some marks)) (tree_with (Some (dir_of generation marks)))
 same_with generation marks key = go key.slot key.generation
   where
     go : (slot g : ℕ) → marks_at (slots_with generation (Some marks)) (the_key slot g) ≡ marks_of (tree_with (Some (dir_of generation marks))) (the_key slot g)

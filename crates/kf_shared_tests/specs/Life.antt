@@ -1,11 +1,11 @@
--- The life of a node as tree and words tell it together: at each moment that is named the tree lock is free.
+-- The life of a node as tree and words say it together: at each moment that is named the tree lock is free.
 use Rattle.std.specs.Prelude.{◌≡◌, true, List, [], ◌∷◌, ◌++◌, Option, None, Some}
 use Rattle.kf_core.specs.declared.key.Key.{Key}
 use Rattle.kf_core.specs.declared.key.Node.TheVariants.{Dir}
 use Rattle.kf_core.specs.declared.command.Command.{Command}
 use Rattle.kf_core.specs.declared.command.Command.TheVariants.{Create, Doom, Unlink}
 use Rattle.kf_core.specs.declared.caller.Phase.TheVariants.{Running, Drained, Parted}
-use Rattle.kf_core.specs.declared.slot.Marks.{Marks}
+use Rattle.kf_core.specs.declared.slot.NodeFlags.{NodeFlags}
 use Rattle.kf_core.specs.Bare.{IsCaller, IsLast}
 use Rattle.kf_core.specs.Marks.{live_marks}
 use Rattle.kf_core.specs.Tree.{marks_of}
@@ -74,7 +74,8 @@ until_again = until_parted ++ next_steps
 
 -- a moment after these steps from the opening of two slots: the rule of the words is met, and the lock is
 -- free. Its Master has seen all the steps, and its tree has the key with these marks, or has it not
-pub record Moment (table : TableId) (steps : List StepKind) (key : Key) (marks : Option Marks) : Type 0 where
+pub record Moment (table : TableId) (steps : List StepKind) (key : Key)
+    (marks : Option NodeFlags) : Type 0 where
   pub words : Table
   pub locked : Locked
   pub run : WordRun (opened_as life_opening) steps words
@@ -85,7 +86,7 @@ pub record Moment (table : TableId) (steps : List StepKind) (key : Key) (marks :
   pub marks_are : marks_of locked.state.tree key ≡ marks
 
 -- the marks of a node that was activated and is doomed
-abbrev pub marked_marks : Marks
+abbrev pub marked_marks : NodeFlags
 marked_marks = with_marks_of true true
 
 -- the moments of the life, each after the one above it
@@ -101,7 +102,7 @@ pub record NodeLife (table : TableId) : Type 0 where
   pub drained : Moment table until_drained first_key (Some marked_marks)
   pub drains : WordRun marked.words drain_steps drained.words
   pub receipt : IsCaller (world drained.words) 1 first_key Drained
-  -- the receipt is parted, and the tree has the node no more
+  -- the receipt is parted, and the tree no longer has the node
   pub parted : Moment table until_parted first_key None
   pub parts : WordRun drained.words part_steps parted.words
   pub gone : IsCaller (world parted.words) 1 first_key Parted

@@ -62,7 +62,7 @@ pub(crate) fn create<N: Naming, R: Wait>(rt: &R, tree: &SharedTree<N>, dir: Key)
     false
 }
 
-/// Hides the file once, and shows it again. What refused it is told, but for another who hides it.
+/// Hides the file once, and shows it again. What refused it is returned, except for another that hides it.
 fn hide_once<N: Naming, R: Wait>(rt: &R, tree: &SharedTree<N>, key: Key) -> Option<Refusal> {
     let hold = match tree.edit(rt).hold(key) {
         Ok(hold) => hold,
@@ -84,7 +84,7 @@ fn hide_once<N: Naming, R: Wait>(rt: &R, tree: &SharedTree<N>, key: Key) -> Opti
     }
 }
 
-/// Hides and shows by turns until it is refused, but for a file that another has hidden.
+/// Hides and shows by turns until it is refused, except for a file that another has hidden.
 pub(crate) fn hide_on<N: Naming, R: Wait>(rt: &R, tree: &SharedTree<N>, key: Key) -> bool {
     for _ in 0..LOOKS {
         if let Some(refusal) = hide_once(rt, tree, key) {

@@ -1,5 +1,4 @@
-//! What the tests of the shared tree build on: each helper stops the test where its call does not answer as
-//! asked.
+//! Helpers of the tests of the shared tree. Each stops the test if its call does not return what it must.
 ghost use Rattle.std.specs.Prelude.{◌≡◌};
 ghost use Rattle.kf_core.specs.declared.caller.Phase.TheVariants as phase_of;
 ghost use Rattle.kf_words.specs.Callers.{IsSameSeat};
@@ -30,7 +29,18 @@ pub(crate) fn made<R: Abort>(rt: &R, alloc: Global, holds: u32) -> NewTree {
     }
 }
 
-// ---- commands, each under the lock of its own
+/// The same without words for look-ups, and with generations that need all 32 bits.
+pub(crate) fn made_late<R: Abort>(rt: &R, alloc: Global, holds: u32) -> NewTree {
+    let Some(limits) = Limits::new(SLOTS, holds) else {
+        panic!(rt; "no such limits")
+    };
+    match SharedTree::new_at(alloc, limits, 4_294_960_000) {
+        Ok(tree) => tree,
+        Err(_) => panic!(rt; "no memory"),
+    }
+}
+
+// ---- commands, each of which takes the lock
 
 /// A node at a path, whose directory is there.
 pub(crate) fn add<N: Naming, R: Abort + Wait>(

@@ -16,7 +16,7 @@ pub(crate) fn looker_of<N: Naming, R: Abort + Wait>(rt: &R, tree: &SharedTree<N>
     }
 }
 
-/// A maker of the tree's holds, by one of its root.
+/// A maker of the tree's holds, by a hold of its root.
 pub(crate) fn maker<N: Naming, R: Abort + Wait>(
     rt: &R,
     alloc: Global,
@@ -47,7 +47,7 @@ fn holds<R: Abort>(rt: &R, looker: &mut Looker, by: &mut Holds, path: &[u8], key
     }
 }
 
-/// Who asks is sent to the lock, each time.
+/// A caller that asks is sent to the lock, each time.
 fn is_sent<R: Abort>(rt: &R, looker: &mut Looker, by: &mut Holds, path: &[u8]) {
     for _ in 0..3 {
         if let Some(held) = hold_path(looker, by, path) {
@@ -118,7 +118,7 @@ fn file_of(tag: u64) -> Node {
     Node::File { mode: 0o644, tag }
 }
 
-/// Makes a file of each tag and removes it, but for the last.
+/// Makes a file of each tag and removes it, except for the last.
 pub(crate) fn change<N: Naming, R: Abort + Wait>(rt: &R, tree: &SharedTree<N>) {
     for tag in 1..LAST {
         let _key = add(rt, tree, b"/t/f", file_of(tag), true);

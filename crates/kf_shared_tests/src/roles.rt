@@ -23,7 +23,7 @@ use std::time::Clock;
 pub(crate) struct Counts {
     /// Those who begin.
     pub(crate) begun: AtomicU64,
-    /// Removals, finishes and hidings that answered.
+    /// Removals, finishes and hidings that returned.
     pub(crate) answered: AtomicU64,
     /// Self-removals that were the first of their node, and hidings that were accepted.
     pub(crate) first: AtomicU64,
@@ -139,7 +139,7 @@ fn remove_itself<N: Naming, R: Wait>(
     }
 }
 
-/// Hides, and shows once another has answered too.
+/// Hides, and shows once another has returned too.
 fn hide_once<N: Naming, R: Wait>(
     rt: &R,
     tree: &SharedTree<N>,
@@ -202,7 +202,7 @@ pub(crate) fn act<N: Naming, R: Abort + Wait + Clock>(
     }
 }
 
-/// The role in its place, acted. It counts itself where it found all as it had to be.
+/// The role in its place, acted. It counts itself if it found all as it had to be.
 pub(crate) fn act_in<N: Naming, R: Abort + Wait + Clock>(
     rt: &R,
     tree: &SharedTree<N>,

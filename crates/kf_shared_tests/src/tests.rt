@@ -3,7 +3,7 @@
 ghost use Rattle.std.specs.Prelude.{◌≡◌};
 
 use crate::crowd::every_slot_is_free;
-use crate::fixtures::{FILE, add, commands, hold, is_bare, made};
+use crate::fixtures::{FILE, add, commands, hold, is_bare, made, made_late};
 use crate::lookers::{looker_of, maker};
 use crate::refused::refused_below;
 use crate::roles::{Counts, Inside, Role, act, act_in, call_of, held_by, hold_of};
@@ -18,7 +18,7 @@ use std::sync::atomic::{AtomicU64, Ordering};
 use std::thread::{Threads, for_each_mut};
 use std::time::Clock;
 
-/// Who is there, over a tree that is made for them.
+/// The threads of a test, over a tree that is made for them.
 #[derive(Clone, Copy)]
 enum Course {
     /// Four who remove, by themselves or not, one who calls, one who creates, and two who hide.
@@ -234,9 +234,10 @@ fn all_good<N: Naming, R: Abort + Wait + Clock>(
     roles.destroy_empty();
 }
 
-/// What is left is removed, and leaves a bare tree with free slots, where each command is stored.
+/// What is left is removed. The tree is bare then, its slots are free, and it has stored each command.
 fn leaves_nothing<N: Naming, R: Abort + Wait>(rt: &R, tree: &SharedTree<N>) {
-    if let Ok(receipts) = tree.edit(rt).remove_path(rt, b"/t") {
+    let root = tree.read(rt).state().root();
+    if let Ok(receipts) = tree.edit(rt).remove_name(rt, root, b"t") {
         release_all(receipts);
     }
     assert!(rt; is_bare(rt, tree));
@@ -244,7 +245,7 @@ fn leaves_nothing<N: Naming, R: Abort + Wait>(rt: &R, tree: &SharedTree<N>) {
     assert!(rt; commands(rt, tree) >= 31, "an edit alone changes nothing");
 }
 
-/// One course. It answers how many were the first.
+/// Runs one course. Returns how many were the first.
 fn run<N: Naming + Send + Sync, R: Abort + Threads + Wait + Clock + Sync>(
     rt: &R,
     alloc: Global,
@@ -306,5 +307,5 @@ fn run_alone<N: Naming, R: Abort + Wait>(rt: &R, new: NewTree)
 
 #[test]
 fn removals_that_are_refused(rt: HostRuntime) {
-    run_alone::<Brand, _>(&rt, made(&rt, rt.alloc(), 2));
+    run_alone::<Brand, _>(&rt, made_late(&rt, rt.alloc(), 2));
 }

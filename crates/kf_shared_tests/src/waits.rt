@@ -13,7 +13,7 @@ use std::time::{Clock, Duration};
 
 pub(crate) const LOOKS: u64 = 1_000_000_000;
 
-/// Waits until so many threads have counted themselves, and answers whether they did.
+/// Waits until this many threads have counted themselves, and returns whether they did.
 pub(crate) fn wait_for(count: u64, counter: &AtomicU64) -> bool {
     for _ in 0..LOOKS {
         if counter.load(Ordering::SeqCst) >= count {
@@ -23,7 +23,7 @@ pub(crate) fn wait_for(count: u64, counter: &AtomicU64) -> bool {
     false
 }
 
-/// Whether nobody has counted itself in so many looks.
+/// Whether nobody has counted itself in this many looks.
 fn stays_zero(looks: u64, counter: &AtomicU64) -> bool {
     for _ in 0..looks {
         if counter.load(Ordering::SeqCst) != 0 {
@@ -33,7 +33,7 @@ fn stays_zero(looks: u64, counter: &AtomicU64) -> bool {
     true
 }
 
-/// Waits until the node is doomed or gone, and answers whether it is doomed.
+/// Waits until the node is doomed or gone, and returns whether it is doomed.
 fn wait_for_mark<N: Naming, R: Wait>(rt: &R, tree: &SharedTree<N>, key: Key) -> bool {
     for _ in 0..100_000_000u64 {
         match tree.read(rt).state().stat(key) {
@@ -45,7 +45,7 @@ fn wait_for_mark<N: Naming, R: Wait>(rt: &R, tree: &SharedTree<N>, key: Key) -> 
     false
 }
 
-/// Ends the call that a removal waits for. True where the removal did not answer before, and did after.
+/// Ends the call that a removal waits for. True if the removal did not return before, and did after.
 pub(crate) fn end_call<N: Naming, R: Wait>(
     rt: &R,
     tree: &SharedTree<N>,
@@ -74,7 +74,7 @@ fn leave(mut call: Call) {
     }
 }
 
-/// Lets the finish begin while the lock is held, and restores the call before the lock is let go: the finish
+/// Lets the finish begin while the lock is held, and restores the call before the unlock: the finish
 /// has seen the node drained by then, and its unlink finds the node in use.
 fn restored_under_the_lock<N: Naming, R: Wait + Clock>(
     rt: &R,
@@ -91,7 +91,7 @@ fn restored_under_the_lock<N: Naming, R: Wait + Clock>(
     call
 }
 
-/// Restores the call under the lock, looks whether the finish answers, and ends the call.
+/// Restores the call under the lock, looks whether the finish returns, and ends the call.
 pub(crate) fn restore_and_end<N: Naming, R: Wait + Clock>(
     rt: &R,
     tree: &SharedTree<N>,
@@ -151,7 +151,7 @@ fn is_unused(hold: Hold) -> bool {
 }
 
 /// Has the lock as often as it can until the node is gone, and looks then whether the call of its
-/// self-removal has its reference again, twice under one lock. True where both looks find the same.
+/// self-removal has its reference again, twice under one lock. True if both looks find the same.
 pub(crate) fn same_under_the_lock<N: Naming, R: Wait + Clock>(
     rt: &R,
     tree: &SharedTree<N>,

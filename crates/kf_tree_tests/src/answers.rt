@@ -1,4 +1,4 @@
-//! How each test ends: it tells the place of its first wrong answer, and there is none.
+//! How each test ends: it has the place of its first wrong result, and there is none.
 
 use kf_core::Refusal;
 use std::process::Abort;

@@ -1,4 +1,4 @@
-//! The memory of an index after each of many changes. No clause tells that it follows the length where memory
+//! The memory of an index after each of many changes. No clause says that it follows the length if memory
 //! is there.
 
 use crate::answers::all_right;

@@ -1,6 +1,6 @@
-//! What the tests of the words build on: each helper stops the test where its call does not answer as asked.
+//! What the tests of the words build on: each helper stops the test if its call does not return as asked.
 
-use kf_core::{Key, Limits, Marks, Node};
+use kf_core::{Key, Limits, Node, NodeFlags};
 use kf_words::{Call, Hiding, Hold, Master, Words};
 use std::alloc::Global;
 use std::process::Abort;
@@ -36,7 +36,7 @@ pub(crate) fn born<R: Abort>(rt: &R, master: &mut Master) -> Key {
 pub(crate) fn activate<R: Abort>(rt: &R, master: &mut Master, key: Key) {
     match master.marks(key) {
         Some(
-            Marks {
+            NodeFlags {
                 activated: false,
                 doomed: false,
             },
@@ -48,7 +48,7 @@ pub(crate) fn activate<R: Abort>(rt: &R, master: &mut Master, key: Key) {
 pub(crate) fn doom<R: Abort>(rt: &R, master: &mut Master, key: Key) {
     match master.marks(key) {
         Some(
-            Marks {
+            NodeFlags {
                 activated: _,
                 doomed: false,
             },

@@ -39,7 +39,7 @@ pub(crate) enum Mark {
     AfterTheCall,
 }
 
-/// Who is there beside the one who ends all, and what that one does.
+/// Who is there beside the one that ends all, and what that one does.
 #[derive(Clone, Copy)]
 pub(crate) struct Course {
     /// Those who wait for the drain.
@@ -110,7 +110,7 @@ fn linger(looks: u64, counter: &AtomicU64) {
 
 // ---- those who try, and those who hide and show
 
-/// One try, and the end of the call where there is one.
+/// One try, and the end of the call if there is one.
 fn in_and_out(hold: Hold, counts: &Counts) -> Hold {
     counts.tries.fetch_add(1, Ordering::SeqCst);
     match hold.enter() {
@@ -124,7 +124,7 @@ fn in_and_out(hold: Hold, counts: &Counts) -> Hold {
     }
 }
 
-/// Tries until so many are done.
+/// Tries until this many are done.
 fn try_on(until: u64, first: Hold, counts: &Counts) -> Hold {
     let mut hold = first;
     for _ in 0..1_000_000_000u64 {
@@ -146,7 +146,7 @@ fn look_while_hidden(counts: &Counts) {
     }
 }
 
-/// Hides and shows once, where no other hides. Before it does a call comes through.
+/// Hides and shows once, if no other hides. Before it does a call comes through.
 fn hide_and_show<R: Wait + Clock>(rt: &R, hold: Hold, counts: &Counts) -> Hold {
     let calls = counts.calls.load(Ordering::SeqCst);
     comes(rt, calls.saturating_add(1), &counts.calls);
@@ -191,7 +191,7 @@ fn they_sleep<R: Clock + CpuClock>(rt: &R) -> bool {
     }
 }
 
-/// Ends the call. Where `breaks` says so it breaks its protection first, and answers whether so many came
+/// Ends the call. If `breaks` is set it breaks its protection first, and returns whether this many came
 /// through before it ends.
 fn end_call<R: Clock>(
     rt: &R,
@@ -220,7 +220,7 @@ fn end_call<R: Clock>(
     enough
 }
 
-/// Where not so many came through: frees them by refused tries, each of which wakes all as it is undone.
+/// If not this many came through: frees them by refused tries, each of which wakes all as it is undone.
 fn free_the_rest(first: Hold, count: u64, through: &AtomicU64) -> Hold {
     let mut hold = first;
     for _ in 0..1_000_000u32 {

@@ -69,7 +69,7 @@ const AMONG_TRIES: Course = Course {
     ..MARKED
 };
 
-/// One begins to wait where nobody is, and may fall asleep just as the node is marked. The mark wakes nobody:
+/// One begins to wait if nobody is, and may fall asleep just as the node is marked. The mark wakes nobody:
 /// so the sleep ends by itself.
 const NAP: Course = Course {
     drain: 1,
@@ -158,7 +158,7 @@ fn give_all_back<R: Abort + Wait + Clock>(rt: &R, mut roles: Vec<Option<Role>>) 
     roles.destroy_empty();
 }
 
-/// One course on a live node. It answers what was counted.
+/// One course on a live node. It returns what was counted.
 fn run<R: Abort + Threads + Wait + Clock + CpuClock + Sync>(
     rt: &R,
     alloc: Global,

@@ -1,4 +1,4 @@
-//! Runs that no script of the program can show: callbacks that wait, texts that are let go, few holds.
+//! Runs that no script can show: callbacks that wait, texts that are dropped, few holds.
 
 use crate::waiting::new_waiting;
 use kf_core::Limits;
@@ -8,7 +8,7 @@ use std::sync::Wait;
 use std::sync::atomic::Ordering;
 use std::thread::Threads;
 
-/// A script, on a tree of so many slots and holds of each node, and its replies.
+/// A script, on a tree of this many slots and holds of each node, and its replies.
 #[derive(Clone, Copy)]
 struct Run {
     slots: u32,
@@ -16,12 +16,12 @@ struct Run {
     workers: u32,
     script: &'static [u8],
     replies: &'static [u8],
-    /// How many texts are begun, and how many of them are let go.
+    /// How many texts are begun, and how many of them are dropped.
     texts: (u64, u64),
 }
 
-/// A `stat` is answered while a removal waits for a show, as of a file that is being removed. Who runs one
-/// worker after the other never ends it well.
+/// A `stat` gets its reply while a removal waits for a show, as for a file that is being removed. A thread
+/// that runs one worker after the other never ends it well.
 const REMOVED: Run = Run {
     slots: 16,
     holds: 100,

@@ -15,7 +15,7 @@ pub(crate) struct Waiting {
     told: AtomicU64,
     /// How many texts were begun.
     pub(crate) begun: AtomicU64,
-    /// How many of them were let go: an empty text took their place.
+    /// How many of them were dropped: an empty text took their place.
     pub(crate) let_go: AtomicU64,
 }
 
@@ -28,7 +28,7 @@ pub(crate) fn new_waiting() -> Waiting {
     }
 }
 
-/// Turns until so many are counted there. Fault 16 where they are not for long.
+/// Turns until this many are counted there. Fault 16 if they are not for long.
 fn turn_until(count: u64, counter: &AtomicU64) -> Result<(), Fault> {
     for _ in 0..1_000_000_000u64 {
         if counter.load(Ordering::SeqCst) >= count {
@@ -38,7 +38,7 @@ fn turn_until(count: u64, counter: &AtomicU64) -> Result<(), Fault> {
     Err(Fault { number: 16 })
 }
 
-/// Turns until the removal of `/x` has begun. Fault 16 where none does for long.
+/// Turns until the removal of `/x` has begun. Fault 16 if none does for long.
 fn turn_until_doomed<N: Naming, R: Wait>(rt: &R, tree: &SharedTree<N>) -> Result<(), Fault> {
     for _ in 0..1_000_000_000u64 {
         if tree.read(rt).state().lookup(b"/x").is_err() {
@@ -69,7 +69,7 @@ impl ScriptOps for Waiting {
         Ok(())
     }
 
-    /// A store of `inside` turns until another is inside, one of `sixteen` until so many are, and one of
+    /// A store of `inside` turns until another is inside, one of `sixteen` until this many are, and one of
     /// `doomed` until the file `/x` is no live node any more.
     fn store<N: Naming, R: Wait>(
         &self,

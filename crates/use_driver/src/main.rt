@@ -72,7 +72,7 @@ impl<R: Wait> Callbacks for Label<'_, R> {
     }
 }
 
-/// Reads until the device is gone, and answers how many texts were no temperature.
+/// Reads until the device is gone, and returns how many texts were no temperature.
 fn reads<N: Naming, T: DriverTable, R: Wait>(
     rt: &R,
     tree: &SharedTree<N>,

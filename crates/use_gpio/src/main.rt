@@ -62,7 +62,7 @@ impl<R: Wait> BinaryCallbacks for Config<'_, R> {
     }
 }
 
-/// Waits for changes until the chip is gone, and answers whether each text was a level.
+/// Waits for changes until the chip is gone, and returns whether each text was a level.
 fn waits<N: Naming, T: DriverTable, R: Wait>(
     rt: &R,
     tree: &SharedTree<N>,

@@ -45,7 +45,7 @@ fn delete<N: Naming, R: Wait>(
 {
     let mut editor = tree.edit(rt);
     let key: Key = editor.state().lookup(path)?;
-    // there are event numbers for so many slots
+    // there are event numbers for this many slots
     if key.slot >= SLOTS {
         return Err(Refusal::NoSpace);
     }

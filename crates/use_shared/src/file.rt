@@ -1,4 +1,4 @@
-//! An open file with callbacks of one's own: the attribute `limit` of a fan is a number, which a read shows
+//! An open file with your own callbacks: the attribute `limit` of a fan is a number, which a read shows
 //! in decimal and a write replaces.
 
 ghost use Rattle.std.specs.Prelude.{◌≡◌, Ok, decimal};
@@ -15,7 +15,7 @@ use std::io;
 use std::marker::Brand;
 use std::sync::Wait;
 
-/// What a store of no number answers (`EINVAL`).
+/// What a store of no number returns (`EINVAL`).
 const NO_NUMBER: Fault = Fault { number: 22 };
 
 /// What the driver keeps: the number that its attribute shows.
@@ -38,7 +38,7 @@ impl Ops<Call> for FanDriver {
         Ok(())
     }
 
-    /// Takes the number, where the bytes spell one.
+    /// Takes the number, if the bytes spell one.
     fn store(&mut self, call: &mut Call, tag: u64, bytes: &[u8]) -> Result<usize, Fault> {
         let _ = call;
         let _ = tag;

@@ -1,5 +1,5 @@
 //! Removal among threads: a reader uses an attribute again and again until it is refused, while its directory
-//! is removed. When `remove` has answered, no reader is inside and none comes in any more.
+//! is removed. When `remove` has returned, no reader is inside and none comes in any longer.
 
 ghost use Rattle.std.specs.Prelude.{◌≡◌};
 
@@ -48,7 +48,7 @@ fn read_until_refused<N: Naming, R: Wait>(
     unreachable!()
 }
 
-/// Removes the directory once the reader has been inside, and answers how many nodes went.
+/// Removes the directory once the reader has been inside, and returns how many nodes went.
 fn remove_under_use<N: Naming, R: Wait>(
     rt: &R,
     tree: &SharedTree<N>,

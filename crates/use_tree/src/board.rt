@@ -1,4 +1,4 @@
-//! A script over a board of one's own: it keeps no tree, makes nodes up and counts what it was asked.
+//! A script over your own board: it keeps no tree, makes nodes up and counts what it was asked.
 
 ghost use Rattle.std.specs.Prelude.{◌≤◌};
 

@@ -1,4 +1,4 @@
-//! Two uses without threads, a file each: the plain tree of one owner, and scripts over a board of one's own.
+//! Two uses without threads, a file each: the plain tree of one owner, and scripts over your own board.
 #![tactic(auto)]
 
 mod board;

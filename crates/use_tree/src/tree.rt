@@ -11,8 +11,8 @@ const ROOT: Key = Key {
     generation: 1,
 };
 
-/// A fan comes, which has come so many times before: its attribute is live at once. `create` asks that the
-/// key's slot is vacant.
+/// A fan comes, which has come `times` times before. Its attribute is live at once. `create` needs a key whose
+/// slot is vacant.
 fn come(state: &mut State, name: &[u8], fan: u32, times: u32) -> Result<Key, Refusal> {
     let slot = 1 + fan % 8;
     if !state.is_vacant(slot) {
@@ -47,10 +47,13 @@ fn two_come(rt: &impl Print, state: &mut State) -> anyhow::Result<Key> {
     Ok(fan1)
 }
 
-/// A fan goes and comes again, under a new key.
+/// A fan goes and comes again, under a new key of the same slot.
 fn come_again(rt: &impl Print, state: &mut State, fan1: Key) -> anyhow::Result<()> {
     go(state, fan1)?;
-    let again = come(state, b"fan1", 1, 1)?;
+    come(state, b"fan1", 1, 1)?;
+    let again = state
+        .key_in(fan1.slot)
+        .context("the fan is in its slot again")?;
     println!(rt; "fan1 came again as {}.{}", again.slot, again.generation)?;
     Ok(())
 }

@@ -15,7 +15,7 @@ use std::sync::Wait;
 const FAULT: FileError = FileError::Callback(Fault { number: 5 });
 
 /// A show that faults leaves no text, and a store that faults leaves it. A callback that takes or gives less
-/// than there is is told so, and not called again for the rest.
+/// than there is says so, and is not called again for the rest.
 const FAULTS: [Step; 15] = [
     Step::Polls(true),
     Step::Gives(Plan::Shows(b"abcd"), 0, b"abcd", 1),

@@ -10,12 +10,12 @@ use kf_words::Call;
 use std::sync::Wait;
 use std::sync::atomic::{AtomicU64, Ordering};
 
-/// What callbacks do and answer. Each takes and gives all bytes but where it is said.
+/// What callbacks do and return. Each takes and gives all bytes unless something else is said.
 #[derive(Clone, Copy)]
 pub(crate) enum Plan {
     /// A show fills its page with this.
     Shows(&'static [u8]),
-    /// A store answers this number, and a read of bytes too, where there is room.
+    /// A store returns this number, and a read of bytes too, if there is room.
     Takes(usize),
     /// All fault with this number, a show once it has filled something.
     Faults(u16),
@@ -50,7 +50,7 @@ fn removes_itself<N: Naming, R: Wait>(rt: &R, tree: &SharedTree<N>, call: &mut C
 }
 
 impl Driver {
-    // What a callback that is given or asked for so many bytes answers.
+    // What a callback that is given or asked for this many bytes returns.
     fn answers(&self, count: usize) -> Result<usize, Fault> {
         match self.plan {
             Plan::Faults(number) => Err(Fault { number }),

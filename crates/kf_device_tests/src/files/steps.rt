@@ -1,4 +1,4 @@
-//! Reads and writes of `/t` one after another, each by callbacks of its own, and what each must answer.
+//! Reads and writes of `/t` one after another, each with its own callbacks, and what each must return.
 
 use super::driver::{Driver, Plan, driver_of};
 use crate::fixtures::count_of;
@@ -9,11 +9,11 @@ use std::sync::Wait;
 
 #[derive(Clone, Copy)]
 pub(crate) enum Step {
-    /// A read of 9 bytes at the offset gives these, and makes so many calls.
+    /// A read of 9 bytes at the offset gives these, and makes this many calls.
     Gives(Plan, u64, &'static [u8], u64),
     /// Why a read at offset 0 fails, and how many calls it makes.
     Fails(Plan, FileError, u64),
-    /// What a write of these bytes is answered by, and how many calls it makes.
+    /// What a write of these bytes returns, and how many calls it makes.
     Writes(Plan, &'static [u8], Result<usize, FileError>, u64),
     /// The same of a read of 9 bytes of a binary attribute.
     ReadsAt(Plan, Result<usize, FileError>, u64),
@@ -37,7 +37,7 @@ fn gives<N: Naming, R: Wait>(
     }
 }
 
-/// Whether what the step asks for is answered as it must be, and by how many calls, where there may be some.
+/// Whether the step returns what it must, by as many calls as it may make, if it may make some.
 fn is_right<N: Naming, R: Wait>(
     rt: &R,
     tree: &SharedTree<N>,
@@ -62,7 +62,7 @@ fn is_right<N: Naming, R: Wait>(
     is_answered && count_of(&driver.calls) == calls
 }
 
-/// Takes the steps. The first whose answer is not as it must be stops the test.
+/// Takes the steps. The first that returns something else than it must stops the test.
 pub(crate) fn walk<N: Naming, R: Abort + Wait>(
     rt: &R,
     tree: &SharedTree<N>,

@@ -86,7 +86,7 @@ fn reads<N: Naming, R: Wait>(rt: &R, tree: &SharedTree<N>, file: &mut WaitingFil
 
 // ---- one thread
 
-/// A call on a file of slot 1, or on a post of it, and what it must answer. A wait has a limit of 2 ms.
+/// A call on a file of slot 1, or on a post of it, and what it must return. A wait has a limit of 2 ms.
 #[derive(Clone, Copy)]
 enum Step {
     Reads,
@@ -133,7 +133,7 @@ fn is_right<N: Naming, R: Wait + Clock>(
     }
 }
 
-/// Takes the steps. The first whose answer is not as it must be stops the test.
+/// Takes the steps. The first that returns something else than it must stops the test.
 fn walk<N: Naming, R: Abort + Wait + Clock>(rt: &R, alloc: Global, tree: &SharedTree<N>) {
     let mut posts = posts_of(rt, alloc);
     let mut post = post_at(rt, &mut posts, 1);
@@ -254,7 +254,7 @@ fn readers_of<R: Abort>(rt: &R, alloc: Global) -> Vec<Reader> {
     readers
 }
 
-/// All five see each change. (They wait for ever where one is not woken.)
+/// All five see each change. (They wait for ever if one is not woken.)
 fn all_see<N: Naming + Send + Sync, R: Abort + Threads + Wait + Clock + CpuClock + Sync>(
     rt: &R,
     alloc: Global,

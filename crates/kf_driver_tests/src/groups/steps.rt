@@ -1,4 +1,4 @@
-//! Steps with groups: a call each, and what it must answer.
+//! Steps with groups: a call each, and what it must return.
 
 use kf_core::{Key, Refusal};
 use kf_groups::{Group, create_group, create_groups, remove_group, remove_groups};
@@ -63,7 +63,7 @@ fn is_right<N: Naming, R: Wait>(rt: &R, alloc: Global, tree: &SharedTree<N>, ste
     }
 }
 
-/// Takes the steps. The first whose answer is not as it must be stops the test.
+/// Takes the steps. The first that does not find what it must stops the test.
 pub(crate) fn walk<N: Naming, R: Abort + Wait>(
     rt: &R,
     alloc: Global,

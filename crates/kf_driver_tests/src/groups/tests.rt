@@ -1,5 +1,5 @@
-//! Groups that are made in a directory below the root, where the root has others of the same names, that are
-//! taken back, and that are removed.
+//! Groups that are made in a directory below the root, taken back, and removed. The root has others of the
+//! same names.
 ghost use Rattle.std.specs.Prelude.{◌≡◌};
 
 use super::steps::{Step, walk};
@@ -75,9 +75,9 @@ const THREE: Group<'static> = Group {
     attributes: &[A, B, C],
 };
 
-/// In the root's directory are a group of each kind. Where slots lack, nothing stays of what was made, as
-/// often as it is tried, so that both groups have room in `/d`. The removal of a group of which one file may
-/// not be held ends there. What is not there is passed over, but for the directory of one group.
+/// The root's directory has a group of each kind. If slots lack, nothing stays of what was made, however often
+/// it is tried, so both groups have room in `/d`. The removal of a group ends at a file that may not be held.
+/// It passes over what is not there, except the directory of a single group.
 static STEPS: [Step; 38] = [
     Step::Make(ROOT, OF_D, None),
     Step::Make(ROOT, OWN, None),

@@ -33,8 +33,8 @@ fn is_waited_for<N: Naming, R: Wait>(
     looks > 10_000 && count.load(Ordering::SeqCst) == 1
 }
 
-/// Has a call on the live file of this path, counts itself, and leaves after the removal has begun. Whether
-/// that has not answered before.
+/// Has a call on the live file of this path, counts itself, and leaves after the removal has begun. Returns
+/// whether the removal had not returned before.
 fn calls<N: Naming, R: Wait>(
     rt: &R,
     tree: &SharedTree<N>,
@@ -75,7 +75,7 @@ fn removes<N: Naming, R: Wait>(
     told
 }
 
-/// The removal of a group answers once the call on the file of this path has ended, and the file is gone.
+/// The removal of a group returns once the call on the file of this path has ended, and the file is gone.
 fn waits<N: Naming + Send + Sync, R: Abort + Threads + Wait + Sync>(
     rt: &R,
     alloc: Global,

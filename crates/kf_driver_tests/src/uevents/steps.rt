@@ -1,4 +1,4 @@
-//! Steps with a tree that tells events, and with who reads them.
+//! Steps with a tree whose changes are events, and with a listener that reads them.
 
 use kf_core::{Key, Node, Refusal};
 use kf_shared::{Naming, SharedTree, release_all};
@@ -14,7 +14,7 @@ pub(crate) enum Step {
     /// A node of this name is made in the directory, and is not active yet.
     Makes(Key, &'static [u8], Node),
     Activates(Key),
-    /// So many changes of one node are told.
+    /// This number of changes of one node is added.
     Changes(Key, u32),
     /// It is moved into the directory, under this name.
     Moves(Key, Key, &'static [u8]),
@@ -102,7 +102,7 @@ fn is_right<N: Naming, R: Wait>(
     }
 }
 
-/// Takes the steps. The first whose answer is not as it must be stops the test.
+/// Takes the steps. The first that does not find what it must stops the test.
 pub(crate) fn walk<N: Naming, R: Abort + Wait>(
     rt: &R,
     tree: &SharedTree<N>,

@@ -1,5 +1,5 @@
-//! What is activated, changed, moved and removed is told once, in order, to who reads on, and who is behind
-//! is told what is lost.
+//! A listener reads each activation, change, move and removal once, in order. One that is behind reads how
+//! much it lost.
 ghost use Rattle.std.specs.Prelude.{◌≡◌};
 
 use super::steps::{Step, walk};
@@ -64,7 +64,7 @@ static STEPS: [Step; 34] = [
     Step::Event(Action::Remove, b"/e/y", None),
     Step::Event(Action::Remove, b"/e", None),
     Step::Nothing,
-    // There is room for 16 events. Ten were told before.
+    // There is room for 16 events. Ten were added before.
     Step::Changes(ROOT, 300),
     Step::Waits,
     Step::Loss(294),

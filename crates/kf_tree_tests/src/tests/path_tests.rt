@@ -6,7 +6,7 @@ use kf_core::{Node, Refusal};
 use kf_tree::State;
 use std::alloc::Global;
 
-/// The same name so many times.
+/// The same name this many times.
 fn long_path(alloc: Global) -> Result<Vec<u8>, Refusal> {
     let mut path = Vec::new(alloc);
     for _ in 0..400_000 {
@@ -22,7 +22,7 @@ fn is_nowhere(state: &State, path: &[u8]) -> bool {
         && state.walk_parent(path).err() == Some(Refusal::NoEntry)
 }
 
-/// Whether this path leads nowhere where `/a` is not, and where it is.
+/// Whether this path leads nowhere while `/a` is not there, and while it is.
 fn leads_nowhere(state: &mut State, path: &[u8]) -> Result<bool, Refusal> {
     let without = is_nowhere(state, path);
     add(state, b"/a", Node::Dir, true, 1)?;

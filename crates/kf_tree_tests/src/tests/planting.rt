@@ -32,7 +32,7 @@ pub(super) fn new_state(alloc: Global, slots: u32) -> Result<State, Refusal> {
     }
 }
 
-/// The first key of this slot, where the slot is vacant.
+/// The first key of this slot, if the slot is vacant.
 fn vacant(state: &State, slot: u32) -> Option<Key>
     ensures vacant { IfSome result (λ key. slice_get state.now.tree key.slot ≡ Some None) }
 {
@@ -46,7 +46,7 @@ fn vacant(state: &State, slot: u32) -> Option<Key>
     }
 }
 
-/// A node at a path, in this slot where it is vacant.
+/// A node at a path, in this slot if it is vacant.
 pub(super) fn add(
     state: &mut State,
     path: &[u8],

@@ -1,4 +1,4 @@
-//! Steps of a worked example: a call each, and what it must answer. Nodes are told by their slots, each with
+//! Steps of a worked example: a call each, and what it must return. Nodes are named by their slots, each with
 //! its first key.
 
 use super::planting::{TEXT, add, key, new_state, remove};
@@ -36,7 +36,7 @@ pub(super) enum Look {
     Live(&'static [u8], u32),
     /// Nothing live is found.
     Absent(&'static [u8]),
-    /// Activated, doomed and hidden, as `stat` tells them.
+    /// Activated, doomed and hidden, as `stat` reports them.
     Marks(u32, (bool, bool, bool)),
     /// The names that are listed.
     Shows(u32, &'static [&'static [u8]]),
@@ -48,7 +48,7 @@ pub(super) enum Look {
     Counts(usize, usize),
 }
 
-/// The place of the first step whose answer is not as it must be, in a new tree of so many slots.
+/// The place of the first step that returns something else than it must, in a new tree of this many slots.
 pub(super) fn first_wrong(
     alloc: Global,
     slots: u32,
