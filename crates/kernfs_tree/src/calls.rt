@@ -1,4 +1,4 @@
-//! The calls on handles, trees and event numbers. Each answers 0 or more, or a Linux error number below 0,
+//! The calls on handles, trees and event numbers. Each returns 0 or more, or a Linux error number below 0,
 //! and then nothing changed.
 ghost use Rattle.std.specs.Prelude.{◌≡◌, ◌≢◌, ◌⊎◌, ◌<◌, ◌≤◌, pos, negsuc, true, false, IfSome, IsSome};
 ghost use Rattle.kf_core.specs.declared.key.Node.TheVariants as kind;
@@ -18,9 +18,9 @@ use std::alloc::Global;
 /// The version of the library: its major number times 1,000, and its minor number.
 #[unsafe(no_mangle)]
 pub extern "C" fn kt_version() -> i32
-    ensures { result ≡ pos 2 }
+    ensures { result ≡ pos 3 }
 {
-    2
+    3
 }
 
 /// A new handle with nothing behind it, which is the caller's then.
@@ -32,7 +32,7 @@ pub extern "C" fn kt_new(alloc: Global, out: &mut KtGiven) -> i32
     kf_handles::make(alloc, out)
 }
 
-/// Lets go of a handle and of what lies behind it; not of a tree with a hidden file in which somebody may be.
+/// Frees a handle and what lies behind it; not of a tree with a hidden file in which somebody may be.
 #[unsafe(no_mangle)]
 pub extern "C" fn kt_delete(handle: KtHandle) -> i32
     ensures gone { (result ≡ pos 0) ⊎ (result ≡ pos 1) → HasNoHidingIn handle.place.object }
@@ -43,7 +43,7 @@ pub extern "C" fn kt_delete(handle: KtHandle) -> i32
     kf_handles::delete(handle)
 }
 
-/// Lets go of what lies behind a handle: a hold is released, and a call ended first. A tree with a hidden
+/// Frees what lies behind a handle: a hold is released, and a call ended first. A tree with a hidden
 /// file in which somebody may be stays.
 #[unsafe(no_mangle)]
 pub extern "C" fn kt_clear(handle: &mut KtHandle) -> i32
@@ -56,7 +56,7 @@ pub extern "C" fn kt_clear(handle: &mut KtHandle) -> i32
     kf_handles::clear(handle)
 }
 
-/// A new tree of the root alone (`kernfs_create_root`).
+/// A new tree of only the root (`kernfs_create_root`).
 #[unsafe(no_mangle)]
 pub extern "C" fn kt_create_root(
     alloc: Global,
@@ -105,7 +105,7 @@ pub extern "C" fn kt_create_dir(
     kf_handles::create(tree, parent, name, Node::Dir, live, out)
 }
 
-/// A new attribute file (`__kernfs_create_file`), whose mode has permission bits alone.
+/// A new attribute file (`__kernfs_create_file`), whose mode has only permission bits.
 #[unsafe(no_mangle)]
 pub extern "C" fn kt_create_file(
     tree: &mut KtHandle,
@@ -150,11 +150,9 @@ pub extern "C" fn kt_create_link(
         (asks.Create (key_in parent) name.entry (kind.Link (key_in target)) live)
         tree.old.place.object tree.new.place.object result }
 {
-    let target = Key {
-        slot: target.slot,
-        generation: target.generation,
+    let node = Node::Link {
+        target: key_of(target),
     };
-    let node = Node::Link { target };
     kf_handles::create(tree, parent, name, node, live, out)
 }
 
@@ -210,7 +208,7 @@ pub extern "C" fn kt_walk(tree: &mut KtHandle, path: &[u8], out: &mut KtKey) -> 
     kf_handles::walk(tree, path, out)
 }
 
-/// The name of the first live child above a name, in byte order; of the first of all where it is empty.
+/// The name of the first live child above a name, in byte order; of the first of all if it is empty.
 #[unsafe(no_mangle)]
 pub extern "C" fn kt_next(tree: &mut KtHandle, dir: KtKey, after: &[u8], out: &mut [u8]) -> i64
     ensures same { tree.new.place ≡ tree.old.place }
@@ -220,7 +218,7 @@ pub extern "C" fn kt_next(tree: &mut KtHandle, dir: KtKey, after: &[u8], out: &m
     kf_handles::next(tree, dir, after, out)
 }
 
-/// What is told of a node.
+/// What is reported of a node.
 #[unsafe(no_mangle)]
 pub extern "C" fn kt_stat(tree: &mut KtHandle, key: KtKey, out: &mut KtStat) -> i32
     ensures same { tree.new.place ≡ tree.old.place }

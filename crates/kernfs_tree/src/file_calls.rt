@@ -1,4 +1,4 @@
-//! The calls of a program on open files. Each answers 0 or more, or a Linux error number below 0.
+//! The calls of a program on open files. Each returns 0 or more, or a Linux error number below 0.
 ghost use Rattle.std.specs.Prelude.{◌≡◌, ◌≢◌, pos, negsuc, true, false, length};
 ghost use Rattle.kf_handles.specs.Answers.{IsAsBefore};
 ghost use Rattle.kf_handles.specs.Calls.{IsNothing, is_nothing, key_in};
@@ -34,7 +34,7 @@ pub extern "C" fn kt_open(
     kf_handles::open(alloc, tree, key, Want { read, write }, out)
 }
 
-/// Begins a read (`kernfs_fop_read_iter`): 0 where the text serves it; 1 where the node was entered, and the
+/// Begins a read (`kernfs_fop_read_iter`): 0 if the text serves it; 1 if the node was entered, and the
 /// event number taken, for a show.
 #[unsafe(no_mangle)]
 pub extern "C" fn kt_begin_read(file: &mut KtHandle, offset: u64) -> i32
@@ -69,7 +69,7 @@ pub extern "C" fn kt_copy(file: &mut KtHandle, offset: u64, out: &mut [u8]) -> i
     kf_handles::copy(file, offset, out)
 }
 
-/// Begins a write (`kernfs_fop_write_iter`): 0 where the node was entered for a store.
+/// Begins a write (`kernfs_fop_write_iter`): 0 if the node was entered for a store.
 #[unsafe(no_mangle)]
 pub extern "C" fn kt_begin_write(file: &mut KtHandle) -> i32
     ensures entered { result ≡ pos 0 → MayWrite file.old.place.object

@@ -26,7 +26,7 @@ pub extern "C" fn kt_dup(hold: &mut KtHandle, out: &mut KtHandle) -> i32
     kf_handles::dup(hold, out)
 }
 
-/// Tries for an active reference (`kernfs_get_active`): 0, or -ENODEV where the node is not live.
+/// Tries for an active reference (`kernfs_get_active`): 0, or -ENODEV if the node is not live.
 #[unsafe(no_mangle)]
 pub extern "C" fn kt_enter(hold: &mut KtHandle) -> i32
     ensures entered { result ≡ pos 0 → WasEntered hold.old.place.seat hold.new.place.seat }
@@ -37,7 +37,7 @@ pub extern "C" fn kt_enter(hold: &mut KtHandle) -> i32
     kf_handles::enter(hold)
 }
 
-/// Gives the reference back (`kernfs_put_active`): 0, or 1 where a removal or a hiding may wait for
+/// Gives the reference back (`kernfs_put_active`): 0, or 1 if a removal or a hiding may wait for
 /// that.
 #[unsafe(no_mangle)]
 pub extern "C" fn kt_leave(call: &mut KtHandle) -> i32
@@ -52,7 +52,7 @@ pub extern "C" fn kt_leave(call: &mut KtHandle) -> i32
     kf_handles::leave(call)
 }
 
-/// Gives the reference up inside the callback (`kernfs_break_active_protection`): 0, or 1 where a removal
+/// Gives the reference up inside the callback (`kernfs_break_active_protection`): 0, or 1 if a removal
 /// or a hiding may wait for that.
 #[unsafe(no_mangle)]
 pub extern "C" fn kt_break(call: &mut KtHandle) -> i32

@@ -1,4 +1,4 @@
-//! The calls of a program that remove a node, and that hide a file and show it again. Each answers -EAGAIN
+//! The calls of a program that remove a node, and that hide a file and show it again. Each returns -EAGAIN
 //! where somebody is inside: it has begun then, and is made again.
 ghost use Rattle.std.specs.Prelude.{◌≡◌, ◌≢◌, pos, negsuc, false, true};
 ghost use Rattle.kf_handles.specs.declared.questions.Question.TheVariants as question;
@@ -25,7 +25,7 @@ pub extern "C" fn kt_claim(tree: &mut KtHandle, key: KtKey) -> i32
 }
 
 /// Marks a node and all below it, and takes each of them out of the tree that nobody uses (`kernfs_remove`).
-/// 1 where the node is out by this, 0 where it was out before, -EAGAIN where it is not, since somebody is
+/// 1 if this call took the node out, 0 if it was out before, -EAGAIN if it is still there, since somebody is
 /// inside; -ENOENT of a key that was never given in the tree.
 #[unsafe(no_mangle)]
 pub extern "C" fn kt_remove(tree: &mut KtHandle, key: KtKey) -> i32
@@ -43,7 +43,7 @@ pub extern "C" fn kt_remove(tree: &mut KtHandle, key: KtKey) -> i32
     kf_handles::remove(tree, key)
 }
 
-/// Hides a file (`kernfs_show` with `show` false). 0 where nobody is inside, -EAGAIN where somebody is.
+/// Hides a file (`kernfs_show` with `show` false). 0 if nobody is inside, -EAGAIN if somebody is.
 #[unsafe(no_mangle)]
 pub extern "C" fn kt_hide(tree: &mut KtHandle, key: KtKey) -> i32
     ensures hidden { result ≡ pos 0 →
@@ -59,7 +59,7 @@ pub extern "C" fn kt_hide(tree: &mut KtHandle, key: KtKey) -> i32
     kf_handles::hide(tree, key)
 }
 
-/// Shows a hidden file again (`kernfs_show` with `show` true). 0 where it is shown, -EAGAIN where somebody is
+/// Shows a hidden file again (`kernfs_show` with `show` true). 0 if it is shown, -EAGAIN if somebody is
 /// inside still, and then it stays hidden.
 #[unsafe(no_mangle)]
 pub extern "C" fn kt_unhide(tree: &mut KtHandle, key: KtKey) -> i32

@@ -20,12 +20,12 @@ no_cause s key linked root other = elim (same_key key s.root) as (λ b. same_key
   | false ↦ λ e. ap (λ b. first_cause (unless b NoEntry ∷ unless (not false) Invalid ∷ [])) linked
 ] refl
 
--- so its removal is refused for want of room or memory
+-- so its removal is refused for lack of room or memory
 pub holds_refused : (s : TreeLog) (key : Key) (refusal : Refusal) → is_linked s.tree key ≡ true → s.root.slot ≡ 0 → key.slot ≢ 0 → KeyRefused s key refusal → HoldsRefusal refusal
 holds_refused s key refusal linked root other (inl h) = absurd (none-some refusal (sym (no_cause s key linked root other) ∙ h))
 holds_refused s key refusal linked root other (inr h) = h.1
 
--- what was begun, or why nothing was, told as one
+-- what was begun, or why nothing was, as one fact
 pub begun_or_refused : {A E : Type 0} (P : A → Type 0) (Q : E → Type 0) (R : Type 0) (r : Result A E) → IfOk r P → IfErr r Q → OnErr r R → MatchResult r P (λ e. Q e × R)
 begun_or_refused P Q R (Ok a) begun refused same = begun
 begun_or_refused P Q R (Err e) begun refused same = (refused, same)

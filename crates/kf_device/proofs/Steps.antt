@@ -65,7 +65,7 @@ gives_create t root parent name node lawful target =
     gives_more StepRefusal linked (name_fault name ∷ directory ∷ marked ∷ targeted ∷ taken ∷ [])
     (gives_unless StepRefusal (is_linked t parent) NoEntry (inl refl)) p1
 
--- a step is refused for want of memory
+-- a step is refused for lack of memory
 no_memory : (refusal : Refusal) → refusal ≡ NoMemory → StepRefusal refusal
 no_memory refusal h = inr (inr (inr (inr h)))
 

@@ -1,4 +1,4 @@
--- What the callbacks of a bus may answer.
+-- What the callbacks of a bus may return.
 use Rattle.std.specs.Prelude.{◌≡◌, ◌⊎◌, ℕ, List, length, decimal, Option, None, Some, Result, Ok, Err, IfErr, MatchResult}
 use Rattle.kf_core.specs.declared.refusal.Refusal.{Refusal}
 use Rattle.kf_core.specs.declared.refusal.Refusal.TheVariants.{NoMemory}
@@ -21,7 +21,7 @@ abbrev pub ShowsMeant : Option DeviceTag → Result (List ℕ) Fault → Type 0
 ShowsMeant None answer = answer ≡ Err unknown
 ShowsMeant (Some tag) answer = ShowsFile tag.file tag.serial answer
 
--- what a show may fill or answer, by tag
+-- what a show may fill or return, by tag
 abbrev pub MayShow : ℕ → Result (List ℕ) Fault → Type 0
 MayShow tag answer = ShowsMeant (meaning tag) answer
 
@@ -37,17 +37,17 @@ ValueFault fault = (fault ≡ unknown) ⊎ (fault ≡ fault_of NoMemory)
 abbrev pub DeleteFault : Fault → Type 0
 DeleteFault fault = (refusal : Refusal) × (fault ≡ fault_of refusal)
 
--- what a store may answer, by the device's file
+-- what a store may return, by the device's file
 abbrev pub StoresFile : DeviceFile → List ℕ → Result ℕ Fault → Type 0
 StoresFile Value bytes answer = TakesAll ValueFault bytes answer
 StoresFile Serial bytes answer = answer ≡ Err unknown
 StoresFile Delete bytes answer = TakesAll DeleteFault bytes answer
 
--- what a store may answer, by what the tag means
+-- what a store may return, by what the tag means
 abbrev pub StoresMeant : Option DeviceTag → List ℕ → Result ℕ Fault → Type 0
 StoresMeant None bytes answer = answer ≡ Err unknown
 StoresMeant (Some tag) bytes answer = StoresFile tag.file bytes answer
 
--- what a store may answer, by tag
+-- what a store may return, by tag
 abbrev pub MayStore : ℕ → List ℕ → Result ℕ Fault → Type 0
 MayStore tag bytes answer = StoresMeant (meaning tag) bytes answer

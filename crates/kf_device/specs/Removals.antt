@@ -22,13 +22,13 @@ use Rattle.kf_device.specs.declared.removal.Wanted.TheVariants.{Any, Directory, 
 abbrev pub entry_at : TreeLog → List ℕ → List ℕ → Result Key Refusal
 entry_at s path name = and_then (walked s.tree s.root path) (λ dir. found s.tree dir name)
 
--- the node of a key is one that is wanted: any, the directory of this key, or a link to that
+-- the node of a key is one that may be removed: any, the directory of this key, or a link to that
 abbrev pub fits : Tree → Wanted → Key → Bool
 fits t Any key = true
 fits t (Directory dir) key = same_key key dir
 fits t (LinkTo dir) key = option_map_or (λ target. same_key target dir) (link_target t key) false
 
--- the name leads to a wanted node there: it alone is doomed, with all below it, and these are the keys of its
+-- the name leads to such a node there: only it is doomed, with all below it, and these are the keys of its
 -- subtree, in post-order
 pub record HasBegun (s s' : TreeLog) (path name : List ℕ) (wanted : Wanted) (keys : List Key) : Type 0 where
   pub key : Key
@@ -60,12 +60,12 @@ devices_path = codes "/devices"
 abbrev pub links_path : List ℕ
 links_path = codes "/bus/devices"
 
--- the link to this directory; whatever has the name, where none is given
+-- the link to this directory; whatever has the name, if none is given
 abbrev pub link_wanted : Option Key → Wanted
 link_wanted None = Any
 link_wanted (Some dir) = LinkTo dir
 
--- this directory; whatever has the name, where none is given
+-- this directory; whatever has the name, if none is given
 abbrev pub dir_wanted : Option Key → Wanted
 dir_wanted None = Any
 dir_wanted (Some dir) = Directory dir
@@ -77,7 +77,7 @@ BeginsBoth s s' name dir link directory = (between : Locked)
     × Begins s between links_path name (link_wanted dir) link
     × BeginsOr between s' devices_path name (dir_wanted dir) directory
 
--- what an unplug answers once it is finished: that there was one of both, or why the directory stays
+-- what an unplug returns once it is finished: that there was one of both, or why the directory stays
 abbrev pub left : Option (List Handle) → Result (Option (List Handle)) Refusal → Result (Unit {0}) Refusal
 left link (Err refusal) = Err refusal
 left link (Ok (Some holds)) = Ok tt

@@ -15,7 +15,7 @@ file_at place =
     if place == 0 then Some Value
     else (if place == 1 then Some Serial else (if place == 2 then Some Delete else None))
 
--- the file of the plug of this number, where there is such a file
+-- the file of the plug of this number, if there is such a file
 abbrev pub with_serial : ℕ → Option DeviceFile → Option DeviceTag
 with_serial serial file = option_map (λ f. record { serial = serial; file = f }) file
 

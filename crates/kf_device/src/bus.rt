@@ -22,7 +22,7 @@ use std::sync::{Mutex, Wait};
 /// A bus on the shared tree of this name, with its devices (`struct bus_type`), and the callbacks of their
 /// files. Any number of threads may share it.
 ///
-/// Its lock is a leaf: whoever has it takes no other lock and waits for nobody until it is let go.
+/// Its lock is a leaf: a thread that has it takes no other lock and waits for nobody until it is unlocked.
 #[derive(Drop)]
 pub struct Bus<N: Naming> {
     pub(crate) devices: Mutex<Devices>,
@@ -42,8 +42,8 @@ impl<N: Naming> Bus<N> {
         })
     }
 
-    // Begins a plug, and keeps its texts. A value is never shown past its first 4,096 bytes, so no more are
-    // kept.
+    // Begins a plug, and keeps its texts. A value is never shown past its first 4,096 bytes, so only these
+    // are kept.
     fn begin<R: Wait>(&self, rt: &R, name: &[u8], value: &[u8]) -> Result<u64, Refusal>
         requires lawful { name_fault name.now ≡ None }
         ensures few { IfOk result (λ serial. serial ≤ 2 ^ 60) }
@@ -59,7 +59,7 @@ impl<N: Naming> Bus<N> {
     /// Plugs a device under this lock (`device_add`). It makes those of `/devices`, `/bus` and `/bus/devices`
     /// that are not there, in this order, live. Then it makes `/devices/NAME` with its files `value` (0o644),
     /// `serial` (0o444) and `delete` (0o200), which are all activated together; then the live link
-    /// `/bus/devices/NAME`. It answers the key of `/devices/NAME`. Under the same lock a driver may put its
+    /// `/bus/devices/NAME`. It returns the key of `/devices/NAME`. Under the same lock a driver may put its
     /// own groups there.
     ///
     /// Of the value the first 4,096 bytes are kept, and a read shows at most 4,095.
@@ -68,7 +68,7 @@ impl<N: Naming> Bus<N> {
     /// they change nothing. Then, of each step in its order, NotDir (a base is a file or link), NoEntry (a
     /// base is marked), Exists (the directory, or the link, is there), NoSpace, and NoMemory: the base
     /// directories that were made stay, and the removal of the device's directory has begun, which
-    /// [`Bus::take_back`] finishes. Only where that was refused too does it stay, and `unplug` removes it.
+    /// [`Bus::take_back`] finishes. Only if that was refused too does it stay, and `unplug` removes it.
     ///
     /// Context: takes the lock of the bus.
     pub fn plug_in<R: Wait>(
@@ -97,10 +97,10 @@ impl<N: Naming> Bus<N> {
         made
     }
 
-    /// Finishes what a refused plug has begun, and answers why it was refused.
+    /// Finishes what a refused plug has begun, and returns why it was refused.
     ///
     /// It may never return: it waits for the tree lock and the lock of the bus, which its caller must not
-    /// have, and, where the link was refused, for the callbacks that run on the new files.
+    /// have, and, if the link was refused, for the callbacks that run on the new files.
     ///
     /// Context: sleeps; takes the lock of the bus and the tree's, one at a time.
     pub fn take_back<R: Wait>(&self, rt: &R, tree: &SharedTree<N>, stopped: Stopped<N>) -> Refusal
@@ -118,7 +118,7 @@ impl<N: Naming> Bus<N> {
         refusal
     }
 
-    /// Plugs a device as [`Bus::plug_in`] does, in one turn of the tree lock, and takes it back where it is
+    /// Plugs a device as [`Bus::plug_in`] does, in one turn of the tree lock, and takes it back if it is
     /// refused.
     ///
     /// Refusals: those of [`Bus::plug_in`].
@@ -145,7 +145,7 @@ impl<N: Naming> Bus<N> {
     }
 
     /// How many devices the bus keeps texts of: those that are plugged, and those that were removed without
-    /// it since it last looked. Others plug and unplug from then on, so no clause tells the number.
+    /// it since it last looked. Others plug and unplug from then on, so no clause gives the number.
     ///
     /// It may never return: it waits for the lock of the bus.
     ///
@@ -155,11 +155,11 @@ impl<N: Naming> Bus<N> {
     }
 
     /// Begins to unplug a device under this lock (`device_del`): the removal of the link `/bus/devices/NAME`
-    /// and that of the directory `/devices/NAME`, each where it is there. Both are looked for, held and
+    /// and that of the directory `/devices/NAME`, each if it is there. Both are looked for, held and
     /// marked. Each is looked for by its whole name, so a name that is not lawful finds nothing.
     ///
     /// Refusals: TooManyHolds or NoMemory, as `Editor::begin_removal_of` of the link has them: then nothing
-    /// is marked. Those of the directory stand in the answer, beside the link's removal.
+    /// is marked. Those of the directory are in the result, beside the link's removal.
     pub fn unplug_in(&self, editor: &mut Editor<'_, N>, name: &[u8]) -> Result<Leaving<N>, Refusal>
         ensures begun { IfOk result (λ leaving.
             BeginsBoth editor.old editor.new name.now None leaving.link leaving.dir) }
@@ -172,7 +172,7 @@ impl<N: Naming> Bus<N> {
 
     /// Finishes what an unplug has begun: waits for the link, and for the directory, and forgets its texts.
     ///
-    /// Refusals: why the directory's removal was refused: then the link alone is removed, and `unplug` may be
+    /// Refusals: why the directory's removal was refused: then only the link is removed, and `unplug` may be
     /// called again; else NoEntry where neither was there.
     ///
     /// It may never return: it waits for the tree lock and the lock of the bus, which its caller must not

@@ -72,7 +72,7 @@ impl<N: Naming> WaitOps<N> for Bus<N> {
 
     ghost may_store = { λ _ tag bytes answer. MayStore tag bytes answer };
 
-    /// Shows a device's value, or the number of its plug in decimal. Fault 22 where the bus keeps no such
+    /// Shows a device's value, or the number of its plug in decimal. Fault 22 if the bus keeps no such
     /// value any more, or no such plug has begun, and for any other tag.
     fn show<R: Wait>(
         &self,
@@ -102,8 +102,8 @@ impl<N: Naming> WaitOps<N> for Bus<N> {
         }
     }
 
-    /// Puts the bytes in place of a device's value, or deletes the device. Of a value: Fault 22 where the bus
-    /// keeps it no more, Fault 12 where there was no memory. Of `delete`: the fault has the number of the
+    /// Puts the bytes in place of a device's value, or deletes the device. Of a value: Fault 22 if the bus
+    /// no longer keeps it, Fault 12 if there was no memory. Of `delete`: the fault has the number of the
     /// refusal that was met; it may come once `delete` itself is removed, and then `unplug` removes the rest.
     /// Any other tag is Fault 22.
     fn store<R: Wait>(

@@ -1,4 +1,4 @@
-//! Who of those that remove a device's `delete` goes on to the rest of the device: the first alone.
+//! Which of those that remove a device's `delete` goes on to the rest of the device: only the first.
 ghost use Rattle.std.specs.Prelude.{◌≡◌, IfOk, OnOk, OnErr, is_some, not};
 ghost use Rattle.kf_core.specs.declared.caller.Phase.TheVariants.{Running, Restored};
 ghost use Rattle.kf_shared.specs.Locked.{is_claimed};
@@ -15,12 +15,12 @@ pub(crate) struct Claim {
     first: (),
 }
 
-/// Removes the node of a call from within its own callback, as `Editor::remove_self` does. A claim where no
+/// Removes the node of a call from within its own callback, as `Editor::remove_self` does. A claim if no
 /// earlier self-removal has claimed the node.
 ///
 /// Conditions and refusals: those of `Editor::remove_self`.
 ///
-/// Context: sleeps, once it has let the lock go, and takes it again.
+/// Context: sleeps, once it has unlocked, and locks again.
 pub(crate) fn remove_file<N: Naming, R: Wait>(
     editor: Editor<'_, N>,
     rt: &R,

@@ -29,7 +29,7 @@ impl<N: Naming> Bus<N> {
         }
     }
 
-    // The key of the directory of the device on whose `delete` the call is. Where its plug has not told the
+    // The key of the directory of the device on whose `delete` the call is. If its plug has not reported the
     // bus yet, that is the directory in which the file stands.
     fn dir_of<R: Wait>(
         &self,
@@ -45,7 +45,7 @@ impl<N: Naming> Bus<N> {
         }
     }
 
-    // Unplugs the device on whose `delete` the call is: its link and its directory, each where it still has
+    // Unplugs the device on whose `delete` the call is: its link and its directory, each if it still has
     // its name, and no later device of that name. That it is unplugged already is no refusal. The claim is
     // that of the first self-removal of that file.
     //

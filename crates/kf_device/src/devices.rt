@@ -85,7 +85,7 @@ impl Devices {
         }
     }
 
-    /// Begins a plug, and answers its number: the first has 1. `NoSpace` after 2^60 of them.
+    /// Begins a plug, and returns its number: the first has 1. `NoSpace` after 2^60 of them.
     pub(crate) fn begin(&mut self) -> Result<u64, Refusal>
         ensures next { IfOk result (λ serial. (serial ≡ self.old.begun + 1) × (self.new.begun ≡ serial)) }
         ensures few { IfOk result (λ serial. serial ≤ 2 ^ 60) }
@@ -107,7 +107,7 @@ impl Devices {
         1 <= serial && serial <= self.begun
     }
 
-    /// Keeps the texts of a plug that is under way. `NoMemory` where that was refused.
+    /// Keeps the texts of a plug that is under way. `NoMemory` if that was refused.
     pub(crate) fn add(&mut self, serial: u64, name: &[u8], value: &[u8]) -> Result<(), Refusal>
         requires lawful { name_fault name.now ≡ None }
         ensures refused { IfErr result (λ refusal. refusal ≡ NoMemory) }
@@ -176,7 +176,7 @@ impl Devices {
         self.devices.get(&serial)?.nodes
     }
 
-    /// Puts other bytes in place of a device's value. False where there is no such device.
+    /// Puts other bytes in place of a device's value. False if there is no such device.
     pub(crate) fn set_value(&mut self, serial: u64, bytes: &[u8]) -> Result<bool, Refusal>
         ensures stored { IfOk result (λ known. known ≡ true →
             value_in (get nat_cmp self.new.devices serial) ≡ Some bytes.now) }
@@ -201,7 +201,7 @@ impl Devices {
         self.devices.len()
     }
 
-    /// How many devices are to be looked at, where there are more than twice as many as the last sweep left.
+    /// How many devices are to be looked at, if there are more than twice as many as the last sweep left.
     pub(crate) fn due(&self) -> Option<usize> {
         let count = self.devices.len();
         (count > self.kept.saturating_mul(2)).then_some(count)

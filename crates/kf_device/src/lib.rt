@@ -4,8 +4,8 @@
 //!   `delete`, and the link to it; `unplug` removes both and waits. A store of `delete` unplugs from within
 //!   its own callback.
 //! - `plug_in` and `unplug_in` do it under a lent `Editor`. What a refused plug leaves is a `Stopped`, what
-//!   an unplug has begun a `Leaving`: neither can be forgotten, and `take_back` and `finish` spend them with
-//!   the lock let go.
+//!   an unplug has begun a `Leaving`: neither can be forgotten, and `take_back` and `finish` spend them while
+//!   the tree is unlocked.
 //! - `Bus` is itself the callbacks of its devices' files (`WaitOps`).
 //!
 //! A caller shows nothing but that the tree is the one that the bus has in its type.

@@ -10,13 +10,13 @@ use crate::tags::{DeviceFile, tag_of};
 use kf_core::{Key, Node, Refusal};
 use kf_shared::{Editor, Naming, Removing};
 
-/// A plug that was refused. It must be spent, by [`crate::Bus::take_back`], with the tree lock let go.
+/// A plug that was refused. It must be spent, by [`crate::Bus::take_back`], with the tree unlocked.
 pub struct Stopped<N: Naming> {
     /// Why.
     pub refusal: Refusal,
-    /// The removal of the directory that it had made by then, where one could be begun.
+    /// The removal of the directory that it had made by then, if one could be begun.
     pub begun: Option<Removing<N>>,
-    // its number, where it had begun
+    // its number, if it had begun
     pub(crate) plug: Option<u64>,
 }
 
@@ -47,7 +47,7 @@ fn base<N: Naming>(editor: &mut Editor<'_, N>, parent: Key, name: &[u8]) -> Resu
     }
 }
 
-// `/devices` and `/bus/devices`, made where they are not there.
+// `/devices` and `/bus/devices`, made if they are not there.
 fn bases<N: Naming>(editor: &mut Editor<'_, N>) -> Result<(Key, Key), Refusal>
     ensures there { IfOk result (λ found. HasBases editor.old editor.new found.0 found.1) }
     ensures root { editor.old.state.root.slot ≡ 0 }
@@ -109,7 +109,7 @@ fn fill<N: Naming>(
 }
 
 /// Makes the base directories that are not there, the device's directory with its files, and its link.
-/// `nodes` tells which of its nodes were made, whatever the answer is.
+/// `nodes` says which of its nodes were made, whatever the result is.
 pub(crate) fn make<N: Naming>(
     editor: &mut Editor<'_, N>,
     name: &[u8],

@@ -35,7 +35,7 @@ pub(crate) enum Wanted {
     LinkTo(Key),
 }
 
-/// Whether the node of a key is one that is wanted.
+/// Whether the node of a key is one that may be removed.
 fn fits(state: &State, key: Key, wanted: Wanted) -> bool
     ensures told { result ≡ fits state.now.tree wanted key }
 {
@@ -52,9 +52,9 @@ fn fits(state: &State, key: Key, wanted: Wanted) -> bool
     }
 }
 
-/// Begins the removal of the node of this name in the directory of this path, with all below it, where it is
-/// one that is wanted. None where there is none: a name that is not lawful finds nothing, and neither does a
-/// path that leads to no directory.
+/// Begins the removal of the node of this name in the directory of this path, with all below it, if it is
+/// one that may be removed. None if there is none: a name that is not lawful finds nothing, and neither does
+/// a path that leads to no directory.
 ///
 /// Refusals: TooManyHolds or NoMemory, whichever is met first. After a refusal nothing is marked.
 pub(crate) fn begin_at<N: Naming>(
@@ -79,7 +79,7 @@ pub(crate) fn begin_at<N: Naming>(
     }
 }
 
-/// The link to this directory; whatever has the name, where none is given.
+/// The link to this directory; whatever has the name, if none is given.
 fn link_wanted(dir: Option<Key>) -> Wanted
     ensures wanted { result ≡ link_wanted dir }
 {
@@ -89,7 +89,7 @@ fn link_wanted(dir: Option<Key>) -> Wanted
     }
 }
 
-/// This directory; whatever has the name, where none is given.
+/// This directory; whatever has the name, if none is given.
 fn dir_wanted(dir: Option<Key>) -> Wanted
     ensures wanted { result ≡ dir_wanted dir }
 {
@@ -102,16 +102,17 @@ fn dir_wanted(dir: Option<Key>) -> Wanted
 /// What was begun of a device's removal. It must be spent, by [`crate::Bus::finish`], with the tree lock let
 /// go.
 pub struct Leaving<N: Naming> {
-    /// The removal of its link, where there was one.
+    /// The removal of its link, if there was one.
     pub link: Option<Removing<N>>,
-    /// That of its directory, where there was one, or why it was refused.
+    /// That of its directory, if there was one, or why it was refused.
     pub dir: Result<Option<Removing<N>>, Refusal>,
     // the plug whose texts are forgotten then
     pub(crate) plug: Option<u64>,
 }
 
 /// Begins the removal of a device's link, and then of its directory, each by its name: of the device with
-/// this directory, or, where none is given, of whichever has the name. Its plug is told by who knows it.
+/// this directory or, if none is given, of whichever has the name. The caller names its plug, if it knows
+/// that.
 ///
 /// Refusals: TooManyHolds or NoMemory, of the link; nothing is marked after one.
 pub(crate) fn begin_both<N: Naming>(
@@ -130,7 +131,7 @@ pub(crate) fn begin_both<N: Naming>(
     Ok(Leaving { link, dir, plug })
 }
 
-/// Finishes both, with the lock let go. Whether there was something to remove, or why the directory was not.
+/// Finishes both, unlocked. Whether there was something to remove, or why the directory was not.
 ///
 /// Context: sleeps; takes the tree's lock, which its caller must not have.
 pub(crate) fn finish_both<N: Naming, R: Wait>(
@@ -147,7 +148,7 @@ pub(crate) fn finish_both<N: Naming, R: Wait>(
     Ok(was_linked || was_there)
 }
 
-/// Finishes a removal, where one has begun, with the lock let go, and gives its receipts back.
+/// Finishes a removal, if one has begun, unlocked, and gives its receipts back.
 pub(crate) fn finish<N: Naming, R: Wait>(
     rt: &R,
     tree: &SharedTree<N>,
@@ -164,7 +165,7 @@ pub(crate) fn finish<N: Naming, R: Wait>(
     }
 }
 
-/// The plug whose `value` stands in the directory of a device of this name, where there is one.
+/// The plug whose `value` stands in the directory of a device of this name, if there is one.
 pub(crate) fn plug_at(state: &State, name: &[u8]) -> Option<u64> {
     let dir = entry(state, DEVICES, name).ok()?;
     let value = state.find(dir, b"value").ok()?;

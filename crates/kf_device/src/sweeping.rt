@@ -20,8 +20,8 @@ impl<N: Naming> Bus<N> {
         }
     }
 
-    /// Forgets all that are gone, where the list has grown to more than twice what the last sweep left. So
-    /// a bus keeps no more than a few devices that are gone, and a plug pays for no more than a few others.
+    /// Forgets all that are gone, if the list has grown to more than twice what the last sweep left. So
+    /// a bus keeps at most a few devices that are gone, and a plug pays for at most a few others.
     pub(crate) fn sweep<R: Wait>(&self, rt: &R, tree: &SharedTree<N>) {
         let due = self.devices.lock(rt).due();
         let Some(count) = due else {

@@ -33,7 +33,7 @@ pub(crate) fn tag_of(serial: u64, file: DeviceFile) -> u64
     FIRST + 4 * serial + place
 }
 
-/// The file that has this tag. None where it is no tag of a bus.
+/// The file that has this tag. None if it is no tag of a bus.
 pub(crate) fn meaning(tag: u64) -> Option<DeviceTag>
     ensures told { result ≡ meaning tag }
 {

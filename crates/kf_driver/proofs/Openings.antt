@@ -1,4 +1,4 @@
--- What an open of a held file tells.
+-- What an open of a held file gives.
 use Rattle.std.proofs.Common.{◌≡◌, ◌∙◌, [], ◌∷◌, ℕ, Bool, true, false, Option, None, Some, is_some, refl, sym, ap, subst, inl, inr}
 use Rattle.std.specs.Prelude.{◌⊎◌, IfOk, IfErr, List, Result, Ok, Err}
 use Rattle.kf_core.specs.Calls.{tried}
@@ -60,7 +60,7 @@ refused hold hold' node want mode tag refusal opens is_file =
 
 -- ---- by a path
 
--- where the key's node is a file, it is the key of that
+-- if the key's node is a file, it is the key of that
 is_file : (place key : Key) (node : Option Node) → only_file place node ≡ Ok key
     → (place ≡ key) × (mode : ℕ) × (tag : ℕ) × (node ≡ Some (File mode tag))
 is_file place key None only = absurd (cc)

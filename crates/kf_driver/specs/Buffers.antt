@@ -1,4 +1,4 @@
--- Bytes at an offset of a buffer, or of an attribute of so many bytes.
+-- Bytes at an offset of a buffer, or of an attribute of this many bytes.
 use Rattle.std.specs.Prelude.{◌≡◌, ◌+◌, ◌-◌, ◌++◌, ℕ, nat_lt, List, [], length, take, drop, Result, Ok, Err, MatchBool, min}
 use Rattle.kf_files.specs.declared.ops.Fault.{Fault}
 

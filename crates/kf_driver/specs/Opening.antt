@@ -25,7 +25,7 @@ use Rattle.kf_words.specs.Makers.{Maker}
 abbrev pub node_at : Tree → Key → Option Node
 node_at t key = option_map (λ r. r.node) (record_at t key)
 
--- the key, where its node is a file
+-- the key, if its node is a file
 abbrev pub only_file : Key → Option Node → Result Key Refusal
 only_file key None = Err NoEntry
 only_file key (Some Dir) = Err IsDir
@@ -36,8 +36,9 @@ only_file key (Some (File mode tag)) = Ok key
 abbrev pub file_at : Tree → Result Key Refusal → Result Key Refusal
 file_at t place = and_then place (λ key. only_file key (node_at t key))
 
--- the opened file is new, of the live file that the path names in this tree: it holds that, has its tag and a
--- new post of its slot and of these numbers, and its mode allows what is wanted; its hold has the same node
+-- the opened file is new, of the live file that the path names in this tree: it holds that, has its tag and
+-- a new event counter of its slot and of these numbers, and its mode allows what is asked; its hold has the
+-- same node
 pub record OpenedAt (t : Tree) (root : Key) (numbers : Numbers) (path : List ℕ) (want : Want)
     (file : Opened Handle) : Type 0 where
   pub key : Key
@@ -51,7 +52,7 @@ pub record OpenedAt (t : Tree) (root : Key) (numbers : Numbers) (path : List ℕ
   pub new : file.state ≡ new_file want
 
 -- the opened file is new, of what its hold is of: it has that file's tag and a new post of its slot and of
--- these numbers, and the file's mode allows what is wanted
+-- these numbers, and the file's mode allows what is asked
 pub record IsOpened (numbers : Numbers) (want : Want) (file : Opened Handle) : Type 0 where
   pub mode : ℕ
   pub node : file.hold.node ≡ File mode file.tag
@@ -65,7 +66,7 @@ pub record OpenerState : Type 0 where
   pub holds : Maker
   pub posts : Numbers
 
--- the opener is as it was, but for what its looker and its own hold have seen
+-- the opener is as it was, except for what its looker and its own hold have seen
 pub record IsSameOpener (old new : OpenerState) : Type 0 where
   pub root : new.looker.root ≡ old.looker.root
   pub slots : new.looker.slots ≡ old.looker.slots
@@ -81,12 +82,13 @@ abbrev pub IsPostAt : Tree → Result Key Refusal → Numbers → PostState → 
 IsPostAt t place numbers post =
     (key : Key) × (file_at t place ≡ Ok key) × IsNewPost numbers key.slot post
 
--- why there is no post of the slot: none of this many numbers is the slot's, or, where one is, no memory
+-- why there is no event counter of the slot: none of this many numbers is the slot's, or, if one is, no
+-- memory
 abbrev pub PostRefused : ℕ → ℕ → Refusal → Type 0
 PostRefused slots slot refusal =
     ((refusal ≡ NoSpace) × (slots ≤ slot)) ⊎ ((refusal ≡ NoMemory) × (slot < slots))
 
--- why a file is not opened: it is not live, or its mode denies what is wanted
+-- why a file is not opened: it is not live, or its mode denies what is asked
 abbrev pub NotOpened : ℕ → Want → Refusal → Type 0
 NotOpened mode want refusal = (refusal ≡ NoDevice) ⊎ ((refusal ≡ Access) × (allows mode want ≡ false))
 
@@ -94,7 +96,7 @@ NotOpened mode want refusal = (refusal ≡ NoDevice) ⊎ ((refusal ≡ Access) �
 abbrev pub HeldRefused : MasterView → MasterView → ℕ → Refusal → Type 0
 HeldRefused m m' slot refusal = (refusal ≡ NoMemory) ⊎ ((refusal ≡ TooManyHolds) × WasFull m slot m')
 
--- where no file was found, that is why; else there is no hold, there is no post, or it is not opened
+-- if no file was found, that is why; else there is no hold, there is no post, or it is not opened
 abbrev pub FileRefused : Locked → MasterView → ℕ → Want → Result Key Refusal → Refusal → Type 0
 FileRefused s m' slots want place refusal = MatchResult place
     (λ key. (mode tag : ℕ) → node_at s.state.tree key ≡ Some (File mode tag)

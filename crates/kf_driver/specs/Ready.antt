@@ -16,7 +16,7 @@ shown_line part = emitted [] (text_of (part ∷ Newline ∷ []))
 abbrev pub ShowsLine : {A : Type 0} → (A → Part) → Result (List ℕ) Fault → Type 0
 ShowsLine part filled = (value : _) × (filled ≡ Ok (shown_line (part value)))
 
--- what a store answers to what was read: it takes that, or gives its fault
+-- what a store returns to what was read: it takes that, or gives its fault
 abbrev pub answer_of : {A : Type 0} → Result A NotRead → Result (Unit {0}) Fault
 answer_of (Ok value) = Ok tt
 answer_of (Err why) = Err (record { number = number_of why })

@@ -1,4 +1,4 @@
--- What a table's callbacks may answer.
+-- What a table's callbacks may return.
 use Rattle.std.specs.Prelude.{◌≡◌, ℕ, List, length, Result, Ok, Err}
 use Rattle.kf_files.specs.declared.ops.Fault.{Fault}
 

@@ -14,24 +14,24 @@ use kf_groups::Attribute;
 /// What a binary attribute reads and writes, bytes at an offset with no page (`read` and `write` of `struct
 /// bin_attribute`). Any number of threads may call both at once.
 pub trait BinaryCallbacks {
-    /// A read from this offset on, into this much room, may give these bytes, or this fault. Where a driver
+    /// A read from this offset on, into this much room, may give these bytes, or this fault. If a driver
     /// does not say, any.
     ghost gives: { Self → ℕ → ℕ → Result (List ℕ) Fault → Type 0 } = { λ _ _ _ _. Unit {0} };
 
-    /// A write at this offset of these bytes may answer this. Where a driver does not say what, anything.
+    /// A write at this offset of these bytes may return this. If a driver does not say what, anything.
     ghost takes: { Self → ℕ → List ℕ → Result ℕ Fault → Type 0 } = { λ _ _ _ _. Unit {0} };
 
     /// Whether it takes writes at all.
     ghost writes: { Self → Bool } = { λ _. true };
 
     /// Puts the bytes from the offset on into the front of `out`, in which there is room for one or more, and
-    /// answers how many those are, 0 past the end; or gives a fault.
+    /// returns how many those are, 0 past the end; or gives a fault.
     fn read_at(&self, offset: u64, out: &mut [u8]) -> Result<usize, Fault>
         requires some { 0 < length out.old }
         ensures fits { IfOk result (λ count. count ≤ length out.new) }
         ensures read { gives self.now offset (length out.old) (front_of result out.new) };
 
-    /// Takes the bytes at the offset, one or more, and answers how many it took from their front, or gives a
+    /// Takes the bytes at the offset, one or more, and returns how many it took from their front, or gives a
     /// fault. For a file that nobody may write it is never called.
     fn write_at(&self, offset: u64, bytes: &[u8]) -> Result<usize, Fault>
         requires some { 0 < length bytes.now }
@@ -39,8 +39,8 @@ pub trait BinaryCallbacks {
         ensures written { takes self.now offset bytes.now result };
 }
 
-/// A binary attribute of so many bytes with its callbacks, and the rows after it. Of two rows of one tag the
-/// first counts.
+/// A binary attribute of this many bytes with its callbacks, and the rows after it. Of two rows of one tag
+/// the first counts.
 #[derive(Drop)]
 pub struct BinaryRow<A, B> {
     tag: u64,
@@ -51,9 +51,9 @@ pub struct BinaryRow<A, B> {
 
 impl<A: BinaryCallbacks, B> BinaryRow<A, B> {
     /// The row of this attribute, before the others. Its callbacks see no byte beyond the size: a read past
-    /// it gives none, a write past it is Fault 6 (`ENXIO`). Where there is no such end, it is `u64::MAX`.
+    /// it gives none, a write past it is Fault 6 (`ENXIO`). If there is no such end, it is `u64::MAX`.
     ///
-    /// Condition: its mode lets somebody write exactly where the callbacks take writes.
+    /// Condition: its mode lets somebody write exactly if the callbacks take writes.
     pub fn new(attribute: Attribute, size: u64, callbacks: A, others: B) -> BinaryRow<A, B>
         requires mode { is_writable attribute.mode ≡ A.writes callbacks }
         ensures tag { result.tag ≡ attribute.entry.tag }

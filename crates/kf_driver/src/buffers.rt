@@ -3,7 +3,7 @@ ghost use Rattle.std.specs.Prelude.{◌≡◌, ◌++◌, ◌≤◌, length, drop
 ghost use Rattle.kf_files.specs.Files.{slice};
 ghost use Rattle.kf_driver.specs.Buffers.{with_bytes, within};
 
-/// Puts the bytes of the buffer from the offset on into the front of `out`, and answers how many those are, 0
+/// Puts the bytes of the buffer from the offset on into the front of `out`, and returns how many those are, 0
 /// past its end (`memory_read_from_buffer`). The rest of `out` stays.
 pub fn read_from_buffer(buffer: &[u8], offset: u64, out: &mut [u8]) -> usize
     ensures count { result ≡ length (slice buffer.now offset (length out.old)) }
@@ -17,7 +17,7 @@ pub fn read_from_buffer(buffer: &[u8], offset: u64, out: &mut [u8]) -> usize
     found.len()
 }
 
-/// Puts those of the bytes that fit into the buffer from the offset on, and answers how many those are, 0
+/// Puts those of the bytes that fit into the buffer from the offset on, and returns how many those are, 0
 /// past its end. The rest of the buffer stays.
 pub fn write_to_buffer(buffer: &mut [u8], offset: u64, bytes: &[u8]) -> usize
     ensures count { result ≡ length (within (length buffer.old) offset bytes.now) }

@@ -13,7 +13,7 @@ use kf_shared::{Editor, Naming};
 use kf_tree::State;
 use kf_words::Hold;
 
-// The key, where its node is a file.
+// The key, if its node is a file.
 fn only_file(state: &State, key: Key) -> Result<Key, Refusal>
     ensures file { result ≡ file_at state.now.tree (Ok key) }
 {
@@ -94,8 +94,8 @@ pub fn open_path<N: Naming>(
     open_path_on(editor, posts, path, want, Page::new())
 }
 
-/// As [`open_path`], on a page of the caller's, as [`WaitingFile::open_on`] takes it: none of its 4,096 bytes
-/// is moved where it lies in a box. After a refusal the page goes.
+/// As [`open_path`], on a page that the caller lends, as [`WaitingFile::open_on`] takes it: none of its
+/// 4,096 bytes is moved if it lies in a box. After a refusal the page goes.
 pub fn open_path_on<N: Naming, P: PageHolder + Drop>(
     editor: &mut Editor<'_, N>,
     posts: &mut Posts,
@@ -117,10 +117,10 @@ pub fn open_path_on<N: Naming, P: PageHolder + Drop>(
     open_held(hold, posts, want, page)
 }
 
-/// A post of the file of this name in a directory, by which a driver tells who polls the file that it has
-/// changed ([`Post::notify`], without a look-up). No number is raised.
+/// An event counter of the file of this name in a directory, by which a driver notifies pollers of the file
+/// that it has changed ([`Post::notify`], without a look-up). No number is raised.
 ///
-/// The post is of the slot: once the file is removed, it tells of what gets that slot next.
+/// The event counter is of the slot: once the file is removed, it counts for what gets that slot next.
 ///
 /// Refusals, in order: those of [`State::find`]; IsDir (a directory), Invalid (a link); NoSpace (the posts
 /// have no number for the slot), NoMemory.
@@ -137,9 +137,9 @@ pub fn post_of(state: &State, posts: &mut Posts, dir: Key, name: &[u8]) -> Resul
     slot_post(posts, file.slot)
 }
 
-/// Tells who polls the file of this name in a directory that it has changed (`sysfs_notify`), and answers its
-/// slot's new event number and the post that made it. `Full` in place of a number where the post found the
-/// last that there is, 2^64 - 1, and then none was raised.
+/// Notifies pollers of the file of this name in a directory that it has changed (`sysfs_notify`), and
+/// returns its slot's new event number and the event counter that made it. `Full` in place of a number if
+/// the event counter found the last that there is, 2^64 - 1, and then none was raised.
 ///
 /// A driver that notifies often takes a post by [`post_of`], or keeps this one, and calls [`Post::notify`].
 ///

@@ -7,28 +7,28 @@
 //!   any.
 //! - `BinaryRow` is a binary attribute with its size; `read_from_buffer` and `write_to_buffer` serve one that
 //!   lies in memory.
-//! - An `Opener` opens files by their paths without the tree's lock, one for each thread; `open_path` opens
-//!   one under the lock. By its name in a directory `post_of` gives a file's post, and `notify` raises its
-//!   number.
+//! - An `Opener` opens files by their paths without the tree's lock, one for each thread. It takes the lock
+//!   for names of more than 24 bytes, and for slots that have no words for look-ups. `open_path` always opens
+//!   under the lock. By its name in a directory `post_of` gives a file's post, and `notify` raises its number.
 //! - `Notifier` is a post that callbacks may raise by `&`; `fault_of` makes the fault of a store that was
 //!   not read.
 //!
-//! Who makes a row shows that its mode lets somebody write exactly where the callbacks take stores.
+//! A caller that makes a row shows that its mode lets somebody write exactly if the callbacks take stores.
 //!
 //! | What a driver calls in the kernel | Here |
 //! |---|---|
 //! | `sysfs_create_group(s)`, `is_visible` | `create_group(s)`, mode 0 (`kf_groups`) |
 //! | `sysfs_remove_group(s)` | `remove_group(s)`, `remove_group_in` (`kf_groups`) |
-//! | `DEVICE_ATTR_RO` and its kin | `Attribute::read_only` and its kin (`kf_groups`) |
+//! | `DEVICE_ATTR_RO` and the like | `Attribute::read_only` and the like (`kf_groups`) |
 //! | `VERIFY_OCTAL_PERMISSIONS` | `IsMode` (`kf_groups`) |
 //! | `DEVICE_ULONG_ATTR`, `_INT_`, `_BOOL_`, `_STRING_` | `Number`, `Signed`, `Switch`, `Text` |
 //! | rows of a number that is known when it runs (`temp1_input`) | `Lines`, `LineTags` |
 //! | `sysfs_emit`, `sysfs_emit_at` | `emit`, `emit_at` (`kf_text`) |
-//! | `kstrtoul` and its kin, `sysfs_match_string` | `read_unsigned` and its kin, `read_word` (`kf_text`) |
+//! | `kstrtoul` and the like, `sysfs_match_string` | `read_unsigned` and the like, `read_word` (`kf_text`) |
 //! | `struct bin_attribute`, `memory_read_from_buffer` | `BinaryRow`; `Bytes`, `read_from_buffer` |
 //! | `sysfs_notify`, `sysfs_notify_dirent` | `notify`, `Notifier`, `Post::notify` (`kf_notify`) |
 //! | `poll` | `WaitingFile::wait_changed` (`kf_files`) |
-//! | `kobject_uevent` | `activate_and_tell` and its kin, `tell_change` (`kf_uevents`) |
+//! | `kobject_uevent` | `activate_and_tell` and the like, `tell_change` (`kf_uevents`) |
 //! | a listener's netlink socket | `Listener` (`kf_uevents`) |
 //! | `device_add`, `device_del` | `Bus::plug_in`, `unplug_in` (`kf_device`) |
 #![tactic(auto)]

@@ -1,7 +1,7 @@
 //! The tags of many lines that are alike.
 ghost use Rattle.std.specs.Prelude.{◌≡◌, ◌<◌};
 
-/// The tags of the files of lines that are alike: so many files for each line, from `first` on.
+/// The tags of the files of lines that are alike: this many files for each line, from `first` on.
 #[derive(Clone, Copy)]
 pub struct LineTags {
     pub(crate) first: u32,
@@ -10,7 +10,7 @@ pub struct LineTags {
 }
 
 impl LineTags {
-    /// Tags from `first` on, of so many files for each line.
+    /// Tags from `first` on, of this many files for each line.
     ///
     /// Condition: a line has a file.
     pub const fn new(first: u32, files: u32) -> LineTags

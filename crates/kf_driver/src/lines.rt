@@ -10,7 +10,7 @@ use kf_groups::Attribute;
 impl LineTags {
     /// The tag of a file of a line, both counted from 0. No other file of any line has it.
     ///
-    /// Condition: a line has so many files.
+    /// Condition: a line has this many files.
     pub fn of(&self, line: u32, file: u32) -> u64
         requires within { file < self.now.files }
         ensures tag { result ≡ line * self.now.files + file + self.now.first }
@@ -44,7 +44,7 @@ impl LineTags {
         u64::from(line) * u64::from(self.files) + file + u64::from(self.first)
     }
 
-    // Which file of which line has the tag. None where it is below all of them.
+    // Which file of which line has the tag. None if it is below all of them.
     fn place_of(&self, tag: u64) -> Option<(u64, u64)>
         ensures place { result ≡ place_of self.now tag }
     {
@@ -54,7 +54,7 @@ impl LineTags {
     }
 }
 
-/// The rows of lines that are alike, and the rows after them. Each line is a table of its own, of the tags
+/// The rows of lines that are alike, and the rows after them. Each line is a table by itself, of the tags
 /// from 0 on.
 #[derive(Drop)]
 pub struct Lines<'a, A, B> {

@@ -6,7 +6,7 @@ use kf_files::{Fault, Page};
 use kf_notify::{Full, Post};
 use std::sync::{Mutex, Wait};
 
-/// Tells who polls a file that it has changed, from any thread, callbacks too (`sysfs_notify_dirent`). The
+/// Notifies pollers of a file that it has changed, from any thread, callbacks too (`sysfs_notify_dirent`). The
 /// post is behind a lock that is a leaf: whoever has it takes no other and waits for nobody.
 #[derive(Drop)]
 pub struct Notifier<'a, R> {
@@ -15,7 +15,8 @@ pub struct Notifier<'a, R> {
 }
 
 impl<'a, R: Wait> Notifier<'a, R> {
-    /// The notifier of the post's slot. What its lock keeps nobody outside sees, so no clause tells of it.
+    /// The notifier of the event counter's slot. What its lock keeps nobody outside sees, so no clause
+    /// speaks of it.
     pub fn new(rt: &'a R, post: Post) -> Notifier<'a, R> {
         Notifier {
             rt,
@@ -23,9 +24,9 @@ impl<'a, R: Wait> Notifier<'a, R> {
         }
     }
 
-    /// Raises the slot's event number, and answers it. `Full` where it is the last that there is. The post
-    /// behind the lock is as the last thread left it; of one's own post [`Post::notify`] tells the number by
-    /// contract.
+    /// Raises the slot's event number, and returns it. `Full` if it is the last that there is. The event
+    /// counter behind the lock is as the last thread left it; of an event counter in your hands
+    /// [`Post::notify`] gives the number by contract.
     ///
     /// Context: takes the lock of the post.
     pub fn notify(&self) -> Result<u64, Full> {
@@ -33,7 +34,7 @@ impl<'a, R: Wait> Notifier<'a, R> {
     }
 }
 
-/// An attribute that tells who polls its file when it was stored.
+/// An attribute that notifies pollers of its file when it was stored.
 #[derive(Drop)]
 pub struct Notifying<'a, A, R> {
     /// What is shown and stored.
@@ -43,7 +44,7 @@ pub struct Notifying<'a, A, R> {
 }
 
 impl<'a, A, R> Notifying<'a, A, R> {
-    /// The attribute of these callbacks, which tells by the notifier.
+    /// The attribute of these callbacks, which notifies by the notifier.
     pub fn new(callbacks: A, notifier: Notifier<'a, R>) -> Notifying<'a, A, R>
         ensures callbacks { result.callbacks ≡ callbacks }
     {

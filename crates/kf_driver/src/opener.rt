@@ -43,7 +43,7 @@ impl<N: Naming> Model for Opener<N> {
 }
 
 impl<N: Naming> Opener<N> {
-    /// An opener for the tree of a guard, whose looker was told of all that the tree says now.
+    /// An opener for the tree of a guard, whose looker was informed of all that the tree says now.
     ///
     /// Refusals: TooManyHolds (of the root there are as many holds as there may be), NoMemory.
     pub fn new(
@@ -89,7 +89,7 @@ impl<N: Naming> Opener<N> {
 
     /// Opens the file that a path names, with no lock of the tree and no wait.
     ///
-    /// None is no refusal: ask under the lock, as [`Opener::open`] does. The looker had no answer (as of a
+    /// None is no refusal: ask under the lock, as [`Opener::open`] does. The looker found nothing (as of a
     /// name that is not there), or what it found does not open.
     #[tactic(auto, using(crate::proofs::Openings::of_hold))]
     pub fn try_open(&mut self, path: &[u8], want: Want) -> Option<BoxedFile<N>>
@@ -112,9 +112,9 @@ impl<N: Naming> Opener<N> {
         }
     }
 
-    /// Opens the file that a path names: without the lock of this tree where that can be, and else under it.
+    /// Opens the file that a path names: without the lock of this tree if that can be, and else under it.
     ///
-    /// Refusals: NoMemory (of a page); those of [`open_path`](crate::open_path), which are told under the
+    /// Refusals: NoMemory (of a page); those of [`open_path`](crate::open_path), which are found under the
     /// lock, in their order.
     ///
     /// Context: takes the tree's lock where [`Opener::try_open`] finds nothing; its caller must not have it.
@@ -137,7 +137,7 @@ impl<N: Naming> Opener<N> {
     }
 
     /// Closes a file. What it had of memory goes to the next ones: these write no count of owners that other
-    /// threads write, but for that of the event numbers.
+    /// threads write, except for that of the event numbers.
     pub fn close(&mut self, file: BoxedFile<N>)
         ensures looker { self.new.looker ≡ self.old.looker }
         ensures hold { self.new.holds.by ≡ self.old.holds.by }

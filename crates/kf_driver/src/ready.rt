@@ -20,8 +20,8 @@ pub fn emit_line(page: &mut Page, part: Part<'_>)
     emit(page, &[part, Part::Newline]);
 }
 
-/// A number that is shown in decimal, and stored where it is at most `most` (`DEVICE_ULONG_ATTR`).
-/// Any thread may store it meanwhile, so no clause tells its value.
+/// A number that is shown in decimal, and stored if it is at most `most` (`DEVICE_ULONG_ATTR`).
+/// Any thread may store it meanwhile, so no clause gives its value.
 #[derive(Drop)]
 pub struct Number {
     value: AtomicU64,
@@ -71,8 +71,8 @@ impl Callbacks for Number {
     }
 }
 
-/// A number that may be below zero, stored where it is from `least` to `most` (`DEVICE_INT_ATTR`).
-/// Any thread may store it meanwhile, so no clause tells its value.
+/// A number that may be below zero, stored if it is from `least` to `most` (`DEVICE_INT_ATTR`).
+/// Any thread may store it meanwhile, so no clause gives its value.
 #[derive(Drop)]
 pub struct Signed {
     value: AtomicI64,
@@ -126,7 +126,7 @@ impl Callbacks for Signed {
 }
 
 /// A switch: `1` or `0`, stored by what `read_flag` takes (`DEVICE_BOOL_ATTR`). Any
-/// thread may store it meanwhile, so no clause tells its value.
+/// thread may store it meanwhile, so no clause gives its value.
 #[derive(Drop)]
 pub struct Switch {
     value: AtomicBool,

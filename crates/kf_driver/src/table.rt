@@ -12,22 +12,22 @@ use kf_groups::Attribute;
 /// threads may call both at once. What takes a lock keeps the runtime in its struct: `Label<'a, R>` with
 /// `rt: &'a R` beside its `Mutex`, and `impl<R: Wait> Callbacks for Label<'_, R>`.
 pub trait Callbacks {
-    /// A show may fill a page with these bytes, or give this fault. Where a driver does not say, any.
+    /// A show may fill a page with these bytes, or give this fault. If a driver does not say, any.
     ghost shows: { Self → Result (List ℕ) Fault → Type 0 } = { λ _ _. Unit {0} };
 
-    /// A store of these bytes may answer this. Where a driver does not say what, anything.
+    /// A store of these bytes may return this. If a driver does not say what, anything.
     ghost takes: { Self → List ℕ → Result (Unit {0}) Fault → Type 0 } = { λ _ _ _. Unit {0} };
 
     /// Whether it takes stores at all.
     ghost stores: { Self → Bool } = { λ _. true };
 
-    /// Fills the empty page, or gives a fault, as 5 where the device does not answer (`EIO`). What it filled
+    /// Fills the empty page, or gives a fault, as 5 if the device does not respond (`EIO`). What it filled
     /// before a fault is not shown.
     fn show(&self, page: &mut Page) -> Result<(), Fault>
         requires empty { page.old.items ≡ [] }
         ensures shown { shows self.now (filled_by result page.new.items) };
 
-    /// Takes all of the bytes, 1 to 4,096 of them, or gives a fault, as 5 where the device does not answer
+    /// Takes all of the bytes, 1 to 4,096 of them, or gives a fault, as 5 if the device does not respond
     /// (`EIO`), or that of what they do not say ([`crate::fault_of`]). For a file that nobody may write it is
     /// never called.
     fn store(&self, bytes: &[u8]) -> Result<(), Fault>
@@ -41,13 +41,13 @@ pub trait DriverTable {
     /// A show for this tag may fill a page with these bytes, or give this fault.
     ghost may_show: { Self → ℕ → Result (List ℕ) Fault → Type 0 };
 
-    /// A store of these bytes for this tag may answer this.
+    /// A store of these bytes for this tag may return this.
     ghost may_store: { Self → ℕ → List ℕ → Result ℕ Fault → Type 0 };
 
     /// A read for this tag from this offset on, into this much room, may give these bytes, or this fault.
     ghost may_read_at: { Self → ℕ → ℕ → ℕ → Result (List ℕ) Fault → Type 0 };
 
-    /// A write for this tag at this offset of these bytes may answer this.
+    /// A write for this tag at this offset of these bytes may return this.
     ghost may_write_at: { Self → ℕ → ℕ → List ℕ → Result ℕ Fault → Type 0 };
 
     /// Shows the attribute of this tag on the empty page.
@@ -62,13 +62,13 @@ pub trait DriverTable {
         ensures stored { may_store self.now tag bytes.now result };
 
     /// Reads the binary attribute of this tag from the offset on into the front of `out`, which has room for
-    /// a byte or more, and answers how many bytes those are.
+    /// a byte or more, and returns how many bytes those are.
     fn read_at(&self, tag: u64, offset: u64, out: &mut [u8]) -> Result<usize, Fault>
         requires some { 0 < length out.old }
         ensures fits { IfOk result (λ count. count ≤ length out.new) }
         ensures read { may_read_at self.now tag offset (length out.old) (front_of result out.new) };
 
-    /// Writes the bytes, one or more, into the binary attribute of this tag at the offset, and answers how
+    /// Writes the bytes, one or more, into the binary attribute of this tag at the offset, and returns how
     /// many of them it took.
     fn write_at(&self, tag: u64, offset: u64, bytes: &[u8]) -> Result<usize, Fault>
         requires some { 0 < length bytes.now }
@@ -91,7 +91,7 @@ pub struct End;
 impl<A: Callbacks, B> Row<A, B> {
     /// The row of this attribute, before the others.
     ///
-    /// Condition: its mode lets somebody write exactly where the callbacks take stores. What is only read is
+    /// Condition: its mode lets somebody write exactly if the callbacks take stores. What is only read is
     /// a [`crate::ReadOnly`], or says so by the ghost `stores`.
     pub fn new(attribute: Attribute, callbacks: A, others: B) -> Row<A, B>
         requires mode { is_writable attribute.mode ≡ A.stores callbacks }

@@ -13,7 +13,7 @@ use Rattle.kf_core.specs.Tree.{Tree, is_linked}
 use Rattle.kf_core.proofs.FoundRecords.{linked_here}
 use Rattle.kf_core.proofs.Lists.{count_cleared, count_filled, count_mapped}
 use Rattle.kf_core.proofs.Tallies.{count_cons}
-use Rattle.kf_core.specs.Counts.{tally}
+use Rattle.kf_core.specs.Tallies.{tally}
 use Rattle.kf_shared.specs.Locked.{Locked, UnlinkDone}
 use Rattle.kf_table.proofs.ChildTests.{both}
 use Rattle.kf_tree.specs.TreeLogs.{TreeLog, IsAccepted}
@@ -63,7 +63,7 @@ same_first None None keeps few = refl
 same_first None (Some s) keeps few = absurd (omega (arith, few))
 same_first (Some r) y keeps few = keeps r refl
 
--- a tree of as many slots and no more nodes, that keeps the records of another, is that
+-- a tree of as many slots and at most as many nodes, which keeps the records of another, is that
 kept_all : (old new : Tree) → length new ≡ length old → Keeps old new → node_count new ≤ node_count old → new ≡ old
 kept_all [] [] l keeps few = refl
 kept_all [] (y ∷ ys) l keeps few = absurd (omega (arith, l))
@@ -87,7 +87,7 @@ unlinked_one old new key drained r did linked done =
     let accepted : UnlinkDone old new drained true = subst (λ x. IfOk x (λ linked. UnlinkDone old new drained linked)) did done in
     ap (λ (t : Tree). node_count t + 1) accepted.changed ∙ unlinked_fewer old.state.tree drained there
 
--- one more of these was unlinked, where each was so far
+-- one more of these was unlinked, if each was so far
 pub unlinked_more : (n0 n1 n2 held : ℕ) (all one : Bool) (xs ys : List Handle) (h : Handle) → xs ≡ h ∷ ys
     → (all ≡ true → n1 + held ≡ n0 + length xs) → (one ≡ true → n2 + 1 ≡ n1) → (all && one) ≡ true → n2 + held ≡ n0 + length ys
 unlinked_more n0 n1 n2 held all one xs ys h parts before now h' =
@@ -121,7 +121,7 @@ directory_gone n0 n1 n2 files all one before now h' =
     let y = now b.1 in
     omega (arith, x, y)
 
--- where the records stay and as many nodes are linked, the tree is as it was
+-- if the records stay and as many nodes are linked, the tree is as it was
 pub room_refused : (old new : Tree) (why refusal : Refusal) → length new ≡ length old → Keeps old new
     → LacksRoom old new why refusal → RoomRefused old new why refusal
 room_refused old new why refusal same keeps (inl slots) =

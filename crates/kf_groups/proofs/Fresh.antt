@@ -163,7 +163,7 @@ module _ (old new : TreeLog) (dir key : Key) (attributes : List Attribute) (l : 
         | inr w ↦ w
       ]
 
-  -- so the directory has no entry of that name where it had none
+  -- so the directory has no entry of that name if it had none
   pub no_other : (own : Option (Bor (List ℕ))) → MadeByName old new dir attributes own key → (name : List ℕ)
       → makes_by_name attributes own name ≡ false → has_entry old.tree dir name ≡ false → has_entry new.tree dir name ≡ false
   no_other own made name other none = elim (has_entry new.tree dir name) as (λ b. has_entry new.tree dir name ≡ b → b ≡ false) [

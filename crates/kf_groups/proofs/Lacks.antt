@@ -1,4 +1,4 @@
--- The activation of a linked node is refused for memory alone, a creation with no fault for a slot too.
+-- The activation of a linked node is refused only for memory, a creation with no fault for a slot too.
 use Rattle.std.proofs.Common.{◌≡◌, inl, inr, ap, subst, sym, ◌∙◌, ℕ, true, List, [], ◌∷◌}
 use Rattle.std.specs.Prelude.{Option, None, Some, is_some}
 use Rattle.std.proofs.lemmas.Option.{none-some, same_Some}

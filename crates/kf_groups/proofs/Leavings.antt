@@ -38,7 +38,7 @@ pub stopped_refusal : (table : TableId) (s : Locked) (dir : Key) (name : Option 
 stopped_refusal table s dir None why whole none = inr (inr none)
 stopped_refusal table s dir (Some name) why whole refused = name_refusal table s dir name.now why whole refused
 
--- the answer is the refusal that ended it
+-- the return is the refusal that ended it
 pub ended_refused : (refused : Option Refusal) (r : Result (Unit {0}) Refusal) (P : Refusal → Type 0) → r ≡ ended refused → IfSome refused P → IfErr r P
 ended_refused None r P is why = subst (λ x. IfErr x P) (sym is) tt
 ended_refused (Some refusal) r P is why = subst (λ x. IfErr x P) (sym is) why

@@ -53,7 +53,7 @@ child_stands t dir name r h = go (first (test dir name) t) refl h
           refl,
         )
 
--- where the directory has an entry of the name, a record stands there
+-- if the directory has an entry of the name, a record stands there
 pub entry_stands : (t : Tree) (dir : Key) (name : List ℕ) → has_entry t dir name ≡ true → Stands t dir name
 entry_stands t dir name h = go (child t dir name) refl h
   where
@@ -77,7 +77,7 @@ found_stands t dir key name h =
     let e = entry_is (record_at t dir) (child t dir name) key h in
     let s = child_stands t dir name e.0 e.1 in (s.0, ap (λ (r : Record). r.key) s.1 ∙ e.2)
 
--- what a name leads to is no older node, where the directory had no entry of it
+-- what a name leads to is no older node, if the directory had no entry of it
 pub found_younger : (base t : Tree) (root dir key : Key) (name : List ℕ) → Lawful t root → Keeps base t → has_entry base dir name ≡ false
     → found t dir name ≡ Ok key → is_linked base key ≡ false
 found_younger base t root dir key name l keeps none h = elim (is_linked base key) as (λ b. is_linked base key ≡ b → b ≡ false) [

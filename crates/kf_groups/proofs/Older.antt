@@ -1,4 +1,4 @@
--- The records of an older tree stay, where what was made since is changed.
+-- The records of an older tree stay, when what was made since is changed.
 use Rattle.std.proofs.Common.{◌≡◌, inl, inr, ℕ, zero, suc, refl, ap, sym, subst, arith, ◌∙◌, Bool, true, false, cond, List, [], ◌∷◌, slice_set}
 use Rattle.std.specs.Prelude.{Option, None, Some, slice_get, is_some, not, ◌&&◌, map, All}
 use Rattle.std.specs.Option.{option_map}

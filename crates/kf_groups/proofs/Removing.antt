@@ -1,4 +1,5 @@
--- What a name leads to in a lawful tree is not the root, so a removal by name is refused for other reasons alone.
+-- What a name leads to in a lawful tree is not the root, so a removal by name is refused only for other
+-- reasons.
 use Rattle.std.proofs.Common.{◌≡◌, ◌≢◌, ◌⊎◌, inl, inr, refl, ap, sym, ◌∙◌, ℕ, Bool, true, false, List, [], ◌∷◌}
 use Rattle.std.specs.Prelude.{Option, None, Some, Result, Ok, Err, not, slice_get, if◌then◌else◌}
 use Rattle.std.specs.Option.{option_and_then, ok_or}
@@ -40,7 +41,7 @@ key_refusal s key why other (inl cause) = go (is_linked s.tree key) (same_key ke
     go true true e c = absurd (other (same_key_is key s.root e))
     go true false e c = absurd (none-some why c)
 
--- the refusal, where it is one
+-- the refusal, if it is one
 abbrev told : Result Key Refusal → Refusal
 told (Ok key) = NoEntry
 told (Err refusal) = refusal

@@ -82,7 +82,7 @@ module _ (table : TableId) (s0 s1 : Locked) (dir key : Key) (name : List ℕ) (n
   pub fresh : is_linked s0.state.tree key ≡ false
   fresh = not_linked s0.state.tree key dir name node false slot
 
-  -- what was there before stays, where the node is taken back
+  -- what was there before stays, if the node is taken back
   pub stays : (t2 t3 : Tree) → Keeps s1.state.tree t2 → KeepsOlder key t2 t3 → Keeps s0.state.tree t3
   stays t2 t3 since older = older s0.state.tree s0.state.root whole.kept.lawful fresh
       (keeps_on s0.state.tree s1.state.tree t2 made_keeps since)

@@ -47,7 +47,7 @@ files_cause fault (attribute ∷ attributes) = first_cause (
     ∷ files_cause fault attributes
     ∷ [])
 
--- why the file of this attribute is refused, where there is one and these come later
+-- why the file of this attribute is refused, if there is one and these come later
 abbrev pub shown_cause : (Attribute → Option Refusal) → Attribute → List Attribute → Option Refusal
 shown_cause fault attribute later = if is_shown attribute
     then first_cause (fault attribute ∷ unless (not (has_name (shown later) attribute.name.now)) Exists ∷ [])
@@ -58,7 +58,7 @@ abbrev pub file_fault : Tree → Key → Option Key → Attribute → Option Ref
 file_fault t root None attribute = name_fault attribute.name.now
 file_fault t root (Some dir) attribute = create_fault t root dir attribute.name.now (file_of attribute)
 
--- what is wrong with the group's own directory, or where it has none with the one that its files are to stand
+-- what is wrong with the group's own directory or, if it has none, with the one that its files are to stand
 -- in; and with its files
 abbrev pub cause_by_name : Tree → Key → Key → List Attribute → Option (Bor (List ℕ)) → Option Refusal
 cause_by_name t root dir attributes None = first_cause (
@@ -70,11 +70,11 @@ cause_by_name t root dir attributes (Some name) = first_cause (
     ∷ files_cause (file_fault t root None) (shown attributes)
     ∷ [])
 
--- why a group is refused, want of slots and memory aside
+-- why a group is refused, lack of slots and memory aside
 abbrev pub group_cause : Tree → Key → Key → Group → Option Refusal
 group_cause t root dir group = cause_by_name t root dir group.attributes.now group.name
 
--- how many nodes the group is: its files, and its directory, where it has one of its own
+-- how many nodes the group is: its files, and its directory, if it has one
 abbrev pub size_by_name : ℕ → Option (Bor (List ℕ)) → ℕ
 size_by_name files None = files
 size_by_name files (Some name) = suc files

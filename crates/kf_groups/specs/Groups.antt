@@ -78,7 +78,7 @@ GroupsTakenBack old new dir (group ∷ groups) why =
     × GroupsTakenBack made stopped dir groups why
     × GroupTakenBack stopped new dir key (shown group.attributes.now) group.name)
 
--- there was this against the groups, and nothing changed; or there was not, and for want of a slot or of
+-- there was this against the groups, and nothing changed; or there was not, and for lack of a slot or of
 -- memory what was made of them was taken back, all but nodes whose removal was refused
 abbrev pub GroupsRefused : Locked → Locked → Key → List Group → Refusal → Type 0
 GroupsRefused old new dir groups refusal =

@@ -16,7 +16,7 @@ use Rattle.kf_shared.specs.Removal.{keys_of}
 use Rattle.kf_groups.specs.declared.attribute.Attribute.{Attribute}
 use Rattle.kf_groups.specs.declared.attribute.Group.{Group}
 
--- the name leads to a node: it alone is doomed, with all below it, and these holds are of its subtree, in
+-- the name leads to a node: only it is doomed, with all below it, and these holds are of its subtree, in
 -- post-order
 pub record NameBegun (s s' : TreeLog) (dir : Key) (name : List ℕ) (holds : List Handle) : Type 0 where
   pub key : Key
@@ -61,12 +61,12 @@ StoppedByName s dir (Some name) why = NamedRefused s (found s.tree dir name.now)
 abbrev pub GroupStopped : TreeLog → Key → Group → Refusal → Type 0
 GroupStopped s dir group why = StoppedByName s dir group.name why
 
--- the refusal that ended it, where one did
+-- the refusal that ended it, if one did
 abbrev pub why_ended : Result (Unit {0}) Refusal → Option Refusal
 why_ended (Ok done) = None
 why_ended (Err why) = Some why
 
--- the answer, once all is finished
+-- the result, once all is finished
 abbrev pub ended : Option Refusal → Result (Unit {0}) Refusal
 ended None = Ok tt
 ended (Some why) = Err why

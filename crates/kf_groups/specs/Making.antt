@@ -15,7 +15,7 @@ use Rattle.kf_groups.specs.Attributes.{shown, file_of, group_cause}
 abbrev pub creation : Key → Attribute → Key → Command
 creation dir attribute key = Create key dir attribute.name.now (file_of attribute) false
 
--- files are made, one after another, under these keys; where there are fewer keys, the first files alone
+-- files are made, one after another, under these keys; if there are fewer keys, only the first files
 abbrev pub creations : Key → List Attribute → List Key → List Command
 creations dir (attribute ∷ attributes) (key ∷ keys) =
     creation dir attribute key ∷ creations dir attributes keys
@@ -32,7 +32,7 @@ abbrev pub named_creations : Key → List ℕ → List Attribute → Key → Lis
 named_creations dir name attributes key keys =
     Create key dir name Dir false ∷ (creations key attributes keys ++ Activate key ∷ [])
 
--- the group was made: its files right in the directory, or in one of its own, which is new
+-- the group was made: its files right in the directory, or in a new one that is only the group's
 abbrev pub MadeByName : TreeLog → TreeLog → Key → List Attribute → Option (Bor (List ℕ)) → Key → Type 0
 MadeByName old new dir attributes None key = (key ≡ dir) × ((keys : List Key)
     × (length keys ≡ length attributes) × Stores old new (live_creations dir attributes keys))

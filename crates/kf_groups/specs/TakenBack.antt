@@ -30,7 +30,7 @@ abbrev pub RoomRefused : Tree → Tree → Refusal → Refusal → Type 0
 RoomRefused old new why refusal =
     ((refusal ≡ NoSpace) × (why ≡ NoSpace) × (new ≡ old)) ⊎ (refusal ≡ NoMemory)
 
--- this was the reason, and so many nodes fewer are linked; or there was no memory
+-- this was the reason, and this many nodes fewer are linked; or there was no memory
 abbrev pub GaveUp : ℕ → Tree → Tree → Refusal → Refusal → Type 0
 GaveUp nodes old new refusal result =
     ((result ≡ refusal) × (node_count new + nodes ≡ node_count old)) ⊎ (result ≡ NoMemory)
@@ -51,7 +51,7 @@ DoomedAndUnlinked old new key = (order unlinked : List Key) × IsPostOrder old.s
 abbrev pub TookBack : Locked → Locked → Key → Type 0
 TookBack old new key = TakeBackRefused old new key ⊎ DoomedAndUnlinked old new key
 
--- the node that stands in the directory under this name, live or not, was taken back; where none does,
+-- the node that stands in the directory under this name, live or not, was taken back; if none does,
 -- nothing was done
 abbrev pub NameTookBack : Locked → Locked → Key → List ℕ → Type 0
 NameTookBack old new dir name = IfOk (found old.state.tree dir name) (λ key. TookBack old new key)
@@ -67,7 +67,7 @@ EachTookBack old new dir (attribute ∷ attributes) = (between : Locked)
 abbrev pub FileMade : Locked → Locked → Key → Attribute → Key → Type 0
 FileMade old new dir attribute key = Created old new dir attribute.name.now (file_of attribute) false key
 
--- files were all made and activated; for want of memory to activate an earlier one they were taken back
+-- files were all made and activated; for lack of memory to activate an earlier one they were taken back
 abbrev pub LiveTakenBack : Locked → Locked → Key → List Attribute → Refusal → Type 0
 LiveTakenBack old new dir attributes why = (why ≡ NoMemory) × (live : Locked)
     × ((keys : List Key) × (length keys ≡ length attributes)
@@ -84,7 +84,7 @@ FilesTakenBack old new dir (attribute ∷ attributes) why =
     × (FilesTakenBack made stopped dir attributes why ⊎ LiveTakenBack made stopped dir attributes why)
     × TookBack stopped new key)
 
--- files were all made, and their directory was not activated for want of memory
+-- files were all made, and their directory was not activated for lack of memory
 abbrev pub NotActivated : Locked → Locked → Key → List Attribute → Refusal → Type 0
 NotActivated old new key attributes why = (why ≡ NoMemory) × (keys : List Key)
     × (length keys ≡ length attributes) × Stores old.state new.state (creations key attributes keys)
@@ -104,7 +104,7 @@ TakenBackByName old new dir attributes None why = FilesTakenBack old new dir att
 TakenBackByName old new dir attributes (Some name) why =
     DirectoryTakenBack old new dir name.now attributes why
 
--- there was this against the group, and nothing changed; or there was not, and for want of a slot or of
+-- there was this against the group, and nothing changed; or there was not, and for lack of a slot or of
 -- memory what was made of it was taken back, all but nodes whose removal was refused
 abbrev pub GroupRefused : Locked → Locked → Key → Group → Refusal → Type 0
 GroupRefused old new dir group refusal =

@@ -58,14 +58,14 @@ impl<'a> Attribute<'a> {
 /// A group of attributes (`struct attribute_group`).
 #[derive(Clone, Copy)]
 pub struct Group<'a> {
-    /// The name of its own directory. None: its files stand right in the directory that it is made in.
+    /// The name of the group's directory. None: its files stand right in the directory that it is made in.
     pub name: Option<&'a [u8]>,
     /// Its attributes.
     pub attributes: &'a [Attribute<'a>],
 }
 
 impl<'a> Group<'a> {
-    /// The group of this name, where it has one, with these attributes.
+    /// The group of this name, if it has one, with these attributes.
     pub const fn new(name: Option<&'a [u8]>, attributes: &'a [Attribute<'a>]) -> Group<'a>
         ensures name { result.name ≡ name.entry }
         ensures attributes { result.attributes.now ≡ attributes.now }

@@ -53,7 +53,7 @@ fn file_fault(state: &State, dir: Option<Key>, attribute: &Attribute) -> Option<
     }
 }
 
-// Why the first of these files is refused, where there is one.
+// Why the first of these files is refused, if there is one.
 fn first_cause(
     state: &State,
     dir: Option<Key>,
@@ -99,7 +99,7 @@ fn dir_fault(state: &State, dir: Key) -> Option<Refusal>
     }
 }
 
-/// Why the group is refused, want of slots and memory aside.
+/// Why the group is refused, lack of slots and memory aside.
 pub(crate) fn group_cause(state: &State, dir: Key, group: &Group) -> Option<Refusal>
     ensures first { result ≡ group_cause state.now.tree state.now.root dir group.now }
 {
@@ -159,7 +159,7 @@ fn clashes(others: &[Group], group: &Group) -> bool
     others.iter().any(|other| shares(group, other))
 }
 
-/// Why these groups are refused, want of slots and memory aside.
+/// Why these groups are refused, lack of slots and memory aside.
 pub(crate) fn groups_cause(state: &State, dir: Key, groups: &[Group]) -> Option<Refusal>
     ensures first { result ≡ groups_cause state.now.tree state.now.root dir groups.now }
 {

@@ -109,12 +109,12 @@ fn make_groups<N: Naming>(
 /// Makes several groups in a directory, all or nothing, in this turn of the lock (`sysfs_create_groups`).
 /// Each may have a name or not.
 ///
-/// Refusals, in order: of one group after another those of [`create_group`], and Exists where a later one
+/// Refusals, in order: of one group after another those of [`create_group`], and Exists if a later one
 /// makes an entry of the same name. After these nothing has changed. Then NoSpace (a search found no free
 /// slot): the tree is as it was, with more commands stored and generations used. Last NoMemory, be it to take
 /// back what was made: what lacks memory for that stays, and may be live.
 ///
-/// Whatever the answer, each node that was there is as it was.
+/// Whatever the result, each node that was there is as it was.
 pub fn create_groups<N: Naming>(
     editor: &mut Editor<'_, N>,
     dir: Key,

@@ -1,4 +1,4 @@
-//! The removal of a group begins under a lock, and is finished with the lock let go.
+//! The removal of a group begins under a lock, and is finished once it is unlocked.
 ghost use Rattle.std.specs.Prelude.{◌≡◌, ◌+◌, ◌≤◌, ◌++◌, List, length, vec_capacity, IfOk, IfErr, IfSome, OnErr};
 ghost use Rattle.kf_tree.specs.Paths.{found};
 ghost use Rattle.kf_words.specs.Callers.{Handle};
@@ -13,9 +13,9 @@ use kf_shared::{Editor, Naming, Removing, SharedTree, release_all};
 use std::alloc::Global;
 use std::sync::Wait;
 
-/// What the removal of a group has begun. It must be spent, by [`Leaving::finish`], with the lock let go.
+/// What the removal of a group has begun. It must be spent, by [`Leaving::finish`], unlocked.
 pub struct Leaving<N: Naming> {
-    /// The removal of the group's own directory, where it has a name.
+    /// The removal of the group's own directory, if it has a name.
     pub directory: Option<Removing<N>>,
     /// Those of the files of a group without a name, in the order of its attributes.
     pub files: Vec<Removing<N>>,
@@ -65,12 +65,12 @@ fn begin_files<N: Naming>(
     }
 }
 
-/// Begins the removal of what has a group's names in a directory, under this lock: of its own directory with
-/// all in it, or of each of its files that is there. All of that is marked at once, and nothing else.
+/// Begins the removal of what has a group's names in a directory, under this lock: of the group's directory
+/// with all in it, or of each of its files that is there. All of that is marked at once, and nothing else.
 ///
 /// Refusals, in order: of a group with a name NoEntry (`dir` is not linked), NotDir, NoEntry (its directory
 /// is not there), then TooManyHolds or NoMemory, whichever is met first; of one without a name NoMemory. Then
-/// nothing has changed. Why a file is refused stands in the answer, beside what was begun before it.
+/// nothing has changed. Why a file is refused is in the result, beside what was begun before it.
 pub fn remove_group_in<N: Naming>(
     editor: &mut Editor<'_, N>,
     alloc: Global,

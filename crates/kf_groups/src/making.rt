@@ -126,14 +126,14 @@ fn make_directory<N: Naming>(
 /// (`sysfs_create_group`): nothing of it is live until all is there. Gives the key of the directory that its
 /// files stand in.
 ///
-/// Refusals, in order: those of [`Editor::create`] for the group's own directory, where it has a name, and
+/// Refusals, in order: those of [`Editor::create`] for the group's own directory, if it has a name, and
 /// else NoEntry (`dir` is not linked) and NotDir; then of one attribute after another what is wrong with its
-/// file, and Exists where a later one has its name. After these nothing has changed. Then NoSpace (a search
+/// file, and Exists if a later one has its name. After these nothing has changed. Then NoSpace (a search
 /// found no free slot): what was made is taken back under the same lock, so the tree is as it was, with more
 /// commands stored and generations used. Last NoMemory, be it for that: what lacks memory to be taken back
 /// stays, and may be live.
 ///
-/// Whatever the answer, each node that was there is as it was.
+/// Whatever the result, each node that was there is as it was.
 pub fn create_group<N: Naming>(
     editor: &mut Editor<'_, N>,
     dir: Key,

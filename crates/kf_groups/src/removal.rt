@@ -9,7 +9,7 @@ use kf_shared::{Naming, SharedTree};
 use std::alloc::Global;
 use std::sync::Wait;
 
-// The same answer, but for NoEntry: what may be away has then nothing to be removed.
+// The same result, except for NoEntry: what may be away has then nothing to be removed.
 fn or_away(removed: Result<(), Refusal>) -> Result<(), Refusal>
     requires refused { IfErr removed (λ refusal. NameRefusal refusal) }
     ensures refused { IfErr result (λ refusal. EntryRefusal refusal) }
@@ -47,7 +47,7 @@ pub fn remove_group<N: Naming, R: Wait>(
 /// (`sysfs_remove_groups`). A group whose own directory is not there is passed over.
 ///
 /// Refusals, of one group after another: NotDir, then TooManyHolds or NoMemory, whichever is met first. The
-/// first ends it: that group and those after it stay, but for what of it was removed before.
+/// first ends it: that group and those after it stay, except for what of it was removed before.
 ///
 /// Context: sleeps; takes the tree's lock, which its caller must not have.
 pub fn remove_groups<N: Naming, R: Wait>(

@@ -48,7 +48,7 @@ fn did_unlink(unlinked: Result<bool, Refusal>) -> bool
     }
 }
 
-// Takes the node of a hold out of the tree, where it is drained. Whether it did.
+// Takes the node of a hold out of the tree, if it is drained. Whether it did.
 fn unlink<N: Naming>(editor: &mut Editor<'_, N>, hold: Hold) -> bool
     requires table { hold.table ≡ N.table }
     ensures unlinked { (keys : List Key) × All (λ key. key ≡ hold.key) keys
@@ -70,7 +70,7 @@ fn unlink<N: Naming>(editor: &mut Editor<'_, N>, hold: Hold) -> bool
     }
 }
 
-// Takes the nodes of these holds out of the tree, each where it is drained. Whether it did so with all.
+// Takes the nodes of these holds out of the tree, each if it is drained. Whether it did so with all.
 fn unlink_each<N: Naming>(editor: &mut Editor<'_, N>, holds: Vec<Hold>) -> bool
     requires tables { AreOf N.table holds.items }
     ensures unlinked { (keys : List Key) × All (Contains (keys_of holds.items)) keys
@@ -90,7 +90,7 @@ fn unlink_each<N: Naming>(editor: &mut Editor<'_, N>, holds: Vec<Hold>) -> bool
 }
 
 /// Takes a node back that was made in this turn of the lock, with all below it. Nobody was ever let in there,
-/// so it does not wait. Where there is no memory for that, it stays. Whether one node was taken out of the
+/// so it does not wait. If there is no memory for that, it stays. Whether one node was taken out of the
 /// tree, and that was all of it.
 pub(crate) fn take_back<N: Naming>(editor: &mut Editor<'_, N>, key: Key) -> bool
     ensures took { TookBack editor.old editor.new key }
@@ -107,7 +107,7 @@ pub(crate) fn take_back<N: Naming>(editor: &mut Editor<'_, N>, key: Key) -> bool
     alone & all
 }
 
-/// Takes the one node back, and gives the reason for that: NoMemory where it stays.
+/// Takes the one node back, and gives the reason for that: NoMemory if it stays.
 pub(crate) fn give_up<N: Naming>(editor: &mut Editor<'_, N>, key: Key, refusal: Refusal) -> Refusal
     ensures took { TookBack editor.old editor.new key }
     ensures older { KeepsOlder key editor.old.state.tree editor.new.state.tree }
@@ -121,7 +121,7 @@ pub(crate) fn give_up<N: Naming>(editor: &mut Editor<'_, N>, key: Key, refusal: 
     }
 }
 
-// Takes the node back that stands in the directory under this name, where one does. Whether one was taken
+// Takes the node back that stands in the directory under this name, if one does. Whether one was taken
 // out of the tree, and that was all of it.
 fn take_back_name<N: Naming>(editor: &mut Editor<'_, N>, dir: Key, name: &[u8]) -> bool
     ensures took { NameTookBack editor.old editor.new dir name.now }

@@ -75,7 +75,7 @@ pub ends_of_more : (keys : List Key) (key : Key) (a b : Locked) → Contains key
 ends_of_more keys key a b here (more, all, stores, claims) =
     (more, All-weaker (IsEndOf (key ∷ [])) (IsEndOf keys) (end_of_more keys key here) more all, stores, claims)
 
--- a key alone
+-- only a key
 pub alone : (key : Key) → Contains (key ∷ []) key
 alone key = (0, omega arith, refl)
 
@@ -94,7 +94,7 @@ rest_of P all rest hold parts each = λ i d inside. subst (All P) parts each (su
 pub first_of : (P : Handle → Type 0) (all rest : List Handle) (hold : Handle) → all ≡ hold ∷ rest → All P all → P hold
 first_of P all rest hold parts each = subst (All P) parts each 0 hold (omega arith)
 
--- ---- what is told of a node
+-- ---- what is reported of a node
 
 doomed_of : (t : Tree) (found : Option Record) (stat : Stat) → option_map (stat_of t) found ≡ Some stat
     → stat.doomed ≡ are_doomed (option_map (λ r. r.marks) found)

@@ -22,7 +22,7 @@ looked_once : (before after : Handle) → HasLookedAgain before after → before
 looked_once before after looked phase = other looked (λ seen.
     let never : phase_of.Hiding ≡ phase_of.Hidden = sym phase ∙ seen.0 in cc)
 
--- what its look does not change tells as little against the file
+-- what its look does not change says as little against the file
 accepted_of_same : (old new : TreeLog) (before after : Handle) (command : Command)
     → after.key ≡ before.key → after.node ≡ before.node
     → IsAccepted old new (hold_cause old.tree before) command

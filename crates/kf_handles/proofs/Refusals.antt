@@ -35,7 +35,7 @@ found_full m m' slot (found, full, is) = subst (λ (w : MasterView). FoundFull w
 top_in : (t : Tree) (top : Key) (m : MasterView) → FoundFull m top.slot → FoundFullIn t top m
 top_in t top m full = (top, meets_here (parent_of t) (length t) top top (same_key_self top), full)
 
--- of a linked node a hold was refused, since there is one too many, or for want of memory
+-- of a linked node a hold was refused, since there is one too many, or for lack of memory
 hold_was_full : (old mid : Locked) (key : Key) (why : Refusal) → is_linked old.state.tree key ≡ true
     → HoldRefused old mid key why
     → (why ≡ NoMemory) ⊎ ((why ≡ TooManyHolds) × FoundFull mid.master.view key.slot)
@@ -58,7 +58,7 @@ full_of old new key refused = go (is_linked old.state.tree key) refused
     go true full = found_full old.master.view new.master.view key.slot full
     go false (never, same) = cc
 
--- a hold of the top was refused, and want of memory was answered last
+-- a hold of the top was refused, and lack of memory was returned last
 pub by_hold : (old mid new : Locked) (key : Key) (why told : Refusal) → is_linked old.state.tree key ≡ true
     → doom_cause old.state.tree old.state.root key ≡ None → mid.state ≡ old.state → HoldRefused old mid key why
     → (why ≢ NoMemory → (told ≡ why) × (new ≡ mid))
@@ -78,7 +78,7 @@ by_hold old mid new key why told linked none same refused other memory =
           )
     ])
 
--- a step that the tree refuses is told so
+-- a step that the tree refuses is reported so
 pub step_told : (what : Task) (old new : Object) (why : Refusal) (number : ℤ) → SteppedBehind what old new (told.Refused why)
     → number ≡ neg_ℤ (pos (number_of why)) → StepToldWhy what old new number
 step_told what (behind.Tree old) (behind.Tree new) why number h e = (why, e, h.0)

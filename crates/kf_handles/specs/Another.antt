@@ -8,7 +8,7 @@ use Rattle.kf_handles.specs.declared.object.Seat.{Seat}
 use Rattle.kf_handles.specs.declared.object.Seat.TheVariants as seat
 use Rattle.kf_handles.specs.LookUps.{error_in_c}
 
--- one hold more of its node was counted, and got a seat of its own; the first stays as it is
+-- one hold more of its node was counted, and got a seat; the first stays as it is
 abbrev pub CountedAnother : Handle → Handle → Handle → Type 0
 CountedAnother hold after other = IsSameSeat hold after × StaysAs hold after × IsAnother hold other
     × WasCountedFor (seat_view hold) (seat_view after) other.seen
@@ -19,7 +19,7 @@ GaveAnother (seat.Hold held) (seat.Hold after) (seat.Hold other) =
     CountedAnother held.hold after.hold other.hold
 GaveAnother old new other = ⊥
 
--- a second hold was refused, and the first stays as it is, but for what it saw; what is no hold stays
+-- a second hold was refused, and the first stays as it is, except for what it saw; what is no hold stays
 abbrev pub GaveNoOther : Seat → Seat → Type 0
 GaveNoOther (seat.Hold held) (seat.Hold after) = IsSameSeat held.hold after.hold
     × StaysAs held.hold after.hold × Missed misses 1 64 (seat_view held.hold) (seat_view after.hold)

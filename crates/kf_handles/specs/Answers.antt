@@ -1,4 +1,4 @@
--- What a tree answers to each question, and what that makes of it.
+-- What a tree returns for each question, and what that makes of it.
 use Rattle.std.specs.Prelude.{◌≡◌, ℕ, ℤ, pos, negsuc, neg_ℤ, List, Bool, true, false, None, MatchBool, slice_set}
 use Rattle.kf_core.specs.declared.key.Key.{Key}
 use Rattle.kf_core.specs.declared.command.Command.TheVariants.{Activate, Rename}
@@ -49,7 +49,7 @@ OutOr Out Before Not Why other = ⊥
 
 -- ---- what the questions come to
 
--- it moved, and that is stored; where it was there already nothing is
+-- it moved, and that is stored; if it was there already nothing is
 abbrev pub Moved : Locked → Locked → Key → Key → List ℕ → Type 0
 Moved old new key dir name = (move_cause old key dir name ≡ None)
     × MatchBool (is_there_already old.state.tree key dir name) (new.state ≡ old.state)
@@ -59,7 +59,7 @@ Moved old new key dir name = (move_cause old key dir name ≡ None)
 abbrev pub ClaimedTo : Locked → Locked → Key → Type 0
 ClaimedTo old new key = new.claims ≡ slice_set old.claims key.slot key.generation
 
--- what becomes of a tree, of this table, that answers this
+-- what becomes of a tree, of this table, that returns this
 abbrev pub TreeAnswered : TableId → Question → Locked → Locked → Reply → Type 0
 TreeAnswered table (asks.Create parent name node live) old new reply =
     NamedOr (λ key. Created old new parent name.now node live key)
@@ -107,14 +107,14 @@ IsAsBefore (behind.Tree old) (behind.Tree new) =
     × (new.value.hidden ≡ old.value.hidden)
 IsAsBefore old new = new ≡ old
 
--- the question is answered by the tree behind the handle, or there is none there
+-- the question is settled by the tree behind the handle, or there is none there
 abbrev pub AnsweredBehind : Question → Object → Object → Reply → Type 0
 AnsweredBehind question (behind.Tree old) (behind.Tree new) reply =
     TreeAnswered old.value.nodes.master.table question old.value.nodes new.value.nodes reply
     × (new.value.posts ≡ old.value.posts) × (new.value.hidden ≡ old.value.hidden)
 AnsweredBehind question old new reply = (new ≡ old) × (reply ≡ told.Wrong)
 
--- it is the number of what the tree refuses the question with; -EINVAL where there is no tree
+-- it is the number of what the tree refuses the question with; -EINVAL if there is no tree
 abbrev pub ToldWhy : Question → Object → Object → ℤ → Type 0
 ToldWhy question (behind.Tree old) (behind.Tree new) number = (why : Refusal)
     × (number ≡ neg_ℤ (pos (number_of why)))

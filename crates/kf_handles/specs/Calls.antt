@@ -29,7 +29,7 @@ abbrev pub CreatedIn : Object → Object → KtKey → List ℕ → Node → Boo
 CreatedIn old new parent name node live key =
     OfTrees (λ before after. Created before after (key_in parent) name node live (key_in key)) old new
 
--- a key as a program has it; where there is none the key 0, 0
+-- a key as a program has it; if there is none the key 0, 0
 abbrev pub key_in_c : Option Key → KtKey
 key_in_c None = record { slot = 0; generation = 0 }
 key_in_c (Some key) = record { slot = key.slot; generation = key.generation }
@@ -52,7 +52,7 @@ mode_of Dir = 0
 mode_of (File mode tag) = mode
 mode_of (Link target) = 0
 
--- what is told of a node, as a program has it
+-- what is reported of a node, as a program has it
 abbrev pub stat_in_c : Stat → KtStat
 stat_in_c stat = record {
   tag = tag_of stat.node;
@@ -65,11 +65,11 @@ stat_in_c stat = record {
   hidden = stat.hidden;
 }
 
--- a tree may have so many slots, and so many holds of each
+-- a tree may have this many slots, and this many holds of each
 abbrev pub AreLimits : ℕ → ℕ → Type 0
 AreLimits slots holds = (1 ≤ slots) × (slots ≤ most_slots) × (1 ≤ holds) × (holds ≤ 65535)
 
--- it is a new tree of the root alone, of so many slots and holds of each; the event number of each slot
+-- it is a new tree of only the root, of this many slots and holds of each; the event number of each slot
 -- is 1, and nothing is hidden
 abbrev pub IsNewTree : ℕ → ℕ → Object → Type 0
 IsNewTree slots holds (behind.Tree tree) =

@@ -28,23 +28,23 @@ use Rattle.kf_handles.specs.Numbers.{PostRefused}
 use Rattle.kf_handles.specs.Taken.{NumberTaken}
 use Rattle.kf_handles.specs.Steps.{WasEnteredToShow, WasRefused, IsNotRunning, enter_error}
 
--- what is told of a node says that it is live
+-- what is reported of a node says that it is live
 abbrev pub tells_live : Stat → Bool
 tells_live stat = stat.activated && not stat.doomed && not stat.hidden
 
--- why a node of which this is told may not be opened as wanted
+-- why a node of which this is reported may not be opened as asked
 abbrev pub open_fault : Stat → Node → Want → Option Refusal
 open_fault stat Dir want = Some IsDir
 open_fault stat (Link target) want = Some Invalid
 open_fault stat (File mode tag) want = open_cause mode want (tells_live stat)
 
--- what is told of the node is against opening it as wanted
+-- what is reported of the node is against opening it as asked
 abbrev pub OpenFaultTold : Object → Key → Want → Refusal → Type 0
 OpenFaultTold tree key want why =
     (stat : Stat) × (stat_behind tree key ≡ Ok stat) × (open_fault stat stat.node want ≡ Some why)
 
--- why a file is not opened: nothing is told of the node; what is told is against it; its hold or its post was
--- refused; or there was no memory
+-- why a file is not opened: nothing is reported of the node; what is reported is against it; its hold or its
+-- event counter was refused; or there was no memory
 abbrev pub OpenRefused : Object → Object → Key → Want → Refusal → Type 0
 OpenRefused old new key want why = (stat_behind old key ≡ Err why)
     ⊎ OpenFaultTold old key want why
@@ -117,7 +117,7 @@ ReadRefused offset old new = MatchBool (is_readable old.object)
 abbrev pub WriteRefused : Place → Place → Type 0
 WriteRefused old new = MatchBool (is_writable old.object) (WasKeptOut old new) (IsSamePlace old new)
 
--- the number of what is refused of a file: -EACCES where it was not opened for that, else as of the try
+-- the number of what is refused of a file: -EACCES if it was not opened for that, else that of the try
 abbrev pub access_error : Bool → Seat → ℤ
 access_error true at = enter_error at
 access_error false at = negsuc 12
@@ -163,7 +163,7 @@ Keeps shown old new = ⊥
 abbrev pub HasShown : List ℕ → Place → Place → Type 0
 HasShown shown old new = IsShowing old.seat × (new.seat ≡ old.seat) × Keeps shown old.object new.object
 
--- these are the bytes of the file's text from the offset on, at most so many
+-- these are the bytes of the file's text from the offset on, at most this many
 abbrev pub TextFrom : Object → ℕ → ℕ → List ℕ → Type 0
 TextFrom (behind.File file) offset most bytes = IsSome file.value.state.text
     × (bytes ≡ slice (text_in_file file.value.state) offset most)

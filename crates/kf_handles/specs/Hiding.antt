@@ -66,7 +66,8 @@ HasHiding tokens = (slot : ℕ) × (token : Handle) × (slice_get tokens slot �
 
 -- ---- what the calls come to
 
--- why a node of which this is told is not hidden: files alone are, and not once they are marked for removal
+-- why a node of which this is reported is not hidden: only files are, and not once they are marked for
+-- removal
 abbrev pub hide_fault : Stat → Node → Option Refusal
 hide_fault stat Dir = Some IsDir
 hide_fault stat (Link target) = Some Invalid
@@ -96,7 +97,7 @@ IsHidden Saw table old tokens new tokens' key =
     × (tokens' ≡ slice_set tokens key.slot (Some token))
     × (BeganHide table old new key token ⊎ LookedAgain old tokens new key token)
 
--- its token took the bit off and is spent, and so the file is shown, and that is stored where it is linked
+-- its token took the bit off and is spent, and so the file is shown, and that is stored if it is linked
 abbrev pub IsUnhidden : Locked → List (Option Handle) → Locked → List (Option Handle) → Key → Type 0
 IsUnhidden old tokens new tokens' key =
     ((token : Handle) × IsTokenOf tokens key token × HasUnhidden token)
@@ -109,7 +110,7 @@ IsHiddenStill old tokens new tokens' key = (token : Handle) × (token.key ≡ ke
 
 -- ---- refusals
 
--- what is told of the node is against its hiding
+-- what is reported of the node is against its hiding
 abbrev pub FaultTold : Tree → Key → Refusal → Type 0
 FaultTold t key why = (stat : Stat) × (option_map (stat_of t) (record_at t key) ≡ Some stat)
     × (hide_fault stat stat.node ≡ Some why)
@@ -119,8 +120,8 @@ abbrev pub NewHoldRefused : TableId → Locked → Key → Refusal → Type 0
 NewHoldRefused table old key why = (hold : Handle) × IsHoldOfNode table old.state.tree key hold
     × (back : Handle) × HideRefused old.state.tree hold back why
 
--- why a file is not hidden: it is not linked; what is told of it is against that; no hold of its slot was to
--- be had; or a new hold of it was refused
+-- why a file is not hidden: it is not linked; what is reported of it is against that; no hold of its slot
+-- was to be had; or a new hold of it was refused
 abbrev pub BeginRefused : TableId → Locked → Locked → Key → Refusal → Type 0
 BeginRefused table old new key why = MatchBool (is_linked old.state.tree key)
     (FaultTold old.state.tree key why

@@ -1,4 +1,4 @@
--- What look-ups answer of the tree behind a handle, and what of that a program has.
+-- What look-ups return of the tree behind a handle, and what of that a program has.
 use Rattle.std.specs.Prelude.{◌≡◌, ◌<◌, ◌≤◌, ◌⊎◌, ◌^◌, ◌+◌, ℕ, ℤ, pos, negsuc, neg_ℤ, List, [], ◌∷◌, ◌++◌, length, drop, false, Option, None, Some, Result, Ok, Err}
 use Rattle.std.specs.Option.{option_map, ok_or}
 use Rattle.kf_core.specs.declared.key.Key.{Key}
@@ -22,15 +22,15 @@ use Rattle.kf_handles.specs.declared.replies.KtKey.{KtKey}
 use Rattle.kf_handles.specs.declared.replies.KtStat.{KtStat}
 use Rattle.kf_handles.specs.Calls.{stat_in_c}
 
--- ---- what is answered; what is no tree is asked nothing
+-- ---- what is returned; what is no tree is asked nothing
 
 -- the root's key
 abbrev pub root_behind : Object → Result Key Refusal
 root_behind (behind.Tree tree) = Ok tree.value.nodes.state.root
 root_behind other = Err Invalid
 
--- so many commands are stored, and at most so many after a compaction: one for each linked node but the root,
--- one for each that is marked, and one for each that is hidden
+-- this many commands are stored, and at most this many after a compaction: one for each linked node except
+-- the root, one for each that is marked, and one for each that is hidden
 abbrev pub CountsCommands : TreeLog → KtCommands → Type 0
 CountsCommands s told = (told.stored ≡ length s.commands)
     × (told.compacted + 1 ≡ linked_count s.tree + owed_count s.tree)
@@ -51,7 +51,7 @@ abbrev pub walk_behind : Object → List ℕ → Result Key Refusal
 walk_behind (behind.Tree tree) path = walked tree.value.nodes.state.tree tree.value.nodes.state.root path
 walk_behind other path = Err Invalid
 
--- the directory of a record that was found, where there is one; the root has none
+-- the directory of a record that was found, if there is one; the root has none
 abbrev pub parent_told : Option (Option Key) → Result Key Refusal
 parent_told None = Err NoEntry
 parent_told (Some None) = Err Invalid
@@ -63,7 +63,7 @@ parent_behind (behind.Tree tree) key =
     parent_told (option_map (λ r. r.parent) (record_at tree.value.nodes.state.tree key))
 parent_behind other key = Err Invalid
 
--- what is told of a node
+-- what is reported of a node
 abbrev pub stat_behind : Object → Key → Result Stat Refusal
 stat_behind (behind.Tree tree) key =
     ok_or (option_map (stat_of tree.value.nodes.state.tree) (record_at tree.value.nodes.state.tree key))
@@ -104,7 +104,7 @@ abbrev pub LinkTextRefused : Object → Key → Refusal → Type 0
 LinkTextRefused (behind.Tree tree) key why = Refuses (text_cause tree.value.nodes.state.tree key) why
 LinkTextRefused other key why = why ≡ Invalid
 
--- the bound of a listing: none where the name is empty
+-- the bound of a listing: none if the name is empty
 abbrev pub bound_of : List ℕ → Option (List ℕ)
 bound_of [] = None
 bound_of (byte ∷ bytes) = Some (byte ∷ bytes)
@@ -141,19 +141,19 @@ TellsKey (Ok key) answer out out' =
     (answer ≡ pos 0) × (out' ≡ record { slot = key.slot; generation = key.generation })
 TellsKey (Err why) answer out out' = (answer ≡ error_in_c why) × (out' ≡ out)
 
--- 0, and what is told of a node is written; or the number of the refusal, and nothing is
+-- 0, and what is reported of a node is written; or the number of the refusal, and nothing is
 abbrev pub TellsStat : Result Stat Refusal → ℤ → KtStat → KtStat → Type 0
 TellsStat (Ok stat) answer out out' = (answer ≡ pos 0) × (out' ≡ stat_in_c stat)
 TellsStat (Err why) answer out out' = (answer ≡ error_in_c why) × (out' ≡ out)
 
 -- the length of the text, which stands at the front of the buffer, and the rest of that stays; or -ERANGE,
--- where it does not fit there, and all of it stays
+-- if it does not fit there, and all of it stays
 abbrev pub WritesText : List ℕ → ℤ → List ℕ → List ℕ → Type 0
 WritesText text (pos count) out out' = (count ≡ length text) × (out' ≡ text ++ drop count out)
 WritesText text (negsuc why) out out' =
     (why ≡ 33) × (out' ≡ out) × ((length out < length text) ⊎ (2 ^ 63 ≤ length text))
 
--- so it is of a text of which this holds; or the number of such a refusal is answered, and nothing written
+-- so it is for a text of which this holds; or the number of such a refusal is returned, and nothing written
 abbrev pub TellsText : (List ℕ → Type 0) → (Refusal → Type 0) → ℤ → List ℕ → List ℕ → Type 0
 TellsText Such Why answer out out' = ((text : List ℕ) × Such text × WritesText text answer out out')
     ⊎ (IsRefusal Why answer × (out' ≡ out))

@@ -44,7 +44,7 @@ WasNotified (behind.Post old) (behind.Post new) =
     IsSamePost old new × Made old (new.found + 1) new × (old.numbers.start ≤ new.found)
 WasNotified old new = ⊥
 
--- the slot's number was found to be the last that there is; where there was no post nothing was done
+-- the slot's number was found to be the last that there is; if there was no event counter nothing was done
 abbrev pub WasFull : Object → Object → Type 0
 WasFull (behind.Post old) (behind.Post new) = IsSamePost old new × FoundNumber old (2 ^ 64 - 1) new
 WasFull old new = new ≡ old
@@ -55,7 +55,7 @@ TookNumber (behind.Post old) number (behind.Post new) =
     IsSamePost old new × FoundNumber old number new × (old.numbers.start ≤ number)
 TookNumber old number new = ⊥
 
--- the number of a notify that is refused: -EOVERFLOW of a post, and -EINVAL where there is none
+-- the number of a notify that is refused: -EOVERFLOW of an event counter, and -EINVAL if there is none
 abbrev pub notify_error : Object → ℤ
 notify_error (behind.Post post) = negsuc 74
 notify_error other = negsuc 21

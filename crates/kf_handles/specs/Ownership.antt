@@ -1,4 +1,4 @@
--- What a handle owns: what a box of a place owns. And what a new one owns, where it was given to a program.
+-- What a handle owns: what a box of a place owns. And what a new one owns, if it was given to a program.
 use base.Fml.{Fml, ftrue}
 use base.Stored.{Coded}
 use denote.RawPtr.{Ptr}

@@ -28,7 +28,7 @@ Ends keys old new = (more : List Command) × All (IsEndOf keys) more × Stores o
 abbrev pub mark_of : Bool → Key → List Command
 mark_of marked key = (if marked then [] else Doom key ∷ [])
 
--- the node and all below it were marked, where it was not marked before, and of these nodes alone some were
+-- the node and all below it were marked, if it was not marked before, and of only these nodes some were
 -- shown and taken out
 abbrev pub Removes : Bool → Locked → Locked → Key → Type 0
 Removes marked old new key = (keys : List Key) × (more : List Command)
@@ -59,8 +59,8 @@ MarkRefused old new key why = MatchBool (same_key key old.state.root)
     (why ≡ Invalid)
     (((why ≡ TooManyHolds) × FoundFullIn old.state.tree key new.master.view) ⊎ (why ≡ NoMemory))
 
--- why a removal is refused: the key was never given in this tree; of a marked node only memory is wanted, and
--- of another one its marks are refused
+-- why a removal is refused: the key was never given in this tree; of a marked node only memory can be
+-- lacking, and of another one its marks are refused
 abbrev pub RemoveRefused : Locked → Locked → Key → Refusal → Type 0
 RemoveRefused old new key why = MatchBool (is_linked old.state.tree key)
     (MatchBool (doomed_in old.state.tree key) (why ≡ NoMemory) (MarkRefused old new key why))

@@ -11,7 +11,7 @@ abbrev pub handle_of : Stage → Handle
 handle_of (stage.Hiding hiding) = hiding
 handle_of (stage.Hidden hidden) = hidden
 
--- it has yet to see that nobody is inside, or the word that it found told so
+-- it has yet to see that nobody is inside, or the word that it found said so
 abbrev pub IsStage : Stage → Type 0
 IsStage (stage.Hiding hiding) = hiding.phase ≡ phase_of.Hiding
 IsStage (stage.Hidden hidden) = (hidden.phase ≡ phase_of.Hidden) × (is_unused hidden.found ≡ true)

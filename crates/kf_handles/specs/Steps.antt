@@ -23,13 +23,13 @@ abbrev pub WasEnteredToShow : Seat → Seat → Type 0
 WasEnteredToShow (seat.Hold held) (seat.Show inside) = HasEntered held.hold inside.call
 WasEnteredToShow old new = ⊥
 
--- a hold's try found its node not live, and was taken back; where there was no hold nothing was done
+-- a hold's try found its node not live, and was taken back; if there was no hold nothing was done
 abbrev pub WasRefused : Seat → Seat → Type 0
 WasRefused (seat.Hold held) (seat.Hold back) =
     IsSameSeat held.hold back.hold × WasTurned held.hold back.hold
 WasRefused old new = new ≡ old
 
--- the number of what is refused so: -ENODEV of a hold, and -EINVAL where there is none
+-- the number of what is refused so: -ENODEV of a hold, and -EINVAL if there is none
 abbrev pub enter_error : Seat → ℤ
 enter_error (seat.Hold held) = negsuc 18
 enter_error other = negsuc 21
@@ -84,7 +84,7 @@ IsNotBroken (seat.Call inside) = inside.call.phase ≢ Broken
 IsNotBroken (seat.Show inside) = inside.call.phase ≢ Broken
 IsNotBroken other = Unit {0}
 
--- 1 where one who sleeps may wait for the word that a step took one user off, and else 0
+-- 1 if a sleeper may wait for the word that a step took one user off, and else 0
 abbrev pub wake_after : ℕ → ℤ
 wake_after found = pos (if wants_wake (found - 1) then 1 else 0)
 
@@ -99,18 +99,18 @@ found_by seat.None = 0
 abbrev pub wake_of : Seat → ℤ
 wake_of at = wake_after (found_by at)
 
--- one step ended a call, which first took its reference again where it had given that up; and one who sleeps
+-- one step ended a call, which first took its reference again if it had given that up; and a sleeper
 -- may wait for that step, or not
 abbrev pub HasEnded : Handle → Bool → Type 0
 HasEnded call wanted = (running : Handle) × ((running ≡ call) ⊎ HasRestored call running)
     × (hold : Handle) × HasLeft running hold × (wanted ≡ wants_wake (hold.found - 1))
 
--- so it is of a call that was let go; of all else nobody waits
+-- so it is for a call that was dropped; nobody waits for anything else
 abbrev pub EndOwed : Seat → Bool → Type 0
 EndOwed (seat.Call inside) wanted = HasEnded inside.call wanted
 EndOwed (seat.Show inside) wanted = HasEnded inside.call wanted
 EndOwed other wanted = wanted ≡ false
 
--- 1 where a wake is owed to those who sleep, and else 0
+-- 1 if a wake is owed to sleepers, and else 0
 abbrev pub WakeOwed : Seat → ℤ → Type 0
 WakeOwed at answer = (wanted : Bool) × EndOwed at wanted × (answer ≡ pos (if wanted then 1 else 0))

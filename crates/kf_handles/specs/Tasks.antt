@@ -16,7 +16,7 @@ use Rattle.kf_handles.specs.Calls.{key_in}
 use Rattle.kf_handles.specs.Removing.{IsRemoving, RemoveRefused, WasGone}
 use Rattle.kf_handles.specs.Hiding.{SawNobody, SawSomebody, HasHiding, HasNoHiding, HidingRefused, UnhidingRefused, IsHidden, IsUnhidden, IsHiddenStill}
 
--- what becomes of a tree, of this table, and of its tokens, where it answers this
+-- what becomes of a tree, of this table, and of its tokens, if it returns this
 abbrev pub Stepped : TableId → Task → Locked → List (Option Handle) → Locked → List (Option Handle)
     → Reply → Type 0
 Stepped table (task.Remove key) old tokens new tokens' reply =
@@ -46,7 +46,7 @@ SteppedBehind what (behind.Tree old) (behind.Tree new) reply =
     new.value.hidden reply × (new.value.posts ≡ old.value.posts)
 SteppedBehind what old new reply = (new ≡ old) × (reply ≡ told.Wrong)
 
--- it is the number of what the tree refuses the step with; -EINVAL where there is no tree
+-- it is the number of what the tree refuses the step with; -EINVAL if there is no tree
 abbrev pub StepToldWhy : Task → Object → Object → ℤ → Type 0
 StepToldWhy what (behind.Tree old) (behind.Tree new) number = (why : Refusal)
     × (number ≡ neg_ℤ (pos (number_of why)))

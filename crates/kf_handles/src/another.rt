@@ -15,7 +15,7 @@ use crate::telling::is_nothing;
 use core::mem::replace_with;
 use kf_core::Refusal;
 
-/// Another hold of a hold's node, where one lies there.
+/// Another hold of a hold's node, if there is a hold.
 fn another_of(seat: &mut Seat) -> Result<Held, Refusal>
     ensures made { IfOk result (λ other. GaveAnother seat.old seat.new (seat_of.Hold other)) }
     ensures none { OnErr result (GaveNoOther seat.old seat.new) }

@@ -9,7 +9,7 @@ use crate::tree::ask;
 use core::mem::replace_with;
 use kf_shared::{Locked, Naming};
 
-/// What the tree answers.
+/// What the tree returns.
 pub fn answer<N: Naming>(locked: &mut Locked<N>, question: Question<'_>) -> Reply
     ensures { TreeAnswered N.table question.entry locked.old locked.new result }
 {
@@ -43,7 +43,7 @@ pub fn answer<N: Naming>(locked: &mut Locked<N>, question: Question<'_>) -> Repl
     }
 }
 
-/// What lies there after it was asked, and what it answers.
+/// What lies there after it was asked, and what it returns.
 pub fn ask_object(object: Object, question: Question<'_>) -> (Object, Reply)
     ensures { AnsweredBehind question.entry object result.0 result.1 }
 {

@@ -1,4 +1,4 @@
-//! The error numbers of Linux, below 0, as the calls answer them.
+//! The error numbers of Linux, below 0, as the calls return them.
 ghost use Rattle.std.specs.Prelude.{◌≡◌, pos, neg_ℤ};
 ghost use Rattle.kf_core.specs.Refusals.{number_of};
 

@@ -95,7 +95,7 @@ impl File {
         self.has_text
     }
 
-    /// At most so many bytes of the text from the offset on.
+    /// At most this many bytes of the text from the offset on.
     pub fn text_from(&self, offset: u64, most: usize) -> &[u8]
         requires text { IsSome self.now.state.text }
         ensures bytes { result.now ≡ slice (text_in_file self.now.state) offset most }

@@ -30,7 +30,7 @@ fn allows(mode: u16, want: Want) -> bool
     (!want.read || mode & 0o444 != 0) && (!want.write || mode & 0o222 != 0)
 }
 
-/// Why a node of which this is told may not be opened as wanted.
+/// Why a node of which this is reported may not be opened as asked.
 fn open_fault(stat: Stat, want: Want) -> Option<Refusal>
     ensures { result ≡ open_fault stat stat.node want }
 {
@@ -89,7 +89,7 @@ pub fn open(alloc: Global, handle: &mut KtHandle, key: KtKey, want: Want, out: &
     }
 }
 
-/// Begins a read: 0 where the text serves it, and 1 where the node was entered for a show.
+/// Begins a read: 0 if the text serves it, and 1 if the node was entered for a show.
 fn begin_read_at(place: &mut Place, offset: u64) -> i32
     ensures served { result ≡ pos 0 → Serves offset place.old.object × IsSamePlace place.old place.new }
     ensures begun { result ≡ pos 1 → BeganRead offset place.old place.new }
@@ -180,7 +180,7 @@ pub fn shown(file: &mut KtHandle, shown: &[u8]) -> i32
     replace_with(file, shown, shown_handle)
 }
 
-/// The text from the offset on, at most so many bytes, of what is a file that has one.
+/// The text from the offset on, at most this many bytes, of what is a file that has one.
 fn text_in(object: &Object, offset: u64, most: usize) -> Result<&[u8], Refusal>
     ensures text { IfOk result (λ text. TextFrom object.now offset most text.now) }
     ensures refused { IfErr result (λ why. HasNoText object.now why) }

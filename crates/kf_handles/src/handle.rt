@@ -73,7 +73,7 @@ impl KtHandle {
         KtGiven { at, alloc }
     }
 
-    /// The pointer alone. What it owned is the program's from now on.
+    /// Only the pointer. What it owned is the program's from now on.
     pub(crate) fn into_pointer(self) -> *mut u8
         ensures { result ≡ self.at }
     {

@@ -17,7 +17,8 @@ use kf_shared::{Locked, Naming};
 use kf_tree::Stat;
 use kf_words::Hiding;
 
-/// Why a node of which this is told is not hidden: files alone are, and not once they are marked for removal.
+/// Why a node of which this is reported is not hidden: only files are, and not once they are marked for
+/// removal.
 fn hide_fault(stat: &Stat) -> Option<Refusal>
     ensures { result ≡ hide_fault stat.now stat.now.node }
 {
@@ -34,7 +35,7 @@ fn hide_fault(stat: &Stat) -> Option<Refusal>
     }
 }
 
-/// Hides a file by a hold of its own. What is told against the file comes first, then the holds that there
+/// Hides a file by a new hold. What is reported against the file comes first, then the holds that there
 /// may be, then memory.
 fn begin<N: Naming>(locked: &mut Locked<N>, key: Key) -> Result<Hiding, Refusal>
     ensures token { IfOk result (λ hiding. (hiding.table ≡ N.table) × (hiding.key ≡ key)
@@ -60,8 +61,8 @@ fn begin<N: Naming>(locked: &mut Locked<N>, key: Key) -> Result<Hiding, Refusal>
     }
 }
 
-/// Hides a file, where it is not hidden yet, and looks whether nobody is inside: Done where it saw so, and
-/// Not where it saw somebody.
+/// Hides a file, if it is not hidden yet, and looks whether nobody is inside: Done if it saw so, and
+/// Not if it saw somebody.
 pub fn hide<N: Naming>(locked: &mut Locked<N>, tokens: &mut Vec<Option<Token>>, key: Key) -> Reply
     requires { AreTokensOf N.table tokens.old.items }
     ensures tokens { AreTokensOf N.table tokens.new.items }

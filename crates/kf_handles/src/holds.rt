@@ -1,4 +1,4 @@
-//! Holds and calls that are given back where they are let go.
+//! Holds and calls that are given back if they are dropped.
 ghost use Rattle.std.specs.Prelude.{◌≡◌, ◌≢◌, false, IsTrue};
 ghost use Rattle.kf_core.specs.declared.caller.Phase.TheVariants.{Running};
 ghost use Rattle.kf_handles.specs.Steps.{HasEnded};
@@ -6,7 +6,7 @@ ghost use Rattle.kf_handles.specs.Steps.{HasEnded};
 use kf_core::Phase;
 use kf_words::{Call, Hold, Wake};
 
-/// A hold, released where it is let go.
+/// A hold, released when it is dropped.
 pub struct Held {
     pub(crate) hold: Hold,
 }
@@ -34,7 +34,7 @@ impl Drop for Held {
     }
 }
 
-/// A call, ended and released where it is let go.
+/// A call, ended and released when it is dropped.
 pub struct Inside {
     pub(crate) call: Call,
 }
@@ -63,7 +63,7 @@ impl Inside {
         self.call.phase() == Phase::Running
     }
 
-    /// Ends the call, whatever its phase is, and gives its hold of the slot back. True where one who sleeps
+    /// Ends the call, whatever its phase is, and gives its hold of the slot back. True if a sleeper
     /// at the node may wait for that.
     pub fn end(self) -> bool
         ensures { HasEnded self.call result }

@@ -24,7 +24,7 @@ fn release_each(mut holds: Vec<Hold>) {
     holds.destroy_empty();
 }
 
-/// Whether a node is marked; None where it is not linked.
+/// Whether a node is marked; None if it is not linked.
 pub fn is_marked<N: Naming>(locked: &Locked<N>, key: Key) -> Option<bool>
     ensures linked { IfSome result (λ marked. (is_linked locked.now.state.tree key ≡ true)
         × (marked ≡ doomed_in locked.now.state.tree key)) }
@@ -50,8 +50,8 @@ fn is_full<N: Naming>(locked: &mut Locked<N>, key: Key) -> bool
     }
 }
 
-/// What is answered where a hold of the top is refused: want of memory only where no node below is full. It
-/// looks at the nodes below alone.
+/// What is returned if a hold of the top is refused: lack of memory only if no node below is full. It
+/// looks only at the nodes below.
 fn memory_last<N: Naming>(locked: &mut Locked<N>, top: Key, refusal: Refusal) -> Refusal
     ensures same { Unchanged locked.old locked.new }
     ensures other { refusal ≢ refusal_of.NoMemory → (result ≡ refusal) × (locked.new ≡ locked.old) }
@@ -99,7 +99,7 @@ pub fn mark<N: Naming>(locked: &mut Locked<N>, key: Key) -> Result<Vec<Hold>, Re
     }
 }
 
-/// Marks a linked node and all below it, where it is not marked yet.
+/// Marks a linked node and all below it, if it is not marked yet.
 pub fn mark_once<N: Naming>(locked: &mut Locked<N>, key: Key, marked: bool) -> Result<(), Refusal>
     requires { is_linked locked.old.state.tree key ≡ true }
     ensures stored { OnOk result (Stores locked.old.state locked.new.state (mark_of marked key)) }

@@ -30,7 +30,7 @@ pub fn post_of(object: &mut Object, key: Key) -> Result<Post, Refusal>
     }
 }
 
-/// Makes a post of the key's slot, where the handle has a tree. The tree comes back as it was.
+/// Makes an event counter of the key's slot, if the handle has a tree. The tree comes back as it was.
 pub fn post_of_handle(handle: KtHandle, key: Key) -> (KtHandle, Result<Post, Refusal>)
     ensures made { IfOk result.1 (λ post. IsPostOf handle.place.object key post) }
     ensures refused { IfErr result.1 (λ why. PostRefused handle.place.object key why) }

@@ -10,7 +10,7 @@ use crate::holds::{Held, Inside};
 use crate::tree::Tree;
 use kf_notify::Post;
 
-/// A hold of a node, or a call of one. A call that a read began, for a show, is a variant of its own: a field
+/// A hold of a node, or a call of one. A call that a read began, for a show, is a separate variant: a field
 /// more would make each step slower.
 #[derive(Drop)]
 pub enum Seat {
@@ -43,7 +43,7 @@ pub enum Object {
     File(Box<File>),
 }
 
-/// A seat and an object in memory of their own. The words after them keep them off the cache lines of the
+/// A seat and an object in their own memory. The words after them keep them off the cache lines of the
 /// next ones.
 #[derive(Drop)]
 pub struct Place {
@@ -87,7 +87,7 @@ impl Place {
         }
     }
 
-    /// Lets go of what lies there: a hold is released, and a call ended first. True where one who sleeps at
+    /// Drops what lies there: a hold is released, and a call ended first. True if a sleeper at
     /// the node of a call may wait for that.
     pub fn end(self) -> bool
         ensures { EndOwed self.seat result }

@@ -1,4 +1,4 @@
-//! What the owner of a tree may ask it to do, and what the tree answers.
+//! What the owner of a tree may ask it to do, and what the tree returns.
 use crate::holds::Held;
 use kf_core::{Key, Node, Refusal};
 
@@ -39,7 +39,7 @@ pub enum Task {
     Unhide(Key),
 }
 
-/// What a tree answers.
+/// What a tree returns.
 #[derive(Drop)]
 pub enum Reply {
     /// This key.

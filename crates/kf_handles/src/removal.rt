@@ -17,7 +17,7 @@ use kf_core::{Key, Refusal};
 use kf_shared::{Locked, Naming};
 use kf_words::Hold;
 
-/// Shows a marked node again, where it is hidden, so that no token is left of a node that is out. False where
+/// Shows a marked node again, if it is hidden, so that no token is left of a node that is out. False if
 /// somebody is inside.
 fn unhide_first<N: Naming>(
     locked: &mut Locked<N>,
@@ -35,7 +35,7 @@ fn unhide_first<N: Naming>(
     }
 }
 
-/// Takes the node of a hold out of the tree, where nobody uses it.
+/// Takes the node of a hold out of the tree, if nobody uses it.
 fn unlink<N: Naming>(locked: &mut Locked<N>, hold: Hold)
     requires { hold.table ≡ N.table }
     ensures { Ends (hold.key ∷ []) locked.old locked.new }
@@ -49,7 +49,7 @@ fn unlink<N: Naming>(locked: &mut Locked<N>, hold: Hold)
     }
 }
 
-/// Shows the marked node of a hold, where it is hidden, and takes it out of the tree, where nobody uses it.
+/// Shows the marked node of a hold, if it is hidden, and takes it out of the tree, if nobody uses it.
 fn take_out<N: Naming>(locked: &mut Locked<N>, tokens: &mut Vec<Option<Token>>, hold: Hold)
     requires table { hold.table ≡ N.table }
     requires tokens { AreTokensOf N.table tokens.old.items }
@@ -77,7 +77,7 @@ fn take_each<N: Naming>(locked: &mut Locked<N>, tokens: &mut Vec<Option<Token>>,
     rest.destroy_empty();
 }
 
-/// Takes a marked node out of the tree, where nobody uses it and it has room for a hold more.
+/// Takes a marked node out of the tree, if nobody uses it and it has room for a hold more.
 fn take_marked<N: Naming>(locked: &mut Locked<N>, tokens: &mut Vec<Option<Token>>, key: Key)
     requires { AreTokensOf N.table tokens.old.items }
     ensures ends { Ends (key ∷ []) locked.old locked.new }
@@ -99,7 +99,7 @@ fn take_all<N: Naming>(locked: &mut Locked<N>, tokens: &mut Vec<Option<Token>>, 
     }
 }
 
-/// Marks a node and all below it, where it is not marked yet, and claims its removal: Done the first time,
+/// Marks a node and all below it, if it is not marked yet, and claims its removal: Done the first time,
 /// and else Not.
 pub fn claim<N: Naming>(locked: &mut Locked<N>, key: Key) -> Reply
     ensures { DoneOr ((is_claimed locked.old.claims key ≡ false) × ClaimedTo locked.old locked.new key
@@ -121,7 +121,7 @@ pub fn claim<N: Naming>(locked: &mut Locked<N>, key: Key) -> Reply
     }
 }
 
-/// Marks a node and all below it, where it is not marked yet, and takes each of them out that nobody uses.
+/// Marks a node and all below it, if it is not marked yet, and takes each of them out that nobody uses.
 fn take_up<N: Naming>(
     locked: &mut Locked<N>,
     tokens: &mut Vec<Option<Token>>,
@@ -153,9 +153,9 @@ fn is_linked<N: Naming>(locked: &Locked<N>, key: Key) -> bool
     locked.state().stat(key).is_ok()
 }
 
-/// Marks a node and all below it, where it is not marked yet, and takes out each of them that nobody uses.
-/// Done where it is out of the tree by this, Gone where it was out before, and Not where it is still there. A
-/// refusal comes before anything is marked or taken out: NoEntry where the key was never given in the tree,
+/// Marks a node and all below it, if it is not marked yet, and takes out each of them that nobody uses.
+/// Done if this took it out of the tree, Gone if it was out before, and Not if it is still there. A
+/// refusal comes before anything is marked or taken out: NoEntry if the key was never given in the tree,
 /// Invalid of the root, TooManyHolds, NoMemory.
 pub fn remove<N: Naming>(locked: &mut Locked<N>, tokens: &mut Vec<Option<Token>>, key: Key) -> Reply
     requires { AreTokensOf N.table tokens.old.items }

@@ -1,4 +1,4 @@
-//! What the calls of a program do to what lies behind its handles, and the numbers that they answer.
+//! What the calls of a program do to what lies behind its handles, and the numbers that they return.
 ghost use Rattle.std.specs.Prelude.{◌≡◌, ◌≢◌, ◌⊎◌, ◌<◌, ◌≤◌, true, false, pos, negsuc, IfSome, IsSome};
 ghost use Rattle.kf_handles.specs.Tasks.{HasHidingIn, HasNoHidingIn};
 ghost use Rattle.kf_handles.specs.Answers.{TreeAnswered, AnsweredBehind, OfTrees, IsAsBefore, ToldWhy, is_change, is_naming};
@@ -30,7 +30,7 @@ pub struct KtKey {
     pub generation: u32,
 }
 
-/// What is told of a node.
+/// What is reported of a node.
 #[repr(C)]
 #[derive(Clone, Copy)]
 pub struct KtStat {
@@ -140,7 +140,7 @@ pub fn create(
     named(handle, question, out)
 }
 
-/// Links a new file in a directory, and writes its key. Its mode has permission bits alone.
+/// Links a new file in a directory, and writes its key. Its mode has only permission bits.
 pub fn create_file(
     handle: &mut KtHandle,
     parent: KtKey,
@@ -184,7 +184,7 @@ pub fn change(handle: &mut KtHandle, question: Question<'_>) -> i32
     }
 }
 
-/// What is told of a node, as C sees it.
+/// What is reported of a node, as C sees it.
 pub fn told_of(stat: Stat) -> KtStat
     ensures { result ≡ stat_in_c stat }
 {
@@ -209,7 +209,7 @@ pub fn told_of(stat: Stat) -> KtStat
     }
 }
 
-/// Claims the removal of a node by itself: 0, or 1 where it was claimed before.
+/// Claims the removal of a node by itself: 0, or 1 if it was claimed before.
 pub fn claim(handle: &mut KtHandle, key: KtKey) -> i32
     ensures first { result ≡ pos 0 →
         ClaimedIn handle.old.place.object handle.new.place.object key false }
@@ -230,7 +230,7 @@ pub fn claim(handle: &mut KtHandle, key: KtKey) -> i32
     }
 }
 
-/// Puts this where there is nothing.
+/// Puts this if there is nothing.
 fn put(place: &mut Place, new: Place) -> i32
     ensures put { result ≡ pos 0 → IsNothing place.old × (place.new ≡ new) }
     ensures same { result ≢ pos 0 → place.new ≡ place.old }
@@ -297,7 +297,7 @@ pub fn make(alloc: Global, out: &mut KtGiven) -> i32
     }
 }
 
-/// A new tree of the root alone, behind a handle with nothing behind it.
+/// A new tree of only the root, behind a handle with nothing behind it.
 pub fn make_tree(alloc: Global, handle: &mut KtHandle, slots: u32, holds: u32) -> i32
     ensures made { result ≡ pos 0 → IsNewTree slots holds handle.new.place.object }
     ensures taken { is_nothing handle.old.place ≡ false → result ≡ negsuc 21 }
@@ -355,7 +355,7 @@ fn end_handle(handle: KtHandle, _nothing: ()) -> (KtHandle, i32)
     (KtHandle::of(boxed), answer)
 }
 
-/// Lets go of what lies behind a handle: 1 where one who sleeps may wait for that, and -EBUSY of a tree with
+/// Drops what lies behind a handle: 1 if a sleeper may wait for that, and -EBUSY of a tree with
 /// a hidden file in which somebody may be.
 pub fn clear(handle: &mut KtHandle) -> i32
     ensures empty { (result ≡ pos 0) ⊎ (result ≡ pos 1) →
@@ -367,7 +367,7 @@ pub fn clear(handle: &mut KtHandle) -> i32
     replace_with(handle, (), end_handle)
 }
 
-/// Lets go of a handle and of what lies behind it, as `clear` does. Where that is refused the handle stays
+/// Frees a handle and drops what lies behind it, as `clear` does. If that is refused the handle stays
 /// the program's.
 pub fn delete(handle: KtHandle) -> i32
     ensures gone { (result ≡ pos 0) ⊎ (result ≡ pos 1) → HasNoHidingIn handle.place.object }

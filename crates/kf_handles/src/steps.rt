@@ -10,7 +10,7 @@ use crate::object::Seat;
 use kf_core::Phase;
 use kf_words::Wake;
 
-/// 1 where one who sleeps may wait for the step that was made.
+/// 1 if a sleeper may wait for the step that was made.
 fn told(wake: Wake) -> i32
     ensures value { result ≡ pos (if is_wanted wake then 1 else 0) }
     ensures range { (result ≡ pos 0) ⊎ (result ≡ pos 1) }
@@ -64,7 +64,7 @@ pub fn enter_to_show(seat: Seat, _nothing: ()) -> (Seat, i32)
     }
 }
 
-/// Gives the reference back, where the call has one.
+/// Gives the reference back, if the call has one.
 #[inline(always)]
 pub fn leave(seat: Seat, _nothing: ()) -> (Seat, i32)
     ensures left { (result.1 ≡ pos 0) ⊎ (result.1 ≡ pos 1) → WasLeft seat result.0 }
@@ -93,7 +93,7 @@ pub fn leave(seat: Seat, _nothing: ()) -> (Seat, i32)
     }
 }
 
-/// Gives the reference of a call up, where that has the one that it entered with.
+/// Gives the reference of a call up, if that has the one that it entered with.
 #[inline(always)]
 fn break_inside(inside: &mut Inside) -> i32
     ensures broken { (result ≡ pos 0) ⊎ (result ≡ pos 1) → HasBroken inside.old.call inside.new.call }
@@ -108,7 +108,7 @@ fn break_inside(inside: &mut Inside) -> i32
     told(inside.call.break_quiet().told())
 }
 
-/// Gives the reference up inside the callback, where the call has the one that it entered with.
+/// Gives the reference up inside the callback, if the call has the one that it entered with.
 #[inline(always)]
 pub fn break_off(seat: &mut Seat) -> i32
     ensures broken { (result ≡ pos 0) ⊎ (result ≡ pos 1) → WasBroken seat.old seat.new }
@@ -123,7 +123,7 @@ pub fn break_off(seat: &mut Seat) -> i32
     }
 }
 
-/// Takes a reference again, where the call gave its own up.
+/// Takes a reference again, if the call gave its reference up.
 #[inline(always)]
 fn restore_inside(inside: &mut Inside) -> i32
     ensures restored { result ≡ pos 0 → HasRestored inside.old.call inside.new.call }
@@ -137,7 +137,7 @@ fn restore_inside(inside: &mut Inside) -> i32
     0
 }
 
-/// Takes a reference again, where the call gave its own up.
+/// Takes a reference again, if the call gave its reference up.
 #[inline(always)]
 pub fn restore(seat: &mut Seat) -> i32
     ensures restored { result ≡ pos 0 → WasRestored seat.old seat.new }

@@ -1,5 +1,5 @@
 //! What may have to be asked of a tree again, asked of what lies behind a handle, and the numbers that are
-//! answered.
+//! returned.
 ghost use Rattle.std.specs.Prelude.{◌≡◌, ◌≢◌, true, false, pos, negsuc};
 ghost use Rattle.kf_handles.specs.Calls.{key_in};
 ghost use Rattle.kf_handles.specs.declared.questions.Task.TheVariants as asks;
@@ -15,7 +15,7 @@ use crate::replies::{KtKey, key_of};
 use crate::tree::step;
 use core::mem::replace_with;
 
-/// What lies there after a step, and what it answers.
+/// What lies there after a step, and what it returns.
 fn step_object(object: Object, task: Task) -> (Object, Reply)
     ensures { SteppedBehind task object result.0 result.1 }
 {
@@ -37,7 +37,7 @@ fn step_handle(handle: KtHandle, task: Task) -> (KtHandle, Reply)
     (KtHandle::of(boxed), reply)
 }
 
-/// Removes a subtree as far as it can be without waiting: 1 where the node is out by this, and 0 where it was
+/// Removes a subtree as far as it can be without waiting: 1 if this took the node out, and 0 if it was
 /// out before.
 pub fn remove(handle: &mut KtHandle, key: KtKey) -> i32
     ensures out { result ≡ pos 1 →

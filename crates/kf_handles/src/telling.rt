@@ -1,4 +1,4 @@
-//! What a tree behind a handle tells. A look-up takes nothing from where it lies, and changes nothing.
+//! What a tree behind a handle says. A look-up takes nothing from where it lies, and changes nothing.
 ghost use Rattle.std.specs.Prelude.{◌≡◌};
 ghost use Rattle.kf_handles.specs.Calls.{is_nothing, key_in};
 ghost use Rattle.kf_handles.specs.LookUps.{CommandsIn, TellsCommands, find_behind, parent_behind, root_behind, stat_behind, walk_behind, TellsKey, TellsStat};
@@ -28,7 +28,7 @@ pub fn is_nothing(handle: &mut KtHandle) -> bool
     replace_with(handle, (), empty_of)
 }
 
-/// Writes the key that was found, or answers why there is none.
+/// Writes the key that was found, or returns why there is none.
 fn tell_key(found: Result<Key, Refusal>, out: &mut KtKey) -> i32
     ensures told { TellsKey found result out.old out.new }
 {
@@ -191,7 +191,7 @@ pub fn parent(handle: &mut KtHandle, key: KtKey, out: &mut KtKey) -> i32
     tell_key(replace_with(handle, key_of(key), parent_of), out)
 }
 
-/// What is told of a node.
+/// What is reported of a node.
 pub fn stat_in(object: &Object, key: Key) -> Result<Stat, Refusal>
     ensures told { result ≡ stat_behind object.now key }
 {
@@ -201,7 +201,7 @@ pub fn stat_in(object: &Object, key: Key) -> Result<Stat, Refusal>
     }
 }
 
-/// Writes what is told of a node, or answers why nothing is.
+/// Writes what is reported of a node, or returns why nothing is.
 fn tell_stat(told: Result<Stat, Refusal>, out: &mut KtStat) -> i32
     ensures told { TellsStat told result out.old out.new }
 {
@@ -214,7 +214,7 @@ fn tell_stat(told: Result<Stat, Refusal>, out: &mut KtStat) -> i32
     }
 }
 
-/// What is told of a node of the tree behind a handle.
+/// What is reported of a node of the tree behind a handle.
 pub fn stat_of(handle: KtHandle, key: Key) -> (KtHandle, Result<Stat, Refusal>)
     ensures same { result.0.place ≡ handle.place }
     ensures told { result.1 ≡ stat_behind handle.place.object key }
@@ -224,7 +224,7 @@ pub fn stat_of(handle: KtHandle, key: Key) -> (KtHandle, Result<Stat, Refusal>)
     (KtHandle::of(boxed), told)
 }
 
-/// What is told of a node.
+/// What is reported of a node.
 pub fn tell(handle: &mut KtHandle, key: KtKey, out: &mut KtStat) -> i32
     ensures same { handle.new.place ≡ handle.old.place }
     ensures told { TellsStat (stat_behind handle.old.place.object

@@ -1,4 +1,4 @@
-//! What a tree behind a handle tells in bytes: names, paths and the texts of links.
+//! What a tree behind a handle says in bytes: names, paths and the texts of links.
 ghost use Rattle.std.specs.Prelude.{◌≡◌, ◌∷◌, [], IfErr, IfOk};
 ghost use Rattle.std.specs.Option.{option_copied};
 ghost use Rattle.kf_handles.specs.Calls.{key_in};
@@ -15,7 +15,7 @@ use kf_index::Name;
 use kf_tree::State;
 use std::alloc::Global;
 
-/// The number of bytes, copied to the front of `out`; -ERANGE where they do not fit there.
+/// The number of bytes, copied to the front of `out`; -ERANGE if they do not fit there.
 pub fn copied(bytes: &[u8], out: &mut [u8]) -> i64
     ensures told { WritesText bytes.now result out.old out.new }
 {
@@ -140,7 +140,7 @@ pub fn link_text(handle: &mut KtHandle, key: KtKey, out: &mut [u8]) -> i64
     }
 }
 
-/// The bound of a listing: none where the name is empty.
+/// The bound of a listing: none if the name is empty.
 fn bound(after: &[u8]) -> Option<&[u8]>
     ensures { option_copied result ≡ bound_of after.now }
 {

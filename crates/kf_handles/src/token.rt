@@ -72,7 +72,7 @@ impl Token {
         }
     }
 
-    /// Looks whether nobody is inside, where it has not seen that yet.
+    /// Looks whether nobody is inside, if it has not seen that yet.
     pub fn look(self) -> Result<Token, Token>
         ensures looked { MatchResult result (λ saw. HasLookedAgain self saw)
             (λ back. HasLookedAgain self back) }
@@ -116,7 +116,7 @@ impl Token {
 }
 
 /// The word shows the key again, and the hold is given back. A file with somebody inside is left hidden: but
-/// a tree that has one is not let go.
+/// a tree that has one is not dropped.
 impl Drop for Token {
     fn drop(self) {
         match self.into_hidden() {

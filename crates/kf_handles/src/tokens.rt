@@ -8,7 +8,7 @@ use crate::token::Token;
 use kf_core::{Key, Refusal};
 use std::alloc::Global;
 
-/// No token, of so many slots.
+/// No token, of this many slots.
 pub fn no_tokens(alloc: Global, slots: u32) -> Result<Vec<Option<Token>>, Refusal>
     ensures none { IfOk result (λ tokens. tokens.items ≡ replicate slots None) }
     ensures refused { IfErr result (λ why. why ≡ Refusal.NoMemory) }
@@ -22,7 +22,7 @@ pub fn no_tokens(alloc: Global, slots: u32) -> Result<Vec<Option<Token>>, Refusa
     Ok(tokens)
 }
 
-/// Takes the token of a key out, where there is one.
+/// Takes the token of a key out, if there is one.
 pub fn take(tokens: &mut Vec<Option<Token>>, key: Key) -> Option<Token>
     ensures found { IfSome result (λ token. IsTokenOf tokens.old.items key token
         × (key.slot < length tokens.old.items)

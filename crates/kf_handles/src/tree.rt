@@ -41,7 +41,7 @@ impl Model for Tree {
 }
 
 impl Tree {
-    /// A new tree of the root alone.
+    /// A new tree of only the root.
     pub fn new(alloc: Global, limits: Limits) -> Result<Tree, Refusal>
         ensures tree { IfOk result
             (λ tree. IsNew limits.slots (record { slot = 0; generation = 1 }) tree.nodes.state) }
@@ -89,7 +89,7 @@ impl Tree {
     }
 }
 
-/// The nodes after they were asked under this name, and what they answer.
+/// The nodes after they were asked under this name, and what they return.
 fn ask_named<N: Naming>(nodes: NewTree, question: Question<'_>) -> (NewTree, Reply)
     requires { nodes.master.table ≡ N.table }
     ensures told { TreeAnswered nodes.master.table question.entry nodes result.0 result.1 }
@@ -100,7 +100,7 @@ fn ask_named<N: Naming>(nodes: NewTree, question: Question<'_>) -> (NewTree, Rep
     (locked.unnamed(), reply)
 }
 
-/// The tree after it was asked, and what it answers.
+/// The tree after it was asked, and what it returns.
 pub fn ask(tree: Tree, question: Question<'_>) -> (Tree, Reply)
     ensures told { TreeAnswered tree.nodes.master.table question.entry tree.nodes result.0.nodes result.1 }
     ensures posts { result.0.posts ≡ tree.posts }
@@ -139,7 +139,7 @@ fn step_locked<N: Naming>(
     }
 }
 
-/// The nodes and the tokens after a step under this name, and what is answered.
+/// The nodes and the tokens after a step under this name, and what is returned.
 fn step_named<N: Naming>(
     nodes: NewTree,
     mut hidden: Vec<Option<Token>>,
@@ -156,7 +156,7 @@ fn step_named<N: Naming>(
     (locked.unnamed(), hidden, reply)
 }
 
-/// The tree after a step of what may have to be asked again, and what it answers.
+/// The tree after a step of what may have to be asked again, and what it returns.
 pub fn step(tree: Tree, task: Task) -> (Tree, Reply)
     ensures told { Stepped tree.nodes.master.table task tree.nodes tree.hidden result.0.nodes result.0.hidden
         result.1 }

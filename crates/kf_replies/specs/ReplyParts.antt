@@ -7,7 +7,7 @@ use Rattle.kf_script.specs.declared.reply.NodeState.{NodeState}
 use Rattle.kf_script.specs.declared.reply.NodeState.TheVariants.{Removing, Off, Hidden, Live}
 use Rattle.kf_script.specs.ReplyText.{fault_text, refusal_text, stat_text}
 
--- the state that is told of a node
+-- the state that is reported of a node
 abbrev pub state_of : Stat → NodeState
 state_of s =
     if s.doomed then Removing

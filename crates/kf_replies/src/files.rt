@@ -1,4 +1,4 @@
-//! What a file's read or write answered.
+//! What a file's read or write returned.
 
 ghost use Rattle.std.specs.Prelude.{◌≡◌, ◌≤◌, length, take, MatchResult, IfOk};
 ghost use Rattle.kf_replies.specs.ReplyParts.{count_text, error_text};
@@ -6,7 +6,7 @@ ghost use Rattle.kf_replies.specs.ReplyParts.{count_text, error_text};
 use kf_files::FileError;
 use kf_script::Reply;
 
-/// Tells what a read or a write of a file met: a refusal, or the fault of a callback.
+/// Writes what a read or a write of a file met: a refusal, or the fault of a callback.
 pub fn tell_error(reply: &mut Reply, error: FileError)
     ensures told { reply.new ≡ error_text error }
 {
@@ -16,7 +16,7 @@ pub fn tell_error(reply: &mut Reply, error: FileError)
     }
 }
 
-/// Tells the bytes that were read to the front of a buffer, or why there are none.
+/// Writes the bytes that were read to the front of a buffer, or why there are none.
 pub fn tell_bytes(reply: &mut Reply, told: Result<usize, FileError>, out: &[u8])
     requires fits { IfOk told (λ count. count ≤ length out.now) }
     requires page { length out.now ≤ 4096 }
@@ -29,7 +29,7 @@ pub fn tell_bytes(reply: &mut Reply, told: Result<usize, FileError>, out: &[u8])
     }
 }
 
-/// Tells the number that a store answered, or why there is none.
+/// Writes the number that a store returned, or why there is none.
 pub fn tell_count(reply: &mut Reply, told: Result<usize, FileError>)
     ensures told { reply.new ≡ count_text told }
 {

@@ -61,7 +61,7 @@ impl Part {
         self.len = end;
     }
 
-    /// Gives all to the reply. Refuses `NoMemory` alone; the text of the reply is then unknown.
+    /// Gives all to the reply. Refuses only `NoMemory`; the text of the reply is then unknown.
     pub(crate) fn give(&mut self, reply: &mut Reply) -> Result<(), Refusal>
         ensures given { OnOk result (reply.new ≡ reply.old ++ self.old) }
         ensures emptied { self.new ≡ [] }

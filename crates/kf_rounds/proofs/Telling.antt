@@ -23,7 +23,7 @@ module _ {Board : Type 0} (step : Step Board) where
       let p = tells_push t.0.0 middle now cs rs c r starved (t.0.3, (let n = t.1 in omega arith)) a in
       ((t.0.0, t.0.1, t.0.2, p.0), ap suc p.1)
 
-  -- where further commands have no reply, nothing is said of where the board is
+  -- if further commands have no reply, nothing is said of what the board is
   pub tells_part : (before middle now : Board) (cs rs : List (List ℕ)) (d : List ℕ) (ds : List (List ℕ)) → Tells step before cs rs middle → length rs ≡ length cs
       → Tells step before (cs ++ d ∷ ds) rs now
   tells_part before middle now [] [] d ds t n = tt
@@ -31,7 +31,7 @@ module _ {Board : Type 0} (step : Step Board) where
   tells_part before middle now (c ∷ cs) [] d ds t n = absurd (omega arith)
   tells_part before middle now (c ∷ cs) (r ∷ rs) d ds t n = (t.0, t.1, t.2, tells_part t.0 middle now cs rs d ds t.3 (omega arith))
 
-  -- one board's answers, and what it answered from there on
+  -- one board's replies, and what it replied from there on
   pub tells_append : (before middle now : Board) (cs rs ds qs : List (List ℕ)) → Tells step before cs rs middle → length rs ≡ length cs
       → Tells step middle ds qs now → Tells step before (cs ++ ds) (rs ++ qs) now
   tells_append before middle now [] [] ds qs t n later = subst (λ b. Tells step b ds qs now) t later
@@ -91,7 +91,7 @@ module _ {Board : Type 0} (step : Step Board) where
   told_next before middle now who ks i old new near t a = subst (λ cs. TellsAll step before cs new now) (sym (commands_next who ks i near))
       (told_line step before middle now (commands_of who (take i ks)) _ old new (own_short who (get_or ks i bad)) t a)
 
-  -- a line of its own whose reply is wanting
+  -- a line of this seat whose reply is missing
   pub told_part : (before middle now : Board) (who : ℕ) (ks : List KindOfLine) (i : ℕ) (rs : List (List ℕ)) (c : List ℕ) → i < length ks
       → TellsAll step before (commands_of who (take i ks)) rs middle → own_command who (get_or ks i bad) ≡ c ∷ []
       → Tells step before (commands_of who ks) rs now

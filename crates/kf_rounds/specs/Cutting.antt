@@ -3,12 +3,12 @@ use Rattle.std.specs.Prelude.{ℕ, ◌+◌, List, [], length, Option, Some, None
 use Rattle.std.specs.List.{slice_split}
 use Rattle.kf_script.specs.Lines.{is_newline}
 
--- the lines of what follows a newline, where one is there
+-- the lines of what follows a newline, if one is there
 abbrev pub later_lines : Option (List ℕ) → List (List ℕ)
 later_lines None = []
 later_lines (Some text) = slice_split is_newline text
 
--- how many bytes are left, and one more where a line is left
+-- how many bytes are left, and one more if a line is left
 abbrev pub bytes_left : Option (List ℕ) → ℕ
 bytes_left None = 0
 bytes_left (Some text) = length text + 1

@@ -4,13 +4,13 @@ use Rattle.std.specs.Str.{bytes_eq}
 use Rattle.kf_script.specs.Lines.{line_limit}
 use Rattle.kf_script.specs.Requests.{is_digit, first_word, rest}
 
--- what a line is for: nothing, where it is not lawful; a round's end; or a command of one seat, 0 the owner's
+-- what a line is for: nothing, if it is not lawful; a round's end; or a command of one seat, 0 the owner's
 pub data KindOfLine : Type 0 where
   bad : KindOfLine
   ends_round : KindOfLine
   of_seat : (seat : ℕ) (command : List ℕ) → KindOfLine
 
--- a worker's number, 1 to so many, in decimal without leading zeros; of two digits at most
+-- a worker's number, 1 to this many, in decimal without leading zeros; of two digits at most
 abbrev pub worker_of : ℕ → List ℕ → Option ℕ
 worker_of most (a ∷ []) =
     if nat_le 49 a && nat_le a 57 && nat_le (a - 48) most then Some (a - 48) else None
@@ -28,7 +28,7 @@ kind_for (Some worker) command = if bytes_eq command (codes "wait") then bad els
 abbrev pub worker_line : ℕ → List ℕ → KindOfLine
 worker_line workers words = kind_for (worker_of workers (first_word words)) (rest words)
 
--- the kind of a line that is not too long: a worker's where it begins with `@`, else the owner's
+-- the kind of a line that is not too long: a worker's if it begins with `@`, else the owner's
 abbrev pub short_line : ℕ → List ℕ → KindOfLine
 short_line workers [] = bad
 short_line workers (byte ∷ line) =
@@ -36,7 +36,7 @@ short_line workers (byte ∷ line) =
     else (if bytes_eq (byte ∷ line) (codes "wait") then ends_round
     else of_seat 0 (byte ∷ line))
 
--- what a line is for, with so many workers
+-- what a line is for, with this many workers
 abbrev pub kind_by : ℕ → List ℕ → KindOfLine
 kind_by workers line = if nat_le (length line) line_limit then short_line workers line else bad
 
@@ -45,7 +45,7 @@ abbrev pub is_end : KindOfLine → Bool
 is_end ends_round = true
 is_end _ = false
 
--- whose line it is: 0 for the owner, where it is nobody's too
+-- whose line it is: 0 for the owner, if it is nobody's too
 abbrev pub seat_in : KindOfLine → ℕ
 seat_in bad = 0
 seat_in ends_round = 0
@@ -57,7 +57,7 @@ command_in bad = []
 command_in ends_round = []
 command_in (of_seat seat command) = command
 
--- the command of a line, where it is this seat's
+-- the command of a line, if it is this seat's
 abbrev pub own_command : ℕ → KindOfLine → List (List ℕ)
 own_command who bad = []
 own_command who ends_round = []
@@ -67,6 +67,6 @@ own_command who (of_seat seat command) = if seat == who then command ∷ [] else
 abbrev pub commands_of : ℕ → List KindOfLine → List (List ℕ)
 commands_of who kinds = flat_map (own_command who) kinds
 
--- what each line is for, with so many workers
+-- what each line is for, with this many workers
 abbrev pub kinds_by : ℕ → List (List ℕ) → List KindOfLine
 kinds_by workers lines = map (kind_by workers) lines

@@ -1,4 +1,4 @@
--- What the lines of a script are answered, where many run them.
+-- The replies to the lines of a script that many run.
 use Rattle.std.specs.Prelude.{ℕ, ◌==◌, Bool, List, [], ◌∷◌, ◌++◌, ◌≡◌, flat_map, map, All, get_or, set, if◌then◌else◌}
 use Rattle.kf_script.specs.Answers.{Step, AnswersRequest}
 use Rattle.kf_script.specs.Requests.{request_of}
@@ -28,17 +28,17 @@ IsFixed bad reply = reply ≡ bad_line_text
 IsFixed ends_round reply = reply ≡ done_text
 IsFixed (of_seat seat command) reply = Unit {0}
 
--- the turn's reply is that of its kind, where that has always the same
+-- the turn's reply is that of its kind, if that is always the same
 abbrev pub HasFixed : Turn → Type 0
 HasFixed turn = IsFixed turn.kind turn.reply
 
--- the reply to a line, where it is this seat's
+-- the reply to a line, if it is this seat's
 abbrev pub own_reply : ℕ → KindOfLine → List ℕ → List (List ℕ)
 own_reply who bad reply = []
 own_reply who ends_round reply = []
 own_reply who (of_seat seat command) reply = if seat == who then reply ∷ [] else []
 
--- the reply of a turn, where its line is this seat's
+-- the reply of a turn, if its line is this seat's
 abbrev pub reply_of : ℕ → Turn → List (List ℕ)
 reply_of who turn = own_reply who turn.kind turn.reply
 
@@ -46,8 +46,8 @@ reply_of who turn = own_reply who turn.kind turn.reply
 abbrev pub replies_of : ℕ → List Turn → List (List ℕ)
 replies_of who turns = flat_map (reply_of who) turns
 
--- A board answered these commands with these replies, each from where the one before had left it, and is now
--- where the last has left it. Where memory ran out for a reply, it and the later ones are wanting.
+-- A board replied to these commands with these replies, each from where the one before had left it, and is
+-- now where the last has left it. If memory ran out for a reply, it and the later ones are missing.
 abbrev pub Tells : {Board : Type 0} → Step Board → Board → List (List ℕ) → List (List ℕ) → Board → Type 0
 Tells step before [] [] now = now ≡ before
 Tells step before [] (reply ∷ replies) now = ⊥
@@ -57,7 +57,7 @@ Tells {Board} step before (command ∷ commands) (reply ∷ replies) now =
     × AnswersRequest step before (request_of command) starved reply next
     × Tells step next commands replies now
 
--- The board answered a command and the reply was added, where there is a command.
+-- The board replied to a command and the reply was added, if there is a command.
 abbrev pub Adds : {Board : Type 0} → Step Board → List (List ℕ) → Board → List (List ℕ) → Board
     → List (List ℕ) → Type 0
 Adds step [] before old now new = (now ≡ before) × (new ≡ old)
@@ -65,14 +65,14 @@ Adds step (command ∷ commands) before old now new =
     (reply : List ℕ) × (starved : Bool)
     × AnswersRequest step before (request_of command) starved reply now × (new ≡ old ++ reply ∷ [])
 
--- What each seat said are its own board's answers to its own commands; a seat's number is its place.
+-- What each seat gave are its own board's replies to its own commands; a seat's number is its place.
 abbrev pub EachTells : {Board : Type 0} → Step Board → List KindOfLine → List Board → List (List (List ℕ))
     → List Board → Type 0
 EachTells {Board} step kinds before said now =
     (who : ℕ) (d : Board)
     → Tells step (get_or before who d) (commands_of who kinds) (get_or said who []) (get_or now who d)
 
--- the reply to a line was put out: the next of its seat's, where it has one
+-- the reply to a line was put out: the next of its seat's, if it has one
 abbrev pub Puts : KindOfLine → List (List (List ℕ)) → List (List (List ℕ)) → List ℕ → List ℕ → Type 0
 Puts bad said said' out out' = (said' ≡ said) × (out' ≡ out ++ bad_line_text ++ 10 ∷ [])
 Puts ends_round said said' out out' = (said' ≡ said) × (out' ≡ out ++ done_text ++ 10 ∷ [])
@@ -90,7 +90,7 @@ pub record PutOut (kinds : List KindOfLine) (said said' : List (List (List ℕ))
   pub bytes_are : out' ≡ out ++ text turns
 
 -- The replies to lines of these kinds, one each, in their order, stand behind the bytes. Those to the lines
--- of a seat are what its board answered to these lines, one after the other.
+-- of a seat are its board's replies to these lines, one after the other.
 pub record Replied {Board : Type 0} (step : Step Board) (kinds : List KindOfLine) (before now : List Board)
     (old new : List ℕ) : Type 0 where
   pub turns : List Turn

@@ -15,14 +15,14 @@ use std::alloc::{AllocError, Global};
 /// The bytes of a line and its newline, as scripts have them mostly: shorter ones take memory once more.
 const USUAL_LINE: usize = 16;
 
-/// Where the first newline stands.
+/// Where the first newline is.
 fn newline_at(script: &[u8]) -> Option<usize>
     ensures { result ≡ position is_newline script.now }
 {
     memchr(b'\n', script)
 }
 
-/// The first line, and what stands after the newline behind it, where there is one.
+/// The first line, and what stands after the newline behind it, if there is one.
 fn cut_line(script: &[u8]) -> (&[u8], Option<&[u8]>)
     ensures cut { slice_split is_newline script.now
         ≡ result.0.now ∷ later_lines (option_map (λ text. text.now) result.1) }
@@ -49,7 +49,7 @@ pub fn kinds_in(
     Ok(kinds)
 }
 
-/// Puts the kinds of a script's lines into an empty list. It is not refused where that has room for all.
+/// Puts the kinds of a script's lines into an empty list. It is not refused if that has room for all.
 fn push_kinds<'a>(
     kinds: &mut Vec<LineKind<'a>>,
     script: &'a [u8],

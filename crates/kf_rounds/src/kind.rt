@@ -40,7 +40,7 @@ fn worker(word: &[u8], most: usize) -> Option<u8>
     }
 }
 
-/// Where the first space stands.
+/// Where the first space is.
 fn space_at(line: &[u8]) -> Option<usize>
     ensures { result ≡ position is_space line.now }
 {
@@ -70,7 +70,7 @@ fn command_of(seat: u8, bytes: &[u8]) -> LineKind<'_>
     }
 }
 
-/// What a line is for, with so many workers.
+/// What a line is for, with this many workers.
 pub fn kind_of(line: &[u8], workers: usize) -> LineKind<'_>
     requires { workers ≤ 16 }
     ensures value { kind_view result ≡ kind_by workers line.now }

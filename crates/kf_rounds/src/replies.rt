@@ -12,7 +12,7 @@ use std::alloc::{AllocError, Global};
 use std::marker::Model;
 
 /// Texts that wait, in the order in which they came: the first is put out next. All lie in one buffer, so
-/// that a text takes no memory of its own.
+/// that a text takes no memory by itself.
 #[derive(Drop)]
 pub struct Replies {
     bytes: Vec<u8>,
@@ -57,7 +57,7 @@ impl Replies {
         self.taken = 0;
     }
 
-    /// Puts a text behind the others. `Err` where there is no memory.
+    /// Puts a text behind the others. `Err` if there is no memory.
     pub fn add(&mut self, text: &[u8]) -> Result<(), AllocError>
         ensures added { OnOk result (self.new ≡ self.old ++ text.now ∷ []) }
         ensures same { OnErr result (self.new ≡ self.old) }
@@ -74,7 +74,7 @@ impl Replies {
         self.bytes.len().saturating_add(self.lengths.len())
     }
 
-    /// Puts the first text and a newline out. `Err` where there is none, or no memory.
+    /// Puts the first text and a newline out. `Err` if there is none, or no memory.
     pub fn put_next(&mut self, out: &mut Vec<u8>) -> Result<(), AllocError>
         ensures { OnOk result ((reply : List ℕ) × (self.old ≡ reply ∷ self.new)
             × (out.new.items ≡ out.old.items ++ reply ++ 10 ∷ [])) }
@@ -133,8 +133,8 @@ fn put_reply<B: Board>(
     }
 }
 
-/// Puts the reply to each line out, each with a newline, in the order of the lines. `Err` where a seat has
-/// none for a line of its own, or where there is no memory.
+/// Puts the reply to each line out, each with a newline, in the order of the lines. `Err` if a seat has
+/// none for one of its lines, or if there is no memory.
 pub fn put_replies<B: Board>(
     out: &mut Vec<u8>,
     seats: &mut [Seat<B>],

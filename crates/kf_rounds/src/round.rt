@@ -1,4 +1,4 @@
-//! A round: the owner and each worker run their lines, each in a thread of its own.
+//! A round: the owner and each worker run their lines, each in a separate thread.
 
 ghost use Rattle.std.specs.Prelude.{◌≡◌, ◌≤◌, ◌<◌, ◌+◌, ◌++◌, take, ℕ, map, length, position, slice_index_or};
 ghost use Rattle.kf_rounds.specs.Kinds.{commands_of, is_end};
@@ -22,7 +22,7 @@ fn ends_round(kind: &LineKind<'_>) -> bool
     }
 }
 
-/// Where the first line stands that ends a round.
+/// Where the first line is that ends a round.
 fn end_at(kinds: &[LineKind<'_>]) -> Option<usize>
     ensures { result ≡ position (λ kind. is_end (kind_view kind)) kinds.now }
 {
@@ -52,7 +52,7 @@ pub fn round_at<'b, 'a>(kinds: &'b [LineKind<'a>], from: usize) -> &'b [LineKind
     &rest[..round_len(rest)]
 }
 
-/// Whether no two of the seats have lines, so that no thread is wanted.
+/// Whether at most one of the seats has lines, so that no thread is needed.
 fn is_for_one(kinds: &[LineKind<'_>]) -> bool {
     let mut runner = None;
     for kind in kinds {
@@ -66,7 +66,7 @@ fn is_for_one(kinds: &[LineKind<'_>]) -> bool {
     true
 }
 
-/// Each of the seats runs the lines of its own: with more than one thread each in its own, where that can be
+/// Each of the seats runs its lines: with more than one thread each in a separate one, if that can be
 /// made.
 fn run_each<B: Board + Send, R: Threads + Sync>(
     rt: &R,
@@ -83,8 +83,8 @@ fn run_each<B: Board + Send, R: Threads + Sync>(
     thread::for_each_mut(rt, seats, threads, &|who, seat| { seat.run(who, kinds) });
 }
 
-/// Each of the seats runs the lines of its own in their order, in a thread of its own where one can be made.
-/// Where no two of them have lines, the calling thread runs them.
+/// Each of the seats runs its lines in their order, in a separate thread if one can be made.
+/// If at most one of them has lines, the calling thread runs them.
 pub fn run_round<B: Board + Send, R: Threads + Sync>(
     rt: &R,
     seats: &mut [Seat<B>],

@@ -14,18 +14,18 @@ use kf_script::Board;
 use std::alloc::{AllocError, Global};
 use std::thread::Threads;
 
-/// Runs a script by its owner, the first of the seats, and its workers, round by round, and answers the
+/// Runs a script by its owner, the first of the seats, and its workers, round by round, and returns the
 /// replies to its lines that are not empty, each with a newline, in the order of the lines.
 ///
 /// A line `@W COMMAND` is worker W's; `wait` ends a round; every other line is the owner's. In a round each
-/// of the seats runs its own lines in the order of the script, in a thread of its own (where none can be
-/// made, or no two of them have lines, the calling thread runs them). A `wait` is answered when every line
+/// of the seats runs its own lines in the order of the script, in a separate thread (if none can be made, or
+/// at most one of them has lines, the calling thread runs them). A `wait` gets its reply when every line
 /// above has its reply, and no line below begins before. Boards stay in their seats over rounds, and after
 /// the run.
 ///
 /// Conditions: there are at most 16 workers, and a seat for the owner and for each of them.
 ///
-/// `Err` where memory for the lines or the replies was refused: some rounds may have been run, and their
+/// `Err` if memory for the lines or the replies was refused: some rounds may have been run, and their
 /// replies are lost.
 pub fn run_rounds<B: Board + Send, R: Threads + Sync>(
     rt: &R,

@@ -38,7 +38,7 @@ fn answer_line<B: Board>(board: &mut B, reply: &mut Reply, line: &[u8])
 }
 
 impl<B: Board> Seat<B> {
-    /// Runs a line, where it is its own.
+    /// Runs a line, if it is this seat's.
     fn run_line(&mut self, who: usize, kind: &LineKind<'_>) -> Result<(), AllocError>
         ensures ran { OnOk result (Adds B.step (own_command who (kind_view kind.now))
             (board_of self.old) (untaken self.old) (board_of self.new) (untaken self.new)) }
@@ -54,7 +54,7 @@ impl<B: Board> Seat<B> {
         }
     }
 
-    /// Runs the lines of its own in their order. Where memory runs out it stops.
+    /// Runs its lines in their order. If memory runs out it stops.
     fn run_own(&mut self, who: usize, kinds: &[LineKind<'_>]) -> Result<(), AllocError>
         requires empty { untaken self.old ≡ [] }
         ensures tells { Tells B.step (board_of self.old) (commands_of who (map kind_view kinds.now))
@@ -66,7 +66,7 @@ impl<B: Board> Seat<B> {
         Ok(())
     }
 
-    /// Runs the lines of its own in their order, and keeps the replies. Where memory runs out it stops.
+    /// Runs its lines in their order, and keeps the replies. If memory runs out it stops.
     pub(crate) fn run(&mut self, who: usize, kinds: &[LineKind<'_>])
         ensures tells { Tells B.step (board_of self.old) (commands_of who (map kind_view kinds.now))
             (untaken self.new) (board_of self.new) }
@@ -95,7 +95,7 @@ impl<B> Seat<B> {
         self.replies.size()
     }
 
-    /// Puts the next of its replies and a newline out. `Err` where there is none, or no memory.
+    /// Puts the next of its replies and a newline out. `Err` if there is none, or no memory.
     pub(crate) fn put_next(&mut self, out: &mut Vec<u8>) -> Result<(), AllocError>
         ensures put { OnOk result ((reply : List ℕ) × (untaken self.old ≡ reply ∷ untaken self.new)
             × (out.new.items ≡ out.old.items ++ reply ++ 10 ∷ [])) }

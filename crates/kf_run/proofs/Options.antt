@@ -1,4 +1,4 @@
--- The options of the program's own command line, after a parse that succeeded.
+-- The options of a command line, after a parse that succeeded.
 use Rattle.std.proofs.Common.{◌≡◌, ◌⊎◌, ◌∙◌, ◌<◌, ap, ◌&&◌, ℕ, Bool, true, false, not, List, [], ◌∷◌, length, map, is_some, Option, Some, None, refl, sym, subst, inl, inr, arith, zero, suc, codes, pos, eqb-true, slice_index}
 use Rattle.std.specs.List.{All, slice_index_or}
 use Rattle.std.specs.Str.{bytes_eq}

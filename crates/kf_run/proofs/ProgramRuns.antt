@@ -10,7 +10,7 @@ use Rattle.kf_plain.specs.PlainStep.{PlainStep}
 use Rattle.kf_script.specs.Progress.{Answered, CutShort, IsPrefix, WrittenOrCut}
 use Rattle.kf_run.specs.Programs.{Ran, StoppedFor}
 
--- a script that was answered on a new board
+-- a script that got its replies on a new board
 pub ran_on : {T E : Type 0} (slots : ℕ) (first last : Plain) (input left old new : Option (List ℕ)) (result : Result T E) → first ≡ new_board slots 65535 0
     → OnOk result ((read : List ℕ) × Consumes input left read × IsAtEnd left × Answered PlainStep first last (lines_of read) old new) → OnOk result (Ran slots input left old new)
 ran_on slots first last input left old new (Err e) is_new answered = tt

@@ -1,4 +1,4 @@
--- What the words of a command line ask for, as clap reads them.
+-- What a command line asks for, as clap parses it.
 use Rattle.std.specs.Prelude.{◌≡◌, ◌≢◌, ℕ, Bool, true, List, [], ◌∷◌, Option, Some, pos, codes}
 use Rattle.std.specs.Str.Parse.{digits_value, without_leading_plus}
 use Rattle.kf_core.specs.Limits.{most_slots}
@@ -12,7 +12,7 @@ use Rattle.clap.specs.declared.error.kind.ErrorKind.{ErrorKind}
 use Rattle.clap.specs.declared.error.kind.ErrorKind.TheVariants.{DisplayHelp, DisplayVersion}
 use Rattle.clap.specs.declared.parser.matches.Found.{Found}
 
--- `--slots N`: 1 to the most slots, and 1024 where the words have none
+-- `--slots N`: 1 to the most slots, 1024 by default
 abbrev pub slots_rule : Rule
 slots_rule = record (new_rule (codes "slots")) {
   long = Some (codes "slots");
@@ -22,7 +22,7 @@ slots_rule = record (new_rule (codes "slots")) {
   defaults = codes "1024" ∷ [];
 }
 
--- `--workers N`: 0 to 16, and 0 where the words have none
+-- `--workers N`: 0 to 16, 0 by default
 abbrev pub workers_rule : Rule
 workers_rule = record (new_rule (codes "workers")) {
   long = Some (codes "workers");
@@ -42,20 +42,20 @@ program = with_rule (with_rule (with_rule
     (on_top (λ top. record top { has_version = true }) (new_app (codes "kernfs_run")))
     slots_rule) workers_rule) script_rule
 
--- what clap finds in the words of a command line, the first of which is the program's name
+-- what clap finds in the arguments, the first of which is the program's name
 unfoldable pub found_in : List Text → List Row
 found_in words = matches_of program words
 
--- how clap refuses the words, or answers a wish for help: nothing where it takes them
+-- how clap refuses the arguments, or replies to a request for help: nothing if it accepts them
 unfoldable pub faults_in : List Text → Kinds
 faults_in words = fault_of program words
 
--- the number that a text spells in decimal, where there is one
+-- the number that a text spells in decimal, if there is a text
 abbrev pub IsNumber : Option Text → ℕ → Type 0
 IsNumber found number =
     (text : Text) × (found ≡ Some text) × (number ≡ digits_value 10 (without_leading_plus text))
 
--- what these words ask for: so many slots and workers, and the file with the script, where they name one
+-- what these arguments ask for: this number of slots and workers, and the script's file, if they name one
 pub record AskFor (words : List Text) (slots workers : ℕ) (script : Option Text) : Type 0 where
   pub slots_are : IsNumber (one_of (codes "slots") (found_in words)) slots
   pub workers_are : IsNumber (one_of (codes "workers") (found_in words)) workers
@@ -66,6 +66,6 @@ abbrev pub HasText : Found → Text → Bool → ValueParser → Type 0
 HasText found id ignore_case parser = (text : Text)
     × (one_text found id ≡ Some (read_as (reading_of parser) text)) × Accepts ignore_case parser text
 
--- the words are refused: they ask neither for help nor for the version
+-- the arguments are refused: they ask neither for help nor for the version
 abbrev pub IsMistake : ErrorKind → Type 0
 IsMistake kind = (kind ≢ DisplayHelp) × (kind ≢ DisplayVersion)

@@ -1,4 +1,4 @@
--- What the program did with its script, and what it said.
+-- What the program did with its script, and what it printed.
 use Rattle.std.specs.Prelude.{◌≡◌, ◌<◌, ℕ, List, [], ◌∷◌, ◌++◌, codes, Option}
 use Rattle.std.specs.Io.KnownBytes.{Appends, Consumes, IsAtEnd, Keeps}
 use Rattle.kf_script.specs.declared.fault.RunFault.{RunFault}
@@ -9,7 +9,7 @@ use Rattle.kf_plain.specs.Plain.{Plain, new_board}
 use Rattle.kf_plain.specs.PlainStep.{PlainStep}
 use Rattle.kf_workers.specs.RanWhole.{RanWhole, StoppedWhole}
 
--- The script was read to its end, and answered on a new board of so many slots.
+-- The script was read to its end, and run on a new back end with this number of slots.
 pub record Ran (slots : ℕ) (input left old new : Option (List ℕ)) : Type 0 where
   pub last : Plain
   pub read : List ℕ
@@ -17,9 +17,9 @@ pub record Ran (slots : ℕ) (input left old new : Option (List ℕ)) : Type 0 w
   pub ended : IsAtEnd left
   pub answered : Answered PlainStep (new_board slots 65535 0) last (lines_of read) old new
 
--- The run on a new board of so many slots stopped for this reason: a read failed, and the lines that had
--- ended were answered; a write failed, and what was written is a prefix of the replies; or there was no
--- memory, and nothing was read or written.
+-- The run on a new back end with this number of slots stopped for this reason: a read failed, and the lines
+-- that had ended have their replies; a write failed, and what was written is a prefix of the replies; or
+-- there was no memory, and nothing was read or written.
 abbrev pub StoppedFor : RunFault → ℕ → Option (List ℕ) → Option (List ℕ) → Option (List ℕ) → Option (List ℕ)
     → Type 0
 StoppedFor Read slots input left old new = (last : Plain) × (read : List ℕ) × Consumes input left read
@@ -34,11 +34,11 @@ fault_line Read = codes "kernfs_run: read" ++ 10 ∷ []
 fault_line Write = codes "kernfs_run: write" ++ 10 ∷ []
 fault_line Memory = codes "kernfs_run: memory" ++ 10 ∷ []
 
--- this fault was named and nothing else said, as far as that could be written
+-- this fault was named and nothing else printed, as far as that could be written
 abbrev pub Named : RunFault → Option (List ℕ) → Option (List ℕ) → Type 0
 Named reason old new = (part : List ℕ) × IsPrefix part (fault_line reason) × Appends old new part
 
--- the script was run by one caller, or by its owner and so many workers
+-- the script was run by one caller, or by its owner and this number of workers
 pub record RanBy (workers slots : ℕ) (input left old new : Option (List ℕ)) : Type 0 where
   pub alone : workers ≡ 0 → Ran slots input left old new
   pub by_many : 0 < workers → RanWhole workers input left old new

@@ -1,4 +1,4 @@
-//! What the words of the command line ask for.
+//! What the command line asks for.
 
 ghost use Rattle.std.specs.Prelude.{◌≡◌, ◌≤◌, IfErr, IfOk, codes, false, map, option_map, pos};
 ghost use Rattle.kf_core.specs.Limits.{most_slots};
@@ -14,15 +14,15 @@ use std::alloc::Global;
 use std::convert::AsStr;
 
 /// The program's version.
-const VERSION: &str = "0.1.0";
+const VERSION: &str = "0.3.0";
 
-/// What the program does, as help tells it.
+/// What the program does, as help prints it.
 const ABOUT: &str = "Runs a script on an attribute tree that behaves like Linux kernfs.\n\n\
-    The script has one command a line, and each line is answered by one line on\n\
-    standard output: as the script is read, or, with workers, when all was run.";
+    Each line of the script has one command and gets one line of reply on standard\n\
+    output: as the script is read, or with workers, after the whole run.";
 
-/// What stands at the end of help: the commands of scripts, and what the program's status says.
-const COMMANDS_AND_STATUSES: &str = "Commands, one a line, words apart by one space:\n  \
+/// The end of help: the commands of scripts, the limits, and the program's exit status.
+const COMMANDS_AND_STATUSES: &str = "Commands, one per line, with one space between words:\n  \
     mkdir PATH [off]    file PATH MODE TEXT   link PATH TARGET   activate PATH\n  \
     ls PATH             stat PATH             readlink PATH      mv PATH DIR NAME\n  \
     rm PATH             open H PATH r|w|rw    read H OFF LEN     write H TEXT\n  \
@@ -31,23 +31,23 @@ const COMMANDS_AND_STATUSES: &str = "Commands, one a line, words apart by one sp
     plug NAME TEXT      unplug NAME           @W COMMAND (worker W)\n\
     \n\
     Limits: a line 8192 bytes, a page 4096, a name 255; 26 open files for each\n\
-    worker and the owner; a script that workers run 1048576 bytes.\n\
+    worker and for the owner; a script with workers 1048576 bytes.\n\
     \n\
-    Status: 0 where the script was run, whatever its replies; 1 after a fault of\n\
-    reading, writing or memory, which standard error names; 2 where the arguments\n\
+    Exit status: 0 if the script was run, whatever its replies; 1 if a read or a\n\
+    write failed, or memory ran out, as standard error says; 2 if the arguments\n\
     are refused or the script cannot be opened.";
 
-/// The number of slots where the words name none, as clap reads it and as help shows it.
+/// The default number of slots, as clap reads it and as help prints it.
 const DEFAULT_SLOTS: &str = "1024";
 
-/// The number of workers where the words name none.
+/// The default number of workers.
 const DEFAULT_WORKERS: &str = "0";
 
 /// The most holds that one node may have.
 const HOLDS: u32 = 65_535;
 
-/// What is to be run: on a tree of which limits, by how many workers beside the owner, and which file's
-/// script. Without a file, or with `-`, the script is standard input.
+/// What to run: the limits of the tree, the number of workers beside the owner, and the script's file.
+/// Without a file, or with `-`, the script is standard input.
 #[derive(Drop)]
 pub struct Asked<'a> {
     pub limits: Limits,
@@ -66,7 +66,7 @@ fn slots_option<'a>(alloc: Global) -> Arg<'a>
         .long("slots")
         .action(ArgAction::Set)
         .value_name("N")
-        .help("Nodes that the tree has room for, 1 to 1048576, the root counted")
+        .help("Maximum number of nodes, 1 to 1048576, including the root")
         .value_parser(value_parser!(u32).range(1..=i64::from(MOST_SLOTS)))
         .default_value(DEFAULT_SLOTS)
 }
@@ -80,7 +80,7 @@ fn workers_option<'a>(alloc: Global) -> Arg<'a>
         .long("workers")
         .action(ArgAction::Set)
         .value_name("N")
-        .help("Threads beside the owner's that run lines `@W COMMAND`, 0 to 16")
+        .help("Threads beside the owner's, which run the lines `@W COMMAND`, 0 to 16")
         .value_parser(value_parser!(u32).range(0..=16))
         .default_value(DEFAULT_WORKERS)
 }
@@ -91,11 +91,11 @@ fn script_word<'a>(alloc: Global) -> Arg<'a>
     ensures local { result.global ≡ false }
 {
     Arg::new(alloc, "SCRIPT").value_name("SCRIPT").help(
-        "File with the script; without it, or with -, standard input",
+        "File with the script; without it, or if it is -, standard input",
     )
 }
 
-/// The program's words, as clap reads them and as `--help` tells them.
+/// The program's arguments, as clap parses them and as `--help` prints them.
 fn command<'a>(alloc: Global) -> Result<Command<'a>, Error>
     ensures made { IfOk result (λ command. app_of command ≡ program) }
     ensures refused { IfErr result (λ error. kind_of error ≡ ErrorKind.OutOfMemory) }
@@ -111,7 +111,7 @@ fn command<'a>(alloc: Global) -> Result<Command<'a>, Error>
     Ok(command)
 }
 
-/// The number of slots that the words name, or else the default.
+/// The number of slots on the command line, or the default.
 fn slots_in(matches: &ArgMatches<'_>) -> u32
     requires given { HasText (found_of matches.now) (codes "slots") false (Signed (pos 1) (pos most_slots)) }
     ensures value { IsNumber (one_text (found_of matches.now) (codes "slots")) result }
@@ -121,7 +121,7 @@ fn slots_in(matches: &ArgMatches<'_>) -> u32
     matches.get_one::<u32>("slots").unwrap()
 }
 
-/// The number of workers that the words name, or else the default.
+/// The number of workers on the command line, or the default.
 fn workers_in(matches: &ArgMatches<'_>) -> u32
     requires given { HasText (found_of matches.now) (codes "workers") false (Signed (pos 0) (pos 16)) }
     ensures value { IsNumber (one_text (found_of matches.now) (codes "workers")) result }
@@ -130,7 +130,7 @@ fn workers_in(matches: &ArgMatches<'_>) -> u32
     matches.get_one::<u32>("workers").unwrap()
 }
 
-/// The limits of a tree with so many slots.
+/// The limits of a tree with this number of slots.
 fn limits_of(slots: u32) -> Limits
     requires some { 1 ≤ slots }
     requires few { slots ≤ most_slots }
@@ -140,9 +140,9 @@ fn limits_of(slots: u32) -> Limits
     Limits::new(slots, HOLDS).unwrap()
 }
 
-/// What the words ask for, the first of which is the program's name.
+/// What the arguments ask for, the first of which is the program's name.
 ///
-/// `Err` where clap refuses the words, or they ask for help or the version, and where memory was refused.
+/// `Err` if clap refuses the arguments, if they ask for help or the version, or if memory was refused.
 pub fn read_words<'a, S: AsStr>(alloc: Global, words: &'a [S]) -> Result<Asked<'a>, Error>
     ensures asked { IfOk result (λ asked. AskFor (map S.text words.entry.now) asked.limits.slots asked.workers
         (option_map (λ script. script.now) asked.script)) }

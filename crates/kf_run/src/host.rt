@@ -1,4 +1,4 @@
-//! The program on a real system: its words, the script's file and its streams.
+//! The program on a real system: its arguments, the script's file and its streams.
 
 ghost use Rattle.std.specs.Prelude.{◌≤◌};
 
@@ -14,12 +14,12 @@ use std::sync::Wait;
 use std::thread::Threads;
 use std::{env, io};
 
-/// The words of the command line.
+/// The arguments of the command line.
 fn words(rt: &HostRuntime) -> io::Result<Vec<String>> {
     Ok(env::args(rt)?.collect(rt.alloc())?)
 }
 
-/// The script: standard input, or the file that is named, which is no directory.
+/// Opens the script: standard input, or the named file, which must not be a directory.
 fn open(rt: &HostRuntime, script: Option<&str>) -> io::Result<Either<Stdin, File>> {
     let name = match script {
         None | Some("-") => return Ok(Left(rt.stdin())),
@@ -32,11 +32,11 @@ fn open(rt: &HostRuntime, script: Option<&str>) -> io::Result<Either<Stdin, File
     Ok(Right(file))
 }
 
-/// Runs the program: the replies go to standard output, with no workers as the script is read, and what is
-/// said of a fault goes to standard error. Answers the status of `run_opened`; a word that is no text (UTF-8)
-/// and words that clap refuses are refused with status 2.
+/// Runs the program. The replies go to standard output, without workers as the script is read; what the
+/// program says of a fault goes to standard error. Returns the status of `run_opened`. An argument that is
+/// not UTF-8, and arguments that clap refuses, give status 2.
 ///
-/// `threads` is what makes the threads of workers and waits for them: in `main`, the runtime itself.
+/// `threads` starts the threads of workers and waits for them; in `main` it is the runtime itself.
 pub fn run_host<H: Threads + Wait + Sync>(rt: &HostRuntime, threads: &H) -> u8
     ensures { result ≤ 2 }
 {

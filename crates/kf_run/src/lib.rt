@@ -1,4 +1,4 @@
-//! Scripts on an attribute tree: the program's body, and the boards that it runs them on.
+//! Scripts on an attribute tree: the program's body, and the back ends that it runs them on.
 #![tactic(auto)]
 
 mod arguments;

@@ -1,4 +1,4 @@
-//! The script as it was opened, or could not be, and its run.
+//! Runs the script if it could be opened, and says why if not.
 
 ghost use Rattle.std.specs.Prelude.{◌≡◌, ◌≢◌, ◌≤◌, ◌⊎◌, IsOkAnd, IsErrAnd};
 ghost use Rattle.std.specs.IoError.{error_kind};
@@ -21,10 +21,10 @@ fn reason(kind: ErrorKind) -> &'static [u8] {
         ErrorKind::NotFound => b"no such file",
         ErrorKind::PermissionDenied => b"permission denied",
         ErrorKind::IsADirectory => b"is a directory",
-        ErrorKind::NotADirectory => b"a name on its way is no directory",
+        ErrorKind::NotADirectory => b"a part of its path is not a directory",
         ErrorKind::InvalidFilename => b"the name is too long",
-        ErrorKind::FilesystemLoop => b"too many links on its way",
-        _ => b"the system refuses it",
+        ErrorKind::FilesystemLoop => b"too many symbolic links in its path",
+        _ => b"the system refused to open it",
     }
 }
 
@@ -37,9 +37,9 @@ fn refuse<F: Write>(fault: &mut F, name: &str, kind: ErrorKind) {
     let _ = write_whole(fault, b"\n");
 }
 
-/// Runs the script that was opened, whatever it is, as it was asked for, and answers the program's status:
-/// that of [`run_asked`]. Where it could not be opened nothing is run, and the status is 2, or that of a
-/// fault of memory where this was refused.
+/// Runs the opened script as the arguments ask, and returns the program's exit status: that of [`run_asked`].
+/// If the script could not be opened, nothing is run, and the status is 2, or if memory was refused, that of
+/// a memory fault.
 pub(crate) fn run_opened<H: Threads + Wait + Sync, R: Read, W: Write, F: Write>(
     rt: &H,
     alloc: Global,

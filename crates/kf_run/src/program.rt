@@ -1,4 +1,4 @@
-//! The program's body: its words, its status, and what it says of a fault.
+//! The program's body: its arguments, its exit status, and what it prints about a fault.
 
 ghost use Rattle.std.specs.Prelude.{◌≡◌, ◌≢◌, ◌≤◌, ◌⊎◌, IfErr, OnOk};
 ghost use Rattle.std.specs.Io.KnownBytes.{Keeps};
@@ -19,7 +19,7 @@ use std::io::{Read, Write};
 use std::sync::Wait;
 use std::thread::Threads;
 
-/// Tells why the words are refused, or gives the help that they ask for.
+/// Prints why the arguments are refused, or the help that they ask for. Returns the exit status.
 pub(crate) fn answer_error<W: Write, F: Write>(
     alloc: Global,
     error: &Error,
@@ -63,8 +63,8 @@ fn fault_line(reason: RunFault) -> &'static [u8]
     }
 }
 
-/// Says why the run stopped, and answers the status for it. Where that cannot be written either, the status
-/// alone tells it.
+/// Prints why the run stopped, and returns the exit status for it. If that cannot be written either, only the
+/// status shows it.
 pub(crate) fn tell<F: Write>(reason: RunFault, fault: &mut F) -> u8
     ensures status { result ≡ 1 }
     ensures named { Named reason (F.contents fault.old) (F.contents fault.new) }
@@ -73,7 +73,7 @@ pub(crate) fn tell<F: Write>(reason: RunFault, fault: &mut F) -> u8
     1
 }
 
-/// Runs the script of the reader on a new board.
+/// Runs the reader's script on a new back end.
 fn run_limits<R: Read, W: Write>(
     alloc: Global,
     limits: Limits,
@@ -92,7 +92,7 @@ fn run_limits<R: Read, W: Write>(
     run_script(alloc, &mut board, reader, out)
 }
 
-/// Runs the script of the reader by one caller, or by its owner and workers where some are asked for.
+/// Runs the reader's script by one caller, or by its owner and workers if there are any.
 fn run_by<H: Threads + Wait + Sync, R: Read, W: Write>(
     rt: &H,
     alloc: Global,
@@ -115,8 +115,8 @@ fn run_by<H: Threads + Wait + Sync, R: Read, W: Write>(
     }
 }
 
-/// Runs the script of the reader as it was asked for, and answers the program's status: 0, or 1 after a
-/// fault, named on `fault`.
+/// Runs the reader's script as the arguments ask, and returns the program's exit status: 0, or 1 after a
+/// fault, which is named on `fault`.
 pub fn run_asked<H: Threads + Wait + Sync, R: Read, W: Write, F: Write>(
     rt: &H,
     alloc: Global,

@@ -76,7 +76,7 @@ pub running-known : {Board : Type 0} {step : Step Board} {first now : Board} {re
 running-known {step = step} {first = first} {now = now} {read = read} {line = line} old new kept none s =
     subst (λ k. AnsweredSoFar step first now read line old k) (sym (ap (append_known new) none ∙ known-nil new)) s
 
--- ---- where a run stops
+-- ---- if a run stops
 
 -- it may stop after each line
 cut-after : {Board : Type 0} {step : Step Board} {first now : Board} {lines : List (List ℕ)} (later : List (List ℕ)) (old new : Option (List ℕ))

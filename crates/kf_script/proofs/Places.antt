@@ -17,7 +17,7 @@ refuted : (b : Bool) → (b ≡ true → ⊥) → b ≡ false
 refuted true h = absurd (h refl)
 refuted false h = refl
 
--- the place of the first that passes, or none where that is the length
+-- the place of the first that passes, or none if that is the length
 placed : (p : ℕ → Bool) (bytes : List ℕ) (at : ℕ) → position_or_len p bytes ≡ at → at < length bytes → Some at ≡ position p bytes
 placed p bytes at e inside = grind (arith, nat_tests)
 
@@ -34,7 +34,7 @@ first_place byte bytes (Some at) (first, here) =
     position_or_len_is (λ b. b == byte) bytes at 0 (omega (arith, first.high)) (λ k below. refuted _ (first.before k (omega arith) below)) (λ inside. here)
     ) first.high
 
--- the same of what is told byte by byte
+-- the same, said byte by byte
 place_here : (byte : ℕ) (bytes : List ℕ) (at : ℕ) → at < length bytes → ((k : ℕ) → k < at → (get_or bytes k 0 == byte) ≡ false)
     → (get_or bytes at 0 == byte) ≡ true → Some at ≡ position (λ b. b == byte) bytes
 place_here byte bytes at inside before here =
@@ -79,7 +79,7 @@ none_of : (b : Bool) (n : ℕ) → None ≡ cond b (Some n) None → b ≡ false
 none_of true n e = absurd (cc)
 none_of false n e = refl
 
--- where none passes, the first place that may is past the end
+-- if none passes, the first place that may is past the end
 pub far : (p : ℕ → Bool) (bytes : List ℕ) → None ≡ position p bytes → length bytes ≤ position_or_len p bytes
 far p bytes e = ltb-false _ _ (none_of _ (position_or_len p bytes) e)
 

@@ -33,7 +33,7 @@ front-push [] x = refl
 front-push (y ∷ []) x = refl
 front-push (y ∷ z ∷ xs) x = ap (λ l. y ∷ l) (front-push (z ∷ xs) x)
 
--- ---- answers follow answers
+-- ---- replies follow replies
 
 answers-append : {Board : Type 0} (step : Step Board) (first mid now : Board) (xs ys : List Turn)
     → Answers step first xs mid → Answers step mid ys now → Answers step first (xs ++ ys) now
@@ -87,7 +87,7 @@ cut-more ys p =
       prefix = p.prefix;
     }
 
--- nothing was answered or written
+-- no line got a reply and nothing was written
 pub answered-none : {Board : Type 0} {step : Step Board} {board : Board} (old : Option (List ℕ)) → Answered step board board [] old old
 answered-none old = record { turns = []; lines_are = refl; answers = refl; written = Appends-nil old }
 
@@ -161,7 +161,7 @@ kept-extend line bytes =
       ]
     ]
 
--- a line that stands whole in what was read, where the buffer is empty
+-- a line that is whole in what was read, if the buffer is empty
 pub kept-whole : (bytes : List ℕ) (line : Option (List ℕ)) → line ≡ Some [] → length bytes ≤ 8192 → option_and_then (λ l. kept_line (l ++ bytes)) line ≡ Some bytes
 kept-whole bytes line e fits = elim (leb_tells (length bytes) 8192) [
   | inl (is, small) ↦ rw e (rw is refl)
@@ -200,7 +200,7 @@ ended-cut {read = read} s more =
     ∙ ap (λ l. s.ended ++ l) (slice_split_at is_newline s.pending 10 more s.unended refl)
     ∙ sym (append_assoc s.ended (s.pending ∷ []) (slice_split is_newline more))
 
--- a newline came, and its line was answered or stopped by a fault
+-- a newline came, and its line got its reply or was stopped by a fault
 pub running-newline : {Board T E : Type 0} {step : Step Board} {first now : Board} (next : Board) {read : List ℕ} {line old new : Option (List ℕ)} (last after : Option (List ℕ)) (result : Result T E)
     → (s : AnsweredSoFar step first now read line old new) → AnsweredOrCut step now next (ended_line s.pending) new after result → last ≡ Some []
     → MatchResult result (λ _. AnsweredSoFar step first next (read ++ 10 ∷ []) last old after) (λ _. Stopped step first next (read ++ 10 ∷ []) old after)
@@ -217,7 +217,7 @@ running-newline {step = step} {first = first} next {read = read} {old = old} las
     ap (filter has_bytes) (ended-cut s more) ∙ filter-append (s.ended ++ s.pending ∷ []) (slice_split is_newline more) ∙ ap (λ l. l ++ lines_of more) (filter-append s.ended (s.pending ∷ [])) in
     subst (λ l. CutShort step first next l old after) (sym whole) (cut-more (lines_of more) (answered-cut s.answered a))
 
--- bytes and a newline came, and the line that they end was answered or stopped by a fault
+-- bytes and a newline came, and the line that they end got its reply or was stopped by a fault
 pub running-line : {Board T E : Type 0} {step : Step Board} {first now : Board} (next : Board) {read : List ℕ} {line old new : Option (List ℕ)} (bytes : List ℕ) (last after : Option (List ℕ)) (result : Result T E)
     → AnsweredSoFar step first now read line old new → All (λ byte. is_newline byte ≡ false) bytes
     → ((whole : List ℕ) → option_and_then (λ l. kept_line (l ++ bytes)) line ≡ kept_line whole → AnsweredOrCut step now next (ended_line whole) new after result) → last ≡ Some []
@@ -253,14 +253,14 @@ pub lines-here : {Board : Type 0} {step : Step Board} {first now : Board} {read 
     → lines_of read ≡ filter has_bytes s.ended ++ filter has_bytes (s.pending ∷ [])
 lines-here s = ap (filter has_bytes) (cut-here s) ∙ filter-append s.ended (s.pending ∷ [])
 
--- a read failed: the lines that had ended were answered
+-- a read failed: the lines that had ended got their replies
 pub running-ended : {Board : Type 0} {step : Step Board} {first now : Board} {read : List ℕ} {line old new : Option (List ℕ)}
     → AnsweredSoFar step first now read line old new → Answered step first now (ended_lines_of read) old new
 running-ended {step = step} {first = first} {now = now} {read = read} {old = old} {new = new} s =
     let same : ended_lines_of read ≡ filter has_bytes s.ended = ap (λ l. filter has_bytes (front l)) (cut-here s) ∙ ap (filter has_bytes) (front-push s.ended s.pending) in
     subst (λ l. Answered step first now l old new) (sym same) s.answered
 
--- the input ended, and its last line was answered
+-- the input ended, and its last line got its reply
 pub end-answered : {Board : Type 0} {step : Step Board} {first now : Board} (next : Board) {read : List ℕ} {line : Option (List ℕ)} (old new after : Option (List ℕ))
     → (s : AnsweredSoFar step first now read line old new) → Answered step now next (ended_line s.pending) new after → Answered step first next (lines_of read) old after
 end-answered {step = step} {first = first} next old new after s a =

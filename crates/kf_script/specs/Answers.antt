@@ -1,4 +1,4 @@
--- What the lines of a script are answered.
+-- The replies to the lines of a script.
 use Rattle.std.specs.Prelude.{ℕ, Bool, false, List, [], ◌∷◌, ◌++◌, ◌≡◌, flat_map, Option, Some, None}
 use Rattle.kf_script.specs.Requests.{RequestWords, request_of}
 use Rattle.kf_script.specs.ReplyText.{bad_line_text}
@@ -9,11 +9,11 @@ pub record Turn : Type 0 where
   pub starved : Bool
   pub reply : List ℕ
 
--- the line that was answered in this turn
+-- the line that got its reply in this turn
 abbrev pub line_of : Turn → List ℕ
 line_of turn = turn.line
 
--- What a board may answer a request: the board before, the request, whether memory was wanting, the reply,
+-- What a board may reply to a request: the board before, the request, whether memory was lacking, the reply,
 -- and the board after.
 abbrev pub Step : Type 0 → Type 1
 Step Board = Board → RequestWords → Bool → List ℕ → Board → Type 0
@@ -25,7 +25,7 @@ AnswersRequest step before None starved reply now =
     (starved ≡ false) × (reply ≡ bad_line_text) × (now ≡ before)
 AnswersRequest step before (Some request) starved reply now = step before request starved reply now
 
--- The lines are answered in order, and lead from the one board to the other.
+-- The lines get their replies in order, and lead from the one board to the other.
 abbrev pub Answers : {Board : Type 0} → Step Board → Board → List Turn → Board → Type 0
 Answers step before [] now = now ≡ before
 Answers {Board} step before (turn ∷ turns) now =

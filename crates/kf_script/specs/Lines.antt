@@ -11,7 +11,7 @@ abbrev pub has_bytes : List ℕ → Bool
 has_bytes [] = false
 has_bytes (byte ∷ line) = true
 
--- the lines of a script: what stands between its newlines, where that is not empty
+-- the lines of a script: what stands between its newlines, if that is not empty
 abbrev pub lines_of : List ℕ → List (List ℕ)
 lines_of script = filter has_bytes (slice_split is_newline script)
 
@@ -21,7 +21,7 @@ front [] = []
 front (line ∷ []) = []
 front (line ∷ next ∷ lines) = line ∷ front (next ∷ lines)
 
--- the lines that have ended: what stands before each newline, where that is not empty
+-- the lines that have ended: what stands before each newline, if that is not empty
 abbrev pub ended_lines_of : List ℕ → List (List ℕ)
 ended_lines_of script = filter has_bytes (front (slice_split is_newline script))
 
@@ -29,6 +29,6 @@ ended_lines_of script = filter has_bytes (front (slice_split is_newline script))
 abbrev pub line_limit : ℕ
 line_limit = 8192
 
--- what the line buffer keeps of a line: its bytes, or nothing where they are more than the limit
+-- what the line buffer keeps of a line: its bytes, or nothing if they are more than the limit
 abbrev pub kept_line : List ℕ → Option (List ℕ)
 kept_line line = if nat_le (length line) line_limit then Some line else None

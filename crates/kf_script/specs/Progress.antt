@@ -17,7 +17,7 @@ WrittenOrCut old new result bytes =
 abbrev pub Grows : Option (List ℕ) → Option (List ℕ) → Type 0
 Grows old new = (part : List ℕ) × Appends old new part
 
--- Of what was kept so many bytes from the front were written, and the rest is kept.
+-- Of what was kept this many bytes from the front were written, and the rest is kept.
 pub record GivesOut (old new : Option (List ℕ)) (kept left : List ℕ) : Type 0 where
   pub given : List ℕ
   pub front : kept ≡ given ++ left
@@ -27,14 +27,14 @@ pub record GivesOut (old new : Option (List ℕ)) (kept left : List ℕ) : Type 
 abbrev pub kept_limit : ℕ
 kept_limit = 4096
 
--- What is kept once such bytes have come: they follow what was kept, or are alone where they find no room
--- behind it, and where they are more than are ever kept, nothing is.
+-- What is kept once such bytes have come: they follow what was kept, or are by themselves if they find no
+-- room behind it, and if they are more than are ever kept, nothing is.
 abbrev pub kept_with : List ℕ → List ℕ → List ℕ
 kept_with kept bytes =
     if nat_le (length kept + length bytes) kept_limit then kept ++ bytes
     else (if nat_le (length bytes) kept_limit then bytes else [])
 
--- The lines were answered, and what was written is their replies.
+-- The lines got their replies, and what was written is these replies.
 pub record Answered {Board : Type 0} (step : Step Board) (first now : Board) (lines : List (List ℕ))
     (old new : Option (List ℕ)) : Type 0 where
   pub turns : List Turn
@@ -42,8 +42,8 @@ pub record Answered {Board : Type 0} (step : Step Board) (first now : Board) (li
   pub answers : Answers step first turns now
   pub written : Appends old new (text turns)
 
--- A write failed: of the lines so many as `turns` were answered, and what was written is a prefix of their
--- replies.
+-- A write failed: of the lines as many as `turns` got their replies, and what was written is a prefix of
+-- these replies.
 pub record CutShort {Board : Type 0} (step : Step Board) (first now : Board) (lines : List (List ℕ))
     (old new : Option (List ℕ)) : Type 0 where
   pub turns : List Turn

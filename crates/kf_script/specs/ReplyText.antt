@@ -9,7 +9,7 @@ use Rattle.kf_core.specs.Refusals.{number_of, name_of}
 use Rattle.kf_script.specs.declared.reply.NodeState.{NodeState}
 use Rattle.kf_script.specs.declared.reply.NodeState.TheVariants.{Removing, Off, Hidden, Live}
 
--- the reply of a command that was done and has nothing to tell
+-- the reply of a command that was done and has nothing to report
 abbrev pub done_text : List ℕ
 done_text = codes "ok"
 

@@ -32,7 +32,7 @@ pub data RequestWords : Type 0 where
   unplug : (name : List ℕ) → RequestWords
   wait : RequestWords
 
--- the words of a request, without where they lie in memory
+-- the words of a request, without the place in memory where they lie
 abbrev pub request_words : Request → RequestWords
 request_words (MakeDirectory path is_live) = make_directory path.now is_live
 request_words (MakeFile path mode text) = make_file path.now mode text.now
@@ -73,7 +73,7 @@ IsInRange _ = ⊤
 abbrev pub is_space : ℕ → Bool
 is_space byte = byte == 32
 
--- the word before the first space, and the text after that space (empty where there is none)
+-- the word before the first space, and the text after that space (empty if there is none)
 abbrev pub first_word : List ℕ → List ℕ
 first_word line = before_first is_space line
 
@@ -89,7 +89,7 @@ behind line = option_map (λ at. drop (at + 1) line) (position is_space line)
 abbrev pub next_word : Option (List ℕ) → Option (List ℕ)
 next_word later = option_map first_word later
 
--- what stands behind the next word, where there is one
+-- what stands behind the next word, if there is one
 abbrev pub behind_next : Option (List ℕ) → Option (List ℕ)
 behind_next later = option_and_then behind later
 
@@ -117,7 +117,7 @@ is_digit byte = nat_le 48 byte && nat_le byte 57
 abbrev pub number_of : List ℕ → ℕ
 number_of digits = fold (λ number digit. number * 10 + (digit - 48)) 0 digits
 
--- a number of at least one digit and at most so many, and no greater than this
+-- a number of at least one digit and at most this many, and at most this
 abbrev pub decimal_of : ℕ → ℕ → List ℕ → Option ℕ
 decimal_of most greatest word =
     if has_bytes word && nat_le (length word) most && list_all is_digit word && nat_le
@@ -147,7 +147,7 @@ want_of word =
 
 -- ---- what stands behind a command
 
--- a request, made of what stands behind its command, where that is as it should be
+-- a request, made of what stands behind its command, if that is as it should be
 abbrev pub Parser : Type 0
 Parser = Option (List ℕ) → Option RequestWords
 
@@ -161,11 +161,11 @@ abbrev pub is_over : Option (List ℕ) → Bool
 is_over None = true
 is_over (Some later) = false
 
--- this request, where no word is left
+-- this request, if no word is left
 abbrev pub ends : RequestWords → Parser
 ends request later = if is_over later then Some request else None
 
--- nothing more comes, or this word alone, which the request tells
+-- nothing more comes, or only this word, which the request then notes
 abbrev pub last_word : List ℕ → Option (List ℕ) → Option Bool
 last_word last None = Some false
 last_word last (Some later) = if bytes_eq later last then Some true else None
@@ -233,10 +233,10 @@ row_of [] command later = None
 row_of (row ∷ rows) command later =
     if bytes_eq command row.command then row.reads later else row_of rows command later
 
--- what this command makes of what stands behind it, where it is one
+-- what this command makes of what stands behind it, if it is one
 abbrev pub reads_of : List ℕ → Parser
 reads_of command later = row_of rows command later
 
--- the request of a line, where it makes one
+-- the request of a line, if it makes one
 abbrev pub request_of : List ℕ → Option RequestWords
 request_of line = if nat_le (length line) line_limit then reads_of (first_word line) (behind line) else None

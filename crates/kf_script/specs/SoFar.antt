@@ -17,19 +17,19 @@ pub record AnsweredSoFar {Board : Type 0} (step : Step Board) (first now : Board
   pub buffered : line ≡ kept_line pending
   pub answered : Answered step first now (filter has_bytes ended) old new
 
--- A write failed after the bytes `read`, and whatever follows them is not answered.
+-- A write failed after the bytes `read`, and whatever follows them gets no reply.
 abbrev pub Stopped : {Board : Type 0} → Step Board → Board → Board → List ℕ → Option (List ℕ)
     → Option (List ℕ) → Type 0
 Stopped step first now read old new =
     (more : List ℕ) → CutShort step first now (lines_of (read ++ more)) old new
 
--- The lines were answered, or a write failed.
+-- The lines got their replies, or a write failed.
 abbrev pub AnsweredOrCut : {Board T E : Type 0} → Step Board → Board → Board → List (List ℕ) → Option (List ℕ)
     → Option (List ℕ) → Result T E → Type 0
 AnsweredOrCut step first now lines old new result =
     MatchResult result (λ _. Answered step first now lines old new)
     (λ _. CutShort step first now lines old new)
 
--- a line that has ended, as the lines that get a reply: itself, or none where it is empty
+-- a line that has ended, as the lines that get a reply: itself, or none if it is empty
 abbrev pub ended_line : List ℕ → List (List ℕ)
 ended_line line = filter has_bytes (line ∷ [])

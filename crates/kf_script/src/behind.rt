@@ -1,8 +1,8 @@
-//! Bytes put behind others, where there is room for them.
+//! Bytes put behind others, if there is room for them.
 
 ghost use Rattle.std.specs.Prelude.{◌≡◌, ◌≤◌, ◌+◌, ◌++◌, length, vec_len, vec_capacity};
 
-/// Puts the bytes behind those of the text, one by one. Inlined, where they are known, it writes a few
+/// Puts the bytes behind those of the text, one by one. Inlined, if they are known, it writes a few
 /// numbers.
 #[inline(always)]
 pub fn push_each(text: &mut Vec<u8>, bytes: &[u8])

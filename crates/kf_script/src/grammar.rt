@@ -79,10 +79,10 @@ fn request_of_the_rest<'a, B>(command: &[u8], words: Words<'a>) -> Option<Reques
     }
 }
 
-/// The same as [`parse`], put into a place of the caller's: what a function answers is copied once more, and
-/// the board would wait for that copy.
+/// The same as [`parse`], put into a place that the caller lends: what a function returns is copied once
+/// more, and the board would wait for that copy.
 ///
-/// `B` is the board that asks, or `()`. A board's lines so have a parse of their own, which is called in one
+/// `B` is the board that asks, or `()`. A board's lines thus have a separate parse, which is called in one
 /// place, and the compiler puts it there.
 pub(crate) fn parse_into<'a, B>(line: &'a [u8], asked: &mut Option<Request<'a>>)
     requires { length line.now ≤ line_limit }
@@ -96,7 +96,7 @@ pub(crate) fn parse_into<'a, B>(line: &'a [u8], asked: &mut Option<Request<'a>>)
     };
 }
 
-/// What a line of at most 8,192 bytes asks for, or nothing where it matches no row of the grammar.
+/// What a line of at most 8,192 bytes asks for, or nothing if it matches no row of the grammar.
 pub fn parse(line: &[u8]) -> Option<Request<'_>>
     requires { length line.now ≤ line_limit }
     ensures value { option_map request_words result ≡ request_of line.now }

@@ -44,7 +44,7 @@ fn has_digits_alone(word: &[u8]) -> bool
     word.iter().all(|byte| byte.is_ascii_digit())
 }
 
-/// The number that decimal digits spell, where it is no greater than the greatest.
+/// The number that decimal digits spell, if it is at most the greatest.
 fn number_up_to(digits: &[u8], greatest: u64) -> Option<u64>
     requires digits { list_all is_digit digits.now ≡ true }
     requires small { greatest ≤ 4294967295 }
@@ -61,7 +61,7 @@ fn number_up_to(digits: &[u8], greatest: u64) -> Option<u64>
     Some(number)
 }
 
-/// One to so many decimal digits, that spell no greater number than the greatest.
+/// One to this many decimal digits, which spell at most the greatest number.
 fn decimal(word: &[u8], most: usize, greatest: u64) -> Option<u64>
     requires { greatest ≤ 4294967295 }
     ensures value { result ≡ decimal_of most greatest word.now }

@@ -1,14 +1,14 @@
-//! Scripts: lines in, replies out, over any board that answers requests.
+//! Scripts: lines in, replies out, over any board that replies to requests.
 //!
 //! - `run_script` reads lines, makes a `Request` of each (`parse`), asks the `Board` for a `Reply`, and
 //!   writes it. Replies are written before it waits for more of the script; the first fault of a read, a
 //!   write or memory ends the run (`RunFault`).
-//! - A `Board` is yours: it says by a relation of its own what a request makes of it and what is replied,
-//!   and answers by `Reply`'s `set_done`, `set_key`, `set_refusal` and their kin. `use_tree/src/board.rt` is
-//!   one.
+//! - A `Board` is yours: its relation says what a request makes of it and what is replied,
+//! and it replies by `Reply`'s `set_done`, `set_key`, `set_refusal` and the like. `use_tree/src/board.rt` is
+//! one.
 //! - Lines have at most 8,192 bytes (`LINE_LIMIT`).
 //!
-//! Who writes a board proves its relation of each answer; `run_script` then tells the bytes of the whole
+//! If you write a board, you prove its relation for each reply; `run_script` then says the bytes of the whole
 //! output.
 #![tactic(auto)]
 

@@ -10,7 +10,7 @@ use std::marker::Model;
 /// The longest line that is read as a command, without its newline.
 pub const LINE_LIMIT: usize = 8192;
 
-/// The line that is being read: its bytes, as long as they are no more than the limit.
+/// The line that is being read: its bytes, as long as they are at most the limit.
 #[derive(Drop)]
 pub struct LineBuffer {
     bytes: Vec<u8>,
@@ -37,7 +37,7 @@ impl LineBuffer {
         })
     }
 
-    /// The line so far, or `None` where it is too long.
+    /// The line so far, or `None` if it is too long.
     pub fn get(&self) -> Option<&[u8]>
         ensures line { option_map (λ line. line.now) result ≡ self.now }
         ensures fits { IfSome result (λ line. length line.now ≤ line_limit) }

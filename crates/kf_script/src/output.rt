@@ -12,7 +12,7 @@ use std::io::Write;
 /// The most bytes of replies that are kept: as many as a pipe takes whole.
 pub const KEPT_LIMIT: usize = 4096;
 
-/// Writes the bytes, and answers how many of them were written: all, or fewer after a call that failed or
+/// Writes the bytes, and returns how many of them were written: all, or fewer after a call that failed or
 /// took no byte, which is not tried again.
 fn give<W: Write>(writer: &mut W, bytes: &[u8]) -> usize
     ensures inside { result ≤ length bytes.now }
@@ -39,7 +39,7 @@ pub fn write_whole<W: Write>(writer: &mut W, bytes: &[u8]) -> Result<(), RunFaul
     Ok(())
 }
 
-/// Takes so many bytes away from the front.
+/// Takes this many bytes away from the front.
 fn remove_front(kept: &mut Vec<u8>, count: usize)
     requires { count ≤ vec_len kept.old }
     ensures items { kept.new.items ≡ drop count kept.old.items }
@@ -116,7 +116,7 @@ impl<'a, W: Write> Output<'a, W> {
         result
     }
 
-    /// Whether so many bytes more are kept: there is room for them, and no write has failed.
+    /// Whether this many bytes more are kept: there is room for them, and no write has failed.
     #[inline(always)]
     fn has_room(&self, count: usize) -> bool
         ensures fits { result ≡ true → vec_len self.now.kept.now + count ≤ kept_limit }
@@ -127,7 +127,7 @@ impl<'a, W: Write> Output<'a, W> {
         !self.has_failed && count <= KEPT_LIMIT - self.kept.len()
     }
 
-    /// Keeps the bytes behind what is kept, which is written first where they find no room. More than are
+    /// Keeps the bytes behind what is kept, which is written first if they find no room. More than are
     /// ever kept are written then too.
     #[inline(always)]
     pub fn write(&mut self, bytes: &[u8]) -> Result<(), RunFault>

@@ -15,10 +15,10 @@ use std::alloc::{AllocError, Global};
 use std::io::Write;
 use std::marker::Model;
 
-/// The longest reply that needs no memory of its own, in bytes and without its newline.
+/// The longest reply that needs no further memory, in bytes and without its newline.
 pub const SHORT_REPLY: usize = 4096;
 
-/// The state of a node, as `stat` tells it.
+/// The state of a node, as `stat` prints it.
 #[derive(Clone, Copy, Debug)]
 pub enum NodeState {
     /// It is doomed.
@@ -110,7 +110,7 @@ impl Reply {
         self.push_number(key.generation as usize);
     }
 
-    /// What is told of a node: its kind, of a directory how many directories are in it and how many links
+    /// What is reported of a node: its kind, of a directory how many directories are in it and how many links
     /// lead to it, of a file its mode, and its state.
     pub fn set_stat(&mut self, node: Node, subdirs: u32, links: u32, state: NodeState)
         ensures { self.new ≡ stat_text node subdirs links state }
@@ -149,7 +149,7 @@ impl Reply {
         self.push(bytes);
     }
 
-    /// Any number of bytes as they are. Refuses `NoMemory` alone, and no [`SHORT_REPLY`] bytes; the text is
+    /// Any number of bytes as they are. Refuses only `NoMemory`, and no [`SHORT_REPLY`] bytes; the text is
     /// then unknown.
     pub fn set_text(&mut self, bytes: &[u8]) -> Result<(), Refusal>
         ensures text { OnOk result (self.new ≡ bytes.now) }
@@ -206,7 +206,7 @@ impl Reply {
         push_all(&mut self.text, bytes);
     }
 
-    /// Appends any number of bytes as they are. Refuses `NoMemory` alone, and nothing that makes a reply of
+    /// Appends any number of bytes as they are. Refuses only `NoMemory`, and nothing that makes a reply of
     /// [`SHORT_REPLY`] bytes; the text is then unknown.
     pub fn extend(&mut self, bytes: &[u8]) -> Result<(), Refusal>
         ensures text { OnOk result (self.new ≡ self.old ++ bytes.now) }
@@ -231,7 +231,7 @@ impl Reply {
         self.push(buffer.format(number).as_bytes());
     }
 
-    /// Appends what is told of a node before its state.
+    /// Appends what is reported of a node before its state.
     fn push_node(&mut self, node: Node, subdirs: u32, links: u32)
         requires { self.old ≡ [] }
         ensures text { self.new ≡ node_text node subdirs links }

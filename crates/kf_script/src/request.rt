@@ -55,7 +55,7 @@ pub enum Request<'a> {
         reads: bool,
         writes: bool,
     },
-    /// `read H OFF LEN`: at most so many bytes from the offset on.
+    /// `read H OFF LEN`: at most this many bytes from the offset on.
     ReadFile {
         file: usize,
         offset: u64,

@@ -1,5 +1,5 @@
 //! What stands behind each command: the words of its row, one after the other, and the request that they
-//! make. Each is inlined, so that words stay in registers and a request is made where it is wanted.
+//! make. Each is inlined, so that words stay in registers and a request is made where it is needed.
 
 ghost use Rattle.std.specs.Prelude.{◌≡◌, codes, IfSome};
 ghost use Rattle.std.specs.Option.{option_map};

@@ -1,4 +1,4 @@
-//! Running a script: its lines are answered one by one while it is read.
+//! Running a script: its lines get their replies one by one while it is read.
 
 ghost use Rattle.std.specs.Prelude.{◌≡◌, ◌≤◌, ℕ, List, Bool, [], ◌∷◌, ◌++◌, Option, Some, All, false, length, MatchResult, OnOk, IfErr, IfSome, IsErrOf};
 ghost use Rattle.std.specs.Option.{option_map};
@@ -37,7 +37,7 @@ fn answer_line<B: Board>(board: &mut B, reply: &mut Reply, line: &[u8])
     }
 }
 
-/// Answers a whole line, where it has bytes.
+/// Replies to a whole line, if it has bytes.
 fn end_whole<B: Board, W: Write>(
     board: &mut B,
     reply: &mut Reply,
@@ -59,7 +59,7 @@ fn end_whole<B: Board, W: Write>(
     reply.write_line(output)
 }
 
-/// Answers a line that has ended, where it has bytes; without a line, one that was too long.
+/// Replies to a line that has ended, if it has bytes; without a line, to one that was too long.
 fn end_line<B: Board, W: Write>(
     board: &mut B,
     reply: &mut Reply,
@@ -82,7 +82,7 @@ fn end_line<B: Board, W: Write>(
     end_whole(board, reply, bytes, output)
 }
 
-/// Takes the bytes before a newline, and answers the line that they end.
+/// Takes the bytes before a newline, and replies to the line that they end.
 fn take_line<B: Board, W: Write>(
     board: &mut B,
     reply: &mut Reply,
@@ -141,7 +141,7 @@ fn take_bytes<B: Board, W: Write>(
     Ok(())
 }
 
-/// Reads to the end of the input and answers each line.
+/// Reads to the end of the input and replies to each line.
 fn read_lines<B: Board, R: Read, W: Write>(
     board: &mut B,
     reply: &mut Reply,
@@ -183,9 +183,9 @@ fn read_lines<B: Board, R: Read, W: Write>(
     }
 }
 
-/// Answers each line of a script with one reply.
+/// Gives each line of a script one reply.
 ///
-/// Where it answers `Ok`, the script was read to its end and each of its lines has its reply, however the
+/// If it returns `Ok`, the script was read to its end and each of its lines has its reply, however the
 /// reader cut it. After [`RunFault::Read`] each line that had ended has its reply. After [`RunFault::Write`]
 /// what was written is a prefix of the replies. [`RunFault::Memory`] comes before the first read, with
 /// nothing read, written or changed. It makes at most 16,777,216 calls of read.

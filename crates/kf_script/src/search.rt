@@ -1,4 +1,4 @@
-//! Where a byte stands.
+//! Where a byte is.
 
 ghost use Rattle.std.specs.Prelude.{◌≡◌, ◌≤◌, ◌<◌, ◌+◌, ◌==◌, not, length, position};
 ghost use Rattle.std.specs.List.{prefix_len};
@@ -9,7 +9,7 @@ ghost use Rattle.kf_script.specs.Requests.{is_space};
 use memchr::memchr;
 use std::simd::prelude::*;
 
-/// How many of the 16 bytes from a place on stand before the first such byte: 16 where none of them is one.
+/// How many of the 16 bytes from a place on stand before the first such byte: 16 if none of them is one.
 #[inline(always)]
 fn before_in_16(byte: u8, bytes: &[u8], from: usize) -> usize
     requires { from + 16 ≤ length bytes.now }
@@ -57,7 +57,7 @@ fn before_in_4(byte: u8, bytes: &[u8], from: usize) -> usize
     }
 }
 
-/// Where the byte stands first in 4 to 8 bytes: the first 4 are looked at, and then the last 4.
+/// Where the byte is first in 4 to 8 bytes: the first 4 are looked at, and then the last 4.
 #[inline(always)]
 fn place_by_4(byte: u8, bytes: &[u8]) -> Option<usize>
     requires length { (4 ≤ length bytes.now) × (length bytes.now ≤ 8) }
@@ -74,7 +74,7 @@ fn place_by_4(byte: u8, bytes: &[u8]) -> Option<usize>
     None
 }
 
-/// Where the byte stands first in 8 to 16 bytes: the first 8 are looked at, and then the last 8.
+/// Where the byte is first in 8 to 16 bytes: the first 8 are looked at, and then the last 8.
 #[inline(always)]
 fn place_by_8(byte: u8, bytes: &[u8]) -> Option<usize>
     requires length { (8 ≤ length bytes.now) × (length bytes.now ≤ 16) }
@@ -91,7 +91,7 @@ fn place_by_8(byte: u8, bytes: &[u8]) -> Option<usize>
     None
 }
 
-/// Where the byte stands first in 16 to 32 bytes: the first 16 are looked at, and then the last 16.
+/// Where the byte is first in 16 to 32 bytes: the first 16 are looked at, and then the last 16.
 #[inline(always)]
 fn place_by_16(byte: u8, bytes: &[u8]) -> Option<usize>
     requires length { (16 ≤ length bytes.now) × (length bytes.now ≤ 32) }
@@ -108,7 +108,7 @@ fn place_by_16(byte: u8, bytes: &[u8]) -> Option<usize>
     None
 }
 
-/// Where the byte stands first in more bytes: twice 16 are looked at, and then all.
+/// Where the byte is first in more bytes: twice 16 are looked at, and then all.
 #[inline(always)]
 fn place_in_many(byte: u8, bytes: &[u8]) -> Option<usize>
     requires length { 32 < length bytes.now }
@@ -125,7 +125,7 @@ fn place_in_many(byte: u8, bytes: &[u8]) -> Option<usize>
     memchr(byte, bytes)
 }
 
-/// Where the byte stands first. Words and lines are short: so 4, 8 or 16 bytes are looked at together, where
+/// Where the byte is first. Words and lines are short: so 4, 8 or 16 bytes are looked at together, where
 /// `memchr` looks at fewer than 32 one by one.
 #[inline(always)]
 fn place_of(byte: u8, bytes: &[u8]) -> Option<usize>
@@ -140,7 +140,7 @@ fn place_of(byte: u8, bytes: &[u8]) -> Option<usize>
     }
 }
 
-/// Where the first newline stands.
+/// Where the first newline is.
 #[inline(always)]
 pub fn newline_in(bytes: &[u8]) -> Option<usize>
     ensures { result ≡ position is_newline bytes.now }
@@ -148,14 +148,14 @@ pub fn newline_in(bytes: &[u8]) -> Option<usize>
     place_of(b'\n', bytes)
 }
 
-/// Where the first space stands. (Its byte is known in a function of its own, which all words call.)
+/// Where the first space is. (Its byte is known in a separate function, which all words call.)
 pub fn space_in(bytes: &[u8]) -> Option<usize>
     ensures { result ≡ position is_space bytes.now }
 {
     place_of(b' ', bytes)
 }
 
-/// The same, where one byte is likely to be all that stands before it. Inlined, it then makes no call.
+/// The same, if one byte is likely to be all that stands before it. Inlined, it then makes no call.
 #[inline(always)]
 pub fn space_behind_letter(bytes: &[u8]) -> Option<usize>
     ensures place { result ≡ position is_space bytes.now }
@@ -169,7 +169,7 @@ pub fn space_behind_letter(bytes: &[u8]) -> Option<usize>
     space_in(bytes)
 }
 
-/// The same, where one or two bytes are likely to be all.
+/// The same, if one or two bytes are likely to be all.
 #[inline(always)]
 pub fn space_in_two(bytes: &[u8]) -> Option<usize>
     ensures place { result ≡ position is_space bytes.now }

@@ -3,7 +3,7 @@
 ghost use Rattle.std.specs.Prelude.{◌≡◌};
 ghost use Rattle.std.specs.Str.{bytes_eq};
 
-/// Whether a word is spelled like this text. Inlined, where the text is known, it compares a few numbers;
+/// Whether a word is spelled like this text. Inlined, if the text is known, it compares a few numbers;
 /// `==` makes a call for a text of four bytes and more.
 #[inline(always)]
 pub fn spells(word: &[u8], text: &[u8]) -> bool

@@ -22,7 +22,7 @@ pub struct Streams<'a, R, W> {
 }
 
 impl<'a, R: Read, W> Streams<'a, R, W> {
-    /// Takes the reader for one run of so many calls of read, beside the output of the same run.
+    /// Takes the reader for one run of this many calls of read, beside the output of the same run.
     pub fn new(reader: &'a mut R, calls: u32, output: Output<'a, W>) -> Streams<'a, R, W>
         ensures lent { result.reader.ghost_name ≡ reader.entry.ghost_name }
         ensures reader { result.reader.now ≡ reader.old }
@@ -36,8 +36,8 @@ impl<'a, R: Read, W> Streams<'a, R, W> {
         }
     }
 
-    /// Reads once and counts it, where a call is left. The number of bytes is 0 at the end of the input
-    /// alone.
+    /// Reads once and counts it, if a call is left. The number of bytes is 0 only at the end of the
+    /// input.
     ///
     /// Condition: no reply is kept, as a call of read may wait.
     pub fn read(&mut self, chunk: &mut [u8]) -> Result<usize, RunFault>

@@ -30,7 +30,7 @@ impl<'a> Words<'a> {
         Words { later: Some(line) }
     }
 
-    /// Takes the first word of all that comes, where its first space is known.
+    /// Takes the first word of all that comes, if its first space is known.
     #[inline(always)]
     fn cut(&mut self, text: &'a [u8], space: Option<usize>) -> &'a [u8]
         requires space { space ≡ position is_space text.now }
@@ -59,7 +59,7 @@ impl<'a> Words<'a> {
         Some(self.cut(text, space_in(text)))
     }
 
-    /// The same, where a word of one letter is likely.
+    /// The same, if a word of one letter is likely.
     #[inline(always)]
     fn next_letter(&mut self) -> Option<&'a [u8]>
         ensures word { option_map (λ word. word.now) result ≡ next_word self.old }
@@ -69,7 +69,7 @@ impl<'a> Words<'a> {
         Some(self.cut(text, space_behind_letter(text)))
     }
 
-    /// The same, where a last word of one or two letters is likely.
+    /// The same, if a last word of one or two letters is likely.
     #[inline(always)]
     fn next_of_two(&mut self) -> Option<&'a [u8]>
         ensures word { option_map (λ word. word.now) result ≡ next_word self.old }
@@ -148,7 +148,7 @@ impl<'a> Words<'a> {
         }
     }
 
-    /// Whether this word comes last and alone, or nothing more comes. None where something else comes.
+    /// Whether this word comes last and by itself, or nothing more comes. None if something else comes.
     #[inline(always)]
     pub fn last(&self, last: &[u8]) -> Option<bool>
         ensures { result ≡ last_word last.now self.now }

@@ -1,4 +1,4 @@
--- A number on a line of its own is read again.
+-- A number on its own line is read again.
 use Rattle.std.proofs.Common.{◌≡◌, ◌<◌, ◌≤◌, ◌≤ℤ◌, ◌<ℤ◌, ◌+◌, ◌-◌, ◌^◌, ◌∙◌, ℕ, ℤ, zero, suc, pos, negsuc, neg_ℤ, FitsSigned, w64, true, false, cond, eqb, List, [], ◌∷◌, ◌++◌, length, take, drop, get_or, inl, inr, ap, refl, sym, subst, arith}
 use Rattle.std.specs.Prelude.{◌==◌, ◌⊎◌, Result, Ok, Err}
 use Rattle.std.specs.List.{position_or_len}

@@ -1,4 +1,4 @@
--- A number in base 16 on a line of its own is read again.
+-- A number in base 16 on its own line is read again.
 use Rattle.std.proofs.Common.{◌≡◌, ◌<◌, ◌≤◌, ◌^◌, ◌∙◌, ◌&&◌, ◌||◌, ℕ, zero, suc, Bool, true, false, cond, eqb, List, [], ◌∷◌, ◌++◌, length, drop, get_or, codes, ap, refl, sym, subst, arith, ne_eqb}
 use Rattle.std.specs.Prelude.{Result, Ok}
 use Rattle.std.specs.Char.{digit_value}

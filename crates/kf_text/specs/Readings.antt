@@ -17,12 +17,12 @@ number_of Range = 34
 abbrev pub until_zero : List ℕ → List ℕ
 until_zero bytes = take (position_or_len (λ byte. byte == 0) bytes) bytes
 
--- bytes without the newline that ends them, where one does
+-- bytes without the newline that ends them, if one does
 abbrev pub without_newline : List ℕ → List ℕ
 without_newline bytes =
     if slice_index bytes (length bytes - 1) == 10 then take (length bytes - 1) bytes else bytes
 
--- the bytes before the first zero byte, without the newline that ends them, where one does
+-- the bytes before the first zero byte, without the newline that ends them, if one does
 abbrev pub line : List ℕ → List ℕ
 line bytes = without_newline (until_zero bytes)
 
@@ -34,7 +34,7 @@ is_one_of bytes byte = list_any (λ b. b == byte) bytes
 abbrev pub begins_with_0x : List ℕ → Bool
 begins_with_0x text = slice_index text 0 == 48 && is_one_of (codes "xX") (slice_index text 1)
 
--- the base that a text is in, by its first bytes where no base is named: 48 is `0`
+-- the base that a text is in, by its first bytes if no base is named: 48 is `0`
 abbrev pub radix_of : Base → List ℕ → ℕ
 radix_of Decimal text = 10
 radix_of Hex text = 16
@@ -70,7 +70,7 @@ ReadUnsignedIn base most text = ReadNumber base most (without_leading_plus text)
 abbrev pub ReadUnsigned : ℕ → List ℕ → Result ℕ NotRead → Type 0
 ReadUnsigned = ReadUnsignedIn Decimal
 
--- a number, or where a minus stands in front what it is below zero
+-- a number, or if a minus stands in front what it is below zero
 abbrev pub with_sign : Bool → ℕ → ℤ
 with_sign is_negative number = if is_negative then neg_ℤ (pos number) else pos number
 
@@ -107,7 +107,7 @@ flag (byte ∷ rest) = if is_one_of (codes "eEyYtT1") byte then Some true
 abbrev pub with_newline : List ℕ → List ℕ
 with_newline text = text ++ 10 ∷ []
 
--- two texts are the same, but for a newline that ends one of them
+-- two texts are the same, except for a newline that ends one of them
 abbrev pub same_line : List ℕ → List ℕ → Bool
 same_line one other =
     bytes_eq one other || bytes_eq one (with_newline other) || bytes_eq other (with_newline one)

@@ -9,12 +9,12 @@ pub enum Base {
     Decimal,
     /// Base 16, in small letters or large ones, maybe behind `0x` or `0X` (the kernel's `16`).
     Hex,
-    /// Base 16 behind `0x` or `0X`, base 8 where a `0` is first, and base 10 elsewhere (the kernel's `0`).
+    /// Base 16 behind `0x` or `0X`, base 8 if a `0` is first, and base 10 elsewhere (the kernel's `0`).
     ByPrefix,
 }
 
 // The base that a text is in, and its digits in it (`_parse_integer_fixup_radix`). A `0x` with no digit
-// behind it leaves no digits, where the kernel's base 0 finds a `0` with an `x` behind it: both are refused.
+// behind it leaves no digits, if the kernel's base 0 finds a `0` with an `x` behind it: both are refused.
 pub(crate) fn digits_in(text: &[u8], base: Base) -> (u32, &[u8])
     ensures radix { result.0 ≡ radix_of base text.now }
     ensures low { 2 ≤ result.0 }

@@ -15,7 +15,7 @@ fn digit(value: u64) -> u8
     }
 }
 
-// Writes the digits of a number at the end of the bytes, the last first, and answers where they begin.
+// Writes the digits of a number at the end of the bytes, the last first, and returns where they begin.
 fn write_hex(number: u64, bytes: &mut [u8; 64]) -> usize
     ensures within { result ≤ 64 }
     ensures digits { drop result bytes.new ≡ hex number }

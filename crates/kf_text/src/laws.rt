@@ -7,7 +7,7 @@ ghost use Rattle.kf_text.specs.declared.part.Part.TheVariants.{Hex, Newline, Num
 ghost use Rattle.kf_text.specs.Readings.{line, ReadSigned, ReadUnsigned, ReadUnsignedIn};
 ghost use Rattle.kf_text.specs.Texts.{text_of};
 
-/// A number that is emitted on a line of its own is read from that line as this number: in decimal, in base
+/// A number that is emitted on its own line is read from that line as this number: in decimal, in base
 /// 16, and in base 16 by a `0x` in front.
 pub fn emitted_is_read()
     ensures unsigned { (number most : ℕ) (read : Result ℕ NotRead) → number < 2 ^ 64 → number ≤ most

@@ -21,7 +21,7 @@ pub(crate) fn until_zero(bytes: &[u8]) -> &[u8]
 }
 
 /// The text of a store, which it may keep: the bytes before the first zero byte, without the newline that
-/// ends them, where one does. Spaces stay, unlike those of `strim`.
+/// ends them, if one does. Spaces stay, unlike those of `strim`.
 pub fn line_of(bytes: &[u8]) -> &[u8]
     ensures line { result.now ≡ line bytes.now }
 {

@@ -10,7 +10,7 @@ use crate::line::line_of;
 use crate::not_read::NotRead;
 use crate::numeral::{is_numeral, parse};
 
-// The text behind a plus, where one stands in front.
+// The text behind a plus, if one stands in front.
 fn after_plus(text: &[u8]) -> &[u8]
     ensures after { result.now ≡ without_leading_plus text.now }
 {
@@ -27,7 +27,7 @@ fn has_minus(text: &[u8]) -> bool
     text.first() == Some(&b'-')
 }
 
-// The text behind a minus or a plus, where one stands in front.
+// The text behind a minus or a plus, if one stands in front.
 fn after_sign(text: &[u8]) -> &[u8]
     ensures after { result.now ≡ without_leading_sign text.now }
 {

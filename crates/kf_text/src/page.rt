@@ -53,7 +53,7 @@ fn put_part(page: &mut ArrayVec<u8, 4096>, part: &Part)
 }
 
 /// Puts the parts' text behind what the page has (`sysfs_emit` on an empty page; `emit_at(page, 0, ..)` on
-/// any). A page shows at most 4,095 bytes: what does not fit is cut. Answers how many bytes it put there.
+/// any). A page shows at most 4,095 bytes: what does not fit is cut. Returns how many bytes it put there.
 pub fn emit(page: &mut ArrayVec<u8, 4096>, parts: &[Part]) -> usize
     ensures text { page.new.items ≡ emitted page.old.items (text_of parts.now) }
     ensures count { length page.old.items + result ≡ length page.new.items }

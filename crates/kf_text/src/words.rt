@@ -6,8 +6,8 @@ ghost use Rattle.kf_text.specs.Readings.{flag, same_line, same_text, with_newlin
 use crate::line::until_zero;
 use crate::not_read::NotRead;
 
-/// A flag (`kstrtobool`): true where the first byte is one of `eEyYtT1` or the first two are `on`, false
-/// where it is one of `dDnNfF0` or they are `of`, in small letters or large ones.
+/// A flag (`kstrtobool`): true if the first byte is one of `eEyYtT1` or the first two are `on`, false
+/// if it is one of `dDnNfF0` or they are `of`, in small letters or large ones.
 ///
 /// Error: Invalid (anything else).
 pub fn read_flag(bytes: &[u8]) -> Result<bool, NotRead>
@@ -33,14 +33,14 @@ fn ends_a_line(one: &[u8], other: &[u8]) -> bool
     }
 }
 
-// Whether two texts are the same, but for a newline that ends one of them.
+// Whether two texts are the same, except for a newline that ends one of them.
 fn is_same_line(one: &[u8], other: &[u8]) -> bool
     ensures same { result ≡ same_line one.now other.now }
 {
     one == other || ends_a_line(one, other) || ends_a_line(other, one)
 }
 
-/// Whether two texts are the same, each up to its first zero byte, but for a newline that ends one of them
+/// Whether two texts are the same, each up to its first zero byte, except for a newline that ends one of them
 /// (`sysfs_streq`).
 pub fn is_same_text(one: &[u8], other: &[u8]) -> bool
     ensures same { result ≡ same_text one.now other.now }
@@ -55,8 +55,8 @@ fn place_of(words: &[&[u8]], text: &[u8]) -> Option<usize>
     words.iter().position(|word| is_same_text(word, text))
 }
 
-/// The place in a list of the first word that is this text, each up to its first zero byte, but for a newline
-/// at the end (`sysfs_match_string`).
+/// The place in a list of the first word that is this text, each up to its first zero byte, except for a
+/// newline at the end (`sysfs_match_string`).
 ///
 /// Error: Invalid (no word is).
 pub fn read_word(words: &[&[u8]], bytes: &[u8]) -> Result<usize, NotRead>

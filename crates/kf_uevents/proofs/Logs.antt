@@ -11,7 +11,7 @@ counted all s l =
     let begins = l.begins in
     omega arith
 
--- no more are kept than there is room for
+-- at most as many are kept as there is room for
 pub few : (all : List Uevent) (s : LogState) → IsLogOf all s → length s.kept ≤ s.room
 few all s l =
     let kept : length s.kept ≡ length all - s.first = ap length l.ends ∙ length-drop s.first all in
@@ -29,7 +29,7 @@ none_kept all event s s' l none room first kept =
       ends = kept ∙ l.ends ∙ drop_all s.first all (omega arith) ∙ sym (drop_all s'.first (all ++ event ∷ []) (omega arith));
     }
 
--- with room the last ones are kept, and the first of those is let go where they are as many as there is room
+-- with room the last ones are kept, and the first of those is dropped if they are as many as there is room
 -- for
 pub one_more : (all : List Uevent) (event : Uevent) (gone : ℕ) (s s' : LogState) → IsLogOf all s → 0 < s.room → s'.room ≡ s.room → gone ≡ length s.kept + 1 - s.room → s'.first ≡ s.first + gone
     → s'.kept ≡ drop gone s.kept ++ event ∷ [] → IsLogOf (all ++ event ∷ []) s'
@@ -44,11 +44,11 @@ one_more all event gone s s' l some room going first kept =
           ∙ sym (drop-append-le (s.first + gone) all (event ∷ []) within) ∙ ap (λ n. drop n (all ++ event ∷ [])) (sym first);
     }
 
--- no event was told
+-- no event was reported
 pub none_told : (s : LogState) → Told s s []
 none_told s = record { room = refl; told = λ all l. subst (λ xs. IsLogOf xs s) (sym (append-nil all)) l }
 
--- events were told, and then others
+-- events were reported, and then others
 pub more_told : (a b c : LogState) (xs ys : List Uevent) → Told a b xs → Told b c ys → Told a c (xs ++ ys)
 more_told a b c xs ys first then = record {
   room = then.room ∙ first.room;

@@ -158,7 +158,7 @@ module _ (t : Tree) (root key dir : Key) (name : List ℕ) (l : Lawful t root) (
   moved_path path new (names, leads, spelled) e =
       (names ++ name ∷ [], walk_on moved root l' names root dir key name (way_kept names root leads) (found_there key dir (moved_record dir name m.moving) this_moved refl), e ∙ spelled_in t root dir l names name path leads spelled)
 
--- a move that nothing was against tells the path that the node had, and the one that it has since
+-- a move that nothing was against reports the path that the node had, and the one that it has since
 pub told_move : (old new : TreeLog) (key dir : Key) (name : List ℕ) (event : Uevent) (cause : Option Refusal) → Lawful old.tree old.root → rename_cause old.tree old.root key dir name ≡ None
     → is_there_already old.tree key dir name ≡ false → IsAccepted old new cause (Rename key dir name) → IsToMove old.tree old.root key dir name event
     → IsMoveOf old.tree new.tree old.root key event

@@ -11,7 +11,7 @@ pub record LogState : Type 0 where
   pub first : ℕ
   pub kept : List Uevent
 
--- these are all events that were ever told, the number of each its place among them; the last of them are
+-- these are all events that were ever reported, the number of each its place among them; the last of them are
 -- kept, as many as there is room for
 pub record IsLogOf (all : List Uevent) (s : LogState) : Type 0 where
   pub begins : s.first ≡ length all - s.room
@@ -28,18 +28,18 @@ pub record IsKeptLog (s : LogState) (capacity : ℕ) : Type 0 where
   pub numbered : told_count s < 2 ^ 64
   pub places : s.room ≤ capacity
 
--- these events were told after all that were told before, in this order
+-- these events were reported after all that were reported before, in this order
 pub record Told (old new : LogState) (events : List Uevent) : Type 0 where
   pub room : new.room ≡ old.room
   pub told : (all : List Uevent) → IsLogOf all old → IsLogOf (all ++ events) new
 
--- 2^63 events were told
+-- 2^63 events were reported
 abbrev pub IsUsedUp : LogState → Type 0
 IsUsedUp s = 2 ^ 63 ≤ told_count s
 
--- what stands at a number, where there is room for so many: the event of this number, and the next number is
--- told; or it is lost, and the last ones, as many as there is room for, begin at the number that is told; or
--- there are not so many events
+-- what stands at a number, if there is room for this many: the event of this number, and the next number is
+-- given; or it is lost, and the last ones, as many as there is room for, begin at the number that is given;
+-- or there are not this many events
 abbrev pub IsReading : List Uevent → ℕ → ℕ → Reading → Type 0
 IsReading all room number (Next event then) =
     (slice_get all number ≡ Some event.now) × (then ≡ number + 1)

@@ -1,4 +1,4 @@
--- What a move tells.
+-- What a move reports.
 use Rattle.std.specs.Prelude.{◌≡◌, ℕ, List, [], ◌∷◌, ◌++◌, length, nat_le, IsSomeAnd, if◌then◌else◌}
 use Rattle.kf_core.specs.declared.key.Key.{Key}
 use Rattle.kf_core.specs.Tree.{Tree}
@@ -18,7 +18,7 @@ pub record IsMoveOf (old new : Tree) (root key : Key) (event : Uevent) : Type 0 
   pub path : IsPathOf new root key event.path.items
   pub from : IsSomeAnd event.from (λ from. IsPathOf old root key from.items)
 
--- one event was told, of a move of this node
+-- one event was reported, of a move of this node
 abbrev pub MoveTold : Tree → Tree → Key → Key → LogState → LogState → Type 0
 MoveTold before after root key old new = (event : Uevent) × IsMoveOf before after root key event
     × Told old new (event ∷ [])

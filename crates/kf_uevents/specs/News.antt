@@ -1,10 +1,10 @@
--- Which events a change tells.
+-- Which events a change reports.
 use Rattle.std.specs.Prelude.{◌≡◌, ◌⊎◌, Bool, true, false, not, ◌&&◌, List, [], ◌∷◌, map, filter, All, Option, None}
 use Rattle.std.specs.Option.{option_map_or}
 use Rattle.kf_core.specs.declared.key.Key.{Key}
 use Rattle.kf_core.specs.declared.refusal.Refusal.{Refusal}
 use Rattle.kf_core.specs.declared.refusal.Refusal.TheVariants.{NoSpace}
-use Rattle.kf_core.specs.declared.slot.Marks.{Marks}
+use Rattle.kf_core.specs.declared.slot.NodeFlags.{NodeFlags}
 use Rattle.kf_core.specs.Tree.{Tree, marks_of}
 use Rattle.kf_tree.specs.Causes.{Refuses}
 use Rattle.kf_tree.specs.Ways.{IsPathOf}
@@ -13,15 +13,15 @@ use Rattle.kf_uevents.specs.declared.uevent.Action.TheVariants.{Add, Remove, Cha
 use Rattle.kf_uevents.specs.declared.uevent.Uevent.{Uevent}
 use Rattle.kf_uevents.specs.Logs.{LogState, IsUsedUp, Told}
 
--- whether a node of these marks is told of: an activation adds what was not active, a removal removes what
--- was, and neither tells of a doomed node
-abbrev pub tells : Action → Marks → Bool
+-- whether a node of these marks is reported: an activation adds what was not active, a removal removes what
+-- was, and neither reports a doomed node
+abbrev pub tells : Action → NodeFlags → Bool
 tells Add m = not m.activated && not m.doomed
 tells Remove m = m.activated && not m.doomed
 tells Change m = true
 tells Move m = true
 
--- whether the tree has the key, and its node is told of
+-- whether the tree has the key, and its node is reported
 abbrev pub is_told : Tree → Action → Key → Bool
 is_told t action key = option_map_or (tells action) (marks_of t key) false
 
@@ -31,18 +31,18 @@ pub record IsEventOf (t : Tree) (root : Key) (action : Action) (event : Uevent) 
   pub path : IsPathOf t root event.key event.path.items
   pub not_moved : event.from ≡ None
 
--- an event for each of these keys that is told of, in their order
+-- an event for each of these keys that is reported, in their order
 pub record AreNews (t : Tree) (root : Key) (action : Action) (keys : List Key) (events : List Uevent) : Type 0
   where
     pub ordered : map (λ e. e.key) events ≡ filter (is_told t action) keys
     pub each : All (IsEventOf t root action) events
 
--- for each of these keys that is told of, in their order, one event was told
+-- for each of these keys that is reported, in their order, one event was reported
 abbrev pub NewsTold : Tree → Key → Action → List Key → LogState → LogState → Type 0
 NewsTold t root action keys old new = (events : List Uevent) × AreNews t root action keys events
     × Told old new events
 
--- one event of this action was told, of this node
+-- one event of this action was reported, of this node
 abbrev pub OneTold : Tree → Key → Action → Key → LogState → LogState → Type 0
 OneTold t root action key old new = (event : Uevent) × (event.key ≡ key) × IsEventOf t root action event
     × Told old new (event ∷ [])

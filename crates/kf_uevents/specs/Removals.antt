@@ -1,4 +1,4 @@
--- Why a removal that tells its events is refused.
+-- Why a removal that reports its events is refused.
 use Rattle.std.specs.Prelude.{◌≡◌, ◌⊎◌, None}
 use Rattle.kf_core.specs.declared.key.Key.{Key}
 use Rattle.kf_core.specs.declared.refusal.Refusal.{Refusal}

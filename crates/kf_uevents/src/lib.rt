@@ -2,15 +2,15 @@
 //! the nodes had.
 //!
 //! - `UeventLog` keeps the last events, as many as there is room for. The number of each is its place among
-//!   all that were ever told.
+//!   all that were ever reported.
 //! - `activate_and_tell`, `begin_removal_and_tell`, `rename_and_tell` and `tell_change` do what their names
-//!   say under a lent `Editor`, and tell the list. A refused one tells nothing.
+//!   report under a lent `Editor`, and take the list. A refused one reports nothing.
 //! - `Listener` reads on from a number: the next event, `Lost` and where to go on, or none yet. `wait` sleeps
 //!   until there is something to read.
 //!
 //! Begin with `telling.rt`. A caller need show nothing. A list that threads share lies behind a lock of
-//! yours, which is taken under the tree's and never round it. Whoever has told raises the number of the slot
-//! whose posts the listeners have, or they sleep on.
+//! yours, which is taken under the tree's and never round it. A thread that has reported raises the number
+//! of the slot whose posts the listeners have, or they sleep on.
 #![tactic(auto)]
 
 mod listener;

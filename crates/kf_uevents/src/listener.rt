@@ -1,4 +1,4 @@
-//! Who reads events from where it was, and sleeps until there are more.
+//! A listener reads events on from where it was, and sleeps until there are more.
 ghost use Rattle.std.specs.Prelude.{◌≡◌, List};
 ghost use Rattle.kf_uevents.specs.declared.uevent.Uevent.{Uevent};
 ghost use Rattle.kf_uevents.specs.Logs.{IsLogOf, IsReading, next_after};
@@ -8,10 +8,11 @@ use kf_notify::Post;
 use std::marker::Model;
 use std::sync::{RwLock, Wait};
 
-/// Who reads the events of a list, each once. To a contract it is the number of the event that it reads next.
+/// Reads the events of a list, each once. To a contract it is the number of the event that it reads next.
 ///
-/// It sleeps on the event number of its post's slot. Whoever tells events raises that afterwards, by
-/// `Posts::notify` of the slot: a slot of its own, or that of the tree's root, which no file has.
+/// It sleeps on the event number of its post's slot. Whoever adds events to the list raises that number
+/// afterwards, by `Posts::notify` of the slot. No file may have that slot: the slot of the tree's root will
+/// do.
 #[derive(Drop)]
 pub struct Listener {
     post: Post,
@@ -26,10 +27,11 @@ impl Model for Listener {
     ghost view = { λ s. s.next };
 }
 
-// Sleeps until an event has the number.
+// Sleeps until an event has the number. It takes the slot's number first, and then looks at the list. So an
+// event that is added after the look changes the number that it sleeps on, and no wake is lost:
+// `hostile/wake_model.py` tries every order of these steps.
 fn wait_for<R: Wait>(rt: &R, log: &RwLock<UeventLog>, post: &mut Post, number: u64) {
     for _ in rt.forever() {
-        // The slot's number first: whoever tells an event after the look raises it, and so ends the rest.
         let seen = post.now();
         let count = log.read(rt).count();
         if number < count {
@@ -63,7 +65,9 @@ impl Listener {
         reading
     }
 
-    /// Sleeps until there is something to read, an event or a loss. It may never return.
+    /// Sleeps until there is something to read, an event or a loss. It may never return. No clause says
+    /// that there is something to read: what the list has is known only while its lock is held. Tests show
+    /// it.
     ///
     /// Context: sleeps; takes the list's lock, which its caller must not have.
     pub fn wait<R: Wait>(&mut self, rt: &R, log: &RwLock<UeventLog>)

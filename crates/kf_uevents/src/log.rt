@@ -45,7 +45,7 @@ impl Model for UeventLog {
         (deque_capacity s.kept) };
 }
 
-// Lets the first kept event go where there is no room for one more. How many were let go.
+// Drops the first kept event if there is no room for one more. How many were dropped.
 fn make_place(kept: &mut VecDeque<Uevent>, room: usize) -> u64
     requires some { 0 < room }
     requires few { length kept.old.items ≤ room }
@@ -62,8 +62,8 @@ fn make_place(kept: &mut VecDeque<Uevent>, room: usize) -> u64
 }
 
 impl UeventLog {
-    /// The list without an event, with room for so many. It takes all memory for keeping events now. With no
-    /// room none is kept, but all are counted.
+    /// The list without an event, with room for this many. It takes all memory for keeping events now. With
+    /// no room none is kept, but all are counted.
     ///
     /// Refusal: NoMemory.
     pub fn new(alloc: Global, room: usize) -> Result<UeventLog, Refusal>
@@ -88,7 +88,7 @@ impl UeventLog {
         self.first + self.kept.len() as u64
     }
 
-    /// What stands at this number. Whoever reads on goes on at the number that the answer tells; where there
+    /// What stands at this number. A reader goes on at the number that is returned; if there
     /// is none yet, at the same.
     pub fn read_from(&self, number: u64) -> Reading<'_>
         ensures read { (all : List Uevent) → IsLogOf all self.now →
@@ -113,7 +113,7 @@ impl UeventLog {
         self.alloc
     }
 
-    /// Refuses once 2^63 events were told, so that numbers do not run out within the events of a change.
+    /// Refuses once 2^63 events were reported, so that numbers do not run out within the events of a change.
     pub(crate) fn check_numbers(&self) -> Result<(), Refusal>
         ensures left { OnOk result (told_count self.now < 2 ^ 63) }
         ensures refused { IfErr result
@@ -126,7 +126,7 @@ impl UeventLog {
         }
     }
 
-    /// Tells one event. It takes no memory.
+    /// Reports one event. It takes no memory.
     ///
     /// Condition: a number is left.
     pub(crate) fn push(&mut self, event: Uevent)
@@ -142,7 +142,7 @@ impl UeventLog {
         let _ = self.kept.push_back(event);
     }
 
-    /// Tells these events, one after another. It takes no memory.
+    /// Reports these events, one after another. It takes no memory.
     ///
     /// Condition: numbers are left.
     pub(crate) fn push_all(&mut self, events: Vec<Uevent>)

@@ -1,4 +1,4 @@
-//! A move that tells its event.
+//! A move that reports its event.
 ghost use Rattle.std.specs.Prelude.{◌≡◌, true, false, IfErr, IfOk, None, OnErr, OnOk};
 ghost use Rattle.kf_core.specs.declared.command.Command.TheVariants.{Rename};
 ghost use Rattle.kf_core.specs.declared.refusal.Refusal.TheVariants as refusal_of;
@@ -49,11 +49,11 @@ fn move_of(state: &State, key: Key, dir: Key, name: &[u8]) -> Result<Uevent, Ref
     })
 }
 
-/// Moves a node into a directory, under a name, as [`Editor::rename`] does, and tells of it, with the path
-/// that it had and the one that it has. Where it is there already nothing is stored, and nothing is told.
+/// Moves a node into a directory, under a name, as [`Editor::rename`] does, and reports it, with the path
+/// that it had and the one that it has. If it is there already nothing is stored, and nothing is reported.
 ///
-/// Refusals, in order: those of [`Editor::rename`] but NoMemory, then, where it is not there already, NoSpace
-/// (2^63 events were told) or NoMemory. After a refusal the tree is as before, and nothing is told.
+/// Refusals, in order: those of [`Editor::rename`] but NoMemory, then, if it is not there already, NoSpace
+/// (2^63 events were reported) or NoMemory. After a refusal the tree is as before, and nothing is reported.
 pub fn rename_and_tell<N: Naming>(
     editor: &mut Editor<'_, N>,
     log: &mut UeventLog,

@@ -7,16 +7,16 @@ ghost use Rattle.kf_tree.specs.Causes.{Refuses, linked_cause};
 ghost use Rattle.kf_uevents.specs.News.{AreNews, IsEventOf, is_told, tells};
 
 use crate::uevent::{Action, Uevent};
-use kf_core::{Key, Marks, Refusal};
+use kf_core::{Key, NodeFlags, Refusal};
 use kf_tree::State;
 use std::alloc::Global;
 
-// The marks of a key, where it is linked.
-fn marks_of(state: &State, key: Key) -> Option<Marks>
+// The marks of a key, if it is linked.
+fn marks_of(state: &State, key: Key) -> Option<NodeFlags>
     ensures known { result ≡ marks_of state.now.tree key }
 {
     match state.stat(key) {
-        Ok(stat) => Some(Marks {
+        Ok(stat) => Some(NodeFlags {
             activated: stat.activated,
             doomed: stat.doomed,
         }),
@@ -24,8 +24,8 @@ fn marks_of(state: &State, key: Key) -> Option<Marks>
     }
 }
 
-// Whether a node of these marks is told of.
-fn tells(action: Action, marks: Marks) -> bool
+// Whether a node of these marks is reported.
+fn tells(action: Action, marks: NodeFlags) -> bool
     ensures known { result ≡ tells action marks }
 {
     match action {
@@ -35,7 +35,7 @@ fn tells(action: Action, marks: Marks) -> bool
     }
 }
 
-// Whether the tree has the key, and its node is told of.
+// Whether the tree has the key, and its node is reported.
 fn is_told(state: &State, action: Action, key: Key) -> bool
     ensures known { result ≡ is_told state.now.tree action key }
 {
@@ -61,7 +61,7 @@ pub(crate) fn event_of(state: &State, action: Action, key: Key) -> Result<Uevent
     })
 }
 
-// Adds an event of a node that is told of.
+// Adds an event of a node that is reported.
 fn add_event(
     state: &State,
     action: Action,
@@ -81,7 +81,7 @@ fn add_event(
     Ok(())
 }
 
-/// An event for each of these keys that is told of, in their order.
+/// An event for each of these keys that is reported, in their order.
 ///
 /// Refusal: NoMemory.
 pub(crate) fn events_of(

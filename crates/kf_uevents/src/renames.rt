@@ -54,7 +54,7 @@ fn has_entry(state: &State, dir: Key, name: &[u8]) -> bool
     state.find(dir, name).is_ok()
 }
 
-/// Whether the node would move, or why [`kf_shared::Editor::rename`] would refuse it, want of memory aside.
+/// Whether the node would move, or why [`kf_shared::Editor::rename`] would refuse it, lack of memory aside.
 pub(crate) fn may_rename(state: &State, key: Key, dir: Key, name: &[u8]) -> Result<bool, Refusal>
     ensures checked { MatchResult result
         (λ moves. (rename_cause state.now.tree state.now.root key dir name.now ≡ None)

@@ -1,4 +1,4 @@
-//! What a uevent tells.
+//! What a uevent says.
 
 use kf_core::Key;
 
@@ -9,7 +9,7 @@ pub enum Action {
     Add,
     /// Its removal was begun (`KOBJ_REMOVE`).
     Remove,
-    /// Whoever owns it has told of a change (`KOBJ_CHANGE`).
+    /// Its owner has reported a change (`KOBJ_CHANGE`).
     Change,
     /// It was moved, or got another name (`KOBJ_MOVE`).
     Move,

@@ -1,4 +1,4 @@
--- What boards of the shared tree answer is of the form that each line wants.
+-- What boards of the shared tree reply is of the form that each line asks for.
 use Rattle.std.proofs.Common.{◌≡◌, ◌≢◌, ◌<◌, zero, suc, ℕ, List, [], ◌∷◌, ◌++◌, map, All, get_or, length, refl, sym, ap, subst, arith, eq-eqb, ne_eqb, if◌then◌else◌}
 use Rattle.std.specs.Prelude.{Option, None, Some}
 use Rattle.std.proofs.lemmas.List.Elements.{All-nil}
@@ -36,7 +36,7 @@ module _ (Board : Type 0) where
   no_reply : (w who : ℕ) (command reply : List ℕ) → who ≢ w → own_reply who (of_seat w command) reply ≡ []
   no_reply w who command reply ne = ap (λ b. if b then reply ∷ [] else []) (ne_eqb w who (λ e. ne (sym e)))
 
-  -- some board answered these commands so
+  -- some board replied to these commands so
   abbrev Ran : List (List ℕ) → List (List ℕ) → Type 0
   Ran commands replies = (before now : Board) × Tells suits before commands replies now
 

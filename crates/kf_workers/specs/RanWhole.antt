@@ -17,7 +17,7 @@ pub record RanWhole (workers : ℕ) (input left old new : Option (List ℕ)) : T
   pub replied : RepliedInForm workers (lines_of script) replies
   pub written : Appends old new replies
 
--- The script was read and answered, and a write failed: what was written is a prefix of the replies.
+-- The script was read and got its replies, and a write failed: what was written is a prefix of the replies.
 pub record CutWhole (workers : ℕ) (input left old new : Option (List ℕ)) : Type 0 where
   pub script : List ℕ
   pub took : Consumes input left script

@@ -1,4 +1,4 @@
--- What the lines of a script are answered by an owner and workers.
+-- The replies to the lines of a script by an owner and workers.
 use Rattle.std.specs.Prelude.{ℕ, List, ◌≡◌, map, All}
 use Rattle.kf_script.specs.ReplyText.{bad_line_text, done_text}
 use Rattle.kf_rounds.specs.Kinds.{KindOfLine, bad, ends_round, of_seat, kinds_by}

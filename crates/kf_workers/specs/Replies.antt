@@ -24,7 +24,7 @@ IsKey reply = (told : Result Key FileError) × (reply ≡ key_told told)
 abbrev pub AreNames : List ℕ → Type 0
 AreNames reply = (told : Result (List (List ℕ)) Refusal) × (reply ≡ names_told told)
 
--- what a `stat` tells, or why not
+-- what a `stat` reports, or why not
 abbrev pub IsStat : List ℕ → Type 0
 IsStat reply = (told : Result Stat Refusal) × (reply ≡ stat_told told)
 
@@ -34,16 +34,16 @@ IsLinkReply reply = (told : Result (List ℕ) Refusal)
     × IfOk told (λ text. (tree : Tree) × (root link : Key) × HasLinkText tree root link text)
     × (reply ≡ text_told told)
 
--- at most so many bytes, or why there are none
+-- at most this many bytes, or why there are none
 abbrev pub AreBytes : ℕ → List ℕ → Type 0
 AreBytes most reply =
     (told : Result ℕ FileError) × (buffer : List ℕ) × (length buffer ≤ most) × (reply ≡ read_told told buffer)
 
--- the number that a store answered, or why there is none
+-- the number that a store returned, or why there is none
 abbrev pub IsCount : List ℕ → Type 0
 IsCount reply = (told : Result ℕ FileError) × (reply ≡ count_text told)
 
--- what a poll tells, or why not
+-- what a poll reports, or why not
 abbrev pub IsChange : List ℕ → Type 0
 IsChange reply = (told : Result Bool Refusal) × (reply ≡ changed_told told)
 
@@ -67,7 +67,7 @@ Suits count_commands reply = IsNumberReply reply
 Suits wait reply = reply ≡ done_text
 Suits _ reply = IsDone reply
 
--- what a line of a seat is answered: a line that makes no request is a bad line
+-- the reply to a line of a seat: a line that makes no request is a bad line
 abbrev pub AnswersTo : Option RequestWords → List ℕ → Type 0
 AnswersTo None reply = reply ≡ bad_line_text
 AnswersTo (Some request) reply = Suits request reply

@@ -17,7 +17,7 @@ abbrev pub shown_by : (ℕ → Result (List ℕ) Fault → Type 0) → (ℕ → 
 shown_by texts devices tag filled =
     OfDevices (nat_le first_device_tag tag) (devices tag filled) (texts tag filled)
 
--- what a store may answer, likewise
+-- what a store may return, likewise
 abbrev pub stored_by : (ℕ → List ℕ → Result ℕ Fault → Type 0) → (ℕ → List ℕ → Result ℕ Fault → Type 0) → ℕ
     → List ℕ → Result ℕ Fault → Type 0
 stored_by texts devices tag bytes answer =

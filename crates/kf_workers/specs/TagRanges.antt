@@ -1,4 +1,4 @@
--- The tags of the files that scripts make: each seat has a range of its own.
+-- The tags of the files that scripts make: each seat has its own range.
 use Rattle.std.specs.Prelude.{ℕ, ◌+◌, ◌*◌, ◌^◌, ◌≤◌, ◌<◌}
 
 -- the lowest tag of a seat

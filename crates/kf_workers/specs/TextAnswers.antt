@@ -1,4 +1,4 @@
--- What the callbacks over the texts of a run may answer.
+-- What the callbacks over the texts of a run may return.
 use Rattle.std.specs.Prelude.{ℕ, List, ◌≡◌, ◌⊎◌, length, Result, IfErr, MatchResult}
 use Rattle.kf_files.specs.declared.ops.Fault.{Fault}
 

@@ -1,4 +1,4 @@
--- The text of a reply, by what a call answered.
+-- The text of a reply, by what a call returned.
 use Rattle.std.specs.Prelude.{ℕ, Bool, List, take, Result, Ok, Err}
 use Rattle.kf_core.specs.declared.key.Key.{Key}
 use Rattle.kf_core.specs.declared.refusal.Refusal.{Refusal}
@@ -22,7 +22,7 @@ abbrev pub changed_told : Result Bool Refusal → List ℕ
 changed_told (Ok changed) = poll_text changed
 changed_told (Err refusal) = refusal_text refusal
 
--- so many bytes of the front of a buffer
+-- this many bytes of the front of a buffer
 abbrev pub read_told : Result ℕ FileError → List ℕ → List ℕ
 read_told (Ok count) buffer = take count buffer
 read_told (Err error) buffer = error_text error

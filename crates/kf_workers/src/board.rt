@@ -25,13 +25,13 @@ mod removing;
 /// How many files may be open on a board: one for each letter.
 const FILES: usize = 26;
 
-/// Boards find nodes without the lock where a node may have so many holds: those of the root, which they keep
+/// Boards find nodes without the lock if a node may have this many holds: those of the root, which they keep
 /// then, are none that a line lacks.
 const MANY_HOLDS: u32 = 64;
 
 /// The board of one who runs lines on a shared tree: its open files by letter, its tokens of hidden files by
-/// slot, the tags of the files that it may make, and a handle of its own of the event numbers. What a file
-/// gives is read into a page of its own. There is room for a token of each slot, and no memory is written
+/// slot, the tags of the files that it may make, and a handle to the event numbers. What a file
+/// gives is read into its page. There is room for a token of each slot, and no memory is written
 /// before one is kept; the pages of files that were closed are kept for the next ones.
 ///
 /// It must be spent, by [`WorkerBoard::end`], which gives all its holds back.
@@ -61,7 +61,7 @@ fn no_files<N: Naming>(alloc: Global) -> Result<Vec<Option<BoxedFile<N>>>, Refus
     Ok(files)
 }
 
-/// What finds nodes without the lock. None where a node may have few holds, or there was no memory.
+/// What finds nodes without the lock. None if a node may have few holds, or there was no memory.
 fn new_finder<W: ScriptOps, N: Naming, R: Wait>(
     rt: &R,
     alloc: Global,
@@ -75,7 +75,7 @@ fn new_finder<W: ScriptOps, N: Naming, R: Wait>(
 }
 
 impl<'x, W: ScriptOps, N: Naming, R: Wait> WorkerBoard<'x, W, N, R> {
-    /// A board without open files and tokens. `NoMemory` where it could not be had.
+    /// A board without open files and tokens. `NoMemory` if it could not be had.
     pub fn new(
         rt: &'x R,
         alloc: Global,

@@ -17,8 +17,8 @@ struct LastFile {
 
 /// What all seats of a run share: the tree, the bus, and the callbacks of the files that scripts make.
 ///
-/// No two of its locks are ever held at once: each is let go before another lock, a callback or a wait. What
-/// they keep is seen by nobody outside, so its functions have no clauses.
+/// No two of its locks are ever held at once: each is unlocked before another lock, a callback or a wait.
+/// What they keep is seen by nobody outside, so its functions have no clauses.
 #[derive(Drop)]
 pub struct Common<'x, W, N: Naming> {
     pub tree: SharedTree<N>,
@@ -28,7 +28,7 @@ pub struct Common<'x, W, N: Naming> {
 }
 
 impl<'x, W: ScriptOps, N: Naming> Common<'x, W, N> {
-    /// A run's tree with no device. `NoMemory` where it could not be had.
+    /// A run's tree with no device. `NoMemory` if it could not be had.
     pub fn new(
         alloc: Global,
         tree: SharedTree<N>,
@@ -57,15 +57,15 @@ impl<'x, W: ScriptOps, N: Naming> Common<'x, W, N> {
         }
     }
 
-    /// Lets the text of a file go that is not in the tree: an empty one takes its place, and no memory.
+    /// Drops the text of a file that is not in the tree: an empty one takes its place, and no memory.
     ///
     /// Context: takes the lock of the texts of its tag.
     pub fn let_go<R: Wait>(&self, rt: &R, tag: u64) {
         let _ = self.texts.first(rt, tag, b"");
     }
 
-    /// Notes the tag of a new file, and answers that of an earlier file of its slot, which has left the tree.
-    /// Where a later file of the slot was noted before, it is the new one that has left meanwhile.
+    /// Notes the tag of a new file, and returns that of an earlier file of its slot, which has left the tree.
+    /// If a later file of the slot was noted before, it is the new one that has left meanwhile.
     fn note(last_files: &mut Vec<LastFile>, key: Key, tag: u64) -> Option<u64> {
         let last = last_files.get_mut(key.slot as usize)?;
         if last.generation >= key.generation {

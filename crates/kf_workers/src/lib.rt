@@ -1,4 +1,7 @@
 //! Many threads on one tree: a script run by its owner and its workers, round by round.
+//!
+//! They find the files that they open without the tree's lock. They take it for names of more than 24 bytes,
+//! and for nodes in slots from 65,536 on, which have no words for look-ups.
 #![tactic(auto)]
 
 mod board;

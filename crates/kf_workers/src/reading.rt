@@ -16,8 +16,8 @@ const READ_LIMIT: u32 = 16_777_216;
 /// Bytes that one call of read may give.
 const CHUNK: usize = 16_384;
 
-/// Reads once, and puts the bytes behind the script. Answers how many they were: 0 at the end of the input
-/// alone.
+/// Reads once, and puts the bytes behind the script. Returns how many they were: 0 only at the end of the
+/// input.
 fn read_more<R: Read>(reader: &mut R, script: &mut Vec<u8>) -> Result<usize, RunFault>
     ensures more { OnOk result ((bytes : List ℕ)
         × Consumes (R.remaining reader.old) (R.remaining reader.new) bytes
@@ -41,8 +41,8 @@ fn read_more<R: Read>(reader: &mut R, script: &mut Vec<u8>) -> Result<usize, Run
 
 /// Reads a script to its end: all bytes that the reader gave.
 ///
-/// Faults: `Read`, where a call of read failed, where the script has more than 1,048,576 bytes, or where it
-/// was not at its end after 16,777,216 calls of read; `Memory`, where memory for it was refused.
+/// Faults: `Read`, if a call of read failed, if the script has more than 1,048,576 bytes, or if it
+/// was not at its end after 16,777,216 calls of read; `Memory`, if memory for it was refused.
 pub fn read_script<R: Read>(alloc: Global, reader: &mut R) -> Result<Vec<u8>, RunFault>
     ensures read { IfOk result
         (λ script. Consumes (R.remaining reader.old) (R.remaining reader.new) script.items) }

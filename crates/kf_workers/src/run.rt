@@ -19,7 +19,7 @@ use std::marker::Brand;
 use std::sync::Wait;
 use std::thread::Threads;
 
-/// Words for look-ups are kept for so many slots at most, in 6 MB. What lies in higher ones is opened under
+/// Words for look-ups are kept for this many slots at most, in 6 MB. What lies in higher ones is opened under
 /// the tree's lock.
 const MOST_LOOKS: u32 = 65_536;
 
@@ -133,12 +133,12 @@ fn run_named<W: ScriptOps + Sync, N: Naming + Send + Sync, R: Threads + Wait + S
     run_on(rt, alloc, &common, limits, workers, script)
 }
 
-/// Runs a script by its owner and 1 to 16 workers on a new tree with a new bus, and answers the replies to
+/// Runs a script by its owner and 1 to 16 workers on a new tree with a new bus, and returns the replies to
 /// its lines, each with a newline, in the order of the lines.
 ///
 /// A line `@W COMMAND` is worker W's; `wait` ends a round; every other line is the owner's. In a round the
-/// owner and each worker run their own lines in the order of the script, each in a thread of its own (where
-/// none can be made, the calling thread runs them). A `wait` is answered when every line above has its reply,
+/// owner and each worker run their own lines in the order of the script, each in a separate thread (if none
+/// can be made, the calling thread runs them). A `wait` gets its reply when every line above has its reply,
 /// and no line below begins before. Each of them has 26 files and its own tokens of hidden files, which stay
 /// over rounds. `texts` serves the files that the script makes, under tags below 2^63; the bus serves those
 /// of its devices. All holds are given back at the end.
@@ -147,7 +147,7 @@ fn run_named<W: ScriptOps + Sync, N: Naming + Send + Sync, R: Threads + Wait + S
 ///
 /// Condition: there are 1 to 16 workers.
 ///
-/// Fault: `Memory`, where memory was refused for the run itself; for a line it is the line's reply.
+/// Fault: `Memory`, if memory was refused for the run itself; for a line it is the line's reply.
 pub fn run_workers<W: ScriptOps + Sync, R: Threads + Wait + Sync>(
     rt: &R,
     alloc: Global,

@@ -21,10 +21,10 @@ pub trait ScriptOps {
     /// A show for this tag may fill a page with these bytes, or give this fault.
     ghost may_show: { Self → ℕ → Result (List ℕ) Fault → Type 0 };
 
-    /// A store of these bytes for this tag may answer this.
+    /// A store of these bytes for this tag may return this.
     ghost may_store: { Self → ℕ → List ℕ → Result ℕ Fault → Type 0 };
 
-    /// The first text of a file with this tag may be answered so.
+    /// The first text of a file with this tag may be returned so.
     ghost may_begin: { Self → ℕ → List ℕ → Result (Unit {0}) Fault → Type 0 };
 
     /// Fills the empty page with the text, or gives a fault. What it filled before a fault is not shown.
@@ -43,7 +43,7 @@ pub trait ScriptOps {
         ensures seat { IsSameSeat call.old call.new }
         ensures reference { has_reference call.new.phase ≡ true };
 
-    /// Takes the bytes, 1 to 4,096 of them, and answers how many it took, or gives a fault.
+    /// Takes the bytes, 1 to 4,096 of them, and returns how many it took, or gives a fault.
     fn store<N: Naming, R: Wait>(
         &self,
         rt: &R,

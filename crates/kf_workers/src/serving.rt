@@ -1,4 +1,4 @@
-//! Who serves a file: its tag tells.
+//! Which callbacks serve a file: its tag says.
 
 use crate::script_ops::ScriptOps;
 use kf_files::{Fault, Page, WaitOps};

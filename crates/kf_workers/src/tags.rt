@@ -33,7 +33,7 @@ impl Tags {
         }
     }
 
-    /// The next tag, which is given no more. `NoSpace` where all were given.
+    /// The next tag, which is given only once. `NoSpace` if all were given.
     pub fn give(&mut self) -> Result<u64, Refusal>
         ensures given { IfOk result (λ tag. (tag ≡ self.old.next) × (tag < self.old.end)
             × (self.new.next ≡ tag + 1)) }

@@ -1,4 +1,4 @@
-//! The replies that this board alone tells so.
+//! The replies that only this board gives in this way.
 
 ghost use Rattle.std.specs.Prelude.{◌≡◌, ◌≤◌, length, IfOk};
 ghost use Rattle.kf_workers.specs.Told.{changed_told, done_told, key_told, read_told, stat_told};
@@ -9,7 +9,7 @@ use kf_replies::{tell_error, tell_stat};
 use kf_script::Reply;
 use kf_tree::Stat;
 
-/// Tells that it is done, or why not.
+/// Writes that it is done, or why not.
 pub fn tell_done(reply: &mut Reply, told: Result<(), Refusal>)
     ensures { reply.new ≡ done_told told }
 {
@@ -19,7 +19,7 @@ pub fn tell_done(reply: &mut Reply, told: Result<(), Refusal>)
     }
 }
 
-/// Tells the key of a new node, or why there is none.
+/// Writes the key of a new node, or why there is none.
 pub fn tell_key(reply: &mut Reply, told: Result<Key, FileError>)
     ensures { reply.new ≡ key_told told }
 {
@@ -29,7 +29,7 @@ pub fn tell_key(reply: &mut Reply, told: Result<Key, FileError>)
     }
 }
 
-/// Tells whether a file has changed, or why that is not known.
+/// Writes whether a file has changed, or why that is not known.
 pub fn tell_changed(reply: &mut Reply, told: Result<bool, Refusal>)
     ensures { reply.new ≡ changed_told told }
 {
@@ -39,7 +39,7 @@ pub fn tell_changed(reply: &mut Reply, told: Result<bool, Refusal>)
     }
 }
 
-/// Tells the bytes that were read to the front of a buffer, or why there are none.
+/// Writes the bytes that were read to the front of a buffer, or why there are none.
 pub fn tell_read(reply: &mut Reply, told: Result<usize, FileError>, out: &[u8])
     requires fits { IfOk told (λ count. count ≤ length out.now) }
     requires page { length out.now ≤ 4096 }
@@ -51,7 +51,7 @@ pub fn tell_read(reply: &mut Reply, told: Result<usize, FileError>, out: &[u8])
     }
 }
 
-/// Tells what `stat` says of a node, or why nothing.
+/// Writes what `stat` says of a node, or why nothing.
 pub fn tell_seen(reply: &mut Reply, told: Result<Stat, Refusal>)
     ensures { reply.new ≡ stat_told told }
 {

@@ -21,7 +21,7 @@ use std::sync::{Mutex, Wait};
 /// lie on different shelves.
 const SHELVES: u64 = 256;
 
-/// The texts of some of the tags, behind a lock of their own.
+/// The texts of some of the tags, behind a separate lock.
 #[derive(Drop)]
 struct Shelf {
     texts: Mutex<BTreeMap<u64, Vec<u8>>>,
@@ -32,7 +32,7 @@ struct Shelf {
 /// The texts of files by tag, and the callbacks that show and store them. Any number of threads may share it.
 ///
 /// A text lies on the shelf of its tag. A shelf's lock is held only while a text is copied, put in place or
-/// let go; nobody waits meanwhile for anything else, and nobody takes two of these locks.
+/// unlocked; nobody waits meanwhile for anything else, and nobody takes two of these locks.
 #[derive(Drop)]
 pub struct Texts {
     alloc: Global,
@@ -82,7 +82,7 @@ fn new_shelves(alloc: Global) -> Result<Vec<Shelf>, AllocError>
 }
 
 impl Texts {
-    /// No text of any file. `NoMemory` where it could not be had.
+    /// No text of any file. `NoMemory` if it could not be had.
     pub fn new(alloc: Global) -> Result<Texts, Refusal>
         ensures refused { IfErr result (λ refusal. refusal ≡ NoMemory) }
     {
@@ -105,7 +105,7 @@ impl ScriptOps for Texts {
 
     ghost may_begin = { λ _ _ _. BeginsUnlessFull };
 
-    /// Fills the page with the first 4,096 bytes of the text. Fault 22 where the tag has none. The call keeps
+    /// Fills the page with the first 4,096 bytes of the text. Fault 22 if the tag has none. The call keeps
     /// its reference all the while.
     fn show<N: Naming, R: Wait>(
         &self,
@@ -135,8 +135,8 @@ impl ScriptOps for Texts {
         }
     }
 
-    /// Puts the bytes in place of the whole text, and answers their number. Fault 12 where memory was
-    /// refused, 22 where the tag has no text. The call keeps its reference all the while.
+    /// Puts the bytes in place of the whole text, and returns their number. Fault 12 if memory was
+    /// refused, 22 if the tag has no text. The call keeps its reference all the while.
     fn store<N: Naming, R: Wait>(
         &self,
         rt: &R,
@@ -169,7 +169,7 @@ impl ScriptOps for Texts {
         }
     }
 
-    /// Keeps the text of a new file, in place of an earlier one under the tag. Fault 12 where memory was
+    /// Keeps the text of a new file, in place of an earlier one under the tag. Fault 12 if memory was
     /// refused.
     fn first<R: Wait>(&self, rt: &R, tag: u64, bytes: &[u8]) -> Result<(), Fault> {
         let Ok(copy) = bytes.to_vec(self.alloc) else {

@@ -20,8 +20,8 @@ use std::thread::Threads;
 ///
 /// Condition: there are 1 to 16 workers.
 ///
-/// Faults, with nothing written but after `Write`: `Read`, as of [`read_script`]; `Memory`, where memory was
-/// refused for the script, the texts, the boards or the replies; `Write`, where a call of write failed or
+/// Faults, with nothing written except after `Write`: `Read`, as of [`read_script`]; `Memory`, if memory was
+/// refused for the script, the texts, the boards or the replies; `Write`, if a call of write failed or
 /// took no byte.
 #[tactic(auto, using(crate::proofs::Written::kept_whole))]
 pub fn run_whole<H: Threads + Wait + Sync, R: Read, W: Write>(

@@ -1,4 +1,4 @@
-//! What the board answers each request.
+//! The board's reply to each request.
 
 ghost use Rattle.std.specs.Prelude.{◌<◌};
 ghost use Rattle.kf_workers.specs.Replies.{AreBytes, AreNames, IsCount, IsLinkReply};

@@ -8,7 +8,7 @@ use kf_files::BoxedFile;
 use kf_shared::Naming;
 use std::sync::Wait;
 
-/// Closes each file that is open: nothing is left of them that a clause could tell of.
+/// Closes each file that is open: nothing is left of them that a clause could speak of.
 pub fn close_all<N: Naming>(mut files: Vec<Option<BoxedFile<N>>>) {
     while let Some(place) = files.pop() {
         if let Some(file) = place {
@@ -27,7 +27,7 @@ pub fn end_finder<N: Naming>(finder: Option<Finder<N>>) {
 
 impl<W: ScriptOps, N: Naming, R: Wait> WorkerBoard<'_, W, N, R> {
     /// Closes its files and shows the files that it hid, and gives all their holds back. Nothing is left of
-    /// it that a clause could tell of.
+    /// it that a clause could speak of.
     pub fn end(self) {
         let WorkerBoard {
             rt,

@@ -17,14 +17,14 @@ use kf_shared::Naming;
 use kf_words::Hold;
 use std::sync::Wait;
 
-/// Closes a file, and gives its hold back: of that no clause could tell. Its page is left.
+/// Closes a file, and gives its hold back: of that no clause could speak. Its page is left.
 pub fn close_file<N: Naming>(file: BoxedFile<N>) -> Box<PageApart> {
     let (hold, _post, page) = file.into_parts();
     hold.release();
     page
 }
 
-/// A page of a file that was closed, or else a new one. `NoMemory` where that could not be had.
+/// A page of a file that was closed, or else a new one. `NoMemory` if that could not be had.
 fn take_page(pages: &mut Vec<Box<PageApart>>) -> Result<Box<PageApart>, Refusal> {
     if let Some(page) = pages.pop() {
         return Ok(page);
@@ -64,7 +64,7 @@ impl<W: ScriptOps, N: Naming, R: Wait> WorkerBoard<'_, W, N, R> {
         editor.hold(key)
     }
 
-    /// A hold of the live node at a path, where it is found without the tree lock.
+    /// A hold of the live node at a path, if it is found without the tree lock.
     fn found(finder: &mut Option<Finder<N>>, path: &[u8]) -> Option<Hold>
         ensures table { IfSome result (λ hold. hold.table ≡ N.table) }
     {
@@ -123,7 +123,7 @@ impl<W: ScriptOps, N: Naming, R: Wait> WorkerBoard<'_, W, N, R> {
         }
     }
 
-    /// Keeps a page for the next file. Where it cannot be kept it is let go.
+    /// Keeps a page for the next file. If it cannot be kept it is dropped.
     fn keep_page(&mut self, page: Box<PageApart>) {
         let _ = self.pages.push(page);
     }
@@ -179,7 +179,7 @@ impl<W: ScriptOps, N: Naming, R: Wait> WorkerBoard<'_, W, N, R> {
         Ok(())
     }
 
-    /// Writes a text into the file of a letter: puts the number that its store answered into the reply, or
+    /// Writes a text into the file of a letter: puts the number that its store returned into the reply, or
     /// why there is none.
     pub(super) fn write(
         &mut self,

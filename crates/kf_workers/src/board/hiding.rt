@@ -55,7 +55,7 @@ impl<W: ScriptOps, N: Naming, R: Wait> WorkerBoard<'_, W, N, R> {
         }
     }
 
-    /// Takes this board's token of a node out, where it has one.
+    /// Takes this board's token of a node out, if it has one.
     fn take_token(tokens: &mut Vec<Option<Token<N>>>, key: Key) -> Option<Token<N>>
         ensures own { IfSome result (λ token. token.key ≡ key) }
     {
@@ -66,7 +66,7 @@ impl<W: ScriptOps, N: Naming, R: Wait> WorkerBoard<'_, W, N, R> {
         }
     }
 
-    /// Shows the file at a path again, where this board has its token, and spends that. One turn of the tree
+    /// Shows the file at a path again, if this board has its token, and spends that. One turn of the tree
     /// lock.
     pub(super) fn show(&mut self, path: &[u8]) -> Result<(), Refusal> {
         let mut editor = self.common.tree.edit(self.rt);

@@ -16,14 +16,14 @@ use std::sync::Wait;
 const MOST_NAMES: usize = MOST_SLOTS as usize;
 
 impl<W: ScriptOps, N: Naming, R: Wait> WorkerBoard<'_, W, N, R> {
-    /// What is told of the node at a path, live or not.
+    /// What is reported of the node at a path, live or not.
     pub(super) fn stat(&self, path: &[u8]) -> Result<Stat, Refusal> {
         let reader = self.common.tree.read(self.rt);
         let key = reader.state().walk(path)?;
         reader.state().stat(key)
     }
 
-    /// Tells the names in a live directory. They are copied once, into the reply's memory, which is the
+    /// Writes the names in a live directory. They are copied once, into the reply's memory, which is the
     /// board's own: while the lock is held nothing is put out, and nobody is waited for.
     pub(super) fn list(&self, path: &[u8], reply: &mut Reply) -> Result<(), Refusal>
         ensures { OnOk result (AreNames reply.new) }
@@ -34,7 +34,7 @@ impl<W: ScriptOps, N: Naming, R: Wait> WorkerBoard<'_, W, N, R> {
         tell_names(reply, names)
     }
 
-    /// Tells the text of a live link.
+    /// Writes the text of a live link.
     pub(super) fn read_link(&self, path: &[u8], reply: &mut Reply) -> Result<(), Refusal>
         ensures { OnOk result (IsLinkReply reply.new) }
     {

@@ -10,7 +10,7 @@ use kf_shared::Naming;
 use std::sync::Wait;
 
 impl<W: ScriptOps, N: Naming, R: Wait> WorkerBoard<'_, W, N, R> {
-    /// A directory at a path, activated where it is to be live. One turn of the tree lock.
+    /// A directory at a path, activated if it is to be live. One turn of the tree lock.
     pub(super) fn make_directory(&self, path: &[u8], is_live: bool) -> Result<Key, Refusal> {
         let mut editor = self.common.tree.edit(self.rt);
         let (dir, name) = editor.state().walk_parent(path)?;
@@ -36,8 +36,8 @@ impl<W: ScriptOps, N: Naming, R: Wait> WorkerBoard<'_, W, N, R> {
         editor.create(dir, name, Node::File { mode, tag }, true)
     }
 
-    /// A live file of this mode and text at a path: what is wrong with the path is told first, then the text
-    /// is kept under a new tag, then the file is made. Where that is refused its text goes again.
+    /// A live file of this mode and text at a path: what is wrong with the path is reported first, then the
+    /// text is kept under a new tag, then the file is made. If that is refused its text goes again.
     pub(super) fn make_file(
         &mut self,
         path: &[u8],
@@ -85,7 +85,7 @@ impl<W: ScriptOps, N: Naming, R: Wait> WorkerBoard<'_, W, N, R> {
     pub(super) fn compact(&self) -> Result<(), Refusal> {
         self.common.tree.edit(self.rt).compact()
     }
-    /// Plugs a device on the run's bus. Answers the key of its directory.
+    /// Plugs a device on the run's bus. Returns the key of its directory.
     pub(super) fn plug(&self, name: &[u8], text: &[u8]) -> Result<Key, Refusal> {
         let common = self.common;
         common.bus.plug(self.rt, &common.tree, name, text)

@@ -5,7 +5,7 @@ use Rattle.kf_script.proofs.Running.{running-start, running-ended, stopped-here,
 use Rattle.kf_script.proofs.Kept.{answered-all, answered-kept, cut-reached, cut-running, flushed-cut, flushed-ok, grown-given, grows-none, grows-trans, running-kept, running-known, same-given}
 use Rattle.kf_script.proofs.script.read_lines.Goals as goal
 
--- no more bytes
+-- no bytes are left
 no_more : (read bytes : List ℕ) (n : ℕ) → n ≡ 0 → read ++ take n bytes ≡ read
 no_more read bytes n e = ap (λ k. read ++ take k bytes) e ∙ append-nil read
 
@@ -27,7 +27,7 @@ reads-preserved g c =
       grows-trans _ _ _ (grows-trans _ _ _ grew (grown-given _ _ _ _ given)) c.in_ok-take_bytes.ensures.grew,
     )
 
--- A short search: where it fails, it ends at once.
+-- A short search: if it fails, it ends at once.
 pub read-requires-clause-told : goal.read-requires-clause-told
 read-requires-clause-told g c = search rules
 

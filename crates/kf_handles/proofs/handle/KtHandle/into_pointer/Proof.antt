@@ -1,4 +1,4 @@
--- `into_pointer` gives the pointer away, and lets go of what the handle owned.
+-- `into_pointer` gives the pointer away, and forgets what the handle owned.
 use Rattle.std.proofs.Common.{◌≡◌, List, [], ◌∷◌, ◌++◌, refl, sym}
 use mir.Val.{Val, vptr}
 use base.Logic.{emp}

@@ -1,5 +1,0 @@
-use Rattle.std.proofs.Common.{length}
-use Rattle.kf_workers.proofs.board.removing.release_all.Given as goal
-
-abbrev pub decreases-loop-receipt : goal.decreases-loop-receipt
-decreases-loop-receipt l = length l.receipts.items
