@@ -1,21 +1,22 @@
-/* kt_live.h: what a daemon shows of its devices, and takes away again while others use it. A tree with its own lock;
- * any call from any thread, also from a callback.
+/* SPDX-License-Identifier: MIT OR Apache-2.0 */
+/* kt_live.h: a daemon publishes attributes of its devices, and unpublishes them while others use them. The tree has its
+ * own lock; every call may be made from any thread, also from a callback.
  *
  *     kt_live_new(&live, 1024);
  *     kt_live_publish(live, "/fan0", fan_attributes, 2, fan, &fan->key);      its directory and files, or nothing
- *     kt_live_read(live, "/fan0/speed", text, sizeof text);                   runs show, as long as the fan is there
- *     if (kt_live_unpublish(live, fan->key) == 1) free(fan);                  nobody is in its code, or comes
+ *     kt_live_read(live, "/fan0/speed", text, sizeof text);                   runs show, while the fan is published
+ *     if (kt_live_unpublish(live, fan->key) == 1) free(fan);                  no callback runs there, and none starts
  *
- * Not proved: this is C over the proved calls of kernfs_tree.h, tried by `make -C c test`. That no callback starts
- * under a node once it is out rests on what is proved of kt_remove(); that none is in the device's code any more, also
- * where it has broken its protection, on the list of callbacks here.
+ * Not proved: this is C over the proved calls of kernfs_tree.h, tested by `make -C c test`. That no callback starts
+ * under a node once it is out rests on what is proved of kt_remove(). That no callback is still in the device's code,
+ * even if it has broken its protection, rests on the list of callbacks here.
  *
- * The functions stand in this header, as the helpers of kernfs_tree.h do, and are static: there is nothing to compile,
- * link or define besides. All that they keep lies in the struct kt_live, none in variables of a file, so callbacks and
- * those who run them may be in different source files, also of a plugin.
+ * The functions are in this header, like the helpers of kernfs_tree.h, and are static: there is nothing else to
+ * compile, link or define. Everything that they keep is in the struct kt_live, and nothing in variables of a file. So
+ * callbacks and the code that runs them may be in different source files, also of a plug-in.
  *
- * Answers: 0 or more where it is done; a Linux error number below 0 where it is not, and then nothing has changed and
- * what `out` points to is as it was. Paths and names are C strings.
+ * Return values: 0 or more on success; a negative errno on failure, and then nothing has changed, not even what `out`
+ * points to. Paths and names are C strings.
  */
 #ifndef KT_LIVE_H
 #define KT_LIVE_H
@@ -39,34 +40,35 @@
 #endif
 #endif
 
-/* One copy in a source file that calls it, and none in one that does not. (gcc, which would else take some into their
- * callers, then also warns of what `out` points to.) */
+/* One copy in each source file that calls it, and none in a file that does not. (Otherwise gcc would inline some of
+ * them, and then also warn of what `out` points to.) */
 #ifdef __GNUC__
 #define KT_LIVE_CALL static __attribute__((unused, noinline))
 #else
 #define KT_LIVE_CALL static inline
 #endif
 
-/* An attribute of a device: a file in its directory, and what runs where it is read and written (struct
- * device_attribute). The mode has bits of 0666 alone; of 0444 where there is a show and only there, and of 0222 where
- * there is a store and only there. A mode of 0 makes no file (is_visible): so one table serves devices that differ.
+/* An attribute of a device: a file in its directory, and what runs when the file is read and written (struct
+ * device_attribute). The mode has only bits of 0666: bits of 0444 if and only if there is a show, and bits of 0222 if
+ * and only if there is a store. A mode of 0 makes no file (is_visible), so one table can serve devices that differ.
  *
- * `show` writes its text into the page, which has KT_PAGE_SIZE bytes, all 0 before, and answers how many it wrote; what
- * is beyond KT_PAGE_SIZE - 1 is cut. `store` gets 1 to KT_PAGE_SIZE bytes with a zero byte after them, and answers how
- * many it took. An error number below 0 of either is what the reader or writer is answered.
+ * `show` writes its text into the page, which has KT_PAGE_SIZE bytes, all 0 before, and returns the number of bytes
+ * that it wrote; what is beyond KT_PAGE_SIZE - 1 is cut. `store` gets 1 to KT_PAGE_SIZE bytes with a zero byte after
+ * them, and returns the number of bytes that it took. If either returns a negative number, the reader or writer gets
+ * it.
  *
  * Callbacks run in the thread that reads or writes, without the lock, and several at once: what they change of the
- * device is atomic or under a lock of the program's. They may call everything here, and they return: no longjmp(),
- * exception or pthread_exit() leaves them. */
+ * device is atomic or under a lock of the program. They may call everything here, and they must return: no longjmp(),
+ * exception or pthread_exit() may leave them. */
 struct kt_attribute {
     const char *name;
     uint16_t mode;
     int64_t (*show)(void *device, const struct kt_attribute *attribute, char *page);
     int64_t (*store)(void *device, const struct kt_attribute *attribute, const char *bytes, size_t length);
-    int64_t which; /* the program's own: so one callback serves several attributes */
+    int64_t which; /* for the program: so one callback can serve several attributes */
 };
 
-/* What was published. Nothing of it is the program's. */
+/* What was published. All of it is private to this header. */
 struct kt_live_device {
     struct kt_live_device *next; /* of those whose directories had the same slot */
     struct kt_key key;           /* its directory */
@@ -77,7 +79,7 @@ struct kt_live_device {
     bool is_claimed;
 };
 
-/* A callback that runs: it lies on the stack of the thread that runs it. */
+/* A callback that runs. It is on the stack of the thread that runs it. */
 struct kt_live_call {
     struct kt_live_call *next;
     struct kt_handle file;
@@ -97,127 +99,129 @@ struct kt_live_watcher {
     bool is_there;
 };
 
-/* The program may use `tree` and `lock` by the calls of kernfs_tree.h: look at nodes, hold and open them, hide them,
- * make links, directories and files of its own. What was published it removes, renames and activates by the calls below
- * alone. The rest is not the program's. */
+/* The program may use `tree` and `lock` with the calls of kernfs_tree.h: look at nodes, hold, open and hide them, and
+ * create other links, directories and files. It must remove, rename and activate what was published only with the calls
+ * below. The rest is private. */
 struct kt_live {
     struct kt_handle tree;
     struct kt_lock lock;
     struct kt_handle post;
     struct kt_live_device **devices;  /* by their directories' slots */
-    struct kt_live_device *remnants;  /* directories never live, which want of memory kept from being removed */
+    struct kt_live_device *remnants;  /* directories never live, which could not be removed for lack of memory */
     struct kt_live_call *calls;
     struct kt_live_watcher *watches;
     uint32_t slots;
     uint64_t nodes; /* of what is published */
 };
 
-/* A new tree of the root alone, of 1 to KT_SLOTS_MAX nodes: the root, and for each device its directory and its
- * files. A file that is gone counts as long as one still reads or writes it. 0, -EINVAL (another number), -ENOMEM. */
+/* A new tree with only the root, for 1 to KT_SLOTS_MAX nodes: the root, and for each device its directory and its
+ * files. A file that is gone counts while a thread still reads or writes it. 0, -EINVAL (another number), -ENOMEM. */
 KT_MUST_USE KT_LIVE_CALL int32_t kt_live_new(struct kt_live **out, uint32_t slots);
 
 /* Frees the tree. 0; -EBUSY: a device is published, something is watched, a callback runs, or a file is being hidden
- * (kt_clear()); it is all as it was. After 0 `live` is not used again, so no call of another thread may run or come. */
+ * (kt_clear()); then everything is as it was. After 0, `live` must not be used, by any thread. */
 KT_LIVE_CALL int32_t kt_live_delete(struct kt_live *live);
 
-/* Publishes a device (device_add): a directory at the path with a file for each attribute. Nobody sees a part of it: a
- * file can be read and listed when all are there, and after a refusal there is none. A device without attributes is a
- * plain directory, for others to be published in; without one in between, at "/fan0", the root is it.
+/* Publishes a device (device_add): a directory at the path with a file for each attribute. It appears all at once: no
+ * file can be read or listed before all exist, and after an error there is none. A device without attributes is a plain
+ * directory in which others can be published; the parent of "/fan0" is the root.
  *
- * `out` gets the directory's key, by which it is unpublished, before the first callback can run. The device, the
- * attributes and their names stay the program's; they are left as they are until kt_live_unpublish() has answered 1. A
- * device that a callback may unpublish can be freed before this has returned: its key is kept elsewhere than in it.
+ * `out` gets the directory's key, with which it is unpublished, before the first callback can run. The program owns the
+ * device, the attributes and their names, and leaves them as they are until kt_live_unpublish() has returned 1. If a
+ * callback may unpublish the device, it can be freed before this call has returned: keep its key outside of it.
  *
- * 0, and in this order: -EINVAL (an attribute without a name, or of a mode that does not fit it; the form of the path),
- * -ENOENT, -ENOTDIR (what the path names above its last name), then of that name and of each attribute's as of
- * kt_create_dir(): -ENAMETOOLONG, -EINVAL, -ENOENT (the directory above is being removed), -EEXIST, -ENOSPC (no free
- * slot). -ENOMEM may come before these. */
+ * 0, and in this order: -EINVAL (an attribute without a name, or with a mode that does not fit it; the form of the
+ * path), -ENOENT, -ENOTDIR (what the path names above its last name), then for that name and each attribute's name, as
+ * for kt_create_dir(): -ENAMETOOLONG, -EINVAL, -ENOENT (the directory above is being removed), -EEXIST, -ENOSPC (no
+ * free slot). -ENOMEM may come before these. */
 KT_MUST_USE KT_LIVE_CALL int32_t kt_live_publish(struct kt_live *live, const char *path,
                                                  const struct kt_attribute *attributes, size_t count, void *device,
                                                  struct kt_key *out);
 
-/* Unpublishes a device (device_del): when this answers 0 or 1 its directory, with all that is below it, is out of the
- * tree, and no callback ever starts there. It sleeps until then. Who watches a node there is told before that.
+/* Unpublishes a device (device_del). When this returns 0 or 1, the device's directory and everything below it is out of
+ * the tree, and no callback ever starts there. It sleeps until then. Watches of a node there become readable before.
  *
- * 1: this call was the first to ask for it, and no callback is in the device's code: what the device and the attributes
- * lie in is the caller's to free. 0: another call was first, and 1 is its answer; this one frees nothing. -ENOENT: no
- * device has this key: it was unpublished before, or never published. -ENOMEM, or -EMFILE (other calls hold a node
- * there KT_HOLDS_MAX times): nothing has changed; call it again.
+ * 1: this call was the first to ask for it, and no callback is in the device's code: the caller may free the memory of
+ * the device and the attributes. 0: another call was first, and gets the 1; this one frees nothing. -ENOENT: no device
+ * has this key: it was unpublished before, or never published. -ENOMEM, or -EMFILE (other calls hold a node there
+ * KT_HOLDS_MAX times): nothing has changed; call it again.
  *
- * A callback may unpublish its own device, or one above it (device_remove_file_self): then 1 comes when all callbacks
- * there but those of its thread have ended. It still is in the device's code itself, so after the free() it touches
- * the device no more. Of several callbacks that do so at once one is answered 1, when the others have returned.
+ * A callback may unpublish its own device, or one above it (device_remove_file_self). Then it gets 1 when all callbacks
+ * there have ended, except those of its own thread. It still runs in the device's code, so after the free() it must
+ * no longer touch the device. If several callbacks do so at once, one of them gets 1, when the others have returned.
  *
  * A device that was published below this one is out of the tree too, but it stays published: its own
- * kt_live_unpublish() tells whether its memory may be freed. Two callbacks that unpublish each other's device, and one
- * that waits for a thread that unpublishes its device, wait for ever, as in the kernel. */
+ * kt_live_unpublish() says whether its memory may be freed. Two callbacks that unpublish each other's device wait for
+ * ever, as in the kernel; so does a callback that waits for a thread which unpublishes the callback's device. */
 KT_MUST_USE KT_LIVE_CALL int32_t kt_live_unpublish(struct kt_live *live, struct kt_key key);
 
-/* The same of the device whose directory is at a path; with 1 `device` gets what kt_live_publish() was given, so a
- * program needs no list of its devices. -EINVAL (the form of the path), -ENOENT, -ENOTDIR too; but for 1 `device` is as
- * it was. */
+/* The same for the device whose directory is at a path. With 1, `device` gets what was passed to kt_live_publish(), so
+ * a program needs no list of its devices; otherwise `device` stays as it was. Also -EINVAL (the form of the path),
+ * -ENOENT, -ENOTDIR. */
 KT_MUST_USE KT_LIVE_CALL int32_t kt_live_unpublish_at(struct kt_live *live, const char *path, void **device);
 
-/* Runs a function of the program's on the device whose directory is at a path, as its callbacks are run: the device is
- * there until it returns. So what a program does with each of its devices needs no lock of its own: kt_live_list()
- * names them, and those that have gone meanwhile are left out by this.
+/* Runs a function on the device whose directory is at a path, like a callback: the device exists until the function
+ * returns. So a program needs no other lock to do something with each device: kt_live_list() names them, and this
+ * leaves out those that are gone meanwhile.
  *
- * What the function answered; or it did not run: -EINVAL, -ENOTDIR (the path), -ENOENT (no device is there, or it is
+ * What the function returned; or it did not run: -EINVAL, -ENOTDIR (the path), -ENOENT (no device is there, or it is
  * being removed), -ENODEV, -EMFILE, -ENOMEM. */
 typedef int64_t kt_live_function(void *device, void *data);
 KT_LIVE_CALL int64_t kt_live_run(struct kt_live *live, const char *path, kt_live_function *function, void *data);
 
-/* In a callback: the key of its device, the inner one's where callbacks of this thread run in another; so
- * kt_live_unpublish(live, kt_live_self(live)) unpublishes it. Elsewhere, and once it is unpublished, 0, 0. */
+/* In a callback, the key of its device (the innermost, if this thread's callbacks nest); so kt_live_unpublish(live,
+ * kt_live_self(live)) unpublishes it. Elsewhere, or once unpublished, 0, 0. */
 KT_LIVE_CALL struct kt_key kt_live_self(struct kt_live *live);
 
-/* Reads the attribute at a path: runs its show, and copies the text (open, pread at offset 0, close). How many bytes; a
- * longer text is cut, and where there is room a zero byte follows that is not counted: KT_PAGE_SIZE is always enough.
+/* Reads the attribute at a path: runs its show, and copies the text (open, pread at offset 0, close). Returns the
+ * number of bytes. A longer text is cut. If there is room, a zero byte follows, which is not counted: KT_PAGE_SIZE is
+ * always enough.
  *
- * Below 0: what the show answered; or it did not run: -EINVAL (the path, or a link), -ENOENT, -ENOTDIR, -EISDIR,
- * -ENODEV (it is being removed, or hidden), -EACCES (no bit of 0444), -EIO (a file that the program made by other
- * calls), -EMFILE (KT_HOLDS_MAX are at it), -ENOMEM. */
+ * Below 0: what the show returned; or it did not run: -EINVAL (the path, or a link), -ENOENT, -ENOTDIR, -EISDIR,
+ * -ENODEV (it is being removed, or hidden), -EACCES (no bit of 0444), -EIO (a file that the program created with other
+ * calls), -EMFILE (KT_HOLDS_MAX threads use it), -ENOMEM. */
 KT_LIVE_CALL int64_t kt_live_read(struct kt_live *live, const char *path, void *out, size_t room);
 
-/* Writes to the attribute at a path: runs its store with the first KT_PAGE_SIZE bytes at most (open, write, close).
- * What the store answered; 0 of no bytes, and it did not run then; the refusals of kt_live_read(), -EACCES of 0222. */
+/* Writes to the attribute at a path: runs its store with at most the first KT_PAGE_SIZE bytes (open, write, close).
+ * What the store returned; 0 for no bytes, and then it did not run; the errors of kt_live_read(), -EACCES for 0222. */
 KT_LIVE_CALL int64_t kt_live_write(struct kt_live *live, const char *path, const char *bytes, size_t length);
 
-/* Tells that an attribute of a device has changed (sysfs_notify); in a callback the device may be kt_live_self(live).
- * Raises its event number (kt_poll() of an open file tells it) and who watches it. 0, -ENOENT (the device or a file of
- * this name is not there), -ENOTDIR (the key is a file's), -EOVERFLOW (of the number), -ENOMEM. */
+/* Reports that an attribute of a device has changed (sysfs_notify). In a callback the device may be kt_live_self(live).
+ * Raises the event number of the attribute, which kt_poll() of an open file sees, and makes its watches readable. 0,
+ * -ENOENT (the device or a file of this name is not there), -ENOTDIR (the key is a file's), -EOVERFLOW (of the number),
+ * -ENOMEM. */
 KT_LIVE_CALL int32_t kt_live_notify(struct kt_live *live, struct kt_key device, const char *name);
 
-/* Watches the node at a path, a file or a directory, also one that comes later: a new eventfd(2), not blocking and
- * closed on exec, which becomes readable by each kt_live_notify() of it, when it is being removed, and when it is
- * published (again). It is for poll(2) and its kind; who is woken reads its 8 bytes first and then the attribute, so
- * that no change is missed; -ENODEV or -ENOENT of that says that it has gone. What the program makes or removes by
- * other calls raises nothing. The descriptor stays until kt_live_unwatch(), which alone closes it.
+/* Watches the node at a path, a file or a directory, even if it comes later. Returns a new eventfd(2), non-blocking and
+ * closed on exec. It becomes readable with each kt_live_notify() of the node, when the node is being removed, and when
+ * it is published (again). Wait for it with poll(2) or the like. A thread that wakes reads its 8 bytes first and then
+ * the attribute, so that no change is missed; -ENODEV or -ENOENT from the attribute says that it is gone. What the
+ * program creates or removes with other calls raises nothing. Only kt_live_unwatch() closes the descriptor.
  *
- * The descriptor; -EINVAL (the form of the path), -ENOMEM, or as of eventfd(2). */
+ * The descriptor; -EINVAL (the form of the path), -ENOMEM, or as eventfd(2). */
 KT_MUST_USE KT_LIVE_CALL int kt_live_watch(struct kt_live *live, const char *path);
 
-/* Ends a watch and closes its descriptor. 0, -EBADF (no descriptor of a watch here). */
+/* Ends a watch and closes its descriptor. 0, -EBADF (it is not the descriptor of a watch of this tree). */
 KT_LIVE_CALL int32_t kt_live_unwatch(struct kt_live *live, int fd);
 
-/* The names in the directory at a path, one after another in byte order (readdir). `at` is the cursor and the answer:
- * its name is empty at first, then the last one told; what is published or unpublished meanwhile makes no other name
- * come twice or be missed.
+/* The names in the directory at a path, one after another in byte order (readdir). `at` is the cursor and the result:
+ * its name is empty at first, then the last name. What is published or unpublished meanwhile makes no other name come
+ * twice or be missed.
  *
  *     struct kt_child at = {.name = ""};
  *     while (kt_live_list(live, "/", &at) == 1)
  *         puts(at.name);
  *
- * 1, 0 (no more), and then `at` is as it was; -EINVAL (the path), -ENOENT, -ENOTDIR, -ENOMEM. */
+ * 1; 0 at the end, and then `at` is as it was; -EINVAL (the path), -ENOENT, -ENOTDIR, -ENOMEM. */
 KT_LIVE_CALL int32_t kt_live_list(struct kt_live *live, const char *path, struct kt_child *at);
 
-/* ---- what these are made of; under the lock, where nothing else is said ---- */
+/* ---- what these are made of; under the lock, unless something else is said ---- */
 
 static inline void kt_live_lock(struct kt_live *live) { pthread_mutex_lock(&live->lock.mutex); }
 static inline void kt_live_unlock(struct kt_live *live) { pthread_mutex_unlock(&live->lock.mutex); }
 
-/* The commands that the tree keeps are made few again, where there are twice as many as it needs and 1,000 more.
- * Without memory the next change tries it again. */
+/* Compacts the log of the tree if it has 1,000 more than twice as many commands as the tree needs. Without memory the
+ * next change tries it again. */
 static inline void kt_live_tidy(struct kt_live *live)
 {
     struct kt_commands commands;
@@ -243,7 +247,7 @@ static inline bool kt_live_is_same(struct kt_key one, struct kt_key other)
     return one.slot == other.slot && one.generation == other.generation;
 }
 
-/* The attribute that a file of a device was published with; NULL of a file that the program made there. */
+/* The attribute that a file of a device was published with; NULL for a file that the program created there. */
 static inline const struct kt_attribute *kt_live_attribute(struct kt_live *live, const struct kt_live_device *it,
                                                            struct kt_key file)
 {
@@ -339,7 +343,7 @@ static inline bool kt_live_is_there(struct kt_live *live, struct kt_key key)
     return !kt_stat(&live->tree, key, &stat) && stat.activated && !stat.doomed;
 }
 
-/* Looks for what a watch watches, where that is not the node it was. Whether something has come or gone. */
+/* Looks again for the node of a watch, if it is no longer the same. Whether a node has come or gone. */
 static inline bool kt_live_look_again(struct kt_live *live, struct kt_live_watcher *watch)
 {
     bool was_there = watch->is_there;
@@ -357,7 +361,7 @@ static inline void kt_live_raise_changed(struct kt_live *live)
             kt_live_raise(it);
 }
 
-/* Makes a watch with a path of its own. */
+/* Makes a watch with its own copy of the path. */
 static inline int kt_live_new_watch(struct kt_live *live, const char *path)
 {
     size_t size = strlen(path) + 1;
@@ -419,7 +423,7 @@ KT_LIVE_CALL int32_t kt_live_notify(struct kt_live *live, struct kt_key device, 
         answer = kt_notify(&live->post);
         kt_clear(&live->post);
     }
-    /* (of what the program makes itself nobody was told that it came) */
+    /* (no watch was raised when a file came that the program created itself) */
     is_own = !answer && !kt_live_attribute(live, kt_live_find(live, device), key);
     for (struct kt_live_watcher *it = live->watches; it && !answer; it = it->next) {
         if (is_own)
@@ -487,8 +491,8 @@ static inline int32_t kt_live_create_files(struct kt_live *live, struct kt_live_
     return answer;
 }
 
-/* Makes all of it, and then all of it live. What could not be made whole goes again; where memory is wanted for that
- * too it stays without being live, and is the tree's until a later call removes it. */
+/* Creates all nodes, and then makes all of them live. If they cannot all be created, they are removed again. If there
+ * is no memory for that either, they stay, without being live, until a later call removes them. */
 static inline int32_t kt_live_add(struct kt_live *live, const char *path, struct kt_live_device *it, struct kt_key *out)
 {
     int32_t answer = kt_live_sweep(live);
@@ -539,7 +543,7 @@ KT_LIVE_CALL int32_t kt_live_publish(struct kt_live *live, const char *path, con
 
 /* ---- callbacks ---- */
 
-/* Opens the file at a path and begins a callback there; where it is refused it is open at most. */
+/* Opens the file at a path and begins a callback there. If this fails, the file may be open. */
 static inline int32_t kt_live_enter(struct kt_live *live, const char *path, bool to_write, struct kt_live_call *call)
 {
     struct kt_key dir;
@@ -558,7 +562,7 @@ static inline int32_t kt_live_enter(struct kt_live *live, const char *path, bool
     return to_write ? kt_begin_write(&call->file) : kt_begin_read(&call->file, 0);
 }
 
-/* Begins a callback at a device's directory; where it is refused there is a hold at most. */
+/* Begins a callback at a device's directory. If this fails, there may be a hold. */
 static inline int32_t kt_live_enter_device(struct kt_live *live, const char *path, struct kt_live_call *call)
 {
     int32_t answer = kt_live_walk(live, path, &call->key);
@@ -735,7 +739,7 @@ KT_LIVE_CALL struct kt_key kt_live_self(struct kt_live *live)
     return key;
 }
 
-/* Unpublishes a device. It sleeps, and lets the lock go meanwhile. */
+/* Unpublishes a device. It sleeps, and releases the lock meanwhile. */
 static inline int32_t kt_live_take_out(struct kt_live *live, struct kt_key key, void **data)
 {
     struct kt_live_device *device = kt_live_find(live, key);

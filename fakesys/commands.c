@@ -1,9 +1,10 @@
-/* The lines that make and change the tree: those of kernfs_run, and those that hinder its readers. */
+/* SPDX-License-Identifier: MIT OR Apache-2.0 */
+/* The lines that make and change the tree: those of kernfs_run, and those that disturb its readers. */
 #include "fakesysfs.h"
 
 static const struct kt_key nothing;
 
-/* Where a change was made its command is counted. */
+/* Counts the command of a change that was made. */
 static int changed(int error)
 {
     return error ? error : count_change();
@@ -22,7 +23,7 @@ static int run_file(struct line *line)
     struct kt_key made;
     int error = changed(make_node(line->keys[0], line->name, S_IFREG | mode, nothing, true, &made));
     if (!error && set_line(node_of(number_of(made)), text, strlen(text))) {
-        (void)!kt_remove(&tree, made); /* under the lock: nobody has seen it */
+        (void)!kt_remove(&tree, made); /* the lock is held: no thread has seen it */
         return -ENOMEM;
     }
     return error;
@@ -148,7 +149,7 @@ static const struct command *find_command(const char *name)
     return NULL;
 }
 
-/* Runs a line that is cut into words meanwhile. */
+/* Runs a line, and splits it into words. */
 static int run_words(char *words, char *why, size_t room)
 {
     struct line line = {.rest = words};
@@ -163,7 +164,7 @@ static int run_words(char *words, char *why, size_t room)
         unlock_tree();
     }
     if (error == -EBADMSG && command)
-        snprintf(why, room, "wanted: %s", command->usage);
+        snprintf(why, room, "usage: %s", command->usage);
     else
         snprintf(why, room, "%s", error == -EBADMSG ? "no such command" : strerror(-error));
     return error;
@@ -174,7 +175,7 @@ int run_line(const char *bytes, size_t length, char *why, size_t room)
     if (!length || *bytes == '#')
         return 0;
     if (memchr(bytes, 0, length)) {
-        snprintf(why, room, "a zero byte (in a text it is \\0)");
+        snprintf(why, room, "the line has a zero byte (write it as \\0 in a text)");
         return -EBADMSG;
     }
     char *words = strndup(bytes, length);

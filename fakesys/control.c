@@ -1,17 +1,18 @@
+/* SPDX-License-Identifier: MIT OR Apache-2.0 */
 /* The control file: lines that are written to it are run. */
 #include "fakesysfs.h"
 
 static char refusal[512]; /* why the last line was refused; under the lock */
 
-static void tell_refusal(unsigned line, const char *why, const char *text, size_t length)
+static void print_refusal(unsigned line, const char *why, const char *text, size_t length)
 {
-    char told[300], whole[sizeof refusal];
-    escape_line(text, length, told, sizeof told);
-    snprintf(whole, sizeof whole, "line %u: %s: %s\n", line, why, told);
+    char shown[300], whole[sizeof refusal];
+    escape_line(text, length, shown, sizeof shown);
+    snprintf(whole, sizeof whole, "line %u: %s: %s\n", line, why, shown);
     lock_tree();
     memcpy(refusal, whole, sizeof whole);
     unlock_tree();
-    fprintf(stderr, "fakesysfs: " CONTROL ", %s", whole); /* without the lock, as it may wait */
+    fprintf(stderr, "fakesysfs: " CONTROL ", %s", whole); /* without the lock, since it may block */
 }
 
 /* Adds to the line that is not whole yet. */
@@ -21,7 +22,7 @@ static int keep_part(struct control *control, const char *bytes, size_t length)
     char *grown = is_long ? NULL : realloc(control->part, control->length + length + 1);
     if (!grown) {
         int error = is_long ? EFBIG : ENOMEM;
-        tell_refusal(control->lines + 1, strerror(error), bytes, length);
+        print_refusal(control->lines + 1, strerror(error), bytes, length);
         return -error;
     }
     memcpy(grown + control->length, bytes, length);
@@ -30,20 +31,20 @@ static int keep_part(struct control *control, const char *bytes, size_t length)
     return 0;
 }
 
-/* Runs the line that is whole now, and forgets it. */
+/* Runs the line that is whole now, and clears it. */
 static int run_part(struct control *control)
 {
     char why[128] = "";
     int error = run_line(control->part, control->length, why, sizeof why);
     if (error)
-        tell_refusal(control->lines + 1, why, control->part, control->length);
+        print_refusal(control->lines + 1, why, control->part, control->length);
     else
         control->lines++;
     control->length = 0;
     return error;
 }
 
-/* Runs the lines that end in these bytes, up to one that is refused. How many bytes they had. */
+/* Runs the lines that end in these bytes, up to one that is refused. Returns how many bytes they had. */
 static size_t run_lines(struct control *control, const char *bytes, size_t length, int *error)
 {
     size_t taken = 0;
@@ -59,8 +60,8 @@ static size_t run_lines(struct control *control, const char *bytes, size_t lengt
     return taken;
 }
 
-/* Where a line that is not the first is refused, less is taken than was written, and who writes the rest
- * again has the error: then it is the first. So no line after it is run. */
+/* If a line that is not the first is refused, less is taken than was written. When the caller writes the rest
+ * again, that line is the first and the write fails. So no line after it is run. */
 int64_t write_control(struct control *control, const char *bytes, size_t length)
 {
     int error = 0;

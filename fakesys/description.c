@@ -1,7 +1,8 @@
+/* SPDX-License-Identifier: MIT OR Apache-2.0 */
 /* The description of a tree: a file of lines, or standard input. */
 #include "fakesysfs.h"
 
-/* Reads all that is there. NULL, with errno, where that fails. */
+/* Reads a file to its end. NULL with errno on failure. */
 static char *read_all(FILE *file, size_t *length)
 {
     char *text = NULL, *grown;
@@ -61,8 +62,7 @@ static bool makes_a_node(const char *line, size_t length)
     return false;
 }
 
-/* As many slots as the tree has where no other number is asked for: twice its nodes, and 1,024 of a small
- * one. */
+/* The default number of slots: twice the nodes of the tree, at least 1,024. */
 static uint32_t count_slots(const char *text, size_t size)
 {
     const char *line, *at = text;
@@ -72,17 +72,17 @@ static uint32_t count_slots(const char *text, size_t size)
     return (uint32_t)MIN(MAX(2 * nodes, 1024), KT_SLOTS_MAX);
 }
 
-/* Runs all lines, and tells each that is wrong. Whether there is none. */
+/* Runs all lines, and prints each wrong one. Whether there is none. */
 static bool run_lines(const char *path, const char *text, size_t size)
 {
     const char *line, *at = text;
-    char why[128], told[300];
+    char why[128], shown[300];
     size_t length;
     bool is_well = true;
     for (unsigned count = 1; next_line(&at, text + size, &line, &length); count++) {
         if (run_line(line, length, why, sizeof why)) {
-            escape_line(line, length, told, sizeof told);
-            fprintf(stderr, "fakesysfs: %s, line %u: %s: %s\n", path, count, why, told);
+            escape_line(line, length, shown, sizeof shown);
+            fprintf(stderr, "fakesysfs: %s, line %u: %s: %s\n", path, count, why, shown);
             is_well = false;
         }
     }
@@ -99,7 +99,7 @@ bool load_description(const char *path, uint32_t slots)
     }
     int error = make_tree(slots ? slots : count_slots(text, length));
     if (error)
-        fprintf(stderr, "fakesysfs: no tree: %s\n", strerror(-error));
+        fprintf(stderr, "fakesysfs: cannot create the tree: %s\n", strerror(-error));
     bool is_well = !error && run_lines(path, text, length);
     free(text);
     return is_well;

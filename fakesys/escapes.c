@@ -1,5 +1,6 @@
-/* Escapes: those of paths, for a blank in a name, those of texts, which are printf(1)'s %b, and those of
- * lines that are told. */
+/* SPDX-License-Identifier: MIT OR Apache-2.0 */
+/* Escapes: those of paths, for a blank in a name; those of texts, which are printf(1)'s %b; and those of lines
+ * in messages. */
 #include "fakesysfs.h"
 #include <ctype.h>
 
@@ -11,7 +12,7 @@ static int digit_of(char byte, int base)
     return at && at - digits < base ? (int)(at - digits) : -1;
 }
 
-/* Reads a byte's digits, of which there are at most so many, and goes past them. */
+/* Reads a byte of at most `most` digits, and moves past them. */
 static char read_byte(const char **from, int most, int base)
 {
     int value = 0;
@@ -63,7 +64,7 @@ size_t unescape_text(char *text, bool *is_whole)
             from++;
             *to++ = read_byte(&from, 2, 16);
         } else {
-            *to++ = '\\'; /* no escape: the byte after it comes next */
+            *to++ = '\\'; /* not an escape: the byte after it comes next */
         }
     }
     return (size_t)(to - text);

@@ -1,14 +1,15 @@
 #!/usr/bin/env python3
-"""A fake /sys for tests in Python: one file, to be taken into a test suite. It needs the program fakesysfs.
+# SPDX-License-Identifier: MIT OR Apache-2.0
+"""A fake /sys for tests in Python. This file can be copied into a test suite. It needs the program fakesysfs.
 
-    with FakeSys(description) as sys:                  # the text of a description, or the name of its file
+    with FakeSys(description) as sys:                  # a description, or the name of its file
         sys.set("/class/hwmon/hwmon0/temp1_input", "91000")
         assert "+91.0" in sys.run(["sensors"], capture_output=True, text=True).stdout
         sys.unplug("/class/hwmon/hwmon0")
 
-What sys.run() and sys.popen() start sees the tree in place of the folders of /sys, in name spaces of its own;
-sys.path() tells where a test itself finds a node. A line that is refused raises OSError. In a test that runs inside
-`fakesys DESCRIPTION pytest`, FakeSys() is the tree of that run, and /sys is its own.
+A command that sys.run() or sys.popen() starts sees the tree in place of the directories of /sys, in new namespaces.
+sys.path() returns where the test itself finds a node. A line that is refused raises OSError. In a test that runs inside
+`fakesys DESCRIPTION pytest`, FakeSys() is the tree of that run, which is also at /sys.
 """
 import contextlib
 import ctypes
@@ -23,34 +24,35 @@ import threading
 import time
 from pathlib import Path
 
+VERSION = "0.3.0"
 LIBC = ctypes.CDLL(None, use_errno=True)
 NEW_MOUNTS, NEW_USERS, NEW_PROCESSES, NEW_NETWORK = 0x20000, 0x10000000, 0x20000000, 0x40000000
 READ_ONLY, REMOUNT, BIND, RECURSIVE, PRIVATE = 0x1, 0x20, 0x1000, 0x4000, 0x40000
-PATIENCE = 60  # seconds for a mount to come, on a busy machine
-MOST_LINES = 50  # in one write: the kernel cuts a long one where it likes
+PATIENCE = 60  # seconds for a mount to appear, on a busy machine
+MOST_LINES = 50  # in one write: the kernel may split a long one anywhere
 
 
 # ---- lines ----
 
 
 def escaped_path(path):
-    """A path as a word of a line: a blank would end it."""
+    """A path as a word of a line, in which a blank would end it."""
     return re.sub(r"(?a)[\s\\]", lambda found: f"\\{ord(found[0]):03o}", path)
 
 
 def unescaped_path(word):
-    """The path that a word of a line is."""
+    """The path that a word of a line stands for."""
     return re.sub(r"\\([0-3][0-7]{2})", lambda found: os.fsdecode(bytes([int(found[1], 8)])), word)
 
 
 def escaped_text(data):
-    """Bytes as the text of a line `set`, with the escapes of printf's %b. No newline is added to it."""
+    """Bytes as the text of a `set` line, with the escapes of printf's %b. The file gets no newline after them."""
     escape = lambda found: b"\\n" if found[0] == b"\n" else b"\\x%02x" % found[0][0]
     return re.sub(rb"[^ -\[\]-~]", escape, data).decode() + "\\c"
 
 
 def write_lines(control, lines):
-    """Gives a tree lines in one go. Those that are left, and why the first of them was refused, if one was."""
+    """Writes lines to a tree. Returns the lines that are left, and why the first of these was refused, if it was."""
     left = [os.fsencode(line) + b"\n" for line in lines]
     file = os.open(control, os.O_WRONLY)
     try:
@@ -66,14 +68,14 @@ def write_lines(control, lines):
 
 
 def write_line(control, line):
-    """Gives a tree a line, or several. OSError where one is refused."""
+    """Writes a line, or several, to a tree. OSError if one is refused."""
     _, error = write_lines(control, line.split("\n"))
     if error:
         raise OSError(error.errno, f"{os.strerror(error.errno)}: {line}")
 
 
 def unescaped_text(text):
-    """The bytes of a text of a line `set`, but for the newline behind it."""
+    """The bytes of the text of a `set` line, without the newline that follows."""
     return os.fsencode(text.split("\\c")[0]).decode("unicode_escape", "replace").encode("latin-1", "replace")
 
 
@@ -82,14 +84,14 @@ def uevent_words(data):
 
 
 class Description:
-    """The lines of a description, by the nodes that they speak of."""
+    """The lines of a description, and what they say about its nodes."""
 
     def __init__(self, text):
         made_of = ("mkdir ", "file ", "link ", "set ", "fail ", "late ", "slow ")
         self.words = [(line.split(" ", 2) + [""])[:3] for line in text.split("\n") if line.startswith(made_of)]
 
     def tops(self):
-        """The names of the directories right below the root."""
+        """The names of the directories in the root."""
         return {path[1:] for word, path, _ in self.words if word == "mkdir" and path.count("/") == 1}
 
     def links(self):
@@ -102,25 +104,25 @@ class Description:
         return {path for word, path, _ in self.words if word == "mkdir"}
 
     def devices(self):
-        """The directories that links of a class or a bus lead to, or that have a link `subsystem`."""
+        """The directories to which links of a class or a bus lead, or that have a link `subsystem`."""
         of_bus = re.compile(r"/class/[^/]+/[^/]+|/bus/[^/]+/devices/[^/]+")
         found = {target for path, target in self.links() if of_bus.fullmatch(path)}
         found |= {os.path.dirname(path) for path, _ in self.links() if path.endswith("/subsystem")}
         return sorted(path for path in found & self.directories() if path.startswith("/devices/"))
 
     def uevents(self, top):
-        """The devices from a directory on, parents first: each with its subsystem, and the words of its uevent."""
-        told = {}
+        """The devices in a directory and below, parents first, each with its subsystem and its uevent's words."""
+        uevents = {}
         for word, path, rest in self.words:
             if path.endswith("/uevent") and word in ("file", "set"):
-                told[path[:-7]] = uevent_words(os.fsencode(rest[4:]) if word == "file" else unescaped_text(rest))
+                uevents[path[:-7]] = uevent_words(os.fsencode(rest[4:]) if word == "file" else unescaped_text(rest))
         links = [(path[:-10], target) for path, target in self.links() if path.endswith("/subsystem")]
         found = sorted((path, target) for path, target in links if (path + "/").startswith(top + "/"))
         name_of = lambda target: os.path.basename(unescaped_path(target))
-        return [(unescaped_path(path), name_of(target), told.get(path, [])) for path, target in found]
+        return [(unescaped_path(path), name_of(target), uevents.get(path, [])) for path, target in found]
 
     def making(self, top):
-        """The lines that plug a device, with all below it, which is seen when it is whole; and the links into it."""
+        """The lines that plug a device with everything below it, visible only once complete, and the links into it."""
         is_in = re.compile(re.escape(top) + r"(/|$)").match
         inside = [[word, path, rest] for word, path, rest in self.words if is_in(path)]
         if top not in self.directories():
@@ -131,14 +133,14 @@ class Description:
 
 
 class Tree:
-    """A tree that is mounted, and what changes it: its lines, and those that need the description or send uevents."""
+    """A mounted tree, and what changes it: its own lines, and those that need the description or send uevents."""
 
     def __init__(self, control, description, send=None):
         self.control, self.description, self.send = control, description, send
         self.at = os.path.dirname(control)
 
     def give(self, line):
-        """A line of the tree's, or `plug PATH`, `unplug PATH`, `change PATH`."""
+        """Gives the tree a line; or does `plug PATH`, `unplug PATH` or `change PATH`."""
         word, _, path = line.partition(" ")
         if word in ("plug", "unplug", "change"):
             getattr(self, f"give_{word}")(path)
@@ -151,7 +153,7 @@ class Tree:
             left, error = write_lines(self.control, left)
             if error and not (left[0].startswith("link ") and isinstance(error, (FileNotFoundError, FileExistsError))):
                 raise OSError(error.errno, f"{os.strerror(error.errno)}: {left[0]}")
-            left = left[1:]  # what such a link leads to, or stands in, may be gone too
+            left = left[1:]  # the target or the directory of such a link may be gone too
         self.tell("add", self.description.uevents(path) if self.send else ())
 
     def give_unplug(self, path):
@@ -164,7 +166,7 @@ class Tree:
         self.tell("change", self.device_at(path))
 
     def device_at(self, path):
-        """The device that a directory is now, with its subsystem and the words of its uevent: one, or none."""
+        """The device that a directory is now, with its subsystem and its uevent's words: a list of one, or empty."""
         path = unescaped_path(path)
         folder, words = self.at + path, []
         if not self.send or not os.path.islink(folder + "/subsystem"):
@@ -178,11 +180,11 @@ class Tree:
             self.send(action, *device)
 
 
-# ---- name spaces ----
+# ---- namespaces ----
 
 
 def system_call(name, *words):
-    """A system call, by its name in the C library. OSError where it is refused."""
+    """A system call, by its name in the C library. OSError if it fails."""
     if getattr(LIBC, name)(*words) < 0:
         raise OSError(ctypes.get_errno(), f"{name}: {os.strerror(ctypes.get_errno())}")
 
@@ -193,7 +195,7 @@ def mount(source, target, kind="none", flags=0, options=""):
 
 
 def enter_spaces(kinds=0):
-    """Enters a name space of mounts, and of these other kinds. Who may not gets one of users too, and is its root."""
+    """Enters a mount namespace, and namespaces of these other kinds; without privilege as root of a user namespace."""
     ways = [enter_users, lambda kinds: system_call("unshare", kinds)]
     if os.geteuid() == 0 and not kinds & NEW_USERS:
         ways.reverse()
@@ -205,8 +207,8 @@ def enter_spaces(kinds=0):
 
 
 def enter_users(kinds):
-    """Enters name spaces, of users too. A child outside says who is who there: of root's each user is the same,
-    a user's own is root there."""
+    """Enters namespaces, including one of users. A child outside it maps the users: for root each user to itself,
+    for any other user only that user, to root."""
     entered, says = os.pipe()
     child = os.fork()
     if not child:
@@ -220,11 +222,11 @@ def enter_users(kinds):
         os.close(says)
         status = os.waitpid(child, 0)[1]
     if status:
-        raise PermissionError(1, "no users can be mapped")
+        raise PermissionError(1, "users cannot be mapped in the namespace")
 
 
 def map_users(process):
-    """Says who is who in the name space of another process. 0, or 1 where that is refused."""
+    """Maps the users in the namespace of another process. 0, or 1 if that is refused."""
     user, group = os.geteuid(), os.getegid()
     maps = [("setgroups", "deny"), ("uid_map", f"0 {user} 1"), ("gid_map", f"0 {group} 1")]
     try:
@@ -236,7 +238,7 @@ def map_users(process):
 
 
 def same_ids(name):
-    """A map of all who are known here to themselves."""
+    """A map of all users that are known here, each to itself."""
     ranges = [line.split() for line in Path(f"/proc/self/{name}").read_text("ascii").splitlines()]
     return "\n".join(f"{first} {first} {count}" for first, _, count in ranges)
 
@@ -247,24 +249,24 @@ def cover_sys(tree):
         if os.path.isdir(f"/sys/{entry.name}") and entry.is_dir(follow_symlinks=False):
             mount(entry.path, f"/sys/{entry.name}", flags=BIND)
         elif entry.name != ".control":
-            print(f"fakesys: /sys has no folder {entry.name}: left out", file=sys.stderr)
+            print(f"fakesys: /sys has no directory {entry.name}, so it is left out", file=sys.stderr)
 
 
 def daemon_of(folder):
-    """The program fakesysfs: that of $FAKESYSFS, the one beside this file, or the one of the path."""
+    """The program fakesysfs: the one in $FAKESYSFS, the one beside this file, or the one on the path."""
     near = [os.path.join(folder, way) for way in ("out/fakesysfs", "fakesysfs", "../../bin/fakesysfs")]
-    told = os.environ.get("FAKESYSFS") or next(filter(os.path.isfile, near), None)
-    return told or shutil.which("fakesysfs") or "fakesysfs"
+    found = os.environ.get("FAKESYSFS") or next(filter(os.path.isfile, near), None)
+    return found or shutil.which("fakesysfs") or "fakesysfs"
 
 
 def end_with_parent():
-    """Asks the kernel to end this process in order, when the thread that has started it is gone."""
+    """Asks the kernel to send this process a SIGTERM when the thread that started it is gone."""
     LIBC.prctl(1, signal.SIGTERM)
 
 
 def start_daemon(description, at, options=(), name=None, said=None):
-    """Mounts a description, a text, also in the file `name`. The process, when the tree is there; else ValueError.
-    What the daemon says goes to the file `said`, where there is one, and is then told by the error."""
+    """Mounts a description: a text, which the file `name` may have too. Returns the process once the tree is there;
+    otherwise raises ValueError. What the daemon prints goes to the file `said`, if given, and into the error."""
     before, program = os.stat(at).st_dev, daemon_of(os.path.dirname(os.path.realpath(__file__)))
     is_main = threading.current_thread() is threading.main_thread()
     process = subprocess.Popen(
@@ -280,13 +282,13 @@ def start_daemon(description, at, options=(), name=None, said=None):
     while os.stat(at).st_dev == before:
         if process.poll() is not None or time.monotonic() > until:
             process.kill()
-            raise ValueError(text_of(said) or f"it is not mounted: status {process.wait()}")
+            raise ValueError(text_of(said) or f"fakesysfs did not mount it: status {process.wait()}")
         time.sleep(0.002)
     return process
 
 
 def text_of(file):
-    """What was written to a file, if there is one."""
+    """What was written to a file, if it is one."""
     return os.pread(file.fileno(), 1 << 20, 0).decode(errors="replace").strip() if file else ""
 
 
@@ -294,14 +296,14 @@ def text_of(file):
 
 
 def sender():
-    """What sends uevents inside of `fakesys -n`, where the module for that is beside this one."""
+    """The function that sends uevents inside `fakesys -n`, if its module is beside this one."""
     with contextlib.suppress(ImportError, KeyError):
         return os.environ["FAKESYS_EVENTS"] and __import__("fakesys_uevent").send
     return None
 
 
 class FakeSys(Tree):
-    """A tree that is there while a `with` is inside. Paths are those of /sys without /sys, also by links."""
+    """A tree that is mounted inside a `with`. Paths are those of /sys without /sys; they may go through links."""
 
     def __init__(self, description=None, options=()):
         self.is_here, self.options, self.process = description is None, options, None
@@ -331,36 +333,36 @@ class FakeSys(Tree):
                 self.process.wait()
             try:
                 os.rmdir(self.at)
-            except OSError:  # somebody is in it, or the daemon was killed
+            except OSError:  # a process is in it, or the daemon was killed
                 subprocess.run(["fusermount3", "-uz", self.at], check=False)
                 os.rmdir(self.at)
 
     def path(self, path):
-        """Where a node is found by this process."""
+        """Where this process finds a node."""
         return self.at + path
 
     def real(self, path):
-        """The word of a node for a line, where links on the way to it are followed."""
+        """The path of a node as a word of a line, with the links on the way followed."""
         return escaped_path(os.path.realpath(self.at + path)[len(self.at) :])
 
     def read(self, path):
         return Path(self.path(path)).read_bytes()
 
     def set(self, path, text):
-        """A file's new text. Bytes are taken as they are; behind a str comes a newline, as drivers have it."""
+        """Sets a file's text. Bytes are taken as they are; a str gets a newline at its end, as drivers write it."""
         data = text if isinstance(text, bytes) else os.fsencode(f"{text}\n")
         self.give(f"set {self.real(path)} {escaped_text(data)}")
 
     def fail(self, path, number):
-        """Each read and write of a file fails with this error number; none with 0."""
+        """Lets each read and write of a file fail with this error number; 0 ends that."""
         self.give(f"fail {self.real(path)} {number}")
 
     def late(self, path, milliseconds):
-        """Each read and write begins so much later: a removal does not wait for it."""
+        """Lets each read and write begin this much later: a removal does not wait for it."""
         self.give(f"late {self.real(path)} {milliseconds}")
 
     def slow(self, path, milliseconds):
-        """Each read and write takes so long: a removal waits for it."""
+        """Lets each read and write take this long: a removal waits for it."""
         self.give(f"slow {self.real(path)} {milliseconds}")
 
     def hide(self, path):
@@ -370,36 +372,36 @@ class FakeSys(Tree):
         self.give(f"show {self.real(path)}")
 
     def notify(self, path):
-        """Wakes who polls a file, as sysfs_notify() does."""
+        """Wakes those that poll a file, as sysfs_notify() does."""
         self.give(f"notify {self.real(path)}")
 
     def unplug(self, path):
-        """Removes a device, with all below it and the links that lead into it."""
+        """Removes a device, everything below it, and the links that lead into it."""
         self.give(f"unplug {self.real(path)}")
 
     def plug(self, path):
-        """A device comes again, as the description has it."""
+        """Creates a device again, as the description has it."""
         self.give(f"plug {escaped_path(path)}")
 
     def inside(self, command):
         return [*([] if self.is_here else [sys.executable, os.path.realpath(__file__), self.at]), *command]
 
     def popen(self, command, **more):
-        """A command that sees the tree in place of the folders of /sys: a subprocess.Popen."""
+        """Starts a command that sees the tree in place of the directories of /sys: a subprocess.Popen."""
         return subprocess.Popen(self.inside(command), **more)
 
     def run(self, command, check=False, **more):
-        """The same, when it has ended: as subprocess.run()."""
+        """Runs such a command to its end, as subprocess.run() does."""
         return subprocess.run(self.inside(command), check=check, **more)
 
 
 def run_inside(tree, command):
-    """Becomes a command that sees a tree, mounted by another process, in place of the folders of /sys."""
+    """Becomes a command that sees a tree, mounted by another process, in place of the directories of /sys."""
     enter_spaces()
     cover_sys(tree)
     os.environ["FAKESYS"] = os.path.join(tree, ".control")
     for name in ("FAKESYS_DESCRIPTION", "FAKESYS_EVENTS"):
-        os.environ.pop(name, None)  # those of a run around this
+        os.environ.pop(name, None)  # (those of a run around this one)
     os.execvp(command[0], command)
 
 

@@ -1,4 +1,5 @@
-"""A run of fakesys: name spaces of its own, a tree over the folders of /sys, a command in it, lines at their times."""
+# SPDX-License-Identifier: MIT OR Apache-2.0
+"""A run of fakesys: new namespaces, a tree over the directories of /sys, a command in it, and lines at their times."""
 import contextlib
 import errno
 import fcntl
@@ -17,31 +18,28 @@ import time
 import fakesys
 import fakesys_uevent
 
-CANNOT, WRONG = (
-    125,
-    2,
-)  # the statuses where the machine does not let us, and of wrong words, lines and descriptions
-HANDED_ON = (signal.SIGTERM, signal.SIGHUP, signal.SIGINT, signal.SIGQUIT, signal.SIGUSR1, signal.SIGUSR2)
-FROM_THE_KERNEL = 0x80  # of a signal: from a terminal it reaches the command by itself
+CANNOT, WRONG = 125, 2  # exit statuses: the machine forbids it; wrong arguments, lines or descriptions
+PASSED_ON = (signal.SIGTERM, signal.SIGHUP, signal.SIGINT, signal.SIGQUIT, signal.SIGUSR1, signal.SIGUSR2)
+FROM_THE_KERNEL = 0x80  # of a signal: a terminal sends it to the command too
 ON_DEATH_OF_PARENT = 1
 SET_FLAGS, UP_AND_RUNNING = 0x8914, 0x41  # of a network device
 NO_SUID, NO_DEVICES, NO_PROGRAMS, RELATIVE_TIMES = 2, 4, 8, 1 << 21
 NODES = ("null", "zero", "full", "random", "urandom", "tty")
-# Where the tree is mounted: a directory that is there on each machine, and nobody misses in the run.
+# Where the tree is mounted: a directory that every machine has, and that no one misses in the run.
 PLACES = ("/sys/fs/fuse/connections", "/sys/kernel/debug", "/sys/kernel/security")
-GRACE = 3  # seconds for a command that was told to end
-RESTRICTED = "(in a container or under AppArmor: as root, or with name spaces allowed)"
+GRACE = 3  # seconds for a command to end after a SIGTERM
+RESTRICTED = "(in a container or under AppArmor: run it as root, or allow user namespaces)"
 
 
 class Refused(Exception):
-    """What a user gave is wrong: told with status 2."""
+    """Something that the user gave is wrong: a message and status 2."""
 
 
-# ---- what the words name ----
+# ---- files of the command line ----
 
 
 def read_text(name):
-    """A description or a timeline, by its name; - is standard input."""
+    """The text of a description or a timeline, by its name; - is standard input."""
     try:
         source = 0 if name == "-" else name
         with open(source, encoding="utf-8", errors="surrogateescape", closefd=name != "-") as file:
@@ -51,13 +49,13 @@ def read_text(name):
 
 
 def timed(line, before):
-    """The time and the words of a line of a timeline; after + the time counts from the line before."""
+    """The time of a timeline's line, and the line. After a + the time counts from the line before."""
     found = re.fullmatch(r"(\+?)(\d+(?:\.\d*)?|\.\d+)[ \t]+(\S.*)", line)
     if not found:
-        raise Refused("not SECONDS LINE")
+        raise Refused("it must be SECONDS LINE")
     seconds = float(found[2]) + (before if found[1] else 0)
     if seconds < before:
-        raise Refused("it goes back in time")
+        raise Refused("its time is before that of the last line")
     return seconds, found[3]
 
 
@@ -75,65 +73,65 @@ def read_timeline(name):
     return lines
 
 
-# ---- name spaces ----
+# ---- namespaces ----
 
 
-def handed_on():
-    """The signals that are handed on. What was ignored from the start stays so (nohup, a job in the background)."""
-    return [number for number in HANDED_ON if signal.getsignal(number) != signal.SIG_IGN]
+def passed_on():
+    """The signals that are passed on. One that was ignored from the start stays ignored (nohup, a background job)."""
+    return [number for number in PASSED_ON if signal.getsignal(number) != signal.SIG_IGN]
 
 
-def watch(child, hands_on_all):
-    """Waits for a process, and hands signals on to it. Its status."""
-    waited = [*handed_on(), signal.SIGCHLD]
+def watch(child, passes_all):
+    """Waits for a process, and passes signals on to it. Returns its status."""
+    waited = [*passed_on(), signal.SIGCHLD]
     signal.pthread_sigmask(signal.SIG_BLOCK, waited)
     while True:
         pid, status = os.waitpid(child, os.WNOHANG)
         if pid:
             return 128 + os.WTERMSIG(status) if os.WIFSIGNALED(status) else os.WEXITSTATUS(status)
         got = signal.sigwaitinfo(waited)
-        if got.si_signo != signal.SIGCHLD and (hands_on_all or got.si_code != FROM_THE_KERNEL):
+        if got.si_signo != signal.SIGCHLD and (passes_all or got.si_code != FROM_THE_KERNEL):
             os.kill(child, got.si_signo)
 
 
-def in_spaces(job, network=False, hands_on_all=False):
-    """Runs a job as process 1 of name spaces of its own: its status. When either ends all ends, also by SIGKILL."""
-    # (a network name space of the machine's root hears of the machine's own devices)
+def in_spaces(job, network=False, passes_all=False):
+    """Runs a job as process 1 of new namespaces: its status. If either process ends, even by SIGKILL, everything ends."""
+    # (a network namespace that belongs to the machine's root gets the events of the machine's own devices)
     kinds = fakesys.NEW_PROCESSES | (fakesys.NEW_NETWORK | fakesys.NEW_USERS if network else 0)
     try:
         fakesys.enter_spaces(kinds)
     except OSError as error:
-        print(f"fakesys: no name spaces: {error.strerror} {RESTRICTED}", file=sys.stderr)
+        print(f"fakesys: cannot create namespaces: {error.strerror} {RESTRICTED}", file=sys.stderr)
         return CANNOT
     life, ours = os.pipe()
     mask = hold_signals()
     child = os.fork()
     if child:
-        return watch(child, hands_on_all)
+        return watch(child, passes_all)
     os.close(ours)
     os._exit(first_process(job, life, mask))
 
 
 def hold_signals():
-    """Holds the signals that are handed on until the mask before, which it answers, is set again: process 1 would lose
-    one that comes before it handles it."""
-    return signal.pthread_sigmask(signal.SIG_BLOCK, handed_on())
+    """Blocks the signals that are passed on, and returns the mask before, which the caller restores. Otherwise process 1
+    would lose a signal that arrives before it has a handler."""
+    return signal.pthread_sigmask(signal.SIG_BLOCK, passed_on())
 
 
 def end_at_once(number, _):
-    """Ends process 1, and with it all that is in its name spaces."""
+    """Ends process 1, and with it everything in its namespaces."""
     os._exit(128 + number)
 
 
 def first_process(job, life, mask):
-    """What process 1 does: its status. A signal ends it, until the job hands it on."""
+    """What process 1 does: its status. A signal ends it, until the job passes signals on."""
     fakesys.system_call("prctl", ON_DEATH_OF_PARENT, signal.SIGKILL)
-    for number in handed_on():
+    for number in passed_on():
         signal.signal(number, end_at_once)
     signal.pthread_sigmask(signal.SIG_SETMASK, mask)
     if select.select([life], [], [], 0)[0]:
-        return CANNOT  # the parent was killed before that
-    with contextlib.suppress(OSError):  # where /proc is masked the machine's stays, which serves nearly all
+        return CANNOT  # the parent was already killed
+    with contextlib.suppress(OSError):  # if /proc is masked, the machine's stays, which suffices for most
         fakesys.mount("proc", "/proc", "proc", NO_SUID | NO_DEVICES | NO_PROGRAMS)
     try:
         return job()
@@ -149,20 +147,20 @@ def first_process(job, life, mask):
 
 
 def loopback_up():
-    """The network name space's own 127.0.0.1."""
+    """Sets up 127.0.0.1 in the network namespace."""
     with socket.socket(socket.AF_INET, socket.SOCK_DGRAM) as any_socket:
         fcntl.ioctl(any_socket, SET_FLAGS, struct.pack("16sh", b"lo", UP_AND_RUNNING))
 
 
 def kept_flags(path):
-    """The flags of a mount that a user name space may not take away."""
+    """The flags of a mount that a user namespace may not remove."""
     flags = os.statvfs(path).f_flag
     times = RELATIVE_TIMES if flags & 0x1000 else 0
     return flags & (NO_SUID | NO_DEVICES | NO_PROGRAMS | 0x400 | 0x800) | times
 
 
 def own_dev():
-    """A /dev of the run's own. Its nodes are the machine's, but read-only: no owner or mode of them can be changed."""
+    """Gives the run its own /dev. Its nodes are the machine's, but read-only: their owners and modes cannot change."""
     nodes = [(f"/dev/{name}", os.open(f"/dev/{name}", os.O_PATH)) for name in NODES if os.path.exists(f"/dev/{name}")]
     fakesys.mount("tmpfs", "/dev", "tmpfs", NO_SUID, "mode=755")
     for path, file in nodes:
@@ -181,8 +179,8 @@ def own_dev():
 
 
 def own_run():
-    """A /run/udev of the run's own: the machine's udev and its data are not seen. A file where udevd's socket would be
-    tells libudev that there are events."""
+    """Gives the run its own /run/udev, so that the machine's udev and its data are hidden. A file in place of udevd's
+    socket makes libudev expect events."""
     fakesys.mount("tmpfs", "/run/udev" if os.path.isdir("/run/udev") else "/run", "tmpfs", NO_SUID, "mode=755")
     os.makedirs("/run/udev/rules.d", exist_ok=True)
     with open(fakesys_uevent.UDEV_CONTROL, "w", encoding="ascii"):
@@ -193,7 +191,7 @@ def own_run():
 
 
 class Place:
-    """Where a tree is mounted in a run. Where no directory is free one is made, and a child takes it away."""
+    """Where a tree is mounted in a run. If no directory is free, one is created, and a child process removes it."""
 
     def __init__(self, covers_all, tops):
         free = [place for place in PLACES if os.path.isdir(place) and place.split("/")[2] not in tops]
@@ -211,34 +209,34 @@ class Place:
 
 
 def remove_afterwards(folder):
-    """Starts a child that removes a folder when this process ends, however; and what to close for that."""
+    """Starts a child that removes a directory however this process ends. Returns the child, and what to close for that."""
     ends, life = os.pipe()
     child = os.fork()
     if not child:
         os.setsid()
         os.close(life)
         os.read(ends, 1)
-        os.rmdir(folder)  # for it nothing is mounted there
+        os.rmdir(folder)  # in its namespace nothing is mounted there
         os._exit(0)
     os.close(ends)
     return child, life
 
 
 def start_daemon(options, place, said):
-    """Mounts the description of a run. What the daemon says goes to a file, where one is given."""
-    name = options.description if os.path.isfile(options.description) else None  # what is a pipe was read
+    """Mounts the description of a run. What the daemon prints goes to a file, if one is given."""
+    name = options.description if os.path.isfile(options.description) else None  # (a pipe was read already)
     words = ["-o", "allow_other"] + (["--slots", str(options.slots)] if options.slots is not None else [])
     try:
         return fakesys.start_daemon(options.text, place.at, words, name, said)
     except FileNotFoundError:
-        raise OSError("fakesysfs is not there: it is built by make, or named by $FAKESYSFS") from None
+        raise OSError("fakesysfs is missing: build it with make, or name it in $FAKESYSFS") from None
     except ValueError as problem:
         raise Refused(f"{options.description}: {problem}") from None
 
 
-def tell_environment(options, place):
-    """What a command finds in its environment."""
-    kept = os.memfd_create("description")  # it is read as a file of this process
+def set_environment(options, place):
+    """Sets what a command finds in its environment."""
+    kept = os.memfd_create("description")  # commands read it as a file of this process
     os.write(kept, os.fsencode(options.text))
     os.environ["FAKESYS_DESCRIPTION"] = f"/proc/{os.readlink('/proc/self')}/fd/{kept}"
     os.environ["FAKESYS"] = f"{place.at}/.control"
@@ -248,7 +246,7 @@ def tell_environment(options, place):
 
 
 def open_tree(options, place, said=None):
-    """Mounts the description of a run, and lays it over /sys. The daemon, and the tree."""
+    """Mounts the description of a run over /sys. Returns the daemon and the tree."""
     daemon = start_daemon(options, place, said)
     if not options.all:
         fakesys.cover_sys(place.at)
@@ -256,13 +254,13 @@ def open_tree(options, place, said=None):
         loopback_up()
         own_dev()
         own_run()
-    tell_environment(options, place)
+    set_environment(options, place)
     send = fakesys_uevent.send if options.network else None
     return daemon, fakesys.Tree(os.environ["FAKESYS"], fakesys.Description(options.text), send)
 
 
 def close_tree(daemon):
-    """Lets the daemon end in order, where it does so at once. Then process 1 ends, and the kernel takes away all."""
+    """Gives the daemon a second to exit. Then process 1 ends, and the kernel removes everything."""
     daemon.terminate()
     with contextlib.suppress(subprocess.TimeoutExpired):
         daemon.wait(1)
@@ -276,7 +274,7 @@ def status_of(process):
 
 
 def start_command(command, **more):
-    """Starts a command. Who cannot be started has the status that a shell gives."""
+    """Starts a command. If it cannot be started, the status is that of a shell."""
     try:
         return subprocess.Popen(command, **more), 0
     except OSError as error:
@@ -284,26 +282,26 @@ def start_command(command, **more):
         return None, 127 if error.errno == errno.ENOENT else 126
 
 
-def hand_signals_on(process):
-    """What this process is told the command is told; asked to end, it has some seconds for that."""
+def pass_signals_on(process):
+    """Passes the signals of this process on to the command. After a SIGTERM it has some seconds to exit."""
 
     def send(number):
-        if process.returncode is None:  # (Popen.send_signal() would reap it, and wait_for() not hear of it)
-            with contextlib.suppress(ProcessLookupError):  # it may be reaped just now
+        if process.returncode is None:  # (Popen.send_signal() would reap it, and wait_for() would miss that)
+            with contextlib.suppress(ProcessLookupError):  # it may have been reaped just now
                 os.kill(process.pid, number)
 
-    def hand_on(number, _):
+    def pass_on(number, _):
         send(number)
         if number == signal.SIGTERM:
             signal.setitimer(signal.ITIMER_REAL, GRACE)
 
-    for number in handed_on():
-        signal.signal(number, hand_on)
+    for number in passed_on():
+        signal.signal(number, pass_on)
     signal.signal(signal.SIGALRM, lambda *_: send(signal.SIGKILL))
 
 
 def wait_for(process):
-    """Waits for a command, and reaps what else ends meanwhile, as process 1 has to. Its status."""
+    """Waits for a command, and reaps other processes, as process 1 has to. Returns the command's status."""
     while True:
         ended = os.waitid(os.P_ALL, 0, os.WEXITED | os.WNOWAIT).si_pid
         if ended == process.pid:
@@ -313,7 +311,7 @@ def wait_for(process):
 
 
 def play(tree, lines, name, is_over):
-    """Gives lines at their times from now on, until all is over, and tells which are refused."""
+    """Gives lines at their times from now on, until the run is over, and prints which are refused."""
     start = time.monotonic()
     for seconds, line in lines:
         if is_over.wait(max(0, start + seconds - time.monotonic())):
@@ -321,20 +319,20 @@ def play(tree, lines, name, is_over):
         try:
             tree.give(line)
         except OSError as error:
-            # (no line reaches a tree that is being taken away)
+            # (no line reaches a tree that is being removed)
             if not is_over.is_set():
                 print(f"fakesys: {name}: {error.strerror}", file=sys.stderr)
 
 
 def run_command(options, lines, place):
-    """Runs the command of a run in its tree: its status."""
+    """Runs the command of a run in its tree. Returns its status."""
     daemon, tree = open_tree(options, place)
     mask = hold_signals()
     release = lambda: signal.pthread_sigmask(signal.SIG_SETMASK, mask)
     process, status = start_command(options.command, preexec_fn=release)
     if process:
-        os.setsid()  # from here on each signal that comes was sent on purpose
-        hand_signals_on(process)
+        os.setsid()  # from now on every signal was sent on purpose
+        pass_signals_on(process)
         release()
         is_over = threading.Event()
         threading.Thread(target=play, args=(tree, lines, options.timeline, is_over), daemon=True).start()
@@ -348,24 +346,24 @@ def check_fuse():
     try:
         os.close(os.open("/dev/fuse", os.O_RDWR))
     except OSError as error:
-        raise OSError(f"/dev/fuse: {error.strerror}: nothing can be mounted here") from None
+        raise OSError(f"/dev/fuse: {error.strerror}: cannot mount anything here") from None
 
 
 def run(options):
-    """`fakesys [OPTIONS] DESCRIPTION COMMAND ..`: the status."""
+    """`fakesys [OPTIONS] DESCRIPTION COMMAND ..`: its exit status."""
     if options.timeline == options.description == "-":
-        raise Refused("standard input cannot be both, the description and the timeline")
+        raise Refused("standard input cannot be both the description and the timeline")
     options.text = read_text(options.description)
     lines = read_timeline(options.timeline) if options.timeline else []
     return with_tree(options, lambda place: run_command(options, lines, place))
 
 
-def with_tree(options, job, hands_on_all=False):
-    """Runs a job in name spaces, with a place for its tree: its status."""
-    signal.signal(signal.SIGCHLD, signal.SIG_DFL)  # where it is ignored no child can be waited for
+def with_tree(options, job, passes_all=False):
+    """Runs a job in namespaces, with a place for its tree. Returns its status."""
+    signal.signal(signal.SIGCHLD, signal.SIG_DFL)  # if it is ignored, a parent cannot wait for its child
     check_fuse()
     place = Place(options.all, fakesys.Description(options.text).tops())
     try:
-        return in_spaces(lambda: job(place), options.network, hands_on_all)
+        return in_spaces(lambda: job(place), options.network, passes_all)
     finally:
         place.leave()

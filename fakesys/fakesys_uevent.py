@@ -1,4 +1,5 @@
-"""Uevents in the network name space that one is in: the kernel's and, where no udevd runs there, libudev's behind it."""
+# SPDX-License-Identifier: MIT OR Apache-2.0
+"""Uevents in the current network namespace: the kernel's, followed by libudev's unless a udevd runs there."""
 import os
 import re
 import socket
@@ -14,7 +15,7 @@ MASK, FACTOR = 0xFFFFFFFF, 0x5BD1E995
 
 
 def hash_of(text):
-    """MurmurHash2, by which libudev's listeners filter."""
+    """MurmurHash2, which the filters of libudev's listeners use."""
     data = text.encode()
     result = len(data)
     while len(data) >= 4:
@@ -43,7 +44,7 @@ def packed(words):
 
 
 def send_kernels(channel, action, path, words):
-    """Hands the kernel an event, which it gives to all listeners here, with its number. OSError where it refuses."""
+    """Sends an event by the kernel, which numbers it and passes it to all listeners here. OSError if it refuses."""
     body = packed([f"{action}@{path}", *words])
     head = struct.pack("=IHHII", 16 + len(body), FIRST_TYPE, REQUEST_WITH_ANSWER, 1, 0)
     channel.sendto(head + body, (0, 0))
@@ -53,7 +54,7 @@ def send_kernels(channel, action, path, words):
 
 
 def send_udevs(channel, subsystem, kind, words):
-    """What udevd would send behind it."""
+    """Sends what udevd would send after the kernel's event."""
     body = packed(words)
     head = struct.pack("=8sIIII", b"libudev", socket.htonl(UDEV_MAGIC), 40, 40, len(body))
     tags = [tag for word in words if word.startswith("TAGS=") for tag in word[5:].split(":") if tag]
@@ -64,7 +65,7 @@ def send_udevs(channel, subsystem, kind, words):
 
 
 def has_udevd():
-    """Whether a udevd answers here: it will send libudev's event by itself."""
+    """Whether a udevd runs here: it will send libudev's event by itself."""
     try:
         return stat.S_ISSOCK(os.stat(UDEV_CONTROL).st_mode)
     except OSError:
@@ -80,12 +81,12 @@ def last_number():
 
 
 def dev_name(word):
-    """The kernel tells a node's name, libudev its path."""
+    """The kernel sends the name of a node, libudev its path."""
     return re.sub("^DEVNAME=(?!/)", "DEVNAME=/dev/", word)
 
 
 def send(action, path, subsystem, more=()):
-    """Sends an event of a device. One must be root of the user name space that owns the network's."""
+    """Sends an event of a device. Only root of the user namespace that owns the network namespace may do this."""
     words = [f"ACTION={action}", f"DEVPATH={path}", f"SUBSYSTEM={subsystem}", *more]
     with socket.socket(socket.AF_NETLINK, socket.SOCK_RAW, KERNEL_EVENTS) as channel:
         channel.bind((0, 0))

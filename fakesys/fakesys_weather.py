@@ -1,18 +1,19 @@
-"""The lines of a storm: plugs, unplugs, faults and delays of devices, all from a seed."""
+# SPDX-License-Identifier: MIT OR Apache-2.0
+"""The lines of a storm: plugs, unplugs, faults and delays of devices, which all follow from a seed."""
 
 import os
 
 import fakesys_run
 
-ERRORS = (5, 6, 11, 16, 19, 22, 61, 95, 110)  # what drivers answer: EIO, ENXIO, EAGAIN, EBUSY, ENODEV ..
+ERRORS = (5, 6, 11, 16, 19, 22, 61, 95, 110)  # what drivers return: EIO, ENXIO, EAGAIN, EBUSY, ENODEV ..
 KINDS = ("plug", "fail", "late", "slow", "notify")
-MOST_FAULTS = 8  # at a time: more, and a reader sees nothing else
-PAUSE = 100  # milliseconds between two turns of kept lines
+MOST_FAULTS = 8  # at a time: with more, a reader sees nothing else
+PAUSE = 100  # milliseconds between two turns of replayed lines
 MASK = (1 << 64) - 1
 
 
 class Lot:
-    """SplitMix64: of a seed the same numbers on each machine and in each Python."""
+    """SplitMix64: a seed gives the same numbers on every machine and in every Python."""
 
     def __init__(self, seed):
         self.state = seed & MASK
@@ -32,13 +33,13 @@ def is_in(path, top):
 
 
 class Weather:
-    """The lines of a storm. All follows from the description, the devices, the kinds, the rate and the seed."""
+    """The lines of a storm. They follow from the description, the devices, the kinds, the rate and the seed."""
 
     def __init__(self, description, options):
         self.lot, self.rate, self.kinds = Lot(options.seed), options.rate, options.kinds
         self.devices = options.device or description.devices()
         if not self.devices:
-            raise fakesys_run.Refused("no device in it: name a directory by --device")
+            raise fakesys_run.Refused("the description has no device: name a directory with --device")
         for path in set(self.devices) - description.directories():
             raise fakesys_run.Refused(f"the description has no directory {path}")
         self.gone, self.faults, self.stay = [], {}, 2000
@@ -47,7 +48,7 @@ class Weather:
         self.folders = sorted(path for path in lists if path.startswith(("/class/", "/bus/")))
 
     def lines(self):
-        """Without an end: the milliseconds, and the line. The lists of devices come late from the start."""
+        """Endless: the milliseconds, and the line. The lists of devices are late from the start."""
         at = 0
         for path in self.folders if "late" in self.kinds else ():
             yield at, self.late_list(path)
@@ -71,7 +72,7 @@ class Weather:
 
     def plug(self, device):
         self.gone.remove(device)
-        self.stay = 6000  # what has come stays for a while, so that it is seen
+        self.stay = 6000  # a new device stays for a while, so that readers see it
         return f"plug {device}"
 
     def unplug(self, device):
@@ -84,17 +85,17 @@ class Weather:
         return " ".join([*fault, "0"])
 
     def late_list(self, path):
-        """So long it takes until a name in a list of devices is found: mostly some milliseconds."""
+        """Delays each look-up in a list of devices, mostly by some milliseconds."""
         return f"late {path} {1 + self.lot.below(6) * self.lot.below(6)}"
 
     def fault(self, kind):
-        """A file that fails, comes late or slowly, or tells of news; a directory whose names come late."""
+        """A file that fails, is late or slow, or is notified; a directory whose names are late."""
         where = self.lot.below(3) if kind == "late" else 2
         if where == 0 and self.folders:
             return self.late_list(self.lot.one_of(self.folders))
         here = [path for path in (self.devices if where == 1 else self.files) if not self.is_gone(path)]
         if not here:
-            return "# all are gone"
+            return "# all devices are gone"
         path = self.lot.one_of(here)
         if kind == "notify":
             return f"notify {path}"
@@ -103,7 +104,7 @@ class Weather:
 
 
 def repeated(lines, devices):
-    """Without an end: these lines again and again, with all devices made anew between."""
+    """Endless: these lines again and again, with all devices created again between two turns."""
     base, gone = 0, []
     outer = [path for path in devices if not any(path != top and is_in(path, top) for top in devices)]
     for _, line in lines:

@@ -1,7 +1,7 @@
-/* fakesysfs: a live sysfs, made by the lines of a description, mounted as a file system by libfuse3 (3.10
- * or later).
+/* SPDX-License-Identifier: MIT OR Apache-2.0 */
+/* fakesysfs: a live sysfs, made by the lines of a description and mounted with libfuse3 (3.10 or later).
  *
- * * This file has the words of its command line, and the mount's beginning and end. */
+ * This file parses the command line, and begins and ends the mount. */
 #include "fakesysfs.h"
 #include <stddef.h>
 
@@ -9,22 +9,22 @@ static const char usage[] =
     "usage: fakesysfs [OPTION ..] DESCRIPTION MOUNTPOINT\n"
     "       fakesysfs --check [--slots N] DESCRIPTION\n"
     "\n"
-    "Mounts a live sysfs. DESCRIPTION is a file of lines that make it, or - for\n"
-    "standard input. Lines that are written to MOUNTPOINT/.control change it.\n"
+    "Mount a live sysfs. DESCRIPTION is a file of lines that make the tree, or -\n"
+    "for standard input. Lines written to MOUNTPOINT/.control change the tree.\n"
     "`fusermount3 -u MOUNTPOINT` ends it.\n"
     "\n"
-    "    --slots N              nodes that there may be at once, 1 to %u\n"
-    "                           (twice those of DESCRIPTION, at least 1024)\n"
-    "    --check                only reads DESCRIPTION, and tells what is wrong\n"
-    "    -h   --help            these words\n"
-    "    -V   --version         the version\n"
-    "    -f                     in the foreground: what is refused is told there\n"
-    "    -d   -o debug          the same, with each of FUSE's requests\n"
-    "    -s                     one thread\n"
-    "    -o max_threads=N       threads that there may be (1024): each show that\n"
-    "                           sleeps and each rm that waits has one\n"
-    "    -o max_idle_threads=N  threads that are kept for the next work (64)\n"
-    "    -o clone_fd            a descriptor of /dev/fuse for each thread\n";
+    "    --slots N              maximum number of nodes, 1 to %u (default: twice\n"
+    "                           those of DESCRIPTION, at least 1024)\n"
+    "    --check                only read DESCRIPTION, and print its wrong lines\n"
+    "    -h   --help            print help\n"
+    "    -V   --version         print version\n"
+    "    -f                     stay in the foreground, and print refused lines\n"
+    "    -d   -o debug          the same, and print each request of FUSE\n"
+    "    -s                     use one thread\n"
+    "    -o max_threads=N       maximum number of threads (default 1024): each show\n"
+    "                           that sleeps and each rm that waits takes one\n"
+    "    -o max_idle_threads=N  threads that are kept for later work (default 64)\n"
+    "    -o clone_fd            use one descriptor of /dev/fuse for each thread\n";
 
 struct words {
     char *slots_word, *threads_word, *description;
@@ -41,7 +41,7 @@ static const struct fuse_opt known_words[] = {
     FUSE_OPT_END,
 };
 
-/* Takes the first word that is no option. The others are libfuse's. */
+/* Takes the first argument that is not an option. The others are libfuse's. */
 static int take_word(void *data, const char *word, int key, struct fuse_args *rest)
 {
     struct words *words = data;
@@ -57,7 +57,7 @@ static bool read_count(const char *what, const char *word, uint64_t most, uint64
 {
     if (!word || (read_number(word, most, out) && *out))
         return true;
-    fprintf(stderr, "fakesysfs: %s: 1 to %llu are wanted, not %s\n", what, (unsigned long long)most, word);
+    fprintf(stderr, "fakesysfs: %s must be 1 to %llu, not %s\n", what, (unsigned long long)most, word);
     return false;
 }
 
@@ -69,7 +69,7 @@ static bool read_words(struct fuse_args *args, struct words *words)
         && read_count("-o max_threads", words->threads_word, 100000, &words->threads);
 }
 
-static int tell_usage(FILE *file, int status)
+static int print_usage(FILE *file, int status)
 {
     fprintf(file, usage, KT_SLOTS_MAX);
     if (!status) {
@@ -79,13 +79,13 @@ static int tell_usage(FILE *file, int status)
     return status;
 }
 
-static int tell_version(void)
+static int print_version(void)
 {
-    printf("fakesysfs %d.%d, libfuse %s\n", KT_VERSION_MAJOR, KT_VERSION_MINOR, fuse_pkgversion());
+    printf("fakesysfs %d.%d.%d, libfuse %s\n", KT_VERSION_MAJOR, KT_VERSION_MINOR, KT_VERSION_PATCH, fuse_pkgversion());
     return 0;
 }
 
-/* Serves until it is unmounted or a signal comes. */
+/* Serves requests until the unmount or a signal. */
 static int loop(struct fuse_session *session, const struct fuse_cmdline_opts *options, unsigned threads)
 {
     unsigned idle = options->max_idle_threads < 1024 ? options->max_idle_threads : 64;
@@ -98,17 +98,17 @@ static int loop(struct fuse_session *session, const struct fuse_cmdline_opts *op
     fuse_loop_cfg_set_clone_fd(config, (unsigned)options->clone_fd);
     fuse_loop_cfg_set_idle_threads(config, idle);
     fuse_loop_cfg_set_max_threads(config, threads);
-    int answer = fuse_session_loop_mt(session, config);
+    int result = fuse_session_loop_mt(session, config);
     fuse_loop_cfg_destroy(config);
-    return answer;
+    return result;
 #else
     struct fuse_loop_config config = {.clone_fd = options->clone_fd, .max_idle_threads = idle};
-    (void)threads; /* there is no bound of them */
+    (void)threads; /* (this version has no limit) */
     return fuse_session_loop_mt(session, &config);
 #endif
 }
 
-/* Mounts, and serves. The status. */
+/* Mounts the tree and serves it. Returns the exit status. */
 static int serve(struct fuse_session *session, const struct fuse_cmdline_opts *options, unsigned threads)
 {
     int status = 1;
@@ -117,7 +117,7 @@ static int serve(struct fuse_session *session, const struct fuse_cmdline_opts *o
     if (!fuse_session_mount(session, options->mountpoint)) {
         if (!fuse_daemonize(options->foreground)) {
             begin_storms();
-            status = loop(session, options, threads) < 0; /* the number of a signal is no fault */
+            status = loop(session, options, threads) < 0; /* (the number of a signal is not an error) */
             end_storms();
         }
         fuse_session_unmount(session);
@@ -129,11 +129,11 @@ static int serve(struct fuse_session *session, const struct fuse_cmdline_opts *o
 static int run(struct fuse_args *args, const struct words *words, const struct fuse_cmdline_opts *options)
 {
     if (options->show_help)
-        return tell_usage(stdout, 0);
+        return print_usage(stdout, 0);
     if (options->show_version)
-        return tell_version();
+        return print_version();
     if (!words->description || !options->mountpoint == !words->only_check)
-        return tell_usage(stderr, 2);
+        return print_usage(stderr, 2);
     if (words->only_check)
         return !load_description(words->description, (uint32_t)words->slots);
     struct fuse_session *session = fuse_session_new(args, &operations, sizeof operations, NULL);

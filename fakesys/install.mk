@@ -1,4 +1,5 @@
-# Installs fakesys, its tools, man page, modules, examples and words for users; the Makefile includes this file.
+# SPDX-License-Identifier: MIT OR Apache-2.0
+# Installs fakesys, its tools, manual page, modules, examples and document; the Makefile includes this file.
 #
 #     make install [PREFIX=/usr/local] [DESTDIR=..]        make uninstall ..
 PREFIX ?= /usr/local
@@ -13,7 +14,7 @@ install: out/fakesysfs
 	install -m 755 out/fakesysfs $(PROGRAMS) $(DESTDIR)$(PREFIX)/bin
 	install -m 644 $(MODULES) $(SHARE)/fakesys
 	install -m 644 $(EXAMPLES) $(SHARE)/fakesys/examples
-	install -m 644 ../docs/FAKESYS.md $(SHARE)/doc/fakesys
+	install -m 644 ../docs/FAKESYS.md ../LICENSE-MIT ../LICENSE-APACHE ../NOTICE $(SHARE)/doc/fakesys
 	install -m 644 fakesys.1 $(MANUALS)
 	for name in fakesysfs $(filter-out fakesys,$(PROGRAMS)); do \
 	    echo '.so man1/fakesys.1' > $(MANUALS)/$$name.1; done

@@ -1,9 +1,9 @@
-/* Listings: a directory's entries, `.` and `..` first, as they are at each call. What comes and goes
- * between two of them makes no other name come twice or be missed, since the last name is where the next
- * begins. */
+/* SPDX-License-Identifier: MIT OR Apache-2.0 */
+/* Listings: the entries of a directory, `.` and `..` first, as they are at each call. A call continues after
+ * the last name. So if entries come or go between two calls, no other name is listed twice or missed. */
 #include "fakesysfs.h"
 
-/* Keeps the name that is listed at a place. */
+/* Stores the name that is listed at an index. */
 static int keep_name(struct listing *it, size_t at, const char *name)
 {
     if (at >= it->room) {
@@ -25,7 +25,7 @@ static int keep_name(struct listing *it, size_t at, const char *name)
     return 0;
 }
 
-/* The entry at a place: 0 is the directory, 1 the one above it. -ENOENT where there is no more. */
+/* Finds the entry at an index: 0 is the directory, 1 its parent. -ENOENT at the end. */
 static int find_entry(struct listing *it, fuse_ino_t dir, size_t at, char *name, struct stat *stat)
 {
     struct kt_key key = key_of(dir);
@@ -33,7 +33,7 @@ static int find_entry(struct listing *it, fuse_ino_t dir, size_t at, char *name,
     if (at < 2) {
         strcpy(name, at ? ".." : ".");
         if (at)
-            (void)!kt_parent(&tree, key, &key); /* the root is above itself, and so is what is gone */
+            (void)!kt_parent(&tree, key, &key); /* the root is its own parent, and so is what is gone */
         return describe(number_of(key), stat);
     }
     int64_t length = kt_next(&tree, key, last, strlen(last), name, KT_NAME_MAX);

@@ -1,13 +1,13 @@
-/* The tree, and what is kept of each of its nodes beside it: what stat(2) tells, and what its callbacks
- * show. */
+/* SPDX-License-Identifier: MIT OR Apache-2.0 */
+/* The tree, and what is stored about each node beside it: what stat(2) reports, and what its callbacks show. */
 #include "fakesysfs.h"
 
 struct kt_handle tree;
 struct kt_lock lock = KT_LOCK_INIT;
 
 static struct node *nodes;   /* by slot */
-static uint32_t slots_used;  /* as many as were ever given; the rest of `nodes` was never touched */
-static uint64_t inodes;      /* as many as were given */
+static uint32_t slots_used;  /* how many were ever used; the rest of `nodes` was never touched */
+static uint64_t inodes;      /* how many were used */
 
 static const uint64_t control_inode = 2;
 
@@ -26,7 +26,7 @@ struct node *node_of(fuse_ino_t number)
     return &nodes[key_of(number).slot];
 }
 
-/* Begins what is kept of a node. Its slot's last node is held by nobody any more, so nobody is at its
+/* Initializes what is stored about a node. No thread holds the slot's last node any longer, so none uses its
  * text. */
 static void keep(struct kt_key key, mode_t mode, struct kt_key target)
 {
@@ -103,7 +103,7 @@ bool is_below(struct kt_key key, struct kt_key top)
     return false;
 }
 
-/* The control file is as old as the root. */
+/* The control file has the times of the root. */
 static void describe_control(struct stat *out)
 {
     *out = (struct stat){
@@ -124,7 +124,7 @@ int describe(fuse_ino_t number, struct stat *out)
     if (!kt_stat(&tree, key_of(number), &stat))
         node->links = stat.links;
     else if (node->number == number)
-        node->links = S_ISDIR(node->mode) ? 2 : 1; /* with all below it, it is gone */
+        node->links = S_ISDIR(node->mode) ? 2 : 1; /* it is gone, with everything below it */
     else
         return -ENOENT;
     *out = (struct stat){

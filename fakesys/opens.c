@@ -1,13 +1,13 @@
-/* What is open: files, directories and the control file, and how they are read, written, listed and
- * polled. */
+/* SPDX-License-Identifier: MIT OR Apache-2.0 */
+/* Open files, directories and control files, and how they are read, written, listed and polled. */
 #include "fakesysfs.h"
 #include <fcntl.h>
 #include <poll.h>
 
 static LIST_HEAD(, open) opens;
 
-/* Ends a request by an error number below 0. A trap: a reply is what an operation does last. After it
- * another thread may be told to close what is open: nothing of it may be used any more. */
+/* Ends a request with a negative errno. The reply must be the last thing that an operation does: after it,
+ * another thread may close the `struct open`, so it must not be used any more. */
 static void refuse(fuse_req_t req, int64_t error)
 {
     fuse_reply_err(req, (int)-error);
@@ -29,17 +29,17 @@ static int open_file(struct open *it, int flags)
     struct node *node = node_of(it->number);
     bool reads = how != O_WRONLY, writes = how != O_RDONLY;
     if ((reads && !(node->mode & 0444)) || (writes && !(node->mode & 0222)))
-        return -EACCES; /* of root too, as in sysfs; the library knows the mode that it was made with */
+        return -EACCES; /* even for root, as in sysfs; the library only knows the first mode */
     int error = kt_open(&tree, key_of(it->number), reads, writes, &it->handle);
     if (!error)
         error = kt_post(&tree, key_of(it->number), &it->post);
     if (!error && flags & O_TRUNC)
-        clock_gettime(CLOCK_REALTIME, &node->changed); /* all that a truncation does */
-    return error == -ENOENT ? -ENODEV : error; /* it went meanwhile */
+        clock_gettime(CLOCK_REALTIME, &node->changed); /* the only effect of a truncation */
+    return error == -ENOENT ? -ENODEV : error; /* it was removed meanwhile */
 }
 
-/* Under the lock. A directory is held, so that its slot is not given again; one that is gone lists
- * nothing. */
+/* The caller holds the lock. A hold of a directory keeps its slot from being used again; a directory that is
+ * gone lists nothing. */
 static int begin_open(struct open *it, int flags)
 {
     struct stat stat;
@@ -97,7 +97,7 @@ void fs_open(fuse_req_t req, fuse_ino_t number, struct fuse_file_info *info)
     LIST_INSERT_HEAD(&opens, it, link);
     unlock_tree();
     info->fh = (uintptr_t)it;
-    info->direct_io = 1; /* each read and write comes to us */
+    info->direct_io = 1; /* every read and write reaches this program */
 #if FUSE_VERSION >= FUSE_MAKE_VERSION(3, 11)
     info->noflush = !is_control(number);
 #endif
@@ -107,10 +107,10 @@ void fs_open(fuse_req_t req, fuse_ino_t number, struct fuse_file_info *info)
     if (error)
         refuse(req, error);
     if (error || fuse_reply_open(req, info))
-        close_open(it); /* no release comes: it is not open, or nobody waits for it any more */
+        close_open(it); /* no release will come: it is not open, or its caller is gone */
 }
 
-/* Each close(2) of a descriptor. */
+/* Called at each close(2) of a descriptor. */
 void fs_flush(fuse_req_t req, fuse_ino_t number, struct fuse_file_info *info)
 {
     struct open *it = open_of(info);
@@ -132,8 +132,8 @@ void fs_release(fuse_req_t req, fuse_ino_t number, struct fuse_file_info *info)
 
 /* ---- reads, writes, listings ---- */
 
-/* A file that is late keeps its callers waiting before the library has a hold of its node, so that a removal
- * does not wait for them. */
+/* Callers of a late file wait before the library has a call of its node, so that a removal does not wait for
+ * them. */
 static void be_late(struct open *it)
 {
     unsigned late = node_of(it->number)->late;
@@ -143,17 +143,12 @@ static void be_late(struct open *it)
 
 static int64_t read_anew(struct open *it, size_t offset, char *page, size_t room)
 {
-    char text[KT_PAGE_SIZE];
     be_late(it);
-    int64_t length = kt_read(&it->handle, &lock, 0, text, sizeof text, show, it);
-    if (length < 0)
-        return length;
-    size_t from = MIN(offset, (size_t)length), size = MIN(room, (size_t)length - from);
-    memcpy(page, text + from, size);
-    return (int64_t)size;
+    int64_t shown = kt_read(&it->handle, &lock, 0, NULL, 0, show, it);
+    return shown < 0 ? shown : kt_copy(&it->handle, offset, page, room);
 }
 
-/* At the end of the text nothing is shown, but the node must be there. */
+/* At the end of the text nothing is shown, but the node must still exist. */
 static int64_t read_on(struct open *it, size_t offset, char *page, size_t room)
 {
     int64_t length = kt_copy(&it->handle, offset, page, room);
@@ -165,17 +160,17 @@ static int64_t read_on(struct open *it, size_t offset, char *page, size_t room)
     return error;
 }
 
-/* As seq_file reads: on in the text of the last show where the last read ended, also when the file has
- * gone; at any other place it is shown anew. */
+/* Reads as seq_file does. A read at the end of the last read continues in the text of the last show, even if
+ * the file is gone. At any other offset the file is shown again. */
 static int64_t read_text(struct open *it, size_t offset, char *page, size_t room)
 {
-    int64_t answer = offset && offset == it->next ? read_on(it, offset, page, room)
+    int64_t result = offset && offset == it->next ? read_on(it, offset, page, room)
                                                   : read_anew(it, offset, page, room);
-    it->next = answer < 0 ? 0 : offset + (size_t)answer;
-    return answer;
+    it->next = result < 0 ? 0 : offset + (size_t)result;
+    return result;
 }
 
-/* Of a binary file nothing is kept: each read asks for its own part. */
+/* No text of a binary file is buffered: each read asks for its part. */
 static int64_t read_part(struct open *it, size_t offset, char *page, size_t room)
 {
     struct part part = {.it = it, .offset = offset, .room = room, .page = page};
@@ -187,9 +182,9 @@ static int64_t read_part(struct open *it, size_t offset, char *page, size_t room
 static int64_t read_file(struct open *it, size_t offset, char *page, size_t room)
 {
     pthread_mutex_lock(&it->mutex);
-    int64_t answer = (node_of(it->number)->is_binary ? read_part : read_text)(it, offset, page, room);
+    int64_t result = (node_of(it->number)->is_binary ? read_part : read_text)(it, offset, page, room);
     pthread_mutex_unlock(&it->mutex);
-    return answer;
+    return result;
 }
 
 static int64_t write_file(struct open *it, size_t offset, const char *bytes, size_t size)
@@ -205,12 +200,12 @@ void fs_read(fuse_req_t req, fuse_ino_t number, size_t size, off_t offset, struc
 {
     char page[KT_PAGE_SIZE];
     size_t room = MIN(size, sizeof page);
-    int64_t answer = is_control(number) ? read_control((size_t)offset, page, room)
+    int64_t result = is_control(number) ? read_control((size_t)offset, page, room)
                                         : read_file(open_of(info), (size_t)offset, page, room);
-    if (answer < 0)
-        refuse(req, answer);
+    if (result < 0)
+        refuse(req, result);
     else
-        fuse_reply_buf(req, page, (size_t)answer);
+        fuse_reply_buf(req, page, (size_t)result);
 }
 
 void fs_write(fuse_req_t req, fuse_ino_t number, const char *bytes, size_t size, off_t offset,
@@ -218,13 +213,13 @@ void fs_write(fuse_req_t req, fuse_ino_t number, const char *bytes, size_t size,
 {
     struct open *it = open_of(info);
     pthread_mutex_lock(&it->mutex);
-    int64_t answer = is_control(number) ? write_control(&it->control, bytes, size)
+    int64_t result = is_control(number) ? write_control(&it->control, bytes, size)
                                         : write_file(it, (size_t)offset, bytes, size);
     pthread_mutex_unlock(&it->mutex);
-    if (answer < 0)
-        refuse(req, answer);
+    if (result < 0)
+        refuse(req, result);
     else
-        fuse_reply_write(req, (size_t)answer);
+        fuse_reply_write(req, (size_t)result);
 }
 
 void fs_readdir(fuse_req_t req, fuse_ino_t number, size_t size, off_t offset, struct fuse_file_info *info)
@@ -232,18 +227,18 @@ void fs_readdir(fuse_req_t req, fuse_ino_t number, size_t size, off_t offset, st
     struct open *it = open_of(info);
     char page[4 * KT_PAGE_SIZE];
     lock_tree();
-    int64_t answer = list_entries(&it->listing, req, number, (size_t)offset, page, MIN(size, sizeof page));
+    int64_t result = list_entries(&it->listing, req, number, (size_t)offset, page, MIN(size, sizeof page));
     unlock_tree();
-    if (answer < 0)
-        refuse(req, answer);
+    if (result < 0)
+        refuse(req, result);
     else
-        fuse_reply_buf(req, page, (size_t)answer);
+        fuse_reply_buf(req, page, (size_t)result);
 }
 
 /* ---- poll ---- */
 
-/* Whether it changed since its last show, or is gone. It asks the file's post, and not its handle, which a
- * show may be at for long. */
+/* Whether the file changed since its last show, or is gone. It reads the event counter (`post`) and not the
+ * handle, which a show may use for long. */
 static bool is_changed(struct open *it)
 {
     uint64_t event = 0;
@@ -256,7 +251,7 @@ void fs_poll(fuse_req_t req, fuse_ino_t number, struct fuse_file_info *info, str
     unsigned events = POLLIN | POLLOUT | POLLRDNORM | POLLWRNORM;
     lock_tree();
     if (!it->poller)
-        it->poller = poller; /* before the look, so that no wake falls between */
+        it->poller = poller; /* before the check, so that no wake is missed */
     else if (poller)
         fuse_pollhandle_destroy(poller); /* one is enough */
     if (!is_control(number) && is_changed(it))

@@ -1,7 +1,8 @@
-/* The operations of the file system: names and what is told of them. All timeouts are 0: the kernel asks
- * each time, and finds nothing that was removed. */
+/* SPDX-License-Identifier: MIT OR Apache-2.0 */
+/* The operations of the file system on names and attributes. All timeouts are 0: the kernel asks each time, so
+ * it never finds a removed node. */
 #include "fakesysfs.h"
-#pragma GCC diagnostic ignored "-Wunused-parameter" /* an operation need not use each */
+#pragma GCC diagnostic ignored "-Wunused-parameter" /* an operation need not use each parameter */
 
 static struct kt_key next_control(void)
 {
@@ -14,7 +15,7 @@ static bool names_control(fuse_ino_t dir, const char *name)
     return dir == FUSE_ROOT_ID && !strcmp(name, CONTROL);
 }
 
-/* Finds a live child. Under the lock. */
+/* Finds a live child. The caller holds the lock. */
 static int find_child(fuse_ino_t dir, const char *name, struct kt_key *out)
 {
     if (names_control(dir, name)) {
@@ -25,7 +26,7 @@ static int find_child(fuse_ino_t dir, const char *name, struct kt_key *out)
     return error ? error : is_live(*out) ? 0 : -ENOENT;
 }
 
-/* How late a name is found in a directory. The control file is never late, so that its lines can end that. */
+/* How late a name is found in a directory. The control file is never late, so its lines can end a delay. */
 static unsigned lateness(fuse_ino_t dir, const char *name)
 {
     lock_tree();
@@ -54,7 +55,8 @@ static void fs_lookup(fuse_req_t req, fuse_ino_t dir, const char *name)
         fuse_reply_entry(req, &entry);
 }
 
-/* What is open is named where lseek(2) wants its size, and not by fstat(2): sysfs refuses that of what is gone. */
+/* The kernel passes the open file for lseek(2), which asks for its size, and not for fstat(2). As in sysfs,
+ * lseek(2) on a file that is gone fails. */
 static void fs_getattr(fuse_req_t req, fuse_ino_t number, struct fuse_file_info *info)
 {
     struct stat stat;
@@ -77,8 +79,8 @@ static void set_time(struct timespec *time, const struct timespec *to, bool is_s
         *time = *to;
 }
 
-/* Owners, modes and times are kept, as in sysfs. A truncation changes nothing; `echo 1 > FILE` asks for
- * one. */
+/* Owners, modes and times are stored, as in sysfs. A truncation, which `echo 1 > FILE` asks for, changes
+ * nothing. */
 static void change_node(struct node *node, const struct stat *to, int what)
 {
     if (what & FUSE_SET_ATTR_MODE)
@@ -124,8 +126,8 @@ static void fs_readlink(fuse_req_t req, fuse_ino_t number)
 
 static void fs_statfs(fuse_req_t req, fuse_ino_t number)
 {
-    struct statvfs answer = {.f_bsize = KT_PAGE_SIZE, .f_frsize = KT_PAGE_SIZE, .f_namemax = KT_NAME_MAX};
-    fuse_reply_statfs(req, &answer);
+    struct statvfs result = {.f_bsize = KT_PAGE_SIZE, .f_frsize = KT_PAGE_SIZE, .f_namemax = KT_NAME_MAX};
+    fuse_reply_statfs(req, &result);
 }
 
 /* ---- extended attributes: there are none ---- */
@@ -154,7 +156,7 @@ static void fs_removexattr(fuse_req_t req, fuse_ino_t number, const char *name)
     fuse_reply_err(req, EOPNOTSUPP);
 }
 
-/* ---- what sysfs refuses: it has no such operation, or may not be given a file by open(2) ---- */
+/* ---- what sysfs refuses: it has no such operation, and open(2) may not create files ---- */
 
 static void fs_create(fuse_req_t req, fuse_ino_t dir, const char *name, mode_t mode,
                       struct fuse_file_info *info)
@@ -193,7 +195,7 @@ static void fs_rename(fuse_req_t req, fuse_ino_t dir, const char *name, fuse_ino
     fuse_reply_err(req, EPERM);
 }
 
-/* Without support for handles (name_to_handle_at(2)), which sysfs has not, where it can be told. */
+/* Turns off handles (name_to_handle_at(2)), which sysfs does not support, if this libfuse can do so. */
 static void fs_init(void *data, struct fuse_conn_info *connection)
 {
 #ifdef FUSE_CAP_NO_EXPORT_SUPPORT

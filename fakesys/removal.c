@@ -1,10 +1,10 @@
-/* Removals and hidings, which wait until nobody is inside; and the compaction of what the tree keeps of
- * its changes. */
+/* SPDX-License-Identifier: MIT OR Apache-2.0 */
+/* Removals and hidings, which wait until no caller is inside; and the compaction of the log of commands. */
 #include "fakesysfs.h"
 
 typedef int32_t waiting(struct kt_handle *tree, struct kt_key key, struct kt_lock *lock);
 
-/* Waits by one of the library's functions that take the lock themselves. */
+/* Waits with a function of the library that takes the lock itself. */
 static int wait_without_lock(waiting *wait, struct kt_key key)
 {
     unlock_tree();
@@ -16,13 +16,13 @@ static int wait_without_lock(waiting *wait, struct kt_key key)
 int remove_node(struct kt_key key)
 {
     int error = kt_remove(&tree, key);
-    wake_pollers(number_of(key)); /* also where it waits: what is marked reads no more */
+    wake_pollers(number_of(key)); /* even if it waits: marked files can no longer be read */
     if (error == -EAGAIN)
         error = wait_without_lock(kt_remove_wait, key);
     return error < 0 ? error : 0;
 }
 
-/* Marks the links outside a node that lead to it or below it. */
+/* Marks the links outside a subtree that lead into it. */
 static void mark_links(struct kt_key top)
 {
     struct node *node;
@@ -30,7 +30,7 @@ static void mark_links(struct kt_key top)
         node->leads_in = is_below(key_of(node->target), top) && !is_below(key_of(node->number), top);
 }
 
-/* A link is entered by nobody, so that its removal does not wait. */
+/* No caller enters a link, so its removal does not wait. */
 static void remove_marked_links(void)
 {
     struct node *node;
@@ -39,7 +39,8 @@ static void remove_marked_links(void)
             (void)!kt_remove(&tree, key_of(node->number));
 }
 
-/* The links go under the same lock as the node is marked, so that nobody sees one without the other. */
+/* The links are removed in the turn of the lock in which the node is marked, so that no thread sees one without
+ * the other. */
 int unplug_node(struct kt_key key)
 {
     mark_links(key);
@@ -70,11 +71,11 @@ int show_node(struct kt_key key)
     return error;
 }
 
-/* A tree of few nodes that changed often would keep many commands. */
+/* Otherwise a small tree that changes often would store many commands. */
 int count_change(void)
 {
     struct kt_commands commands;
     if (!kt_commands(&tree, &commands) && commands.stored >= 2 * commands.compacted + 1000)
-        kt_compact(&tree); /* without memory the next change tries it again */
+        kt_compact(&tree); /* if memory is refused, the next change tries again */
     return 0;
 }

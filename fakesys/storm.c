@@ -1,13 +1,14 @@
-/* Storms: a node, with all below it and the links that lead there, goes and comes again and again by
- * itself, at moments that a seed tells. It comes with the nodes that it had when the storm began, and
- * their last texts and faults. */
+/* SPDX-License-Identifier: MIT OR Apache-2.0 */
+/* Storms: a node, with everything below it and the links that lead there, disappears and comes back by itself
+ * again and again, at moments that follow from a seed. It comes back with the nodes that it had when the storm
+ * began, and with their last texts and faults. */
 #include "fakesysfs.h"
 
-/* What comes again of a node. */
+/* What is created again for a node. */
 struct saved {
-    enum { INSIDE, LINK_INSIDE, LINK_OUTSIDE } part; /* in the order in which they come */
+    enum { INSIDE, LINK_INSIDE, LINK_OUTSIDE } part; /* in the order in which they are created */
     char *path, *target;                              /* the target of a link */
-    struct node node;                                 /* with a text of its own */
+    struct node node;                                 /* with its own copy of the text */
 };
 
 struct storm {
@@ -24,7 +25,7 @@ struct storm {
 static LIST_HEAD(, storm) storms;
 static bool are_begun;
 
-/* ---- what goes, and comes again ---- */
+/* ---- what disappears and comes back ---- */
 
 static char *path_of(struct kt_key key)
 {
@@ -43,7 +44,7 @@ static void free_saved(struct storm *storm)
     free(storm->saved);
 }
 
-/* Keeps what a file shows now, where there is memory for it. */
+/* Saves what a file shows now, if there is memory for it. */
 static void save_text(struct saved *saved, const struct node *node)
 {
     char *text = malloc(node->length + 1);
@@ -69,7 +70,7 @@ static int save(struct storm *storm, const struct node *node, int part)
     return saved->path && saved->node.text && (saved->target || !S_ISLNK(node->mode)) ? 0 : -ENOMEM;
 }
 
-/* A directory comes before what is in it, since its path is the shorter one. */
+/* A directory comes before its contents, since its path is shorter. */
 static int compare(const void *left, const void *right)
 {
     const struct saved *one = left, *other = right;
@@ -104,7 +105,7 @@ static void go(struct storm *storm)
     count_change();
 }
 
-/* Makes one node as it was. Only what is outside is live at once. */
+/* Creates one node as it was. Only nodes outside the subtree are live at once. */
 static int make_again(struct saved *saved)
 {
     struct kt_key dir, target = {0, 0}, made;
@@ -124,8 +125,8 @@ static int make_again(struct saved *saved)
     return S_ISREG(node->mode) ? set_text(node, saved->node.text, saved->node.length) : 0;
 }
 
-/* All of it becomes live at once. What cannot come now (the target of a link is away itself) stays away
- * this time. */
+/* All nodes become live at once. A node that cannot be created now (the target of a link is away too) stays
+ * away this time. */
 static void come(struct storm *storm)
 {
     struct kt_key top;
@@ -144,7 +145,7 @@ static void come(struct storm *storm)
 
 /* ---- the moments ---- */
 
-/* The next of a row of random numbers that the seed tells (splitmix64). */
+/* The next random number that follows from the seed (splitmix64). */
 static uint64_t next_number(struct storm *storm)
 {
     uint64_t mixed = storm->lot += 0x9e3779b97f4a7c15;
@@ -153,8 +154,8 @@ static uint64_t next_number(struct storm *storm)
     return mixed ^ mixed >> 31;
 }
 
-/* Waits for up to 1, 2, 4 .. or 64 milliseconds, or for the storm's end. Short and long ones are as
- * likely, so that a reader is met at each of its steps. */
+/* Waits for up to 1, 2, 4 .. or 64 milliseconds, or for the storm's end. Short and long waits are equally
+ * likely, so that each step of a reader is met. */
 static void wait_a_while(struct storm *storm)
 {
     uint64_t number = next_number(storm);
@@ -246,7 +247,7 @@ static int begin_storm(const char *path, uint64_t seed)
     return error;
 }
 
-/* Ends a storm, and waits until what it does is done: without the lock, which that takes. */
+/* Ends a storm, and waits for its thread: without the lock, which that thread takes. */
 static void end_storm(struct storm *storm)
 {
     LIST_REMOVE(storm, link);
@@ -277,7 +278,7 @@ void begin_storms(void)
     are_begun = true;
     LIST_FOREACH (it, &storms, link)
         if (begin_thread(it))
-            fprintf(stderr, "fakesysfs: storm %s: there is no thread for it\n", it->path);
+            fprintf(stderr, "fakesysfs: storm %s: cannot create a thread\n", it->path);
     unlock_tree();
 }
 

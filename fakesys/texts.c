@@ -1,4 +1,5 @@
-/* The texts of the files: their show and store, and what may hinder them. */
+/* SPDX-License-Identifier: MIT OR Apache-2.0 */
+/* The texts of the files: their show and store callbacks, and what may disturb these. */
 #include "fakesysfs.h"
 #include <assert.h>
 
@@ -32,8 +33,8 @@ void wait_milliseconds(unsigned count)
         continue;
 }
 
-/* Waits as long as the file is slow, and takes the lock. The promise: no removal is over while a callback
- * is inside, so that its node is in the tree. */
+/* Waits as long as the file is slow, and takes the lock. The library promises that no removal ends while a
+ * callback is inside, so the node is in the tree. */
 static struct node *begin_callback(struct open *it)
 {
     struct node *node = node_of(it->number);
@@ -46,7 +47,8 @@ static struct node *begin_callback(struct open *it)
     return node;
 }
 
-/* Before the text and what delays it, so that no notify is missed. (The lock: fs_poll() asks the post too.) */
+/* Called before the text and its delays, so that no notify is missed. (The lock: fs_poll() uses the counter
+ * too.) */
 static void see_event(struct open *it)
 {
     uint64_t event;
@@ -56,18 +58,18 @@ static void see_event(struct open *it)
     unlock_tree();
 }
 
-/* Copies so many bytes of a node's text at most, from an offset on. Its fault, or how many. */
+/* Copies at most `room` bytes of a node's text from an offset on. Returns its fault, or how many. */
 static int64_t copy_text(struct open *it, size_t offset, char *page, size_t room)
 {
     see_event(it);
     struct node *node = begin_callback(it);
-    int64_t answer = -node->fault;
-    if (!answer && offset < node->length) {
-        answer = (int64_t)MIN(room, node->length - offset);
-        memcpy(page, node->text + offset, (size_t)answer);
+    int64_t result = -node->fault;
+    if (!result && offset < node->length) {
+        result = (int64_t)MIN(room, node->length - offset);
+        memcpy(page, node->text + offset, (size_t)result);
     }
     unlock_tree();
-    return answer;
+    return result;
 }
 
 int64_t show(struct kt_handle *file, void *data, char *page)
@@ -87,26 +89,26 @@ int64_t store(struct kt_handle *file, void *data, const char *bytes, size_t leng
 {
     (void)file;
     struct node *node = begin_callback(data);
-    int64_t answer = -node->fault;
-    if (!answer && !node->is_uevent)
-        answer = set_line(node, bytes, length - (bytes[length - 1] == '\n'));
+    int64_t error = -node->fault;
+    if (!error && !node->is_uevent)
+        error = set_line(node, bytes, length - (bytes[length - 1] == '\n'));
     unlock_tree();
-    return answer ? answer : (int64_t)length;
+    return error ? error : (int64_t)length;
 }
 
-/* A binary file neither grows nor shrinks by a write. */
+/* A write to a binary file does not change its size. */
 int64_t store_part(struct kt_handle *file, void *data, const char *bytes, size_t length)
 {
     struct part *part = data;
     (void)file;
     struct node *node = begin_callback(part->it);
-    int64_t answer = -node->fault;
-    if (!answer && part->offset >= node->length)
-        answer = -EFBIG;
-    if (!answer) {
-        answer = (int64_t)MIN(length, node->length - part->offset);
-        memcpy(node->text + part->offset, bytes, (size_t)answer);
+    int64_t result = -node->fault;
+    if (!result && part->offset >= node->length)
+        result = -EFBIG;
+    if (!result) {
+        result = (int64_t)MIN(length, node->length - part->offset);
+        memcpy(node->text + part->offset, bytes, (size_t)result);
     }
     unlock_tree();
-    return answer;
+    return result;
 }

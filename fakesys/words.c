@@ -1,4 +1,5 @@
-/* The words of a line: paths, which are looked up, numbers and modes. */
+/* SPDX-License-Identifier: MIT OR Apache-2.0 */
+/* Parses the words of a line: paths, which are looked up, numbers and modes. */
 #include "fakesysfs.h"
 #include <ctype.h>
 
@@ -34,13 +35,13 @@ bool read_error(const char *word, int *out)
             return true;
         }
     }
-    if (!read_number(word, EHWPOISON, &number)) /* the last that Linux has */
+    if (!read_number(word, EHWPOISON, &number)) /* the last one of Linux */
         return false;
     *out = (int)number;
     return true;
 }
 
-/* Whether a word is of its kind, as far as that is seen without the tree. */
+/* Whether a word is of its kind, as far as can be seen without the tree. */
 static bool is_word(char kind, const char *word)
 {
     size_t length = word ? strlen(word) : 0;
@@ -62,7 +63,7 @@ int find_node(const char *path, struct kt_key *key)
     return kt_walk(&tree, path, strlen(path), key);
 }
 
-/* The control file has its name for itself. */
+/* No node may have the name of the control file. */
 static int refuse_control(struct kt_key dir, const char *name)
 {
     return number_of(dir) == FUSE_ROOT_ID && !strcmp(name, CONTROL) ? -EEXIST : 0;
@@ -72,13 +73,13 @@ int find_place(const char *path, struct kt_key *dir, const char **name)
 {
     const char *slash = strrchr(path, '/');
     if (*path != '/' || !path[1] || path[1] == '/')
-        return -EINVAL; /* kt_walk() would not see it of / and //NAME */
+        return -EINVAL; /* kt_walk() would accept / and //NAME */
     *name = slash + 1;
     int error = kt_walk(&tree, path, slash > path ? (size_t)(slash - path) : 1, dir);
     return error ? error : refuse_control(*dir, *name);
 }
 
-/* Finds the node of a path that has a text, or is a directory where that is wanted too. */
+/* Finds the node of a path, which must have a text, or if `is_dir_well` may be a directory. */
 static int find_text(const char *path, bool is_dir_well, struct kt_key *key)
 {
     int error = find_node(path, key);
@@ -103,9 +104,9 @@ static int find(char kind, char *word, struct line *line, struct kt_key *key)
     }
 }
 
-/* The kinds: n a new node's path, p a path, a that of a file, d that of a file or directory, x a path that
- * need not be there, w a name, m a mode, i milliseconds, e an error number, s a seed, o `off` or nothing,
- * t all that follows. */
+/* The kinds: n the path of a new node, p a path, a the path of a file, d of a file or directory, x a path that
+ * need not exist, w a name, m a mode, i milliseconds, e an error number, s a seed, o `off` or nothing, t the
+ * rest of the line. */
 int take_words(const char *kinds, struct line *line)
 {
     int error = 0;

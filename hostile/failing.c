@@ -1,18 +1,19 @@
-/* Loaded before the C library (LD_PRELOAD): memory, reads, writes and threads that fail where the environment says so.
+/* SPDX-License-Identifier: MIT OR Apache-2.0 */
+/* Loaded before the C library (LD_PRELOAD). Memory, reads, writes and threads fail as the environment says:
 
-   FAIL_MEMORY=N   the Nth request for memory is refused, that one alone
-   FAIL_READ=N     the Nth read fails, and the next are well again
-   FAIL_WRITE=N    the Nth write fails, and the next are well again
-   EMPTY_WRITE=N   the Nth write takes no byte
-   FAIL_THREAD=N   the Nth thread cannot be made
-   NO_THREADS=1    none can
-   READ_MOST=N     a read gives N bytes at most
-   WRITE_MOST=N    a write takes N bytes at most
-   NEWLINES=N      the input is N newlines, one a read, and then its end
-   FAIL_REPORT=F   at the end the file F has what was counted: requests, reads, writes, threads, how often one failed, and
-                   how many bytes of memory were in use at the last read
+   FAIL_MEMORY=N   only the Nth request for memory is refused
+   FAIL_READ=N     only the Nth read fails
+   FAIL_WRITE=N    only the Nth write fails
+   EMPTY_WRITE=N   only the Nth write takes no byte
+   FAIL_THREAD=N   only the Nth thread cannot be created
+   NO_THREADS=1    no thread can be created
+   READ_MOST=N     a read returns at most N bytes
+   WRITE_MOST=N    a write takes at most N bytes
+   NEWLINES=N      the input is N newlines, one per read, and then its end
+   FAIL_REPORT=F   at the end the file F has the numbers of requests, reads, writes, threads and failures, and of the bytes
+                   of memory that were in use at the last read
 
-   Requests are counted from the moment when this file has been loaded, shortly before main begins. */
+   Requests are counted from the moment when this file is loaded, shortly before main begins. */
 #define _GNU_SOURCE
 #include <dlfcn.h>
 #include <errno.h>
@@ -136,7 +137,7 @@ ssize_t read(int file, void *to, size_t size) {
 }
 
 ssize_t write(int file, const void *from, size_t size) {
-    /* what goes to standard error is told whole */
+    /* (messages on standard error are written whole) */
     if (file == 2)
         return syscall(SYS_write, file, from, size);
     unsigned long turn = atomic_fetch_add(&writes, 1) + 1;

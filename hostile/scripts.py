@@ -1,9 +1,10 @@
-"""The scripts that are run where something fails."""
+# SPDX-License-Identifier: MIT OR Apache-2.0
+"""The scripts that run while something fails."""
 
 ONE_CALLER, ONE_WORKER = (), ("--workers", "1")
 SLOTS = 4096
 
-# By name, what is run by one caller and by the owner of a tree with one worker, and its replies, worked out by hand.
+# By name, the scripts for one caller and for the owner of a tree with one worker, and their replies, worked out by hand.
 BY_BOTH = {
     "nodes": (
         "mkdir /a ; mkdir /a/b ; file /a/x 644 5 ; ls /a ; stat /a ; commands ; mkdir /a/c ; ls /a ; ls /",
@@ -85,7 +86,7 @@ BY_BOTH = {
     ),
 }
 
-# What devices do, which only the owner of a tree with workers has.
+# Scripts of devices, which only the owner of a tree with workers has.
 DEVICES = {
     "a device": (
         "plug d0 on ; unplug d0 ; unplug d0 ; ls /devices ; plug d0 on ; ls /devices/d0 ; unplug d0 ; unplug d0",
@@ -107,7 +108,7 @@ DEVICES = {
     ),
 }
 
-# Rounds in which the owner and workers have lines, whose replies are the same whoever runs them, and in which order.
+# Rounds of lines of the owner and workers, whose replies are the same in every order and by any runner.
 THREADS = {
     "a worker": (
         "file /t 644 v ; wait ; @1 open f /t r ; @1 read f 0 9 ; ls / ; wait ; @1 close f",
@@ -159,12 +160,12 @@ def of_growth():
 
 
 def come_and_go(width):
-    """As many directories as there are slots come and go, with names of so many bytes."""
+    """As many directories as there are slots come and go, with names of this many bytes."""
     names = [str(at).rjust(width, "n") for at in range(SLOTS - 1)]
     return "".join(f"mkdir /{it}\n" for it in names) + "".join(f"rm /{it}\n" for it in names)
 
 
-# All that one caller can do, with long names and texts, and a bare tree at its end.
+# Everything that one caller can do, with long names and texts, and an empty tree at the end.
 ROUND = script_of(
     "mkdir /{n} off ; file /{n}/f 644 {t} ; link /l /{n}/f ; mkdir /{n}/{m} off ; activate /{n} ; ls /{n} ; stat /l ; "
     "readlink /l ; open a /{n}/f rw ; read a 0 99 ; write a {t} ; read a 0 99 ; poll a ; notify /{n}/f ; mv /{n}/f / {m} ; "
@@ -174,17 +175,17 @@ ROUND = script_of(
 
 
 def of_memory():
-    """Pairs of scripts, and how many bytes the first one may have more in use at its end than the second one."""
+    """Pairs of scripts, and how many more bytes the first one may use at its end than the second one."""
     moved = "mkdir /a\n" + "mv /a / b\nmv /b / a\n" * 20_000
     made = "".join(f"mkdir /{at}\n" for at in range(2100))
     there = "file /t 644 v\n" + f"file /t 644 {'t' * 3000}\n" * 500
     for name, script, other, more in (
-        # (whoever held a node keeps 12 bytes, of a list with room for 4,096 then)
+        # (each holder of a node keeps 12 bytes, in a list with a capacity of 4,096 then)
         ("all that one caller can do, 500 times", ROUND.decode() * 500, ROUND.decode(), 4096 * 12 + 4096),
         ("40,001 commands, compacted to one", moved + "compact\n", "mkdir /a\ncompact\n", 4096),
         ("names of 255 bytes, removed and compacted", come_and_go(255) + "compact\n", come_and_go(4) + "compact\n", 4096),
         ("a file that is there already, 500 times", there, "file /t 644 v\n", 4096),
-        # a list that grows has room for 4,096 commands then, and each has 50 bytes at least
+        # a growing list has a capacity of 4,096 commands then, and each has at least 50 bytes
         ("2,100 commands, compacted", made + "compact\n", made, (2100 - 4096) * 50),
     ):
         yield name, (script.encode(), other.encode(), more), ("--slots", str(SLOTS))
@@ -200,8 +201,8 @@ def long_script():
 
 
 def device_mistake(lines, replies):
-    """The first reply that no plug or unplug that ended, or was refused at any point, explains."""
-    # whether d0 is there: True, False, or None where a refused call may have left it
+    """The first reply that no plug or unplug explains, whether it ended or was refused at any point."""
+    # whether d0 exists: True, False, or None if a refused call may have left it
     there, refused = False, (b"err NoMemory 12", b"err Callback 12")
     for line, reply in zip(lines, replies):
         if reply in refused:
@@ -210,7 +211,7 @@ def device_mistake(lines, replies):
             if reply == b"err Exists 17" and there is None:
                 continue
             if reply == b"err NoSpace 28" and not there:
-                # what it made is taken back, unless that was refused its memory
+                # what it created is removed again, unless memory for that was refused
                 there = None
                 continue
             if not reply.startswith(b"ok ") or there:

@@ -1,5 +1,6 @@
-/* What kt_enter() and kt_leave() cost beside two additions on an atomic word, by one thread and by four at nodes of their
- * own. With an argument: status 1 where one thread takes more than so many times as long. */
+/* SPDX-License-Identifier: MIT OR Apache-2.0 */
+/* What kt_enter() and kt_leave() cost beside two additions on an atomic word, with one thread and with four, each on its
+ * own node. With an argument: status 1 if one thread takes more than that many times as long. */
 #include <kernfs_tree.h>
 #include <pthread.h>
 #include <stdatomic.h>
@@ -22,7 +23,7 @@ static double now(void)
     return (double)time.tv_sec * 1e9 + (double)time.tv_nsec;
 }
 
-/* The hold, or nothing where an answer was not 0. (The answers are added up: a branch for each would cost more.) */
+/* The hold, or NULL if a call did not return 0. (The results are added up: a branch for each would cost more.) */
 static void *enter_and_leave(void *data)
 {
     struct kt_handle *hold = data;

@@ -1,5 +1,6 @@
-/* The helpers of kt_tell.h and kt_wait.h that no other test is of, and what the header says of holds, slots, links and
- * names. A line tells each thing that was tried; the last one is 'N passed, M failed'. */
+/* SPDX-License-Identifier: MIT OR Apache-2.0 */
+/* The helpers of kt_tell.h and kt_wait.h that no other test covers, and what the header says of holds, slots, links and
+ * names. It prints a line for each test; the last line is 'N passed, M failed'. */
 #include <kernfs_tree.h>
 #include <stdlib.h>
 #include <unistd.h>
@@ -21,7 +22,7 @@ static void texts(void)
     for (int64_t it = -133; it < 0; it++)
         lines += strchr(kt_strerror(it), '\n') != NULL;
     TRY(lines, 0);
-    TRY(kt_strerror(-ELOOP) == kt_strerror(INT64_MIN), 1); /* what the library never answers */
+    TRY(kt_strerror(-ELOOP) == kt_strerror(INT64_MIN), 1); /* which the library never returns */
 }
 
 static void children(void)
@@ -74,7 +75,7 @@ static void dumps(void)
     TRY(strcmp(dumped(key, -ENOENT), ""), 0);
     TRY(kt_remove(&tree, folder) < 0, 0);
     TRY(kt_hide(&tree, file), 0);
-    TRY(strcmp(dumped(root, 0), "d/\nl -> f, slot 2\n"), 0); /* of what is live alone */
+    TRY(strcmp(dumped(root, 0), "d/\nl -> f, slot 2\n"), 0); /* only of live nodes */
     TRY(kt_unhide(&tree, file), 0);
 }
 
@@ -114,7 +115,7 @@ static void waits(void)
     TRY(kt_enter(&hold), 0);
     TRY(kt_hide(&tree, file), -EAGAIN);
     pthread_create(&thread, NULL, leaves_later, &left);
-    TRY(kt_unhide_wait(&tree, file, &lock), 0); /* it waits for who is inside */
+    TRY(kt_unhide_wait(&tree, file, &lock), 0); /* it waits for callers that are inside */
     pthread_join(thread, NULL);
     TRY(left, 0);
     TRY(kt_enter(&hold), 0);
@@ -148,7 +149,8 @@ static void names_that_go(void)
     TRY(kt_clear(&hold), 0);
 }
 
-/* A gone node's slot is not given again while it is held; a link keeps none of its target, whose removal leaves it. */
+/* The slot of a removed node is not used again while it is held. A link does not hold its target: the removal of the
+ * target leaves the link. */
 static void slots(void)
 {
     struct kt_key link_key, next;
@@ -167,7 +169,7 @@ static void slots(void)
     TRY(kt_remove(&tree, link_key) < 0, 0);
 }
 
-/* A live node below one that is not can be entered; it is not listed from above, since that is not. */
+/* A live node below one that is not live can be entered, but it is not listed from above. */
 static void live_below_what_is_not(void)
 {
     struct kt_child at = {.name = "v"};
@@ -181,7 +183,7 @@ static void live_below_what_is_not(void)
     TRY(kt_remove(&tree, dir) < 0, 0);
 }
 
-/* KT_PATH_MAX() is enough for the deepest path of so many longest names, and no byte less is. */
+/* KT_PATH_MAX() is exactly enough for the deepest path of names of the greatest length. */
 static void paths(void)
 {
     enum { NAMES = 5 };
@@ -203,7 +205,7 @@ static void paths(void)
 static int64_t clears(struct kt_handle *call, void *data)
 {
     (void)data;
-    return kt_clear_wake(call, &lock); /* ends the call: it lets a removal go on */
+    return kt_clear_wake(call, &lock); /* ends the call, so that a removal can go on */
 }
 
 static void clears_inside(void)
@@ -215,7 +217,8 @@ static void clears_inside(void)
     TRY(kt_remove(&tree, file) < 0, 0);
 }
 
-/* Of a call that is broken already, and of what is no call: the claim is spent, and who calls removes by other calls. */
+/* Of a call that is broken already, and of a handle without a call: the claim is spent, and the caller removes by other
+ * calls. */
 static void removes_itself_too_late(void)
 {
     TRY(kt_create_file(&tree, root, "s", 1, 0644, 0, true, &file), 0);

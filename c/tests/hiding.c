@@ -1,5 +1,6 @@
-/* Files that are hidden and shown again, as it is meant and as it is not; and what becomes of the holds of a tree that is
- * let go. A line tells each thing that was tried; the last one is 'N passed, M failed'. */
+/* SPDX-License-Identifier: MIT OR Apache-2.0 */
+/* Files that are hidden and shown again, with right and wrong uses; and the holds of a tree that is freed. It prints a
+ * line for each test; the last line is 'N passed, M failed'. */
 #include <kernfs_tree.h>
 #include <string.h>
 
@@ -11,7 +12,7 @@ static struct kt_key key;
 static struct kt_stat stat;
 static char text[64];
 
-/* A file hidden with nobody inside, and shown again. */
+/* A file hidden with no caller inside, and shown again. */
 static void hidden_alone(struct kt_key top, struct kt_key folder, struct kt_key shy)
 {
     struct kt_key none = {3, 9}, far = {UINT32_MAX, 1};
@@ -69,9 +70,9 @@ static void hidden_in_use(struct kt_key shy)
     TRY(stat.hidden, 1);
     TRY(kt_clear(&own), -EBUSY);
     TRY(kt_delete(own), -EBUSY);
-    TRY(kt_leave(&hold), 1); /* who hides waits for this */
+    TRY(kt_leave(&hold), 1); /* the thread that hides waits for this */
     TRY(kt_enter(&hold), -ENODEV);
-    TRY(kt_clear(&own), -EBUSY); /* nobody has looked since */
+    TRY(kt_clear(&own), -EBUSY); /* no call has looked since */
     TRY(kt_hide(&own, shy), 0);
     TRY(kt_enter(&hold), -ENODEV);
     TRY(kt_unhide(&own, shy), 0);
@@ -81,7 +82,7 @@ static void hidden_in_use(struct kt_key shy)
     TRY(kt_unhide(&own, shy), 0); /* it looks itself */
     TRY(kt_enter(&hold), 0);
     TRY(kt_break(&hold), 0);
-    TRY(kt_hide(&own, shy), 0); /* who has broken its protection is not waited for */
+    TRY(kt_hide(&own, shy), 0); /* it does not wait for a caller that has broken its protection */
     TRY(kt_restore(&hold), 0);
     TRY(kt_unhide(&own, shy), 0);
     TRY(kt_leave(&hold), 0);
@@ -93,7 +94,7 @@ static void hidden_in_use(struct kt_key shy)
     TRY(kt_clear(&other), 0);
 }
 
-/* A hidden file removed, with and without somebody inside: its slot is given again. */
+/* A hidden file removed, with and without a caller inside: its slot is used again. */
 static void hidden_and_removed(struct kt_key top, struct kt_key folder, struct kt_key shy)
 {
     TRY(kt_hide(&own, shy), 0);
@@ -143,7 +144,7 @@ static void hidden_and_open(struct kt_key top)
     TRY(kt_clear(&hold), 0);
 }
 
-/* The holds of a tree that is let go: of a live file, of a hidden one, of one that is being removed and of one that was
+/* The holds of a tree that is freed: of a live file, of a hidden one, of one that is being removed and of one that was
  * not activated. */
 static void freed(struct kt_key top)
 {
@@ -195,7 +196,7 @@ int main(void)
     hidden_alone(top, folder, shy);
     hidden_in_use(shy);
     hidden_and_removed(top, folder, shy);
-    TRY(kt_clear(&own), 0); /* with a hidden file, where nobody is inside */
+    TRY(kt_clear(&own), 0); /* with a hidden file, if no caller is inside */
     TRY(kt_create_root(&own, 8, 3), 0);
     TRY(kt_root(&own, &top), 0);
     hidden_and_open(top);

@@ -1,5 +1,6 @@
-/* Each call of kt_live.h, as it is meant and as it is refused; each three times in a row; many devices, few slots and a
- * deep path. A line tells each thing that was tried; the last one is 'N passed, M failed'. */
+/* SPDX-License-Identifier: MIT OR Apache-2.0 */
+/* Each call of kt_live.h, with right uses and with refusals, each three times in a row; many devices, few slots and a
+ * deep path. It prints a line for each test; the last line is 'N passed, M failed'. */
 #include <kt_live.h>
 
 #include "trying.h"
@@ -51,7 +52,7 @@ static int64_t store_fails(void *device, const struct kt_attribute *attribute, c
     return -ERANGE;
 }
 
-/* Shows what the other calls answer from inside a callback. */
+/* Shows what the other calls return inside a callback. */
 static int64_t show_calls(void *device, const struct kt_attribute *attribute, char *page)
 {
     struct kt_child at = {.name = ""};
@@ -108,7 +109,7 @@ static const struct kt_attribute attributes[] = {
 enum { COUNT = sizeof attributes / sizeof *attributes, FILES = COUNT - 2 };
 
 #define PUBLISH(path, it) kt_live_publish(live, path, attributes, COUNT, &(it), &(it).key)
-/* What is refused writes no key. */
+/* A refused call writes no key. */
 #define REFUSED(path, table, count, wanted)                                        \
     do {                                                                           \
         key = unchanged;                                                           \
@@ -193,7 +194,7 @@ static void reads(void)
         TRY(kt_live_read(live, "/fan0/speed", text, sizeof text), 5);
         TRY(strcmp(text, "1 12\n"), 0);
         TRY(kt_live_read(live, "/fan0/input", text, 3), 3);
-        TRY(memcmp(text, "3 1", 3) || text[3] != '2', 0); /* cut, and no zero byte where there is no room */
+        TRY(memcmp(text, "3 1", 3) || text[3] != '2', 0); /* cut, and without a zero byte if there is no space */
         TRY(kt_live_read(live, "/fan0/input", NULL, 0), 0);
         TRY(kt_live_read(live, "/fan0/target", text, sizeof text), -EACCES);
         TRY(kt_live_read(live, "/fan0/none", text, sizeof text), -ENOENT);
@@ -337,7 +338,7 @@ static void unpublishes(void)
     for (size_t i = 0; i < sizeof wrong / sizeof *wrong; i++)
         TRY(kt_live_unpublish(live, wrong[i]), -ENOENT);
     TRY(kt_walk(&live->tree, "/fan0/speed", 11, &key), 0);
-    TRY(kt_live_unpublish(live, key), -ENOENT); /* a file is no device */
+    TRY(kt_live_unpublish(live, key), -ENOENT); /* a file is not a device */
     TRY(kt_live_delete(live), -EBUSY);
     TRY(kt_live_unpublish(live, fan.key), 1);
     for (int i = 0; i < 3; i++) {
@@ -393,7 +394,7 @@ static void nested(void)
         TRY(kt_live_read(live, "/plain/below/fan0/speed", text, sizeof text) > 0, 1);
         TRY(kt_live_unpublish(live, plain), 1);
         TRY(kt_live_read(live, "/plain/below/fan0/speed", text, sizeof text), -ENOENT);
-        TRY(PUBLISH("/other", other), 0); /* (their slots are given again) */
+        TRY(PUBLISH("/other", other), 0); /* (their slots are used again) */
         TRY(kt_live_publish(live, "/plain", NULL, 0, NULL, &plain), 0);
         TRY(kt_live_delete(live), -EBUSY);
         TRY(kt_live_unpublish(live, fan.key), 1);
@@ -404,7 +405,7 @@ static void nested(void)
     }
 }
 
-/* Beside what is published the program may use the lower calls. */
+/* The program may also use the lower calls. */
 static void beside(void)
 {
     struct kt_key root, mine, link;
@@ -422,7 +423,7 @@ static void beside(void)
     TRY(kt_live_read(live, "/fan0/speed", text, sizeof text), -ENODEV);
     TRY(kt_unhide(&live->tree, key), 0);
     TRY(kt_live_read(live, "/fan0/speed", text, sizeof text) > 0, 1);
-    TRY(kt_hide_wait(&live->tree, key, &live->lock), 0); /* what is hidden is unpublished as all else */
+    TRY(kt_hide_wait(&live->tree, key, &live->lock), 0); /* a hidden file is unpublished like any other */
     struct kt_handle call;
     TRY(kt_new(&call.at), 0);
     TRY(kt_hold(&live->tree, mine, &call), 0);
@@ -438,8 +439,8 @@ static void beside(void)
     TRY(kt_remove_wait(&live->tree, link, &live->lock), 1);
 }
 
-/* Makes a file of the program's own, removes it, and makes it anew, with each tag that a published one may have: it has
- * no callback, and who watches it is told of each notification, also where that came first. */
+/* Creates a file by the lower calls, removes it, and creates it again with each tag that a published file may have. It
+ * has no callback, and its watcher learns of each notification, even if the watch came first. */
 static void own_file(struct kt_key dir, const char *path)
 {
     struct kt_key mine;
@@ -460,7 +461,7 @@ static void own_file(struct kt_key dir, const char *path)
         TRY(kt_remove_wait(&live->tree, mine, &live->lock), 1);
         TRY(raised(fd), -1);
     }
-    /* what is published there is told as always: what was watched has gone, and it comes */
+    /* a device published there is reported as always: the watched file has gone, and the device comes */
     TRY(kt_live_publish(live, path, NULL, 0, NULL, &mine), 0);
     TRY(raised(fd), 1);
     TRY(kt_live_unpublish(live, mine), 1);
@@ -496,7 +497,7 @@ static void own_files(void)
     TRY(kt_live_unpublish(live, fan.key), 1);
 }
 
-/* A file with as many holds as there may be is read by nobody more, and its device stays. */
+/* A file with the maximum of holds cannot be read once more, and its device stays. */
 static void full(void)
 {
     static struct kt_handle all[KT_HOLDS_MAX];
@@ -550,7 +551,7 @@ static void *unpublish(void *answer)
     return NULL;
 }
 
-/* Threads that unpublish one device while a callback is inside: none is answered before that has ended, one is 1. */
+/* Threads that unpublish one device while a callback is inside: none returns before that has ended, and one returns 1. */
 static void together(void)
 {
     const struct kt_attribute slow = {"slow", 0444, show_slowly, NULL, 0};
@@ -570,8 +571,8 @@ static void together(void)
     usleep(20000);
     TRY(kt_live_delete(live), -EBUSY);
     struct kt_child at = {.name = ""};
-    TRY(kt_live_list(live, "/", &at), 0); /* what is being removed is not listed */
-    TRY(kt_live_publish(live, "/slow", NULL, 0, NULL, &fan.key), -EEXIST); /* until it has gone */
+    TRY(kt_live_list(live, "/", &at), 0); /* a device that is being removed is not listed */
+    TRY(kt_live_publish(live, "/slow", NULL, 0, NULL, &fan.key), -EEXIST); /* until it is gone */
     __atomic_store_n(&gate, 2, __ATOMIC_SEQ_CST);
     for (int i = 0; i < 5; i++)
         pthread_join(threads[i], NULL);
@@ -584,7 +585,7 @@ static void together(void)
     TRY(kt_live_read(live, "/slow/slow", text, sizeof text), -ENOENT);
 }
 
-/* As many devices as there may be, one more, and again when one has gone. */
+/* The maximum of devices, one more, and one more again after one is gone. */
 static void many(uint32_t slots, uint32_t files)
 {
     struct kt_attribute table[8];
@@ -640,7 +641,7 @@ static void deep(void)
     TRY(kt_live_delete(live), 0);
 }
 
-/* The tree keeps no more than twice the commands that it needs, and 1,000: else this would take 40 MB. */
+/* The tree stores at most twice the commands that it needs, and 1,000; otherwise this would take 40 MB. */
 static void tidy(void)
 {
     TRY(kt_live_new(&live, 64), 0);

@@ -1,5 +1,6 @@
-/* 10,000 devices that come and go by kt_live.h under readers, writers, pollers and callbacks that unpublish their own
- * device; who is answered 1 frees it at once. With an argument: so many. */
+/* SPDX-License-Identifier: MIT OR Apache-2.0 */
+/* 10,000 devices (or as many as the argument says) come and go by kt_live.h under readers, writers, pollers and callbacks
+ * that unpublish their own device. The thread for which this returns 1 frees the device at once. */
 #include <kt_live.h>
 #include <stdatomic.h>
 #include <stdio.h>
@@ -32,7 +33,7 @@ static void look(struct device *device)
         atomic_fetch_add(&late, 1);
 }
 
-/* Frees what nobody but `own` callbacks of this thread uses. */
+/* Frees what only `own` callbacks of this thread use. */
 static void free_device(struct device *device, int own)
 {
     if (atomic_load(&device->inside) != own || device->alive != ALIVE)
@@ -80,7 +81,7 @@ static int64_t delete(void *data, const struct kt_attribute *attribute, const ch
         return (int64_t)length;
     }
     must(answer, "unpublish inside");
-    look(device); /* who was first waits for this callback */
+    look(device); /* the thread that was first waits for this callback */
     sched_yield();
     look(device);
     atomic_fetch_add(&lost, 1);
@@ -110,7 +111,7 @@ static void *user(void *data)
     return NULL;
 }
 
-/* Watches a device that comes and goes: each time it is told, and lists what there is. */
+/* Watches a device that comes and goes: at each event it lists what is there. */
 static void *poller(void *data)
 {
     uint64_t times;
@@ -131,8 +132,8 @@ static void *poller(void *data)
     return NULL;
 }
 
-/* Publishes a device, and unpublishes it where no callback has done so; in the last place the directory that it is
- * in goes first. The key is kept beside the device, which a callback may have freed. */
+/* Publishes a device, and unpublishes it if no callback has done so; at the last place the directory that contains it
+ * goes first. The key is stored beside the device, which a callback may have freed. */
 static void *owner(void *data)
 {
     int place = (int)(uintptr_t)data;
@@ -186,11 +187,11 @@ int main(int count, char **words)
     if (read(fd, &times, sizeof times) == sizeof times)
         atomic_fetch_add(&woken, (long)times);
     must(kt_live_unwatch(live, fd), "unwatch");
-    must(kt_live_delete(live), "delete"); /* nothing is published, watched or run any more */
+    must(kt_live_delete(live), "delete"); /* nothing is published, watched or run any longer */
     printf("%ld removals, %ld of them by callbacks, %ld came second; %ld reads, %ld writes, %ld refused, %ld wakes, "
            "%ld names; %ld callbacks where none may be, %ld wrong answers\n",
            removed, self_removed, lost, reads, writes, refused, woken, listed, late, wrong);
-    /* each device at the watched path was told to come and to go */
+    /* the watcher saw each device at its path come and go */
     return atomic_load(&late) || atomic_load(&wrong) || atomic_load(&removed) != rounds * PLACES ||
            !atomic_load(&reads) || !atomic_load(&writes) || atomic_load(&woken) < rounds * 2;
 }

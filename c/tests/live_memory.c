@@ -1,5 +1,5 @@
-/* kt_live.h where memory was refused once: each call is made again then, and what is printed must not depend on
- * that. */
+/* SPDX-License-Identifier: MIT OR Apache-2.0 */
+/* kt_live.h, with memory refused once: the call is made again then, and the output must not depend on that. */
 #include <kt_live.h>
 #include <stdio.h>
 
@@ -7,7 +7,7 @@ static struct kt_live *live;
 static struct kt_key fan, below;
 static char text[KT_PAGE_SIZE];
 
-/* The call, again where memory was refused; and then nothing has changed, which `same` tells. */
+/* Makes the call, and again if memory was refused; then nothing has changed, which `same` checks. */
 #define AGAIN(call, same)                             \
     do {                                              \
         int64_t answer = call;                        \
@@ -27,7 +27,7 @@ static int64_t show(void *device, const struct kt_attribute *attribute, char *pa
     return 5;
 }
 
-/* It unpublishes its own device; where memory was refused that can be asked for again. */
+/* It unpublishes its own device; if memory was refused, it can be called again. */
 static int64_t delete(void *device, const struct kt_attribute *attribute, const char *bytes, size_t length)
 {
     int32_t answer;
@@ -74,7 +74,7 @@ static void round_of_it(void)
     printf("unwatched: %d\n", kt_live_unwatch(live, fd));
 }
 
-/* So many changes that the next one makes the commands few again. */
+/* Enough changes that the next one compacts the commands. */
 static void change_often(void)
 {
     struct kt_key root = {0, 1}, key;

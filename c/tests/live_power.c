@@ -1,5 +1,6 @@
+/* SPDX-License-Identifier: MIT OR Apache-2.0 */
 /* Batteries that come and go, as a new user would write it from the header, by lines on standard input: plug PATH
- * PERCENT, unplug PATH, read PATH, write PATH VALUE, list PATH. A thread drains them, and tells of those at their alarm. */
+ * PERCENT, unplug PATH, read PATH, write PATH VALUE, list PATH. A thread drains them, and prints those at their alarm. */
 #include <kt_live.h>
 #include <stdatomic.h>
 #include <stdio.h>
@@ -11,7 +12,6 @@ struct battery {
 
 static struct kt_live *live;
 static atomic_bool is_over;
-
 enum { CAPACITY, ALARM };
 
 static int64_t show(void *device, const struct kt_attribute *attribute, char *page)

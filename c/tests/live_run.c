@@ -1,5 +1,6 @@
-/* What a program does with its devices by their paths: kt_live_run() and kt_live_unpublish_at(), as they are meant and as
- * they are not. A line tells each thing that was tried; the last one is 'N passed, M failed'. */
+/* SPDX-License-Identifier: MIT OR Apache-2.0 */
+/* What a program does with its devices by their paths: kt_live_run() and kt_live_unpublish_at(), with right and wrong
+ * uses. It prints a line for each test; the last line is 'N passed, M failed'. */
 #include <kt_live.h>
 #include <stdatomic.h>
 
@@ -7,7 +8,7 @@
 
 static struct kt_live *live;
 static struct kt_key key, below;
-static int fan, belt; /* devices: their places tell which */
+static int fan, belt; /* devices: their addresses tell them apart */
 static void *given;
 static atomic_int inside, over;
 
@@ -100,7 +101,7 @@ static void from_inside(void)
     TRY(ran, 0);
 }
 
-/* One above is unpublished first: the one below tells its own end, by its key. */
+/* The device above is unpublished first: the one below reports its end by its own key. */
 static void above(void)
 {
     TRY(kt_live_publish(live, "/fan0", NULL, 0, &fan, &key), 0);

@@ -1,5 +1,6 @@
-/* kt_live.h where from some request for memory on each is refused, and then none: what was refused has changed nothing
- * that anybody sees, and is done when it is asked for again. It needs glibc. */
+/* SPDX-License-Identifier: MIT OR Apache-2.0 */
+/* kt_live.h, with each request for memory refused from some point on, and later none: a refused call has changed nothing
+ * visible, and succeeds when it is made again. It needs glibc. */
 #include <kt_live.h>
 
 #include "trying.h"
@@ -54,7 +55,7 @@ static int told(const char *path)
     return answer ? answer : count;
 }
 
-/* Publishes, reads and unpublishes with so much memory; how often it was refused for want of it. */
+/* Publishes, reads and unpublishes with this much memory. Returns how often it was refused for lack of memory. */
 static int starve(long most)
 {
     struct kt_key key = {0, 0};

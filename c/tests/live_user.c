@@ -1,6 +1,7 @@
+/* SPDX-License-Identifier: MIT OR Apache-2.0 */
 /* A daemon whose sensors come and go, as its author would write it from the header: they are plugged and unplugged at
- * eight ports, clients read all of them and set limits meanwhile, a monitor is told of each new limit, and a write to
- * `eject` lets a sensor go by itself. */
+ * eight ports, clients read all of them and set limits meanwhile, a monitor sees each new limit, and a write to `eject`
+ * makes a sensor remove itself. */
 #include <kt_live.h>
 #include <stdatomic.h>
 #include <stdio.h>

@@ -1,6 +1,6 @@
-/* 10,000 removals under load: threads use attributes of directories that come and go, and what a callback would use is
- * freed as soon as the removal has answered; one attribute is hidden and shown again. With an argument: so many
- * removals. */
+/* SPDX-License-Identifier: MIT OR Apache-2.0 */
+/* 10,000 removals (or as many as the argument says) under load: threads use attributes of directories that come and go,
+ * and what a callback would use is freed as soon as the removal has returned. One attribute is hidden and shown again. */
 #include <kernfs_tree.h>
 #include <pthread.h>
 #include <stdatomic.h>
@@ -119,7 +119,7 @@ static void *steady_user(void *data)
     return NULL;
 }
 
-/* Hides a file, changes what its callbacks use, and shows it again, so often. */
+/* Hides a file, changes what its callbacks use, and shows it again, this many times. */
 static void *hider(void *data)
 {
     struct kt_key steady = *(struct kt_key *)data;
@@ -145,7 +145,7 @@ struct owner {
     long removals;
 };
 
-/* Makes a directory with an attribute, and removes it, so often. */
+/* Creates a directory with an attribute and removes it, this many times. */
 static void *owner(void *data)
 {
     struct owner *own = data;

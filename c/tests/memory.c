@@ -1,4 +1,5 @@
-/* A scenario whose each call is made again where memory was refused once: what it prints must not depend on that. */
+/* SPDX-License-Identifier: MIT OR Apache-2.0 */
+/* A scenario in which each call is made again if memory was refused once: the output must not depend on that. */
 #include <kernfs_tree.h>
 #include <stdio.h>
 #include <string.h>
@@ -9,7 +10,7 @@ static struct kt_stat stat;
 static struct kt_lock lock = KT_LOCK_INIT;
 static char text[300], long_name[201];
 
-/* The call, again where memory was refused. */
+/* Makes the call, and again if memory was refused. */
 #define AGAIN(call)                              \
     do {                                         \
         int64_t answer = call;                   \
@@ -18,10 +19,10 @@ static char text[300], long_name[201];
         printf(#call ": %lld\n", (long long)answer); \
     } while (0)
 
-/* A call that is refused for another cause is refused for that, whatever memory is refused: want of it comes last. */
+/* A call that is refused for another cause is refused for that, whatever memory is refused: lack of memory is last. */
 #define REFUSED(call) printf(#call ": %lld\n", (long long)(call))
 
-/* Hides the file; where memory was refused it is not hidden. */
+/* Hides the file; if memory was refused, it is not hidden. */
 static void hide(void)
 {
     int32_t answer = kt_hide(&tree, file);
@@ -78,7 +79,7 @@ static void list(struct kt_key at)
     }
 }
 
-/* Removes its own directory; where memory was refused nothing has changed, or it went on to the end. */
+/* Removes its own directory; if memory was refused, nothing has changed, or the removal was completed. */
 static int64_t remove_self(struct kt_handle *call, void *data)
 {
     int32_t answer = kt_remove_self_wait(&tree, call, dir, &lock);

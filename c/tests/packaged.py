@@ -1,3 +1,4 @@
+# SPDX-License-Identifier: MIT OR Apache-2.0
 """What is installed, and the ways in which programs find it: pkg-config, CMake, manual pages, dlopen, Python."""
 
 import os
@@ -17,10 +18,12 @@ add_executable(shared example.c)
 target_link_libraries(shared kernfs_tree::kernfs_tree)
 add_executable(static example.c)
 target_link_libraries(static kernfs_tree::static)
-find_package(kernfs_tree 0.1 QUIET)
-if(kernfs_tree_FOUND)
-    message(FATAL_ERROR "another minor version is taken for this one")
-endif()
+foreach(other 0.1 {version}.999)
+    find_package(kernfs_tree ${{other}} QUIET)
+    if(kernfs_tree_FOUND)
+        message(FATAL_ERROR "this version is taken for ${{other}}")
+    endif()
+endforeach()
 """
 PLUGIN = """#include <kt_live.h>
 int plugin(void);
@@ -60,7 +63,7 @@ int main(int count, char **names)
 
 
 def install(run, here, prefix):
-    """What make said where it did not install, or what others may not read: also where the umask is strict."""
+    """What make printed if it did not install, or what other users may not read; the umask is strict."""
     made = run(["make", "-C", here, "install", f"PREFIX={prefix}"], umask=0o077)
     if made.returncode:
         return made.stdout[-600:] + made.stderr[-600:]
@@ -74,7 +77,7 @@ def version(here):
 
 
 def found_by_pkg_config(run, here, room):
-    """What is installed suffices: the example is built by what pkg-config tells, without this folder."""
+    """What is installed suffices: the example is built with the flags of pkg-config, without this folder."""
     prefix = room / "at a place"
     wrong = install(run, here, prefix)
     if wrong:
@@ -91,7 +94,7 @@ def found_by_pkg_config(run, here, room):
 
 
 def found_by_cmake(run, here, room):
-    """CMake's find_package() finds both libraries, also where what was installed was moved; another minor version not."""
+    """CMake's find_package() finds both libraries, even after the installation was moved, but no other minor version."""
     wrong = install(run, here, room / "before")
     if wrong:
         return wrong
@@ -112,7 +115,7 @@ def found_by_cmake(run, here, room):
 
 
 def has_pages(run, here, room):
-    """Each function has a manual page by its name, with its declaration as the header has it."""
+    """Each function has a manual page with its name, and its declaration is that of the header."""
     wrong = install(run, here, room / "pages")
     if wrong:
         return wrong
@@ -154,7 +157,7 @@ def works_as_plugin(run, here, room, archive):
 
 
 def works_in_python(run, here, archive):
-    """The Python module's own test, with the shared library beside the archive."""
+    """The test of the Python module, with the shared library beside the archive."""
     env = {**os.environ, "PYTHONPATH": f"{here}:{here}/tests", "PYTHONDONTWRITEBYTECODE": "1"}
     env["KERNFS_TREE"] = str(archive.parent / f"libkernfs_tree.so.{version(here)}")
     ran = run([sys.executable, "-m", "unittest", "test_kernfs_tree"], env=env)

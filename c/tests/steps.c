@@ -1,3 +1,4 @@
+/* SPDX-License-Identifier: MIT OR Apache-2.0 */
 /* The calls without kt_live.h: a fan with two attributes that readers and a writer use in threads, one removes it
  * while a callback is inside, and another device deletes itself by a write to its own attribute. */
 #include <kernfs_tree.h>
@@ -8,7 +9,7 @@
 #include <string.h>
 #include <unistd.h>
 
-/* What the driver keeps of its device. It is freed once the removal has answered. */
+/* What the driver keeps of its device. It is freed once the removal has returned. */
 struct fan {
     atomic_int speed;
 };
@@ -25,7 +26,7 @@ static void must(int64_t answer, const char *what)
     }
 }
 
-/* A directory with one or two files, none of which is seen before all are there. */
+/* A directory with one or two files, none of which is visible before all exist. */
 static struct kt_key publish(const char *name, uint64_t tag, const char *files[], int count)
 {
     struct kt_key root, dir, file;
@@ -147,7 +148,7 @@ int main(void)
 
     printf("the fan is removed while a callback is inside: %s\n", atomic_load(&inside) ? "yes" : "no");
     must(kt_remove_wait(&tree, dir, &lock), "remove");
-    free(fan); /* nobody is inside, and nobody can come in */
+    free(fan); /* no caller is inside, and none can enter */
     printf("it is gone; inside: %d\n", atomic_load(&inside));
     int before = atomic_load(&shown) + atomic_load(&stored);
     for (int i = 0; i < 3; i++)

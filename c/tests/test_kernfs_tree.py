@@ -1,4 +1,5 @@
-"""Tries the Python module:  KERNFS_TREE=.. python3 -m unittest test_kernfs_tree  (the shared library's path)."""
+# SPDX-License-Identifier: MIT OR Apache-2.0
+"""Tests the Python module:  KERNFS_TREE=.. python3 -m unittest test_kernfs_tree  (the path of the shared library)."""
 
 import errno
 import threading
@@ -116,7 +117,7 @@ class Calls(unittest.TestCase):
         gone.close()
 
     def test_full_node(self):
-        """Who waits for a removal is woken where a node was full of holds, by the close of one that is in no call."""
+        """On a node full of holds, the close of a hold without a call wakes the thread that waits for a removal."""
         tree = Tree(holds=2)
         file = tree.create_file(tree.root, "file")
         inside = tree.hold(file)
@@ -188,7 +189,7 @@ class Calls(unittest.TestCase):
             tree.open(tree.create_file(tree.root, "w", 0o200), "r")
 
     def test_no_callback_after_removal(self):
-        """Four threads run callbacks at 50 files that are removed: none runs once the removal is over."""
+        """Four threads run callbacks of 50 files that are removed: none runs after the removal."""
         tree, gone, late = self.tree, threading.Event(), []
 
         def use(hold):

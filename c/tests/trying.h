@@ -1,4 +1,5 @@
-/* Calls that are tried: a line tells each, and what it answered. */
+/* SPDX-License-Identifier: MIT OR Apache-2.0 */
+/* Runs calls, and prints a line for each with its result. */
 #include <inttypes.h>
 #include <stdio.h>
 
@@ -17,7 +18,7 @@ static void expect(const char *what, int64_t found, int64_t wanted)
 
 #define TRY(call, wanted) expect(#call, call, wanted)
 
-/* Tells how many were as they must be, and how many not: the status of the program. */
+/* Prints how many passed and failed. Returns the exit status of the program. */
 static int tried(void)
 {
     printf("%d passed, %d failed\n", passed, failed);

@@ -1,4 +1,5 @@
-/* Each call but for hiding, as it is meant and as it is not. A line tells each thing that was tried; the last one is
+/* SPDX-License-Identifier: MIT OR Apache-2.0 */
+/* Each call except hiding, with right and wrong uses. It prints a line for each test; the last line is
  * 'N passed, M failed'. */
 #include <kernfs_tree.h>
 #include <string.h>
@@ -48,7 +49,7 @@ static void names(void)
     TRY(kt_create_link(&tree, root, "s", 1, stale, true, &key), -ENOENT);
     TRY(kt_create_file(&tree, root, "m", 1, 01000, 0, true, &key), -EINVAL);
     TRY(kt_create_file(&tree, stale, "m", 1, 0177777, 0, true, &key), -EINVAL); /* the mode comes first */
-    TRY(same(key, file), 1); /* what is refused writes nothing */
+    TRY(same(key, file), 1); /* a refused call writes nothing */
     TRY(kt_create_file(&tree, root, "m", 1, 0777, 0, true, &key), 0);
     TRY(kt_remove(&tree, key), 1);
     TRY(kt_create_dir(&tree, root, longest, 255, true, &key), 0);
@@ -133,7 +134,7 @@ static void changes(void)
     TRY(commands.stored == commands.compacted, 1);
     TRY(kt_remove(&tree, key), 1);
     TRY(kt_remove(&tree, key), 0); /* it is out of the tree */
-    TRY(kt_remove(&tree, (struct kt_key){key.slot, key.generation + 1}), -ENOENT); /* not given yet */
+    TRY(kt_remove(&tree, (struct kt_key){key.slot, key.generation + 1}), -ENOENT); /* not used yet */
     TRY(kt_remove(&tree, (struct kt_key){key.slot, 0}), -ENOENT);
     TRY(kt_remove(&tree, (struct kt_key){0, 0}), -ENOENT);
     TRY(kt_remove(&tree, (struct kt_key){8, 1}), -ENOENT); /* no such slot */
@@ -236,7 +237,7 @@ static void self_removal(void)
     TRY(kt_clear(&hold), 1); /* ends the call too */
 }
 
-/* Another hold from a hold, with no tree: of a node that is there, that is being removed, that is gone. */
+/* Another hold from a hold, without a tree: of a node that exists, that is being removed, that is gone. */
 static void doubles(void)
 {
     struct kt_handle small = {NULL}, third = {NULL};
@@ -262,7 +263,7 @@ static void doubles(void)
     TRY(kt_dup(&hold, &third), -EMFILE); /* the last place is left */
     TRY(kt_dup(&other, &third), -EMFILE);
     TRY(kt_enter(&other), 0);
-    TRY(kt_dup(&other, &third), -EINVAL); /* a call is no hold */
+    TRY(kt_dup(&other, &third), -EINVAL); /* a call is not a hold */
     TRY(kt_enter(&hold), 0);
     TRY(kt_remove(&small, file), -EAGAIN);
     TRY(kt_leave(&hold), 0); /* the other one is inside */
@@ -292,7 +293,7 @@ static void doubles(void)
     TRY(kt_delete(small), 0);
     TRY(kt_dup(&hold, &third), -EMFILE);
     TRY(kt_clear(&hold), 0);
-    TRY(kt_dup(&other, &third), 0); /* its tree is let go */
+    TRY(kt_dup(&other, &third), 0); /* its tree is freed */
     TRY(kt_clear(&other), 0);
     TRY(kt_delete(third), 0);
 }

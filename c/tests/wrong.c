@@ -1,5 +1,6 @@
-/* Wrong uses that the library cannot see, each in a process of its own:  wrong NAME  runs one, as tests/wrong.py tells,
- * which knows what a sanitizer must say of it. Those whose name begins with `right` are right: nothing may be said. */
+/* SPDX-License-Identifier: MIT OR Apache-2.0 */
+/* Wrong uses that the library cannot see, each in a new process:  wrong NAME  runs one, for tests/wrong.py, which knows
+ * what a sanitizer must report. Uses whose name begins with `right` are right: nothing may be reported. */
 #include <kernfs_tree.h>
 #include <stdlib.h>
 #include <unistd.h>
@@ -10,7 +11,7 @@ static struct kt_handle tree, hold, file;
 static struct kt_lock lock = KT_LOCK_INIT;
 static struct kt_key root, dir, dir_file, other;
 static char text[16];
-static int plain; /* no atomic: who changes it must be ordered by something */
+static int plain; /* not atomic: its changes must be ordered by something */
 
 static void must(int64_t answer)
 {
@@ -20,7 +21,7 @@ static void must(int64_t answer)
     }
 }
 
-/* A hold of a node, behind a new handle. */
+/* A hold of a node, in a new handle. */
 static struct kt_handle hold_of(struct kt_key key)
 {
     struct kt_handle made;
@@ -80,7 +81,7 @@ static void deleted_inside(void) { must(kt_run(&hold, &lock, delete_it, NULL)); 
 
 /* ---- texts that are shorter than they are said to be ---- */
 
-static volatile size_t beyond = 200; /* (what the compiler knows to be wrong it tells) */
+static volatile size_t beyond = 200; /* (the compiler warns of what it knows to be wrong) */
 
 static char *short_text(void)
 {
@@ -180,10 +181,10 @@ static void runs_at(struct kt_key key)
 static void *runs_here(void *data) { runs_at(dir_file); return data; }
 static void *runs_there(void *data) { runs_at(other); return data; }
 
-/* Two callbacks of one node run at once: what they both change is a race of the program's. */
+/* Two callbacks of one node run at once: if both change something, that is a race of the program. */
 static void one_node(void) { two_threads(runs_here, runs_here); }
 
-/* So are callbacks of two nodes, also where a third node is removed between their steps. */
+/* So it is for callbacks of two nodes, even if a third node is removed between their steps. */
 static void *runs_and_removes(void *data)
 {
     struct kt_key gone;
@@ -247,7 +248,7 @@ static void right_second_hold(void)
     removes(dir, false);
 }
 
-/* And freed without that, it is a race. */
+/* Freed without that, it is a race. */
 static void freed_early(void)
 {
     pthread_t thread;
@@ -295,7 +296,7 @@ static void right_activation(void)
     kt_delete(own);
 }
 
-static void right_handles(void) /* more than the table of kt_check.h has room for */
+static void right_handles(void) /* more than the table of kt_check.h can hold */
 {
     static struct kt_handle many[6000];
     for (int i = 0; i < 6000; i++)

@@ -1,5 +1,6 @@
-"""Wrong uses of the library: a compiler warns of those below, and a sanitizer reports those of wrong.c. What answers an
-error number is tried by uses.c and hiding.c."""
+# SPDX-License-Identifier: MIT OR Apache-2.0
+"""Wrong uses of the library: a compiler warns of those below, and a sanitizer reports those of wrong.c. uses.c and hiding.c
+test those that return an error number."""
 
 # What is wrong, the code, the warning, and the compilers that know it.
 WARNED = [
@@ -54,7 +55,7 @@ SILENT = [
 
 
 def warns(run, compiler, include, room):
-    """Nothing where the compiler warns of each wrong use, and of no right one; else what it did."""
+    """None if the compiler warns of each wrong use, and of no right one; else what it did."""
     source = room / "warned.c"
     head = (
         "#include <kernfs_tree.h>\nint use(struct kt_handle tree, struct kt_handle hold, struct kt_key key);\n"
@@ -80,7 +81,7 @@ def warns(run, compiler, include, room):
 
 
 def reports(run, program, sanitizer):
-    """Nothing where the sanitizer reports each wrong use, and no right one; else what it did not."""
+    """None if the sanitizer reports each wrong use, and no right one; else what is missing."""
     for name, wanted in REPORTED[sanitizer].items():
         for _ in range(5):  # (a race is seen where the threads meet)
             ran = run([program, name])

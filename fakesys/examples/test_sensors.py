@@ -1,3 +1,4 @@
+# SPDX-License-Identifier: MIT OR Apache-2.0
 """Tests of a reader of sysfs with pytest: what it does when a sensor changes, fails, or goes while it is read."""
 import errno
 import os
@@ -22,7 +23,7 @@ def tree():
 
 
 def temperature(root="/sys"):
-    """The reader that is tested: degrees, or None where there is no sensor (any more)."""
+    """The reader under test: degrees, or None if there is no sensor (any longer)."""
     try:
         return int(pathlib.Path(f"{root}{CHIP}/temp1_input").read_text()) / 1000
     except OSError as error:

@@ -1,4 +1,5 @@
-"""System calls that are answered as sysfs answers them."""
+# SPDX-License-Identifier: MIT OR Apache-2.0
+"""System calls whose results are those of sysfs."""
 import ctypes, errno, os, stat, struct, time
 from pathlib import Path
 
@@ -8,7 +9,7 @@ LIBC = ctypes.CDLL(None, use_errno=True)
 
 
 def getdents(file, size=32768):
-    """The entries that one getdents64(2) gives: name, inode number, kind."""
+    """The entries that one getdents64(2) returns: name, inode number, kind."""
     room = ctypes.create_string_buffer(size)
     length = LIBC.syscall({"x86_64": 217}.get(os.uname().machine, 61), file, room, ctypes.c_size_t(size))
     must(length >= 0, f"getdents64: {os.strerror(ctypes.get_errno())}")
@@ -21,8 +22,8 @@ def getdents(file, size=32768):
 
 
 def listings(mount):
-    """A listing has `.` and `..` first, begins anew when it is rewound, goes on from any place, and tells
-    true inode numbers."""
+    """A listing has `.` and `..` first, restarts when it is rewound, continues from any offset, and has the
+    right inode numbers."""
     mount.done("mkdir /d", "mkdir /d/b", "file /d/c 444", "link /d/a /d/b", "mkdir /devices/fan0/d")
     with mount.opened("/d", os.O_RDONLY | os.O_DIRECTORY) as file:
         entries = getdents(file)
@@ -34,12 +35,12 @@ def listings(mount):
         mount.done("mkdir /d/later")
         os.lseek(file, 0, os.SEEK_SET)
         must(
-            [it[0] for it in getdents(file)] == [".", "..", "a", "b", "c", "later"], "rewound, it lists anew"
+            [it[0] for it in getdents(file)] == [".", "..", "a", "b", "c", "later"], "rewound, it lists everything again"
         )
         os.lseek(file, 3, os.SEEK_SET)
-        must([it[0] for it in getdents(file)] == ["b", "c", "later"], "from a place")
+        must([it[0] for it in getdents(file)] == ["b", "c", "later"], "from an offset")
         os.lseek(file, 13, os.SEEK_SET)
-        must(getdents(file) == [], "from a place past the end")
+        must(getdents(file) == [], "from an offset past the end")
         os.lseek(file, 0, os.SEEK_SET)
         short = [entry for _ in range(6) for entry in getdents(file, 32)]
         must(len(short) == 6, f"one by one: {short}")
@@ -58,7 +59,7 @@ def listings(mount):
 
 
 def refused_calls(mount):
-    """What sysfs has no operation for is refused as there."""
+    """Operations that sysfs does not have are refused as in sysfs."""
     top, file = mount.path("/devices/fan0"), mount.path("/devices/fan0/speed")
     for wanted, call, *words in (
         (errno.EPERM, os.mkdir, top + "/x"),
@@ -81,12 +82,12 @@ def refused_calls(mount):
             error_of(call, *words) == wanted,
             f"{call.__name__} {words[1:]}: {os.strerror(error_of(call, *words))}",
         )
-    must(os.listxattr(file) == [], "there are no extended attributes")
-    must(sorted(os.listdir(top)) == ["limit", "speed"], "all is as before")
+    must(os.listxattr(file) == [], "no extended attributes")
+    must(sorted(os.listdir(top)) == ["limit", "speed"], "nothing has changed")
 
 
 def kept(mount):
-    """Modes, owners and times that are given by chmod(2) and the like are kept, and decide who may open."""
+    """Modes, owners and times that chmod(2) and similar calls set are stored, and decide who may open a file."""
     path = mount.path("/devices/fan0/speed")
     before = os.stat(path)
     must(
@@ -95,7 +96,7 @@ def kept(mount):
         before,
     )
     os.chmod(path, 0o200)
-    must(error_of(read_path, path) == errno.EACCES, "without a bit for reading, of root too")
+    must(error_of(read_path, path) == errno.EACCES, "without a bit for reading, even for root")
     os.chmod(path, 0o600)
     os.utime(path, (1, 2))
     owner = (1, 2) if os.geteuid() == 0 else (os.geteuid(), os.getegid())
@@ -111,15 +112,15 @@ def kept(mount):
             for name, how in (("/r", os.O_WRONLY), ("/w", os.O_RDONLY), ("/n", os.O_RDONLY))
         ]
         == [errno.EACCES] * 3,
-        "as they were made",
+        "as they were created",
     )
     os.chmod(mount.path("/r"), 0o644)
-    must(error_of(os.open, mount.path("/r"), os.O_WRONLY) == errno.EACCES, "what has no store takes no write")
+    must(error_of(os.open, mount.path("/r"), os.O_WRONLY) == errno.EACCES, "a file without a store accepts no write")
 
 
 def gone(mount):
-    """What is open when it goes is told of still, and lists nothing; it is not opened again; the next in
-    its slot is another."""
+    """If a node is removed while open, stat(2) still reports it; it lists nothing and cannot be opened again;
+    the next node in its slot is another one."""
     here = os.getcwd()
     inode = os.stat(mount.path("/devices/fan0")).st_ino
     with mount.opened("/devices/fan0/speed") as file, mount.opened(
@@ -142,12 +143,12 @@ def gone(mount):
             )
             must(
                 error_of(os.open, f"/proc/self/fd/{file}", os.O_RDONLY) == errno.ENODEV,
-                "it is not opened again",
+                "it cannot be opened again",
             )
             mount.done("mkdir /devices/fan0", "file /devices/fan0/speed 644 2")
             must(
                 os.fstat(top).st_ino == inode != os.stat(mount.path("/devices/fan0")).st_ino,
-                "another has its name",
+                "another node has its name",
             )
             must(
                 error_of(os.pread, file, 9, 0) == errno.ENODEV
@@ -161,12 +162,12 @@ def gone(mount):
     mount.done("mkdir /t")
     must(
         6000 < os.stat(mount.path("/t")).st_ino + 3100 and os.stat(mount.path("/t")).st_ino < 2**32,
-        "numbers fit 32 bits",
+        "numbers fit in 32 bits",
     )
 
 
 def reads_and_writes(mount):
-    """Offsets, truncations, appends; what is written whole and in parts."""
+    """Offsets, truncations, appends; texts that are written whole and in parts."""
     path = mount.path("/devices/fan0/speed")
     with mount.opened("/devices/fan0/speed", os.O_RDWR | os.O_APPEND) as file:
         must(

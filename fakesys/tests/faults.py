@@ -1,15 +1,16 @@
-"""Variants that are wrong, and the check that must find each."""
+# SPDX-License-Identifier: MIT OR Apache-2.0
+"""Wrong variants of the daemon (mutants), and the check that must find each."""
 from tree import polled, removal
 
-# What a variant has in place of the right thing, and the check that must find it.
+# What a variant replaces, and the check that must find it.
 FAULTS = {
     "a removal that does not wait": (removal, """
 static inline int32_t hasty(struct kt_handle *of, struct kt_key key, struct kt_lock *owner)
 {
     pthread_mutex_lock(&owner->mutex);
-    int32_t answer = kt_remove(of, key);
+    int32_t result = kt_remove(of, key);
     pthread_mutex_unlock(&owner->mutex);
-    return answer == -EAGAIN ? 0 : answer;
+    return result == -EAGAIN ? 0 : result;
 }
 #define kt_remove_wait hasty"""),
     "a show without enter": (removal, """

@@ -1,5 +1,6 @@
-"""The lines that no script of the proved program has: texts, faults, delays, unplugs, storms, and how lines
-are written."""
+# SPDX-License-Identifier: MIT OR Apache-2.0
+"""The lines that scripts of the proved program do not have: texts, faults, delays, unplugs, storms; and how
+lines are written."""
 import contextlib, errno, os, random, select, subprocess, threading, time
 from pathlib import Path
 
@@ -7,8 +8,8 @@ from mounted import EVENTS, Beside, error_of, eventually, must, read_path
 
 
 def texts(mount):
-    """A text is set from outside: of several lines, of bytes of any value, as printf(1)'s %b; an open file
-    reads the new one."""
+    """`set` gives a file several lines of text, or bytes of any value, as printf(1)'s %b; an open file reads the
+    new text."""
     path = "/devices/fan0/speed"
     with mount.opened(path) as file:
         must(os.pread(file, 99, 0) == b"1200\n", "before")
@@ -37,7 +38,7 @@ def texts(mount):
                 capture_output=True,
                 check=True,
             ).stdout
-            must(spoken in (wanted, wanted[:-1]), f"{text!r}: printf says {spoken!r}")
+            must(spoken in (wanted, wanted[:-1]), f"{text!r}: printf prints {spoken!r}")
         bytes_of_all = "".join(f"\\x{byte:02x}" for byte in range(256)) * 15 + r"\x41" * 255
         mount.done(f"set {path} {bytes_of_all}\\c")
         must(os.pread(file, 9999, 0) == bytes(range(256)) * 15 + b"A" * 255, "4,095 bytes of any value")
@@ -49,7 +50,7 @@ def texts(mount):
     must(
         mount.ask("set /devices x", "set /class/cooling x", "set /no x", "set")
         == ["err IsDir 21", "err Invalid 22", "err NoEntry 2", "err Line 22"],
-        "what has no text",
+        "nodes without a text",
     )
     with mount.opened(path, os.O_WRONLY) as file:
         must(
@@ -65,7 +66,7 @@ def texts(mount):
 
 
 def binary_files(mount):
-    """A text of a page and more is a binary file's: read and written in parts, at any offset, until it is short again."""
+    """A text of a page or more makes a binary file: read and written in parts, at any offset, until it is short again."""
     path, data = mount.path("/config"), bytearray(bytes(range(256)) * 62)
     mount.done("file /config 644", "set /config " + "".join(f"\\x{byte:02x}" for byte in data) + "\\c")
     must(os.stat(path).st_size == len(data), "its size")
@@ -74,14 +75,14 @@ def binary_files(mount):
         for offset, room in ((0, 64), (4095, 2), (4096, 4096), (5000, 9999), (len(data) - 3, 99), (0, 4096)):
             part = bytes(data[offset : offset + min(room, 4096)])
             must(os.pread(file, room, offset) == part, f"{room} bytes at {offset}")
-        must(os.pread(file, 9, len(data)) == b"" == os.pread(file, 9, 1 << 40), "nothing behind its end")
+        must(os.pread(file, 9, len(data)) == b"" == os.pread(file, 9, 1 << 40), "nothing past its end")
         must(os.pwrite(file, b"new", 5000) == 3 and os.pread(file, 5, 4999) == b"\x87new\x8b", "a part is written")
         must(os.pwrite(file, b"x" * 9, len(data) - 2) == 2 and os.stat(path).st_size == len(data), "it does not grow")
-        must(error_of(os.pwrite, file, b"x", len(data)) == errno.EFBIG, "behind its end")
+        must(error_of(os.pwrite, file, b"x", len(data)) == errno.EFBIG, "past its end")
         mount.done("fail /config EIO")
         must(error_of(os.pread, file, 9, 4096) == error_of(os.pwrite, file, b"x", 9) == errno.EIO, "it fails")
         mount.done("fail /config 0", "set /config short")
-        must(os.pread(file, 99, 0) == b"short\n" == read_path(path), "a text again")
+        must(os.pread(file, 99, 0) == b"short\n" == read_path(path), "it is a text again")
         must(os.stat(path).st_size == 4096, "with a text's size")
         mount.done("set /config " + "a" * 5000 + "\\c", "slow /config 2000")
         reader = Beside(os.pread, file, 9999, 4000)
@@ -89,14 +90,14 @@ def binary_files(mount):
         begun = time.monotonic()
         mount.done("rm /config")
         must(time.monotonic() - begun > 0.1 and reader.given() == b"a" * 1000, "a removal waits for a part")
-        must(error_of(os.pread, file, 9, 0) == errno.ENODEV == error_of(os.pwrite, file, b"x", 0), "gone is gone")
+        must(error_of(os.pread, file, 9, 0) == errno.ENODEV == error_of(os.pwrite, file, b"x", 0), "it is gone")
     mount.done("file /uevent2 644")
-    must(mount.ask("set /uevent2 " + "a" * 5000) == ["err File too large"], "with a newline behind it it is a text")
+    must(mount.ask("set /uevent2 " + "a" * 5000) == ["err File too large"], "with a newline at its end it is a text")
 
 
 def faults(mount):
-    """Reads and writes fail as the line tells, until it ends; what was written meanwhile is not taken;
-    opens go on."""
+    """Reads and writes fail as the line says, until it ends; what was written meanwhile is not stored; opens
+    still succeed."""
     path = mount.path("/devices/fan0/limit")
     with mount.opened("/devices/fan0/limit", os.O_RDWR) as file:
         for word, number in (("5", 5), ("EAGAIN", errno.EAGAIN), ("ENODATA", errno.ENODATA), ("133", 133)):
@@ -118,7 +119,7 @@ def faults(mount):
             "slow, and then the fault",
         )
         mount.done("unplug /devices/fan0")
-        must(error_of(os.pread, file, 9, 0) == errno.ENODEV, "gone is gone")
+        must(error_of(os.pread, file, 9, 0) == errno.ENODEV, "it is gone")
     mount.done("file /a 444 1")
     must(
         mount.ask(
@@ -130,8 +131,8 @@ def faults(mount):
 
 
 def late(mount):
-    """A delay before the show is not waited for by a removal, so that the reader has ENODEV for certain; of
-    a directory it comes between the listing and the look-up."""
+    """A removal does not wait for a delay before the show, so the reader always gets ENODEV; in a directory the
+    delay is between the listing and the look-up."""
     mount.done("late /devices/fan0/speed 2000", "late /class 2000")
     with mount.opened("/devices/fan0/limit") as limit, mount.opened("/devices/fan0/speed", os.O_RDWR) as file:
         readers = [Beside(error_of, os.pread, file, 9, 0), Beside(error_of, os.pwrite, file, b"1", 0)]
@@ -142,7 +143,7 @@ def late(mount):
         mount.done("unplug /devices/fan0")
         must(time.monotonic() - begun < 1.5, "the removal waits for a late reader")
         must([it.given() for it in readers] == [errno.ENODEV] * 2, "ENODEV")
-        must(looker.given() == errno.ENOENT, "what was listed is not found any more")
+        must(looker.given() == errno.ENOENT, "a listed name is no longer found")
         must(error_of(os.pread, limit, 9, 0) == errno.ENODEV, "of an open file")
     mount.done("file /b 644 text", "late /b 1000")
     with mount.opened("/b") as file:
@@ -165,8 +166,8 @@ def late(mount):
 
 
 def hidden(mount):
-    """A hidden file is not found or listed, and who has it open has ENODEV, after its reader has left; then
-    it is shown again."""
+    """A hidden file is neither found nor listed, and an open one gives ENODEV, after its reader has left; then it
+    is shown again."""
     path, waiting = "/devices/fan0/speed", select.poll()
     mount.done(f"slow {path} 2000")
     with mount.opened(path, os.O_RDWR) as file, mount.opened(path) as other:
@@ -203,7 +204,7 @@ def hidden(mount):
 
 
 def unplugged(mount):
-    """What is unplugged goes with the links that lead into it, and no others; a removal leaves them."""
+    """An unplug removes a device and the links that lead into it, and no other links; a removal keeps the links."""
     mount.done(
         "mkdir /bus",
         "mkdir /devices/fan1",
@@ -238,8 +239,7 @@ def unplugged(mount):
 
 
 def blanks(mount):
-    """A name may have a blank, a tab, a newline and a backslash, by an escape; a slash or a zero byte it
-    may not have."""
+    """A name may have a blank, a tab, a newline and a backslash, as escapes, but no slash and no zero byte."""
     mount.done(
         r"mkdir /a\040b",
         r"file /a\040b/\011\012\134 644 x",
@@ -255,7 +255,7 @@ def blanks(mount):
     )
     must(
         os.path.isdir(mount.path("/a\\08")) and os.path.isdir(mount.path("/\\040")),
-        "what is no escape is itself",
+        "a backslash without an escape is itself",
     )
     must(
         mount.ask(
@@ -266,12 +266,12 @@ def blanks(mount):
             "mkdir /devices/.control",
         )
         == ["err Invalid 22", "err Invalid 22", "err Exists 17", "err Exists 17", "ok"],
-        "what no name may be",
+        "names that are not allowed",
     )
 
 
 def controlled(mount):
-    """The control file: a line fails as what it does, and its reason is told there; it is listed nowhere."""
+    """The control file: a write fails as its line does, and the file shows the reason; it is not listed."""
     must(read_path(mount.path("/.control")) == b"", "nothing was refused")
     replies = mount.ask(
         "mkdir /a",
@@ -302,12 +302,12 @@ def controlled(mount):
         replies,
     )
     must(
-        read_path(mount.path("/.control")) == b"line 1: wanted: mkdir PATH [off]: mkdir /a \n",
+        read_path(mount.path("/.control")) == b"line 1: usage: mkdir PATH [off]: mkdir /a \n",
         read_path(mount.path("/.control")),
     )
     must(
         "fakesysfs: .control, line 1: no such command: frob\n" in mount.log.read_text(),
-        "it is told in the foreground too",
+        "it is printed in the foreground too",
     )
     Path(mount.path("/.control")).write_text("mkdir /c")
     must(
@@ -316,15 +316,15 @@ def controlled(mount):
     )
     must(
         error_of(Path(mount.path("/.control")).write_text, "mkdir /c") == errno.EEXIST,
-        "close(2) tells how it went",
+        "close(2) returns the error",
     )
     of = os.stat(mount.path("/.control"))
     must((of.st_mode, of.st_size) == (0o100600, 4096) and of.st_ino < 2**32, of)
 
 
 def many_lines(mount):
-    """Many lines in one write, and lines that are cut anywhere; the first that is wrong ends it, and its
-    number is told."""
+    """Many lines in one write, and lines that are cut anywhere; the first wrong line ends it, and its number is
+    shown."""
     control = mount.path("/.control")
     script = Path(f"{mount.at}.more")
     script.write_text(
@@ -351,7 +351,7 @@ def many_lines(mount):
     must(ran.returncode == 1 and "No such file" in ran.stderr, f"cat: {ran}")
     must(
         sorted(os.listdir(mount.path("/"))) == ["a", "b", "class", "devices"],
-        "those before it are done, none after it",
+        "the lines before it are run, and none after it",
     )
     must(read_path(control) == b"line 5: No such file or directory: mkdir /no/c\n", read_path(control))
     file = os.open(control, os.O_WRONLY)
@@ -364,20 +364,20 @@ def many_lines(mount):
     )
     must(error_of(os.write, file, b"x" * 70_000) == errno.EFBIG, "a line that is too long")
     os.close(file)
-    must(sorted(os.listdir(mount.path("/"))) == ["class", "devices"], "all are gone")
+    must(sorted(os.listdir(mount.path("/"))) == ["class", "devices"], "all nodes are gone")
 
 
 def wrong_lines(mount):
     """No line that is refused changes anything."""
 
-    def told():
+    def state():
         return [
             (path, names, files, [os.lstat(f"{path}/{it}").st_mode for it in files])
             for path, names, files in sorted(os.walk(mount.at))
         ]
 
     mount.done("mkdir /off off", "file /off/a 644 1", "hide /devices/fan0/limit")
-    before, text = told(), read_path(mount.path("/devices/fan0/speed"))
+    before, text = state(), read_path(mount.path("/devices/fan0/speed"))
     commands = "mkdir file link activate mv rm unplug hide show notify set fail late slow storm frob".split()
     wrong = [
         f"{command}{words}"
@@ -409,12 +409,12 @@ def wrong_lines(mount):
         all(reply.startswith("err ") for reply in replies),
         [pair for pair in zip(wrong, replies) if pair[1] == "ok"],
     )
-    must(told() == before and read_path(mount.path("/devices/fan0/speed")) == text, "something changed")
+    must(state() == before and read_path(mount.path("/devices/fan0/speed")) == text, "something changed")
     return f"{len(wrong)} lines"
 
 
 def noise(mount):
-    """Lines at random, nearly right and of any bytes, while others read: it goes on, and tells what is there."""
+    """Random lines, almost right and of any bytes, while others read: it goes on, and lists its tree."""
     lot = random.Random(3)
     names = [
         "a",
@@ -510,15 +510,15 @@ def noise(mount):
 
 
 def is_unplugged(mount, path):
-    """Whether a device could be unplugged: where a storm has it away just then, there is none."""
+    """Whether a device could be unplugged: a storm may have it away just then."""
     reply = mount.tell(f"unplug {path}")
     must(reply in ("ok", "err NoEntry 2"), reply)
     return reply == "ok"
 
 
 def storms(mount):
-    """A storm takes a device away and brings it again, with its links, texts and faults, until it is ended;
-    then it is there."""
+    """A storm removes a device and creates it again, with its links, texts and faults, until the storm is ended;
+    then the device exists."""
     mount.done(
         "set /devices/fan0/limit a\\nb",
         "fail /devices/fan0/speed EIO",
@@ -594,7 +594,7 @@ def storms(mount):
 
 
 def stores(mount):
-    """Two stores of one file are inside at one time, by two descriptors, where libfuse lets them."""
+    """Two stores of one file are inside at the same time, by two descriptors, if libfuse allows it."""
     mount.done("slow /devices/fan0/speed 1000")
     with mount.opened("/devices/fan0/speed", os.O_WRONLY) as one, mount.opened(
         "/devices/fan0/speed", os.O_WRONLY

@@ -1,3 +1,4 @@
+# SPDX-License-Identifier: MIT OR Apache-2.0
 """Removals under load."""
 import errno, os, random, re, select, subprocess, threading, time
 
@@ -5,7 +6,7 @@ from mounted import EVENTS, FAN, HERE, PATIENCE, Beside, Mount, eventually, must
 
 
 class Load:
-    """What goes on in four devices that come and go: so many removals are left, and what was met."""
+    """Load on four devices that come and go: how many removals are left, and what was counted."""
 
     def __init__(self, mount, count):
         self.mount, self.left, self.lock, self.reads, self.refused = mount, count, threading.Lock(), 0, 0
@@ -38,7 +39,7 @@ class Load:
             waiting.poll(0)
 
     def plug(self, number):
-        """Makes a device, of which a part is slow, and removes it."""
+        """Creates devices, of which some are slow, and removes them."""
         lot, device = random.Random(100 + number), f"/devices/d{number}"
         while self.is_due():
             lines = [
@@ -72,7 +73,7 @@ def removals(mount, count):
     until = time.monotonic() + PATIENCE + count / 20
     for it in [*working, Beside(load.look)]:
         it.given(max(0, until - time.monotonic()))
-    must(os.listdir(mount.path("/devices")) == ["fan0"], "all are gone")
+    must(os.listdir(mount.path("/devices")) == ["fan0"], "all devices are gone")
     made, gone = ([f"{word} /{number}" for number in range(1024 - 7)] for word in ("mkdir", "rm"))
     must(eventually(lambda: mount.ask(*made, *gone)[len(made) - 1] == "ok"), "a slot is lost")
     return f"{count} removals, {load.reads} reads, {load.refused} refused meanwhile"
@@ -85,7 +86,7 @@ def taken(process):
 
 
 def many_removals(program, folder, count, most_grown=8192):
-    """No read, write or open that began after an rm's answer succeeds; descriptors and memory are as before."""
+    """No read, write or open that began after an rm had returned succeeds; descriptors and memory are as before."""
     made = subprocess.run(
         [
             "cc",
@@ -118,5 +119,5 @@ def many_removals(program, folder, count, most_grown=8192):
         must(eventually(lambda: taken(mount.process)[0] <= before[0]), "descriptors")
         grown = taken(mount.process)[1] - before[1]
         must(grown < most_grown, f"it takes {grown} KB more")
-        must(os.listdir(mount.path("/devices")) == ["fan0"], "all are gone")
+        must(os.listdir(mount.path("/devices")) == ["fan0"], "all devices are gone")
     return f"{ran.stdout.strip()}; {grown} KB more"

@@ -1,13 +1,14 @@
-"""A tree that is mounted while something is tried with it, and what the trials share."""
+# SPDX-License-Identifier: MIT OR Apache-2.0
+"""A mounted tree for a test, and what the tests share."""
 import contextlib, errno, os, select, subprocess, tempfile, threading, time
 from pathlib import Path
 
 HERE = Path(__file__).resolve().parent.parent
 TOP = HERE.parent
-PATIENCE = 20  # seconds for what must come, on a busy machine
+PATIENCE = 20  # seconds for anything that must happen, on a busy machine
 EVENTS = select.POLLPRI | select.POLLERR
-# Of errors of system calls. What differs by choice is told in docs/SCRIPTS.md: a file that was not opened for it
-# (EBADF), a link that is opened (ELOOP, since it is not followed).
+# The replies for errors of system calls. docs/SCRIPTS.md says what differs by choice: a file that was not opened for
+# the operation (EBADF). A link that is opened gives ELOOP, since it is not followed.
 NAMES = {
     errno.ENOENT: "NoEntry 2",
     errno.EACCES: "Access 13",
@@ -27,7 +28,7 @@ FAN = (HERE / "fan.kf").read_text().splitlines()
 
 
 class Wrong(Exception):
-    """Something is not as it must be."""
+    """A test failed."""
 
 
 def must(is_well, what):
@@ -36,7 +37,7 @@ def must(is_well, what):
 
 
 def error_of(call, *words):
-    """The error number of a call that must be refused, 0 where it is not."""
+    """The error number of a call that must fail, or 0 if it does not."""
     try:
         call(*words)
         return 0
@@ -48,7 +49,7 @@ def error_of(call, *words):
 
 
 class Mount:
-    """A tree that is mounted while a `with` is inside."""
+    """A tree that is mounted inside a `with`."""
 
     def __init__(self, program, folder, script=(), slots=1024):
         self.program, self.slots, self.script = program, slots, "".join(f"{line}\n" for line in script)
@@ -69,12 +70,12 @@ class Mount:
         return self
 
     def end(self, force):
-        """Takes the mount away: the program's status. By force also where somebody is inside."""
+        """Unmounts the tree. Returns the program's status. With `force` it does so even if a process is inside."""
         if not force:
             subprocess.run(["fusermount3", "-u", self.at], capture_output=True, timeout=PATIENCE, check=False)
             with contextlib.suppress(subprocess.TimeoutExpired):
                 self.process.wait(5)
-            # (where it goes on a name space that was made meanwhile has the mount too)
+            # (if it goes on, a namespace that was created meanwhile has the mount too)
             self.process.terminate()
             with contextlib.suppress(subprocess.TimeoutExpired):
                 self.process.wait(PATIENCE)
@@ -87,8 +88,8 @@ class Mount:
         return status
 
     def said(self):
-        """What the daemon said that was not to be expected: what was refused is told there, and where it was
-        unmounted in one name space and not in another."""
+        """What the daemon printed, except for expected messages: refused lines, and a failed unmount in another
+        namespace."""
         expected = ("fakesysfs: .control, line ", "fuse: failed to unmount")
         lines = self.log.read_text(errors="replace").split("\n")
         return "\n".join(line for line in lines if not line.startswith(expected)).strip()
@@ -96,13 +97,13 @@ class Mount:
     def __exit__(self, kind, *_):
         status = self.end(force=kind is not None)
         said = self.said()
-        must(kind or (status == 0 and not said), f"it ended with {status} and said {said[-2000:]!r}")
+        must(kind or (status == 0 and not said), f"it ended with status {status} and printed {said[-2000:]!r}")
 
     def path(self, path):
         return f"{self.at}{path}"
 
     def tell(self, line):
-        """The reply to a line, or several, that are written to the control file: `ok`, or the error."""
+        """Writes a line, or several, to the control file. Returns `ok`, or the error."""
         file = os.open(self.path("/.control"), os.O_WRONLY)
         try:
             os.write(file, line.encode("latin-1") + b"\n")
@@ -129,8 +130,7 @@ class Mount:
 
 
 class Beside(threading.Thread):
-    """Something that is done meanwhile: when it ended, on the monotonic clock, and what it gave or what was
-    raised."""
+    """A call in another thread: when it ended, on the monotonic clock, and what it returned or raised."""
 
     def __init__(self, what, *words):
         super().__init__(daemon=True)
@@ -157,12 +157,12 @@ def read_path(path):
     try:
         return os.pread(file, 4096, 0)
     finally:
-        with contextlib.suppress(OSError):  # where the mount has ended meanwhile
+        with contextlib.suppress(OSError):  # if the mount has ended meanwhile
             os.close(file)
 
 
 def eventually(is_so):
-    """Whether it is so at some time: the kernel tells of a close(2) later on."""
+    """Whether it becomes true: the kernel reports a close(2) some time later."""
     until = time.monotonic() + 5
     while not is_so():
         if time.monotonic() > until:

@@ -1,6 +1,7 @@
-"""The system calls that are asked of an attribute file, of kernfs or of fakesysfs: `questions(attribute,
-remove)` yields the name of each and what it answers, in an order in which they are to be asked. The file is
-a writable one, of a device."""
+# SPDX-License-Identifier: MIT OR Apache-2.0
+"""The system calls that are compared between kernfs and fakesysfs, on an attribute file: `questions(attribute,
+remove)` yields the name of each and the call, in the order in which they must run. The file is a writable
+file of a device."""
 import ctypes, fcntl, mmap, os, select, signal, stat, struct, time
 
 LIBC = ctypes.CDLL(None, use_errno=True)
@@ -8,11 +9,11 @@ GETDENTS64 = {"x86_64": 217}.get(os.uname().machine, 61)
 
 
 def call(name, *words):
-    """A call of the C library's."""
-    answer = getattr(LIBC, name)(*words)
-    if answer < 0:
+    """Calls a function of the C library."""
+    result = getattr(LIBC, name)(*words)
+    if result < 0:
         raise OSError(ctypes.get_errno(), "")
-    return answer
+    return result
 
 
 def opened(path, flags, do):
@@ -24,7 +25,7 @@ def opened(path, flags, do):
 
 
 def getdents(path, size=32768):
-    """The names and kinds that a directory has, by buffers of a size."""
+    """The names and kinds of a directory, read with buffers of a size."""
 
     def read(file):
         entries = []
@@ -354,7 +355,7 @@ def about_names(it):
 
 
 def watched(path, do):
-    """What inotify(7) tells of a file meanwhile."""
+    """What inotify(7) reports about a file meanwhile."""
     watcher = call("inotify_init1", os.O_NONBLOCK)
     try:
         call("inotify_add_watch", watcher, path.encode(), 0xFFF)

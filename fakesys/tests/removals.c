@@ -1,8 +1,9 @@
-/* removals MOUNT COUNT: devices come and go so many times while threads read, write, open and poll their file.
+/* SPDX-License-Identifier: MIT OR Apache-2.0 */
+/* removals MOUNT COUNT: devices come and go COUNT times while threads read, write, open and poll their file.
  *
- * Counted is each read at offset 0, write and open that began after the answer to the rm of its device, and
- * succeeded: there may be none. A text is the number of its device's life, and inode numbers grow, so that
- * each reader knows which rm it came after. */
+ * It counts each read at offset 0, write and open that began after the rm of its device had returned, and that
+ * succeeded: there must be none. A text is the number of its device's life, and inode numbers grow, so each
+ * reader knows which rm it came after. */
 #include <errno.h>
 #include <fcntl.h>
 #include <poll.h>
@@ -23,7 +24,7 @@ static atomic_long left, lives, reads, writes, opens, polls, refused;
 static atomic_long late_reads, late_writes, late_opens, torn, unknown;
 static atomic_bool is_over;
 static struct device {
-    atomic_long gone, gone_inode; /* the last life whose rm has answered, and its file's inode number */
+    atomic_long gone, gone_inode; /* the last life whose rm has returned, and its file's inode number */
     char path[300];               /* of its file */
 } devices[DEVICES];
 
@@ -40,7 +41,7 @@ static void count_error(void)
         unknown++;
 }
 
-/* The life that a read tells; 0 where it fails. */
+/* The life that a read returns, or 0 if it fails. */
 static long read_life(int file)
 {
     char text[32], *end;
@@ -72,7 +73,7 @@ static int open_device(struct device *it, int how)
     return file;
 }
 
-/* Reads by one open file until it is gone. */
+/* Reads through one open file until it is gone. */
 static void read_on(struct device *it, int file, int turns)
 {
     for (int turn = 0; turn < turns; turn++) {
@@ -106,7 +107,7 @@ static void poll_on(int file)
         polls++;
 }
 
-/* What a user does: of each four one reads on, one opens anew for each read, one writes, one polls. */
+/* A user: of each four one reads on, one opens the file again for each read, one writes, one polls. */
 static void *use(void *data)
 {
     unsigned number = (unsigned)(uintptr_t)data, lot = number + 1;
@@ -138,7 +139,7 @@ static void tell(const char *lines)
     }
 }
 
-/* Plugs a device in and takes it away, with a short while between, until all removals are done. */
+/* Plugs a device in and removes it after a short time, until all removals are done. */
 static void *plug(void *data)
 {
     struct device *it = data;

@@ -1,16 +1,17 @@
-"""Scripts of the proved program, line by line: the replies are compared."""
+# SPDX-License-Identifier: MIT OR Apache-2.0
+"""Runs scripts of the proved program line by line, and compares the replies."""
 import contextlib, errno, os, random, re, select, stat, subprocess, sys
 
 from mounted import EVENTS, NAMES, TOP, Mount, eventually, must
 
 ASKED = (
     "mkdir file link activate mv rm hide show notify".split()
-)  # through the control file; the rest by system calls
+)  # through the control file; all others by system calls
 
 
 class Board:
-    """The lines of a script: those that change the tree by the control file, all others as system calls on
-    the mount."""
+    """Runs the lines of a script: those that change the tree through the control file, all others as system
+    calls on the mount."""
 
     def __init__(self, mount):
         self.mount, self.files, self.ends = mount, {}, {}
@@ -50,7 +51,7 @@ class Board:
             return "err Busy 16"
         flags = {"r": os.O_RDONLY, "w": os.O_WRONLY, "rw": os.O_RDWR}[way] | os.O_NOFOLLOW
         file = os.open(self.mount.path(path), flags)
-        if stat.S_ISDIR(os.fstat(file).st_mode):  # which the kernel opens for reading
+        if stat.S_ISDIR(os.fstat(file).st_mode):  # (the kernel opens it for reading)
             os.close(file)
             return "err IsDir 21"
         self.files[letter] = file
@@ -66,8 +67,8 @@ class Board:
         return text.decode("latin-1").removesuffix("\n")
 
     def reads_elsewhere(self, line):
-        """Whether a line reads at another place than where the last read ended: there the program has the
-        text of that show still, and the kernel shows anew."""
+        """Whether a line reads at another offset than the end of the last read: there the program still has the
+        text of that show, and the kernel shows again."""
         word, letter, *rest = f"{line} ".split(" ")
         return word == "read" and letter in self.files and int(rest[0]) not in (0, self.ends.get(letter))
 
@@ -93,8 +94,8 @@ class Board:
 
 
 def is_for_the_mount(line, wanted):
-    """Whether a line can be asked here: no other command, no read or write of no bytes, no path that the
-    VFS mends, and of what is told of a node only that it is live."""
+    """Whether the mount can run a line: it has no other command, read or write of no bytes or path that the VFS
+    corrects, and the only state of a node is `live`."""
     word, *rest = line.split(" ", 2)
     if word in ASKED:
         return True
@@ -115,7 +116,7 @@ def is_for_the_mount(line, wanted):
 
 
 def scripts():
-    """The repository's scripts that can be asked here, with their slots, lines and replies."""
+    """The repository's scripts that the mount can run, with their slots, lines and replies."""
     for name in sorted((TOP / "examples").glob("*.kf")):
         lines, replies = name.read_text().splitlines(), name.with_suffix(".out").read_text().split("\n")
         yield name.name, 1024, list(zip(lines, replies))
@@ -133,8 +134,8 @@ def scripts():
 
 
 def scripted(program, folder):
-    """Each script that can be asked here has the replies of kernfs_run, whether by the control file or by
-    system calls."""
+    """Each script that the mount can run has the replies of kernfs_run, through the control file and by system
+    calls."""
     scripts_run = lines_run = 0
     for title, slots, pairs in scripts():
         pairs = [
@@ -150,13 +151,13 @@ def scripted(program, folder):
                     continue
                 given = board.reply(line)
                 if line.startswith("read") and wanted == "" and given == "err NoDevice 19":
-                    continue  # at the end of a text the kernel asks whether the file is there
+                    continue  # at the end of a text the kernel checks that the file exists
                 if (
                     given == "ok"
                     and wanted == "err NoSpace 28"
                     and any(it.startswith("hide") for it, _ in pairs)
                 ):
-                    break  # the slot of a file that was hidden and removed is given again by the library alone
+                    break  # only the library uses the slot of a file again that was hidden and removed
                 if given == "err NoSpace 28" != wanted:
                     must(
                         eventually(lambda line=line, wanted=wanted: board.reply(line) == wanted),
@@ -165,12 +166,12 @@ def scripted(program, folder):
                 else:
                     must(given == wanted, f"{title}: {line[:80]} -> {given[:80]}, not {wanted[:80]}")
         scripts_run, lines_run = scripts_run + 1, lines_run + len(pairs)
-    must(scripts_run >= 20, f"only {scripts_run} scripts could be asked")
+    must(scripts_run >= 20, f"only {scripts_run} scripts were run")
     return f"{scripts_run} scripts, {lines_run} lines"
 
 
 def random_line(lot):
-    """A line that makes or changes a tree, or one that is nearly such a line."""
+    """A line that makes or changes a tree, or almost such a line."""
     names = ["a", "b", "c", "d", "", ".", "..", "n" * 255, "n" * 256, "\xe9"]
 
     def path():
@@ -197,7 +198,7 @@ def random_line(lot):
 
 
 def compared(program, folder, runner):
-    """Random lines that make and change trees have the proved program's replies."""
+    """Random lines that make and change trees have the replies of the proved program."""
     lines_run = 0
     for seed in range(10):
         lot = random.Random(seed)
@@ -220,8 +221,8 @@ def compared(program, folder, runner):
 
 
 def mirrored(program, folder, runner):
-    """A part of the running kernel's /sys is made in the mount; mirror_sysfs makes it of the mount again in
-    the program."""
+    """A part of the running kernel's /sys is created in the mount; from there mirror_sysfs mirrors it into the
+    program."""
     mirror = [sys.executable, TOP / "examples/mirror_sysfs"]
     asked = [*mirror, "--directories", "200", "--print"]
     made = subprocess.run(asked, capture_output=True, timeout=60, check=True)

@@ -1,17 +1,18 @@
-"""What a tree that is mounted does: removals and their readers, polls, listings, moves, the control file."""
+# SPDX-License-Identifier: MIT OR Apache-2.0
+"""A mounted tree: removals and their readers, polls, listings, moves, the control file."""
 import contextlib, errno, os, select, stat, threading, time
 
 from mounted import EVENTS, PATIENCE, Beside, error_of, eventually, must, read_path
 
 
 def removal(mount):
-    """A reader is inside its show while the directory is removed: rm answers when it has left; the others
-    have ENODEV."""
+    """A reader is inside its show while the directory is removed: rm returns after the reader has left; other
+    readers get ENODEV."""
     mount.done("slow /devices/fan0/speed 2500")
     with mount.opened("/devices/fan0/limit", os.O_RDWR) as limit, mount.opened(
         "/devices/fan0/speed"
     ) as speed:
-        must(os.read(limit, 2) == b"30", "a file that is read before")
+        must(os.read(limit, 2) == b"30", "a file that was read before")
         begun = time.monotonic()
         reader = Beside(read_path, mount.path("/class/cooling/speed"))
         time.sleep(0.6)
@@ -20,24 +21,24 @@ def removal(mount):
             eventually(lambda: error_of(os.stat, mount.path("/devices/fan0/speed")) == errno.ENOENT),
             "the name is gone while rm waits",
         )
-        must(error_of(os.pread, speed, 99, 0) == errno.ENODEV, "an open file has ENODEV while rm waits")
+        must(error_of(os.pread, speed, 99, 0) == errno.ENODEV, "an open file gives ENODEV while rm waits")
         must(mount.ask("mkdir /devices/fan0/a", "mkdir /other") == ["err NoEntry 2", "ok"], "others go on")
         must(not remover.ended and not reader.ended, "rm waits for the reader")
         must(reader.given() == b"1200\n", "the reader has its text")
         remover.given()
-        must(remover.ended >= begun + 2.5, "rm answered before the show was over")
-        must(error_of(os.pwrite, limit, b"1", 0) == errno.ENODEV, "a write has ENODEV")
-        must(error_of(os.pread, speed, 99, 0) == errno.ENODEV, "an open file has ENODEV after")
-        must(stat.S_ISREG(os.fstat(speed).st_mode) and os.fstat(speed).st_size == 4096, "fstat goes on")
-        must(os.read(limit, 99) == b"00\n", "what was shown before is read on")
-        must(error_of(os.read, limit, 99) == errno.ENODEV, "and at its end it is gone")
-        must(error_of(os.pread, limit, 99, 2) == errno.ENODEV, "elsewhere it is to be shown anew")
-    must(os.listdir(mount.path("/devices")) == [], "it is listed no more")
+        must(remover.ended >= begun + 2.5, "rm returned before the show ended")
+        must(error_of(os.pwrite, limit, b"1", 0) == errno.ENODEV, "a write gives ENODEV")
+        must(error_of(os.pread, speed, 99, 0) == errno.ENODEV, "an open file gives ENODEV afterwards")
+        must(stat.S_ISREG(os.fstat(speed).st_mode) and os.fstat(speed).st_size == 4096, "fstat still works")
+        must(os.read(limit, 99) == b"00\n", "a read continues in what was shown before")
+        must(error_of(os.read, limit, 99) == errno.ENODEV, "and at its end gives ENODEV")
+        must(error_of(os.pread, limit, 99, 2) == errno.ENODEV, "elsewhere it would be shown again")
+    must(os.listdir(mount.path("/devices")) == [], "it is no longer listed")
     must(error_of(os.stat, mount.path("/class/cooling/speed")) == errno.ENOENT, "a link to it leads nowhere")
 
 
 def side_by_side(mount):
-    """Four readers are inside their shows at one time, of one file and of two."""
+    """Four readers are inside their shows at the same time, of one file and of two."""
     mount.done("slow /devices/fan0/speed 2000", "slow /devices/fan0/limit 2000")
     begun = time.monotonic()
     readers = [
@@ -45,7 +46,7 @@ def side_by_side(mount):
         for name in ("speed", "speed", "speed", "limit")
     ]
     must(sorted(it.given() for it in readers) == [b"1200\n"] * 3 + [b"3000\n"], "each has its text")
-    must(time.monotonic() - begun < 6, "they wait for one another: %.2f s" % (time.monotonic() - begun))
+    must(time.monotonic() - begun < 6, "they wait for each other: %.2f s" % (time.monotonic() - begun))
 
 
 def polled(mount):
@@ -58,7 +59,7 @@ def polled(mount):
         os.pread(file, 99, 0)
         must(not waiting.poll(0), "it is the same after it")
         os.pwrite(file, b"5", 0)
-        must(not waiting.poll(0) and os.pread(file, 99, 0) == b"5\n", "a write tells nobody")
+        must(not waiting.poll(0) and os.pread(file, 99, 0) == b"5\n", "a write notifies nobody")
         for line in ("notify /devices/fan0/speed", "rm /devices/fan0"):
             reader = Beside(waiting.poll, 6000)
             time.sleep(0.2)
@@ -89,7 +90,7 @@ def polled(mount):
 
 
 def listed(mount):
-    """A listing while names come and go: each that stays is seen once, none that was gone before is seen."""
+    """A listing while names come and go: each name that stays is listed once, and no removed name is listed."""
     mount.done("mkdir /many", *(f"mkdir /many/stay{number:03d}" for number in range(200)))
     mount.done("rm /devices", *(f"mkdir /many/move{number:03d}" for number in range(100)))
     stop = threading.Event()
@@ -124,7 +125,7 @@ def listed(mount):
 
 
 def moved(mount):
-    """Renames and links: what is open goes along, a link leads to where its target is."""
+    """Renames and links: an open file moves along, and a link leads to its target's new place."""
     with mount.opened("/devices/fan0/speed", os.O_RDWR) as file:
         mount.done("mkdir /bus", "mv /devices/fan0 /bus fan1")
         must(os.readlink(mount.path("/class/cooling")) == "../bus/fan1", "the link's text")
@@ -132,7 +133,7 @@ def moved(mount):
         must(os.pread(file, 99, 0) == b"1200\n", "a truncation changes nothing")
         os.pwrite(file, b"77\n", 0)
         must(read_path(mount.path("/class/cooling/speed")) == b"77\n", "the open file is the moved one")
-        must(os.fstat(file).st_ino == os.stat(mount.path("/bus/fan1/speed")).st_ino, "by its number too")
+        must(os.fstat(file).st_ino == os.stat(mount.path("/bus/fan1/speed")).st_ino, "by its inode number too")
     mount.done("mkdir /off off", "mkdir /off/a")
     must(
         error_of(os.stat, mount.path("/off")) == errno.ENOENT and "off" not in os.listdir(mount.path("/")),
@@ -143,7 +144,7 @@ def moved(mount):
 
 
 def polled_beside_a_show(mount):
-    """poll(2) and select(2) answer at once while another thread is inside a show by the same descriptor."""
+    """poll(2) and select(2) return at once while another thread is inside a show by the same descriptor."""
     mount.done("slow /devices/fan0/speed 3000")
     with mount.opened("/devices/fan0/speed", os.O_RDWR) as file:
         os.pread(file, 99, 0)
@@ -164,7 +165,7 @@ def polled_beside_a_show(mount):
 
 
 def many_threads(mount):
-    """300 readers are inside shows at one time: all others go on, and a removal waits for each of them."""
+    """300 readers are inside shows at the same time: all others go on, and a removal waits for each reader."""
     mount.done("slow /devices/fan0/speed 12000")
     begun = []
 
@@ -188,8 +189,8 @@ def many_threads(mount):
 
 
 def ended(mount):
-    """It is ended by a signal while a show sleeps and a file is open: the reader has its text, nothing
-    stays behind."""
+    """A signal ends it while a show sleeps and a file is open: the reader has its text, and nothing is left
+    behind."""
     mount.done("slow /devices/fan0/speed 2000")
     file = os.open(mount.path("/devices/fan0/limit"), os.O_RDONLY)
     try:
@@ -198,7 +199,7 @@ def ended(mount):
         mount.process.terminate()
         must(mount.process.wait(PATIENCE) == 0, "its status")
         must(reader.given() == b"1200\n", "the reader has its text")
-        must(not os.path.ismount(mount.at), "it is mounted still")
+        must(not os.path.ismount(mount.at), "it is still mounted")
     finally:
-        with contextlib.suppress(OSError):  # nobody is there any more who could be told
+        with contextlib.suppress(OSError):  # the daemon is gone
             os.close(file)

@@ -1,4 +1,5 @@
-"""How it is started: words and statuses, descriptions, memory that is refused."""
+# SPDX-License-Identifier: MIT OR Apache-2.0
+"""How it starts: arguments and statuses, descriptions, memory that is refused."""
 import errno, os, re, subprocess
 from pathlib import Path
 
@@ -12,7 +13,7 @@ def run(program, *words, given=None):
 
 
 def asked(program, folder):
-    """Wrong words are status 2, --help and --version are 0, and nothing is mounted by any."""
+    """Wrong arguments give status 2, --help and --version 0, and none of them mounts anything."""
     script, at = folder / "asked.kf", folder / "asked"
     script.write_text("file /a 644 1\n")
     at.mkdir()
@@ -42,7 +43,7 @@ def asked(program, folder):
     for words, said in (
         (["--help"], "usage: fakesysfs "),
         (["-h"], "--slots N "),
-        (["--version"], "fakesysfs 0."),
+        (["--version"], f"fakesysfs {(TOP / 'VERSION').read_text().strip()}, libfuse 3."),
         (["-V"], "libfuse 3."),
     ):
         ran = run(program, *words)
@@ -58,7 +59,7 @@ def asked(program, folder):
 
 
 def loaded(program, folder):
-    """A description with a wrong line, or one that cannot be read, mounts nothing; each wrong line is told,
+    """A description with a wrong line, or one that cannot be read, mounts nothing; each wrong line is printed
     with its reason."""
     script, at = folder / "loaded.kf", folder / "loaded"
     at.mkdir()
@@ -73,8 +74,8 @@ def loaded(program, folder):
         == [
             "4: no such command: frob",
             "5: File exists: mkdir /a",
-            "6: wanted: slow PATH MILLISECONDS (at most 99999): slow /a x",
-            "7: a zero byte (in a text it is \\0): set /a \\000",
+            "6: usage: slow PATH MILLISECONDS (at most 99999): slow /a x",
+            "7: the line has a zero byte (write it as \\0 in a text): set /a \\000",
             "8: No such file or directory: rm /no",
         ],
         lines,
@@ -85,7 +86,7 @@ def loaded(program, folder):
     must(
         "line 2: No space"
         in run(program, "--check", "--slots", "2", "-", given="mkdir /a\nmkdir /b\n").stderr,
-        "no slot for it",
+        "no slot is left",
     )
     must(
         run(program, "--check", "-", given="".join(f"mkdir /{number}\n" for number in range(5000))).returncode
@@ -95,18 +96,18 @@ def loaded(program, folder):
 
 
 def started(program, folder):
-    """It goes on in the background, with an option of FUSE's; it has the slots that its description wants."""
+    """It runs in the background, with an option of FUSE; it has the slots that its description needs."""
     script, mount = folder / "started.kf", Mount(program, folder)
     script.write_text("file /a 644 1\n" + "".join(f"mkdir /d{number}\n" for number in range(800)))
     ran = run(program, script, mount.at, "-o", "ro")
     try:
-        must(ran.returncode == 0 and not ran.stderr, f"it goes on in the background: {ran}")
+        must(ran.returncode == 0 and not ran.stderr, f"it runs in the background: {ran}")
         must(read_path(mount.path("/a")) == b"1\n", "what is mounted is there")
-        must(error_of(os.open, mount.path("/a"), os.O_WRONLY) == errno.EROFS, "an option of FUSE's")
+        must(error_of(os.open, mount.path("/a"), os.O_WRONLY) == errno.EROFS, "an option of FUSE")
         of = os.statvfs(mount.at)
         must((of.f_bsize, of.f_namemax, of.f_blocks) == (4096, 255, 0), f"statfs: {of}")
-        told = Path("/proc/self/mounts").read_text()
-        must(re.search(rf"^fakesysfs {mount.at} fuse.fakesysfs ro", told, re.M), "what mount(8) tells of it")
+        mounts = Path("/proc/self/mounts").read_text()
+        must(re.search(rf"^fakesysfs {mount.at} fuse.fakesysfs ro", mounts, re.M), "what mount(8) prints")
     finally:
         subprocess.run(["fusermount3", "-uz", mount.at], capture_output=True, timeout=PATIENCE, check=False)
     script.write_text("".join(f"mkdir /d{number}\n" for number in range(800)))
@@ -114,7 +115,7 @@ def started(program, folder):
         more = [mount.tell(f"mkdir /m{number}") for number in range(900)]
         must(
             more == ["ok"] * 801 + ["err NoSpace 28"] * 99,
-            "there is room for as many again: %d" % more.count("ok"),
+            "slots for as many again: %d" % more.count("ok"),
         )
 
 
@@ -161,12 +162,12 @@ def refused(program, folder):
         if (folder / "report").read_text().split()[4] == "0":
             must(turn > 20, "requests are counted")
             return f"{turn - 1} requests"
-    raise Wrong("there is no end of requests")
+    raise Wrong("the requests do not end")
 
 
 def tidy(program, folder):
-    """What is over takes no memory: 100,000 files come and go, one is moved 400,000 times and hidden
-    100,000 times, in 32 MB."""
+    """Removed nodes take no memory: 100,000 files come and go, one is moved 400,000 times and hidden 100,000
+    times, in 32 MB."""
     script = folder / "tidy.kf"
     limited = ["sh", "-c", 'ulimit -v 32768; exec "$@"', "sh", program, "--slots", "16", "--check", script]
     for lines in (
