@@ -1,0 +1,70 @@
+-- Sums over all seats, before and after a step of one.
+use Rattle.std.proofs.Common.{◌≡◌, ℕ, zero, suc, ◌+◌, ◌<◌, ◌≤◌, Bool, true, false, List, [], ◌∷◌, ◌++◌, length, set, refl, sym, ap, arith}
+use mathlib.Core.Option.{some, some-injective, some-ne-none}
+use lib.ListN.{get_elem?}
+use Rattle.kf_gates.specs.declared.view.View.{View}
+use Rattle.kf_gates.specs.declared.view.View.TheVariants.{Keeps, Outside, Counted, OneTooMany, Knocking, Inside, Turned, Broken, Restored}
+use Rattle.kf_gates.specs.Rule.{bit, counted_by, due_from, is_user, total, users}
+
+-- one seat's view changes
+pub total_set : (f : View → ℕ) (views : List View) (j : ℕ) (v w : View) → get_elem? views j ≡ some v → total f (set views j w) + f v ≡ total f views + f w
+total_set f [] j v w e = absurd (some-ne-none v (sym e))
+total_set f (x ∷ xs) zero v w e = let same : f x ≡ f v = ap f (some-injective x v e) in omega arith
+total_set f (x ∷ xs) (suc j) v w e = let more = total_set f xs j v w e in omega arith
+
+-- a new seat comes
+pub total_snoc : (f : View → ℕ) (views : List View) (w : View) → total f (views ++ w ∷ []) ≡ total f views + f w
+total_snoc f [] w = omega arith
+total_snoc f (x ∷ xs) w = let more = total_snoc f xs w in omega arith
+
+-- the sum counts each
+pub total_at : (f : View → ℕ) (views : List View) (j : ℕ) (v : View) → get_elem? views j ≡ some v → f v ≤ total f views
+total_at f [] j v e = absurd (some-ne-none v (sym e))
+total_at f (x ∷ xs) zero v e = let same : f x ≡ f v = ap f (some-injective x v e) in omega arith
+total_at f (x ∷ xs) (suc j) v e = let more = total_at f xs j v e in omega arith
+
+pub total_few : (f : View → ℕ) → ((v : View) → f v ≤ 1) → (views : List View) → total f views ≤ length views
+total_few f one [] = omega arith
+total_few f one (x ∷ xs) = let more = total_few f one xs in let here = one x in omega arith
+
+pub total_below : (f g : View → ℕ) → ((v : View) → f v ≤ g v) → (views : List View) → total f views ≤ total g views
+total_below f g below [] = omega arith
+total_below f g below (x ∷ xs) = let more = total_below f g below xs in let here = below x in omega arith
+
+pub there : (views : List View) (j : ℕ) (v : View) → get_elem? views j ≡ some v → j < length views
+there [] j v e = absurd (some-ne-none v (sym e))
+there (x ∷ xs) zero v e = omega arith
+there (x ∷ xs) (suc j) v e = let more = there xs j v e in omega arith
+
+pub bit_few : (b : Bool) → bit b ≤ 1
+bit_few true = omega arith
+bit_few false = omega arith
+
+pub bit_none : (b : Bool) → bit b ≡ 0 → b ≡ false
+bit_none true e = absurd (omega arith)
+bit_none false e = refl
+
+pub users_few : (lane : ℕ) (views : List View) → users lane views ≤ length views
+users_few lane views = total_few (λ v. bit (is_user lane v)) (λ v. bit_few (is_user lane v)) views
+
+pub counted_few : (v : View) → counted_by v ≤ 1
+counted_few (Keeps p) = bit_few p.spare
+counted_few (Outside f) = omega arith
+counted_few Counted = omega arith
+counted_few (OneTooMany f) = omega arith
+counted_few (Knocking k) = omega arith
+counted_few (Inside k n) = omega arith
+counted_few (Turned k f) = omega arith
+counted_few (Broken k n) = omega arith
+counted_few (Restored k n) = omega arith
+
+pub due_counted : (v : View) → due_from v ≤ counted_by v
+due_counted (Keeps p) = omega arith
+due_counted (Outside f) = omega arith
+due_counted Counted = omega arith
+due_counted (OneTooMany f) = omega arith
+due_counted (Knocking k) = omega arith
+due_counted (Inside k n) = omega arith
+due_counted (Turned k f) = omega arith
+due_counted (Broken k n) = omega arith
+due_counted (Restored k n) = omega arith

@@ -1,0 +1,299 @@
+-- What holds over every run of steps.
+use Rattle.std.proofs.Common.{◌≡◌, ◌≢◌, ◌⊎◌, inl, inr, ℕ, ◌+◌, ◌*◌, ◌/◌, ◌%◌, ◌<◌, Bool, true, false, List, [], ◌∷◌, set, get_or, refl, sym, ap, ◌∙◌, subst, arith, eqb, eq-eqb, ne_eqb, ltb, ⊎_elim}
+use mathlib.Core.Logic.{dite}
+use mathlib.Core.Option.{some, some-injective}
+use native.Mathlib.Decide.{ℕ_discrete}
+use lib.ListN.{get_elem?}
+use Rattle.atomic_table.proofs.Lists.{at_set, at_snoc, set_here, set_else, at_longer}
+use Rattle.kf_gates.specs.declared.view.Plan.{Plan}
+use Rattle.kf_gates.specs.declared.view.View.{View}
+use Rattle.kf_gates.specs.declared.view.View.TheVariants.{Keeps, Outside, Counted, OneTooMany, Knocking, Inside, Turned, Broken, Restored}
+use Rattle.kf_gates.specs.Rule.{Table, bit, gate_word, most_passes, Kept}
+use Rattle.kf_gates.specs.Laws.{Has}
+use Rattle.kf_gates.specs.Steps.{after_count, looked, next_plan, pass_made, scanned, shut_plan, stepped_off, uncounted}
+use Rattle.kf_gates.specs.Runs.{Kind, CountsIn, MayUncount, one_more, one_less, moved, with_pass, GateStep, GateRun, OpensWell, RuleKept, NobodyPastTheMark, ClosedForGood}
+use Rattle.kf_gates.specs.Runs.Kind.{knocks, looks, leaves, breaks, restores, counts, uncounts, makes_pass, shuts, scans, opens, counts_sleep}
+use Rattle.kf_gates.proofs.Counting.{there}
+use Rattle.kf_gates.proofs.Keeping.{half, odd_of, knock_kept, look_kept, leave_kept, break_kept, restore_kept, count_kept, uncount_kept, pass_kept, shut_kept, scan_kept, open_kept, sleep_kept, opening_kept, nobody_inside}
+
+step_keeps : (lanes : ℕ) (t u : Table) (kind : Kind) → Kept lanes t → GateStep lanes t kind u → Kept lanes u
+step_keeps lanes t u (knocks j k f) r s = subst (λ (x : Table). Kept lanes x) (sym s.2) (knock_kept lanes t r j k f s.0 s.1)
+step_keeps lanes t u (looks j k) r s = subst (λ (x : Table). Kept lanes x) (sym s.1) (look_kept lanes t r j k s.0)
+step_keeps lanes t u (leaves j k v) r s = subst (λ (x : Table). Kept lanes x) (sym s.3) (leave_kept lanes t r j k v s.0 s.1 s.2)
+step_keeps lanes t u (breaks j k n) r s = subst (λ (x : Table). Kept lanes x) (sym s.2) (break_kept lanes t r j k n s.0 s.1)
+step_keeps lanes t u (restores j k n) r s = subst (λ (x : Table). Kept lanes x) (sym s.2) (restore_kept lanes t r j k n s.0 s.1)
+step_keeps lanes t u (counts j f) r s = subst (λ (x : Table). Kept lanes x) (sym s.1) (count_kept lanes t r j f s.0)
+step_keeps lanes t u (uncounts j v) r s = subst (λ (x : Table). Kept lanes x) (sym s.2) (uncount_kept lanes t r j v s.0 s.1)
+step_keeps lanes t u (makes_pass j v) r s = subst (λ (x : Table). Kept lanes x) (sym s.2) (pass_kept lanes t r j v s.0 s.1)
+step_keeps lanes t u (shuts j p) r s = subst (λ (x : Table). Kept lanes x) (sym s.2) (shut_kept lanes t r j p s.0)
+step_keeps lanes t u (scans j p) r s = subst (λ (x : Table). Kept lanes x) (sym s.3) (scan_kept lanes t r j p s.0 s.1 s.2)
+step_keeps lanes t u (opens j p) r s = subst (λ (x : Table). Kept lanes x) (sym s.2) (open_kept lanes t r j p s.0 s.1)
+step_keeps lanes t u (counts_sleep j p n) r s = subst (λ (x : Table). Kept lanes x) (sym s.1) (sleep_kept lanes t r j p (λ _. n) s.0)
+
+pub rule_kept : RuleKept
+rule_kept lanes t u [] r e = subst (λ (x : Table). Kept lanes x) (sym e) r
+rule_kept lanes t u (kind ∷ kinds) r s = rule_kept lanes s.0 u kinds (step_keeps lanes t s.0 kind r s.1) s.2
+
+-- what one step makes of the keeper's plan: it stays, except for a pass; the gate is shut; a lane was looked at; the
+-- next opening begins
+data Onward (lanes : ℕ) (p q : Plan) : Type 0 where
+  stays : q.number ≡ p.number → q.shut ≡ p.shut → q.seen ≡ p.seen → Onward lanes p q
+  is_shut : p.shut ≡ false → q.number ≡ p.number → q.shut ≡ true → Onward lanes p q
+  looks_on : p.seen < lanes → q.number ≡ p.number → q.shut ≡ p.shut → Onward lanes p q
+  begins : q.number ≡ p.number + 1 → Onward lanes p q
+
+-- the keeper's plan after a step
+abbrev After : ℕ → Plan → Table → Type 0
+After lanes p u = (q : Plan) × Has u 0 (Keeps q) × Onward lanes p q
+
+abbrev is_keeper : View → Bool
+is_keeper (Keeps p) = true
+is_keeper (Outside f) = false
+is_keeper Counted = false
+is_keeper (OneTooMany f) = false
+is_keeper (Knocking k) = false
+is_keeper (Inside k n) = false
+is_keeper (Turned k f) = false
+is_keeper (Broken k n) = false
+is_keeper (Restored k n) = false
+
+not_both : false ≡ true → ⊥
+not_both e = let one : bit false ≡ bit true = ap bit e in omega arith
+
+other_seat : (t : Table) (j : ℕ) (v : View) (p : Plan) → Has t j v → is_keeper v ≡ false → Has t 0 (Keeps p) → 0 ≢ j
+other_seat t j v p at caller keeper e =
+    let same : v ≡ Keeps p = some-injective v (Keeps p) (sym at ∙ ap (λ (x : ℕ). get_elem? t.views x) (sym e) ∙ keeper) in
+    not_both (sym caller ∙ ap is_keeper same)
+
+-- a step of a seat that is not the keeper's leaves the keeper's plan
+other_moves : (lanes : ℕ) (t : Table) (i : ℕ) (f : ℕ → ℕ) (j : ℕ) (v w : View) (p : Plan) → Has t j v → is_keeper v ≡ false → Has t 0 (Keeps p) → After lanes p (moved t i f j w)
+other_moves lanes t i f j v w p at caller keeper = (p, set_else t.views j 0 w (other_seat t j v p at caller keeper) ∙ keeper, stays refl refl refl)
+
+-- a step of the keeper: its plan is first in the table after it
+keeper_moves : (lanes : ℕ) (t : Table) (r : Kept lanes t) (i : ℕ) (f : ℕ → ℕ) (j : ℕ) (p p' q : Plan) → Has t j (Keeps p) → Has t 0 (Keeps p') → Onward lanes p q → After lanes p' (moved t i f j (Keeps q))
+keeper_moves lanes t r i f j p p' q at keeper onward =
+    let first = (r.seats j (Keeps p) at).1 in let same : p ≡ p' = (r.seats j (Keeps p) at).0 ∙ sym (r.seats 0 (Keeps p') keeper).0 in
+    (q, subst (λ (x : ℕ). get_elem? (set t.views x (Keeps q)) 0 ≡ some (Keeps q)) (sym first) (set_here t.views 0 (Keeps q) (there t.views 0 (Keeps p') keeper)), subst (λ (x : Plan). Onward lanes x q) same onward)
+
+pass_moves : (lanes : ℕ) (t : Table) (r : Kept lanes t) (j : ℕ) (v : View) (p : Plan) → Has t j v → Has t 0 (Keeps p) → After lanes p (moved t 0 (λ n. n) j (pass_made v)) → After lanes p (with_pass t j v)
+pass_moves lanes t r j v p at keeper after = (after.0, at_longer (set t.views j (pass_made v)) (Outside 0 ∷ []) 0 (Keeps after.0) after.1, after.2)
+
+makes_onward : (lanes : ℕ) (t : Table) (r : Kept lanes t) (j : ℕ) (v : View) (p : Plan) → Has t j v → Has t 0 (Keeps p) → After lanes p (with_pass t j v)
+makes_onward lanes t r j (Keeps q) p at keeper = pass_moves lanes t r j (Keeps q) p at keeper (keeper_moves lanes t r 0 (λ n. n) j q p (record q { spare = false }) at keeper (stays refl refl refl))
+makes_onward lanes t r j (Outside f) p at keeper = pass_moves lanes t r j (Outside f) p at keeper (other_moves lanes t 0 (λ n. n) j (Outside f) (Outside f) p at refl keeper)
+makes_onward lanes t r j Counted p at keeper = pass_moves lanes t r j Counted p at keeper (other_moves lanes t 0 (λ n. n) j Counted (Outside 0) p at refl keeper)
+makes_onward lanes t r j (OneTooMany f) p at keeper = pass_moves lanes t r j (OneTooMany f) p at keeper (other_moves lanes t 0 (λ n. n) j (OneTooMany f) (OneTooMany f) p at refl keeper)
+makes_onward lanes t r j (Knocking k) p at keeper = pass_moves lanes t r j (Knocking k) p at keeper (other_moves lanes t 0 (λ n. n) j (Knocking k) (Knocking k) p at refl keeper)
+makes_onward lanes t r j (Inside k n) p at keeper = pass_moves lanes t r j (Inside k n) p at keeper (other_moves lanes t 0 (λ n. n) j (Inside k n) (Inside k n) p at refl keeper)
+makes_onward lanes t r j (Turned k f) p at keeper = pass_moves lanes t r j (Turned k f) p at keeper (other_moves lanes t 0 (λ n. n) j (Turned k f) (Turned k f) p at refl keeper)
+makes_onward lanes t r j (Broken k n) p at keeper = pass_moves lanes t r j (Broken k n) p at keeper (other_moves lanes t 0 (λ n. n) j (Broken k n) (Broken k n) p at refl keeper)
+makes_onward lanes t r j (Restored k n) p at keeper = pass_moves lanes t r j (Restored k n) p at keeper (other_moves lanes t 0 (λ n. n) j (Restored k n) (Restored k n) p at refl keeper)
+
+counting_caller : (k : ℕ) (v : View) → CountsIn k v → is_keeper v ≡ false
+counting_caller k (Keeps p) c = absurd c
+counting_caller k (Outside f) c = refl
+counting_caller k Counted c = refl
+counting_caller k (OneTooMany f) c = refl
+counting_caller k (Knocking j) c = refl
+counting_caller k (Inside j n) c = refl
+counting_caller k (Turned j f) c = refl
+counting_caller k (Broken j n) c = refl
+counting_caller k (Restored j n) c = refl
+
+uncounting_caller : (v : View) → MayUncount v → is_keeper v ≡ false
+uncounting_caller (Keeps p) c = absurd c
+uncounting_caller (Outside f) c = refl
+uncounting_caller Counted c = refl
+uncounting_caller (OneTooMany f) c = refl
+uncounting_caller (Knocking j) c = refl
+uncounting_caller (Inside j n) c = refl
+uncounting_caller (Turned j f) c = refl
+uncounting_caller (Broken j n) c = refl
+uncounting_caller (Restored j n) c = refl
+
+goes_onward : (lanes : ℕ) (t u : Table) (kind : Kind) (r : Kept lanes t) → GateStep lanes t kind u → (p : Plan) → Has t 0 (Keeps p) → After lanes p u
+goes_onward lanes t u (knocks j k f) r s p keeper = subst (After lanes p) (sym s.2) (other_moves lanes t (8 * k + 8) one_more j (Outside f) (Knocking k) p s.0 refl keeper)
+goes_onward lanes t u (looks j k) r s p keeper = subst (After lanes p) (sym s.1) (other_moves lanes t 0 (λ n. n) j (Knocking k) (looked (get_or t.words 0 0) k) p s.0 refl keeper)
+goes_onward lanes t u (leaves j k v) r s p keeper = subst (After lanes p) (sym s.3) (other_moves lanes t (8 * k + 8) one_less j v (stepped_off v) p s.0 (counting_caller k v s.1) keeper)
+goes_onward lanes t u (breaks j k n) r s p keeper = subst (After lanes p) (sym s.2) (other_moves lanes t (8 * k + 8) one_less j (Inside k n) (Broken k n) p s.0 refl keeper)
+goes_onward lanes t u (restores j k n) r s p keeper = subst (After lanes p) (sym s.2) (other_moves lanes t (8 * k + 8) one_more j (Broken k n) (Restored k n) p s.0 refl keeper)
+goes_onward lanes t u (counts j f) r s p keeper = subst (After lanes p) (sym s.1) (other_moves lanes t 2 one_more j (Outside f) (after_count (get_or t.words 2 0)) p s.0 refl keeper)
+goes_onward lanes t u (uncounts j v) r s p keeper = subst (After lanes p) (sym s.2) (other_moves lanes t 2 one_less j v (uncounted v) p s.0 (uncounting_caller v s.1) keeper)
+goes_onward lanes t u (makes_pass j v) r s p keeper = subst (After lanes p) (sym s.2) (makes_onward lanes t r j v p s.0 keeper)
+goes_onward lanes t u (shuts j q) r s p keeper = subst (After lanes p) (sym s.2) (keeper_moves lanes t r 0 (λ _. gate_word q.number true) j q p (shut_plan q) s.0 keeper (is_shut s.1 refl refl))
+goes_onward lanes t u (scans j q) r s p keeper =
+    let i : ℕ = 8 * q.seen + 8 in let x : ℕ = get_or t.words i 0 in
+    subst (After lanes p) (sym s.3) (keeper_moves lanes t r i (λ n. n) j q p (record q { seen = if_seen x q; found = x }) s.0 keeper (looks_on s.2 refl refl))
+  where
+    if_seen : ℕ → Plan → ℕ
+    if_seen x q = plan_seen (scanned x q)
+      where
+        plan_seen : View → ℕ
+        plan_seen (Keeps y) = y.seen
+        plan_seen (Outside f) = 0
+        plan_seen Counted = 0
+        plan_seen (OneTooMany f) = 0
+        plan_seen (Knocking k) = 0
+        plan_seen (Inside k n) = 0
+        plan_seen (Turned k f) = 0
+        plan_seen (Broken k n) = 0
+        plan_seen (Restored k n) = 0
+goes_onward lanes t u (opens j q) r s p keeper = subst (After lanes p) (sym s.2) (keeper_moves lanes t r 0 (λ _. gate_word (q.number + 1) false) j q p (next_plan q) s.0 keeper (begins refl))
+goes_onward lanes t u (counts_sleep j q n) r s p keeper = subst (After lanes p) (sym s.1) (keeper_moves lanes t r 1 (λ _. n) j q p q s.0 keeper (stays refl refl refl))
+
+-- the opening of this number is over, or the gate has been opened since
+abbrev Over : ℕ → ℕ → Plan → Type 0
+Over lanes n p = (n < p.number) ⊎ ((p.number ≡ n) × (p.shut ≡ true) × (p.seen ≡ lanes))
+
+over_onward : (lanes n : ℕ) (p q : Plan) → Onward lanes p q → Over lanes n p → Over lanes n q
+over_onward lanes n p q (stays number shut seen) (inl later) = inl (omega arith)
+over_onward lanes n p q (stays number shut seen) (inr now) = inr (number ∙ now.0, shut ∙ now.1, seen ∙ now.2)
+over_onward lanes n p q (is_shut was number shut) (inl later) = inl (omega arith)
+over_onward lanes n p q (is_shut was number shut) (inr now) = absurd (not_both (sym was ∙ now.1))
+over_onward lanes n p q (looks_on less number shut) (inl later) = inl (omega arith)
+over_onward lanes n p q (looks_on less number shut) (inr now) = let seen = now.2 in absurd (omega arith)
+over_onward lanes n p q (begins number) (inl later) = inl (omega arith)
+over_onward lanes n p q (begins number) (inr now) = let same = now.0 in inl (omega arith)
+
+-- the gate has been shut since it was opened under this number
+abbrev Past : ℕ → Plan → Type 0
+Past n p = (n < p.number) ⊎ ((p.number ≡ n) × (p.shut ≡ true))
+
+past_onward : (lanes n : ℕ) (p q : Plan) → Onward lanes p q → Past n p → Past n q
+past_onward lanes n p q (stays number shut seen) (inl later) = inl (omega arith)
+past_onward lanes n p q (stays number shut seen) (inr now) = inr (number ∙ now.0, shut ∙ now.1)
+past_onward lanes n p q (is_shut was number shut) (inl later) = inl (omega arith)
+past_onward lanes n p q (is_shut was number shut) (inr now) = inr (number ∙ now.0, shut)
+past_onward lanes n p q (looks_on less number shut) (inl later) = inl (omega arith)
+past_onward lanes n p q (looks_on less number shut) (inr now) = inr (number ∙ now.0, shut ∙ now.1)
+past_onward lanes n p q (begins number) (inl later) = inl (omega arith)
+past_onward lanes n p q (begins number) (inr now) = let same = now.0 in inl (omega arith)
+
+run_over : (lanes n : ℕ) (t u : Table) (kinds : List Kind) → Kept lanes t → GateRun lanes t kinds u → (p : Plan) → Has t 0 (Keeps p) → Over lanes n p → (q : Plan) × Has u 0 (Keeps q) × Over lanes n q
+run_over lanes n t u [] r e p keeper over = subst (λ (x : Table). (q : Plan) × Has x 0 (Keeps q) × Over lanes n q) (sym e) (p, keeper, over)
+run_over lanes n t u (kind ∷ kinds) r s p keeper over =
+    let after = goes_onward lanes t s.0 kind r s.1 p keeper in
+    run_over lanes n s.0 u kinds (step_keeps lanes t s.0 kind r s.1) s.2 after.0 after.1 (over_onward lanes n p after.0 after.2 over)
+
+pub closed_for_good : ClosedForGood
+closed_for_good lanes t u kinds r run p keeper over seat lane number inside =
+    let after : Kept lanes u = rule_kept lanes t u kinds r run in
+    let end = run_over lanes p.number t u kinds r run p keeper (inr (refl, over.shut, over.seen)) in
+    let q : Plan = end.0 in
+    let its : number ≡ q.number = (after.seats seat (Inside lane number) inside).1 ∙ ap (λ (x : Plan). x.number) (sym (after.seats 0 (Keeps q) end.1).0) in
+    ⊎_elim (λ (later : p.number < q.number). omega arith)
+    (λ (now : (q.number ≡ p.number) × (q.shut ≡ true) × (q.seen ≡ lanes)). absurd (nobody_inside lanes u after 0 q end.1 (record { shut = now.1; seen = now.2 }) seat lane number inside))
+    end.2
+
+-- a view under which its seat is inside, under this number
+abbrev inside_under : ℕ → View → Bool
+inside_under n (Keeps p) = false
+inside_under n (Outside f) = false
+inside_under n Counted = false
+inside_under n (OneTooMany f) = false
+inside_under n (Knocking k) = false
+inside_under n (Inside k m) = eqb m n
+inside_under n (Turned k f) = false
+inside_under n (Broken k m) = false
+inside_under n (Restored k m) = false
+
+-- a step that lets nobody in under the number
+lets_none : (t : Table) (i : ℕ) (f : ℕ → ℕ) (j n : ℕ) (w : View) → inside_under n w ≡ false → (seat lane : ℕ) → Has (moved t i f j w) seat (Inside lane n) → Has t seat (Inside lane n)
+lets_none t i f j n w out seat lane inside = ⊎_elim
+    (λ (here : (seat ≡ j) × (w ≡ Inside lane n)). absurd (not_both (sym (sym (ap (inside_under n) here.1) ∙ out) ∙ eq-eqb n n refl)))
+    (λ (else : (seat ≢ j) × Has t seat (Inside lane n)). else.1)
+    (at_set t.views j seat w (Inside lane n) inside)
+
+stepped_out : (n : ℕ) (k : ℕ) (v : View) → CountsIn k v → inside_under n (stepped_off v) ≡ false
+stepped_out n k (Keeps p) c = absurd c
+stepped_out n k (Outside f) c = refl
+stepped_out n k Counted c = refl
+stepped_out n k (OneTooMany f) c = refl
+stepped_out n k (Knocking j) c = refl
+stepped_out n k (Inside j m) c = refl
+stepped_out n k (Turned j f) c = refl
+stepped_out n k (Broken j m) c = refl
+stepped_out n k (Restored j m) c = refl
+
+uncounted_out : (n : ℕ) (v : View) → MayUncount v → inside_under n (uncounted v) ≡ false
+uncounted_out n (Keeps p) c = absurd c
+uncounted_out n (Outside f) c = refl
+uncounted_out n Counted c = refl
+uncounted_out n (OneTooMany f) c = refl
+uncounted_out n (Knocking j) c = absurd c
+uncounted_out n (Inside j m) c = absurd c
+uncounted_out n (Turned j f) c = refl
+uncounted_out n (Broken j m) c = refl
+uncounted_out n (Restored j m) c = refl
+
+counted_out : (n found : ℕ) → inside_under n (after_count found) ≡ false
+counted_out n found = split (ltb found most_passes) refl
+  where
+    split : (b : Bool) → ltb found most_passes ≡ b → inside_under n (after_count found) ≡ false
+    split true e = let told : after_count found ≡ Counted = rw e refl in ap (inside_under n) told
+    split false e = let told : after_count found ≡ OneTooMany found = rw e refl in ap (inside_under n) told
+
+-- a look past the mark
+looked_out : (lanes : ℕ) (t : Table) (r : Kept lanes t) (n k : ℕ) (p : Plan) → Has t 0 (Keeps p) → Past n p → inside_under n (looked (get_or t.words 0 0) k) ≡ false
+looked_out lanes t r n k p keeper past =
+    let x : ℕ = get_or t.words 0 0 in let same = (r.seats 0 (Keeps p) keeper).0 in
+    dite (ℕ_discrete (x % 2) 0)
+    (λ even. let told : looked x k ≡ Inside k (x / 2) = rw (eq-eqb (x % 2) 0 even) refl in
+    let number : x / 2 ≡ p.number = half r.plan.shut r.plan.number x r.word ∙ sym (ap (λ (q : Plan). q.number) same) in
+    ap (inside_under n) told ∙ ne_eqb (x / 2) n (λ e. ⊎_elim
+    (λ (later : n < p.number). omega arith)
+    (λ (now : (p.number ≡ n) × (p.shut ≡ true)). let odd : x % 2 ≡ 1 = odd_of r.plan.shut r.plan.number x r.word (sym (ap (λ (q : Plan). q.shut) same) ∙ now.1) in omega arith) past))
+    (λ odd. let told : looked x k ≡ Turned k x = rw (ne_eqb (x % 2) 0 odd) refl in ap (inside_under n) told)
+
+passed_out : (t : Table) (j n : ℕ) (v : View) → Has t j v → (seat lane : ℕ) → Has (with_pass t j v) seat (Inside lane n) → Has t seat (Inside lane n)
+passed_out t j n v at seat lane inside = ⊎_elim
+    (λ (old : get_elem? (set t.views j (pass_made v)) seat ≡ some (Inside lane n)). ⊎_elim
+    (λ (here : (seat ≡ j) × (pass_made v ≡ Inside lane n)). subst (λ (x : ℕ). Has t x (Inside lane n)) (sym here.0) (subst (Has t j) (unmade v here.1) at))
+    (λ (else : (seat ≢ j) × Has t seat (Inside lane n)). else.1)
+    (at_set t.views j seat (pass_made v) (Inside lane n) old))
+    (λ (same : Outside 0 ≡ Inside lane n). absurd (not_both (ap (inside_under n) same ∙ eq-eqb n n refl)))
+    (at_snoc (set t.views j (pass_made v)) (Outside 0) (Inside lane n) seat inside)
+  where
+    unmade : (y : View) → pass_made y ≡ Inside lane n → y ≡ Inside lane n
+    unmade (Keeps p) e = absurd (not_both (ap (inside_under n) e ∙ eq-eqb n n refl))
+    unmade (Outside f) e = e
+    unmade Counted e = absurd (not_both (ap (inside_under n) e ∙ eq-eqb n n refl))
+    unmade (OneTooMany f) e = e
+    unmade (Knocking k) e = e
+    unmade (Inside k m) e = e
+    unmade (Turned k f) e = e
+    unmade (Broken k m) e = e
+    unmade (Restored k m) e = e
+
+-- no step past the mark lets anybody in under the number
+none_enters : (lanes n : ℕ) (t u : Table) (kind : Kind) (r : Kept lanes t) → GateStep lanes t kind u → (p : Plan) → Has t 0 (Keeps p) → Past n p
+    → (seat lane : ℕ) → Has u seat (Inside lane n) → Has t seat (Inside lane n)
+none_enters lanes n t u (knocks j k f) r s p keeper past seat lane inside = lets_none t (8 * k + 8) one_more j n (Knocking k) refl seat lane (subst (λ (x : Table). Has x seat (Inside lane n)) s.2 inside)
+none_enters lanes n t u (looks j k) r s p keeper past seat lane inside =
+    lets_none t 0 (λ m. m) j n (looked (get_or t.words 0 0) k) (looked_out lanes t r n k p keeper past) seat lane (subst (λ (x : Table). Has x seat (Inside lane n)) s.1 inside)
+none_enters lanes n t u (leaves j k v) r s p keeper past seat lane inside = lets_none t (8 * k + 8) one_less j n (stepped_off v) (stepped_out n k v s.1) seat lane (subst (λ (x : Table). Has x seat (Inside lane n)) s.3 inside)
+none_enters lanes n t u (breaks j k m) r s p keeper past seat lane inside = lets_none t (8 * k + 8) one_less j n (Broken k m) refl seat lane (subst (λ (x : Table). Has x seat (Inside lane n)) s.2 inside)
+none_enters lanes n t u (restores j k m) r s p keeper past seat lane inside = lets_none t (8 * k + 8) one_more j n (Restored k m) refl seat lane (subst (λ (x : Table). Has x seat (Inside lane n)) s.2 inside)
+none_enters lanes n t u (counts j f) r s p keeper past seat lane inside =
+    lets_none t 2 one_more j n (after_count (get_or t.words 2 0)) (counted_out n (get_or t.words 2 0)) seat lane (subst (λ (x : Table). Has x seat (Inside lane n)) s.1 inside)
+none_enters lanes n t u (uncounts j v) r s p keeper past seat lane inside = lets_none t 2 one_less j n (uncounted v) (uncounted_out n v s.1) seat lane (subst (λ (x : Table). Has x seat (Inside lane n)) s.2 inside)
+none_enters lanes n t u (makes_pass j v) r s p keeper past seat lane inside = passed_out t j n v s.0 seat lane (subst (λ (x : Table). Has x seat (Inside lane n)) s.2 inside)
+none_enters lanes n t u (shuts j q) r s p keeper past seat lane inside = lets_none t 0 (λ _. gate_word q.number true) j n (Keeps (shut_plan q)) refl seat lane (subst (λ (x : Table). Has x seat (Inside lane n)) s.2 inside)
+none_enters lanes n t u (scans j q) r s p keeper past seat lane inside =
+    lets_none t (8 * q.seen + 8) (λ m. m) j n (scanned (get_or t.words (8 * q.seen + 8) 0) q) refl seat lane (subst (λ (x : Table). Has x seat (Inside lane n)) s.3 inside)
+none_enters lanes n t u (opens j q) r s p keeper past seat lane inside = lets_none t 0 (λ _. gate_word (q.number + 1) false) j n (Keeps (next_plan q)) refl seat lane (subst (λ (x : Table). Has x seat (Inside lane n)) s.2 inside)
+none_enters lanes n t u (counts_sleep j q m) r s p keeper past seat lane inside = lets_none t 1 (λ _. m) j n (Keeps q) refl seat lane (subst (λ (x : Table). Has x seat (Inside lane n)) s.1 inside)
+
+run_past : (lanes n : ℕ) (t u : Table) (kinds : List Kind) → Kept lanes t → GateRun lanes t kinds u → (p : Plan) → Has t 0 (Keeps p) → Past n p
+    → (seat lane : ℕ) → Has u seat (Inside lane n) → Has t seat (Inside lane n)
+run_past lanes n t u [] r e p keeper past seat lane inside = subst (λ (x : Table). Has x seat (Inside lane n)) e inside
+run_past lanes n t u (kind ∷ kinds) r s p keeper past seat lane inside =
+    let after = goes_onward lanes t s.0 kind r s.1 p keeper in
+    none_enters lanes n t s.0 kind r s.1 p keeper past seat lane
+    (run_past lanes n s.0 u kinds (step_keeps lanes t s.0 kind r s.1) s.2 after.0 after.1 (past_onward lanes n p after.0 after.2 past) seat lane inside)
+
+pub nobody_past_the_mark : NobodyPastTheMark
+nobody_past_the_mark lanes t u kinds r run p keeper shut seat lane inside = run_past lanes p.number t u kinds r run p keeper (inr (refl, shut)) seat lane inside
+
+pub opens_well : OpensWell
+opens_well lanes = opening_kept lanes

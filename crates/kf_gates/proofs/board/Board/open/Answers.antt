@@ -1,0 +1,12 @@
+use Rattle.std.proofs.Common.{rules, ◌≡◌, ◌+◌, ◌*◌, arith, subst, sym, ℕ}
+use Rattle.kf_gates.specs.Laws.{IsOver}
+use Rattle.kf_gates.proofs.Allowed.{open_allowed}
+use Rattle.kf_gates.proofs.board.Board.open.Goals as goal
+
+pub store-requires : goal.store-requires
+store-requires c =
+    let word : c.args.plan.number * 2 + 2 ≡ (c.args.plan.number + 1) * 2 + 0 = omega arith in (
+      search rules,
+      search rules,
+      open_allowed _ _ _ _ c.args.plan _ c.requires.keeps (subst (λ (lanes : ℕ). IsOver lanes c.args.plan) (sym c.args.self.now.keyed) c.requires.over) word,
+    )

@@ -1,0 +1,99 @@
+-- What each step makes of what its own seat knows.
+use Rattle.std.specs.Prelude.{◌≡◌, ℕ, ◌+◌, ◌*◌, ◌/◌, ◌%◌, ◌==◌, ltb, true, false, if◌then◌else◌}
+use Rattle.atomic_table.specs.Table.{Me, Step}
+use Rattle.kf_gates.specs.declared.view.Plan.{Plan}
+use Rattle.kf_gates.specs.declared.view.View.{View}
+use Rattle.kf_gates.specs.declared.view.View.TheVariants.{Keeps, Outside, Counted, OneTooMany, Knocking, Inside, Turned, Broken, Restored}
+use Rattle.kf_gates.specs.Rule.{gate_word, most_passes}
+
+abbrev pub Seated : Type 0
+Seated = Me (Unit {0}) View
+
+-- the seat has made the pass that it counted
+abbrev pub pass_made : View → View
+pass_made (Keeps p) = Keeps (record p { spare = false })
+pass_made (Outside f) = Outside f
+pass_made Counted = Outside 0
+pass_made (OneTooMany f) = OneTooMany f
+pass_made (Knocking k) = Knocking k
+pass_made (Inside k n) = Inside k n
+pass_made (Turned k f) = Turned k f
+pass_made (Broken k n) = Broken k n
+pass_made (Restored k n) = Restored k n
+
+-- the seat found this number of passes, and counted one more
+abbrev pub after_count : ℕ → View
+after_count found = if ltb found most_passes then Counted else OneTooMany found
+
+-- the seat has taken back what it counted. What it keeps of one too many is how many it found
+abbrev pub uncounted : View → View
+uncounted (Keeps p) = Keeps p
+uncounted (Outside f) = Outside f
+uncounted Counted = Outside 0
+uncounted (OneTooMany f) = Outside f
+uncounted (Knocking k) = Knocking k
+uncounted (Inside k n) = Inside k n
+uncounted (Turned k f) = Turned k f
+uncounted (Broken k n) = Broken k n
+uncounted (Restored k n) = Restored k n
+
+-- a look that finds the gate open lets its caller in, under the number that it found
+abbrev pub looked : ℕ → ℕ → View
+looked found lane = if found % 2 == 0 then Inside lane (found / 2) else Turned lane found
+
+-- the seat no longer counts in its lane. What it keeps is the word that its last look found
+abbrev pub stepped_off : View → View
+stepped_off (Keeps p) = Keeps p
+stepped_off (Outside f) = Outside f
+stepped_off Counted = Counted
+stepped_off (OneTooMany f) = OneTooMany f
+stepped_off (Knocking k) = Knocking k
+stepped_off (Inside k n) = Outside (gate_word n false)
+stepped_off (Turned k f) = Outside f
+stepped_off (Broken k n) = Broken k n
+stepped_off (Restored k n) = Outside (gate_word n false)
+
+-- the keeper after a look at the next lane: one that is empty is done
+abbrev pub scanned : ℕ → Plan → View
+scanned found p = Keeps (record p { seen = (if found == 0 then p.seen + 1 else p.seen); found = found })
+
+-- the plan of a gate that was just shut, and of one that was just opened under the next number
+abbrev pub shut_plan : Plan → Plan
+shut_plan p = record p { shut = true; seen = 0; found = 0 }
+
+abbrev pub next_plan : Plan → Plan
+next_plan p = record p { number = p.number + 1; shut = false; seen = 0; found = 0 }
+
+abbrev pub MakesKnock : Step (Unit {0}) → Seated → ℕ → Seated → Type 0
+MakesKnock st me found me' = (lane : ℕ) → st.word ≡ 8 * lane + 8 → me'.0 ≡ Knocking lane
+
+abbrev pub MakesLook : Step (Unit {0}) → Seated → ℕ → Seated → Type 0
+MakesLook st me found me' = (lane : ℕ) → me.0 ≡ Knocking lane → me'.0 ≡ looked found lane
+
+abbrev pub MakesLeave : Step (Unit {0}) → Seated → ℕ → Seated → Type 0
+MakesLeave st me found me' = me'.0 ≡ stepped_off me.0
+
+abbrev pub MakesBreak : Step (Unit {0}) → Seated → ℕ → Seated → Type 0
+MakesBreak st me found me' = (lane number : ℕ) → me.0 ≡ Inside lane number → me'.0 ≡ Broken lane number
+
+abbrev pub MakesRestore : Step (Unit {0}) → Seated → ℕ → Seated → Type 0
+MakesRestore st me found me' = (lane number : ℕ) → me.0 ≡ Broken lane number → me'.0 ≡ Restored lane number
+
+abbrev pub MakesCount : Step (Unit {0}) → Seated → ℕ → Seated → Type 0
+MakesCount st me found me' = me'.0 ≡ after_count found
+
+abbrev pub MakesUncount : Step (Unit {0}) → Seated → ℕ → Seated → Type 0
+MakesUncount st me found me' = me'.0 ≡ uncounted me.0
+
+abbrev pub MakesShut : Step (Unit {0}) → Seated → ℕ → Seated → Type 0
+MakesShut st me found me' = (p : Plan) → me.0 ≡ Keeps p → me'.0 ≡ Keeps (shut_plan p)
+
+abbrev pub MakesScan : Step (Unit {0}) → Seated → ℕ → Seated → Type 0
+MakesScan st me found me' = (p : Plan) → me.0 ≡ Keeps p → me'.0 ≡ scanned found p
+
+abbrev pub MakesOpening : Step (Unit {0}) → Seated → ℕ → Seated → Type 0
+MakesOpening st me found me' = (p : Plan) → me.0 ≡ Keeps p → me'.0 ≡ Keeps (next_plan p)
+
+-- a step on the count of those who sleep changes no view
+abbrev pub MakesSleepCount : Step (Unit {0}) → Seated → ℕ → Seated → Type 0
+MakesSleepCount st me found me' = me'.0 ≡ me.0

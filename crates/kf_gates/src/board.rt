@@ -1,0 +1,252 @@
+//! The words of a gate, and the steps of its seats one by one.
+//!
+//! A leave makes no system call if nobody sleeps, and no wake is lost. A keeper that waits for a lane (1)
+//! counts itself in word 1, then (2) has the kernel compare the lane with what it saw, which was not 0, and
+//! queue it. A caller that leaves (3) subtracts from the lane, and if that is 0 now (4) loads word 1 and (5)
+//! wakes all who sleep on the lane if that is not 0. If the lane comes to 0 after (2), its step (3) has a (4)
+//! that comes after (1) and a (5) that finds the sleeper queued. If it came to 0 before (2), it differs from
+//! what was seen, unless somebody counts there again, who leaves later.
+ghost use Rattle.std.specs.Prelude.{◌≡◌, ◌≢◌, ◌⊎◌, ℕ, ◌+◌, ◌*◌, ◌<◌, ◌≤◌, true, false, IfOk};
+ghost use Rattle.kf_gates.specs.declared.view.Plan.{Plan};
+ghost use Rattle.kf_gates.specs.declared.view.View.{View};
+ghost use Rattle.kf_gates.specs.declared.view.View.TheVariants as seat_of;
+ghost use Rattle.kf_gates.specs.Rule.{due_from, opened};
+ghost use Rattle.kf_gates.specs.Runs.{CountsIn, MayUncount};
+ghost use Rattle.kf_gates.specs.Steps.{after_count, looked, next_plan, pass_made, scanned, shut_plan, stepped_off, uncounted};
+ghost use Rattle.kf_gates.specs.Laws.{IsOver};
+ghost use Rattle.kf_gates.specs.Board.{IsSameSeat};
+
+use crate::plays::{
+    Breaks, Counts, CountsSleep, Knocks, Leaves, Looks, Opens, Passes, Restores, Scans, Shuts,
+    Uncounts,
+};
+use crate::table::GateTable;
+use crate::view::{Plan, View};
+use atomic_table::Seat;
+use std::alloc::{AllocError, Global};
+use std::sync::Wait;
+
+/// The most lanes of a gate.
+pub const MOST_LANES: u64 = 65535;
+
+/// The most passes of a gate in its life, dropped ones among them.
+pub const MOST_PASSES: u64 = 4294967296;
+
+/// A seat at a gate's words.
+pub(crate) type GateSeat = Seat<(), View>;
+
+/// The words of a gate with this number of lanes.
+#[derive(Drop)]
+pub(crate) struct Board {
+    pub(crate) table: GateTable,
+    pub(crate) lanes: u64,
+    ghost range: { (0 < lanes) × (lanes ≤ 65535) },
+    ghost wide: { table.shared.table_id.words ≡ 8 * lanes + 8 },
+    ghost keyed: { table.shared.key ≡ lanes },
+}
+
+impl Board {
+    /// The words of a gate that was never opened, its keeper's seat, and what that knows.
+    pub(crate) fn new(alloc: Global, lanes: u64) -> Result<(Board, GateSeat, Plan), AllocError>
+        requires range { (0 < lanes) × (lanes ≤ 65535) }
+        ensures table { IfOk result (λ r. r.1.table_id ≡ r.0.table.shared.table_id) }
+        ensures lanes { IfOk result (λ r. r.0.lanes ≡ lanes) }
+        ensures keeps { IfOk result (λ r. (r.1.me.0 ≡ opened lanes) × (seat_of.Keeps r.2 ≡ opened lanes)) }
+    {
+        let mut words = vec![in alloc; 0u64; lanes as usize * 8 + 8]?;
+        words[0] = 1;
+        words[2] = 2;
+        let (table, seat) = GateTable::of_words(alloc, words.as_slice(), &lanes)?;
+        let plan = Plan {
+            number: 0,
+            shut: true,
+            seen: lanes,
+            found: 0,
+            spare: true,
+        };
+        Ok((Board { table, lanes }, seat, plan))
+    }
+
+    pub(crate) fn make_pass(&self, seat: &mut GateSeat) -> GateSeat
+        requires table { seat.old.table_id ≡ self.now.table.shared.table_id }
+        requires due { due_from seat.old.me.0 ≡ 1 }
+        ensures same { IsSameSeat seat.old seat.new }
+        ensures made { seat.new.me.0 ≡ pass_made seat.old.me.0 }
+        ensures table { result.table_id ≡ self.now.table.shared.table_id }
+        ensures outside { result.me.0 ≡ seat_of.Outside 0 }
+    {
+        self.table.shared.split_seat::<Passes>(seat)
+    }
+
+    /// How many passes it found.
+    pub(crate) fn count(&self, seat: &mut GateSeat) -> u64
+        requires table { seat.old.table_id ≡ self.now.table.shared.table_id }
+        requires outside { (found : ℕ) × (seat.old.me.0 ≡ seat_of.Outside found) }
+        ensures same { IsSameSeat seat.old seat.new }
+        ensures made { seat.new.me.0 ≡ after_count result }
+    {
+        self.table.shared.fetch_add::<Counts>(seat, 2, 1)
+    }
+
+    pub(crate) fn uncount(&self, seat: &mut GateSeat)
+        requires table { seat.old.table_id ≡ self.now.table.shared.table_id }
+        requires counted { MayUncount seat.old.me.0 }
+        ensures same { IsSameSeat seat.old seat.new }
+        ensures made { seat.new.me.0 ≡ uncounted seat.old.me.0 }
+    {
+        self.table.shared.fetch_sub::<Uncounts>(seat, 2, 1);
+    }
+
+    /// Counts the caller in its lane, and then looks at the gate's word, which it returns.
+    pub(crate) fn knock(&self, seat: &mut GateSeat, lane: u64) -> u64
+        requires table { seat.old.table_id ≡ self.now.table.shared.table_id }
+        requires lane { lane < self.now.lanes }
+        requires outside { (found : ℕ) × (seat.old.me.0 ≡ seat_of.Outside found) }
+        ensures same { IsSameSeat seat.old seat.new }
+        ensures made { seat.new.me.0 ≡ looked result lane }
+    {
+        let word = 8 * lane as usize + 8;
+        self.table.shared.fetch_add::<Knocks>(seat, word, 1);
+        self.table.shared.load::<Looks>(seat, 0)
+    }
+
+    /// Counts the caller no longer, and wakes those who sleep on the lane if it was the last.
+    pub(crate) fn step_off(&self, seat: &mut GateSeat, lane: u64)
+        requires table { seat.old.table_id ≡ self.now.table.shared.table_id }
+        requires lane { lane < self.now.lanes }
+        requires counts { CountsIn lane seat.old.me.0 }
+        ensures same { IsSameSeat seat.old seat.new }
+        ensures made { seat.new.me.0 ≡ stepped_off seat.old.me.0 }
+    {
+        let word = 8 * lane as usize + 8;
+        let found = self.table.shared.fetch_sub::<Leaves>(seat, word, 1);
+        self.wake(word, found);
+    }
+
+    /// The same of a caller that will count itself again.
+    pub(crate) fn break_off(&self, seat: &mut GateSeat, lane: u64)
+        requires table { seat.old.table_id ≡ self.now.table.shared.table_id }
+        requires lane { lane < self.now.lanes }
+        requires inside { (n : ℕ) × (seat.old.me.0 ≡ seat_of.Inside lane n) }
+        ensures same { IsSameSeat seat.old seat.new }
+        ensures made { (n : ℕ) → seat.old.me.0 ≡ seat_of.Inside lane n →
+            seat.new.me.0 ≡ seat_of.Broken lane n }
+    {
+        let word = 8 * lane as usize + 8;
+        let found = self.table.shared.fetch_sub::<Breaks>(seat, word, 1);
+        self.wake(word, found);
+    }
+
+    pub(crate) fn restore(&self, seat: &mut GateSeat, lane: u64)
+        requires table { seat.old.table_id ≡ self.now.table.shared.table_id }
+        requires lane { lane < self.now.lanes }
+        requires broken { (n : ℕ) × (seat.old.me.0 ≡ seat_of.Broken lane n) }
+        ensures same { IsSameSeat seat.old seat.new }
+        ensures made { (n : ℕ) → seat.old.me.0 ≡ seat_of.Broken lane n →
+            seat.new.me.0 ≡ seat_of.Restored lane n }
+    {
+        let word = 8 * lane as usize + 8;
+        self.table.shared.fetch_add::<Restores>(seat, word, 1);
+    }
+
+    /// Wakes those who sleep on a lane in which the last caller was counted.
+    fn wake(&self, word: usize, found: u64)
+        requires word { word < self.now.table.shared.table_id.words }
+    {
+        if found == 1 && self.table.shared.peek(1) != 0 {
+            self.table.shared.wake_all(word);
+        }
+    }
+
+    /// Shuts the gate.
+    pub(crate) fn shut(&self, seat: &mut GateSeat, plan: Plan) -> Plan
+        requires table { seat.old.table_id ≡ self.now.table.shared.table_id }
+        requires keeps { seat.old.me.0 ≡ seat_of.Keeps plan }
+        requires open { plan.shut ≡ false }
+        requires few { plan.number ≤ 4294967296 }
+        ensures same { IsSameSeat seat.old seat.new }
+        ensures made { (seat.new.me.0 ≡ seat_of.Keeps result) × (result ≡ shut_plan plan) }
+    {
+        self.table
+            .shared
+            .store::<Shuts>(seat, 0, plan.number * 2 + 1);
+        Plan {
+            shut: true,
+            seen: 0,
+            found: 0,
+            ..plan
+        }
+    }
+
+    /// Looks at the next lane.
+    pub(crate) fn scan(&self, seat: &mut GateSeat, plan: Plan) -> Plan
+        requires table { seat.old.table_id ≡ self.now.table.shared.table_id }
+        requires keeps { seat.old.me.0 ≡ seat_of.Keeps plan }
+        requires shut { plan.shut ≡ true }
+        requires lane { plan.seen < self.now.lanes }
+        ensures same { IsSameSeat seat.old seat.new }
+        ensures made { (seat.new.me.0 ≡ seat_of.Keeps result)
+            × (seat_of.Keeps result ≡ scanned result.found plan) }
+    {
+        let word = 8 * plan.seen as usize + 8;
+        let found = self.table.shared.load::<Scans>(seat, word);
+        let seen = if found == 0 { plan.seen + 1 } else { plan.seen };
+        Plan {
+            seen,
+            found,
+            ..plan
+        }
+    }
+
+    /// Opens the gate under the next number.
+    pub(crate) fn open(&self, seat: &mut GateSeat, plan: Plan) -> Plan
+        requires table { seat.old.table_id ≡ self.now.table.shared.table_id }
+        requires keeps { seat.old.me.0 ≡ seat_of.Keeps plan }
+        requires over { IsOver self.now.lanes plan }
+        requires few { plan.number < 4294967296 }
+        ensures same { IsSameSeat seat.old seat.new }
+        ensures made { (seat.new.me.0 ≡ seat_of.Keeps result) × (result ≡ next_plan plan) }
+    {
+        self.table
+            .shared
+            .store::<Opens>(seat, 0, plan.number * 2 + 2);
+        Plan {
+            number: plan.number + 1,
+            shut: false,
+            seen: 0,
+            found: 0,
+            ..plan
+        }
+    }
+
+    fn fall_asleep(&self, seat: &mut GateSeat)
+        requires table { seat.old.table_id ≡ self.now.table.shared.table_id }
+        requires keeps { (p : Plan) × (seat.old.me.0 ≡ seat_of.Keeps p) }
+        ensures same { IsSameSeat seat.old seat.new × (seat.new.me.0 ≡ seat.old.me.0) }
+    {
+        self.table.shared.fetch_add::<CountsSleep>(seat, 1, 1);
+    }
+
+    fn awake(&self, seat: &mut GateSeat)
+        requires table { seat.old.table_id ≡ self.now.table.shared.table_id }
+        requires keeps { (p : Plan) × (seat.old.me.0 ≡ seat_of.Keeps p) }
+        ensures same { IsSameSeat seat.old seat.new × (seat.new.me.0 ≡ seat.old.me.0) }
+    {
+        self.table.shared.fetch_sub::<CountsSleep>(seat, 1, 1);
+    }
+
+    /// Sleeps while the next lane is as it was found, which is not 0. It may return for no reason.
+    pub(crate) fn rest<R: Wait>(&self, rt: &R, seat: &mut GateSeat, plan: Plan)
+        requires table { seat.old.table_id ≡ self.now.table.shared.table_id }
+        requires keeps { seat.old.me.0 ≡ seat_of.Keeps plan }
+        requires lane { plan.seen < self.now.lanes }
+        ensures same { IsSameSeat seat.old seat.new × (seat.new.me.0 ≡ seat.old.me.0) }
+    {
+        self.fall_asleep(seat);
+        let word = 8 * plan.seen as usize + 8;
+        self.table
+            .shared
+            .park(rt, word, (plan.found % 4294967296) as u32);
+        self.awake(seat);
+    }
+}

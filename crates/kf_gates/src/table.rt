@@ -1,0 +1,18 @@
+//! The words of a gate. Word 0 is twice the number of the last opening, and 1 more while the gate is shut.
+//! Word 1 counts the threads that sleep, word 2 the passes that were made. Word 8 k + 8 counts the callers in lane
+//! k, so each lane has its own cache line.
+use crate::view::View;
+use atomic_table::{Table, TableRule};
+use std::alloc::Global;
+
+pub struct Rule;
+
+impl TableRule<(), View, u64> for Rule {
+    ghost use Rattle.kf_gates.specs.Rule.{Kept, opened};
+
+    ghost holds = { Kept };
+
+    ghost first = { opened };
+}
+
+pub(crate) type GateTable = Table<(), View, u64, Rule, Global>;
