@@ -1,15 +1,13 @@
 -- A step of the Master that was shown such a caller is an event: a node is taken out by a drained caller, and a hold
 -- of a linked or held node gets its seat.
-use Rattle.std.proofs.Common.{◌≡◌, ◌⊎◌, inl, inr, ℕ, true, List, [], ◌∷◌, ◌++◌, length, set, refl, sym, ap, ◌∙◌, subst, ⊎_elim}
+use Rattle.std.proofs.Common.{◌≡◌, ◌≢◌, ◌⊎◌, inl, inr, ℕ, true, List, [], ◌∷◌, ◌++◌, length, set, sym, ap, ◌∙◌, subst, ⊎_elim}
 use Rattle.std.proofs.lemmas.Option.{get_or_from_slice_get}
 use Rattle.std.specs.Prelude.{is_some}
-use Rattle.std.proofs.lemmas.Option.{same_Some}
-use mathlib.Core.Option.{some-injective}
 use Rattle.kf_core.specs.declared.key.Key.{Key}
 use Rattle.kf_core.specs.declared.event.Event.{Event}
-use Rattle.kf_core.specs.declared.event.Event.TheVariants.{Pin, Release, Unlink}
+use Rattle.kf_core.specs.declared.event.Event.TheVariants.{Pin, Unlink}
 use Rattle.kf_core.specs.Bare.{BareWorld}
-use Rattle.kf_core.specs.Steps.{BareStep, BareRun, MayPin}
+use Rattle.kf_core.specs.Steps.{BareStep, MayPin}
 use Rattle.kf_words.specs.declared.view.CallerView.{CallerView}
 use Rattle.kf_words.specs.declared.view.MasterView.{MasterView}
 use Rattle.kf_words.specs.declared.view.View.{View}
@@ -19,11 +17,11 @@ use Rattle.kf_words.specs.Steps.{no_state, state_at, spent_hold, without_node}
 use Rattle.kf_words.proofs.Seating.{seats-push}
 use Rattle.kf_core.specs.declared.slot.SlotState.{SlotState}
 use Rattle.kf_words.specs.Nodes.{marks_of}
-use Rattle.kf_words.specs.TableSteps.{Table, StepKind, splits, unlinks, master_in, world, HoldsSlot, IsDrainedOn, IsPinnable, IsAttended, answers, WordStep, hands_on, IsHandable}
+use Rattle.kf_words.specs.TableSteps.{Table, StepKind, splits, unlinks, master_in, world, HoldsSlot, IsDrainedOn, IsPinnable, IsAttended, answers, WordStep, hands_on}
 use Rattle.kf_words.proofs.MasterAllowed.{state_there}
-use Rattle.kf_words.proofs.Coming.{passes, spent_world}
+use Rattle.kf_words.proofs.Coming.{spent_world}
 use Rattle.kf_words.proofs.Events.{unlink_is_unlink}
-use Rattle.kf_words.proofs.WordSteps.{IsEvent, Alone, TakenOut, Came, Passed, at, met, world_is, split_pins, linked_pins, held_pins, word_step, hand_pins}
+use Rattle.kf_words.proofs.WordSteps.{IsEvent, Alone, TakenOut, Came, Passed, at, met, world_is, split_pins, linked_pins, held_pins, with_spent, word_step}
 
 -- a node taken out while a caller is drained on it is an Unlink by that caller
 pub unlink_event : (slots limit : ℕ) (t : Table) (slot : ℕ) (t' : Table) → Shown slots limit t → WordStep t (unlinks slot) t' → (j : ℕ) → IsDrainedOn t slot j → BareStep (world t) (Unlink j) (world t')
@@ -56,22 +54,9 @@ pin_event slots limit t slot t' g s may =
           may) s.4,
     )
 
--- so is a hold that a caller counted, of any key that is linked or held then
-pub hand_event : (slots limit : ℕ) (t : Table) (j : ℕ) (t' : Table) → Shown slots limit t → WordStep t (hands_on j) t' → IsHandable t j → (e : Event) × BareStep (world t) e (world t')
-hand_event slots limit t j t' g s lent =
-    let c : CallerView = s.0 in
-    let key : Key = s.1 in
-    let seats_are : seat.Caller lent.0 ≡ seat.Caller c = some-injective _ _ (sym lent.2 ∙ s.4) in
-    let same : lent.0 ≡ c = cc in
-    let its : lent.1 ≡ key = same_Some lent.1 key (sym lent.3 ∙ ap (λ (x : CallerView). x.pinning) same ∙ s.3) in
-    let may : MayPin (world t) key = subst (λ (k : Key). MayPin (world t) k) its lent.4 in (
-      Pin (length g.callers) key,
-      hand_pins slots limit t t' g j c s.4 key s.3 may s.5,
-    )
-
--- a seat of the root's key that holds nothing is a Pin and a Release, while the root is linked or held
-pub answer_event : (slots limit : ℕ) (t t' : Table) → Shown slots limit t → WordStep t answers t' → IsPinnable t 0 → (es : List Event) × BareRun (world t) es (world t')
-answer_event slots limit t t' g s may =
+-- the root's key may be pinned while it is linked or held
+root_pins : (slots limit : ℕ) (t t' : Table) → Shown slots limit t → WordStep t answers t' → IsPinnable t 0 → (key : Key) × MayPin (world t) key × (world t' ≡ with_spent (world t) key)
+root_pins slots limit t t' g s may =
     let m : MasterView = s.0 in
     let p = state_there m.slots 0 s.2 in
     let k = met slots limit t t' g m s.1 in
@@ -86,39 +71,35 @@ answer_event slots limit t t' g s may =
     let is = world_is t m g.callers k.views in
     let is' = world_is t' m cs views in
     let w : BareWorld = bare_world m g.callers in (
-      Pin (length w.callers) key ∷ Release (length w.callers) ∷ [],
-      subst (λ (x : BareWorld). BareRun x (Pin (length w.callers) key ∷ Release (length w.callers) ∷ []) (world t')) (sym is)
-          (passes w key (subst (λ (y : SlotState). MayPin w (last_key 0 y)) (sym state) pins) (world t') (is' ∙ spent_world m g.callers key)),
+      key,
+      subst (λ (x : BareWorld). MayPin x key) (sym is) (subst (λ (y : SlotState). MayPin w (last_key 0 y)) (sym state) pins),
+      is' ∙ spent_world m g.callers key ∙ ap (λ (x : BareWorld). with_spent x key) (sym is),
     )
 
--- a run of one event
-one_event : (w w' : BareWorld) (e : Event) → BareStep w e w' → (es : List Event) × BareRun w es w'
-one_event w w' e s = (e ∷ [], (w', s, refl))
+-- the world stays, or an event leads on, or a caller comes to a key that may be pinned and gives its hold back
+abbrev pub Attends : BareWorld → BareWorld → Type 0
+Attends w w' = (w' ≡ w) ⊎ (((e : Event) × BareStep w e w') ⊎ ((key : Key) × MayPin w key × (w' ≡ with_spent w key)))
 
--- an attended step is an event, or two, or nothing
-pub attended_event : (slots limit : ℕ) (t : Table) (kind : StepKind) (t' : Table) → Shown slots limit t → WordStep t kind t' → IsAttended t kind
-    → (world t' ≡ world t) ⊎ ((es : List Event) × BareRun (world t) es (world t'))
-attended_event slots limit t kind t' h s may = ⊎_elim
+-- an attended step does one of these, if it gives no seat to a hold that a caller counted
+pub attended_event : (slots limit : ℕ) (t : Table) (kind : StepKind) (t' : Table) → Shown slots limit t → WordStep t kind t' → IsAttended t kind → ((j : ℕ) → kind ≢ hands_on j) → Attends (world t) (world t')
+attended_event slots limit t kind t' h s may other = ⊎_elim
     (λ (same : world t' ≡ world t). inl same)
     (λ (more : IsEvent kind (world t) (world t') ⊎ Alone kind (world t) (world t')). ⊎_elim
-    (λ (e : IsEvent kind (world t) (world t')). inr (one_event (world t) (world t') e.event e.step))
+    (λ (e : IsEvent kind (world t) (world t')). inr (inl (e.event, e.step)))
     (λ (alone : Alone kind (world t) (world t')). ⊎_elim
     (λ (o : TakenOut kind (world t) (world t')).
     let drained : (j : ℕ) × IsDrainedOn t o.slot j = subst (λ (k : StepKind). IsAttended t k) o.kind_is may in
-    inr (one_event (world t) (world t') (Unlink drained.0) (unlink_event slots limit t o.slot t' h (subst (λ (k : StepKind). WordStep t k t') o.kind_is s) drained.0 drained.1)))
+    inr (inl (Unlink drained.0, unlink_event slots limit t o.slot t' h (subst (λ (k : StepKind). WordStep t k t') o.kind_is s) drained.0 drained.1)))
     (λ (m : Came kind (world t) (world t') ⊎ Passed kind (world t) (world t')). ⊎_elim
     (λ (c : Came kind (world t) (world t')). ⊎_elim
     (λ (x : (slot : ℕ) × (kind ≡ splits slot)).
-    let e = pin_event slots limit t x.0 t' h (subst (λ (k : StepKind). WordStep t k t') x.1 s) (subst (λ (k : StepKind). IsAttended t k) x.1 may) in
-    inr (one_event (world t) (world t') e.0 e.1))
-    (λ (x : (j : ℕ) × (kind ≡ hands_on j)).
-    let e = hand_event slots limit t x.0 t' h (subst (λ (k : StepKind). WordStep t k t') x.1 s) (subst (λ (k : StepKind). IsAttended t k) x.1 may) in
-    inr (one_event (world t) (world t') e.0 e.1))
+    inr (inl (pin_event slots limit t x.0 t' h (subst (λ (k : StepKind). WordStep t k t') x.1 s) (subst (λ (k : StepKind). IsAttended t k) x.1 may))))
+    (λ (x : (j : ℕ) × (kind ≡ hands_on j)). absurd (other x.0 x.1))
     c.kind_is)
-    (λ (p : Passed kind (world t) (world t')). inr (⊎_elim
-    (λ (pinned : MayPin (world t) p.key). (Pin (length (world t).callers) p.key ∷ Release (length (world t).callers) ∷ [], passes (world t) p.key pinned (world t') p.is))
-    (λ (its : kind ≡ answers). answer_event slots limit t t' h (subst (λ (k : StepKind). WordStep t k t') its s) (subst (λ (k : StepKind). IsAttended t k) its may))
-    p.may))
+    (λ (p : Passed kind (world t) (world t')). inr (inr (⊎_elim
+    (λ (pinned : MayPin (world t) p.key). (p.key, pinned, p.is))
+    (λ (its : kind ≡ answers). root_pins slots limit t t' h (subst (λ (k : StepKind). WordStep t k t') its s) (subst (λ (k : StepKind). IsAttended t k) its may))
+    p.may)))
     m)
     alone)
     more)

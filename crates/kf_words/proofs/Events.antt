@@ -1,5 +1,5 @@
 -- Each step of a seat is its event on the world that the views name.
-use Rattle.std.proofs.Common.{◌≡◌, ◌≢◌, ◌∷◌, ◌++◌, inr, length, ℕ, zero, suc, ◌+◌, Bool, true, false, not, List, [], map, set, if◌then◌else◌, refl, sym, ap, ◌∙◌, subst, ⊎_elim, eq-eqb}
+use Rattle.std.proofs.Common.{◌≡◌, ◌≢◌, ◌∷◌, ◌++◌, inl, inr, length, ℕ, zero, suc, ◌+◌, Bool, true, false, not, List, [], map, set, if◌then◌else◌, refl, sym, ap, ◌∙◌, subst, ⊎_elim, eq-eqb}
 use Rattle.std.specs.Prelude.{slice_get, Option, Some, None, is_some}
 use Rattle.std.proofs.lemmas.Option.{none-some, same_Some, get_or_from_slice_get}
 use Rattle.std.proofs.lemmas.List.{length-map}
@@ -27,12 +27,13 @@ use Rattle.kf_words.specs.Layout.{active_word, hold_word, keeps_out, is_drained,
 use Rattle.kf_words.specs.Rule.{Shown, caller, bare_world, last_key}
 use Rattle.kf_words.specs.Steps.{after_step, with_try, no_state, state_at, remarked, new_hold, spent_hold, hold_for, after_split, activated_marks, doomed_marks, after_count, after_share, after_count_at}
 use Rattle.kf_words.specs.Nodes.{marks_of}
-use Rattle.kf_words.specs.Events.{Moves, TryIsEnter, UndoIsUndo, LookIsLook, PartIsPart, LeaveIsLeave, BreakIsBreak, RestoreIsRestore, ReleaseIsRelease, HideIsHide, LookHiddenIsLook, ShowIsShow, MissIsNothing, RiseIsRise, MarkIsMark, BirthIsBorn, UnlinkIsUnlink, SplitIsPin, HeldSplitIsPin, ShareIsPin, RestIsNothing, Passes, ReportPasses, AnswerPasses, HandOnIsPin}
+use Rattle.kf_words.specs.Events.{Moves, TryIsEnter, UndoIsUndo, LookIsLook, PartIsPart, LeaveIsLeave, BreakIsBreak, RestoreIsRestore, ReleaseIsRelease, HideIsHide, LookHiddenIsLook, ShowIsShow, MissIsNothing, RiseIsRise, MarkIsMark, BirthIsBorn, UnlinkIsUnlink, SplitIsPin, HeldSplitIsPin, ShareIsPin, RestIsNothing, Passes, ReportPasses, AnswerPasses, CountAtIsPin}
 use Rattle.kf_words.proofs.Bits.{bool_cases, waiting_is, not_not}
 use Rattle.kf_words.proofs.Answered.{try_enters, try_refused, look_hits, look_misses, part_gone, part_linked, hide_sets, hide_found, look_hidden_hits, look_hidden_misses}
 use Rattle.kf_words.proofs.Keys.{linked_state}
 use Rattle.kf_words.proofs.Coming.{passes, spent_world}
 use Rattle.kf_words.proofs.Seating.{caller_at}
+use Rattle.kf_words.proofs.PinSteps.{linked_key}
 use Rattle.kf_words.proofs.Sharing.{is_pinned}
 use Rattle.kf_words.proofs.Tells.{lets_in_the_live, tells_the_hidden, drained_is_unused, unused_is_unused, free_is_unheld, tells_the_linked}
 
@@ -269,12 +270,9 @@ share_is_pin slots limit t shown j c at holding =
     subst (λ (n : ℕ). core.BareStep (bare_world m cs) (Pin n c.key) (bare_world m (set cs j (after_share c) ++ new_hold c.key ∷ [])))
     (length-map cs caller) (is_pinned m cs j c (seated_at cs j c at) c.key (inr (record { caller = j; phase = c.phase; there = there m cs j c at; holds = holding })))
 
-pub hand_on_is_pin : HandOnIsPin
-hand_on_is_pin slots limit t shown j c at key pinned may =
-    let m : MasterView = shown.master in
-    let cs : List CallerView = shown.callers in
-    subst (λ (n : ℕ). core.BareStep (bare_world m cs) (Pin n key) (bare_world m (set cs j (after_share c) ++ new_hold key ∷ [])))
-    (length-map cs caller) (is_pinned m cs j c (seated_at cs j c at) key may)
+pub count_at_is_pin : CountAtIsPin
+count_at_is_pin slots limit t shown j c at slot node =
+    (sym (length-map shown.callers caller), inl (linked_key t.words shown.master shown.callers shown.shows slot node), refl)
 
 pub rest_is_nothing : RestIsNothing
 rest_is_nothing slots limit t shown slot found = (refl, refl, refl, refl, refl)

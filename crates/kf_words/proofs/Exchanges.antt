@@ -15,7 +15,7 @@ use Rattle.kf_words.specs.declared.view.View.TheVariants as seat
 use Rattle.kf_words.specs.Layout.{hold_index, HasSpare}
 use Rattle.kf_words.specs.Steps.{Seated, Sighted, plain, caller_of, after_miss, after_count, after_share, new_hold}
 use Rattle.kf_words.specs.Callers.{caller_sight, IsAtRest}
-use Rattle.kf_words.specs.TableSteps.{Table, StepKind, misses, counts, shares, plus, master_in, IsSeated, WordStep}
+use Rattle.kf_words.specs.TableSteps.{Table, StepKind, sees_holds, counts_hold, shares, plus, master_in, IsSeated, WordStep}
 use Rattle.kf_words.specs.History.{SeenTable, erased, Kept, after_sharing, shared_out}
 use Rattle.kf_words.specs.Made.{WasMade, MakesMiss, MakesExchange, after_exchange}
 use Rattle.kf_words.proofs.Seating.{caller_seat}
@@ -84,7 +84,7 @@ module _ (o : Opening) (homes id : ℕ) (me : Sighted) (is : plain me ≡ (seat.
       let n : ℕ = slice_index t.words i in
       let c' : CallerView = after_miss n my in
       let stays : either (eqb n most) most n ≡ n = either_at (eqb n most) most n (eqb-true n most) in
-      let r = one_made t h at i n misses (λ j. refl) c' (λ j there. (my, rests, record { there = there; fits = small; becomes = refl })) in (
+      let r = one_made t h at i n sees_holds (λ j. refl) c' (λ j there. (my, rests, record { there = there; fits = small; becomes = refl })) in (
         r.0,
         keeps,
         tt,
@@ -101,7 +101,7 @@ module _ (o : Opening) (homes id : ℕ) (me : Sighted) (is : plain me ≡ (seat.
       (λ hit.
       let place : HasSpare (master_in (erased t).views).limit n = subst (λ (k : ℕ). HasSpare k n) (sym (limit_is t h)) (subst (λ (k : ℕ). HasSpare o.holds k) (sym hit) spare) in
       let one : either (eqb n old) new n ≡ plus 1 n = ap (λ (b : Bool). either b new n) (eq-eqb n old hit) ∙ (let e : new ≡ (n + 1) % 18446744073709551616 = omega arith in e) in
-      let r = one_made t h at i (plus 1 n) counts (λ j. refl) (after_count n my) (λ j there. (my, (rests, single, place), record { there = there; fits = small; becomes = refl })) in
+      let r = one_made t h at i (plus 1 n) counts_hold (λ j. refl) (after_count n my) (λ j there. (my, (rests, single, place), record { there = there; fits = small; becomes = refl })) in
       let told : after_exchange old n my ≡ after_count n my = ap (λ (b : Bool). if b then after_count n my else after_miss n my) (eq-eqb n old hit) in (
         r.0,
         keeps,
@@ -111,7 +111,7 @@ module _ (o : Opening) (homes id : ℕ) (me : Sighted) (is : plain me ≡ (seat.
       ))
       (λ miss.
       let stays : either (eqb n old) new n ≡ n = ap (λ (b : Bool). either b new n) (ne_eqb n old miss) in
-      let r = one_made t h at i n misses (λ j. refl) (after_miss n my) (λ j there. (my, rests, record { there = there; fits = small; becomes = refl })) in
+      let r = one_made t h at i n sees_holds (λ j. refl) (after_miss n my) (λ j there. (my, rests, record { there = there; fits = small; becomes = refl })) in
       let told : after_exchange old n my ≡ after_miss n my = ap (λ (b : Bool). if b then after_count n my else after_miss n my) (ne_eqb n old miss) in (
         r.0,
         keeps,

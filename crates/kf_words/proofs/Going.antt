@@ -25,7 +25,7 @@ use Rattle.kf_words.specs.Layout.{hold_index, sleepers_index, slot_of, HasSpare,
 use Rattle.kf_words.specs.Rule.{Shows, Shown, seats, bare_world, caller, last_key}
 use Rattle.kf_words.specs.Steps.{Seated, no_state, state_at, after_miss, after_count, after_share, unmoved, after_split, new_hold, hold_for, CallerBecomes, spent_hold, after_count_at}
 use Rattle.kf_words.specs.Nodes.{marks_of}
-use Rattle.kf_words.specs.TableSteps.{Table, StepKind, counts, shares, splits, answers, Comes, plus, master_in, world, IsSeated, HoldsSlot, MayCount, counts_at, hands_on, MayCountAt}
+use Rattle.kf_words.specs.TableSteps.{Table, StepKind, counts_hold, shares, splits, answers, Comes, plus, master_in, world, IsSeated, HoldsSlot, MayCount, counts_hold_at, hands_on, MayCountAt}
 use Rattle.kf_words.proofs.Bits.{waiting_is}
 use Rattle.kf_words.proofs.Seating.{caller_seat, master_seat, seats-set, seats-push}
 use Rattle.kf_words.proofs.CallerAllowed.{no_step}
@@ -34,7 +34,7 @@ use Rattle.kf_words.proofs.PinSteps.{count_at_owes}
 use Rattle.kf_words.proofs.Sharing.{shared_world, share_kept}
 use Rattle.kf_words.proofs.Sleepers.{put_same, sleep_allowed}
 use Rattle.kf_words.proofs.MasterAllowed.{splits as splits_shown}
-use Rattle.kf_words.proofs.Events.{miss_is_nothing, split_is_pin, share_is_pin, hand_on_is_pin}
+use Rattle.kf_words.proofs.Events.{miss_is_nothing, split_is_pin, share_is_pin}
 use Rattle.kf_words.proofs.Led.{Led}
 use Rattle.kf_words.proofs.Led.{happens}
 pub use Rattle.kf_words.proofs.Led.{TakenOut, Came, Passed, Alone, IsEvent, Led, with_spent}
@@ -114,7 +114,7 @@ module _ (slots limit : ℕ) (t t' : Table) (h : Shown slots limit t) (j : ℕ) 
   -- one hold more is counted
   pub count_goes : MayCount t c → slice_index t.words (hold_index c.key.slot) < 18446744073709551616
       → t' ≡ stepped t (hold_index c.key.slot) (plus 1 (slice_index t.words (hold_index c.key.slot))) (suc j) [] (seat.Caller (after_count (slice_index t.words (hold_index c.key.slot)) c)) keeps
-      → Goes (counts j) slots limit t t'
+      → Goes (counts_hold j) slots limit t t'
   count_goes may fits becomes =
       let n : ℕ = slice_index t.words (hold_index c.key.slot) in
       let c' : CallerView = after_count n c in
@@ -123,7 +123,7 @@ module _ (slots limit : ℕ) (t t' : Table) (h : Shown slots limit t) (j : ℕ) 
       let views : t'.views ≡ seats h.master (set h.callers j c') =
       ap (λ (x : Table). x.views) becomes ∙ ap (λ (l : List View). set l (suc j) (seat.Caller c')) h.views ∙ seats-set h.master h.callers j c' in (
         caller_shown (hold_index c.key.slot) (plus 1 n) c' (count_owes t.words h.master h.callers j c h.shows seated (waiting_is c.phase may.0.0).0 may.0.0 may.0.1 may.1 spare fits) becomes,
-        led (counts j) t t' (bare_world h.master h.callers) (bare_world h.master (set h.callers j c')) (world_is t h.master h.callers h.views) (world_is t' h.master (set h.callers j c') views)
+        led (counts_hold j) t t' (bare_world h.master h.callers) (bare_world h.master (set h.callers j c')) (world_is t h.master h.callers h.views) (world_is t' h.master (set h.callers j c') views)
             (inl (miss_is_nothing slots limit t h j c at n).5),
       )
 
@@ -170,17 +170,17 @@ module _ (slots limit : ℕ) (t t' : Table) (h : Shown slots limit t) (j : ℕ) 
 
   pub count_at_goes : (slot : ℕ) → MayCountAt t slot c → slice_index t.words (hold_index slot) < 18446744073709551616
       → t' ≡ stepped t (hold_index slot) (plus 1 (slice_index t.words (hold_index slot))) (suc j) [] (seat.Caller (after_count_at slot (slice_index t.words (hold_index slot)) c)) keeps
-      → Goes (counts_at slot j) slots limit t t'
+      → Goes (counts_hold_at slot j) slots limit t t'
   count_at_goes slot may fits becomes =
       let n : ℕ = slice_index t.words (hold_index slot) in
       let limit_is : (master_in t.views).limit ≡ h.master.limit = ap (λ (l : List View). (master_in l).limit) h.views in
       let place : MayPinAt h.master.limit n = subst (λ (k : ℕ). MayPinAt k n) limit_is may.2 in
-      word_goes (counts_at slot j) (hold_index slot) (plus 1 n) (after_count_at slot n c)
+      word_goes (counts_hold_at slot j) (hold_index slot) (plus 1 n) (after_count_at slot n c)
       (count_at_owes t.words h.master h.callers j c h.shows seated (waiting_is c.phase may.0.0).0 may.0.0 may.0.1 may.1 slot place fits)
       ((miss_is_nothing slots limit t h j c at n).6 slot) becomes
 
   -- the hold of any key that was counted gets its seat
-  hand_views : (key : Key) → t' ≡ record { words = t.words; homes = t.homes; views = set t.views (suc j) (seat.Caller (after_share c)) ++ seat.Caller (new_hold key) ∷ [] }
+  pub hand_views : (key : Key) → t' ≡ record { words = t.words; homes = t.homes; views = set t.views (suc j) (seat.Caller (after_share c)) ++ seat.Caller (new_hold key) ∷ [] }
       → t'.views ≡ seats h.master (set h.callers j (after_share c) ++ new_hold key ∷ [])
   hand_views key becomes =
       ap (λ (x : Table). x.views) becomes ∙ ap (λ (l : List View). set l (suc j) (seat.Caller (after_share c)) ++ seat.Caller (new_hold key) ∷ []) h.views
@@ -204,18 +204,6 @@ module _ (slots limit : ℕ) (t t' : Table) (h : Shown slots limit t) (j : ℕ) 
         led (hands_on j) t t' (bare_world h.master h.callers) (bare_world h.master cs') (world_is t h.master h.callers h.views) (world_is t' h.master cs' views)
             (inr (inr (inr (inl (record { kind_is = inr (j, refl); key = key; is = shared_world h.master h.callers j c seated key }))))),
       )
-
-  -- where it was attended, it is a Pin
-  pub hand_pins : (key : Key) → c.pinning ≡ Some key → MayPin (world t) key
-      → t' ≡ record { words = t.words; homes = t.homes; views = set t.views (suc j) (seat.Caller (after_share c)) ++ seat.Caller (new_hold key) ∷ [] }
-      → BareStep (world t) (Pin (length h.callers) key) (world t')
-  hand_pins key pinned may becomes =
-      let cs' : List CallerView = set h.callers j (after_share c) ++ new_hold key ∷ [] in
-      let is = world_is t h.master h.callers h.views in
-      let is' = world_is t' h.master cs' (hand_views key becomes) in
-      subst (λ (w : BareWorld). BareStep w (Pin (length h.callers) key) (world t')) (sym is)
-      (subst (λ (w : BareWorld). BareStep (bare_world h.master h.callers) (Pin (length h.callers) key) w) (sym is')
-      (hand_on_is_pin slots limit t h j c at key pinned (subst (λ (w : BareWorld). MayPin w key) is may)))
 
 -- what a step of the Master says, by its slot
 pub slot_view : (after : ℕ → ℕ → MasterView → MasterView) (m : MasterView) (n i slot : ℕ) (me' : Seated) → slot_of i ≡ slot → me' ≡ (seat.Master (after (slot_of i) n m), []) → me'.0 ≡ seat.Master (after slot n m)

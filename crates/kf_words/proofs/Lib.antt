@@ -27,6 +27,9 @@ pub mod Events
 pub mod Going
 pub mod WordSteps
 pub mod Attended
+pub mod Renumbered
+pub mod UnderWay
+pub mod Followed
 pub mod Noted
 pub mod Keeps
 pub mod OneEnds

@@ -4,7 +4,7 @@ use Rattle.std.specs.Prelude.{Some, None, Option}
 use Rattle.kf_core.specs.declared.command.Command.TheVariants.{Doom}
 use Rattle.kf_words.specs.declared.note.Note.TheVariants.{Did}
 use Rattle.kf_core.specs.declared.caller.Phase.TheVariants.{Still, Turned, Running, Broken, Restored, Drained, Parted, Hiding, Hidden, Spent}
-use Rattle.kf_words.specs.TableSteps.{Table, births, breaks, hides, leaves, loads_hold, looks, looks_hidden, looks_over, marks_node, parts, pins_hold, releases, misses, counts, shares, restores, shows, sleeps, awakes, loads_sleepers, splits, stores_fresh, takes_bias, tries, undoes, unlinks, unpins_hold, notes, reports, answers, compares, WordStep, misses_at, counts_at, hands_on, stores_node, reads_node}
+use Rattle.kf_words.specs.TableSteps.{Table, births, breaks, hides, leaves, loads_hold, looks, looks_hidden, looks_over, marks_node, parts, pins_hold, releases, sees_holds, counts_hold, shares, restores, shows, sleeps, awakes, loads_sleepers, splits, stores_fresh, takes_bias, tries, undoes, unlinks, unpins_hold, notes, reports, answers, compares, WordStep, sees_holds_at, counts_hold_at, hands_on, stores_node, reads_node}
 use Rattle.kf_words.specs.declared.view.CallerView.{CallerView}
 use Rattle.kf_words.specs.declared.view.MasterView.{MasterView}
 use Rattle.kf_words.specs.Steps.{spent_hold}
@@ -259,13 +259,13 @@ s29 = (master_at 1 (Some (with_marks_of true true)) (None) (None) ([]) (record {
 s30 : WordStep t30 (parts 1) t31
 s30 = (caller_at Drained 8 1 6442450946 false, (refl, refl), record { there = refl; fits = ltb-true 4294967298 18446744073709551616 refl; becomes = refl })
 
-s31 : WordStep t31 (misses 0) b31
+s31 : WordStep t31 (sees_holds 0) b31
 s31 = (caller_at Still 8 3 12884901889 false, (refl, refl), record { there = refl; fits = ltb-true 4294967298 18446744073709551616 refl; becomes = refl })
 
 b_releases : WordStep b31 (releases 1) t32
 b_releases = (caller_at Parted 9 1 4294967298 false, (refl, refl), record { there = refl; fits = ltb-true 4294967298 18446744073709551616 refl; becomes = refl })
 
-c_counts : WordStep t32 (counts 0) c32
+c_counts : WordStep t32 (counts_hold 0) c32
 c_counts = (caller_at Still 9 3 4294967298 false, ((refl, refl), refl, ltb-true 2 3 refl), record { there = refl; fits = ltb-true 4294967297 18446744073709551616 refl; becomes = refl })
 
 d_shares : WordStep c32 (shares 0) d32
@@ -329,10 +329,10 @@ s40 = (next_master (None) (record { slot = 1; word = 10737418240 } ∷ []), (ltb
 s41 : WordStep t41 (splits 1) t42
 s41 = (next_master (Some 1) [], refl, ltb-true 1 2 refl, refl, refl)
 
-s42 : WordStep t42 (misses_at 1 3) t43
+s42 : WordStep t42 (sees_holds_at 1 3) t43
 s42 = (next_caller Still 0 0 0 false, (refl, refl), record { there = refl; fits = ltb-true 10737418241 18446744073709551616 refl; becomes = refl })
 
-s43 : WordStep t43 (counts_at 1 3) t44
+s43 : WordStep t43 (counts_hold_at 1 3) t44
 s43 = (next_caller Still 1 0 10737418241 false, ((refl, refl), refl, (refl, ltb-true 2 3 refl)), record { there = refl; fits = ltb-true 10737418241 18446744073709551616 refl; becomes = refl })
 
 s44 : WordStep t44 (hands_on 3) t45
@@ -368,4 +368,4 @@ s_node : WordStep t35 (stores_node 1 0 0) t35
 s_node = (master_at 1 (None) (None) (Some 1) (record { slot = 1; word = 4294967296 } ∷ []) (record { slot = 1; word = 0 } ∷ []) (None), ((ltb-true 1 2 refl, refl), ltb-true 0 5 refl), record { there = refl; fits = ltb-true 0 18446744073709551616 refl; becomes = refl })
 
 pub lives : WordLife
-lives = (t1, tt, s0, (t2, tt, s1, (t3, tt, s2, (t4, tt, s3, (t5, tt, s4, (t6, tt, s5, (t7, inl refl, s6, (t8, tt, s7, (t9, tt, s8, (t10, inr (0, (caller_at Still 0 0 0 false, refl, refl, still_holds)), s9, (t11, tt, s10, (t12, tt, s11, (t13, tt, s12, (t14, tt, s13, (t15, tt, s14, (t16, tt, s15, (t17, tt, s16, (t18, tt, s17, (t19, tt, s18, (t19, tt, n19, (t20, tt, s19, (t21, tt, s20, (t22, tt, s21, (a22, tt, s22, (a23, tt, a_breaks, (a23, tt, loads_count, (t23, tt, awake, (t24, tt, s23, (t25, tt, s24, (t26, tt, s25, (t27, tt, s26, (t28, tt, s27, (t29, tt, s28, (t30, (1, (caller_at Drained 8 1 6442450946 false, refl, refl, refl, refl)), s29, (t31, tt, s30, (b31, tt, s31, (t32, tt, b_releases, (c32, tt, c_counts, (d32, tt, d_shares, (e32, tt, e_releases, (t33, tt, s32, (t34, tt, s33, (t35, tt, s34, (t35, tt, s_node, (t36, tt, s35, (t37, tt, s36, (t38, tt, s37, (t39, tt, s38, (t40, tt, s39, (t41, tt, s40, (t42, inl refl, s41, (t43, tt, s42, (t44, tt, s43, (t45, (with_one_more (next_caller Still 2 0 10737418241 false), record { slot = 1; generation = 2 }, refl, refl, inl refl), s44, (t46, tt, s45, (t47, tt, s46, (t47, tt, s47, (t48, inl refl, s48, refl))))))))))))))))))))))))))))))))))))))))))))))))))))))))))
+lives = (t1, tt, s0, (t2, tt, s1, (t3, tt, s2, (t4, tt, s3, (t5, tt, s4, (t6, tt, s5, (t7, inl refl, s6, (t8, tt, s7, (t9, tt, s8, (t10, inr (0, (caller_at Still 0 0 0 false, refl, refl, still_holds)), s9, (t11, tt, s10, (t12, tt, s11, (t13, tt, s12, (t14, tt, s13, (t15, tt, s14, (t16, tt, s15, (t17, tt, s16, (t18, tt, s17, (t19, tt, s18, (t19, tt, n19, (t20, tt, s19, (t21, tt, s20, (t22, tt, s21, (a22, tt, s22, (a23, tt, a_breaks, (a23, tt, loads_count, (t23, tt, awake, (t24, tt, s23, (t25, tt, s24, (t26, tt, s25, (t27, tt, s26, (t28, tt, s27, (t29, tt, s28, (t30, (1, (caller_at Drained 8 1 6442450946 false, refl, refl, refl, refl)), s29, (t31, tt, s30, (b31, tt, s31, (t32, tt, b_releases, (c32, tt, c_counts, (d32, tt, d_shares, (e32, tt, e_releases, (t33, tt, s32, (t34, tt, s33, (t35, tt, s34, (t35, tt, s_node, (t36, tt, s35, (t37, tt, s36, (t38, tt, s37, (t39, tt, s38, (t40, tt, s39, (t41, tt, s40, (t42, inl refl, s41, (t43, tt, s42, (t44, tt, s43, (t45, tt, s44, (t46, tt, s45, (t47, tt, s46, (t47, tt, s47, (t48, inl refl, s48, refl))))))))))))))))))))))))))))))))))))))))))))))))))))))))))

@@ -16,7 +16,7 @@ use Rattle.kf_words.specs.declared.view.View.TheVariants as seat
 use Rattle.kf_words.specs.Layout.{active_index, hold_index, sleepers_index, node_index}
 use Rattle.kf_words.specs.Rule.{Shown}
 use Rattle.kf_words.specs.Steps.{master_of, state_at, no_state, after_split, new_hold, after_share}
-use Rattle.kf_words.specs.TableSteps.{Table, StepKind, master_in, WordStep, tries, undoes, leaves, breaks, restores, looks, parts, hides, looks_hidden, shows, releases, misses, counts, shares, sleeps, awakes, loads_sleepers, loads_hold, pins_hold, unpins_hold, splits, stores_fresh, births, takes_bias, marks_node, looks_over, unlinks, misses_at, counts_at, hands_on, stores_node, reads_node, notes, reports, answers, compares}
+use Rattle.kf_words.specs.TableSteps.{Table, StepKind, master_in, WordStep, tries, undoes, leaves, breaks, restores, looks, parts, hides, looks_hidden, shows, releases, sees_holds, counts_hold, shares, sleeps, awakes, loads_sleepers, loads_hold, pins_hold, unpins_hold, splits, stores_fresh, births, takes_bias, marks_node, looks_over, unlinks, sees_holds_at, counts_hold_at, hands_on, stores_node, reads_node, notes, reports, answers, compares}
 use Rattle.kf_words.specs.NodeWords.{NodeNotes, noted_by}
 
 -- a step that puts no word of a node, and is no birth
@@ -35,8 +35,8 @@ plain (hides j) = true
 plain (looks_hidden j) = true
 plain (shows j) = true
 plain (releases j) = true
-plain (misses j) = true
-plain (counts j) = true
+plain (sees_holds j) = true
+plain (counts_hold j) = true
 plain (shares j) = true
 plain (sleeps slot j) = true
 plain (awakes slot j) = true
@@ -51,8 +51,8 @@ plain (marks_node j) = true
 plain (looks_over j) = true
 plain (unlinks j) = true
 plain (hands_on j) = true
-plain (misses_at slot j) = true
-plain (counts_at slot j) = true
+plain (sees_holds_at slot j) = true
+plain (counts_hold_at slot j) = true
 plain (notes note) = true
 plain (reports j) = true
 plain answers = true
@@ -75,8 +75,8 @@ unnoted (hides j) e w = refl
 unnoted (looks_hidden j) e w = refl
 unnoted (shows j) e w = refl
 unnoted (releases j) e w = refl
-unnoted (misses j) e w = refl
-unnoted (counts j) e w = refl
+unnoted (sees_holds j) e w = refl
+unnoted (counts_hold j) e w = refl
 unnoted (shares j) e w = refl
 unnoted (sleeps slot j) e w = refl
 unnoted (awakes slot j) e w = refl
@@ -91,8 +91,8 @@ unnoted (marks_node j) e w = refl
 unnoted (looks_over j) e w = refl
 unnoted (unlinks j) e w = refl
 unnoted (hands_on j) e w = refl
-unnoted (misses_at slot j) e w = refl
-unnoted (counts_at slot j) e w = refl
+unnoted (sees_holds_at slot j) e w = refl
+unnoted (counts_hold_at slot j) e w = refl
 unnoted (notes note) e w = refl
 unnoted (reports j) e w = refl
 unnoted answers e w = refl
@@ -115,8 +115,8 @@ which (hides j) = inl refl
 which (looks_hidden j) = inl refl
 which (shows j) = inl refl
 which (releases j) = inl refl
-which (misses j) = inl refl
-which (counts j) = inl refl
+which (sees_holds j) = inl refl
+which (counts_hold j) = inl refl
 which (shares j) = inl refl
 which (sleeps slot j) = inl refl
 which (awakes slot j) = inl refl
@@ -131,8 +131,8 @@ which (marks_node j) = inl refl
 which (looks_over j) = inl refl
 which (unlinks j) = inl refl
 which (hands_on j) = inl refl
-which (misses_at slot j) = inl refl
-which (counts_at slot j) = inl refl
+which (sees_holds_at slot j) = inl refl
+which (counts_hold_at slot j) = inl refl
 which (notes note) = inl refl
 which (reports j) = inl refl
 which answers = inl refl
@@ -273,13 +273,13 @@ leaves_alone slots limit t (looks_hidden j) t' h e s = by_caller t t' _ _ j _ (o
 leaves_alone slots limit t (shows j) t' h e s = by_caller t t' _ _ j _ (on_active s.0.key.slot) s.2.becomes
 leaves_alone slots limit t (parts j) t' h e s = by_caller t t' _ _ j _ (on_hold s.0.key.slot) s.2.becomes
 leaves_alone slots limit t (releases j) t' h e s = by_caller t t' _ _ j _ (on_hold s.0.key.slot) s.2.becomes
-leaves_alone slots limit t (misses j) t' h e s = by_caller t t' _ _ j _ (on_hold s.0.key.slot) s.2.becomes
-leaves_alone slots limit t (counts j) t' h e s = by_caller t t' _ _ j _ (on_hold s.0.key.slot) s.2.becomes
+leaves_alone slots limit t (sees_holds j) t' h e s = by_caller t t' _ _ j _ (on_hold s.0.key.slot) s.2.becomes
+leaves_alone slots limit t (counts_hold j) t' h e s = by_caller t t' _ _ j _ (on_hold s.0.key.slot) s.2.becomes
 leaves_alone slots limit t (sleeps slot j) t' h e s = by_caller t t' _ _ j _ (on_sleepers s.0.key.slot) s.2.becomes
 leaves_alone slots limit t (awakes slot j) t' h e s = by_caller t t' _ _ j _ (on_sleepers s.0.key.slot) s.2.becomes
 leaves_alone slots limit t (loads_sleepers slot j) t' h e s = by_caller t t' _ _ j _ (on_sleepers s.0.key.slot) s.2.becomes
-leaves_alone slots limit t (misses_at slot j) t' h e s = by_caller t t' _ _ j _ (on_hold slot) s.2.becomes
-leaves_alone slots limit t (counts_at slot j) t' h e s = by_caller t t' _ _ j _ (on_hold slot) s.2.becomes
+leaves_alone slots limit t (sees_holds_at slot j) t' h e s = by_caller t t' _ _ j _ (on_hold slot) s.2.becomes
+leaves_alone slots limit t (counts_hold_at slot j) t' h e s = by_caller t t' _ _ j _ (on_hold slot) s.2.becomes
 leaves_alone slots limit t (reads_node slot place j) t' h e s = by_load t t' _ j _ s.2.becomes
 leaves_alone slots limit t (notes note) t' h e s = by_nothing t t' s.1
 leaves_alone slots limit t compares t' h e s = by_nothing t t' s.1

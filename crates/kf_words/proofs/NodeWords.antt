@@ -198,9 +198,17 @@ pub notes_parts : (w : NodeNotes) (a b : List StepKind) → notes_after w (a ++ 
 notes_parts w [] b = refl
 notes_parts w (kind ∷ kinds) b = notes_parts (noted_by kind w) kinds b
 
-run_joined : (a b : List StepKind) (t u v : Table) → WordRun t a u → WordRun u b v → WordRun t (a ++ b) v
+pub run_joined : (a b : List StepKind) (t u v : Table) → WordRun t a u → WordRun u b v → WordRun t (a ++ b) v
 run_joined [] b t u v r s = subst (λ (x : Table). WordRun x b v) r s
 run_joined (kind ∷ kinds) b t u v r s = (r.0, r.1, run_joined kinds b r.0 u v r.2 s)
+
+-- while a key is linked, what stood there at its birth stays
+pub linked_as_born : (w : NodeNotes) (slots limit : ℕ) (kinds : List StepKind) (t u : Table) (k : Key) → Shown slots limit t → WordRun t kinds u
+    → is_linked (world t) k ≡ true → is_linked (world u) k ≡ true → (place : ℕ) → (notes_after w kinds).born k.slot place ≡ w.born k.slot place
+linked_as_born w slots limit kinds t u k g r linked_t linked_u =
+    let a = linked_here (world t) k linked_t in
+    let b = linked_here (world u) k linked_u in
+    born_stays w slots limit kinds t u k _ _ g r a.1 refl b.1 refl
 
 pub read_as_born : ReadAsBorn
 read_as_born o some_slot few first mid last t u v r1 r2 r3 key linked_t linked_v place small =

@@ -13,7 +13,7 @@ use Rattle.kf_core.specs.Marks.{fresh_marks}
 use Rattle.kf_words.specs.declared.view.CallerView.{CallerView}
 use Rattle.kf_words.specs.declared.view.MasterView.{MasterView}
 use Rattle.kf_words.specs.declared.view.View.TheVariants as seat
-use Rattle.kf_words.specs.TableSteps.{Table, StepKind, CallerPlays, MasterPlays, MasterSplits, CallerShares, WordStep, WordRun, tries, undoes, leaves, breaks, restores, looks, parts, hides, looks_hidden, shows, releases, misses, counts, shares, sleeps, awakes, loads_sleepers, loads_hold, pins_hold, unpins_hold, splits, stores_fresh, births, takes_bias, marks_node, looks_over, unlinks, notes, reports, answers, compares, CallerReports, MasterAnswers, plus, minus, same, with_hide, HasUndoDue, MayRelease, MayCount, IsAt, SeesRoom, HasPin, SeesFree, HasFresh, IsUndoomed, SeesDrained, CallerPlaysAt, CallerLoads, CallerHandsOn, misses_at, counts_at, hands_on, stores_node, reads_node, MayCountAt, MayNote}
+use Rattle.kf_words.specs.TableSteps.{Table, StepKind, CallerPlays, MasterPlays, MasterSplits, CallerShares, WordStep, WordRun, tries, undoes, leaves, breaks, restores, looks, parts, hides, looks_hidden, shows, releases, sees_holds, counts_hold, shares, sleeps, awakes, loads_sleepers, loads_hold, pins_hold, unpins_hold, splits, stores_fresh, births, takes_bias, marks_node, looks_over, unlinks, notes, reports, answers, compares, CallerReports, MasterAnswers, plus, minus, same, with_hide, HasUndoDue, MayRelease, MayCount, IsAt, SeesRoom, HasPin, SeesFree, HasFresh, IsUndoomed, SeesDrained, CallerPlaysAt, CallerLoads, CallerHandsOn, sees_holds_at, counts_hold_at, hands_on, stores_node, reads_node, MayCountAt, MayNote}
 use Rattle.kf_words.specs.Steps.{after_try, after_undo, after_leave, after_break, after_restore, after_look, after_part, after_hide, after_look_hidden, after_show, after_release, after_miss, after_count, after_share, new_hold, unmoved, with_load, with_pin, without_pin, after_store, with_birth, with_look, without_node, unread, with_marks, activated_marks, doomed_marks, after_split, hold_for, spent_hold, state_at, after_count_at, kept}
 use Rattle.kf_words.specs.Rule.{last_key}
 use Rattle.kf_words.specs.Layout.{bit, bias, doom, hide, linked, one_generation, active_index, hold_index, sleepers_index, node_index}
@@ -105,8 +105,8 @@ one_step t u v (hides j) p q = by_caller t u v after_hide IsAtRest active_index 
 one_step t u v (looks_hidden j) p q = by_caller t u v after_look_hidden (IsInPhase Hiding) active_index same j p q
 one_step t u v (shows j) p q = by_caller t u v after_show (IsInPhase Hidden) active_index (minus hide) j p q
 one_step t u v (releases j) p q = by_caller t u v after_release MayRelease hold_index (minus 1) j p q
-one_step t u v (misses j) p q = by_caller t u v after_miss IsAtRest hold_index same j p q
-one_step t u v (counts j) p q = by_caller t u v after_count (MayCount t) hold_index (plus 1) j p q
+one_step t u v (sees_holds j) p q = by_caller t u v after_miss IsAtRest hold_index same j p q
+one_step t u v (counts_hold j) p q = by_caller t u v after_count (MayCount t) hold_index (plus 1) j p q
 one_step t u v (shares j) p q = by_share t u v j p q
 one_step t u v (sleeps slot j) p q = by_caller t u v unmoved (IsAt slot) sleepers_index (plus 1) j p q
 one_step t u v (awakes slot j) p q = by_caller t u v unmoved (IsAt slot) sleepers_index (minus 1) j p q
@@ -124,8 +124,8 @@ one_step t u v (notes note) p q = p.1 ∙ sym q.1
 one_step t u v compares p q = p.1 ∙ sym q.1
 one_step t u v answers p q = by_answer t u v p q
 one_step t u v (reports j) p q = by_report t u v j p q
-one_step t u v (misses_at slot j) p q = by_caller_at t u v slot after_miss IsAtRest same j p q
-one_step t u v (counts_at slot j) p q = by_caller_at t u v slot (after_count_at slot) (MayCountAt t slot) (plus 1) j p q
+one_step t u v (sees_holds_at slot j) p q = by_caller_at t u v slot after_miss IsAtRest same j p q
+one_step t u v (counts_hold_at slot j) p q = by_caller_at t u v slot (after_count_at slot) (MayCountAt t slot) (plus 1) j p q
 one_step t u v (hands_on j) p q = by_hand t u v j p q
 one_step t u v (stores_node slot place n) p q = by_master t u v kept (MayNote slot place) (node_index place) (λ _. n) slot p q
 one_step t u v (reads_node slot place j) p q = by_load t u v (node_index place slot) j p q

@@ -20,10 +20,10 @@ use Rattle.kf_words.specs.Layout.{hold_index, slot_of, IsOf, MayPinAt}
 use Rattle.kf_words.specs.Rule.{bare_world}
 use Rattle.kf_words.specs.Steps.{Seated, Sighted, plain, caller_of, after_miss, after_count_at, after_share, hold_on, key_in}
 use Rattle.kf_words.specs.Callers.{CallerSight, IsAtRest}
-use Rattle.kf_words.specs.TableSteps.{Table, StepKind, misses_at, counts_at, hands_on, plus, master_in, world, IsSeated}
+use Rattle.kf_words.specs.TableSteps.{Table, StepKind, sees_holds_at, counts_hold_at, hands_on, same, plus, master_in, world, IsSeated}
 use Rattle.kf_words.specs.History.{SeenTable, erased, Kept, after_sharing, handed_on}
 use Rattle.kf_words.specs.Made.{WasMade}
-use Rattle.kf_words.specs.Pins.{MakesMissAt, MakesExchangeAt, after_exchange_at}
+use Rattle.kf_words.specs.Pins.{MakesLookAt, MakesMissAt, MakesExchangeAt, after_exchange_at}
 use Rattle.kf_words.proofs.Seating.{caller_seat}
 use Rattle.kf_words.proofs.Keeps.{view_there, split_kept}
 use Rattle.kf_words.proofs.Noted.{put}
@@ -54,18 +54,31 @@ module _ (o : Opening) (homes id : ℕ) (me : Sighted) (is : plain me ≡ (seat.
         subst (λ (l : List (ℕ × Unit {0})). Kept o (stepped t i n' id l after keeps)) (sym (ap (λ (x : Seated). x.1) is))
         (subst (λ (w : ℕ). Kept o (stepped t w n' id [] after keeps)) its (subst (λ (x : ℕ). Kept o (stepped t (hold_index slot) x id [] after keeps)) (sym same) k))
 
+    pub look_at_made : IsAtRest my → Allows (Kept o) homes id me i same (MakesLookAt (step homes i 0 0 none) me)
+    look_at_made rests t h far at small =
+        let n : ℕ = slice_index t.words (hold_index slot) in
+        let n' : ℕ = slice_index t.words i in
+        let one : n' ≡ n = ap (slice_index t.words) (sym its) in
+        let r = one_made o homes id me is t h at (hold_index slot) n (sees_holds_at slot) (λ j. refl) (after_miss n my) (λ j there. (my, rests, record { there = there; fits = at_word t small; becomes = refl })) in (
+          r.0,
+          keeps,
+          tt,
+          kept_so t n n' r.0 one r.2,
+          (on, (ap (λ (v : View). let x : Seated = (v, me.1) in x) (r.1 ∙ ap (λ (k : ℕ). seat.Caller (after_miss k my)) (sym one)), of_word sees_holds_at _ _ r.3)),
+        )
+
     pub miss_at_made : IsAtRest my → (most : ℕ) → most ≡ o.holds → Allows (Kept o) homes id me i (λ n. either (eqb n most) most n) (MakesMissAt (step homes i most most none) me)
     miss_at_made rests most named t h far at small =
         let n : ℕ = slice_index t.words (hold_index slot) in
         let n' : ℕ = slice_index t.words i in
         let one : n' ≡ n = ap (slice_index t.words) (sym its) in
         let stays : either (eqb n' most) most n' ≡ n = either_at (eqb n' most) most n' (eqb-true n' most) ∙ one in
-        let r = one_made o homes id me is t h at (hold_index slot) n (misses_at slot) (λ j. refl) (after_miss n my) (λ j there. (my, rests, record { there = there; fits = at_word t small; becomes = refl })) in (
+        let r = one_made o homes id me is t h at (hold_index slot) n (sees_holds_at slot) (λ j. refl) (after_miss n my) (λ j there. (my, rests, record { there = there; fits = at_word t small; becomes = refl })) in (
           r.0,
           keeps,
           tt,
           kept_so t n (either (eqb n' most) most n') r.0 stays r.2,
-          (on, (ap (λ (v : View). let x : Seated = (v, me.1) in x) (r.1 ∙ ap (λ (k : ℕ). seat.Caller (after_miss k my)) (sym one)), of_word misses_at _ _ r.3), named ∙ opening_is o homes id me is t h at),
+          (on, (ap (λ (v : View). let x : Seated = (v, me.1) in x) (r.1 ∙ ap (λ (k : ℕ). seat.Caller (after_miss k my)) (sym one)), of_word sees_holds_at _ _ r.3), named ∙ opening_is o homes id me is t h at),
         )
 
     pub exchange_at_made : IsAtRest my → my.pinning ≡ None → (old new : ℕ) → new ≡ old + 1 → new < 18446744073709551616 → MayPinAt o.holds old
@@ -79,25 +92,25 @@ module _ (o : Opening) (homes id : ℕ) (me : Sighted) (is : plain me ≡ (seat.
         let hit' : n ≡ old = sym one ∙ hit in
         let place : MayPinAt (master_in (erased t).views).limit n = subst (λ (k : ℕ). MayPinAt k n) (sym (limit_is o homes id me is t h)) (subst (λ (k : ℕ). MayPinAt o.holds k) (sym hit') may) in
         let adds : either (eqb n' old) new n' ≡ plus 1 n = ap (λ (b : Bool). either b new n') (eq-eqb n' old hit) ∙ (let e : new ≡ (n + 1) % 18446744073709551616 = omega arith in e) in
-        let r = one_made o homes id me is t h at (hold_index slot) (plus 1 n) (counts_at slot) (λ j. refl) (after_count_at slot n my) (λ j there. (my, (rests, single, place), record { there = there; fits = at_word t small; becomes = refl })) in
+        let r = one_made o homes id me is t h at (hold_index slot) (plus 1 n) (counts_hold_at slot) (λ j. refl) (after_count_at slot n my) (λ j there. (my, (rests, single, place), record { there = there; fits = at_word t small; becomes = refl })) in
         let told : after_exchange_at (slot_of i) old n' my ≡ after_count_at slot n my =
         ap (λ (b : Bool). if b then after_count_at (slot_of i) n' my else after_miss n' my) (eq-eqb n' old hit) ∙ ap (λ (k : ℕ). after_count_at k n' my) back ∙ ap (λ (k : ℕ). after_count_at slot k my) one in (
           r.0,
           keeps,
           tt,
           kept_so t (plus 1 n) (either (eqb n' old) new n') r.0 adds r.2,
-          (on, (ap (λ (v : View). let x : Seated = (v, me.1) in x) (r.1 ∙ ap seat.Caller (sym told)), ((λ _. of_word counts_at _ _ r.3), (λ ne. absurd (ne hit))))),
+          (on, (ap (λ (v : View). let x : Seated = (v, me.1) in x) (r.1 ∙ ap seat.Caller (sym told)), ((λ _. of_word counts_hold_at _ _ r.3), (λ ne. absurd (ne hit))))),
         ))
         (λ miss.
         let stays : either (eqb n' old) new n' ≡ n = ap (λ (b : Bool). either b new n') (ne_eqb n' old miss) ∙ one in
-        let r = one_made o homes id me is t h at (hold_index slot) n (misses_at slot) (λ j. refl) (after_miss n my) (λ j there. (my, rests, record { there = there; fits = at_word t small; becomes = refl })) in
+        let r = one_made o homes id me is t h at (hold_index slot) n (sees_holds_at slot) (λ j. refl) (after_miss n my) (λ j there. (my, rests, record { there = there; fits = at_word t small; becomes = refl })) in
         let told : after_exchange_at (slot_of i) old n' my ≡ after_miss n my =
         ap (λ (b : Bool). if b then after_count_at (slot_of i) n' my else after_miss n' my) (ne_eqb n' old miss) ∙ ap (λ (k : ℕ). after_miss k my) one in (
           r.0,
           keeps,
           tt,
           kept_so t n (either (eqb n' old) new n') r.0 stays r.2,
-          (on, (ap (λ (v : View). let x : Seated = (v, me.1) in x) (r.1 ∙ ap seat.Caller (sym told)), ((λ e. absurd (miss e)), (λ _. of_word misses_at _ _ r.3)))),
+          (on, (ap (λ (v : View). let x : Seated = (v, me.1) in x) (r.1 ∙ ap seat.Caller (sym told)), ((λ e. absurd (miss e)), (λ _. of_word sees_holds_at _ _ r.3)))),
         ))
 
   -- the hold of any key that the caller counted gets its seat
@@ -138,7 +151,7 @@ module _ (slot old found : ℕ) (me me' : Sighted) (is : plain me ≡ (seat.Call
   hit_key key its of_key hit = ap (λ (v : CallerView). v.pinning) (hit_view hit) ∙ ap (λ (k : Key). Some k) (same_key (key_in slot old) key its of_key.1)
 
 -- the key was linked in the table that the step found
-pub counted_linked : (key : Key) (before counted : CallerSight) (x : WasMade (counts_at key.slot) before counted) → counted.view.pinning ≡ Some key → is_linked (world x.found) key ≡ true
+pub counted_linked : (key : Key) (before counted : CallerSight) (x : WasMade (counts_hold_at key.slot) before counted) → counted.view.pinning ≡ Some key → is_linked (world x.found) key ≡ true
 counted_linked key before counted x pinned =
     let s = x.step in
     let h = x.shown in

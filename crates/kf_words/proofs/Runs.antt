@@ -1,5 +1,5 @@
 -- What holds over every run of steps of the table.
-use Rattle.std.proofs.Common.{◌≡◌, ◌⊎◌, inl, inr, ℕ, suc, ◌+◌, arith, Bool, true, false, List, [], ◌∷◌, ◌++◌, set, if◌then◌else◌, refl, sym, ap, ◌∙◌, subst, ⊎_elim}
+use Rattle.std.proofs.Common.{◌≡◌, ◌⊎◌, inl, inr, ℕ, suc, ◌+◌, arith, Bool, true, false, List, [], ◌∷◌, ◌++◌, map, set, if◌then◌else◌, refl, sym, ap, ◌∙◌, subst, ⊎_elim}
 use Rattle.std.specs.Prelude.{slice_get, slice_index, Some, None}
 use Rattle.std.proofs.lemmas.Option.{same_Some, slice_get_within}
 use Rattle.kf_core.specs.declared.key.Key.{Key}
@@ -12,7 +12,7 @@ use Rattle.kf_core.specs.declared.event.Event.TheVariants.{Enter}
 use Rattle.kf_core.specs.Bare.{BareWorld, IsCaller, is_live}
 use Rattle.kf_core.specs.Phases.{saw_unused}
 use Rattle.kf_core.specs.Safe.{Safe}
-use Rattle.kf_core.specs.Steps.{BareStep, BareRun, OnlySpent, with_caller}
+use Rattle.kf_core.specs.Steps.{BareStep, OnlySpent, with_caller}
 use Rattle.kf_core.proofs.Lists.{slice_get-set_same, after_push}
 use Rattle.kf_core.proofs.Hiding.{hider_not_live}
 use Rattle.kf_core.proofs.Runs.{seen_finished, linked_has_come, passed_unheld, step_starts}
@@ -25,13 +25,13 @@ use Rattle.kf_words.specs.Layout.{active_index}
 use Rattle.kf_words.specs.Rule.{Shown, seats, bare_world}
 use Rattle.kf_words.specs.Steps.{after_try}
 use Rattle.kf_words.specs.TableSteps.{Table, StepKind, tries, world, WordStep}
-use Rattle.kf_words.specs.Runs.{WordRun, OpensWell, RuleKept, RunIsRun, RunIsSafe, DrainedForGood, MarkedKeepsOut, HiddenKeepsOut, PassedForGood, BornUnheld, LetInLive, WasLetIn, TakenLive}
+use Rattle.kf_words.specs.Runs.{WordRun, AttendedRun, OpensWell, RuleKept, RunIsRun, HeldIsNamed, newcomer, RunIsSafe, DrainedForGood, MarkedKeepsOut, HiddenKeepsOut, PassedForGood, BornUnheld, LetInLive, WasLetIn, TakenLive}
 use Rattle.kf_words.proofs.Seating.{seats-set}
 use Rattle.kf_words.proofs.MasterAllowed.{state_there}
 use Rattle.kf_words.proofs.Opening.{opening_shown}
 use Rattle.kf_words.proofs.Events.{try_is_enter, birth_is_born}
 use Rattle.kf_words.proofs.WordSteps.{Led, IsEvent, Alone, TakenOut, Came, Passed, with_spent, at, met, world_is, word_step}
-use Rattle.kf_words.proofs.Attended.{attended_event}
+use Rattle.kf_words.proofs.Followed.{followed_from}
 
 -- a run keeps the rule
 word_run : (slots limit : ℕ) (kinds : List StepKind) (t u : Table) → Shown slots limit t → WordRun t kinds u → Shown slots limit u
@@ -101,23 +101,23 @@ opens_well slots limit start some_slot few = (opening_shown slots limit start so
 pub rule_kept : RuleKept
 rule_kept slots limit t u kinds h r = word_run slots limit kinds t u h r
 
--- events of two runs, one after the other
-both_runs : (es fs : List Event) (a b c : BareWorld) → BareRun a es b → BareRun b fs c → BareRun a (es ++ fs) c
-both_runs [] fs a b c p q = subst (λ (w : BareWorld). BareRun w fs c) p q
-both_runs (e ∷ es) fs a b c p q = (p.0, p.1, both_runs es fs p.0 b c p.2 q)
+-- an attended run is a run
+attended_runs : (kinds : List StepKind) (t u : Table) → AttendedRun t kinds u → WordRun t kinds u
+attended_runs [] t u r = r
+attended_runs (kind ∷ kinds) t u r = (r.0, r.2, attended_runs kinds r.0 u r.3)
 
--- an attended run is a run, and one of events
+-- and one of events
 pub run_is_run : RunIsRun
-run_is_run slots limit t u [] h r = (r, [], ap (λ (x : Table). world x) r)
-run_is_run slots limit t u (kind ∷ kinds) h r =
-    let v : Table = r.0 in
-    let q = run_is_run slots limit v u kinds (word_step slots limit t kind v h r.2).0 r.3 in
-    let events : List Event = q.1 in
-    let all : (es : List Event) × BareRun (world t) es (world u) = ⊎_elim
-    (λ (stays : world v ≡ world t). (events, subst (λ (w : BareWorld). BareRun w events (world u)) stays q.2))
-    (λ (x : (es : List Event) × BareRun (world t) es (world v)). (x.0 ++ events, both_runs x.0 events (world t) (world v) (world u) x.1 q.2))
-    (attended_event slots limit t kind v h r.2 r.1) in
-    ((v, r.2, q.0), all.0, all.1)
+run_is_run slots limit t u kinds h r = (attended_runs kinds t u r, followed_from slots limit kinds t u h r)
+
+pub held_is_named : HeldIsNamed
+held_is_named t none =
+    ap (λ (keys : List Key). let w : BareWorld = record { slots = (world t).slots; callers = (world t).callers ++ map newcomer keys } in w) none
+    ∙ ap (λ (l : List Caller). let w : BareWorld = record { slots = (world t).slots; callers = l } in w) (nothing_more (world t).callers)
+  where
+    nothing_more : (l : List Caller) → l ++ [] ≡ l
+    nothing_more [] = refl
+    nothing_more (x ∷ xs) = ap (λ l. x ∷ l) (nothing_more xs)
 
 -- the world of a table that meets the rule is safe
 pub safe_now : (slots limit : ℕ) (t : Table) → Shown slots limit t → Safe (world t)

@@ -10,9 +10,9 @@ use Rattle.kf_words.specs.declared.sight.Opening.{Opening}
 use Rattle.kf_words.specs.declared.view.View.{View}
 use Rattle.kf_words.specs.Layout.{linked, one_generation, active_index, hold_index, sleepers_index, node_index, empty_line}
 use Rattle.kf_words.specs.Rule.{Shown}
-use Rattle.kf_words.specs.TableSteps.{Table, StepKind, WordStep, WordRun, tries, undoes, leaves, breaks, restores, looks, parts, hides, looks_hidden, shows, releases, misses, counts, shares, sleeps, awakes, loads_sleepers, loads_hold, pins_hold, unpins_hold, splits, stores_fresh, births, takes_bias, marks_node, looks_over, unlinks, misses_at, counts_at, hands_on, stores_node, reads_node, notes, reports, answers, compares}
+use Rattle.kf_words.specs.TableSteps.{Table, StepKind, WordStep, WordRun, tries, undoes, leaves, breaks, restores, looks, parts, hides, looks_hidden, shows, releases, sees_holds, counts_hold, shares, sleeps, awakes, loads_sleepers, loads_hold, pins_hold, unpins_hold, splits, stores_fresh, births, takes_bias, marks_node, looks_over, unlinks, sees_holds_at, counts_hold_at, hands_on, stores_node, reads_node, notes, reports, answers, compares}
 use Rattle.kf_words.specs.History.{opened_as}
-use Rattle.kf_words.specs.Wakes.{IsAsleep, OnlySleepersAwake, SleepersAreFound}
+use Rattle.kf_words.specs.Wakes.{IsAsleep, SleepersAreFound}
 use Rattle.kf_words.proofs.Opening.{opening_shown}
 use Rattle.kf_words.proofs.WordSteps.{word_step}
 
@@ -78,10 +78,10 @@ count_stays slot t (splits k) t' o s = by_words slot t t' (ap (λ (x : Table). x
 count_stays slot t (hands_on j) t' o s = by_words slot t t' (ap (λ (x : Table). x.words) s.5)
 count_stays slot t (parts j) t' o s = by_step slot t t' _ _ _ _ (not_hold slot s.0.key.slot) s.2.becomes
 count_stays slot t (releases j) t' o s = by_step slot t t' _ _ _ _ (not_hold slot s.0.key.slot) s.2.becomes
-count_stays slot t (misses j) t' o s = by_step slot t t' _ _ _ _ (not_hold slot s.0.key.slot) s.2.becomes
-count_stays slot t (counts j) t' o s = by_step slot t t' _ _ _ _ (not_hold slot s.0.key.slot) s.2.becomes
-count_stays slot t (misses_at k j) t' o s = by_step slot t t' _ _ _ _ (not_hold slot k) s.2.becomes
-count_stays slot t (counts_at k j) t' o s = by_step slot t t' _ _ _ _ (not_hold slot k) s.2.becomes
+count_stays slot t (sees_holds j) t' o s = by_step slot t t' _ _ _ _ (not_hold slot s.0.key.slot) s.2.becomes
+count_stays slot t (counts_hold j) t' o s = by_step slot t t' _ _ _ _ (not_hold slot s.0.key.slot) s.2.becomes
+count_stays slot t (sees_holds_at k j) t' o s = by_step slot t t' _ _ _ _ (not_hold slot k) s.2.becomes
+count_stays slot t (counts_hold_at k j) t' o s = by_step slot t t' _ _ _ _ (not_hold slot k) s.2.becomes
 count_stays slot t (loads_hold k) t' o s = by_step slot t t' _ _ _ _ (not_hold slot k) s.2.becomes
 count_stays slot t (pins_hold k) t' o s = by_step slot t t' _ _ _ _ (not_hold slot k) s.2.becomes
 count_stays slot t (unpins_hold k) t' o s = by_step slot t t' _ _ _ _ (not_hold slot k) s.2.becomes

@@ -18,7 +18,7 @@ use Rattle.kf_words.specs.declared.view.View.TheVariants as seat
 use Rattle.kf_words.specs.Layout.{bit, bias, doom, hide, linked, one_generation, active_index, hold_index, node_index, is_drained, has_hide, is_unused, has_linked}
 use Rattle.kf_words.specs.Rule.{Shown, bare_world, caller, last_key}
 use Rattle.kf_words.specs.Steps.{Seated, no_state, state_at, after_try, after_undo, after_leave, after_break, after_restore, after_look, after_part, after_hide, after_look_hidden, after_show, after_release, after_miss, with_load, with_pin, without_pin, after_store, with_birth, with_marks, activated_marks, doomed_marks, with_look, without_node, unread, CallerBecomes, On, MasterBecomes, LoadsHold, ShowsKey}
-use Rattle.kf_words.specs.TableSteps.{Table, StepKind, tries, undoes, leaves, breaks, restores, looks, parts, hides, looks_hidden, shows, releases, misses, counts, shares, sleeps, awakes, loads_sleepers, loads_hold, pins_hold, unpins_hold, splits, stores_fresh, births, takes_bias, marks_node, looks_over, unlinks, notes, reports, answers, compares, plus, minus, same, with_hide, world, WordStep, misses_at, counts_at, hands_on, stores_node, reads_node}
+use Rattle.kf_words.specs.TableSteps.{Table, StepKind, tries, undoes, leaves, breaks, restores, looks, parts, hides, looks_hidden, shows, releases, sees_holds, counts_hold, shares, sleeps, awakes, loads_sleepers, loads_hold, pins_hold, unpins_hold, splits, stores_fresh, births, takes_bias, marks_node, looks_over, unlinks, notes, reports, answers, compares, plus, minus, same, with_hide, world, WordStep, sees_holds_at, counts_hold_at, hands_on, stores_node, reads_node}
 use Rattle.kf_words.proofs.Bits.{bool_cases}
 use Rattle.kf_words.proofs.CallerAllowed.{no_step, try_allowed, undo_allowed, leave_allowed, break_allowed, restore_allowed, look_allowed, release_allowed, part_allowed, miss_allowed, hide_allowed, look_hidden_allowed, show_allowed}
 use Rattle.kf_words.proofs.NodeSteps.{noted}
@@ -28,7 +28,7 @@ use Rattle.kf_words.proofs.Led.{Led}
 use Rattle.kf_words.proofs.Led.{happens}
 pub use Rattle.kf_words.proofs.Led.{TakenOut, Came, Passed, Alone, IsEvent, Led, with_spent}
 pub use Rattle.kf_words.proofs.OneStep.{at_seat, in_world, world_is}
-pub use Rattle.kf_words.proofs.Going.{at, met, split_pins, hand_pins, linked_pins, held_pins}
+pub use Rattle.kf_words.proofs.Going.{at, met, split_pins, linked_pins, held_pins}
 use Rattle.kf_words.proofs.Going.{come_goes, caller_goes, sleeper_goes, count_goes, share_goes, load_goes, count_at_goes, hand_goes, slot_view, master_goes, note_goes, last_marks, split_goes}
 use Rattle.kf_words.proofs.OneStep.{Goes}
 
@@ -120,16 +120,16 @@ word_step slots limit t (releases j) t' h s =
     (release_allowed slots limit (length t.homes) (suc j) (seat.Caller c, []) (hold_index c.key.slot) refl refl s.1.0 s.1.1)
     (λ me' e. ap (λ (x : Seated). x.0) e) s.2.fits s.2.becomes
     (happens _ _ _ (Release j) (release_is_release slots limit t h j c (at slots limit t t' h j c s.2.there) s.1.0 (slice_index t.words (hold_index c.key.slot))) (λ c e. absurd (let x : Release j ≡ Enter c = e in cc)))
-word_step slots limit t (misses j) t' h s =
+word_step slots limit t (sees_holds j) t' h s =
     let c : CallerView = s.0 in
     let n : ℕ = slice_index t.words (hold_index c.key.slot) in
-    caller_goes slots limit t t' h j c s.2.there (misses j) (hold_index c.key.slot) same after_miss (CallerBecomes after_miss no_step (seat.Caller c, []))
+    caller_goes slots limit t t' h j c s.2.there (sees_holds j) (hold_index c.key.slot) same after_miss (CallerBecomes after_miss no_step (seat.Caller c, []))
     (miss_allowed slots limit (length t.homes) (suc j) (seat.Caller c, []) (hold_index c.key.slot) refl refl s.1)
     (λ me' e. ap (λ (x : Seated). x.0) e) s.2.fits s.2.becomes
     (inl (miss_is_nothing slots limit t h j c (at slots limit t t' h j c s.2.there) n).4)
-word_step slots limit t (counts j) t' h s = count_goes slots limit t t' h j s.0 s.2.there s.1 s.2.fits s.2.becomes
-word_step slots limit t (misses_at slot j) t' h s = load_goes slots limit t t' h j s.0 s.2.there (misses_at slot j) (hold_index slot) s.1.0 s.1.1 s.2.becomes
-word_step slots limit t (counts_at slot j) t' h s = count_at_goes slots limit t t' h j s.0 s.2.there slot s.1 s.2.fits s.2.becomes
+word_step slots limit t (counts_hold j) t' h s = count_goes slots limit t t' h j s.0 s.2.there s.1 s.2.fits s.2.becomes
+word_step slots limit t (sees_holds_at slot j) t' h s = load_goes slots limit t t' h j s.0 s.2.there (sees_holds_at slot j) (hold_index slot) s.1.0 s.1.1 s.2.becomes
+word_step slots limit t (counts_hold_at slot j) t' h s = count_at_goes slots limit t t' h j s.0 s.2.there slot s.1 s.2.fits s.2.becomes
 word_step slots limit t (hands_on j) t' h s = hand_goes slots limit t t' h j s.0 s.4 s.1 s.3 s.5
 word_step slots limit t (reads_node slot place j) t' h s = load_goes slots limit t t' h j s.0 s.2.there (reads_node slot place j) (node_index place slot) s.1.0 s.1.1 s.2.becomes
 word_step slots limit t (stores_node slot place n) t' g s =

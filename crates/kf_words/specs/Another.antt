@@ -10,7 +10,7 @@ use Rattle.kf_words.specs.declared.view.View.TheVariants as seat
 use Rattle.kf_words.specs.Layout.{holds_in, HasSpare}
 use Rattle.kf_words.specs.Steps.{plain, new_hold}
 use Rattle.kf_words.specs.Callers.{Handle, CallerSight, seat_view}
-use Rattle.kf_words.specs.TableSteps.{StepKind, misses}
+use Rattle.kf_words.specs.TableSteps.{StepKind, sees_holds}
 use Rattle.kf_words.specs.Made.{WasMade, WereMade, WasDoubled}
 
 -- the hold is as it was, except how many steps it made, what the last found, and what it has seen
@@ -39,7 +39,7 @@ Missed kind least most before after =
 -- after 63 such steps at most one step counted one hold more, and a new seat got it
 abbrev pub WasCountedFor : CallerSight → CallerSight → Seen → Type 0
 WasCountedFor before after seen =
-    (missed : CallerSight) × Missed misses 0 63 before missed × WasDoubled missed after seen
+    (missed : CallerSight) × Missed sees_holds 0 63 before missed × WasDoubled missed after seen
 
 -- this many such steps, and each but the first found another word than the one before it
 abbrev pub WereOutrun : (ℕ → StepKind) → ℕ → CallerSight → CallerSight → Type 0
@@ -57,7 +57,7 @@ HasNoSpare h = h.seen.opening.holds ≤ holds_in h.found + 1
 abbrev pub AnotherRefused : Handle → Handle → Refusal → Type 0
 AnotherRefused before after TooManyHolds = HasNoSpare after
 AnotherRefused before after NoMemory = HasSpare after.seen.opening.holds after.found
-AnotherRefused before after Busy = WereOutrun misses 64 (seat_view before) (seat_view after)
+AnotherRefused before after Busy = WereOutrun sees_holds 64 (seat_view before) (seat_view after)
 AnotherRefused before after NoEntry = ⊥
 AnotherRefused before after Access = ⊥
 AnotherRefused before after Exists = ⊥

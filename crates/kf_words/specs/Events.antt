@@ -11,13 +11,13 @@ use Rattle.kf_core.specs.declared.slot.NodeFlags.{NodeFlags}
 use Rattle.kf_core.specs.declared.slot.SlotState.{SlotState}
 use Rattle.kf_core.specs.Marks.{fresh_marks}
 use Rattle.kf_core.specs.Phases.{may_release}
-use Rattle.kf_core.specs.Steps.{BareStep, BareRun, MayPin}
+use Rattle.kf_core.specs.Steps.{BareStep, BareRun, MayPin, with_caller}
 use Rattle.kf_words.specs.declared.view.CallerView.{CallerView}
 use Rattle.kf_words.specs.declared.view.MasterView.{MasterView}
 use Rattle.kf_words.specs.declared.view.View.{View}
 use Rattle.kf_words.specs.Layout.{active_word, hold_word, is_drained, has_hide, is_unused, has_linked}
 use Rattle.kf_words.specs.Rule.{Shown, bare_world, last_key}
-use Rattle.kf_words.specs.Steps.{after_try, after_undo, after_leave, after_break, after_restore, after_look, after_part, after_hide, after_look_hidden, after_show, after_release, after_miss, after_count, after_share, new_hold, spent_hold, with_load, with_pin, without_pin, with_look, after_store, after_split, hold_for, with_birth, with_marks, activated_marks, doomed_marks, without_node, after_count_at}
+use Rattle.kf_words.specs.Steps.{after_try, after_undo, after_leave, after_break, after_restore, after_look, after_part, after_hide, after_look_hidden, after_show, after_release, after_miss, after_count, after_share, new_hold, spent_hold, with_load, with_pin, without_pin, with_look, after_store, after_split, hold_for, with_birth, with_marks, activated_marks, doomed_marks, without_node, after_count_at, key_in}
 use Rattle.kf_words.specs.Callers.{IsAtRest, HasReference, IsInPhase}
 use Rattle.kf_words.specs.Nodes.{marks_of}
 
@@ -111,13 +111,12 @@ ShareIsPin = OfEachCaller
     → BareStep (bare_world m cs) (Pin (length cs) c.key)
     (bare_world m (slice_set cs j (after_share c) ++ new_hold c.key ∷ [])))
 
--- a hold that a caller counted, of whatever key, is a Pin of that key when it gets its seat, if the node is
--- linked then or held
-abbrev pub HandOnIsPin : Type 0
-HandOnIsPin = OfEachCaller
-    (λ words m cs j c. (key : Key) → c.pinning ≡ Some key → MayPin (bare_world m cs) key
-    → BareStep (bare_world m cs) (Pin (length cs) key)
-    (bare_world m (slice_set cs j (after_share c) ++ new_hold key ∷ [])))
+-- a hold that any caller counts in the hold word of a slot that has a linked node is a Pin of that node's
+-- key, on the world in which it is a caller at once
+abbrev pub CountAtIsPin : Type 0
+CountAtIsPin = OfEachCaller (λ words m cs j c. (slot : ℕ) → has_linked (hold_word words slot) ≡ true
+    → let key : Key = key_in slot (hold_word words slot) in
+    BareStep (bare_world m cs) (Pin (length cs) key) (with_caller (bare_world m cs) key))
 
 -- a look that finds another word, a load that finds a node linked, and a hold more that has no seat yet leave
 -- the world as it is

@@ -3,8 +3,8 @@
 use Rattle.std.specs.Prelude.{◌≡◌, ℕ, ◌+◌, ◌-◌, ◌*◌, ◌/◌, ◌%◌, ◌<◌, ◌||◌, ◌&&◌, not, Bool, true, false, ◌==◌, List, [], ◌∷◌, slice_index, slice_set}
 use Rattle.std.specs.List.{repeat}
 
--- each slot has a cache line of eight words to itself: its active word, behind that its hold word, then the
--- count of those who sleep at the active word, and five that nobody uses
+-- each slot has a cache line of eight words to itself: its active word, then its hold word, then the count of
+-- the threads that sleep at the active word, and five for its node, of which the last two are not used
 abbrev pub line_words : ℕ
 line_words = 8
 
@@ -16,7 +16,7 @@ active_index slot = slot * line_words
 abbrev pub hold_index : ℕ → ℕ
 hold_index slot = slot * line_words + 1
 
--- where the count of a slot's sleepers stands: right behind its hold word. The rule says nothing of it
+-- where the count of a slot's sleepers stands: right behind its hold word. The rule says nothing about it
 abbrev pub sleepers_index : ℕ → ℕ
 sleepers_index slot = slot * line_words + 2
 

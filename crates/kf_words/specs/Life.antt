@@ -9,7 +9,7 @@ use Rattle.kf_words.specs.declared.view.MasterView.{MasterView}
 use Rattle.kf_words.specs.declared.view.Load.{Load}
 use Rattle.kf_words.specs.declared.view.View.TheVariants as seat
 use Rattle.kf_words.specs.declared.note.Note.TheVariants.{Did}
-use Rattle.kf_words.specs.TableSteps.{Table, StepKind, births, breaks, hides, leaves, loads_hold, looks, looks_hidden, looks_over, marks_node, parts, pins_hold, releases, misses, counts, shares, restores, shows, sleeps, awakes, loads_sleepers, splits, stores_fresh, takes_bias, tries, undoes, unlinks, unpins_hold, notes, reports, answers, compares, misses_at, counts_at, hands_on, stores_node, reads_node}
+use Rattle.kf_words.specs.TableSteps.{Table, StepKind, births, breaks, hides, leaves, loads_hold, looks, looks_hidden, looks_over, marks_node, parts, pins_hold, releases, sees_holds, counts_hold, shares, restores, shows, sleeps, awakes, loads_sleepers, splits, stores_fresh, takes_bias, tries, undoes, unlinks, unpins_hold, notes, reports, answers, compares, sees_holds_at, counts_hold_at, hands_on, stores_node, reads_node}
 use Rattle.kf_words.specs.declared.view.View.{View}
 use Rattle.kf_words.specs.declared.sight.Opening.{Opening}
 use Rattle.kf_words.specs.declared.sight.Sight.{Sight}
@@ -77,11 +77,12 @@ word_life = loads_hold 1 ∷ stores_fresh 1 ∷ births 1 ∷ takes_bias 1 ∷ lo
     ∷ looks_hidden 1 ∷ leaves 0 ∷ looks_hidden 1 ∷ tries 0 ∷ undoes 0 ∷ shows 1 ∷ tries 0
     ∷ notes (Did (Doom (record { slot = 1; generation = 1 })))
     ∷ marks_node 1 ∷ tries 1 ∷ undoes 1 ∷ sleeps 1 1 ∷ breaks 0 ∷ loads_sleepers 1 0 ∷ awakes 1 1 ∷ looks 1
-    ∷ restores 0 ∷ parts 1 ∷ looks_over 1 ∷ leaves 0 ∷ looks_over 1 ∷ unlinks 1 ∷ parts 1 ∷ misses 0
+    ∷ restores 0 ∷ parts 1 ∷ looks_over 1 ∷ leaves 0 ∷ looks_over 1 ∷ unlinks 1 ∷ parts 1 ∷ sees_holds 0
     ∷ releases 1
-    ∷ counts 0 ∷ shares 0 ∷ releases 2 ∷ releases 0
+    ∷ counts_hold 0 ∷ shares 0 ∷ releases 2 ∷ releases 0
     ∷ loads_hold 1 ∷ stores_fresh 1 ∷ stores_node 1 0 0 ∷ births 1 ∷ loads_hold 1 ∷ pins_hold 1
-    ∷ unpins_hold 1 ∷ loads_hold 1 ∷ pins_hold 1 ∷ splits 1 ∷ misses_at 1 3 ∷ counts_at 1 3 ∷ hands_on 3
+    ∷ unpins_hold 1 ∷ loads_hold 1 ∷ pins_hold 1 ∷ splits 1 ∷ sees_holds_at 1 3 ∷ counts_hold_at 1 3
+    ∷ hands_on 3
     ∷ reads_node 1 0 3 ∷ reports 3 ∷ compares ∷ answers ∷ []
 
 -- how the table opens there

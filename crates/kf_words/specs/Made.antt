@@ -15,7 +15,7 @@ use Rattle.kf_words.specs.Steps.{Seated, Sighted, plain, caller_of, after_try, a
 use Rattle.kf_words.specs.declared.view.CallerView.{CallerView}
 use Rattle.kf_words.specs.Callers.{Handle, Owed, CallerSight, caller_sight, seat_view}
 use Rattle.kf_words.specs.Nodes.{MasterSight, master_sight}
-use Rattle.kf_words.specs.TableSteps.{Table, world, StepKind, IsSeated, WordStep, WordRun, tries, undoes, leaves, breaks, restores, looks, parts, hides, looks_hidden, shows, releases, misses, counts, sleeps, awakes, loads_sleepers, loads_hold, pins_hold, stores_fresh, births, looks_over, unlinks, notes, compares, stores_node}
+use Rattle.kf_words.specs.TableSteps.{Table, world, StepKind, IsSeated, WordStep, WordRun, tries, undoes, leaves, breaks, restores, looks, parts, hides, looks_hidden, shows, releases, sees_holds, counts_hold, sleeps, awakes, loads_sleepers, loads_hold, pins_hold, stores_fresh, births, looks_over, unlinks, notes, compares, stores_node}
 use Rattle.kf_words.specs.Notes.{notes_of}
 use Rattle.kf_words.specs.History.{opened_as}
 use Rattle.kf_words.specs.NodeWords.{kind_word, first_word, second_word}
@@ -189,16 +189,17 @@ WasARelease = WasMade releases
 
 -- as WasMade: this seat made a step on the hold word that counted nothing between these two sights of it
 abbrev pub WasAMiss : CallerSight → CallerSight → Type 0
-WasAMiss = WasMade misses
+WasAMiss = WasMade sees_holds
 
 -- what a caller's load of the hold word says, which names the most holds of a slot
 abbrev pub MakesMiss : Step (Unit {0}) → Sighted → ℕ → Sighted → Type 0
 MakesMiss st me found me' =
-    Makes hold_index misses (CallerBecomes after_miss) st me found me' × (st.first ≡ me.0.seen.opening.holds)
+    Makes hold_index sees_holds (CallerBecomes after_miss) st me found me'
+    × (st.first ≡ me.0.seen.opening.holds)
 
 -- as WasMade: this seat counted one hold more between these two sights of it
 abbrev pub WasACount : CallerSight → CallerSight → Type 0
-WasACount = WasMade counts
+WasACount = WasMade counts_hold
 
 -- the caller's view after an exchange that expected this word: one hold more is counted where it was found
 abbrev pub after_exchange : ℕ → ℕ → CallerView → CallerView

@@ -7,7 +7,7 @@ use Rattle.kf_core.specs.Bare.{is_linked}
 use Rattle.kf_words.specs.declared.sight.Opening.{Opening}
 use Rattle.kf_words.specs.declared.sight.Seen.{Seen}
 use Rattle.kf_words.specs.Layout.{node_index}
-use Rattle.kf_words.specs.TableSteps.{Table, StepKind, world, WordRun, tries, undoes, leaves, breaks, restores, looks, parts, hides, looks_hidden, shows, releases, misses, counts, shares, sleeps, awakes, loads_sleepers, loads_hold, pins_hold, unpins_hold, splits, stores_fresh, births, takes_bias, marks_node, looks_over, unlinks, misses_at, counts_at, hands_on, stores_node, reads_node, notes, reports, answers, compares}
+use Rattle.kf_words.specs.TableSteps.{Table, StepKind, world, WordRun, tries, undoes, leaves, breaks, restores, looks, parts, hides, looks_hidden, shows, releases, sees_holds, counts_hold, shares, sleeps, awakes, loads_sleepers, loads_hold, pins_hold, unpins_hold, splits, stores_fresh, births, takes_bias, marks_node, looks_over, unlinks, sees_holds_at, counts_hold_at, hands_on, stores_node, reads_node, notes, reports, answers, compares}
 use Rattle.kf_words.specs.History.{opened_as}
 
 -- the three words of a node: its kind, a file's mode or the slot of a link's target, and a file's tag or the
@@ -70,8 +70,8 @@ noted_by (hides j) w = w
 noted_by (looks_hidden j) w = w
 noted_by (shows j) w = w
 noted_by (releases j) w = w
-noted_by (misses j) w = w
-noted_by (counts j) w = w
+noted_by (sees_holds j) w = w
+noted_by (counts_hold j) w = w
 noted_by (shares j) w = w
 noted_by (sleeps slot j) w = w
 noted_by (awakes slot j) w = w
@@ -85,8 +85,8 @@ noted_by (takes_bias slot) w = w
 noted_by (marks_node slot) w = w
 noted_by (looks_over slot) w = w
 noted_by (unlinks slot) w = w
-noted_by (misses_at slot j) w = w
-noted_by (counts_at slot j) w = w
+noted_by (sees_holds_at slot j) w = w
+noted_by (counts_hold_at slot j) w = w
 noted_by (hands_on j) w = w
 noted_by (reads_node slot place j) w = w
 noted_by (notes note) w = w

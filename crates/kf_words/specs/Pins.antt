@@ -15,16 +15,22 @@ use Rattle.kf_words.specs.declared.view.View.TheVariants as seat
 use Rattle.kf_words.specs.Layout.{hold_index, node_index, place_of, slot_of, holds_in, IsOf, HasSpare}
 use Rattle.kf_words.specs.Steps.{Sighted, plain, new_hold, after_miss, after_count_at, after_share, CallerBecomes}
 use Rattle.kf_words.specs.Callers.{Handle, CallerSight, caller_sight, seat_view}
-use Rattle.kf_words.specs.TableSteps.{world, misses_at, counts_at, reads_node}
-use Rattle.kf_words.specs.Made.{WasMade}
+use Rattle.kf_words.specs.TableSteps.{world, sees_holds_at, counts_hold_at, reads_node}
+use Rattle.kf_words.specs.Made.{WasMade, WasARelease}
 use Rattle.kf_words.specs.NodeWords.{node_in, node_born}
 use Rattle.kf_words.specs.Another.{Missed, WereOutrun}
 
--- what a load of the hold word of any slot says, which names the most holds of a slot
+-- what a load of the hold word of any slot says
+abbrev pub MakesLookAt : Step (Unit {0}) → Sighted → ℕ → Sighted → Type 0
+MakesLookAt st me found me' = (st.word ≡ hold_index (slot_of st.word))
+    × (CallerBecomes after_miss st (plain me) found (plain me')
+    × WasMade (sees_holds_at (slot_of st.word)) (caller_sight me.0) (caller_sight me'.0))
+
+-- what an exchange on the hold word of any slot says that changes nothing, and names the most holds of a slot
 abbrev pub MakesMissAt : Step (Unit {0}) → Sighted → ℕ → Sighted → Type 0
 MakesMissAt st me found me' = (st.word ≡ hold_index (slot_of st.word))
     × (CallerBecomes after_miss st (plain me) found (plain me')
-    × WasMade (misses_at (slot_of st.word)) (caller_sight me.0) (caller_sight me'.0))
+    × WasMade (sees_holds_at (slot_of st.word)) (caller_sight me.0) (caller_sight me'.0))
     × (st.first ≡ me.0.seen.opening.holds)
 
 -- the caller's view after an exchange on the hold word of a slot that expected this word: one hold more of
@@ -35,8 +41,8 @@ after_exchange_at slot old found c =
 
 -- the exchange counted one hold more if it found the word that it expected, and else nothing
 abbrev pub WasAnExchangeAt : ℕ → ℕ → ℕ → CallerSight → CallerSight → Type 0
-WasAnExchangeAt slot old found before after = (found ≡ old → WasMade (counts_at slot) before after)
-    × (found ≢ old → WasMade (misses_at slot) before after)
+WasAnExchangeAt slot old found before after = (found ≡ old → WasMade (counts_hold_at slot) before after)
+    × (found ≢ old → WasMade (sees_holds_at slot) before after)
 
 -- what an exchange on the hold word of any slot says
 abbrev pub MakesExchangeAt : Step (Unit {0}) → Sighted → ℕ → Sighted → Type 0
@@ -66,7 +72,7 @@ pub record IsHoldOf (hold : Handle) (key : Key) (other : Handle) : Type 0 where
 -- to a new seat, which has seen as much of the one run as the seat that counted it
 pub record WasPinnedBy (key : Key) (before after : CallerSight) (seen : Seen) : Type 0 where
   pub counted : CallerSight
-  pub count : WasMade (counts_at key.slot) before counted
+  pub count : WasMade (counts_hold_at key.slot) before counted
   pub key_is : counted.view.pinning ≡ Some key
   pub linked : is_linked (world count.found) key ≡ true
   pub view : after.view ≡ after_share counted.view
@@ -77,28 +83,46 @@ pub record WasPinnedBy (key : Key) (before after : CallerSight) (seen : Seen) : 
 -- this key, and a new seat got it
 abbrev pub WasPinnedFor : Key → CallerSight → CallerSight → Seen → Type 0
 WasPinnedFor key before after seen = (missed : CallerSight)
-    × Missed (misses_at key.slot) 0 63 before missed × WasPinnedBy key missed after seen
+    × Missed (sees_holds_at key.slot) 0 63 before missed × WasPinnedBy key missed after seen
 
--- a look at the hold word of the key's slot found its node linked, and the node's three words were read
+-- the three words of the node in a key's slot were read, and then the hold word of the slot was loaded
 pub record WasRead (key : Key) (node : Node) (before after : CallerSight) : Type 0 where
-  pub looked : CallerSight
   pub one : CallerSight
   pub two : CallerSight
-  pub look : WasMade (misses_at key.slot) before looked
-  pub linked : IsOf key.generation looked.view.found
-  pub kind : WasMade (reads_node key.slot 0) looked one
+  pub three : CallerSight
+  pub kind : WasMade (reads_node key.slot 0) before one
   pub first : WasMade (reads_node key.slot 1) one two
-  pub second : WasMade (reads_node key.slot 2) two after
-  pub node_is : node ≡ node_in one.view.found two.view.found after.view.found
+  pub second : WasMade (reads_node key.slot 2) two three
+  pub node_is : node ≡ node_in one.view.found two.view.found three.view.found
+  pub look : WasMade (sees_holds_at key.slot) three after
 
--- the node of a key was read, and then a seat of the key was made, as WasPinnedFor says
-abbrev pub WasReadAndPinned : Key → Node → CallerSight → CallerSight → Seen → Type 0
-WasReadAndPinned key node before after seen = (read : CallerSight) × WasRead key node before read
-    × WasPinnedFor key read after seen
+-- a seat of the key was made, as WasPinnedFor says, and then its node was read, which was linked still
+pub record WasPinnedAndRead (key : Key) (node : Node) (before after : CallerSight)
+    (seen : Seen) : Type 0 where
+  pub pinned : CallerSight
+  pub pin : WasPinnedFor key before pinned seen
+  pub read : WasRead key node pinned after
+  pub linked : IsOf key.generation after.view.found
 
 -- the same of a hold of the key that was made
 abbrev pub WasHeldFor : Key → CallerSight → CallerSight → Handle → Type 0
-WasHeldFor key before after other = WasReadAndPinned key other.node before after other.seen
+WasHeldFor key before after other = WasPinnedAndRead key other.node before after other.seen
+
+-- what the new seat of a key knows, which has seen this beginning of the run and has made no step
+abbrev pub new_sight : Key → Seen → CallerSight
+new_sight key seen = record { view = new_hold key; seen = seen }
+
+-- a seat of the key was made, and then its node was read, which was no longer linked: the new seat gave its
+-- hold back at once
+pub record WasGivenBack (key : Key) (before after : Handle) : Type 0 where
+  pub node : Node
+  pub pinned : CallerSight
+  pub seen : Seen
+  pub spent : CallerSight
+  pub pin : WasPinnedFor key (seat_view before) pinned seen
+  pub read : WasRead key node pinned (seat_view after)
+  pub out : ¬ IsOf key.generation after.found
+  pub back : WasARelease (new_sight key seen) spent
 
 -- why no hold is made of a key of this generation if its slot's hold word is so, by the most holds of a
 -- slot: the node is gone, or the slot has no spare place
@@ -129,7 +153,7 @@ HoldOfRefused key before after TooManyHolds = FoundWhyNot key after TooManyHolds
 HoldOfRefused key before after NoMemory =
     IsOf key.generation after.found × HasSpare after.seen.opening.holds after.found
 HoldOfRefused key before after Busy =
-    WereOutrun (misses_at key.slot) 64 (seat_view before) (seat_view after)
+    WereOutrun (sees_holds_at key.slot) 64 (seat_view before) (seat_view after)
 HoldOfRefused key before after Access = ⊥
 HoldOfRefused key before after Exists = ⊥
 HoldOfRefused key before after NoDevice = ⊥
@@ -139,13 +163,13 @@ HoldOfRefused key before after Invalid = ⊥
 HoldOfRefused key before after NoSpace = ⊥
 HoldOfRefused key before after NameTooLong = ⊥
 
--- a hold of a key is refused by one look at the hold word of its slot, or after its node was read by 1 to 64
--- steps there that counted nothing
+-- a hold of a key is refused by 1 to 64 steps on the hold word of its slot that counted nothing; or, because
+-- its node is out, after a hold was counted and given back
 abbrev pub IsRefused : Key → Handle → Handle → Refusal → Type 0
 IsRefused key before after why =
-    (WasMade (misses_at key.slot) (seat_view before) (seat_view after) × HoldOfRefused key before after why)
-    ⊎ ((node : Node) × (read : Handle) × WasRead key node (seat_view before) (seat_view read)
-    × Missed (misses_at key.slot) 1 64 (seat_view read) (seat_view after) × HoldOfRefused key read after why)
+    (Missed (sees_holds_at key.slot) 1 64 (seat_view before) (seat_view after)
+    × HoldOfRefused key before after why)
+    ⊎ ((why ≡ NoEntry) × WasGivenBack key before after)
 
 -- the table has the slot of this key
 abbrev pub HasSlotOf : Handle → Key → Type 0

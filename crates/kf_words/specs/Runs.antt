@@ -1,16 +1,18 @@
 -- Runs of steps of the table, by any of its seats, and what holds over each of them.
-use Rattle.std.specs.Prelude.{◌≡◌, ◌⊎◌, ℕ, ◌<◌, ◌≤◌, true, List, ◌∷◌, ◌++◌, IsTrue, IsFalse}
+use Rattle.std.specs.Prelude.{◌≡◌, ◌⊎◌, ℕ, ◌<◌, ◌≤◌, Bool, true, List, [], ◌∷◌, ◌++◌, map, count_by, Option, Some, None, IsTrue, IsFalse}
 use Rattle.kf_core.specs.declared.key.Key.{Key}
 use Rattle.kf_core.specs.declared.caller.Phase.{Phase}
-use Rattle.kf_core.specs.declared.caller.Phase.TheVariants.{Turned, Running, Hidden}
+use Rattle.kf_core.specs.declared.caller.Caller.{Caller}
+use Rattle.kf_core.specs.declared.caller.Phase.TheVariants.{Still, Turned, Running, Hidden}
 use Rattle.kf_core.specs.declared.event.Event.{Event}
 use Rattle.kf_core.specs.Phases.{saw_drain, is_hiding}
-use Rattle.kf_core.specs.Bare.{IsCaller, IsLast, is_linked, is_doomed, is_live}
+use Rattle.kf_core.specs.Bare.{BareWorld, IsCaller, IsLast, is_linked, is_doomed, is_live}
 use Rattle.kf_core.specs.Bare.{opening as bare_opening}
 use Rattle.kf_core.specs.Safe.{Safe, NoneRunning, NoneHolding}
 use Rattle.kf_core.specs.Steps.{BareRun, OnlySpent}
+use Rattle.kf_words.specs.declared.view.CallerView.{CallerView}
 use Rattle.kf_words.specs.Rule.{Shown}
-pub use Rattle.kf_words.specs.TableSteps.{Table, master_in, world, StepKind, WordStep, WordRun, AttendedRun, opened_table, tries, parts, births}
+pub use Rattle.kf_words.specs.TableSteps.{Table, master_in, callers_in, world, StepKind, WordStep, WordRun, AttendedRun, opened_table, tries, parts, births}
 pub use Rattle.kf_words.specs.Made.{WasALeave, WasAHide, WasAShow, WereMade, WaitedForDrain, WaitedForHidden, WasATryUndone, WasATryUndoneThenWake, WasALeaveThenWake, WasLetInLive}
 
 -- the table opens with the rule, and as the opening world
@@ -28,10 +30,52 @@ OverRuns Law = (slots limit : ℕ) (t u : Table) (kinds : List StepKind) → Sho
 abbrev pub RuleKept : Type 0
 RuleKept = OverRuns (λ slots limit t u. Shown slots limit u)
 
--- each attended run of steps is a run of events between the worlds that its tables name
+-- the key, if there is one
+abbrev pub keys_in : Option Key → List Key
+keys_in None = []
+keys_in (Some key) = key ∷ []
+
+-- the keys of the holds that these callers counted and that have no seat yet
+abbrev pub keys_under_way : List CallerView → List Key
+keys_under_way [] = []
+keys_under_way (c ∷ cs) = keys_in c.pinning ++ keys_under_way cs
+
+-- a caller that has just come to this key
+abbrev pub newcomer : Key → Caller
+newcomer key = record { key = key; phase = Still }
+
+-- the callers that hold a slot before they have a seat: those whose holds other callers have counted
+abbrev pub newcomers : Table → List Caller
+newcomers t = map newcomer (keys_under_way (callers_in t.views))
+
+-- the world of a table in which a hold is a caller from the step that counted it
+abbrev pub held_world : Table → BareWorld
+held_world t = record { slots = (world t).slots; callers = (world t).callers ++ newcomers t }
+
+-- two worlds are equal up to the numbers of their callers: their slots are the same, and as many callers of
+-- one pass a test as of the other, whatever the test
+abbrev pub IsRenumbered : BareWorld → BareWorld → Type 0
+IsRenumbered w w' =
+    (w.slots ≡ w'.slots) × ((p : Caller → Bool) → count_by p w.callers ≡ count_by p w'.callers)
+
+-- each step of the run is made by events: they lead from a world that is the table's before the step to one
+-- that is the table's after it, both up to the numbers of callers, and the next step goes on from there
+abbrev pub IsRunOfEvents : BareWorld → Table → List StepKind → Table → Type 0
+IsRunOfEvents w t [] u = (u ≡ t) × IsRenumbered w (held_world t)
+IsRunOfEvents w t (kind ∷ kinds) u = IsRenumbered w (held_world t) × (between : Table)
+    × WordStep t kind between × (events : List Event) × (next : BareWorld) × BareRun w events next
+    × IsRunOfEvents next between kinds u
+
+-- each attended run of steps is a run of events, from every world that is the first table's up to the numbers
+-- of callers
 abbrev pub RunIsRun : Type 0
 RunIsRun = (slots limit : ℕ) (t u : Table) (kinds : List StepKind) → Shown slots limit t
-    → AttendedRun t kinds u → WordRun t kinds u × (events : List Event) × BareRun (world t) events (world u)
+    → AttendedRun t kinds u
+    → WordRun t kinds u × ((w : BareWorld) → IsRenumbered w (held_world t) → IsRunOfEvents w t kinds u)
+
+-- while each hold that was counted has its seat, the world is the one that the views name
+abbrev pub HeldIsNamed : Type 0
+HeldIsNamed = (t : Table) → keys_under_way (callers_in t.views) ≡ [] → held_world t ≡ world t
 
 -- the world at the end of a run is safe
 abbrev pub RunIsSafe : Type 0

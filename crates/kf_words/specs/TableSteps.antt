@@ -10,13 +10,12 @@ use Rattle.kf_core.specs.declared.slot.NodeFlags.{NodeFlags}
 use Rattle.kf_core.specs.Marks.{fresh_marks}
 use Rattle.kf_core.specs.Phases.{may_release}
 use Rattle.kf_core.specs.Bare.{BareWorld}
-use Rattle.kf_core.specs.Steps.{MayPin}
 use Rattle.kf_words.specs.declared.view.CallerView.{CallerView}
 use Rattle.kf_words.specs.declared.view.MasterView.{MasterView}
 use Rattle.kf_words.specs.declared.view.View.{View}
 use Rattle.kf_words.specs.declared.view.View.TheVariants as seat
 pub use Rattle.kf_words.specs.declared.sight.StepKind.{StepKind}
-pub use Rattle.kf_words.specs.declared.sight.StepKind.TheVariants.{Tries as tries, Undoes as undoes, Leaves as leaves, Breaks as breaks, Restores as restores, Looks as looks, Parts as parts, Hides as hides, LooksHidden as looks_hidden, Shows as shows, Releases as releases, Misses as misses, Counts as counts, Shares as shares, Sleeps as sleeps, Awakes as awakes, LoadsSleepers as loads_sleepers, LoadsHold as loads_hold, PinsHold as pins_hold, UnpinsHold as unpins_hold, Splits as splits, StoresFresh as stores_fresh, Births as births, TakesBias as takes_bias, MarksNode as marks_node, LooksOver as looks_over, Unlinks as unlinks, Notes as notes, Reports as reports, Answers as answers, Compares as compares, MissesAt as misses_at, CountsAt as counts_at, HandsOn as hands_on, StoresNode as stores_node, ReadsNode as reads_node}
+pub use Rattle.kf_words.specs.declared.sight.StepKind.TheVariants.{Tries as tries, Undoes as undoes, Leaves as leaves, Breaks as breaks, Restores as restores, Looks as looks, Parts as parts, Hides as hides, LooksHidden as looks_hidden, Shows as shows, Releases as releases, SeesHolds as sees_holds, CountsHold as counts_hold, Shares as shares, Sleeps as sleeps, Awakes as awakes, LoadsSleepers as loads_sleepers, LoadsHold as loads_hold, PinsHold as pins_hold, UnpinsHold as unpins_hold, Splits as splits, StoresFresh as stores_fresh, Births as births, TakesBias as takes_bias, MarksNode as marks_node, LooksOver as looks_over, Unlinks as unlinks, Notes as notes, Reports as reports, Answers as answers, Compares as compares, SeesHoldsAt as sees_holds_at, CountsHoldAt as counts_hold_at, HandsOn as hands_on, StoresNode as stores_node, ReadsNode as reads_node}
 use Rattle.kf_words.specs.Layout.{bit, bias, doom, hide, linked, one_generation, active_index, hold_index, sleepers_index, opening_words, HasSpare, node_index, MayPinAt}
 use Rattle.kf_words.specs.Rule.{bare_world, last_key}
 use Rattle.kf_words.specs.Steps.{caller_of, no_master, master_of, state_at, after_try, after_undo, after_leave, after_break, after_restore, after_look, after_part, after_hide, after_look_hidden, after_show, after_release, after_miss, after_count, after_share, new_hold, spent_hold, unmoved, after_split, hold_for, with_load, with_pin, without_pin, after_store, with_birth, with_marks, activated_marks, doomed_marks, with_look, without_node, unread, opened, after_count_at, kept}
@@ -223,8 +222,8 @@ WordStep t (hides j) t' = CallerPlays after_hide IsAtRest active_index with_hide
 WordStep t (looks_hidden j) t' = CallerPlays after_look_hidden (IsInPhase Hiding) active_index same t j t'
 WordStep t (shows j) t' = CallerPlays after_show (IsInPhase Hidden) active_index (minus hide) t j t'
 WordStep t (releases j) t' = CallerPlays after_release MayRelease hold_index (minus 1) t j t'
-WordStep t (misses j) t' = CallerPlays after_miss IsAtRest hold_index same t j t'
-WordStep t (counts j) t' = CallerPlays after_count (MayCount t) hold_index (plus 1) t j t'
+WordStep t (sees_holds j) t' = CallerPlays after_miss IsAtRest hold_index same t j t'
+WordStep t (counts_hold j) t' = CallerPlays after_count (MayCount t) hold_index (plus 1) t j t'
 WordStep t (shares j) t' = CallerShares t j t'
 WordStep t (sleeps slot j) t' = CallerPlays unmoved (IsAt slot) sleepers_index (plus 1) t j t'
 WordStep t (awakes slot j) t' = CallerPlays unmoved (IsAt slot) sleepers_index (minus 1) t j t'
@@ -252,8 +251,8 @@ WordStep t (notes note) t' = MasterStays t t'
 WordStep t (reports j) t' = CallerReports t j t'
 WordStep t answers t' = MasterAnswers t t'
 WordStep t compares t' = MasterStays t t'
-WordStep t (misses_at slot j) t' = CallerPlaysAt slot after_miss IsAtRest same t j t'
-WordStep t (counts_at slot j) t' =
+WordStep t (sees_holds_at slot j) t' = CallerPlaysAt slot after_miss IsAtRest same t j t'
+WordStep t (counts_hold_at slot j) t' =
     CallerPlaysAt slot (after_count_at slot) (MayCountAt t slot) (plus 1) t j t'
 WordStep t (hands_on j) t' = CallerHandsOn t j t'
 WordStep t (stores_node slot place n) t' =
@@ -275,13 +274,10 @@ abbrev pub IsPinnable : Table → ℕ → Type 0
 IsPinnable t slot =
     (is_some (state_at (master_in t.views) slot).marks ≡ true) ⊎ ((j : ℕ) × HoldsSlot t slot j)
 
--- the key of which this caller counted one hold more has a linked node, or a caller who holds it
-abbrev pub IsHandable : Table → ℕ → Type 0
-IsHandable t j = (c : CallerView) × (key : Key) × IsSeated t j c × (c.pinning ≡ Some key)
-    × MayPin (world t) key
-
--- who gives a seat to a hold, or takes a node out, was shown a caller that lets it: one on the slot of a node
--- that is no longer linked, and one that is drained on the node
+-- The Master needs a reason for three of its steps. A hold that it counted gets a seat only if the slot's
+-- node is linked, or if a caller holds the slot. It takes a node out only while a caller is drained on it.
+-- A seat of the root's key that holds nothing comes only if the root is linked or held. No other step needs
+-- a reason
 abbrev pub IsAttended : Table → StepKind → Type 0
 IsAttended t (tries j) = Unit {0}
 IsAttended t (undoes j) = Unit {0}
@@ -294,8 +290,8 @@ IsAttended t (hides j) = Unit {0}
 IsAttended t (looks_hidden j) = Unit {0}
 IsAttended t (shows j) = Unit {0}
 IsAttended t (releases j) = Unit {0}
-IsAttended t (misses j) = Unit {0}
-IsAttended t (counts j) = Unit {0}
+IsAttended t (sees_holds j) = Unit {0}
+IsAttended t (counts_hold j) = Unit {0}
 IsAttended t (shares j) = Unit {0}
 IsAttended t (sleeps slot j) = Unit {0}
 IsAttended t (awakes slot j) = Unit {0}
@@ -314,9 +310,9 @@ IsAttended t compares = Unit {0}
 IsAttended t answers = IsPinnable t 0
 IsAttended t (splits slot) = IsPinnable t slot
 IsAttended t (unlinks slot) = (j : ℕ) × IsDrainedOn t slot j
-IsAttended t (misses_at slot j) = Unit {0}
-IsAttended t (counts_at slot j) = Unit {0}
-IsAttended t (hands_on j) = IsHandable t j
+IsAttended t (sees_holds_at slot j) = Unit {0}
+IsAttended t (counts_hold_at slot j) = Unit {0}
+IsAttended t (hands_on j) = Unit {0}
 IsAttended t (stores_node slot place n) = Unit {0}
 IsAttended t (reads_node slot place j) = Unit {0}
 

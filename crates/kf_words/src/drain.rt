@@ -1,9 +1,9 @@
 //! Waiting for a drain.
-ghost use Rattle.std.specs.Prelude.{◌≡◌, Bool, true};
+ghost use Rattle.std.specs.Prelude.{◌≡◌, Bool, true, false, IfOk, MatchResult};
 ghost use Rattle.kf_core.specs.declared.caller.Phase.TheVariants as phase_of;
 ghost use Rattle.kf_words.specs.Callers.{IsSameSeat, having_seen, seat_view};
 ghost use Rattle.kf_words.specs.Layout.{is_drained};
-ghost use Rattle.kf_words.specs.Made.{Rested, WaitedForDrain};
+ghost use Rattle.kf_words.specs.Made.{Rested, WaitedForDrain, WasALook};
 
 use crate::hold::Hold;
 use crate::layout::is_drained;
@@ -53,4 +53,28 @@ pub fn wait_drained<R: Wait>(rt: &R, hold: Hold) -> Drained
         seat.rest(rt, seen);
     }
     Drained { seat }
+}
+
+/// Looks once, in one word step, whether the node is doomed and nobody has a reference to it, and does not
+/// wait. Err with the hold if somebody still uses the node, also while a refused try is not yet taken back.
+/// What it says of a drained node is what `wait_drained` says, so a remover can look once at each of its
+/// nodes, and wait only for those that are in use.
+///
+/// Context: neither sleeps nor takes a lock, so its caller may have the tree's.
+pub fn try_drained(hold: Hold) -> Result<Drained, Hold>
+    ensures same { MatchResult result (λ saw. IsSameSeat hold saw) (λ back. IsSameSeat hold back) }
+    ensures drained { IfOk result (λ saw. saw.phase ≡ phase_of.Drained) }
+    ensures found { MatchResult result (λ saw. is_drained saw.found ≡ true)
+        (λ back. is_drained back.found ≡ false) }
+    ensures made { MatchResult result (λ saw. WasALook (seat_view hold) (seat_view saw))
+        (λ back. WasALook (seat_view hold) (seat_view back)) }
+    ensures waited { IfOk result (λ saw. WaitedForDrain (seat_view hold) (seat_view saw)) }
+    ensures untried { MatchResult result (λ saw. saw.tries ≡ hold.tries) (λ back. back.tries ≡ hold.tries) }
+{
+    let Hold { mut seat } = hold;
+    if is_drained(seat.load()) {
+        Ok(Drained { seat })
+    } else {
+        Err(Hold { seat })
+    }
 }

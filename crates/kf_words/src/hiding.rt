@@ -84,7 +84,8 @@ impl Hidden {
     }
 
     /// Shows the key again, in one word step: the bit of the hidden key goes, and all other bits stay as they
-    /// are. Called under the lock of the tree.
+    /// are. A tree calls this while it is locked. Without that lock the key is shown to every caller all the
+    /// same, but a file that the tree has hidden stays hidden there.
     pub fn show(self) -> Hold
         ensures same { IsSameSeat self result }
         ensures hold { WasShown self result }

@@ -4,7 +4,7 @@ ghost use Rattle.kf_core.specs.Phases.{is_waiting};
 ghost use Rattle.kf_words.specs.Callers.{IsSameSeat, Entered, WasTurned, SawDrained, SawUse, WasHidden, FoundHidden, seat_view};
 ghost use Rattle.kf_words.specs.Another.{StaysAs, IsAnother, WasCountedFor, AnotherRefused, Missed};
 ghost use Rattle.kf_words.specs.Pins.{IsHoldOf, WasHeldFor, IsRefused, HasSlotOf};
-ghost use Rattle.kf_words.specs.TableSteps.{misses};
+ghost use Rattle.kf_words.specs.TableSteps.{sees_holds};
 ghost use Rattle.kf_core.specs.declared.refusal.Refusal.TheVariants as refusal_of;
 ghost use Rattle.kf_words.specs.Made.{FoundThere, WasATry, WasATryUndoneThenWake, WasALook, WasAHide, WasLetInLive};
 
@@ -91,7 +91,12 @@ impl Hold {
     }
 
     /// Hides the key, in one word step: until it is shown again, each try is refused. Err if a caller
-    /// hides it already. Called under the lock of the tree.
+    /// hides it already.
+    ///
+    /// A tree calls this while it is locked, once nothing in it is against the hiding. Without that lock the
+    /// key is hidden from every caller all the same, and `wait_hidden` waits for those that are inside. But
+    /// the step is no note of the history, so the tree still has the file as shown: it stores no command,
+    /// its own `hide` of the file fails with Busy, and its `show` of the token changes only the word.
     pub fn hide(self) -> Result<Hiding, Hold>
         ensures same { MatchResult result (λ hiding. IsSameSeat self hiding) (λ hold. IsSameSeat self hold) }
         ensures hiding { IfOk result (λ hiding. WasHidden self hiding) }
@@ -121,19 +126,20 @@ impl Hold {
         ensures made { IfOk result
             (λ other. WasCountedFor (seat_view self.old) (seat_view self.new) other.seen) }
         ensures refused { IfErr result (λ why. AnotherRefused self.old self.new why) }
-        ensures missed { IfErr result (λ _. Missed misses 1 64 (seat_view self.old) (seat_view self.new)) }
+        ensures missed { IfErr result
+            (λ _. Missed sees_holds 1 64 (seat_view self.old) (seat_view self.new)) }
     {
         let seat = self.seat.another()?;
         Ok(Hold { seat })
     }
 
     /// A hold of the node of a key (`kernfs_get`), with no lock of the tree: any hold of the same table makes
-    /// it, by exchanges on the hold word of the key's slot alone. The node was linked at the moment when the
-    /// hold was counted, and is read from the words of the slot. The last place of a slot is not taken: it is
-    /// for a hold that the tree's Master gives.
+    /// it, by exchanges only on the hold word of the key's slot. The node was linked at the moment when the
+    /// hold was counted. It is then read from the words of the slot, and was still linked after that. The
+    /// last place of a slot is not taken: it is for a hold that the tree's Master gives.
     ///
-    /// Refusals, in order: NoEntry if the table has no such slot, or the key's node is linked there no
-    /// more; TooManyHolds if the slot has as many holds as there may be, or one fewer; Busy if other
+    /// Refusals, in order: NoEntry if the table has no such slot, or the key's node is no longer linked
+    /// there; TooManyHolds if the slot has as many holds as there may be, or one fewer; Busy if other
     /// holds came or went at each of 64 tries; NoMemory if the table can have no owner more (its `Arc` is
     /// at its last count). After each the slot has the holds that it had.
     pub fn pin(&mut self, key: Key) -> Result<Hold, Refusal>

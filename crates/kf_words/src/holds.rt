@@ -20,9 +20,16 @@ const MOST_SPARE: usize = 16;
 /// Makes holds by a hold of its own. Each hold owns the table, and all threads share the count of its
 /// owners. A maker keeps up to 16 owners of the holds that are released to it, and a hold that it makes of
 /// one of them writes nothing to that count. It must be spent, by `end`.
+///
+/// It also keeps the hold word that its last release left: if the next hold is of the same slot, its first
+/// exchange expects that word. So the exchange is the first step on the slot's cache line, and fetches it for
+/// writing at once. A word that is out of date costs one exchange more.
 pub struct Holds {
-    by: CallerSeat,
+    pub(crate) by: CallerSeat,
     spare: Vec<Owner>,
+    /// The slot of the last hold that was released, and the hold word that this left.
+    last: u32,
+    left: u64,
 }
 
 impl Model for Holds {
@@ -49,7 +56,13 @@ impl Holds {
         match Vec::with_capacity(alloc, MOST_SPARE) {
             Ok(spare) => {
                 let Hold { seat } = by;
-                Ok(Holds { by: seat, spare })
+                let left = seat.peek_holds();
+                Ok(Holds {
+                    last: seat.key().slot,
+                    by: seat,
+                    spare,
+                    left,
+                })
             }
             Err(_) => Err((by, Refusal::NoMemory)),
         }
@@ -63,8 +76,19 @@ impl Holds {
         self.by.key()
     }
 
+    /// The hold word that the first try at a hold of a key expects.
+    fn guess(&self, key: Key) -> u64
+        requires there { HasSlotOf self.now.by key }
+    {
+        if key.slot == self.last {
+            self.left
+        } else {
+            self.by.peek_holds_of(key)
+        }
+    }
+
     /// A hold of the node of a key, as `Hold::pin` makes it. It takes an owner that is to spare, and is then
-    /// not refused for want of memory; after a refusal there are as many to spare as before.
+    /// never refused as out of memory; after a refusal there are as many to spare as before.
     pub fn pin(&mut self, key: Key) -> Result<Hold, Refusal>
         ensures same { IsSameSeat self.old.by self.new.by }
         ensures stays { StaysAs self.old.by self.new.by }
@@ -85,7 +109,8 @@ impl Holds {
             let seat = self.by.pin(key)?;
             return Ok(Hold { seat });
         }
-        let (node, token) = self.by.pin_token(key)?;
+        let first = self.guess(key);
+        let (node, token) = self.by.pin_token(key, first)?;
         let Some(owner) = self.spare.pop() else {
             unreachable!()
         };
@@ -94,7 +119,9 @@ impl Holds {
     }
 
     /// Gives a hold of the same table back, as `Hold::release` does, in one word step, and keeps its owner
-    /// where fewer than 16 are to spare.
+    /// if fewer than 16 are to spare.
+    ///
+    /// Condition: the hold is of the same table.
     pub fn release(&mut self, hold: Hold)
         requires table { hold.table ≡ self.old.by.table }
         ensures same { self.new.by ≡ self.old.by }
@@ -102,7 +129,9 @@ impl Holds {
         ensures full { most_spare ≤ self.old.spare → self.new.spare ≡ self.old.spare }
     {
         let Hold { mut seat } = hold;
-        release_seat(&mut seat);
+        let found = release_seat(&mut seat);
+        self.last = seat.key().slot;
+        self.left = found.wrapping_sub(1);
         let owner = seat.end_to_owner();
         if self.spare.len() < MOST_SPARE {
             self.spare.push_reserved(owner);
@@ -113,7 +142,12 @@ impl Holds {
     pub fn end(self) -> Hold
         ensures { result ≡ self.by }
     {
-        let Holds { by, spare: _ } = self;
+        let Holds {
+            by,
+            spare: _,
+            last: _,
+            left: _,
+        } = self;
         Hold { seat: by }
     }
 }

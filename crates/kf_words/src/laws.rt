@@ -1,12 +1,12 @@
 //! What the words say at every moment, and which event each step is.
 ghost use Rattle.kf_words.specs.Laws.{AlwaysSafe, LetsInTheLive, DrainedIsUnused, FreeIsUnheld, TellsTheLinked, TellsTheHidden, HiddenIsRefused, ShownLetsIn};
-ghost use Rattle.kf_words.specs.Events.{TryIsEnter, UndoIsUndo, LookIsLook, PartIsPart, LeaveIsLeave, BreakIsBreak, RestoreIsRestore, ReleaseIsRelease, HideIsHide, LookHiddenIsLook, ShowIsShow, MissIsNothing, RiseIsRise, MarkIsMark, BirthIsBorn, UnlinkIsUnlink, SplitIsPin, HeldSplitIsPin, ShareIsPin, RestIsNothing, ReportPasses, AnswerPasses, HandOnIsPin};
+ghost use Rattle.kf_words.specs.Events.{TryIsEnter, UndoIsUndo, LookIsLook, PartIsPart, LeaveIsLeave, BreakIsBreak, RestoreIsRestore, ReleaseIsRelease, HideIsHide, LookHiddenIsLook, ShowIsShow, MissIsNothing, RiseIsRise, MarkIsMark, BirthIsBorn, UnlinkIsUnlink, SplitIsPin, HeldSplitIsPin, ShareIsPin, RestIsNothing, ReportPasses, AnswerPasses, CountAtIsPin};
 ghost use Rattle.kf_words.specs.History.{EndsARun, SeenLeadsHere, DrainedEverAfter, OneRunIsSeen, OneEnd, HistoryIsSeen, OneHistory, NotesStay};
 ghost use Rattle.kf_words.specs.Life.{WordLife, LifeIsKept};
 ghost use Rattle.kf_words.specs.NodeReads.{ReadIsBorn};
 ghost use Rattle.kf_words.specs.NodeWords.{ReadAsBorn};
 ghost use Rattle.kf_words.specs.Wakes.{SleepersAreFound};
-ghost use Rattle.kf_words.specs.Runs.{OpensWell, RuleKept, RunIsRun, RunIsSafe, MarkedKeepsOut, DrainedForGood, HiddenKeepsOut, PassedForGood, BornUnheld, LetInLive, TakenLive};
+ghost use Rattle.kf_words.specs.Runs.{OpensWell, RuleKept, RunIsRun, HeldIsNamed, RunIsSafe, MarkedKeepsOut, DrainedForGood, HiddenKeepsOut, PassedForGood, BornUnheld, LetInLive, TakenLive};
 
 /// What the words say between any two steps of any number of seats, for as long as the table lives. It does
 /// nothing: the rule of the table, which each step keeps, is the premise, and its clauses say what follows.
@@ -40,11 +40,12 @@ pub fn words_tell()
 /// calls, protection broken and restored, and holds given back are Leave, Break, Restore and Release. Of the
 /// Master, a birth is a Born of the slot's next key, activation and mark are a Rise and a Mark. A node taken
 /// out is an Unlink of any drained caller of it. A hold that gets its seat is a Pin of a new caller, on a
-/// linked key or one that somebody holds. A caller that counts one hold more leaves the world as it is, and
-/// the seat that gets it is a Pin of the caller's key, linked or not. If it counted one of another key,
-/// the seat that gets it is a Pin of that key if it is linked then, or held. The Master's other steps leave
-/// the world as it is. A seat that carries to the Master what a caller has seen, or the Master's reply,
-/// holds nothing: it is a Pin and at once a Release.
+/// linked key or one that somebody holds. A caller that counts one hold more leaves this world as it is, and
+/// the seat that gets a hold of the caller's own key is a Pin of that key, linked or not. A hold that a
+/// caller counts in the hold word of any slot (`Hold::pin`) is a Pin at the step that counts it, since the
+/// word shows a linked node: `words_run` follows a world in which this hold is a caller at once. The
+/// Master's other steps leave the world as it is. A seat that carries to the Master what a caller has seen,
+/// or the Master's reply, holds nothing: it is a Pin and at once a Release.
 pub fn words_step()
     ensures try_is_enter { TryIsEnter }
     ensures undo_is_undo { UndoIsUndo }
@@ -65,7 +66,7 @@ pub fn words_step()
     ensures split_is_pin { SplitIsPin }
     ensures held_split_is_pin { HeldSplitIsPin }
     ensures share_is_pin { ShareIsPin }
-    ensures hand_on_is_pin { HandOnIsPin }
+    ensures count_at_is_pin { CountAtIsPin }
     ensures rest_is_nothing { RestIsNothing }
     ensures report_passes { ReportPasses }
     ensures answer_passes { AnswerPasses }
@@ -76,19 +77,27 @@ pub fn words_step()
 /// seat allows it.
 ///
 /// The table opens with the rule, as the opening world. Each step keeps the rule, so the world stays safe.
-/// A run in which the Master gives a seat only to a hold of a node that is linked or held, and takes a node
-/// out only while a caller is drained there, is a run of events: `pin` asks for the first, `pin_held` and
-/// `unlink` for such a caller. Once a key was marked, each try there is refused, ever after. While a caller
-/// is drained or parted on a key, nobody is running on that key, nor ever after. While a caller hides a
-/// key, a try there is refused, and once it is hidden nobody is running there until it is shown. Once a
-/// slot was given again, only spent callers are on its earlier keys, ever after. A birth finds only spent
-/// callers on its slot, and a try lets a caller run only if its key is live. So whoever runs ran at the
-/// start, or was let in by a try of the run while its key was live. As long as a caller sleeps at a slot,
-/// whoever loads the count of that slot's sleepers finds a number above 0.
+/// Each attended run is a run of events, step by step, up to the numbers of the callers. A run is attended if
+/// the Master has a reason for three of its steps. It gives a seat to a hold only if the slot has a linked
+/// node, or a caller who holds the slot. It takes a node out only while a caller is drained there. It replies
+/// to a hold only while the root is linked or held. `Master::pin` asks for a linked key, and `pin_held` and
+/// `unlink` ask for such a caller. Nothing is asked of the steps of callers, so a hold that `Hold::pin` or
+/// `Hold::another` counts needs no premise. In the world of these events it is a caller from the step that
+/// counted it: that step is its Pin. It is the same caller when it gets its seat. While no hold that was
+/// counted waits for a seat, this world is the one that the views name.
+///
+/// Once a key was marked, each try there is refused, ever after. While a caller is drained or parted on a
+/// key, nobody is running on that key, nor ever after. While a caller hides a key, a try there is refused,
+/// and once it is hidden nobody is running there until it is shown. Once a slot was given again, only spent
+/// callers are on its earlier keys, ever after. A birth finds only spent callers on its slot, and a try
+/// lets a caller run only if its key is live. So whoever runs ran at the start, or was let in by a try of
+/// the run while its key was live. As long as a caller sleeps at a slot, whoever loads the count of that
+/// slot's sleepers finds a number above 0.
 pub fn words_run()
     ensures opens_well { OpensWell }
     ensures rule_kept { RuleKept }
     ensures run_is_run { RunIsRun }
+    ensures held_is_named { HeldIsNamed }
     ensures run_is_safe { RunIsSafe }
     ensures marked_keeps_out { MarkedKeepsOut }
     ensures drained_for_good { DrainedForGood }
@@ -109,8 +118,8 @@ pub fn words_run()
 /// running on that key now. Of two seats, one has seen as much as the other or more. Steps of one list lead
 /// to one table, so what a seat has seen names that table. If a key is linked in two tables of a run, the
 /// words of its node are, in every table between the two, those that stood there when it was born. So is
-/// what a caller reads of a node between a look that finds its key linked and a step that counts a hold of
-/// it.
+/// what a caller reads of a node between the step that counts a hold of its key and a later look that finds
+/// the key linked.
 ///
 /// The Master has seen every note of the run, and what any seat has seen of these is a beginning. Of two
 /// seats, one has seen as much of the one history as the other or more, and no step takes a note away.

@@ -20,6 +20,7 @@ mod drain;
 mod hiding;
 mod hold;
 mod holds;
+mod joins;
 mod laws;
 mod layout;
 mod master;
@@ -43,7 +44,7 @@ mod wake_due;
 mod words;
 
 pub use call::Call;
-pub use drain::wait_drained;
+pub use drain::{try_drained, wait_drained};
 pub use hiding::{Hidden, Hiding, wait_hidden};
 pub use hold::Hold;
 pub use holds::Holds;

@@ -13,13 +13,14 @@ ghost use Rattle.kf_words.specs.Made.{WasMadeByMaster, WasNoted};
 ghost use Rattle.kf_words.specs.Notes.{history_of};
 ghost use Rattle.kf_words.specs.declared.view.View.TheVariants as seat_of;
 
+use crate::joins::{Hears, Knowing};
 use crate::layout::{BIAS, GENERATION, LINKED, active_index, hold_index, mark_bits, node_index};
 use crate::master_seat::MasterSeat;
 use crate::node_words::words_of;
 use crate::note::Said;
 use crate::plays::{
-    Answers, Births, Compares, Hears, Knowing, LoadsHold, LooksOver, MarksNode, Notes, PinsHold,
-    SplitsHold, StoresFresh, StoresNode, TakesBias, Unlinks, UnpinsHold,
+    Answers, Births, Compares, LoadsHold, LooksOver, MarksNode, Notes, PinsHold, SplitsHold,
+    StoresFresh, StoresNode, TakesBias, Unlinks, UnpinsHold,
 };
 use crate::sight::Sight;
 use atomic_table::Seat;

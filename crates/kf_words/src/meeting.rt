@@ -9,8 +9,9 @@ ghost use Rattle.kf_words.specs.Notes.{history_of};
 use crate::call::Call;
 use crate::hiding::{Hidden, Hiding};
 use crate::hold::Hold;
+use crate::holds::Holds;
 use crate::master::Master;
-use crate::receipt::Drained;
+use crate::receipt::{Drained, Parted};
 use crate::seat::CallerSeat;
 use std::marker::Brand;
 
@@ -49,7 +50,22 @@ impl Master {
         self.meet_seat(&mut hold.seat);
     }
 
+    /// As `meet`, of a maker's own hold.
+    ///
+    /// Condition: it is of this table.
+    pub fn meet_maker(&mut self, holds: &mut Holds)
+        requires table { holds.old.by.table ≡ self.old.table }
+        ensures kept { KeepsNodes self.old self.new }
+        ensures view { self.new.view ≡ self.old.view }
+        ensures by { holds.new.by ≡ having_seen self.new.seen holds.old.by }
+        ensures spare { holds.new.spare ≡ holds.old.spare }
+    {
+        self.meet_seat(&mut holds.by);
+    }
+
     /// As `meet`, of a call.
+    ///
+    /// Condition: it is of this table.
     pub fn meet_call(&mut self, call: &mut Call)
         requires table { call.old.table ≡ self.old.table }
         ensures kept { KeepsNodes self.old self.new }
@@ -62,6 +78,8 @@ impl Master {
     }
 
     /// As `meet`, of a caller that saw its node drained.
+    ///
+    /// Condition: it is of this table.
     pub fn meet_drained(&mut self, drained: &mut Drained)
         requires table { drained.old.table ≡ self.old.table }
         ensures kept { KeepsNodes self.old self.new }
@@ -73,7 +91,23 @@ impl Master {
         self.meet_seat(&mut drained.seat);
     }
 
+    /// As `meet`, of a caller that saw its node drained, and gone from the tree.
+    ///
+    /// Condition: it is of this table.
+    pub fn meet_parted(&mut self, parted: &mut Parted)
+        requires table { parted.old.table ≡ self.old.table }
+        ensures kept { KeepsNodes self.old self.new }
+        ensures view { self.new.view ≡ self.old.view }
+        ensures parted { parted.new ≡ having_seen self.new.seen parted.old }
+        ensures met { IsPrefix parted.old.seen.steps self.new.seen.steps }
+        ensures after { IsPrefix (history_of parted.old.seen) (history_of self.old.seen) }
+    {
+        self.meet_seat(&mut parted.seat);
+    }
+
     /// As `meet`, of a hidden file's token.
+    ///
+    /// Condition: it is of this table.
     pub fn meet_hidden(&mut self, hidden: &mut Hidden)
         requires table { hidden.old.table ≡ self.old.table }
         ensures kept { KeepsNodes self.old self.new }
@@ -86,6 +120,8 @@ impl Master {
     }
 
     /// As `meet`, of the token of a file that is about to be hidden.
+    ///
+    /// Condition: it is of this table.
     pub fn meet_hiding(&mut self, hiding: &mut Hiding)
         requires table { hiding.old.table ≡ self.old.table }
         ensures kept { KeepsNodes self.old self.new }

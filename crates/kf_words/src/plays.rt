@@ -1,8 +1,8 @@
 //! The kinds of step on the table of words: what each makes of the view of the seat that steps.
 use crate::note::Said;
 use crate::sight::Sight;
-use atomic_table::{Join, Play, Split};
-use std::marker::{Brand, PhantomData};
+use atomic_table::{Play, Split};
+use std::marker::PhantomData;
 
 /// A caller counts itself in the active word.
 pub(crate) struct Tries;
@@ -104,18 +104,18 @@ impl Play<(), Sight> for Releases {
 }
 
 /// A caller loads the hold word, and names the most holds of a slot.
-pub(crate) struct Misses;
+pub(crate) struct SeesHolds;
 
-impl Play<(), Sight> for Misses {
+impl Play<(), Sight> for SeesHolds {
     ghost use Rattle.kf_words.specs.Made.{MakesMiss};
 
     ghost then = { MakesMiss };
 }
 
 /// A caller counts one hold more, if the word is as it expects.
-pub(crate) struct Counts;
+pub(crate) struct CountsHold;
 
-impl Play<(), Sight> for Counts {
+impl Play<(), Sight> for CountsHold {
     ghost use Rattle.kf_words.specs.Made.{MakesExchange};
 
     ghost then = { MakesExchange };
@@ -132,13 +132,22 @@ impl Split<Sight> for SharesHold {
     ghost right = { shared_out };
 }
 
-/// A caller loads the hold word of any slot, and names the most holds of a slot.
-pub(crate) struct MissesAt;
+/// A caller loads the hold word of any slot by an exchange, and names the most holds of a slot.
+pub(crate) struct SeesHoldsAt;
 
-impl Play<(), Sight> for MissesAt {
+impl Play<(), Sight> for SeesHoldsAt {
     ghost use Rattle.kf_words.specs.Pins.{MakesMissAt};
 
     ghost then = { MakesMissAt };
+}
+
+/// A caller loads the hold word of any slot.
+pub(crate) struct LooksAt;
+
+impl Play<(), Sight> for LooksAt {
+    ghost use Rattle.kf_words.specs.Pins.{MakesLookAt};
+
+    ghost then = { MakesLookAt };
 }
 
 /// A caller loads a word of any slot's node.
@@ -151,9 +160,9 @@ impl Play<(), Sight> for ReadsNode {
 }
 
 /// A caller counts one hold more of any key, if the hold word is as it expects.
-pub(crate) struct CountsAt;
+pub(crate) struct CountsHoldAt;
 
-impl Play<(), Sight> for CountsAt {
+impl Play<(), Sight> for CountsHoldAt {
     ghost use Rattle.kf_words.specs.Pins.{MakesExchangeAt};
 
     ghost then = { MakesExchangeAt };
@@ -368,43 +377,4 @@ impl Split<Sight> for Answers {
     ghost left = { λ s. s };
 
     ghost right = { answered };
-}
-
-/// What a seat knows, which a call picks.
-pub(crate) trait Knowing {
-    ghost use Rattle.kf_words.specs.declared.sight.Sight.{Sight};
-
-    ghost sight: { Sight };
-}
-
-impl Knowing for Brand {
-    ghost use Rattle.kf_words.specs.History.{no_sight};
-
-    ghost sight = { no_sight };
-}
-
-/// A seat is told what another has seen, which stays as it was.
-pub(crate) struct Hears<E: Knowing> {
-    of: PhantomData<E>,
-}
-
-impl<E: Knowing> Join<Sight> for Hears<E> {
-    ghost use Rattle.kf_words.specs.History.{hears};
-
-    ghost both = { hears };
-
-    ghost spent = { E.sight };
-}
-
-/// A seat has from now on seen just what another has, which stays as it was.
-pub(crate) struct TakesOver<E: Knowing> {
-    of: PhantomData<E>,
-}
-
-impl<E: Knowing> Join<Sight> for TakesOver<E> {
-    ghost use Rattle.kf_words.specs.History.{takes_over};
-
-    ghost both = { takes_over };
-
-    ghost spent = { E.sight };
 }

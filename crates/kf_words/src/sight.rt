@@ -16,19 +16,33 @@ pub struct Opening {
 
 /// What a step does: of a caller, by its number, or of the Master, on a slot. A note alone is on no slot.
 pub enum StepKind {
+    /// One more user in the active word (an addition).
     Tries(u64),
+    /// One user less, after a refused try (a subtraction).
     Undoes(u64),
+    /// One user less, at the end of a call.
     Leaves(u64),
+    /// One user less, inside the call.
     Breaks(u64),
+    /// One user more, inside the call.
     Restores(u64),
+    /// The active word is loaded, for the drain.
     Looks(u64),
+    /// The hold word is loaded, by a caller that saw the drain.
     Parts(u64),
+    /// The hide bit of the active word is set.
     Hides(u64),
+    /// The active word is loaded, for callers inside a hidden file.
     LooksHidden(u64),
+    /// The hide bit is cleared.
     Shows(u64),
+    /// One hold less in the hold word.
     Releases(u64),
-    Misses(u64),
-    Counts(u64),
+    /// The hold word of its slot is read, or an exchange of it fails.
+    SeesHolds(u64),
+    /// One hold more in the hold word of its slot (an exchange).
+    CountsHold(u64),
+    /// The new hold gets its seat.
     Shares(u64),
     LoadsHold(u64),
     PinsHold(u64),
@@ -44,9 +58,9 @@ pub enum StepKind {
     Reports(u64),
     Answers,
     Compares,
-    /// On the slot of any key, and the caller.
-    MissesAt(u64, u64),
-    CountsAt(u64, u64),
+    /// As `SeesHolds` and `CountsHold`, on the slot of any key: the slot, and the caller.
+    SeesHoldsAt(u64, u64),
+    CountsHoldAt(u64, u64),
     HandsOn(u64),
     /// On the slot whose sleepers it is about, and the caller.
     Sleeps(u64, u64),

@@ -19,7 +19,7 @@ pub enum Wake {
 
 /// What a step that took one user off an active word owes to the sleepers there: a wake, if by the word
 /// that it found one of them may wait for what is left. It is spent by a wake, by `none` if no wake is
-/// wanted, or by `told`: code that forgets it does not compile.
+/// wanted, or by `must_wake`: code that forgets it does not compile.
 pub struct WakeDue {
     slot: u32,
     found: u64,
@@ -61,7 +61,7 @@ impl WakeDue {
 
     /// Whether a wake is owed, for a caller that wakes its sleepers by its own means. The result has to be
     /// matched.
-    pub fn told(self) -> Wake
+    pub fn must_wake(self) -> Wake
         ensures { is_wanted result ≡ wants_wake (self.found - 1) }
     {
         let WakeDue { slot: _, found } = self;

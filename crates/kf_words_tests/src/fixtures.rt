@@ -1,7 +1,7 @@
 //! What the tests of the words build on: each helper stops the test if its call does not return as asked.
 
 use kf_core::{Key, Limits, Node, NodeFlags};
-use kf_words::{Call, Hiding, Hold, Master, Words};
+use kf_words::{Call, Hiding, Hold, Master, Words, try_drained};
 use std::alloc::Global;
 use std::process::Abort;
 
@@ -88,6 +88,28 @@ pub(crate) fn hide<R: Abort>(rt: &R, hold: Hold) -> Hiding {
 /// The hold sees that the node is drained, and is released.
 pub(crate) fn see_drained<R: Abort>(rt: &R, hold: Hold) {
     match hold.look() {
+        Ok(drained) => drained.release(),
+        Err(back) => {
+            back.release();
+            panic!(rt; "a drained node looked used")
+        }
+    }
+}
+
+/// The hold sees that the node is still in use.
+pub(crate) fn see_used<R: Abort>(rt: &R, hold: Hold) -> Hold {
+    match try_drained(hold) {
+        Ok(drained) => {
+            drained.release();
+            panic!(rt; "a node in use looked drained")
+        }
+        Err(back) => back,
+    }
+}
+
+/// One look sees that the node is drained, and the hold is released.
+pub(crate) fn see_drained_at_once<R: Abort>(rt: &R, hold: Hold) {
+    match try_drained(hold) {
         Ok(drained) => drained.release(),
         Err(back) => {
             back.release();

@@ -193,7 +193,7 @@ fn they_sleep<R: Clock + CpuClock>(rt: &R) -> bool {
 
 /// Ends the call. If `breaks` is set it breaks its protection first, and returns whether this many came
 /// through before it ends.
-fn end_call<R: Clock>(
+pub(crate) fn end_call<R: Clock>(
     rt: &R,
     mut call: Call,
     breaks: bool,

@@ -1,7 +1,9 @@
 //! Those who wait for a drain, or until nobody uses a hidden key, among calls, tries and hiders in threads.
 
-use crate::fixtures::{activate, born, doom, enter, hide, made, pin};
-use crate::roles::{Counts, Course, Ending, Mark, Role, TOKENS, act_in, give_back};
+use crate::fixtures::{
+    activate, born, doom, enter, hide, made, pin, see_drained_at_once, see_used,
+};
+use crate::roles::{Counts, Course, Ending, Mark, Role, TOKENS, act_in, end_call, give_back};
 use kf_core::Key;
 use kf_words::Master;
 use std::alloc::Global;
@@ -219,4 +221,19 @@ fn no_call_runs_while_a_token_is_out(rt: HostRuntime) {
     assert_eq!(&rt; counts.wrong.load(Ordering::SeqCst), 0);
     assert!(&rt; counts.tokens.load(Ordering::SeqCst) >= TOKENS);
     assert!(&rt; counts.calls.load(Ordering::SeqCst) > 0);
+}
+
+#[test]
+fn one_look_sees_whether_a_node_is_in_use(rt: HostRuntime) {
+    let mut master = made(&rt, rt.alloc());
+    let key = born(&rt, &mut master);
+    activate(&rt, &mut master, key);
+    let remover = pin(&rt, &mut master, key);
+    let caller = pin(&rt, &mut master, key);
+    let call = enter(&rt, caller);
+    let remover = see_used(&rt, remover);
+    doom(&rt, &mut master, key);
+    let remover = see_used(&rt, remover);
+    end_call(&rt, call, false, 0, &AtomicU64::new(0));
+    see_drained_at_once(&rt, remover);
 }

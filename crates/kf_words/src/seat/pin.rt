@@ -4,17 +4,17 @@
 ghost use Rattle.std.specs.Prelude.{◌≡◌, ◌≢◌, ◌<◌, true, false, None, IfOk, IfErr, IfSome};
 ghost use Rattle.kf_words.specs.Layout.{IsOf, HasSpare};
 ghost use Rattle.kf_words.specs.Steps.{after_miss};
-ghost use Rattle.kf_words.specs.Callers.{IsSameSeat, IsAtRest, handle_of, sight_of, view_of};
-ghost use Rattle.kf_words.specs.TableSteps.{misses_at, reads_node};
-ghost use Rattle.kf_words.specs.Made.{WasMade};
+ghost use Rattle.kf_words.specs.Callers.{IsSameSeat, IsAtRest, caller_sight, handle_of, sight_of, view_of};
+ghost use Rattle.kf_words.specs.TableSteps.{sees_holds_at, reads_node};
+ghost use Rattle.kf_words.specs.Made.{WasMade, WasARelease};
 ghost use Rattle.kf_words.specs.Another.{StaysAs, Missed};
 ghost use Rattle.kf_words.specs.NodeWords.{node_born};
 ghost use Rattle.kf_core.specs.declared.refusal.Refusal.TheVariants as refusal_of;
-ghost use Rattle.kf_words.specs.Pins.{IsPin, IsHoldOf, IsWhyNot, FoundWhyNot, HoldOfRefused, IsRefused, WasPinnedBy, WasPinnedFor, WasRead, WasReadAndPinned, WasHeldFor, HasSlotOf};
+ghost use Rattle.kf_words.specs.Pins.{IsPin, IsHoldOf, IsWhyNot, FoundWhyNot, HoldOfRefused, IsRefused, WasPinnedBy, WasPinnedFor, WasRead, WasPinnedAndRead, WasHeldFor, HasSlotOf, new_sight};
 
 use crate::layout::{GENERATION, has_linked, has_spare, hold_index, node_index};
 use crate::node_words::node_of;
-use crate::plays::{CountsAt, HandsOn, MissesAt, ReadsNode};
+use crate::plays::{CountsHoldAt, HandsOn, LooksAt, ReadsNode, Releases, SeesHoldsAt};
 use crate::seat::CallerSeat;
 use crate::sight::Sight;
 use atomic_table::Seat;
@@ -23,13 +23,21 @@ use kf_core::{Key, Node, Refusal};
 /// How often an exchange is tried where other holds come and go between.
 const TRIES: u32 = 64;
 
+/// Whether a node of this generation is linked in the slot of this hold word.
+fn is_of(word: u64, generation: u32) -> bool
+    ensures of { result ≡ true → IsOf generation word }
+    ensures not_of { result ≡ false → IsOf generation word → ⊥ }
+{
+    has_linked(word) && word / GENERATION == generation as u64
+}
+
 /// Why no hold is made of a key of this generation if its slot's hold word is so.
 fn why_not(word: u64, generation: u32, most: u32) -> Option<Refusal>
     ensures refused { IfSome result (λ why. IsWhyNot generation most word why) }
     ensures linked { result ≡ None → IsOf generation word }
     ensures spare { result ≡ None → HasSpare most word }
 {
-    if !has_linked(word) || word / GENERATION != generation as u64 {
+    if !is_of(word, generation) {
         return Some(Refusal::NoEntry);
     }
     if has_spare(word, most) {
@@ -48,14 +56,35 @@ impl CallerSeat {
         hold_index(key.slot) < self.table.word_count()
     }
 
-    /// Loads the hold word of a key's slot. The step names the most holds of a slot: it is an exchange of
-    /// that number by itself, which changes no word.
+    /// The hold word of a key's slot as it is now, by a load that the rule does not see: what the first try
+    /// at a hold expects.
+    pub(crate) fn peek_holds_of(&self, key: Key) -> u64
+        requires there { HasSlotOf (handle_of self.now) key }
+    {
+        self.table.shared.peek(hold_index(key.slot))
+    }
+
+    /// Loads the hold word of a key's slot.
+    fn look_holds_of(&mut self, key: Key) -> u64
+        requires rests { IsAtRest (view_of self.old) }
+        requires there { HasSlotOf (handle_of self.old) key }
+        ensures same { IsSameSeat (handle_of self.old) (handle_of self.new) }
+        ensures view { view_of self.new ≡ after_miss result (view_of self.old) }
+        ensures made { WasMade (sees_holds_at key.slot) (sight_of self.old) (sight_of self.new) }
+        ensures most { self.new.most ≡ self.old.most }
+    {
+        let word = hold_index(key.slot);
+        self.table.shared.load::<LooksAt>(&mut self.token, word)
+    }
+
+    /// Reads the hold word of a key's slot, of which no hold is made. The step names the most holds of a
+    /// slot: it is an exchange of that number by itself, which changes no word.
     fn see_holds_of(&mut self, key: Key) -> u64
         requires rests { IsAtRest (view_of self.old) }
         requires there { HasSlotOf (handle_of self.old) key }
         ensures same { IsSameSeat (handle_of self.old) (handle_of self.new) }
         ensures view { view_of self.new ≡ after_miss result (view_of self.old) }
-        ensures made { WasMade (misses_at key.slot) (sight_of self.old) (sight_of self.new) }
+        ensures made { WasMade (sees_holds_at key.slot) (sight_of self.old) (sight_of self.new) }
         ensures limit { (handle_of self.new).seen.opening.holds ≡ self.new.most }
         ensures most { self.new.most ≡ self.old.most }
     {
@@ -63,7 +92,7 @@ impl CallerSeat {
         let most = self.most as u64;
         self.table
             .shared
-            .compare_exchange::<MissesAt>(&mut self.token, word, most, most)
+            .compare_exchange::<SeesHoldsAt>(&mut self.token, word, most, most)
     }
 
     /// Loads a word of the node that a key's slot has.
@@ -93,7 +122,7 @@ impl CallerSeat {
             (λ token. WasPinnedBy key (sight_of self.old) (sight_of self.new) token.me.0.seen) }
         ensures token { IfOk result (λ token. IsPin (handle_of self.new) key token) }
         ensures missed { IfErr result
-            (λ _. WasMade (misses_at key.slot) (sight_of self.old) (sight_of self.new)) }
+            (λ _. WasMade (sees_holds_at key.slot) (sight_of self.old) (sight_of self.new)) }
         ensures view { IfErr result (λ found. view_of self.new ≡ after_miss found (view_of self.old)) }
         ensures other { IfErr result (λ found. found ≢ expected) }
     {
@@ -101,7 +130,7 @@ impl CallerSeat {
         let found = self
             .table
             .shared
-            .compare_exchange::<CountsAt>(&mut self.token, word, expected, expected + 1);
+            .compare_exchange::<CountsHoldAt>(&mut self.token, word, expected, expected + 1);
         if found != expected {
             return Err(found);
         }
@@ -119,7 +148,7 @@ impl CallerSeat {
         ensures pinned { IfOk result
             (λ token. WasPinnedBy key (sight_of self.old) (sight_of self.new) token.me.0.seen) }
         ensures missed { IfErr result
-            (λ _. WasMade (misses_at key.slot) (sight_of self.old) (sight_of self.new)) }
+            (λ _. WasMade (sees_holds_at key.slot) (sight_of self.old) (sight_of self.new)) }
         ensures outrun { IfErr result
             (λ why. IfOk why (λ found. (found ≡ (view_of self.new).found) × (found ≢ guess))) }
         ensures refused { IfErr result
@@ -153,7 +182,7 @@ impl CallerSeat {
         ensures refused { IfErr result
             (λ why. HoldOfRefused key (handle_of self.old) (handle_of self.new) why) }
         ensures missed { IfErr result
-            (λ _. Missed (misses_at key.slot) 1 64 (sight_of self.old) (sight_of self.new)) }
+            (λ _. Missed (sees_holds_at key.slot) 1 64 (sight_of self.old) (sight_of self.new)) }
         ensures owned { IfErr result (λ why. why ≢ refusal_of.NoMemory) }
     {
         let mut guess = first;
@@ -168,15 +197,15 @@ impl CallerSeat {
         Err(Refusal::Busy)
     }
 
-    /// Why there is no hold of a key if the table can have no owner more: for want of memory only if
-    /// the node is linked and its slot has a place.
+    /// Why there is no hold of a key if the table can have no owner more: out of memory only if the node is
+    /// linked and its slot has a place.
     fn refuse_pin(&mut self, key: Key) -> Refusal
         requires rests { IsAtRest (view_of self.old) }
         requires there { HasSlotOf (handle_of self.old) key }
         ensures same { IsSameSeat (handle_of self.old) (handle_of self.new) }
         ensures stays { StaysAs (handle_of self.old) (handle_of self.new) }
         ensures refused { HoldOfRefused key (handle_of self.old) (handle_of self.new) result }
-        ensures made { WasMade (misses_at key.slot) (sight_of self.old) (sight_of self.new) }
+        ensures made { WasMade (sees_holds_at key.slot) (sight_of self.old) (sight_of self.new) }
     {
         let found = self.see_holds_of(key);
         match why_not(found, key.generation, self.most) {
@@ -185,35 +214,45 @@ impl CallerSeat {
         }
     }
 
-    /// The hold word of a key's slot, and the node that is linked there.
-    ///
-    /// Refusals, in order: NoEntry, TooManyHolds.
-    fn read_linked(&mut self, key: Key) -> Result<(u64, Node), Refusal>
+    /// Reads the node of a key's slot, and then whether the key is linked there.
+    fn read_node(&mut self, key: Key) -> (Node, bool)
         requires rests { IsAtRest (view_of self.old) }
         requires there { HasSlotOf (handle_of self.old) key }
         ensures same { IsSameSeat (handle_of self.old) (handle_of self.new) }
         ensures stays { StaysAs (handle_of self.old) (handle_of self.new) }
-        ensures read { IfOk result (λ r. WasRead key r.1 (sight_of self.old) (sight_of self.new)) }
-        ensures refused { IfErr result
-            (λ why. HoldOfRefused key (handle_of self.old) (handle_of self.new) why) }
-        ensures made { IfErr result
-            (λ _. WasMade (misses_at key.slot) (sight_of self.old) (sight_of self.new)) }
-        ensures owned { IfErr result (λ why. why ≢ refusal_of.NoMemory) }
+        ensures read { WasRead key result.0 (sight_of self.old) (sight_of self.new) }
+        ensures linked { result.1 ≡ true → IsOf key.generation (view_of self.new).found }
+        ensures out { result.1 ≡ false → IsOf key.generation (view_of self.new).found → ⊥ }
     {
-        let found = self.see_holds_of(key);
-        if let Some(why) = why_not(found, key.generation, self.most) {
-            return Err(why);
-        }
         let kind = self.read_node_of(key, 0);
         let first = self.read_node_of(key, 1);
         let second = self.read_node_of(key, 2);
-        Ok((found, node_of(kind, first, second)))
+        let found = self.look_holds_of(key);
+        (node_of(kind, first, second), is_of(found, key.generation))
     }
 
-    /// Counts one hold more of a linked key, and gives it a new seat, with the node that was born there.
+    /// The new seat of a key gives its hold back, in one word step. It is left with nothing.
+    fn give_back(&self, key: Key, token: Seat<(), Sight>) -> Seat<(), Sight>
+        requires pin { IsPin (handle_of self.now) key token }
+        requires there { HasSlotOf (handle_of self.now) key }
+        ensures back { WasARelease (new_sight key token.me.0.seen) (caller_sight result.me.0) }
+    {
+        let mut spent = token;
+        let word = hold_index(key.slot);
+        self.table.shared.fetch_sub::<Releases>(&mut spent, word, 1);
+        spent
+    }
+
+    /// Counts one hold more of a linked key, and gives it a new seat, with the node that was born there. The
+    /// first try expects this word. The node is read once the hold is counted: its words are in the cache
+    /// line that the exchange has just got for writing, and a read before it would fetch that line twice.
     ///
     /// Refusals, in order: NoEntry, TooManyHolds, Busy.
-    pub(crate) fn pin_token(&mut self, key: Key) -> Result<(Node, Seat<(), Sight>), Refusal>
+    pub(crate) fn pin_token(
+        &mut self,
+        key: Key,
+        first: u64,
+    ) -> Result<(Node, Seat<(), Sight>), Refusal>
         requires rests { IsAtRest (view_of self.old) }
         requires there { HasSlotOf (handle_of self.old) key }
         ensures same { IsSameSeat (handle_of self.old) (handle_of self.new) }
@@ -221,14 +260,18 @@ impl CallerSeat {
         ensures token { IfOk result (λ r. IsPin (handle_of self.new) key r.1) }
         ensures node { IfOk result (λ r. r.0 ≡ node_born r.1.me.0.seen key.slot) }
         ensures made { IfOk result
-            (λ r. WasReadAndPinned key r.0 (sight_of self.old) (sight_of self.new) r.1.me.0.seen) }
+            (λ r. WasPinnedAndRead key r.0 (sight_of self.old) (sight_of self.new) r.1.me.0.seen) }
         ensures refused { IfErr result
             (λ why. IsRefused key (handle_of self.old) (handle_of self.new) why) }
         ensures owned { IfErr result (λ why. why ≢ refusal_of.NoMemory) }
     {
-        let (found, node) = self.read_linked(key)?;
-        let token = self.count_pin(key, found)?;
-        Ok((node, token))
+        let token = self.count_pin(key, first)?;
+        let (node, linked) = self.read_node(key);
+        if linked {
+            return Ok((node, token));
+        }
+        let _spent = self.give_back(key, token);
+        Err(Refusal::NoEntry)
     }
 
     /// A seat of a linked key of the same table, which holds its slot, with the node that was born there.
@@ -247,7 +290,8 @@ impl CallerSeat {
         let Ok(owner) = self.owner() else {
             return Err(self.refuse_pin(key));
         };
-        let (node, token) = self.pin_token(key)?;
+        let first = self.peek_holds_of(key);
+        let (node, token) = self.pin_token(key, first)?;
         Ok(owner.seat(key, node, token))
     }
 }

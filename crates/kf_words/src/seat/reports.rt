@@ -3,7 +3,8 @@ ghost use Rattle.std.specs.Prelude.{◌≡◌, ◌≢◌, []};
 ghost use Rattle.kf_core.specs.declared.caller.Phase.TheVariants as phase_of;
 ghost use Rattle.kf_words.specs.Callers.{handle_of, having_seen, view_of};
 
-use crate::plays::{Knowing, Reports, TakesOver};
+use crate::joins::{Knowing, TakesOver};
+use crate::plays::Reports;
 use crate::seat::CallerSeat;
 use crate::sight::Sight;
 use atomic_table::Seat;

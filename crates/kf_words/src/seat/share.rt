@@ -6,10 +6,10 @@ ghost use Rattle.kf_words.specs.Steps.{after_miss};
 ghost use Rattle.kf_words.specs.Callers.{IsSameSeat, IsAtRest, handle_of, sight_of, view_of};
 ghost use Rattle.kf_words.specs.Made.{WasAMiss, WasDoubled};
 ghost use Rattle.kf_words.specs.Another.{IsShared, StaysAs, IsAnother, AnotherRefused, HasNoSpare, WasCountedFor, Missed};
-ghost use Rattle.kf_words.specs.TableSteps.{misses};
+ghost use Rattle.kf_words.specs.TableSteps.{sees_holds};
 
 use crate::layout::has_spare;
-use crate::plays::{Counts, Misses, SharesHold};
+use crate::plays::{CountsHold, SeesHolds, SharesHold};
 use crate::seat::CallerSeat;
 use crate::sight::Sight;
 use atomic_table::Seat;
@@ -21,7 +21,7 @@ const TRIES: u32 = 64;
 
 impl CallerSeat {
     /// The hold word as it is now, by a load that the rule does not see.
-    fn peek_holds(&self) -> u64 {
+    pub(crate) fn peek_holds(&self) -> u64 {
         self.table.shared.peek(self.hold_index())
     }
 
@@ -39,7 +39,7 @@ impl CallerSeat {
         let most = self.most as u64;
         self.table
             .shared
-            .compare_exchange::<Misses>(&mut self.token, word, most, most)
+            .compare_exchange::<SeesHolds>(&mut self.token, word, most, most)
     }
 
     /// Counts one hold more if the hold word is as expected, and gives it a new seat. Err is the word that
@@ -60,7 +60,7 @@ impl CallerSeat {
         let found = self
             .table
             .shared
-            .compare_exchange::<Counts>(&mut self.token, word, expected, expected + 1);
+            .compare_exchange::<CountsHold>(&mut self.token, word, expected, expected + 1);
         if found != expected {
             return Err(found);
         }
@@ -107,7 +107,7 @@ impl CallerSeat {
             (λ token. WasCountedFor (sight_of self.old) (sight_of self.new) token.me.0.seen) }
         ensures refused { IfErr result
             (λ why. AnotherRefused (handle_of self.old) (handle_of self.new) why) }
-        ensures missed { IfErr result (λ _. Missed misses 1 64 (sight_of self.old) (sight_of self.new)) }
+        ensures missed { IfErr result (λ _. Missed sees_holds 1 64 (sight_of self.old) (sight_of self.new)) }
     {
         let mut guess = self.peek_holds();
         for tries in 0..TRIES {
@@ -128,7 +128,7 @@ impl CallerSeat {
         ensures same { IsSameSeat (handle_of self.old) (handle_of self.new) }
         ensures stays { StaysAs (handle_of self.old) (handle_of self.new) }
         ensures refused { AnotherRefused (handle_of self.old) (handle_of self.new) result }
-        ensures missed { Missed misses 1 64 (sight_of self.old) (sight_of self.new) }
+        ensures missed { Missed sees_holds 1 64 (sight_of self.old) (sight_of self.new) }
     {
         let found = self.see_holds();
         if has_spare(found, self.most) {
@@ -149,7 +149,7 @@ impl CallerSeat {
             (λ seat. WasCountedFor (sight_of self.old) (sight_of self.new) (handle_of seat).seen) }
         ensures refused { IfErr result
             (λ why. AnotherRefused (handle_of self.old) (handle_of self.new) why) }
-        ensures missed { IfErr result (λ _. Missed misses 1 64 (sight_of self.old) (sight_of self.new)) }
+        ensures missed { IfErr result (λ _. Missed sees_holds 1 64 (sight_of self.old) (sight_of self.new)) }
     {
         let (key, node, most) = (self.key, self.node(), self.most);
         let Ok(table) = Arc::try_clone(&self.table) else {

@@ -168,17 +168,18 @@ impl CallerSeat {
     }
 }
 
-/// Gives a seat's hold of its slot back, which is one word step. The `release` of each value that holds a
-/// slot calls it.
-pub fn release_seat(seat: &mut CallerSeat)
+/// Gives a seat's hold of its slot back, which is one word step, and returns the hold word that it found. The
+/// `release` of each value that holds a slot calls it.
+pub fn release_seat(seat: &mut CallerSeat) -> u64
     requires idle { may_release (handle_of seat.old).phase ≡ true }
     requires settled { (handle_of seat.old).undo_due ≡ false }
     ensures same { IsSameSeat (handle_of seat.old) (handle_of seat.new) }
     ensures released { WasReleased (handle_of seat.old) (handle_of seat.new) }
     ensures made { WasARelease (sight_of seat.old) (sight_of seat.new) }
+    ensures found { result ≡ (handle_of seat.new).found }
 {
     let word = seat.hold_index();
     seat.table
         .shared
-        .fetch_sub::<Releases>(&mut seat.token, word, 1);
+        .fetch_sub::<Releases>(&mut seat.token, word, 1)
 }

@@ -1,5 +1,5 @@
 -- The clauses on runs of the words, each by the lemma of its name.
-use Rattle.kf_words.proofs.Runs.{opens_well, rule_kept, run_is_run, run_is_safe, marked_keeps_out, drained_for_good, hidden_keeps_out, passed_for_good, born_unheld, let_in_live, taken_live}
+use Rattle.kf_words.proofs.Runs.{opens_well, rule_kept, run_is_run, held_is_named, run_is_safe, marked_keeps_out, drained_for_good, hidden_keeps_out, passed_for_good, born_unheld, let_in_live, taken_live}
 use Rattle.kf_words.proofs.Wakes.{sleepers_are_found}
 use Rattle.kf_words.proofs.laws.words_run.Goals as goal
 
@@ -11,6 +11,9 @@ returns-clause-rule_kept c = rule_kept
 
 pub returns-clause-run_is_run : goal.returns-clause-run_is_run
 returns-clause-run_is_run c = run_is_run
+
+pub returns-clause-held_is_named : goal.returns-clause-held_is_named
+returns-clause-held_is_named c = held_is_named
 
 pub returns-clause-run_is_safe : goal.returns-clause-run_is_safe
 returns-clause-run_is_safe c = run_is_safe

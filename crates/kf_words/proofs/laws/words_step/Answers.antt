@@ -1,5 +1,5 @@
 -- Which event each step is, each by the lemma of its name.
-use Rattle.kf_words.proofs.Events.{try_is_enter, undo_is_undo, look_is_look, part_is_part, leave_is_leave, break_is_break, restore_is_restore, release_is_release, hide_is_hide, look_hidden_is_look, show_is_show, miss_is_nothing, rise_is_rise, mark_is_mark, birth_is_born, unlink_is_unlink, split_is_pin, held_split_is_pin, share_is_pin, rest_is_nothing, report_passes, answer_passes, hand_on_is_pin}
+use Rattle.kf_words.proofs.Events.{try_is_enter, undo_is_undo, look_is_look, part_is_part, leave_is_leave, break_is_break, restore_is_restore, release_is_release, hide_is_hide, look_hidden_is_look, show_is_show, miss_is_nothing, rise_is_rise, mark_is_mark, birth_is_born, unlink_is_unlink, split_is_pin, held_split_is_pin, share_is_pin, rest_is_nothing, report_passes, answer_passes, count_at_is_pin}
 use Rattle.kf_words.proofs.laws.words_step.Goals as goal
 
 pub returns-clause-try_is_enter : goal.returns-clause-try_is_enter
@@ -68,5 +68,5 @@ returns-clause-report_passes c = report_passes
 pub returns-clause-answer_passes : goal.returns-clause-answer_passes
 returns-clause-answer_passes c = answer_passes
 
-pub returns-clause-hand_on_is_pin : goal.returns-clause-hand_on_is_pin
-returns-clause-hand_on_is_pin c = hand_on_is_pin
+pub returns-clause-count_at_is_pin : goal.returns-clause-count_at_is_pin
+returns-clause-count_at_is_pin c = count_at_is_pin

@@ -1,4 +1,4 @@
-use Rattle.std.proofs.Common.{◌≡◌, ◌-◌, ap, ◌∙◌, subst}
+use Rattle.std.proofs.Common.{◌-◌, ap, ◌∙◌, subst}
 use Rattle.kf_words.specs.Callers.{Handle, CallerSight, sight_of, seat_view}
 use Rattle.kf_words.specs.Layout.{wants_wake}
 use Rattle.kf_words.specs.Made.{WakeSpent}

@@ -4,7 +4,7 @@ use Rattle.kf_words.specs.declared.sight.Seen.{Seen}
 use Rattle.kf_words.specs.Callers.{Handle, TableId, handle_of, sight_of, seat_view}
 use Rattle.kf_words.specs.Layout.{hold_index}
 use Rattle.kf_words.specs.Makers.{AreOwnersOf}
-use Rattle.kf_words.specs.Pins.{WasHeldFor, WasReadAndPinned}
+use Rattle.kf_words.specs.Pins.{WasHeldFor, WasPinnedAndRead}
 use Rattle.kf_words.proofs.Owners.{popped}
 use Rattle.kf_words.proofs.holds.Holds.pin.Goals as goal
 
@@ -32,6 +32,6 @@ returns-clause-made c =
     let made = c.seat-seat.result in
     let after = sight_of c.pin_token.new.self in
     let seen = ap (λ t. t.me.0.seen) (sym c.seat-seat.ensures.token) in
-    subst (λ (h : Handle). WasReadAndPinned c.args.key (handle_of made).node (seat_view h) after made.token.me.0.seen) (ap (λ m. m.by) c.self.view_is)
-    (subst (λ (s : Seen). WasReadAndPinned c.args.key (handle_of made).node (sight_of c.self.inside.by) after s) seen
-    (subst (λ (n : Node). WasReadAndPinned c.args.key n (sight_of c.self.inside.by) after c.in_ok-node.token.me.0.seen) (sym c.seat-seat.ensures.node) c.in_ok-node.ensures.made))
+    subst (λ (h : Handle). WasPinnedAndRead c.args.key (handle_of made).node (seat_view h) after made.token.me.0.seen) (ap (λ m. m.by) c.self.view_is)
+    (subst (λ (s : Seen). WasPinnedAndRead c.args.key (handle_of made).node (sight_of c.self.inside.by) after s) seen
+    (subst (λ (n : Node). WasPinnedAndRead c.args.key n (sight_of c.self.inside.by) after c.in_ok-node.token.me.0.seen) (sym c.seat-seat.ensures.node) c.in_ok-node.ensures.made))

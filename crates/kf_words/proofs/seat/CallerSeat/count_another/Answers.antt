@@ -1,7 +1,7 @@
 use Rattle.std.proofs.Common.{◌≡◌, ℕ, suc, rules, arith, subst}
 use Rattle.kf_words.specs.Callers.{sight_of}
 use Rattle.kf_words.specs.Another.{WereOutrun}
-use Rattle.kf_words.specs.TableSteps.{misses}
+use Rattle.kf_words.specs.TableSteps.{sees_holds}
 use Rattle.kf_words.proofs.Waits.{outrun_missed}
 use Rattle.kf_words.proofs.seat.CallerSeat.count_another.Goals as goal
 
@@ -18,7 +18,7 @@ returns-in-Err-None-clause-missed c =
 pub returns-clause-refused : goal.returns-clause-refused
 returns-clause-refused c =
     let all : c.loop-tries.tries ≡ 64 = omega (arith, c.loop-tries-test.false, c.loop-tries.auto.tries-end) in
-    subst (λ (n : ℕ). WereOutrun misses n (sight_of c.args.self.now) (sight_of c.loop-tries.self)) all c.loop-tries.invariant.outrun
+    subst (λ (n : ℕ). WereOutrun sees_holds n (sight_of c.args.self.now) (sight_of c.loop-tries.self)) all c.loop-tries.invariant.outrun
 
 pub returns-clause-missed : goal.returns-clause-missed
 returns-clause-missed c =

@@ -1,5 +1,5 @@
 use Rattle.std.proofs.Common.{◌≡◌, ℕ, suc, rules, arith, subst}
-use Rattle.kf_words.specs.TableSteps.{misses_at}
+use Rattle.kf_words.specs.TableSteps.{sees_holds_at}
 use Rattle.kf_words.specs.Callers.{sight_of}
 use Rattle.kf_words.specs.Another.{WereOutrun}
 use Rattle.kf_words.proofs.Waits.{outrun_missed, outrun_more}
@@ -18,7 +18,7 @@ returns-in-Err-Err-clause-missed c =
 pub returns-clause-refused : goal.returns-clause-refused
 returns-clause-refused c =
     let all : c.loop-tries.tries ≡ 64 = omega (arith, c.loop-tries-test.false, c.loop-tries.auto.tries-end) in
-    subst (λ (n : ℕ). WereOutrun (misses_at c.args.key.slot) n (sight_of c.args.self.now) (sight_of c.loop-tries.self)) all c.loop-tries.invariant.outrun
+    subst (λ (n : ℕ). WereOutrun (sees_holds_at c.args.key.slot) n (sight_of c.args.self.now) (sight_of c.loop-tries.self)) all c.loop-tries.invariant.outrun
 
 pub returns-clause-missed : goal.returns-clause-missed
 returns-clause-missed c =
@@ -33,7 +33,7 @@ loop-tries-preserved c =
       stays = search rules;
       rests = search rules;
       there = search rules;
-      outrun = outrun_more (misses_at c.args.key.slot) c.loop-tries.tries c.loop-tries.guess c.in-Err-Ok.found (sight_of c.args.self.now) (sight_of c.loop-tries.self) (sight_of c.try_pin.new.self)
+      outrun = outrun_more (sees_holds_at c.args.key.slot) c.loop-tries.tries c.loop-tries.guess c.in-Err-Ok.found (sight_of c.args.self.now) (sight_of c.loop-tries.self) (sight_of c.try_pin.new.self)
           c.loop-tries.invariant.outrun now.missed c.loop-tries.invariant.near (search rules);
       near = search rules;
     }

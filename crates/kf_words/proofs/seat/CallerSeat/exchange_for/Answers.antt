@@ -4,7 +4,7 @@ use Rattle.kf_words.specs.declared.view.CallerView.{CallerView}
 use Rattle.kf_words.specs.Layout.{HasSpare}
 use Rattle.kf_words.specs.Steps.{caller_of}
 use Rattle.kf_words.specs.Callers.{caller_sight}
-use Rattle.kf_words.specs.TableSteps.{counts_at}
+use Rattle.kf_words.specs.TableSteps.{counts_hold_at}
 use Rattle.kf_words.specs.Made.{WasMade}
 use Rattle.kf_words.proofs.MasterAllowed.{hold_slot}
 use Rattle.kf_words.proofs.Pinned.{exchange_at_made, hand_splits, stays_caller, hit_view, hit_key, counted_linked}
@@ -48,7 +48,7 @@ returns-clause-pinned c =
     let told = c.compare_exchange-found.ensures.2.1.0 in
     let back = hold_slot c.args.key.slot _ (sym c.hold_index-word.ensures) in
     let pinned = hit_key _ _ _ seat.token.me me seat.a_caller told c.args.key back c.requires.linked hit in
-    let count = subst (λ (k : ℕ). WasMade (counts_at k) (caller_sight seat.token.me.0) (caller_sight me.0)) back (c.compare_exchange-found.ensures.2.1.1.0 hit) in
+    let count = subst (λ (k : ℕ). WasMade (counts_hold_at k) (caller_sight seat.token.me.0) (caller_sight me.0)) back (c.compare_exchange-found.ensures.2.1.1.0 hit) in
     record {
       counted = caller_sight me.0;
       count = count;

@@ -1,5 +1,5 @@
 use Rattle.std.proofs.Common.{rules, arith, ap, sym, ◌∙◌, subst}
-use Rattle.kf_words.specs.TableSteps.{misses_at}
+use Rattle.kf_words.specs.TableSteps.{sees_holds_at}
 use Rattle.kf_words.specs.Callers.{caller_sight}
 use Rattle.kf_words.specs.Made.{WasMade}
 use Rattle.kf_words.proofs.MasterAllowed.{hold_slot}
@@ -18,4 +18,4 @@ compare_exchange-requires c =
 
 pub returns-clause-made : goal.returns-clause-made
 returns-clause-made c =
-    subst (λ k. WasMade (misses_at k) (caller_sight c.args.self.now.token.me.0) (caller_sight c.compare_exchange.new.seat.me.0)) (hold_slot _ _ (sym c.hold_index-word.ensures)) c.compare_exchange.ensures.2.1.1
+    subst (λ k. WasMade (sees_holds_at k) (caller_sight c.args.self.now.token.me.0) (caller_sight c.compare_exchange.new.seat.me.0)) (hold_slot _ _ (sym c.hold_index-word.ensures)) c.compare_exchange.ensures.2.1.1
