@@ -10,8 +10,8 @@ ghost use Rattle.kf_device.specs.Removals.{BeginsBoth, UnplugRefusal, left};
 ghost use Rattle.kf_device.specs.Stops.{IsStoppedPlug, PlugRefusal};
 
 use crate::devices::{Devices, Nodes};
-use crate::making::{Stopped, make};
-use crate::removal::{Leaving, begin_both, finish, finish_both, plug_at};
+use crate::making::{RefusedPlug, make};
+use crate::removal::{Unplugging, begin_both, finish, finish_both, plug_at};
 use kf_core::{Key, Refusal};
 use kf_index::name_fault;
 use kf_shared::{Editor, Naming, SharedTree};
@@ -77,7 +77,7 @@ impl<N: Naming> Bus<N> {
         editor: &mut Editor<'_, N>,
         name: &[u8],
         value: &[u8],
-    ) -> Result<Key, Stopped<N>>
+    ) -> Result<Key, RefusedPlug<N>>
         ensures plugged { IfOk result (λ dir. IsPlugged editor.old editor.new name.now dir) }
         ensures lawful { OnOk result (name_fault name.now ≡ None) }
         ensures refused { IfErr result (λ stopped. PlugRefusal name.now stopped.refusal) }
@@ -85,11 +85,11 @@ impl<N: Naming> Bus<N> {
             IsStoppedPlug editor.old editor.new name.now stopped.begun) }
     {
         if let Some(fault) = name_fault(name) {
-            return Err(Stopped::before(fault, None));
+            return Err(RefusedPlug::before(fault, None));
         }
         let serial = match self.begin(rt, name, value) {
             Ok(serial) => serial,
-            Err(refusal) => return Err(Stopped::before(refusal, None)),
+            Err(refusal) => return Err(RefusedPlug::before(refusal, None)),
         };
         let mut nodes = Nodes::new();
         let made = make(editor, name, serial, &mut nodes);
@@ -103,10 +103,15 @@ impl<N: Naming> Bus<N> {
     /// have, and, if the link was refused, for the callbacks that run on the new files.
     ///
     /// Context: sleeps; takes the lock of the bus and the tree's, one at a time.
-    pub fn take_back<R: Wait>(&self, rt: &R, tree: &SharedTree<N>, stopped: Stopped<N>) -> Refusal
+    pub fn take_back<R: Wait>(
+        &self,
+        rt: &R,
+        tree: &SharedTree<N>,
+        stopped: RefusedPlug<N>,
+    ) -> Refusal
         ensures told { result ≡ stopped.refusal }
     {
-        let Stopped {
+        let RefusedPlug {
             refusal,
             begun,
             plug,
@@ -160,7 +165,11 @@ impl<N: Naming> Bus<N> {
     ///
     /// Refusals: TooManyHolds or NoMemory, as `Editor::begin_removal_of` of the link has them: then nothing
     /// is marked. Those of the directory are in the result, beside the link's removal.
-    pub fn unplug_in(&self, editor: &mut Editor<'_, N>, name: &[u8]) -> Result<Leaving<N>, Refusal>
+    pub fn unplug_in(
+        &self,
+        editor: &mut Editor<'_, N>,
+        name: &[u8],
+    ) -> Result<Unplugging<N>, Refusal>
         ensures begun { IfOk result (λ leaving.
             BeginsBoth editor.old editor.new name.now None leaving.link leaving.dir) }
         ensures refused { IfErr result (λ refusal. HoldsRefusal refusal) }
@@ -183,7 +192,7 @@ impl<N: Naming> Bus<N> {
         &self,
         rt: &R,
         tree: &SharedTree<N>,
-        leaving: Leaving<N>,
+        leaving: Unplugging<N>,
     ) -> Result<(), Refusal>
         ensures told { result ≡ left leaving.link leaving.dir }
     {

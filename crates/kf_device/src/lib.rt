@@ -3,9 +3,9 @@
 //! - `Bus::new` has no device. `plug` makes a device's directory with its files `value`, `serial` and
 //!   `delete`, and the link to it; `unplug` removes both and waits. A store of `delete` unplugs from within
 //!   its own callback.
-//! - `plug_in` and `unplug_in` do it under a lent `Editor`. What a refused plug leaves is a `Stopped`, what
-//!   an unplug has begun a `Leaving`: neither can be forgotten, and `take_back` and `finish` spend them while
-//!   the tree is unlocked.
+//! - `plug_in` and `unplug_in` do it under a lent `Editor`. A refused plug leaves a `RefusedPlug`, and an
+//!   unplug begins an `Unplugging`. Neither can be forgotten: `take_back` and `finish` spend them while the
+//!   tree is unlocked.
 //! - `Bus` is itself the callbacks of its devices' files (`WaitOps`).
 //!
 //! A caller shows nothing but that the tree is the one that the bus has in its type.
@@ -23,5 +23,5 @@ mod sweeping;
 mod tags;
 
 pub use bus::Bus;
-pub use making::Stopped;
-pub use removal::Leaving;
+pub use making::RefusedPlug;
+pub use removal::Unplugging;

@@ -11,7 +11,7 @@ use kf_core::{Key, Node, Refusal};
 use kf_shared::{Editor, Naming, Removing};
 
 /// A plug that was refused. It must be spent, by [`crate::Bus::take_back`], with the tree unlocked.
-pub struct Stopped<N: Naming> {
+pub struct RefusedPlug<N: Naming> {
     /// Why.
     pub refusal: Refusal,
     /// The removal of the directory that it had made by then, if one could be begun.
@@ -20,13 +20,13 @@ pub struct Stopped<N: Naming> {
     pub(crate) plug: Option<u64>,
 }
 
-impl<N: Naming> Stopped<N> {
+impl<N: Naming> RefusedPlug<N> {
     /// Before the directory was made.
-    pub(crate) fn before(refusal: Refusal, plug: Option<u64>) -> Stopped<N>
+    pub(crate) fn before(refusal: Refusal, plug: Option<u64>) -> RefusedPlug<N>
         ensures refusal { result.refusal ≡ refusal }
         ensures none { result.begun ≡ None }
     {
-        Stopped {
+        RefusedPlug {
             refusal,
             begun: None,
             plug,
@@ -115,7 +115,7 @@ pub(crate) fn make<N: Naming>(
     name: &[u8],
     serial: u64,
     nodes: &mut Nodes,
-) -> Result<Key, Stopped<N>>
+) -> Result<Key, RefusedPlug<N>>
     requires few { serial ≤ 2 ^ 60 }
     requires lawful { name_fault name.now ≡ None }
     requires none { nodes.old.dir ≡ None }
@@ -126,16 +126,16 @@ pub(crate) fn make<N: Naming>(
 {
     let (devices, links) = match bases(editor) {
         Ok(found) => found,
-        Err(refusal) => return Err(Stopped::before(refusal, Some(serial))),
+        Err(refusal) => return Err(RefusedPlug::before(refusal, Some(serial))),
     };
     let dir = match editor.create(devices, name, Node::Dir, false) {
         Ok(dir) => dir,
-        Err(refusal) => return Err(Stopped::before(refusal, Some(serial))),
+        Err(refusal) => return Err(RefusedPlug::before(refusal, Some(serial))),
     };
     nodes.dir = Some(dir);
     match fill(editor, links, dir, name, serial, nodes) {
         Ok(()) => Ok(dir),
-        Err(refusal) => Err(Stopped {
+        Err(refusal) => Err(RefusedPlug {
             refusal,
             begun: editor.begin_removal_of(dir).ok(),
             plug: Some(serial),

@@ -101,7 +101,7 @@ fn dir_wanted(dir: Option<Key>) -> Wanted
 
 /// What was begun of a device's removal. It must be spent, by [`crate::Bus::finish`], with the tree lock let
 /// go.
-pub struct Leaving<N: Naming> {
+pub struct Unplugging<N: Naming> {
     /// The removal of its link, if there was one.
     pub link: Option<Removing<N>>,
     /// That of its directory, if there was one, or why it was refused.
@@ -120,7 +120,7 @@ pub(crate) fn begin_both<N: Naming>(
     name: &[u8],
     dir: Option<Key>,
     plug: Option<u64>,
-) -> Result<Leaving<N>, Refusal>
+) -> Result<Unplugging<N>, Refusal>
     ensures begun { IfOk result (λ leaving.
         BeginsBoth editor.old editor.new name.now dir leaving.link leaving.dir) }
     ensures refused { IfErr result (λ refusal. HoldsRefusal refusal) }
@@ -128,7 +128,7 @@ pub(crate) fn begin_both<N: Naming>(
 {
     let link = begin_at(editor, LINKS, name, link_wanted(dir))?;
     let dir = begin_at(editor, DEVICES, name, dir_wanted(dir));
-    Ok(Leaving { link, dir, plug })
+    Ok(Unplugging { link, dir, plug })
 }
 
 /// Finishes both, unlocked. Whether there was something to remove, or why the directory was not.
@@ -137,12 +137,12 @@ pub(crate) fn begin_both<N: Naming>(
 pub(crate) fn finish_both<N: Naming, R: Wait>(
     rt: &R,
     tree: &SharedTree<N>,
-    leaving: Leaving<N>,
+    leaving: Unplugging<N>,
 ) -> Result<bool, Refusal>
     ensures told { MatchResult leaving.dir
         (λ dir. result ≡ Ok (is_some leaving.link || is_some dir)) (λ refusal. result ≡ Err refusal) }
 {
-    let Leaving { link, dir, plug: _ } = leaving;
+    let Unplugging { link, dir, plug: _ } = leaving;
     let was_linked = finish(rt, tree, link);
     let was_there = finish(rt, tree, dir?);
     Ok(was_linked || was_there)

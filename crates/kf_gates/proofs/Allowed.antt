@@ -3,19 +3,19 @@ use Rattle.std.proofs.Common.{◌≡◌, ◌≢◌, ℕ, ◌+◌, ◌*◌, ◌/�
 use mathlib.Core.Option.{some, none}
 use lib.ListN.{get_elem?}
 use Rattle.atomic_table.specs.Table.{step, Allows, Splits, keeps}
-use Rattle.kf_gates.specs.declared.view.Plan.{Plan}
-use Rattle.kf_gates.specs.declared.view.View.{View}
-use Rattle.kf_gates.specs.declared.view.View.TheVariants.{Keeps, Outside, Counted, OneTooMany, Knocking, Inside, Turned, Broken, Restored}
+use Rattle.kf_gates.specs.declared.view.GatePlan.{GatePlan}
+use Rattle.kf_gates.specs.declared.view.GateView.{GateView}
+use Rattle.kf_gates.specs.declared.view.GateView.TheVariants.{Keeps, Outside, Counted, OneTooMany, Knocking, Inside, Turned, Broken, Restored}
 use Rattle.kf_gates.specs.Rule.{Table, Kept, gate_word, due_from}
 use Rattle.kf_gates.specs.Laws.{Has, IsOver, InsideOnLast, ClosedIsEmpty, ShutLetsNobodyIn, OpenLetsIn}
 use Rattle.kf_gates.specs.Runs.{CountsIn, MayUncount, one_more, one_less}
 use Rattle.kf_gates.specs.Steps.{Seated, after_count, looked, next_plan, pass_made, scanned, shut_plan, stepped_off, uncounted, MakesKnock, MakesLook, MakesLeave, MakesBreak, MakesRestore, MakesCount, MakesUncount, MakesShut, MakesScan, MakesOpening, MakesSleepCount}
 use Rattle.kf_gates.proofs.Keeping.{half, odd_of, even_of, knock_kept, look_kept, leave_kept, break_kept, restore_kept, count_kept, uncount_kept, pass_kept, shut_kept, scan_kept, open_kept, sleep_kept, nobody_inside}
 
-abbrev no_plan : Plan
+abbrev no_plan : GatePlan
 no_plan = record { number = 0; shut = true; seen = 0; found = 0; spare = false }
 
-abbrev plan_of : View → Plan
+abbrev plan_of : GateView → GatePlan
 plan_of (Keeps p) = p
 plan_of (Outside f) = no_plan
 plan_of Counted = no_plan
@@ -26,7 +26,7 @@ plan_of (Turned k f) = no_plan
 plan_of (Broken k n) = no_plan
 plan_of (Restored k n) = no_plan
 
-abbrev lane_of : View → ℕ
+abbrev lane_of : GateView → ℕ
 lane_of (Keeps p) = 0
 lane_of (Outside f) = 0
 lane_of Counted = 0
@@ -37,7 +37,7 @@ lane_of (Turned k f) = k
 lane_of (Broken k n) = k
 lane_of (Restored k n) = k
 
-abbrev number_of : View → ℕ
+abbrev number_of : GateView → ℕ
 number_of (Keeps p) = 0
 number_of (Outside f) = 0
 number_of Counted = 0
@@ -49,8 +49,8 @@ number_of (Broken k n) = n
 number_of (Restored k n) = 0
 
 -- the view that the seat is known to have
-seated_as : (t : Table) (id : ℕ) (x v : View) → x ≡ v → get_elem? t.views id ≡ some x → Has t id v
-seated_as t id x v is at = subst (λ (y : View). get_elem? t.views id ≡ some y) is at
+seated_as : (t : Table) (id : ℕ) (x v : GateView) → x ≡ v → get_elem? t.views id ≡ some x → Has t id v
+seated_as t id x v is at = subst (λ (y : GateView). get_elem? t.views id ≡ some y) is at
 
 pub knock_allowed : (lanes slots id : ℕ) (me : Seated) (k : ℕ) → (f : ℕ) × (me.0 ≡ Outside f) → k < lanes
     → Allows (Kept lanes) slots id me (8 * k + 8) one_more (MakesKnock (step slots (8 * k + 8) 1 0 none) me)
@@ -93,7 +93,7 @@ count_allowed lanes slots id me outside t r _ at small =
 pub uncount_allowed : (lanes slots id : ℕ) (me : Seated) → MayUncount me.0 → Allows (Kept lanes) slots id me 2 one_less (MakesUncount (step slots 2 1 0 none) me)
 uncount_allowed lanes slots id me may t r _ at small = (uncounted me.0, keeps, tt, uncount_kept lanes t r id me.0 at may, refl)
 
-pub shut_allowed : (lanes slots id : ℕ) (me : Seated) (p : Plan) (word : ℕ) → me.0 ≡ Keeps p → word ≡ gate_word p.number true
+pub shut_allowed : (lanes slots id : ℕ) (me : Seated) (p : GatePlan) (word : ℕ) → me.0 ≡ Keeps p → word ≡ gate_word p.number true
     → Allows (Kept lanes) slots id me 0 (λ _. word) (λ _. MakesShut (step slots 0 word 0 none) me word)
 shut_allowed lanes slots id me p word plans is_word t r _ at small = (
   Keeps (shut_plan p),
@@ -101,23 +101,23 @@ shut_allowed lanes slots id me p word plans is_word t r _ at small = (
   tt,
   subst (λ (n : ℕ). Kept lanes (record { words = set t.words 0 n; homes = t.homes; views = set t.views id (Keeps (shut_plan p)) })) (sym is_word)
       (shut_kept lanes t r id p (seated_as t id me.0 (Keeps p) plans at)),
-  λ x is. ap (λ (z : Plan). Keeps (shut_plan z)) (ap plan_of (sym plans ∙ is)),
+  λ x is. ap (λ (z : GatePlan). Keeps (shut_plan z)) (ap plan_of (sym plans ∙ is)),
 )
 
-pub scan_allowed : (lanes slots id : ℕ) (me : Seated) (p : Plan) → me.0 ≡ Keeps p → p.shut ≡ true → p.seen < lanes
+pub scan_allowed : (lanes slots id : ℕ) (me : Seated) (p : GatePlan) → me.0 ≡ Keeps p → p.shut ≡ true → p.seen < lanes
     → Allows (Kept lanes) slots id me (8 * p.seen + 8) (λ n. n) (MakesScan (step slots (8 * p.seen + 8) 0 0 none) me)
 scan_allowed lanes slots id me p plans shut inside t r _ at small =
     let x : ℕ = get_or t.words (8 * p.seen + 8) 0 in
     (scanned x p, keeps, tt, scan_kept lanes t r id p (seated_as t id me.0 (Keeps p) plans at) shut inside, λ q is. ap (scanned x) (ap plan_of (sym plans ∙ is)))
 
 -- the plan after a look at an empty lane, and at one that is not
-pub scanned_empty : (x : ℕ) (p : Plan) → x ≡ 0 → scanned x p ≡ Keeps (record p { seen = p.seen + 1; found = x })
+pub scanned_empty : (x : ℕ) (p : GatePlan) → x ≡ 0 → scanned x p ≡ Keeps (record p { seen = p.seen + 1; found = x })
 scanned_empty x p e = rw (eq-eqb x 0 e) refl
 
-pub scanned_used : (x : ℕ) (p : Plan) → x ≢ 0 → scanned x p ≡ Keeps (record p { found = x })
+pub scanned_used : (x : ℕ) (p : GatePlan) → x ≢ 0 → scanned x p ≡ Keeps (record p { found = x })
 scanned_used x p e = rw (ne_eqb x 0 e) refl
 
-pub open_allowed : (lanes slots id : ℕ) (me : Seated) (p : Plan) (word : ℕ) → me.0 ≡ Keeps p → IsOver lanes p → word ≡ gate_word (p.number + 1) false
+pub open_allowed : (lanes slots id : ℕ) (me : Seated) (p : GatePlan) (word : ℕ) → me.0 ≡ Keeps p → IsOver lanes p → word ≡ gate_word (p.number + 1) false
     → Allows (Kept lanes) slots id me 0 (λ _. word) (λ _. MakesOpening (step slots 0 word 0 none) me word)
 open_allowed lanes slots id me p word plans over is_word t r _ at small = (
   Keeps (next_plan p),
@@ -125,15 +125,15 @@ open_allowed lanes slots id me p word plans over is_word t r _ at small = (
   tt,
   subst (λ (n : ℕ). Kept lanes (record { words = set t.words 0 n; homes = t.homes; views = set t.views id (Keeps (next_plan p)) })) (sym is_word)
       (open_kept lanes t r id p (seated_as t id me.0 (Keeps p) plans at) over),
-  λ x is. ap (λ (z : Plan). Keeps (next_plan z)) (ap plan_of (sym plans ∙ is)),
+  λ x is. ap (λ (z : GatePlan). Keeps (next_plan z)) (ap plan_of (sym plans ∙ is)),
 )
 
-pub sleep_allowed : (lanes slots id : ℕ) (me : Seated) (k : ℕ) (f : ℕ → ℕ) → (p : Plan) × (me.0 ≡ Keeps p)
+pub sleep_allowed : (lanes slots id : ℕ) (me : Seated) (k : ℕ) (f : ℕ → ℕ) → (p : GatePlan) × (me.0 ≡ Keeps p)
     → Allows (Kept lanes) slots id me 1 f (MakesSleepCount (step slots 1 k 0 none) me)
 sleep_allowed lanes slots id me k f plans t r _ at small =
     (Keeps plans.0, keeps, tt, sleep_kept lanes t r id plans.0 f (seated_as t id me.0 (Keeps plans.0) plans.1 at), sym plans.1)
 
-pub pass_allowed : (lanes id : ℕ) (v : View) → due_from v ≡ 1 → Splits (Kept lanes) id v (pass_made v) (Outside 0)
+pub pass_allowed : (lanes id : ℕ) (v : GateView) → due_from v ≡ 1 → Splits (Kept lanes) id v (pass_made v) (Outside 0)
 pass_allowed lanes id v due t r at = pass_kept lanes t r id v at due
 
 pub inside_on_last : InsideOnLast
@@ -145,7 +145,7 @@ closed_is_empty lanes t r p keeper over seat lane number inside = nobody_inside 
 pub shut_lets_nobody_in : ShutLetsNobodyIn
 shut_lets_nobody_in lanes t r p keeper shut lane =
     let x : ℕ = get_or t.words 0 0 in
-    let mine : r.plan.shut ≡ true = sym (ap (λ (q : Plan). q.shut) (r.seats 0 (Keeps p) keeper).0) ∙ shut in
+    let mine : r.plan.shut ≡ true = sym (ap (λ (q : GatePlan). q.shut) (r.seats 0 (Keeps p) keeper).0) ∙ shut in
     let odd : x % 2 ≡ 1 = odd_of r.plan.shut r.plan.number x r.word mine in
     rw (ne_eqb (x % 2) 0 (λ e. omega arith)) refl
 
@@ -153,8 +153,8 @@ pub open_lets_in : OpenLetsIn
 open_lets_in lanes t r p keeper open' lane =
     let x : ℕ = get_or t.words 0 0 in
     let same = (r.seats 0 (Keeps p) keeper).0 in
-    let mine : r.plan.shut ≡ false = sym (ap (λ (q : Plan). q.shut) same) ∙ open' in
+    let mine : r.plan.shut ≡ false = sym (ap (λ (q : GatePlan). q.shut) same) ∙ open' in
     let even : x % 2 ≡ 0 = even_of r.plan.shut r.plan.number x r.word mine in
-    let number : x / 2 ≡ p.number = half r.plan.shut r.plan.number x r.word ∙ sym (ap (λ (q : Plan). q.number) same) in
+    let number : x / 2 ≡ p.number = half r.plan.shut r.plan.number x r.word ∙ sym (ap (λ (q : GatePlan). q.number) same) in
     let told : looked x lane ≡ Inside lane (x / 2) = rw (eq-eqb (x % 2) 0 even) refl in
     told ∙ ap (Inside lane) number

@@ -2,36 +2,36 @@
 use Rattle.std.proofs.Common.{◌≡◌, ℕ, zero, suc, ◌+◌, ◌<◌, ◌≤◌, Bool, true, false, List, [], ◌∷◌, ◌++◌, length, set, refl, sym, ap, arith}
 use mathlib.Core.Option.{some, some-injective, some-ne-none}
 use lib.ListN.{get_elem?}
-use Rattle.kf_gates.specs.declared.view.View.{View}
-use Rattle.kf_gates.specs.declared.view.View.TheVariants.{Keeps, Outside, Counted, OneTooMany, Knocking, Inside, Turned, Broken, Restored}
+use Rattle.kf_gates.specs.declared.view.GateView.{GateView}
+use Rattle.kf_gates.specs.declared.view.GateView.TheVariants.{Keeps, Outside, Counted, OneTooMany, Knocking, Inside, Turned, Broken, Restored}
 use Rattle.kf_gates.specs.Rule.{bit, counted_by, due_from, is_user, total, users}
 
 -- one seat's view changes
-pub total_set : (f : View → ℕ) (views : List View) (j : ℕ) (v w : View) → get_elem? views j ≡ some v → total f (set views j w) + f v ≡ total f views + f w
+pub total_set : (f : GateView → ℕ) (views : List GateView) (j : ℕ) (v w : GateView) → get_elem? views j ≡ some v → total f (set views j w) + f v ≡ total f views + f w
 total_set f [] j v w e = absurd (some-ne-none v (sym e))
 total_set f (x ∷ xs) zero v w e = let same : f x ≡ f v = ap f (some-injective x v e) in omega arith
 total_set f (x ∷ xs) (suc j) v w e = let more = total_set f xs j v w e in omega arith
 
 -- a new seat comes
-pub total_snoc : (f : View → ℕ) (views : List View) (w : View) → total f (views ++ w ∷ []) ≡ total f views + f w
+pub total_snoc : (f : GateView → ℕ) (views : List GateView) (w : GateView) → total f (views ++ w ∷ []) ≡ total f views + f w
 total_snoc f [] w = omega arith
 total_snoc f (x ∷ xs) w = let more = total_snoc f xs w in omega arith
 
 -- the sum counts each
-pub total_at : (f : View → ℕ) (views : List View) (j : ℕ) (v : View) → get_elem? views j ≡ some v → f v ≤ total f views
+pub total_at : (f : GateView → ℕ) (views : List GateView) (j : ℕ) (v : GateView) → get_elem? views j ≡ some v → f v ≤ total f views
 total_at f [] j v e = absurd (some-ne-none v (sym e))
 total_at f (x ∷ xs) zero v e = let same : f x ≡ f v = ap f (some-injective x v e) in omega arith
 total_at f (x ∷ xs) (suc j) v e = let more = total_at f xs j v e in omega arith
 
-pub total_few : (f : View → ℕ) → ((v : View) → f v ≤ 1) → (views : List View) → total f views ≤ length views
+pub total_few : (f : GateView → ℕ) → ((v : GateView) → f v ≤ 1) → (views : List GateView) → total f views ≤ length views
 total_few f one [] = omega arith
 total_few f one (x ∷ xs) = let more = total_few f one xs in let here = one x in omega arith
 
-pub total_below : (f g : View → ℕ) → ((v : View) → f v ≤ g v) → (views : List View) → total f views ≤ total g views
+pub total_below : (f g : GateView → ℕ) → ((v : GateView) → f v ≤ g v) → (views : List GateView) → total f views ≤ total g views
 total_below f g below [] = omega arith
 total_below f g below (x ∷ xs) = let more = total_below f g below xs in let here = below x in omega arith
 
-pub there : (views : List View) (j : ℕ) (v : View) → get_elem? views j ≡ some v → j < length views
+pub there : (views : List GateView) (j : ℕ) (v : GateView) → get_elem? views j ≡ some v → j < length views
 there [] j v e = absurd (some-ne-none v (sym e))
 there (x ∷ xs) zero v e = omega arith
 there (x ∷ xs) (suc j) v e = let more = there xs j v e in omega arith
@@ -44,10 +44,10 @@ pub bit_none : (b : Bool) → bit b ≡ 0 → b ≡ false
 bit_none true e = absurd (omega arith)
 bit_none false e = refl
 
-pub users_few : (lane : ℕ) (views : List View) → users lane views ≤ length views
+pub users_few : (lane : ℕ) (views : List GateView) → users lane views ≤ length views
 users_few lane views = total_few (λ v. bit (is_user lane v)) (λ v. bit_few (is_user lane v)) views
 
-pub counted_few : (v : View) → counted_by v ≤ 1
+pub counted_few : (v : GateView) → counted_by v ≤ 1
 counted_few (Keeps p) = bit_few p.spare
 counted_few (Outside f) = omega arith
 counted_few Counted = omega arith
@@ -58,7 +58,7 @@ counted_few (Turned k f) = omega arith
 counted_few (Broken k n) = omega arith
 counted_few (Restored k n) = omega arith
 
-pub due_counted : (v : View) → due_from v ≤ counted_by v
+pub due_counted : (v : GateView) → due_from v ≤ counted_by v
 due_counted (Keeps p) = omega arith
 due_counted (Outside f) = omega arith
 due_counted Counted = omega arith

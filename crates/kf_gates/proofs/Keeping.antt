@@ -8,9 +8,9 @@ use native.Mathlib.Decide.{ℕ_discrete}
 use lib.ListN.{get_elem?}
 use Rattle.atomic_table.specs.Table.{opening}
 use Rattle.atomic_table.proofs.Lists.{at_set, at_snoc}
-use Rattle.kf_gates.specs.declared.view.Plan.{Plan}
-use Rattle.kf_gates.specs.declared.view.View.{View}
-use Rattle.kf_gates.specs.declared.view.View.TheVariants.{Keeps, Outside, Counted, OneTooMany, Knocking, Inside, Turned, Broken, Restored}
+use Rattle.kf_gates.specs.declared.view.GatePlan.{GatePlan}
+use Rattle.kf_gates.specs.declared.view.GateView.{GateView}
+use Rattle.kf_gates.specs.declared.view.GateView.TheVariants.{Keeps, Outside, Counted, OneTooMany, Knocking, Inside, Turned, Broken, Restored}
 use Rattle.kf_gates.specs.Rule.{Table, bit, gate_word, most_passes, is_user, is_inside, counted_by, due_from, total, users, NoneInside, Knows, Kept, opened}
 use Rattle.kf_gates.specs.Laws.{Has, IsOver}
 use Rattle.kf_gates.specs.Runs.{CountsIn, MayUncount, one_more, one_less, moved, with_pass, new_words}
@@ -30,12 +30,12 @@ pub even_of : (b : Bool) (n x : ℕ) → x ≡ gate_word n b → b ≡ false →
 even_of false n x e open' = omega arith
 even_of true n x e open' = absurd (let one : bit true ≡ bit false = ap bit open' in omega arith)
 
-none_stays : (lane : ℕ) (views : List View) (id : ℕ) (w : View) → is_inside lane w ≡ false → NoneInside lane views → NoneInside lane (set views id w)
-none_stays lane views id w still clear j v e = ⊎_elim (λ (t : (j ≡ id) × (w ≡ v)). subst (λ (y : View). is_inside lane y ≡ false) t.1 still)
+none_stays : (lane : ℕ) (views : List GateView) (id : ℕ) (w : GateView) → is_inside lane w ≡ false → NoneInside lane views → NoneInside lane (set views id w)
+none_stays lane views id w still clear j v e = ⊎_elim (λ (t : (j ≡ id) × (w ≡ v)). subst (λ (y : GateView). is_inside lane y ≡ false) t.1 still)
     (λ (t : (j ≢ id) × (get_elem? views j ≡ some v)). clear j v t.1) (at_set views id j w v e)
 
-none_comes : (lane : ℕ) (views : List View) (w : View) → is_inside lane w ≡ false → NoneInside lane views → NoneInside lane (views ++ w ∷ [])
-none_comes lane views w still clear j v e = ⊎_elim (clear j v) (λ (same : w ≡ v). subst (λ (y : View). is_inside lane y ≡ false) same still) (at_snoc views w v j e)
+none_comes : (lane : ℕ) (views : List GateView) (w : GateView) → is_inside lane w ≡ false → NoneInside lane views → NoneInside lane (views ++ w ∷ [])
+none_comes lane views w still clear j v e = ⊎_elim (clear j v) (λ (same : w ≡ v). subst (λ (y : GateView). is_inside lane y ≡ false) same still) (at_snoc views w v j e)
 
 apart : (k lane : ℕ) → lane ≢ k → bit (eqb k lane) ≡ 0
 apart k lane other = ap bit (ne_eqb k lane (λ e. other (sym e)))
@@ -44,13 +44,13 @@ pub here_one : (k : ℕ) → bit (eqb k k) ≡ 1
 here_one k = ap bit (eq-eqb k k refl)
 
 -- a step of a seat keeps the rule, under a plan
-moves : (lanes : ℕ) (t : Table) (r : Kept lanes t) (id : ℕ) (v w : View) (p : Plan) (words : List ℕ) → Has t id v
+moves : (lanes : ℕ) (t : Table) (r : Kept lanes t) (id : ℕ) (v w : GateView) (p : GatePlan) (words : List ℕ) → Has t id v
     → length words ≡ 8 * lanes + 8 → get_or words 0 0 ≡ gate_word p.number p.shut
     → get_or words 2 0 + counted_by v ≡ get_or t.words 2 0 + counted_by w
     → length t.views + total due_from t.views + due_from w ≤ most_passes + due_from v
     → ((lane : ℕ) → lane < lanes → get_or words (8 * lane + 8) 0 + bit (is_user lane v) ≡ get_or t.words (8 * lane + 8) 0 + bit (is_user lane w))
     → (p.shut ≡ true → (lane : ℕ) → lane < p.seen → NoneInside lane (set t.views id w)) → Knows lanes p id w
-    → ((j : ℕ) (x : View) → j ≢ id → Has t j x → Knows lanes p j x)
+    → ((j : ℕ) (x : GateView) → j ≢ id → Has t j x → Knows lanes p j x)
     → Kept lanes (record { words = words; homes = t.homes; views = set t.views id w })
 moves lanes t r id v w p words at wide word passes few counts still mine others = let long = length-set t.views id w in record {
   plan = p;
@@ -61,7 +61,7 @@ moves lanes t r id v w p words at wide word passes few counts still mine others 
   counts = λ lane inside. let a = counts lane inside in let b = r.counts lane inside in let c = total_set (λ x. bit (is_user lane x)) t.views id v w at in omega arith;
   still = still;
   seats = λ j x e. ⊎_elim
-      (λ (s : (j ≡ id) × (w ≡ x)). subst (λ (y : ℕ × View). Knows lanes p y.0 y.1) (λ i. (sym s.0 i, s.1 i)) mine)
+      (λ (s : (j ≡ id) × (w ≡ x)). subst (λ (y : ℕ × GateView). Knows lanes p y.0 y.1) (λ i. (sym s.0 i, s.1 i)) mine)
       (λ (s : (j ≢ id) × Has t j x). others j x s.0 s.1)
       (at_set t.views id j w x e);
 }
@@ -75,17 +75,17 @@ recounted lanes words k n b c wide inside here else lane within = dite (ℕ_disc
     (λ other. let a = get_or-set_other words (8 * k + 8) (8 * lane + 8) n 0 (λ e. other (omega arith)) in let d = else lane other in omega arith)
 
 -- a load
-loads : (lanes : ℕ) (t : Table) (r : Kept lanes t) (i id : ℕ) (v w : View) (p : Plan) → Has t id v
+loads : (lanes : ℕ) (t : Table) (r : Kept lanes t) (i id : ℕ) (v w : GateView) (p : GatePlan) → Has t id v
     → get_or t.words 0 0 ≡ gate_word p.number p.shut → counted_by v ≡ counted_by w → due_from v ≡ due_from w → ((lane : ℕ) → bit (is_user lane v) ≡ bit (is_user lane w))
     → (p.shut ≡ true → (lane : ℕ) → lane < p.seen → NoneInside lane (set t.views id w)) → Knows lanes p id w
-    → ((j : ℕ) (x : View) → j ≢ id → Has t j x → Knows lanes p j x)
+    → ((j : ℕ) (x : GateView) → j ≢ id → Has t j x → Knows lanes p j x)
     → Kept lanes (moved t i (λ n. n) id w)
 loads lanes t r i id v w p at word counted due same still mine others =
     subst (λ (ws : List ℕ). Kept lanes record { words = ws; homes = t.homes; views = set t.views id w }) (sym (set-get_or t.words i 0))
     (moves lanes t r id v w p t.words at r.wide word (omega arith) (let few = r.few in omega arith) (λ lane _. let e = same lane in omega arith) still mine others)
 
 -- a caller counts itself in a lane
-on_kept : (lanes : ℕ) (t : Table) (r : Kept lanes t) (id k : ℕ) (v w : View) → Has t id v → ((lane : ℕ) → bit (is_user lane v) ≡ 0) → ((lane : ℕ) → bit (is_user lane w) ≡ bit (eqb k lane))
+on_kept : (lanes : ℕ) (t : Table) (r : Kept lanes t) (id k : ℕ) (v w : GateView) → Has t id v → ((lane : ℕ) → bit (is_user lane v) ≡ 0) → ((lane : ℕ) → bit (is_user lane w) ≡ bit (eqb k lane))
     → counted_by v ≡ counted_by w → due_from v ≡ due_from w → ((lane : ℕ) → is_inside lane w ≡ false) → k < lanes → Knows lanes r.plan id w
     → Kept lanes (moved t (8 * k + 8) one_more id w)
 on_kept lanes t r id k v w seated nowhere counted c d outside inside mine =
@@ -99,7 +99,7 @@ on_kept lanes t r id k v w seated nowhere counted c d outside inside mine =
     (λ shut lane less. none_stays lane t.views id w (outside lane) (r.still shut lane less)) mine (λ j x _ e. r.seats j x e)
 
 -- it no longer does
-off_kept : (lanes : ℕ) (t : Table) (r : Kept lanes t) (id k : ℕ) (v w : View) → Has t id v → ((lane : ℕ) → bit (is_user lane v) ≡ bit (eqb k lane)) → ((lane : ℕ) → bit (is_user lane w) ≡ 0)
+off_kept : (lanes : ℕ) (t : Table) (r : Kept lanes t) (id k : ℕ) (v w : GateView) → Has t id v → ((lane : ℕ) → bit (is_user lane v) ≡ bit (eqb k lane)) → ((lane : ℕ) → bit (is_user lane w) ≡ 0)
     → counted_by v ≡ counted_by w → due_from v ≡ due_from w → ((lane : ℕ) → is_inside lane w ≡ false) → k < lanes → Knows lanes r.plan id w
     → Kept lanes (moved t (8 * k + 8) one_less id w)
 off_kept lanes t r id k v w seated counted nowhere c d outside inside mine =
@@ -122,7 +122,7 @@ restore_kept lanes t r id k n seated inside = on_kept lanes t r id k (Broken k n
 pub break_kept : (lanes : ℕ) (t : Table) (r : Kept lanes t) (id k n : ℕ) → Has t id (Inside k n) → k < lanes → Kept lanes (moved t (8 * k + 8) one_less id (Broken k n))
 break_kept lanes t r id k n seated inside = off_kept lanes t r id k (Inside k n) (Broken k n) seated (λ lane. refl) (λ lane. refl) refl refl (λ lane. refl) inside inside
 
-pub leave_kept : (lanes : ℕ) (t : Table) (r : Kept lanes t) (id k : ℕ) (v : View) → Has t id v → CountsIn k v → k < lanes → Kept lanes (moved t (8 * k + 8) one_less id (stepped_off v))
+pub leave_kept : (lanes : ℕ) (t : Table) (r : Kept lanes t) (id k : ℕ) (v : GateView) → Has t id v → CountsIn k v → k < lanes → Kept lanes (moved t (8 * k + 8) one_less id (stepped_off v))
 leave_kept lanes t r id k (Keeps p) seated counts inside = absurd counts
 leave_kept lanes t r id k (Outside f) seated counts inside = absurd counts
 leave_kept lanes t r id k Counted seated counts inside = absurd counts
@@ -139,16 +139,16 @@ look_kept lanes t r id k seated =
     dite (ℕ_discrete (x % 2) 0)
     (λ even. let told : looked x k ≡ Inside k (x / 2) = rw (eq-eqb (x % 2) 0 even) refl in
     let own : x / 2 ≡ r.plan.number = half r.plan.shut r.plan.number x r.word in
-    subst (λ (w : View). Kept lanes (moved t 0 (λ n. n) id w)) (sym told)
+    subst (λ (w : GateView). Kept lanes (moved t 0 (λ n. n) id w)) (sym told)
     (loads lanes t r 0 id (Knocking k) (Inside k (x / 2)) r.plan seated r.word refl refl (λ lane. refl)
     (λ shut. let odd : x % 2 ≡ 1 = odd_of r.plan.shut r.plan.number x r.word shut in absurd (omega arith)) (mine, own) (λ j y _ e. r.seats j y e)))
     (λ odd. let told : looked x k ≡ Turned k x = rw (ne_eqb (x % 2) 0 odd) refl in
-    subst (λ (w : View). Kept lanes (moved t 0 (λ n. n) id w)) (sym told)
+    subst (λ (w : GateView). Kept lanes (moved t 0 (λ n. n) id w)) (sym told)
     (loads lanes t r 0 id (Knocking k) (Turned k x) r.plan seated r.word refl refl (λ lane. refl)
     (λ shut lane less. none_stays lane t.views id (Turned k x) refl (r.still shut lane less)) mine (λ j y _ e. r.seats j y e)))
 
 -- a step on the count of passes
-counting : (lanes : ℕ) (t : Table) (r : Kept lanes t) (id m : ℕ) (v w : View) → Has t id v → ((lane : ℕ) → is_user lane v ≡ false) → ((lane : ℕ) → is_user lane w ≡ false) → ((lane : ℕ) → is_inside lane w ≡ false)
+counting : (lanes : ℕ) (t : Table) (r : Kept lanes t) (id m : ℕ) (v w : GateView) → Has t id v → ((lane : ℕ) → is_user lane v ≡ false) → ((lane : ℕ) → is_user lane w ≡ false) → ((lane : ℕ) → is_inside lane w ≡ false)
     → m + counted_by v ≡ get_or t.words 2 0 + counted_by w → length t.views + total due_from t.views + due_from w ≤ most_passes + due_from v → Knows lanes r.plan id w
     → Kept lanes (record { words = set t.words 2 m; homes = t.homes; views = set t.views id w })
 counting lanes t r id m v w seated nowhere nowhere' outside passes few mine =
@@ -175,14 +175,14 @@ count_kept lanes t r id f seated =
         → Kept lanes (moved t 2 one_more id (after_count n'))
     split true e below most few passes =
         let less : n' < most_passes = ltb-true n' most_passes e in let told : after_count n' ≡ Counted = rw e refl in
-        subst (λ (w : View). Kept lanes (moved t 2 one_more id w)) (sym told)
+        subst (λ (w : GateView). Kept lanes (moved t 2 one_more id w)) (sym told)
         (counting lanes t r id ((n' + 1) % 18446744073709551616) (Outside f) Counted seated (λ lane. refl) (λ lane. refl) (λ lane. refl) (omega arith) (omega arith) tt)
     split false e below most few passes =
         let told : after_count n' ≡ OneTooMany n' = rw e refl in
-        subst (λ (w : View). Kept lanes (moved t 2 one_more id w)) (sym told)
+        subst (λ (w : GateView). Kept lanes (moved t 2 one_more id w)) (sym told)
         (counting lanes t r id ((n' + 1) % 18446744073709551616) (Outside f) (OneTooMany n') seated (λ lane. refl) (λ lane. refl) (λ lane. refl) (omega arith) (omega arith) tt)
 
-pub uncount_kept : (lanes : ℕ) (t : Table) (r : Kept lanes t) (id : ℕ) (v : View) → Has t id v → MayUncount v → Kept lanes (moved t 2 one_less id (uncounted v))
+pub uncount_kept : (lanes : ℕ) (t : Table) (r : Kept lanes t) (id : ℕ) (v : GateView) → Has t id v → MayUncount v → Kept lanes (moved t 2 one_less id (uncounted v))
 uncount_kept lanes t r id (Keeps p) seated may = absurd may
 uncount_kept lanes t r id (Outside f) seated may = absurd may
 uncount_kept lanes t r id Counted seated may =
@@ -198,8 +198,8 @@ uncount_kept lanes t r id (Broken k n) seated may = absurd may
 uncount_kept lanes t r id (Restored k n) seated may = absurd may
 
 -- under a plan of the same number what seats other than the keeper's know stays so
-others_same : (lanes : ℕ) (t : Table) (r : Kept lanes t) (id : ℕ) (p : Plan) → id ≡ 0 → p.number ≡ r.plan.number
-    → (j : ℕ) (x : View) → j ≢ id → Has t j x → Knows lanes p j x
+others_same : (lanes : ℕ) (t : Table) (r : Kept lanes t) (id : ℕ) (p : GatePlan) → id ≡ 0 → p.number ≡ r.plan.number
+    → (j : ℕ) (x : GateView) → j ≢ id → Has t j x → Knows lanes p j x
 others_same lanes t r id p first same j (Keeps q) other e = absurd (other ((r.seats j (Keeps q) e).1 ∙ sym first))
 others_same lanes t r id p first same j (Outside f) other e = tt
 others_same lanes t r id p first same j Counted other e = tt
@@ -211,8 +211,8 @@ others_same lanes t r id p first same j (Broken k n) other e = r.seats j (Broken
 others_same lanes t r id p first same j (Restored k n) other e = r.seats j (Restored k n) e
 
 -- if nobody is inside, under any plan
-others_next : (lanes : ℕ) (t : Table) (r : Kept lanes t) (id : ℕ) (p : Plan) → id ≡ 0 → ((lane : ℕ) → lane < lanes → NoneInside lane t.views)
-    → (j : ℕ) (x : View) → j ≢ id → Has t j x → Knows lanes p j x
+others_next : (lanes : ℕ) (t : Table) (r : Kept lanes t) (id : ℕ) (p : GatePlan) → id ≡ 0 → ((lane : ℕ) → lane < lanes → NoneInside lane t.views)
+    → (j : ℕ) (x : GateView) → j ≢ id → Has t j x → Knows lanes p j x
 others_next lanes t r id p first clear j (Keeps q) other e = absurd (other ((r.seats j (Keeps q) e).1 ∙ sym first))
 others_next lanes t r id p first clear j (Outside f) other e = tt
 others_next lanes t r id p first clear j Counted other e = tt
@@ -225,7 +225,7 @@ others_next lanes t r id p first clear j (Broken k n) other e = r.seats j (Broke
 others_next lanes t r id p first clear j (Restored k n) other e = r.seats j (Restored k n) e
 
 -- a store of the gate's word by the keeper
-stores : (lanes : ℕ) (t : Table) (r : Kept lanes t) (id : ℕ) (p q : Plan) → Has t id (Keeps p) → q.spare ≡ p.spare → q.seen ≡ 0 → ((j : ℕ) (x : View) → j ≢ id → Has t j x → Knows lanes q j x)
+stores : (lanes : ℕ) (t : Table) (r : Kept lanes t) (id : ℕ) (p q : GatePlan) → Has t id (Keeps p) → q.spare ≡ p.spare → q.seen ≡ 0 → ((j : ℕ) (x : GateView) → j ≢ id → Has t j x → Knows lanes q j x)
     → Kept lanes (moved t 0 (λ _. gate_word q.number q.shut) id (Keeps q))
 stores lanes t r id p q seated spare unseen others =
     let wide = r.wide in let word : ℕ = gate_word q.number q.shut in let mine = r.seats id (Keeps p) seated in let same : bit q.spare ≡ bit p.spare = ap bit spare in let few = r.few in
@@ -235,12 +235,12 @@ stores lanes t r id p q seated spare unseen others =
     (λ lane _. ap (λ (z : ℕ). z + 0) (get_or-set_other t.words 0 (8 * lane + 8) word 0 (λ e. omega arith)))
     (λ _ lane less. absurd (omega arith)) (refl, mine.1) others
 
-pub shut_kept : (lanes : ℕ) (t : Table) (r : Kept lanes t) (id : ℕ) (p : Plan) → Has t id (Keeps p) → Kept lanes (moved t 0 (λ _. gate_word p.number true) id (Keeps (shut_plan p)))
+pub shut_kept : (lanes : ℕ) (t : Table) (r : Kept lanes t) (id : ℕ) (p : GatePlan) → Has t id (Keeps p) → Kept lanes (moved t 0 (λ _. gate_word p.number true) id (Keeps (shut_plan p)))
 shut_kept lanes t r id p seated =
     let mine = r.seats id (Keeps p) seated in
-    stores lanes t r id p (shut_plan p) seated refl refl (others_same lanes t r id (shut_plan p) mine.1 (ap (λ (x : Plan). x.number) mine.0))
+    stores lanes t r id p (shut_plan p) seated refl refl (others_same lanes t r id (shut_plan p) mine.1 (ap (λ (x : GatePlan). x.number) mine.0))
 
-inside_counts : (lane : ℕ) (v : View) → bit (is_user lane v) ≡ 0 → is_inside lane v ≡ false
+inside_counts : (lane : ℕ) (v : GateView) → bit (is_user lane v) ≡ 0 → is_inside lane v ≡ false
 inside_counts lane (Keeps p) e = refl
 inside_counts lane (Outside f) e = refl
 inside_counts lane Counted e = refl
@@ -252,46 +252,46 @@ inside_counts lane (Broken k n) e = refl
 inside_counts lane (Restored k n) e = refl
 
 -- nobody is in the lanes that the keeper has seen empty
-pub seen_still : (lanes : ℕ) (t : Table) (r : Kept lanes t) (id : ℕ) (p : Plan) → Has t id (Keeps p) → p.shut ≡ true
+pub seen_still : (lanes : ℕ) (t : Table) (r : Kept lanes t) (id : ℕ) (p : GatePlan) → Has t id (Keeps p) → p.shut ≡ true
     → (lane : ℕ) → lane < p.seen → NoneInside lane t.views
 seen_still lanes t r id p seated shut lane less =
     let mine = (r.seats id (Keeps p) seated).0 in
-    r.still (sym (ap (λ (q : Plan). q.shut) mine) ∙ shut) lane (subst (λ (q : Plan). lane < q.seen) mine less)
+    r.still (sym (ap (λ (q : GatePlan). q.shut) mine) ∙ shut) lane (subst (λ (q : GatePlan). lane < q.seen) mine less)
 
 -- the plan after a look at the next lane
-scan_loads : (lanes : ℕ) (t : Table) (r : Kept lanes t) (i id : ℕ) (p q : Plan) → Has t id (Keeps p) → q.number ≡ p.number → q.shut ≡ p.shut → q.spare ≡ p.spare → ((lane : ℕ) → lane < q.seen → NoneInside lane t.views)
+scan_loads : (lanes : ℕ) (t : Table) (r : Kept lanes t) (i id : ℕ) (p q : GatePlan) → Has t id (Keeps p) → q.number ≡ p.number → q.shut ≡ p.shut → q.spare ≡ p.spare → ((lane : ℕ) → lane < q.seen → NoneInside lane t.views)
     → Kept lanes (moved t i (λ n. n) id (Keeps q))
 scan_loads lanes t r i id p q seated number shut spare still =
     let mine = r.seats id (Keeps p) seated in
-    let word : get_or t.words 0 0 ≡ gate_word q.number q.shut = r.word ∙ ap (λ (x : Plan). gate_word x.number x.shut) (sym mine.0) ∙ (λ i'. gate_word (sym number i') (sym shut i')) in
+    let word : get_or t.words 0 0 ≡ gate_word q.number q.shut = r.word ∙ ap (λ (x : GatePlan). gate_word x.number x.shut) (sym mine.0) ∙ (λ i'. gate_word (sym number i') (sym shut i')) in
     loads lanes t r i id (Keeps p) (Keeps q) q seated word (ap bit (sym spare)) (ap bit (sym spare)) (λ lane. refl)
     (λ _ lane less. none_stays lane t.views id (Keeps q) refl (still lane less)) (refl, mine.1)
-    (others_same lanes t r id q mine.1 (number ∙ ap (λ (z : Plan). z.number) mine.0))
+    (others_same lanes t r id q mine.1 (number ∙ ap (λ (z : GatePlan). z.number) mine.0))
 
-pub scan_kept : (lanes : ℕ) (t : Table) (r : Kept lanes t) (id : ℕ) (p : Plan) → Has t id (Keeps p) → p.shut ≡ true → p.seen < lanes
+pub scan_kept : (lanes : ℕ) (t : Table) (r : Kept lanes t) (id : ℕ) (p : GatePlan) → Has t id (Keeps p) → p.shut ≡ true → p.seen < lanes
     → Kept lanes (moved t (8 * p.seen + 8) (λ n. n) id (scanned (get_or t.words (8 * p.seen + 8) 0) p))
 scan_kept lanes t r id p seated shut inside =
     let i : ℕ = 8 * p.seen + 8 in let x : ℕ = get_or t.words i 0 in
     let still : (lane : ℕ) → lane < p.seen → NoneInside lane t.views = seen_still lanes t r id p seated shut in
     dite (ℕ_discrete x 0)
-    (λ none'. let q : Plan = record p { seen = p.seen + 1; found = x } in let told : scanned x p ≡ Keeps q = rw (eq-eqb x 0 none') refl in
+    (λ none'. let q : GatePlan = record p { seen = p.seen + 1; found = x } in let told : scanned x p ≡ Keeps q = rw (eq-eqb x 0 none') refl in
     let empty : users p.seen t.views ≡ 0 = sym (r.counts p.seen inside) ∙ none' in
     let here : NoneInside p.seen t.views = λ j v e. inside_counts p.seen v (let few : bit (is_user p.seen v) ≤ users p.seen t.views = total_at (λ y. bit (is_user p.seen y)) t.views j v e in omega arith) in
-    subst (λ (w : View). Kept lanes (moved t i (λ n. n) id w)) (sym told)
+    subst (λ (w : GateView). Kept lanes (moved t i (λ n. n) id w)) (sym told)
     (scan_loads lanes t r i id p q seated refl refl refl (λ lane less. dite (ℕ_discrete lane p.seen)
     (λ e. subst (λ (z : ℕ). NoneInside z t.views) (sym e) here) (λ other. still lane (omega arith)))))
-    (λ used. let q : Plan = record p { found = x } in let told : scanned x p ≡ Keeps q = rw (ne_eqb x 0 used) refl in
-    subst (λ (w : View). Kept lanes (moved t i (λ n. n) id w)) (sym told)
+    (λ used. let q : GatePlan = record p { found = x } in let told : scanned x p ≡ Keeps q = rw (ne_eqb x 0 used) refl in
+    subst (λ (w : GateView). Kept lanes (moved t i (λ n. n) id w)) (sym told)
     (scan_loads lanes t r i id p q seated refl refl refl still))
 
-pub open_kept : (lanes : ℕ) (t : Table) (r : Kept lanes t) (id : ℕ) (p : Plan) → Has t id (Keeps p) → IsOver lanes p
+pub open_kept : (lanes : ℕ) (t : Table) (r : Kept lanes t) (id : ℕ) (p : GatePlan) → Has t id (Keeps p) → IsOver lanes p
     → Kept lanes (moved t 0 (λ _. gate_word (p.number + 1) false) id (Keeps (next_plan p)))
 open_kept lanes t r id p seated over =
     let mine = r.seats id (Keeps p) seated in
     let clear : (lane : ℕ) → lane < lanes → NoneInside lane t.views = λ lane less. seen_still lanes t r id p seated over.shut lane (subst (λ (z : ℕ). lane < z) (sym over.seen) less) in
     stores lanes t r id p (next_plan p) seated refl refl (others_next lanes t r id (next_plan p) mine.1 clear)
 
-pub sleep_kept : (lanes : ℕ) (t : Table) (r : Kept lanes t) (id : ℕ) (p : Plan) (f : ℕ → ℕ) → Has t id (Keeps p) → Kept lanes (moved t 1 f id (Keeps p))
+pub sleep_kept : (lanes : ℕ) (t : Table) (r : Kept lanes t) (id : ℕ) (p : GatePlan) (f : ℕ → ℕ) → Has t id (Keeps p) → Kept lanes (moved t 1 f id (Keeps p))
 sleep_kept lanes t r id p f seated =
     let mine = r.seats id (Keeps p) seated in let n : ℕ = f (get_or t.words 1 0) in let few = r.few in
     moves lanes t r id (Keeps p) (Keeps p) r.plan (set t.words 1 n) seated (length-set t.words 1 n ∙ r.wide)
@@ -301,12 +301,12 @@ sleep_kept lanes t r id p f seated =
     (λ shut lane less. none_stays lane t.views id (Keeps p) refl (r.still shut lane less)) mine (λ j x _ e. r.seats j x e)
 
 -- a seat makes the pass that it counted, under a plan
-passes_kept : (lanes : ℕ) (t : Table) (r : Kept lanes t) (id : ℕ) (v : View) (p : Plan) → Has t id v → due_from v ≡ 1 → counted_by v ≡ 1 → ((lane : ℕ) → is_user lane v ≡ false)
+passes_kept : (lanes : ℕ) (t : Table) (r : Kept lanes t) (id : ℕ) (v : GateView) (p : GatePlan) → Has t id v → due_from v ≡ 1 → counted_by v ≡ 1 → ((lane : ℕ) → is_user lane v ≡ false)
     → due_from (pass_made v) ≡ 0 → counted_by (pass_made v) ≡ 0 → ((lane : ℕ) → is_user lane (pass_made v) ≡ false) → ((lane : ℕ) → is_inside lane (pass_made v) ≡ false)
-    → p.number ≡ r.plan.number → p.shut ≡ r.plan.shut → p.seen ≡ r.plan.seen → Knows lanes p id (pass_made v) → ((j : ℕ) (x : View) → j ≢ id → Has t j x → Knows lanes p j x)
+    → p.number ≡ r.plan.number → p.shut ≡ r.plan.shut → p.seen ≡ r.plan.seen → Knows lanes p id (pass_made v) → ((j : ℕ) (x : GateView) → j ≢ id → Has t j x → Knows lanes p j x)
     → Kept lanes (with_pass t id v)
 passes_kept lanes t r id v p seated due counted nowhere due' counted' nowhere' outside number shut seen mine others =
-    let w : View = pass_made v in let views : List View = set t.views id w in let long = length-set t.views id w in let long' : length (views ++ Outside 0 ∷ []) ≡ length views + 1 = length-append views (Outside 0 ∷ []) in record {
+    let w : GateView = pass_made v in let views : List GateView = set t.views id w in let long = length-set t.views id w in let long' : length (views ++ Outside 0 ∷ []) ≡ length views + 1 = length-append views (Outside 0 ∷ []) in record {
       plan = p;
       wide = r.wide;
       word = r.word ∙ (λ i. gate_word (sym number i) (sym shut i));
@@ -317,18 +317,18 @@ passes_kept lanes t r id v p seated due counted nowhere due' counted' nowhere' o
       still = λ is lane less. none_comes lane views (Outside 0) refl (none_stays lane t.views id w (outside lane) (r.still (sym shut ∙ is) lane (subst (λ (z : ℕ). lane < z) seen less)));
       seats = λ j x e. ⊎_elim
           (λ (old : get_elem? views j ≡ some x). ⊎_elim
-          (λ (s : (j ≡ id) × (w ≡ x)). subst (λ (y : ℕ × View). Knows lanes p y.0 y.1) (λ i. (sym s.0 i, s.1 i)) mine)
+          (λ (s : (j ≡ id) × (w ≡ x)). subst (λ (y : ℕ × GateView). Knows lanes p y.0 y.1) (λ i. (sym s.0 i, s.1 i)) mine)
           (λ (s : (j ≢ id) × Has t j x). others j x s.0 s.1)
           (at_set t.views id j w x old))
-          (λ (same : Outside 0 ≡ x). subst (λ (y : View). Knows lanes p j y) same tt)
+          (λ (same : Outside 0 ≡ x). subst (λ (y : GateView). Knows lanes p j y) same tt)
           (at_snoc views (Outside 0) x j e);
     }
 
-pub pass_kept : (lanes : ℕ) (t : Table) (r : Kept lanes t) (id : ℕ) (v : View) → Has t id v → due_from v ≡ 1 → Kept lanes (with_pass t id v)
+pub pass_kept : (lanes : ℕ) (t : Table) (r : Kept lanes t) (id : ℕ) (v : GateView) → Has t id v → due_from v ≡ 1 → Kept lanes (with_pass t id v)
 pass_kept lanes t r id (Keeps p) seated due =
-    let mine = r.seats id (Keeps p) seated in let q : Plan = record p { spare = false } in
-    passes_kept lanes t r id (Keeps p) q seated due due (λ lane. refl) refl refl (λ lane. refl) (λ lane. refl) (ap (λ (z : Plan). z.number) mine.0) (ap (λ (z : Plan). z.shut) mine.0) (ap (λ (z : Plan). z.seen) mine.0) (refl, mine.1)
-    (others_same lanes t r id q mine.1 (ap (λ (z : Plan). z.number) mine.0))
+    let mine = r.seats id (Keeps p) seated in let q : GatePlan = record p { spare = false } in
+    passes_kept lanes t r id (Keeps p) q seated due due (λ lane. refl) refl refl (λ lane. refl) (λ lane. refl) (ap (λ (z : GatePlan). z.number) mine.0) (ap (λ (z : GatePlan). z.shut) mine.0) (ap (λ (z : GatePlan). z.seen) mine.0) (refl, mine.1)
+    (others_same lanes t r id q mine.1 (ap (λ (z : GatePlan). z.number) mine.0))
 pass_kept lanes t r id Counted seated due = passes_kept lanes t r id Counted r.plan seated refl refl (λ lane. refl) refl refl (λ lane. refl) (λ lane. refl) refl refl refl tt (λ j x _ e. r.seats j x e)
 pass_kept lanes t r id (Outside f) seated due = absurd (omega arith)
 pass_kept lanes t r id (OneTooMany f) seated due = absurd (omega arith)
@@ -338,7 +338,7 @@ pass_kept lanes t r id (Turned k f) seated due = absurd (omega arith)
 pass_kept lanes t r id (Broken k n) seated due = absurd (omega arith)
 pass_kept lanes t r id (Restored k n) seated due = absurd (omega arith)
 
-first_only : (v s : View) (j : ℕ) → get_elem? (v ∷ []) j ≡ some s → (j ≡ 0) × (v ≡ s)
+first_only : (v s : GateView) (j : ℕ) → get_elem? (v ∷ []) j ≡ some s → (j ≡ 0) × (v ≡ s)
 first_only v s zero e = (refl, some-injective v s e)
 first_only v s (suc j) e = absurd (some-ne-none s (sym e))
 
@@ -346,19 +346,19 @@ pub opening_kept : (lanes : ℕ) → Kept lanes (opening (new_words lanes) [] (o
 opening_kept lanes =
     let z : ℕ = 0 in let zeros : List ℕ = replicate (8 * lanes + 8) z in let long = length-replicate (8 * lanes + 8) z in let one : ℕ = 1 in let two : ℕ = 2 in
     let words : List ℕ = set zeros 0 one in let long' : length words ≡ 8 * lanes + 8 = length-set zeros 0 one ∙ long in
-    let first : Plan = record { number = 0; shut = true; seen = lanes; found = 0; spare = true } in record {
+    let first : GatePlan = record { number = 0; shut = true; seen = lanes; found = 0; spare = true } in record {
       plan = first;
       wide = length-set words 2 two ∙ long';
       word = get_or-set_other words 2 0 two 0 (λ e. omega arith) ∙ get_or-set_same zeros 0 one 0 (omega arith);
       passes = get_or-set_same words 2 two 0 (omega arith);
       few = omega arith;
       counts = λ lane inside. get_or-set_other words 2 (8 * lane + 8) two 0 (λ e. omega arith) ∙ get_or-set_other zeros 0 (8 * lane + 8) one 0 (λ e. omega arith) ∙ get_or-replicate (8 * lanes + 8) (8 * lane + 8) z z (omega arith);
-      still = λ _ lane less j v e. let f = first_only (opened lanes) v j e in subst (λ (x : View). is_inside lane x ≡ false) f.1 refl;
-      seats = λ j v e. let f = first_only (opened lanes) v j e in subst (λ (y : ℕ × View). Knows lanes first y.0 y.1) (λ i. (sym f.0 i, f.1 i)) (refl, refl);
+      still = λ _ lane less j v e. let f = first_only (opened lanes) v j e in subst (λ (x : GateView). is_inside lane x ≡ false) f.1 refl;
+      seats = λ j v e. let f = first_only (opened lanes) v j e in subst (λ (y : ℕ × GateView). Knows lanes first y.0 y.1) (λ i. (sym f.0 i, f.1 i)) (refl, refl);
     }
 
 -- nobody is inside if the keeper has seen all lanes empty
-pub nobody_inside : (lanes : ℕ) (t : Table) (r : Kept lanes t) (id : ℕ) (p : Plan) → Has t id (Keeps p) → IsOver lanes p
+pub nobody_inside : (lanes : ℕ) (t : Table) (r : Kept lanes t) (id : ℕ) (p : GatePlan) → Has t id (Keeps p) → IsOver lanes p
     → (seat lane n : ℕ) → Has t seat (Inside lane n) → ⊥
 nobody_inside lanes t r id p seated over seat lane n inside =
     let within : lane < lanes = (r.seats seat (Inside lane n) inside).0 in

@@ -5,9 +5,9 @@ use mathlib.Core.Option.{some, some-injective}
 use native.Mathlib.Decide.{ℕ_discrete}
 use lib.ListN.{get_elem?}
 use Rattle.atomic_table.proofs.Lists.{at_set, at_snoc, set_here, set_else, at_longer}
-use Rattle.kf_gates.specs.declared.view.Plan.{Plan}
-use Rattle.kf_gates.specs.declared.view.View.{View}
-use Rattle.kf_gates.specs.declared.view.View.TheVariants.{Keeps, Outside, Counted, OneTooMany, Knocking, Inside, Turned, Broken, Restored}
+use Rattle.kf_gates.specs.declared.view.GatePlan.{GatePlan}
+use Rattle.kf_gates.specs.declared.view.GateView.{GateView}
+use Rattle.kf_gates.specs.declared.view.GateView.TheVariants.{Keeps, Outside, Counted, OneTooMany, Knocking, Inside, Turned, Broken, Restored}
 use Rattle.kf_gates.specs.Rule.{Table, bit, gate_word, most_passes, Kept}
 use Rattle.kf_gates.specs.Laws.{Has}
 use Rattle.kf_gates.specs.Steps.{after_count, looked, next_plan, pass_made, scanned, shut_plan, stepped_off, uncounted}
@@ -36,17 +36,17 @@ rule_kept lanes t u (kind ∷ kinds) r s = rule_kept lanes s.0 u kinds (step_kee
 
 -- what one step makes of the keeper's plan: it stays, except for a pass; the gate is shut; a lane was looked at; the
 -- next opening begins
-data Onward (lanes : ℕ) (p q : Plan) : Type 0 where
+data Onward (lanes : ℕ) (p q : GatePlan) : Type 0 where
   stays : q.number ≡ p.number → q.shut ≡ p.shut → q.seen ≡ p.seen → Onward lanes p q
   is_shut : p.shut ≡ false → q.number ≡ p.number → q.shut ≡ true → Onward lanes p q
   looks_on : p.seen < lanes → q.number ≡ p.number → q.shut ≡ p.shut → Onward lanes p q
   begins : q.number ≡ p.number + 1 → Onward lanes p q
 
 -- the keeper's plan after a step
-abbrev After : ℕ → Plan → Table → Type 0
-After lanes p u = (q : Plan) × Has u 0 (Keeps q) × Onward lanes p q
+abbrev After : ℕ → GatePlan → Table → Type 0
+After lanes p u = (q : GatePlan) × Has u 0 (Keeps q) × Onward lanes p q
 
-abbrev is_keeper : View → Bool
+abbrev is_keeper : GateView → Bool
 is_keeper (Keeps p) = true
 is_keeper (Outside f) = false
 is_keeper Counted = false
@@ -60,25 +60,25 @@ is_keeper (Restored k n) = false
 not_both : false ≡ true → ⊥
 not_both e = let one : bit false ≡ bit true = ap bit e in omega arith
 
-other_seat : (t : Table) (j : ℕ) (v : View) (p : Plan) → Has t j v → is_keeper v ≡ false → Has t 0 (Keeps p) → 0 ≢ j
+other_seat : (t : Table) (j : ℕ) (v : GateView) (p : GatePlan) → Has t j v → is_keeper v ≡ false → Has t 0 (Keeps p) → 0 ≢ j
 other_seat t j v p at caller keeper e =
     let same : v ≡ Keeps p = some-injective v (Keeps p) (sym at ∙ ap (λ (x : ℕ). get_elem? t.views x) (sym e) ∙ keeper) in
     not_both (sym caller ∙ ap is_keeper same)
 
 -- a step of a seat that is not the keeper's leaves the keeper's plan
-other_moves : (lanes : ℕ) (t : Table) (i : ℕ) (f : ℕ → ℕ) (j : ℕ) (v w : View) (p : Plan) → Has t j v → is_keeper v ≡ false → Has t 0 (Keeps p) → After lanes p (moved t i f j w)
+other_moves : (lanes : ℕ) (t : Table) (i : ℕ) (f : ℕ → ℕ) (j : ℕ) (v w : GateView) (p : GatePlan) → Has t j v → is_keeper v ≡ false → Has t 0 (Keeps p) → After lanes p (moved t i f j w)
 other_moves lanes t i f j v w p at caller keeper = (p, set_else t.views j 0 w (other_seat t j v p at caller keeper) ∙ keeper, stays refl refl refl)
 
 -- a step of the keeper: its plan is first in the table after it
-keeper_moves : (lanes : ℕ) (t : Table) (r : Kept lanes t) (i : ℕ) (f : ℕ → ℕ) (j : ℕ) (p p' q : Plan) → Has t j (Keeps p) → Has t 0 (Keeps p') → Onward lanes p q → After lanes p' (moved t i f j (Keeps q))
+keeper_moves : (lanes : ℕ) (t : Table) (r : Kept lanes t) (i : ℕ) (f : ℕ → ℕ) (j : ℕ) (p p' q : GatePlan) → Has t j (Keeps p) → Has t 0 (Keeps p') → Onward lanes p q → After lanes p' (moved t i f j (Keeps q))
 keeper_moves lanes t r i f j p p' q at keeper onward =
     let first = (r.seats j (Keeps p) at).1 in let same : p ≡ p' = (r.seats j (Keeps p) at).0 ∙ sym (r.seats 0 (Keeps p') keeper).0 in
-    (q, subst (λ (x : ℕ). get_elem? (set t.views x (Keeps q)) 0 ≡ some (Keeps q)) (sym first) (set_here t.views 0 (Keeps q) (there t.views 0 (Keeps p') keeper)), subst (λ (x : Plan). Onward lanes x q) same onward)
+    (q, subst (λ (x : ℕ). get_elem? (set t.views x (Keeps q)) 0 ≡ some (Keeps q)) (sym first) (set_here t.views 0 (Keeps q) (there t.views 0 (Keeps p') keeper)), subst (λ (x : GatePlan). Onward lanes x q) same onward)
 
-pass_moves : (lanes : ℕ) (t : Table) (r : Kept lanes t) (j : ℕ) (v : View) (p : Plan) → Has t j v → Has t 0 (Keeps p) → After lanes p (moved t 0 (λ n. n) j (pass_made v)) → After lanes p (with_pass t j v)
+pass_moves : (lanes : ℕ) (t : Table) (r : Kept lanes t) (j : ℕ) (v : GateView) (p : GatePlan) → Has t j v → Has t 0 (Keeps p) → After lanes p (moved t 0 (λ n. n) j (pass_made v)) → After lanes p (with_pass t j v)
 pass_moves lanes t r j v p at keeper after = (after.0, at_longer (set t.views j (pass_made v)) (Outside 0 ∷ []) 0 (Keeps after.0) after.1, after.2)
 
-makes_onward : (lanes : ℕ) (t : Table) (r : Kept lanes t) (j : ℕ) (v : View) (p : Plan) → Has t j v → Has t 0 (Keeps p) → After lanes p (with_pass t j v)
+makes_onward : (lanes : ℕ) (t : Table) (r : Kept lanes t) (j : ℕ) (v : GateView) (p : GatePlan) → Has t j v → Has t 0 (Keeps p) → After lanes p (with_pass t j v)
 makes_onward lanes t r j (Keeps q) p at keeper = pass_moves lanes t r j (Keeps q) p at keeper (keeper_moves lanes t r 0 (λ n. n) j q p (record q { spare = false }) at keeper (stays refl refl refl))
 makes_onward lanes t r j (Outside f) p at keeper = pass_moves lanes t r j (Outside f) p at keeper (other_moves lanes t 0 (λ n. n) j (Outside f) (Outside f) p at refl keeper)
 makes_onward lanes t r j Counted p at keeper = pass_moves lanes t r j Counted p at keeper (other_moves lanes t 0 (λ n. n) j Counted (Outside 0) p at refl keeper)
@@ -89,7 +89,7 @@ makes_onward lanes t r j (Turned k f) p at keeper = pass_moves lanes t r j (Turn
 makes_onward lanes t r j (Broken k n) p at keeper = pass_moves lanes t r j (Broken k n) p at keeper (other_moves lanes t 0 (λ n. n) j (Broken k n) (Broken k n) p at refl keeper)
 makes_onward lanes t r j (Restored k n) p at keeper = pass_moves lanes t r j (Restored k n) p at keeper (other_moves lanes t 0 (λ n. n) j (Restored k n) (Restored k n) p at refl keeper)
 
-counting_caller : (k : ℕ) (v : View) → CountsIn k v → is_keeper v ≡ false
+counting_caller : (k : ℕ) (v : GateView) → CountsIn k v → is_keeper v ≡ false
 counting_caller k (Keeps p) c = absurd c
 counting_caller k (Outside f) c = refl
 counting_caller k Counted c = refl
@@ -100,7 +100,7 @@ counting_caller k (Turned j f) c = refl
 counting_caller k (Broken j n) c = refl
 counting_caller k (Restored j n) c = refl
 
-uncounting_caller : (v : View) → MayUncount v → is_keeper v ≡ false
+uncounting_caller : (v : GateView) → MayUncount v → is_keeper v ≡ false
 uncounting_caller (Keeps p) c = absurd c
 uncounting_caller (Outside f) c = refl
 uncounting_caller Counted c = refl
@@ -111,7 +111,7 @@ uncounting_caller (Turned j f) c = refl
 uncounting_caller (Broken j n) c = refl
 uncounting_caller (Restored j n) c = refl
 
-goes_onward : (lanes : ℕ) (t u : Table) (kind : Kind) (r : Kept lanes t) → GateStep lanes t kind u → (p : Plan) → Has t 0 (Keeps p) → After lanes p u
+goes_onward : (lanes : ℕ) (t u : Table) (kind : Kind) (r : Kept lanes t) → GateStep lanes t kind u → (p : GatePlan) → Has t 0 (Keeps p) → After lanes p u
 goes_onward lanes t u (knocks j k f) r s p keeper = subst (After lanes p) (sym s.2) (other_moves lanes t (8 * k + 8) one_more j (Outside f) (Knocking k) p s.0 refl keeper)
 goes_onward lanes t u (looks j k) r s p keeper = subst (After lanes p) (sym s.1) (other_moves lanes t 0 (λ n. n) j (Knocking k) (looked (get_or t.words 0 0) k) p s.0 refl keeper)
 goes_onward lanes t u (leaves j k v) r s p keeper = subst (After lanes p) (sym s.3) (other_moves lanes t (8 * k + 8) one_less j v (stepped_off v) p s.0 (counting_caller k v s.1) keeper)
@@ -125,10 +125,10 @@ goes_onward lanes t u (scans j q) r s p keeper =
     let i : ℕ = 8 * q.seen + 8 in let x : ℕ = get_or t.words i 0 in
     subst (After lanes p) (sym s.3) (keeper_moves lanes t r i (λ n. n) j q p (record q { seen = if_seen x q; found = x }) s.0 keeper (looks_on s.2 refl refl))
   where
-    if_seen : ℕ → Plan → ℕ
+    if_seen : ℕ → GatePlan → ℕ
     if_seen x q = plan_seen (scanned x q)
       where
-        plan_seen : View → ℕ
+        plan_seen : GateView → ℕ
         plan_seen (Keeps y) = y.seen
         plan_seen (Outside f) = 0
         plan_seen Counted = 0
@@ -142,10 +142,10 @@ goes_onward lanes t u (opens j q) r s p keeper = subst (After lanes p) (sym s.2)
 goes_onward lanes t u (counts_sleep j q n) r s p keeper = subst (After lanes p) (sym s.1) (keeper_moves lanes t r 1 (λ _. n) j q p q s.0 keeper (stays refl refl refl))
 
 -- the opening of this number is over, or the gate has been opened since
-abbrev Over : ℕ → ℕ → Plan → Type 0
+abbrev Over : ℕ → ℕ → GatePlan → Type 0
 Over lanes n p = (n < p.number) ⊎ ((p.number ≡ n) × (p.shut ≡ true) × (p.seen ≡ lanes))
 
-over_onward : (lanes n : ℕ) (p q : Plan) → Onward lanes p q → Over lanes n p → Over lanes n q
+over_onward : (lanes n : ℕ) (p q : GatePlan) → Onward lanes p q → Over lanes n p → Over lanes n q
 over_onward lanes n p q (stays number shut seen) (inl later) = inl (omega arith)
 over_onward lanes n p q (stays number shut seen) (inr now) = inr (number ∙ now.0, shut ∙ now.1, seen ∙ now.2)
 over_onward lanes n p q (is_shut was number shut) (inl later) = inl (omega arith)
@@ -156,10 +156,10 @@ over_onward lanes n p q (begins number) (inl later) = inl (omega arith)
 over_onward lanes n p q (begins number) (inr now) = let same = now.0 in inl (omega arith)
 
 -- the gate has been shut since it was opened under this number
-abbrev Past : ℕ → Plan → Type 0
+abbrev Past : ℕ → GatePlan → Type 0
 Past n p = (n < p.number) ⊎ ((p.number ≡ n) × (p.shut ≡ true))
 
-past_onward : (lanes n : ℕ) (p q : Plan) → Onward lanes p q → Past n p → Past n q
+past_onward : (lanes n : ℕ) (p q : GatePlan) → Onward lanes p q → Past n p → Past n q
 past_onward lanes n p q (stays number shut seen) (inl later) = inl (omega arith)
 past_onward lanes n p q (stays number shut seen) (inr now) = inr (number ∙ now.0, shut ∙ now.1)
 past_onward lanes n p q (is_shut was number shut) (inl later) = inl (omega arith)
@@ -169,8 +169,8 @@ past_onward lanes n p q (looks_on less number shut) (inr now) = inr (number ∙ 
 past_onward lanes n p q (begins number) (inl later) = inl (omega arith)
 past_onward lanes n p q (begins number) (inr now) = let same = now.0 in inl (omega arith)
 
-run_over : (lanes n : ℕ) (t u : Table) (kinds : List Kind) → Kept lanes t → GateRun lanes t kinds u → (p : Plan) → Has t 0 (Keeps p) → Over lanes n p → (q : Plan) × Has u 0 (Keeps q) × Over lanes n q
-run_over lanes n t u [] r e p keeper over = subst (λ (x : Table). (q : Plan) × Has x 0 (Keeps q) × Over lanes n q) (sym e) (p, keeper, over)
+run_over : (lanes n : ℕ) (t u : Table) (kinds : List Kind) → Kept lanes t → GateRun lanes t kinds u → (p : GatePlan) → Has t 0 (Keeps p) → Over lanes n p → (q : GatePlan) × Has u 0 (Keeps q) × Over lanes n q
+run_over lanes n t u [] r e p keeper over = subst (λ (x : Table). (q : GatePlan) × Has x 0 (Keeps q) × Over lanes n q) (sym e) (p, keeper, over)
 run_over lanes n t u (kind ∷ kinds) r s p keeper over =
     let after = goes_onward lanes t s.0 kind r s.1 p keeper in
     run_over lanes n s.0 u kinds (step_keeps lanes t s.0 kind r s.1) s.2 after.0 after.1 (over_onward lanes n p after.0 after.2 over)
@@ -179,14 +179,14 @@ pub closed_for_good : ClosedForGood
 closed_for_good lanes t u kinds r run p keeper over seat lane number inside =
     let after : Kept lanes u = rule_kept lanes t u kinds r run in
     let end = run_over lanes p.number t u kinds r run p keeper (inr (refl, over.shut, over.seen)) in
-    let q : Plan = end.0 in
-    let its : number ≡ q.number = (after.seats seat (Inside lane number) inside).1 ∙ ap (λ (x : Plan). x.number) (sym (after.seats 0 (Keeps q) end.1).0) in
+    let q : GatePlan = end.0 in
+    let its : number ≡ q.number = (after.seats seat (Inside lane number) inside).1 ∙ ap (λ (x : GatePlan). x.number) (sym (after.seats 0 (Keeps q) end.1).0) in
     ⊎_elim (λ (later : p.number < q.number). omega arith)
     (λ (now : (q.number ≡ p.number) × (q.shut ≡ true) × (q.seen ≡ lanes)). absurd (nobody_inside lanes u after 0 q end.1 (record { shut = now.1; seen = now.2 }) seat lane number inside))
     end.2
 
 -- a view under which its seat is inside, under this number
-abbrev inside_under : ℕ → View → Bool
+abbrev inside_under : ℕ → GateView → Bool
 inside_under n (Keeps p) = false
 inside_under n (Outside f) = false
 inside_under n Counted = false
@@ -198,13 +198,13 @@ inside_under n (Broken k m) = false
 inside_under n (Restored k m) = false
 
 -- a step that lets nobody in under the number
-lets_none : (t : Table) (i : ℕ) (f : ℕ → ℕ) (j n : ℕ) (w : View) → inside_under n w ≡ false → (seat lane : ℕ) → Has (moved t i f j w) seat (Inside lane n) → Has t seat (Inside lane n)
+lets_none : (t : Table) (i : ℕ) (f : ℕ → ℕ) (j n : ℕ) (w : GateView) → inside_under n w ≡ false → (seat lane : ℕ) → Has (moved t i f j w) seat (Inside lane n) → Has t seat (Inside lane n)
 lets_none t i f j n w out seat lane inside = ⊎_elim
     (λ (here : (seat ≡ j) × (w ≡ Inside lane n)). absurd (not_both (sym (sym (ap (inside_under n) here.1) ∙ out) ∙ eq-eqb n n refl)))
     (λ (else : (seat ≢ j) × Has t seat (Inside lane n)). else.1)
     (at_set t.views j seat w (Inside lane n) inside)
 
-stepped_out : (n : ℕ) (k : ℕ) (v : View) → CountsIn k v → inside_under n (stepped_off v) ≡ false
+stepped_out : (n : ℕ) (k : ℕ) (v : GateView) → CountsIn k v → inside_under n (stepped_off v) ≡ false
 stepped_out n k (Keeps p) c = absurd c
 stepped_out n k (Outside f) c = refl
 stepped_out n k Counted c = refl
@@ -215,7 +215,7 @@ stepped_out n k (Turned j f) c = refl
 stepped_out n k (Broken j m) c = refl
 stepped_out n k (Restored j m) c = refl
 
-uncounted_out : (n : ℕ) (v : View) → MayUncount v → inside_under n (uncounted v) ≡ false
+uncounted_out : (n : ℕ) (v : GateView) → MayUncount v → inside_under n (uncounted v) ≡ false
 uncounted_out n (Keeps p) c = absurd c
 uncounted_out n (Outside f) c = refl
 uncounted_out n Counted c = refl
@@ -234,18 +234,18 @@ counted_out n found = split (ltb found most_passes) refl
     split false e = let told : after_count found ≡ OneTooMany found = rw e refl in ap (inside_under n) told
 
 -- a look past the mark
-looked_out : (lanes : ℕ) (t : Table) (r : Kept lanes t) (n k : ℕ) (p : Plan) → Has t 0 (Keeps p) → Past n p → inside_under n (looked (get_or t.words 0 0) k) ≡ false
+looked_out : (lanes : ℕ) (t : Table) (r : Kept lanes t) (n k : ℕ) (p : GatePlan) → Has t 0 (Keeps p) → Past n p → inside_under n (looked (get_or t.words 0 0) k) ≡ false
 looked_out lanes t r n k p keeper past =
     let x : ℕ = get_or t.words 0 0 in let same = (r.seats 0 (Keeps p) keeper).0 in
     dite (ℕ_discrete (x % 2) 0)
     (λ even. let told : looked x k ≡ Inside k (x / 2) = rw (eq-eqb (x % 2) 0 even) refl in
-    let number : x / 2 ≡ p.number = half r.plan.shut r.plan.number x r.word ∙ sym (ap (λ (q : Plan). q.number) same) in
+    let number : x / 2 ≡ p.number = half r.plan.shut r.plan.number x r.word ∙ sym (ap (λ (q : GatePlan). q.number) same) in
     ap (inside_under n) told ∙ ne_eqb (x / 2) n (λ e. ⊎_elim
     (λ (later : n < p.number). omega arith)
-    (λ (now : (p.number ≡ n) × (p.shut ≡ true)). let odd : x % 2 ≡ 1 = odd_of r.plan.shut r.plan.number x r.word (sym (ap (λ (q : Plan). q.shut) same) ∙ now.1) in omega arith) past))
+    (λ (now : (p.number ≡ n) × (p.shut ≡ true)). let odd : x % 2 ≡ 1 = odd_of r.plan.shut r.plan.number x r.word (sym (ap (λ (q : GatePlan). q.shut) same) ∙ now.1) in omega arith) past))
     (λ odd. let told : looked x k ≡ Turned k x = rw (ne_eqb (x % 2) 0 odd) refl in ap (inside_under n) told)
 
-passed_out : (t : Table) (j n : ℕ) (v : View) → Has t j v → (seat lane : ℕ) → Has (with_pass t j v) seat (Inside lane n) → Has t seat (Inside lane n)
+passed_out : (t : Table) (j n : ℕ) (v : GateView) → Has t j v → (seat lane : ℕ) → Has (with_pass t j v) seat (Inside lane n) → Has t seat (Inside lane n)
 passed_out t j n v at seat lane inside = ⊎_elim
     (λ (old : get_elem? (set t.views j (pass_made v)) seat ≡ some (Inside lane n)). ⊎_elim
     (λ (here : (seat ≡ j) × (pass_made v ≡ Inside lane n)). subst (λ (x : ℕ). Has t x (Inside lane n)) (sym here.0) (subst (Has t j) (unmade v here.1) at))
@@ -254,7 +254,7 @@ passed_out t j n v at seat lane inside = ⊎_elim
     (λ (same : Outside 0 ≡ Inside lane n). absurd (not_both (ap (inside_under n) same ∙ eq-eqb n n refl)))
     (at_snoc (set t.views j (pass_made v)) (Outside 0) (Inside lane n) seat inside)
   where
-    unmade : (y : View) → pass_made y ≡ Inside lane n → y ≡ Inside lane n
+    unmade : (y : GateView) → pass_made y ≡ Inside lane n → y ≡ Inside lane n
     unmade (Keeps p) e = absurd (not_both (ap (inside_under n) e ∙ eq-eqb n n refl))
     unmade (Outside f) e = e
     unmade Counted e = absurd (not_both (ap (inside_under n) e ∙ eq-eqb n n refl))
@@ -266,7 +266,7 @@ passed_out t j n v at seat lane inside = ⊎_elim
     unmade (Restored k m) e = e
 
 -- no step past the mark lets anybody in under the number
-none_enters : (lanes n : ℕ) (t u : Table) (kind : Kind) (r : Kept lanes t) → GateStep lanes t kind u → (p : Plan) → Has t 0 (Keeps p) → Past n p
+none_enters : (lanes n : ℕ) (t u : Table) (kind : Kind) (r : Kept lanes t) → GateStep lanes t kind u → (p : GatePlan) → Has t 0 (Keeps p) → Past n p
     → (seat lane : ℕ) → Has u seat (Inside lane n) → Has t seat (Inside lane n)
 none_enters lanes n t u (knocks j k f) r s p keeper past seat lane inside = lets_none t (8 * k + 8) one_more j n (Knocking k) refl seat lane (subst (λ (x : Table). Has x seat (Inside lane n)) s.2 inside)
 none_enters lanes n t u (looks j k) r s p keeper past seat lane inside =
@@ -284,7 +284,7 @@ none_enters lanes n t u (scans j q) r s p keeper past seat lane inside =
 none_enters lanes n t u (opens j q) r s p keeper past seat lane inside = lets_none t 0 (λ _. gate_word (q.number + 1) false) j n (Keeps (next_plan q)) refl seat lane (subst (λ (x : Table). Has x seat (Inside lane n)) s.2 inside)
 none_enters lanes n t u (counts_sleep j q m) r s p keeper past seat lane inside = lets_none t 1 (λ _. m) j n (Keeps q) refl seat lane (subst (λ (x : Table). Has x seat (Inside lane n)) s.1 inside)
 
-run_past : (lanes n : ℕ) (t u : Table) (kinds : List Kind) → Kept lanes t → GateRun lanes t kinds u → (p : Plan) → Has t 0 (Keeps p) → Past n p
+run_past : (lanes n : ℕ) (t u : Table) (kinds : List Kind) → Kept lanes t → GateRun lanes t kinds u → (p : GatePlan) → Has t 0 (Keeps p) → Past n p
     → (seat lane : ℕ) → Has u seat (Inside lane n) → Has t seat (Inside lane n)
 run_past lanes n t u [] r e p keeper past seat lane inside = subst (λ (x : Table). Has x seat (Inside lane n)) e inside
 run_past lanes n t u (kind ∷ kinds) r s p keeper past seat lane inside =

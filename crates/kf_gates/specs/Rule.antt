@@ -3,12 +3,12 @@ use Rattle.std.specs.Prelude.{◌≡◌, ℕ, ◌+◌, ◌*◌, ◌<◌, ◌≤�
 use mathlib.Core.Option.{some}
 use lib.ListN.{get_elem?}
 use Rattle.atomic_table.specs.Table.{State}
-use Rattle.kf_gates.specs.declared.view.Plan.{Plan}
-use Rattle.kf_gates.specs.declared.view.View.{View}
-use Rattle.kf_gates.specs.declared.view.View.TheVariants.{Keeps, Outside, Counted, OneTooMany, Knocking, Inside, Turned, Broken, Restored}
+use Rattle.kf_gates.specs.declared.view.GatePlan.{GatePlan}
+use Rattle.kf_gates.specs.declared.view.GateView.{GateView}
+use Rattle.kf_gates.specs.declared.view.GateView.TheVariants.{Keeps, Outside, Counted, OneTooMany, Knocking, Inside, Turned, Broken, Restored}
 
 abbrev pub Table : Type 0
-Table = State (Unit {0}) View
+Table = State (Unit {0}) GateView
 
 -- 1 if it is set
 abbrev pub bit : Bool → ℕ
@@ -24,7 +24,7 @@ abbrev pub most_passes : ℕ
 most_passes = 4294967296
 
 -- the seat counts in this lane
-abbrev pub is_user : ℕ → View → Bool
+abbrev pub is_user : ℕ → GateView → Bool
 is_user lane (Keeps p) = false
 is_user lane (Outside f) = false
 is_user lane Counted = false
@@ -36,7 +36,7 @@ is_user lane (Broken k n) = false
 is_user lane (Restored k n) = k == lane
 
 -- the seat is inside, by this lane
-abbrev pub is_inside : ℕ → View → Bool
+abbrev pub is_inside : ℕ → GateView → Bool
 is_inside lane (Keeps p) = false
 is_inside lane (Outside f) = false
 is_inside lane Counted = false
@@ -48,7 +48,7 @@ is_inside lane (Broken k n) = false
 is_inside lane (Restored k n) = false
 
 -- how many passes the seat has counted that have no seat yet
-abbrev pub counted_by : View → ℕ
+abbrev pub counted_by : GateView → ℕ
 counted_by (Keeps p) = bit p.spare
 counted_by (Outside f) = 0
 counted_by Counted = 1
@@ -60,7 +60,7 @@ counted_by (Broken k n) = 0
 counted_by (Restored k n) = 0
 
 -- how many seats it may still make
-abbrev pub due_from : View → ℕ
+abbrev pub due_from : GateView → ℕ
 due_from (Keeps p) = bit p.spare
 due_from (Outside f) = 0
 due_from Counted = 1
@@ -72,21 +72,21 @@ due_from (Broken k n) = 0
 due_from (Restored k n) = 0
 
 -- the sum over all seats
-abbrev pub total : (View → ℕ) → List View → ℕ
+abbrev pub total : (GateView → ℕ) → List GateView → ℕ
 total f [] = 0
 total f (v ∷ vs) = f v + total f vs
 
 -- how many seats count in this lane
-abbrev pub users : ℕ → List View → ℕ
+abbrev pub users : ℕ → List GateView → ℕ
 users lane views = total (λ v. bit (is_user lane v)) views
 
 -- no seat is inside by this lane
-abbrev pub NoneInside : ℕ → List View → Type 0
-NoneInside lane views = (j : ℕ) (v : View) → get_elem? views j ≡ some v → is_inside lane v ≡ false
+abbrev pub NoneInside : ℕ → List GateView → Type 0
+NoneInside lane views = (j : ℕ) (v : GateView) → get_elem? views j ≡ some v → is_inside lane v ≡ false
 
 -- what a seat may know. The first seat is the keeper's, and the only one that has the plan; a lane that is
 -- named is there; whoever is inside came under the last number
-abbrev pub Knows : ℕ → Plan → ℕ → View → Type 0
+abbrev pub Knows : ℕ → GatePlan → ℕ → GateView → Type 0
 Knows lanes p j (Keeps q) = (q ≡ p) × (j ≡ 0)
 Knows lanes p j (Outside f) = Unit {0}
 Knows lanes p j Counted = Unit {0}
@@ -99,15 +99,15 @@ Knows lanes p j (Restored k n) = k < lanes
 
 -- the rule, under the keeper's plan
 pub record Kept (lanes : ℕ) (t : Table) : Type 0 where
-  pub plan : Plan
+  pub plan : GatePlan
   pub wide : length t.words ≡ 8 * lanes + 8
   pub word : slice_index t.words 0 ≡ gate_word plan.number plan.shut
   pub passes : slice_index t.words 2 ≡ length t.views + total counted_by t.views
   pub few : length t.views + total due_from t.views ≤ most_passes
   pub counts : (lane : ℕ) → lane < lanes → slice_index t.words (8 * lane + 8) ≡ users lane t.views
   pub still : plan.shut ≡ true → (lane : ℕ) → lane < plan.seen → NoneInside lane t.views
-  pub seats : (j : ℕ) (v : View) → get_elem? t.views j ≡ some v → Knows lanes plan j v
+  pub seats : (j : ℕ) (v : GateView) → get_elem? t.views j ≡ some v → Knows lanes plan j v
 
 -- a new gate is shut under the number 0, nobody was ever inside, and the keeper may make the first pass
-abbrev pub opened : ℕ → View
+abbrev pub opened : ℕ → GateView
 opened lanes = Keeps (record { number = 0; shut = true; seen = lanes; found = 0; spare = true })

@@ -1,9 +1,9 @@
 -- Runs of steps of a gate's words, by any of its seats.
 use Rattle.std.specs.Prelude.{◌≡◌, ℕ, ◌+◌, ◌*◌, ◌%◌, ◌<◌, true, false, List, [], ◌∷◌, ◌++◌, replicate, slice_index, slice_set}
 use Rattle.atomic_table.specs.Table.{opening}
-use Rattle.kf_gates.specs.declared.view.Plan.{Plan}
-use Rattle.kf_gates.specs.declared.view.View.{View}
-use Rattle.kf_gates.specs.declared.view.View.TheVariants.{Keeps, Outside, Counted, OneTooMany, Knocking, Inside, Turned, Broken, Restored}
+use Rattle.kf_gates.specs.declared.view.GatePlan.{GatePlan}
+use Rattle.kf_gates.specs.declared.view.GateView.{GateView}
+use Rattle.kf_gates.specs.declared.view.GateView.TheVariants.{Keeps, Outside, Counted, OneTooMany, Knocking, Inside, Turned, Broken, Restored}
 use Rattle.kf_gates.specs.Rule.{Table, Kept, gate_word, due_from, opened}
 use Rattle.kf_gates.specs.Steps.{after_count, looked, next_plan, pass_made, scanned, shut_plan, stepped_off, uncounted}
 use Rattle.kf_gates.specs.Laws.{Has, IsOver}
@@ -12,19 +12,19 @@ use Rattle.kf_gates.specs.Laws.{Has, IsOver}
 pub data Kind : Type 0 where
   knocks : ℕ → ℕ → ℕ → Kind
   looks : ℕ → ℕ → Kind
-  leaves : ℕ → ℕ → View → Kind
+  leaves : ℕ → ℕ → GateView → Kind
   breaks : ℕ → ℕ → ℕ → Kind
   restores : ℕ → ℕ → ℕ → Kind
   counts : ℕ → ℕ → Kind
-  uncounts : ℕ → View → Kind
-  makes_pass : ℕ → View → Kind
-  shuts : ℕ → Plan → Kind
-  scans : ℕ → Plan → Kind
-  opens : ℕ → Plan → Kind
-  counts_sleep : ℕ → Plan → ℕ → Kind
+  uncounts : ℕ → GateView → Kind
+  makes_pass : ℕ → GateView → Kind
+  shuts : ℕ → GatePlan → Kind
+  scans : ℕ → GatePlan → Kind
+  opens : ℕ → GatePlan → Kind
+  counts_sleep : ℕ → GatePlan → ℕ → Kind
 
 -- a caller in this state counts in this lane, and may step off
-abbrev pub CountsIn : ℕ → View → Type 0
+abbrev pub CountsIn : ℕ → GateView → Type 0
 CountsIn lane (Keeps p) = ⊥
 CountsIn lane (Outside f) = ⊥
 CountsIn lane Counted = ⊥
@@ -36,7 +36,7 @@ CountsIn lane (Broken k n) = ⊥
 CountsIn lane (Restored k n) = k ≡ lane
 
 -- it has counted a pass that it does not make
-abbrev pub MayUncount : View → Type 0
+abbrev pub MayUncount : GateView → Type 0
 MayUncount (Keeps p) = ⊥
 MayUncount (Outside f) = ⊥
 MayUncount Counted = Unit {0}
@@ -55,7 +55,7 @@ abbrev pub one_less : ℕ → ℕ
 one_less n = (n + 18446744073709551615) % 18446744073709551616
 
 -- the table after one word and one view have changed
-abbrev pub moved : Table → ℕ → (ℕ → ℕ) → ℕ → View → Table
+abbrev pub moved : Table → ℕ → (ℕ → ℕ) → ℕ → GateView → Table
 moved t i f j v = record {
   words = slice_set t.words i (f (slice_index t.words i));
   homes = t.homes;
@@ -63,7 +63,7 @@ moved t i f j v = record {
 }
 
 -- the table after a seat has made the pass that it counted
-abbrev pub with_pass : Table → ℕ → View → Table
+abbrev pub with_pass : Table → ℕ → GateView → Table
 with_pass t j v = record {
   words = t.words;
   homes = t.homes;
@@ -118,12 +118,12 @@ RuleKept = (lanes : ℕ) (t u : Table) (kinds : List Kind) → Kept lanes t → 
 -- any later moment was inside when the gate was shut
 abbrev pub NobodyPastTheMark : Type 0
 NobodyPastTheMark = (lanes : ℕ) (t u : Table) (kinds : List Kind) → Kept lanes t → GateRun lanes t kinds u
-    → (p : Plan) → Has t 0 (Keeps p) → p.shut ≡ true
+    → (p : GatePlan) → Has t 0 (Keeps p) → p.shut ≡ true
     → (seat lane : ℕ) → Has u seat (Inside lane p.number) → Has t seat (Inside lane p.number)
 
 -- once the keeper saw all lanes empty since it shut the gate, whoever is inside at any later moment came
 -- under a later number
 abbrev pub ClosedForGood : Type 0
 ClosedForGood = (lanes : ℕ) (t u : Table) (kinds : List Kind) → Kept lanes t → GateRun lanes t kinds u
-    → (p : Plan) → Has t 0 (Keeps p) → IsOver lanes p
+    → (p : GatePlan) → Has t 0 (Keeps p) → IsOver lanes p
     → (seat lane number : ℕ) → Has u seat (Inside lane number) → p.number < number

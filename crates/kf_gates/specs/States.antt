@@ -5,9 +5,9 @@ use Rattle.kf_core.specs.declared.caller.Phase.{Phase}
 use Rattle.kf_core.specs.declared.caller.Phase.TheVariants as phase_of
 use Rattle.kf_core.specs.declared.refusal.Refusal.{Refusal}
 use Rattle.kf_core.specs.declared.refusal.Refusal.TheVariants.{TooManyHolds, NoMemory}
-use Rattle.kf_gates.specs.declared.view.Plan.{Plan}
-use Rattle.kf_gates.specs.declared.view.View.{View}
-use Rattle.kf_gates.specs.declared.view.View.TheVariants.{Outside, Inside, Broken, Restored}
+use Rattle.kf_gates.specs.declared.view.GatePlan.{GatePlan}
+use Rattle.kf_gates.specs.declared.view.GateView.{GateView}
+use Rattle.kf_gates.specs.declared.view.GateView.TheVariants.{Outside, Inside, Broken, Restored}
 use Rattle.kf_gates.specs.Rule.{gate_word, most_passes}
 
 -- which gate it is, and how many lanes it has
@@ -23,12 +23,12 @@ pub record GateSeat : Type 0 where
 -- the keeper of a closed gate, whose seat knows this plan
 pub record ClosedState : Type 0 where
   pub seat : GateSeat
-  pub plan : Plan
+  pub plan : GatePlan
 
 -- the keeper of a gate, whose seat knows this plan, and the value that it keeps
 pub record KeeperState (Kept : Type 0) : Type 0 where
   pub seat : GateSeat
-  pub plan : Plan
+  pub plan : GatePlan
   pub kept : Kept
 
 -- an opening of a gate: whose seat its keeper has, and its number
@@ -46,7 +46,7 @@ last_opening closed = record { seat = closed.seat; number = closed.plan.number }
 pub record PassState : Type 0 where
   pub seat : GateSeat
   pub lane : ℕ
-  pub view : View
+  pub view : GateView
 
 -- a call through a gate, under the number of an opening
 pub record CallState : Type 0 where
@@ -54,10 +54,10 @@ pub record CallState : Type 0 where
   pub lane : ℕ
   pub number : ℕ
   pub phase : Phase
-  pub view : View
+  pub view : GateView
 
 -- what a call in this phase knows
-abbrev pub call_view : Phase → ℕ → ℕ → View
+abbrev pub call_view : Phase → ℕ → ℕ → GateView
 call_view phase_of.Still lane number = Outside 0
 call_view phase_of.Turned lane number = Outside 0
 call_view phase_of.Running lane number = Inside lane number
@@ -78,7 +78,7 @@ abbrev pub WasRefused : ℕ → PassState → Type 0
 WasRefused number pass = (word : ℕ) × LastFound pass word × (word ≢ gate_word number false)
 
 -- the keeper's last look found somebody who counts in the next lane
-pub record FoundUser (lanes : ℕ) (p : Plan) : Type 0 where
+pub record FoundUser (lanes : ℕ) (p : GatePlan) : Type 0 where
   pub lane : p.seen < lanes
   pub found : 0 < p.found
 

@@ -1,16 +1,16 @@
 -- What each step makes of what its own seat knows.
 use Rattle.std.specs.Prelude.{◌≡◌, ℕ, ◌+◌, ◌*◌, ◌/◌, ◌%◌, ◌==◌, ltb, true, false, if◌then◌else◌}
 use Rattle.atomic_table.specs.Table.{Me, Step}
-use Rattle.kf_gates.specs.declared.view.Plan.{Plan}
-use Rattle.kf_gates.specs.declared.view.View.{View}
-use Rattle.kf_gates.specs.declared.view.View.TheVariants.{Keeps, Outside, Counted, OneTooMany, Knocking, Inside, Turned, Broken, Restored}
+use Rattle.kf_gates.specs.declared.view.GatePlan.{GatePlan}
+use Rattle.kf_gates.specs.declared.view.GateView.{GateView}
+use Rattle.kf_gates.specs.declared.view.GateView.TheVariants.{Keeps, Outside, Counted, OneTooMany, Knocking, Inside, Turned, Broken, Restored}
 use Rattle.kf_gates.specs.Rule.{gate_word, most_passes}
 
 abbrev pub Seated : Type 0
-Seated = Me (Unit {0}) View
+Seated = Me (Unit {0}) GateView
 
 -- the seat has made the pass that it counted
-abbrev pub pass_made : View → View
+abbrev pub pass_made : GateView → GateView
 pass_made (Keeps p) = Keeps (record p { spare = false })
 pass_made (Outside f) = Outside f
 pass_made Counted = Outside 0
@@ -22,11 +22,11 @@ pass_made (Broken k n) = Broken k n
 pass_made (Restored k n) = Restored k n
 
 -- the seat found this number of passes, and counted one more
-abbrev pub after_count : ℕ → View
+abbrev pub after_count : ℕ → GateView
 after_count found = if ltb found most_passes then Counted else OneTooMany found
 
 -- the seat has taken back what it counted. What it keeps of one too many is how many it found
-abbrev pub uncounted : View → View
+abbrev pub uncounted : GateView → GateView
 uncounted (Keeps p) = Keeps p
 uncounted (Outside f) = Outside f
 uncounted Counted = Outside 0
@@ -38,11 +38,11 @@ uncounted (Broken k n) = Broken k n
 uncounted (Restored k n) = Restored k n
 
 -- a look that finds the gate open lets its caller in, under the number that it found
-abbrev pub looked : ℕ → ℕ → View
+abbrev pub looked : ℕ → ℕ → GateView
 looked found lane = if found % 2 == 0 then Inside lane (found / 2) else Turned lane found
 
 -- the seat no longer counts in its lane. What it keeps is the word that its last look found
-abbrev pub stepped_off : View → View
+abbrev pub stepped_off : GateView → GateView
 stepped_off (Keeps p) = Keeps p
 stepped_off (Outside f) = Outside f
 stepped_off Counted = Counted
@@ -54,14 +54,14 @@ stepped_off (Broken k n) = Broken k n
 stepped_off (Restored k n) = Outside (gate_word n false)
 
 -- the keeper after a look at the next lane: one that is empty is done
-abbrev pub scanned : ℕ → Plan → View
+abbrev pub scanned : ℕ → GatePlan → GateView
 scanned found p = Keeps (record p { seen = (if found == 0 then p.seen + 1 else p.seen); found = found })
 
 -- the plan of a gate that was just shut, and of one that was just opened under the next number
-abbrev pub shut_plan : Plan → Plan
+abbrev pub shut_plan : GatePlan → GatePlan
 shut_plan p = record p { shut = true; seen = 0; found = 0 }
 
-abbrev pub next_plan : Plan → Plan
+abbrev pub next_plan : GatePlan → GatePlan
 next_plan p = record p { number = p.number + 1; shut = false; seen = 0; found = 0 }
 
 abbrev pub MakesKnock : Step (Unit {0}) → Seated → ℕ → Seated → Type 0
@@ -86,13 +86,13 @@ abbrev pub MakesUncount : Step (Unit {0}) → Seated → ℕ → Seated → Type
 MakesUncount st me found me' = me'.0 ≡ uncounted me.0
 
 abbrev pub MakesShut : Step (Unit {0}) → Seated → ℕ → Seated → Type 0
-MakesShut st me found me' = (p : Plan) → me.0 ≡ Keeps p → me'.0 ≡ Keeps (shut_plan p)
+MakesShut st me found me' = (p : GatePlan) → me.0 ≡ Keeps p → me'.0 ≡ Keeps (shut_plan p)
 
 abbrev pub MakesScan : Step (Unit {0}) → Seated → ℕ → Seated → Type 0
-MakesScan st me found me' = (p : Plan) → me.0 ≡ Keeps p → me'.0 ≡ scanned found p
+MakesScan st me found me' = (p : GatePlan) → me.0 ≡ Keeps p → me'.0 ≡ scanned found p
 
 abbrev pub MakesOpening : Step (Unit {0}) → Seated → ℕ → Seated → Type 0
-MakesOpening st me found me' = (p : Plan) → me.0 ≡ Keeps p → me'.0 ≡ Keeps (next_plan p)
+MakesOpening st me found me' = (p : GatePlan) → me.0 ≡ Keeps p → me'.0 ≡ Keeps (next_plan p)
 
 -- a step on the count of those who sleep changes no view
 abbrev pub MakesSleepCount : Step (Unit {0}) → Seated → ℕ → Seated → Type 0

@@ -6,10 +6,10 @@
 //! wakes all who sleep on the lane if that is not 0. If the lane comes to 0 after (2), its step (3) has a (4)
 //! that comes after (1) and a (5) that finds the sleeper queued. If it came to 0 before (2), it differs from
 //! what was seen, unless somebody counts there again, who leaves later.
-ghost use Rattle.std.specs.Prelude.{◌≡◌, ◌≢◌, ◌⊎◌, ℕ, ◌+◌, ◌*◌, ◌<◌, ◌≤◌, true, false, IfOk};
-ghost use Rattle.kf_gates.specs.declared.view.Plan.{Plan};
-ghost use Rattle.kf_gates.specs.declared.view.View.{View};
-ghost use Rattle.kf_gates.specs.declared.view.View.TheVariants as seat_of;
+ghost use Rattle.std.specs.Prelude.{◌≡◌, ℕ, ◌+◌, ◌*◌, ◌<◌, ◌≤◌, true, false, IfOk};
+ghost use Rattle.kf_gates.specs.declared.view.GatePlan.{GatePlan};
+ghost use Rattle.kf_gates.specs.declared.view.GateView.{GateView};
+ghost use Rattle.kf_gates.specs.declared.view.GateView.TheVariants as seat_of;
 ghost use Rattle.kf_gates.specs.Rule.{due_from, opened};
 ghost use Rattle.kf_gates.specs.Runs.{CountsIn, MayUncount};
 ghost use Rattle.kf_gates.specs.Steps.{after_count, looked, next_plan, pass_made, scanned, shut_plan, stepped_off, uncounted};
@@ -21,7 +21,7 @@ use crate::plays::{
     Uncounts,
 };
 use crate::table::GateTable;
-use crate::view::{Plan, View};
+use crate::view::{GatePlan, GateView};
 use atomic_table::Seat;
 use std::alloc::{AllocError, Global};
 use std::sync::Wait;
@@ -33,7 +33,7 @@ pub const MOST_LANES: u64 = 65535;
 pub const MOST_PASSES: u64 = 4294967296;
 
 /// A seat at a gate's words.
-pub(crate) type GateSeat = Seat<(), View>;
+pub(crate) type GateSeat = Seat<(), GateView>;
 
 /// The words of a gate with this number of lanes.
 #[derive(Drop)]
@@ -47,7 +47,7 @@ pub(crate) struct Board {
 
 impl Board {
     /// The words of a gate that was never opened, its keeper's seat, and what that knows.
-    pub(crate) fn new(alloc: Global, lanes: u64) -> Result<(Board, GateSeat, Plan), AllocError>
+    pub(crate) fn new(alloc: Global, lanes: u64) -> Result<(Board, GateSeat, GatePlan), AllocError>
         requires range { (0 < lanes) × (lanes ≤ 65535) }
         ensures table { IfOk result (λ r. r.1.table_id ≡ r.0.table.shared.table_id) }
         ensures lanes { IfOk result (λ r. r.0.lanes ≡ lanes) }
@@ -57,7 +57,7 @@ impl Board {
         words[0] = 1;
         words[2] = 2;
         let (table, seat) = GateTable::of_words(alloc, words.as_slice(), &lanes)?;
-        let plan = Plan {
+        let plan = GatePlan {
             number: 0,
             shut: true,
             seen: lanes,
@@ -159,7 +159,7 @@ impl Board {
     }
 
     /// Shuts the gate.
-    pub(crate) fn shut(&self, seat: &mut GateSeat, plan: Plan) -> Plan
+    pub(crate) fn shut(&self, seat: &mut GateSeat, plan: GatePlan) -> GatePlan
         requires table { seat.old.table_id ≡ self.now.table.shared.table_id }
         requires keeps { seat.old.me.0 ≡ seat_of.Keeps plan }
         requires open { plan.shut ≡ false }
@@ -170,7 +170,7 @@ impl Board {
         self.table
             .shared
             .store::<Shuts>(seat, 0, plan.number * 2 + 1);
-        Plan {
+        GatePlan {
             shut: true,
             seen: 0,
             found: 0,
@@ -179,7 +179,7 @@ impl Board {
     }
 
     /// Looks at the next lane.
-    pub(crate) fn scan(&self, seat: &mut GateSeat, plan: Plan) -> Plan
+    pub(crate) fn scan(&self, seat: &mut GateSeat, plan: GatePlan) -> GatePlan
         requires table { seat.old.table_id ≡ self.now.table.shared.table_id }
         requires keeps { seat.old.me.0 ≡ seat_of.Keeps plan }
         requires shut { plan.shut ≡ true }
@@ -191,7 +191,7 @@ impl Board {
         let word = 8 * plan.seen as usize + 8;
         let found = self.table.shared.load::<Scans>(seat, word);
         let seen = if found == 0 { plan.seen + 1 } else { plan.seen };
-        Plan {
+        GatePlan {
             seen,
             found,
             ..plan
@@ -199,7 +199,7 @@ impl Board {
     }
 
     /// Opens the gate under the next number.
-    pub(crate) fn open(&self, seat: &mut GateSeat, plan: Plan) -> Plan
+    pub(crate) fn open(&self, seat: &mut GateSeat, plan: GatePlan) -> GatePlan
         requires table { seat.old.table_id ≡ self.now.table.shared.table_id }
         requires keeps { seat.old.me.0 ≡ seat_of.Keeps plan }
         requires over { IsOver self.now.lanes plan }
@@ -210,7 +210,7 @@ impl Board {
         self.table
             .shared
             .store::<Opens>(seat, 0, plan.number * 2 + 2);
-        Plan {
+        GatePlan {
             number: plan.number + 1,
             shut: false,
             seen: 0,
@@ -221,7 +221,7 @@ impl Board {
 
     fn fall_asleep(&self, seat: &mut GateSeat)
         requires table { seat.old.table_id ≡ self.now.table.shared.table_id }
-        requires keeps { (p : Plan) × (seat.old.me.0 ≡ seat_of.Keeps p) }
+        requires keeps { (p : GatePlan) × (seat.old.me.0 ≡ seat_of.Keeps p) }
         ensures same { IsSameSeat seat.old seat.new × (seat.new.me.0 ≡ seat.old.me.0) }
     {
         self.table.shared.fetch_add::<CountsSleep>(seat, 1, 1);
@@ -229,14 +229,14 @@ impl Board {
 
     fn awake(&self, seat: &mut GateSeat)
         requires table { seat.old.table_id ≡ self.now.table.shared.table_id }
-        requires keeps { (p : Plan) × (seat.old.me.0 ≡ seat_of.Keeps p) }
+        requires keeps { (p : GatePlan) × (seat.old.me.0 ≡ seat_of.Keeps p) }
         ensures same { IsSameSeat seat.old seat.new × (seat.new.me.0 ≡ seat.old.me.0) }
     {
         self.table.shared.fetch_sub::<CountsSleep>(seat, 1, 1);
     }
 
     /// Sleeps while the next lane is as it was found, which is not 0. It may return for no reason.
-    pub(crate) fn rest<R: Wait>(&self, rt: &R, seat: &mut GateSeat, plan: Plan)
+    pub(crate) fn rest<R: Wait>(&self, rt: &R, seat: &mut GateSeat, plan: GatePlan)
         requires table { seat.old.table_id ≡ self.now.table.shared.table_id }
         requires keeps { seat.old.me.0 ≡ seat_of.Keeps plan }
         requires lane { plan.seen < self.now.lanes }

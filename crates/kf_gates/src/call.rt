@@ -2,7 +2,7 @@
 ghost use Rattle.std.specs.Prelude.{◌≡◌, true};
 ghost use Rattle.kf_core.specs.Phases.{has_reference};
 ghost use Rattle.kf_core.specs.declared.caller.Phase.TheVariants as phase_of;
-ghost use Rattle.kf_gates.specs.declared.view.View.TheVariants as seat_of;
+ghost use Rattle.kf_gates.specs.declared.view.GateView.TheVariants as seat_of;
 ghost use Rattle.kf_gates.specs.Steps.{stepped_off};
 ghost use Rattle.kf_gates.specs.States.{IsSameCall};
 

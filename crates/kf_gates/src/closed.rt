@@ -1,5 +1,5 @@
 //! A gate that nobody is in.
-ghost use Rattle.std.specs.Prelude.{◌≡◌, ◌⊎◌, ◌+◌, ◌<◌, ◌≤◌, true, false, IfOk, IfErr, MatchResult};
+ghost use Rattle.std.specs.Prelude.{◌≡◌, ◌⊎◌, ◌+◌, ◌<◌, ◌≤◌, false, IfOk, IfErr};
 ghost use Rattle.kf_core.specs.declared.refusal.Refusal.TheVariants as refusal_of;
 ghost use Rattle.kf_gates.specs.Laws.{IsOver};
 ghost use Rattle.kf_gates.specs.States.{IsLanes};
@@ -7,7 +7,7 @@ ghost use Rattle.kf_gates.specs.States.{IsLanes};
 use crate::board::{Board, GateSeat, MOST_LANES};
 use crate::keeper::Keeper;
 use crate::pass::Pass;
-use crate::view::Plan;
+use crate::view::GatePlan;
 use kf_core::Refusal;
 use std::alloc::Global;
 use std::marker::Model;
@@ -18,13 +18,13 @@ use std::sync::Arc;
 pub struct Closed {
     pub(crate) board: Arc<Board>,
     pub(crate) seat: GateSeat,
-    pub(crate) plan: Plan,
+    pub(crate) plan: GatePlan,
 }
 
 impl Model for Closed {
     ghost use Rattle.std.specs.Prelude.{◌≡◌, ◌≤◌, false};
     ghost use Rattle.std.specs.Arc.{arc_value};
-    ghost use Rattle.kf_gates.specs.declared.view.View.TheVariants.{Keeps};
+    ghost use Rattle.kf_gates.specs.declared.view.GateView.TheVariants.{Keeps};
     ghost use Rattle.kf_gates.specs.Laws.{IsOver};
     ghost use Rattle.kf_gates.specs.States.{ClosedState};
 
@@ -44,8 +44,8 @@ impl Model for Closed {
 }
 
 impl Closed {
-    /// A gate with this number of lanes, which was never opened, and its first pass, by lane 0: all other passes
-    /// come of that ([`Pass::another`]).
+    /// A gate with this number of lanes, which was never opened, and its first pass, by lane 0: all other
+    /// passes come of that ([`Pass::another`]).
     ///
     /// Refusals, in order: Invalid (no lane, or more than 65,535), NoMemory.
     pub fn new(alloc: Global, lanes: u64) -> Result<(Closed, Pass), Refusal>
@@ -65,7 +65,7 @@ impl Closed {
             return Err(Refusal::NoMemory);
         };
         let outside = board.make_pass(&mut seat);
-        let plan = Plan {
+        let plan = GatePlan {
             spare: false,
             ..plan
         };

@@ -1,11 +1,11 @@
 //! The keeper of an open gate, or of one that is being closed.
-ghost use Rattle.std.specs.Prelude.{◌≡◌, ◌+◌, ◌%◌, ◌≤◌, ◌<◌, true, false, MatchResult, IfOk, IfErr};
+ghost use Rattle.std.specs.Prelude.{◌≡◌, ◌≤◌, ◌<◌, true, false, IfOk, IfErr};
 ghost use Rattle.kf_gates.specs.Laws.{IsOver};
 ghost use Rattle.kf_gates.specs.States.{FoundUser, KeepsOn};
 
 use crate::board::{Board, GateSeat};
 use crate::closed::Closed;
-use crate::view::Plan;
+use crate::view::GatePlan;
 use std::marker::Model;
 use std::sync::{Arc, Wait};
 
@@ -14,14 +14,14 @@ use std::sync::{Arc, Wait};
 pub struct Keeper<T> {
     pub(crate) board: Arc<Board>,
     pub(crate) seat: GateSeat,
-    pub(crate) plan: Plan,
+    pub(crate) plan: GatePlan,
     pub(crate) kept: T,
 }
 
 impl<T> Model for Keeper<T> {
     ghost use Rattle.std.specs.Prelude.{◌≡◌, ◌≤◌, ◌<◌, false};
     ghost use Rattle.std.specs.Arc.{arc_value};
-    ghost use Rattle.kf_gates.specs.declared.view.View.TheVariants.{Keeps};
+    ghost use Rattle.kf_gates.specs.declared.view.GateView.TheVariants.{Keeps};
     ghost use Rattle.kf_gates.specs.States.{KeeperState};
 
     ghost Value = { KeeperState T };

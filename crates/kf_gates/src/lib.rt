@@ -29,4 +29,4 @@ pub use closed::Closed;
 pub use keeper::Keeper;
 pub use laws::gates_tell;
 pub use pass::Pass;
-pub use view::{Plan, View};
+pub use view::{GatePlan, GateView};

@@ -1,7 +1,7 @@
 //! A thread's pass through a gate.
-ghost use Rattle.std.specs.Prelude.{◌≡◌, ◌≢◌, ◌%◌, ◌<◌, IfOk, IfErr, MatchResult};
+ghost use Rattle.std.specs.Prelude.{◌≡◌, ◌%◌, ◌<◌, IfOk, IfErr, MatchResult};
 ghost use Rattle.kf_core.specs.declared.caller.Phase.TheVariants as phase_of;
-ghost use Rattle.kf_gates.specs.declared.view.View.TheVariants as seat_of;
+ghost use Rattle.kf_gates.specs.declared.view.GateView.TheVariants as seat_of;
 ghost use Rattle.kf_gates.specs.States.{PassRefused, WasRefused};
 
 use crate::board::{Board, GateSeat, MOST_PASSES};
@@ -21,7 +21,7 @@ pub struct Pass {
 impl Model for Pass {
     ghost use Rattle.std.specs.Prelude.{◌≡◌, ◌<◌, ℕ};
     ghost use Rattle.std.specs.Arc.{arc_value};
-    ghost use Rattle.kf_gates.specs.declared.view.View.TheVariants.{Outside};
+    ghost use Rattle.kf_gates.specs.declared.view.GateView.TheVariants.{Outside};
     ghost use Rattle.kf_gates.specs.States.{PassState};
 
     ghost Value = { PassState };

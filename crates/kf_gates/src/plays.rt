@@ -1,13 +1,13 @@
 //! The kinds of step.
-use crate::view::View;
+use crate::view::GateView;
 use atomic_table::{Play, Split};
 
 /// A seat makes the pass that it counted.
 pub(crate) struct Passes;
 
-impl Split<View> for Passes {
+impl Split<GateView> for Passes {
     ghost use Rattle.kf_gates.specs.Steps.{pass_made};
-    ghost use Rattle.kf_gates.specs.declared.view.View.TheVariants.{Outside};
+    ghost use Rattle.kf_gates.specs.declared.view.GateView.TheVariants.{Outside};
 
     ghost left = { pass_made };
 
@@ -17,7 +17,7 @@ impl Split<View> for Passes {
 /// A caller counts one pass more.
 pub(crate) struct Counts;
 
-impl Play<(), View> for Counts {
+impl Play<(), GateView> for Counts {
     ghost use Rattle.kf_gates.specs.Steps.{MakesCount};
 
     ghost then = { MakesCount };
@@ -26,7 +26,7 @@ impl Play<(), View> for Counts {
 /// A caller takes that back.
 pub(crate) struct Uncounts;
 
-impl Play<(), View> for Uncounts {
+impl Play<(), GateView> for Uncounts {
     ghost use Rattle.kf_gates.specs.Steps.{MakesUncount};
 
     ghost then = { MakesUncount };
@@ -35,7 +35,7 @@ impl Play<(), View> for Uncounts {
 /// A caller counts itself in its lane.
 pub(crate) struct Knocks;
 
-impl Play<(), View> for Knocks {
+impl Play<(), GateView> for Knocks {
     ghost use Rattle.kf_gates.specs.Steps.{MakesKnock};
 
     ghost then = { MakesKnock };
@@ -44,7 +44,7 @@ impl Play<(), View> for Knocks {
 /// A caller loads the gate's word.
 pub(crate) struct Looks;
 
-impl Play<(), View> for Looks {
+impl Play<(), GateView> for Looks {
     ghost use Rattle.kf_gates.specs.Steps.{MakesLook};
 
     ghost then = { MakesLook };
@@ -53,7 +53,7 @@ impl Play<(), View> for Looks {
 /// A caller no longer counts itself.
 pub(crate) struct Leaves;
 
-impl Play<(), View> for Leaves {
+impl Play<(), GateView> for Leaves {
     ghost use Rattle.kf_gates.specs.Steps.{MakesLeave};
 
     ghost then = { MakesLeave };
@@ -62,7 +62,7 @@ impl Play<(), View> for Leaves {
 /// A caller who is inside no longer counts itself, and will count itself again.
 pub(crate) struct Breaks;
 
-impl Play<(), View> for Breaks {
+impl Play<(), GateView> for Breaks {
     ghost use Rattle.kf_gates.specs.Steps.{MakesBreak};
 
     ghost then = { MakesBreak };
@@ -71,7 +71,7 @@ impl Play<(), View> for Breaks {
 /// It counts itself again.
 pub(crate) struct Restores;
 
-impl Play<(), View> for Restores {
+impl Play<(), GateView> for Restores {
     ghost use Rattle.kf_gates.specs.Steps.{MakesRestore};
 
     ghost then = { MakesRestore };
@@ -80,7 +80,7 @@ impl Play<(), View> for Restores {
 /// The keeper shuts the gate.
 pub(crate) struct Shuts;
 
-impl Play<(), View> for Shuts {
+impl Play<(), GateView> for Shuts {
     ghost use Rattle.kf_gates.specs.Steps.{MakesShut};
 
     ghost then = { MakesShut };
@@ -89,7 +89,7 @@ impl Play<(), View> for Shuts {
 /// The keeper loads a lane.
 pub(crate) struct Scans;
 
-impl Play<(), View> for Scans {
+impl Play<(), GateView> for Scans {
     ghost use Rattle.kf_gates.specs.Steps.{MakesScan};
 
     ghost then = { MakesScan };
@@ -98,7 +98,7 @@ impl Play<(), View> for Scans {
 /// The keeper opens the gate under the next number.
 pub(crate) struct Opens;
 
-impl Play<(), View> for Opens {
+impl Play<(), GateView> for Opens {
     ghost use Rattle.kf_gates.specs.Steps.{MakesOpening};
 
     ghost then = { MakesOpening };
@@ -107,7 +107,7 @@ impl Play<(), View> for Opens {
 /// The keeper counts itself among those who sleep, or no longer does.
 pub(crate) struct CountsSleep;
 
-impl Play<(), View> for CountsSleep {
+impl Play<(), GateView> for CountsSleep {
     ghost use Rattle.kf_gates.specs.Steps.{MakesSleepCount};
 
     ghost then = { MakesSleepCount };

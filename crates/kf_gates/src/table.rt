@@ -1,13 +1,13 @@
 //! The words of a gate. Word 0 is twice the number of the last opening, and 1 more while the gate is shut.
-//! Word 1 counts the threads that sleep, word 2 the passes that were made. Word 8 k + 8 counts the callers in lane
-//! k, so each lane has its own cache line.
-use crate::view::View;
+//! Word 1 counts the threads that sleep, word 2 the passes that were made. Word 8 k + 8 counts the callers
+//! in lane k, so each lane has its own cache line.
+use crate::view::GateView;
 use atomic_table::{Table, TableRule};
 use std::alloc::Global;
 
-pub struct Rule;
+pub struct GateRule;
 
-impl TableRule<(), View, u64> for Rule {
+impl TableRule<(), GateView, u64> for GateRule {
     ghost use Rattle.kf_gates.specs.Rule.{Kept, opened};
 
     ghost holds = { Kept };
@@ -15,4 +15,4 @@ impl TableRule<(), View, u64> for Rule {
     ghost first = { opened };
 }
 
-pub(crate) type GateTable = Table<(), View, u64, Rule, Global>;
+pub(crate) type GateTable = Table<(), GateView, u64, GateRule, Global>;

@@ -2,7 +2,7 @@
 
 /// What a gate's keeper knows.
 #[derive(Clone, Copy)]
-pub struct Plan {
+pub struct GatePlan {
     /// Of the last opening. A new gate has had none, and the number 0.
     pub number: u64,
     pub shut: bool,
@@ -15,8 +15,8 @@ pub struct Plan {
 }
 
 /// What a seat knows. The rule speaks of this type, and no value of it is ever made.
-pub enum View {
-    Keeps(Plan),
+pub enum GateView {
+    Keeps(GatePlan),
     /// It counts in no lane. Its last look found this word, or this number of passes.
     Outside(u64),
     /// It has counted a pass that has no seat yet.

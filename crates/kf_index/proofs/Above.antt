@@ -1,12 +1,12 @@
 -- The names above a bound, least first, among pairs whose names rise.
-use Rattle.std.proofs.Common.{◌≡◌, ◌⊎◌, ℕ, ◌+◌, ◌<◌, ◌≤◌, zero, suc, Option, List, [], ◌∷◌, length, get_or, drop, Some, None, IsSome, sym, ap, ◌∙◌, subst, arith, inl, inr}
+use Rattle.std.proofs.Common.{◌≡◌, ◌⊎◌, ℕ, ◌+◌, ◌<◌, ◌≤◌, zero, suc, Option, List, [], length, get_or, drop, Some, None, IsSome, sym, ap, ◌∙◌, subst, arith, inl, inr}
 use Rattle.std.proofs.lemmas.Bool.{cases_order, cases_lt}
 use Rattle.std.specs.FinMap.{get-from_entries}
 use Rattle.std.proofs.lemmas.Cmp.{nat_list_cmp_total}
 use Rattle.std.proofs.lemmas.List.{get_or_default, drop_all, drop_more}
 use Rattle.kf_core.specs.declared.key.Key.{Key}
 use Rattle.kf_core.specs.Names.{IsBefore}
-use Rattle.kf_index.specs.Entries.{Entries, IsAbove, IsLeastAbove, NoneAbove, AreAbove}
+use Rattle.kf_index.specs.Entries.{IsAbove, IsLeastAbove, NoneAbove, AreAbove}
 use Rattle.kf_index.specs.Pairs.{Pairs, IsRising, IsPlaceOf, IsGapFor, IsFirstAbove}
 use Rattle.kf_index.proofs.Searched.{not_before_itself, before_more}
 use Rattle.kf_index.proofs.Found.{entries_of, find_none, found_place, get_at_place, differs_unless}
@@ -80,12 +80,3 @@ module _ (pairs : Pairs) (rising : IsRising pairs) where
     )
     | inr past ↦ past_the_last bound at past first
   ]
-
--- the first of those above the bound is the next
-pub first_is_next : (entries : Entries) (bound : Option (List ℕ)) (first : List ℕ × Key) (later : Pairs) → AreAbove entries bound (first ∷ later) → IsLeastAbove entries bound first.0 first.1
-unfolding AreAbove
-first_is_next entries bound first later above = above.0
-
-pub none_is_next : (entries : Entries) (bound : Option (List ℕ)) → AreAbove entries bound [] → NoneAbove entries bound
-unfolding AreAbove
-none_is_next entries bound above = above

@@ -1,9 +1,9 @@
 //! The sibling index of a directory: its entries in byte order of their names, found by binary searches.
 
-ghost use Rattle.std.specs.Prelude.{◌≡◌, ◌<◌, ◌≤◌, ◌^◌, None, IfErr, OnOk, OnErr, IfSome, IfNone, if◌then◌else◌};
+ghost use Rattle.std.specs.Prelude.{◌≡◌, ◌<◌, ◌≤◌, ◌^◌, None, IfErr, OnOk, OnErr, if◌then◌else◌};
 ghost use Rattle.std.specs.Option.{option_copied};
 ghost use Rattle.std.specs.FinMap as map;
-ghost use Rattle.kf_index.specs.Entries.{IsLeastAbove, NoneAbove, AreAbove};
+ghost use Rattle.kf_index.specs.Entries.{AreAbove};
 
 use crate::chunks::Chunks;
 use crate::listed::Listed;
@@ -99,23 +99,11 @@ impl Index {
         self.entries.remove(name)
     }
 
-    /// The entries with names above the bound, or all if there is no bound, in byte order of names: what
-    /// `next_after` gives when it is asked again and again, each time above the name before. The bound
-    /// may be any bytes.
+    /// The entries with names above the bound, or all if there is no bound, in byte order of names
+    /// (`kernfs_dir_next_pos`). The bound may be any bytes.
     pub fn above(&self, bound: Option<&[u8]>) -> Listed<'_>
         ensures listed { AreAbove self.now (option_copied bound.entry) result }
     {
         self.entries.above(bound)
-    }
-
-    /// The entry with the least name above the bound, or with the least of all if there is no
-    /// bound. The bound may be any bytes. None if no name is above it (`kernfs_dir_next_pos`).
-    pub fn next_after(&self, bound: Option<&[u8]>) -> Option<(&Name, Key)>
-        ensures found { IfSome result (λ next.
-            IsLeastAbove self.now (option_copied bound.entry) next.0.now next.1) }
-        ensures none { IfNone result (NoneAbove self.now (option_copied bound.entry)) }
-    {
-        let (next, _) = self.above(bound).split_first()?;
-        Some(next)
     }
 }

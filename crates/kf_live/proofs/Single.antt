@@ -1,6 +1,6 @@
 -- What the links say after a command on one node.
 use Rattle.std.proofs.Common.{◌≡◌, ◌≢◌, ◌<◌, length, ◌⊎◌, inl, inr, refl, ap, sym, ◌∙◌, subst, Bool, true, false, cond, List, [], ◌∷◌, ℕ, slice_set}
-use Rattle.std.specs.Prelude.{Option, None, Some, slice_get, not, ◌&&◌, Result, Ok, Err, IfOk, IfErr, IfSome, IfNone, MatchBool}
+use Rattle.std.specs.Prelude.{Option, None, Some, slice_get, not, IfSome, IfNone, MatchBool}
 use Rattle.std.specs.Option.{option_map}
 use Rattle.std.proofs.lemmas.Option.{same_Some, none-some, slice_get_within}
 use Rattle.kf_core.specs.declared.key.Key.{Key}
@@ -11,16 +11,15 @@ use Rattle.kf_core.specs.declared.refusal.Refusal.TheVariants.{Invalid, Busy}
 use Rattle.kf_core.specs.declared.command.Command.TheVariants.{Create, Unlink, Rename}
 use Rattle.kf_core.specs.Keys.{same_key}
 use Rattle.kf_core.specs.Lawful.{Lawful}
-use Rattle.kf_core.specs.Marks.{are_doomed}
 use Rattle.kf_core.specs.Refusals.{unless, first_cause}
-use Rattle.kf_core.specs.Tree.{Tree, record_at, is_linked, IsIn}
+use Rattle.kf_core.specs.Tree.{Tree, record_at, is_linked}
 use Rattle.kf_core.specs.Commands.{after, moved_record, new_record}
 use Rattle.kf_core.proofs.Climbs.{keys_tell}
 use Rattle.kf_core.proofs.Lists.{slice_get-set_same}
 use Rattle.kf_core.proofs.Mapped.{find_mapped}
 use Rattle.kf_core.proofs.FoundRecords.{in_found, found_in, find_at, find_filled, find_cleared, linked_here}
 use Rattle.kf_table.specs.Children.{has_child}
-use Rattle.kf_table.specs.Live.{lives, live_in, lives_in}
+use Rattle.kf_table.specs.Live.{lives, lives_in}
 use Rattle.kf_tree.specs.Causes.{doomed_in, unlink_cause}
 use Rattle.kf_tree.specs.SlotMarks.{contains_key}
 use Rattle.kf_tree.specs.TreeLogs.{TreeLog, IsAccepted}

@@ -7,7 +7,7 @@ use Rattle.kf_table.specs.Live.{lives}
 use Rattle.kf_tree.specs.Causes.{doomed_in}
 use Rattle.kf_tree.specs.SlotMarks.{contains_key}
 use Rattle.kf_looks.specs.declared.found.Found.{Found}
-use Rattle.kf_looks.specs.declared.looks.Looks.{Looks}
+use Rattle.kf_looks.specs.declared.lookup_table.LookupTable.{LookupTable}
 use Rattle.kf_looks.specs.declared.view.Link.{Link}
 use Rattle.kf_looks.specs.declared.writer.Writer.{Writer}
 use Rattle.kf_looks.specs.Writing.{links_of}
@@ -87,7 +87,7 @@ IsGiven dir name child before now = (now ≡ link dir name (Some child) ∷ befo
     ⊎ ((now ≡ before) × (child_of before dir name ≡ Some child))
 
 -- if there are words at all, the writer is there, and this holds of its links
-abbrev pub Writes : Looks → (List Link → Type 0) → Option Writer → Type 0
+abbrev pub Writes : LookupTable → (List Link → Type 0) → Option Writer → Type 0
 Writes looks Fact writer = 0 < looks.slots
     → IsSomeAnd writer (λ w. (w.seat.table_id ≡ looks.table.shared.table_id) × Fact (links_of w.seat))
 

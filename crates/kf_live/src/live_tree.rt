@@ -11,12 +11,12 @@ ghost use Rattle.kf_core.specs.Limits.{most_slots};
 ghost use Rattle.kf_live.specs.Live.{Say};
 ghost use Rattle.kf_live.specs.Lookers.{links_seen};
 
-use crate::looker::Looker;
+use crate::lookup::Lookup;
 use crate::publishing::{
     place_before, place_left, publish, publish_gone, publish_move, publish_one,
 };
 use kf_core::{Key, Limits, Node, Refusal};
-use kf_looks::{Looks, Writer};
+use kf_looks::{LookupTable, Writer};
 use kf_tree::State;
 use std::alloc::Global;
 use std::marker::Model;
@@ -27,7 +27,7 @@ use std::sync::Arc;
 #[derive(Drop)]
 pub struct LiveTree {
     pub(crate) state: State,
-    pub(crate) looks: Arc<Looks>,
+    pub(crate) looks: Arc<LookupTable>,
     pub(crate) writer: Option<Writer>,
 }
 
@@ -58,7 +58,7 @@ impl LiveTree {
         ensures made { IfOk result (λ tree. IsNew limits.slots root tree) }
         ensures refused { IfErr result (λ refusal. refusal ≡ refusal_of.NoMemory) }
     {
-        let (looks, writer) = Looks::new(alloc, slots)?;
+        let (looks, writer) = LookupTable::new(alloc, slots)?;
         let looks = Arc::new(alloc, looks)?;
         let state = State::new(alloc, limits, root)?;
         Ok(LiveTree {
@@ -71,7 +71,7 @@ impl LiveTree {
     /// A looker that has seen all that the tree says now: none of its look-ups goes back behind that.
     ///
     /// Refusal: NoMemory, if the words may have no further owner.
-    pub fn looker(&mut self) -> Result<Looker, Refusal>
+    pub fn looker(&mut self) -> Result<Lookup, Refusal>
         ensures told { IfOk result
             (λ looker. 0 < looker.slots → Say (links_seen looker) self.old.tree) }
         ensures root { IfOk result (λ looker. looker.root ≡ self.old.root) }
@@ -84,7 +84,7 @@ impl LiveTree {
             Some(writer) if looks.slots > 0 => looks.looker_after(writer),
             _ => looks.looker(),
         };
-        Ok(Looker { looks, root, eye })
+        Ok(Lookup { looks, root, eye })
     }
 
     /// The tree with its stored commands.
@@ -122,8 +122,8 @@ impl LiveTree {
         Ok(())
     }
 
-    /// As [`State::create_at`].
-    pub fn create_at(
+    /// As [`State::create_under`].
+    pub fn create_under(
         &mut self,
         key: Key,
         parent: Key,
@@ -139,7 +139,7 @@ impl LiveTree {
         ensures refused { IfErr result (λ refusal. (refusal ≡ refusal_of.NoMemory) × (self.new ≡ self.old)) }
     {
         let _ = self.state.root();
-        self.state.create_at(key, parent, name, node, live)?;
+        self.state.create_under(key, parent, name, node, live)?;
         if live {
             self.writer = publish_one(&self.looks, self.writer.take(), &self.state, key);
         }

@@ -8,7 +8,7 @@ ghost use Rattle.kf_live.specs.Live.{AreSound, SayBut, Say, IsLeftAt, IsMove, St
 
 use crate::telling::{Spot, is_in_doomed, place_of, tell, tell_each, tell_one};
 use kf_core::Key;
-use kf_looks::{Looks, Section, Writer};
+use kf_looks::{LookupTable, Section, Writer};
 use kf_tree::State;
 
 /// Publishes what the tree now says of each of these nodes, one after the other: look-ups wait for one of
@@ -16,7 +16,7 @@ use kf_tree::State;
 ///
 /// Condition: what the words say already is right, and lacks only names.
 pub(crate) fn publish(
-    looks: &Looks,
+    looks: &LookupTable,
     writer: Option<Writer>,
     state: &State,
     keys: &[Key],
@@ -36,7 +36,7 @@ pub(crate) fn publish(
 
 /// Publishes what the tree now says of one node.
 pub(crate) fn publish_one(
-    looks: &Looks,
+    looks: &LookupTable,
     writer: Option<Writer>,
     state: &State,
     key: Key,
@@ -54,7 +54,7 @@ pub(crate) fn publish_one(
 }
 
 /// The place of a node before it is moved. Without words it is not needed.
-pub(crate) fn place_before(looks: &Looks, state: &State, key: Key) -> Option<Spot>
+pub(crate) fn place_before(looks: &LookupTable, state: &State, key: Key) -> Option<Spot>
     ensures stood { 0 < looks.now.slots → Stood state.now.tree key result }
 {
     if looks.slots == 0 {
@@ -65,7 +65,7 @@ pub(crate) fn place_before(looks: &Looks, state: &State, key: Key) -> Option<Spo
 
 /// The place in which the words may still have a doomed node before it is unlinked: under its short name, if
 /// its directory is doomed too. A doom takes away only the name of its top, and no path leads below that.
-pub(crate) fn place_left(looks: &Looks, state: &State, key: Key) -> Option<Spot>
+pub(crate) fn place_left(looks: &LookupTable, state: &State, key: Key) -> Option<Spot>
     ensures left { 0 < looks.now.slots → IsLeftAt state.now.tree key result }
 {
     if looks.slots == 0 || !is_in_doomed(state, key) {
@@ -75,7 +75,7 @@ pub(crate) fn place_left(looks: &Looks, state: &State, key: Key) -> Option<Spot>
 }
 
 /// Takes a name away from the node that stood under it.
-fn withdraw(looks: &Looks, section: Section, was: Option<Spot>, key: Key) -> Section
+fn withdraw(looks: &LookupTable, section: Section, was: Option<Spot>, key: Key) -> Section
     requires table { section.seat.table_id ≡ looks.now.table.shared.table_id }
     requires of_slot { IfSome was
         (λ spot. IsOfSlot (links_of section.seat) spot.dir (bytes_in spot.name) key.slot) }
@@ -91,7 +91,7 @@ fn withdraw(looks: &Looks, section: Section, was: Option<Spot>, key: Key) -> Sec
 /// Publishes that a node left its former place, and its place in the tree now: both in one change, so that
 /// no look-up finds neither.
 pub(crate) fn publish_move(
-    looks: &Looks,
+    looks: &LookupTable,
     writer: Option<Writer>,
     was: Option<Spot>,
     state: &State,
@@ -116,7 +116,7 @@ pub(crate) fn publish_move(
 
 /// Publishes that a doomed node left the tree: if the words may still have it, its name is taken away.
 pub(crate) fn publish_gone(
-    looks: &Looks,
+    looks: &LookupTable,
     writer: Option<Writer>,
     left: Option<Spot>,
     key: Key,

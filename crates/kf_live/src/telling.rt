@@ -9,7 +9,7 @@ ghost use Rattle.kf_looks.specs.Writing.{links_of};
 ghost use Rattle.kf_live.specs.Live.{AreSound, SayBut, Say, StandsAt, live_found, IsLeftAt, IsOut, IsGiven};
 
 use kf_core::Key;
-use kf_looks::{Found, Looks, Section, ShortName, Writer};
+use kf_looks::{Found, LookupTable, Section, ShortName, Writer};
 use kf_tree::State;
 use std::hint::spin_loop;
 
@@ -71,7 +71,7 @@ pub(crate) fn is_in_doomed(state: &State, key: Key) -> bool
 
 /// Gives a name its child, unless the child's line says so already. What it says already is not written
 /// again, as when a live node is activated once more.
-fn give_once(looks: &Looks, section: Section, spot: &Spot, child: Found) -> Section
+fn give_once(looks: &LookupTable, section: Section, spot: &Spot, child: Found) -> Section
     requires table { section.seat.table_id ≡ looks.now.table.shared.table_id }
     requires of_slot { IsOfSlot (links_of section.seat) spot.now.dir (bytes_in spot.now.name) child.key.slot }
     ensures table { result.seat.table_id ≡ section.seat.table_id }
@@ -86,7 +86,13 @@ fn give_once(looks: &Looks, section: Section, spot: &Spot, child: Found) -> Sect
 }
 
 /// Writes what the tree now says of a node, which stands there.
-pub(crate) fn tell(looks: &Looks, section: Section, state: &State, spot: &Spot, key: Key) -> Section
+pub(crate) fn tell(
+    looks: &LookupTable,
+    section: Section,
+    state: &State,
+    spot: &Spot,
+    key: Key,
+) -> Section
     requires table { section.seat.table_id ≡ looks.now.table.shared.table_id }
     requires stands { (r : Record) × (r.key ≡ key)
         × StandsAt state.now.tree spot.now.dir (bytes_in spot.now.name) r × (spot.now.child ≡ live_found r) }
@@ -106,7 +112,7 @@ pub(crate) fn tell(looks: &Looks, section: Section, state: &State, spot: &Spot, 
 
 /// Publishes what the tree now says of a node, in one change for itself: look-ups wait only for that. The
 /// node's place is looked up before the change begins.
-pub(crate) fn tell_one(looks: &Looks, writer: Writer, state: &State, key: Key) -> Writer
+pub(crate) fn tell_one(looks: &LookupTable, writer: Writer, state: &State, key: Key) -> Writer
     requires table { writer.seat.table_id ≡ looks.now.table.shared.table_id }
     requires says { (owed : List Key) × SayBut owed (links_of writer.seat) state.now.tree }
     ensures table { result.seat.table_id ≡ writer.seat.table_id }
@@ -134,7 +140,7 @@ fn pause_after(changes: u32) {
 
 /// Publishes what the tree now says of each of these nodes, each in one change for itself. Between two of
 /// them the links are sound: a path that they lead along leads in the tree to the same live node.
-pub(crate) fn tell_each(looks: &Looks, writer: Writer, state: &State, keys: &[Key]) -> Writer
+pub(crate) fn tell_each(looks: &LookupTable, writer: Writer, state: &State, keys: &[Key]) -> Writer
     requires table { writer.seat.table_id ≡ looks.now.table.shared.table_id }
     requires says { SayBut keys.now (links_of writer.seat) state.now.tree }
     requires sound { AreSound (links_of writer.seat) state.now.tree }

@@ -4,7 +4,7 @@ ghost use Rattle.kf_looks.specs.Writing.{links_of};
 ghost use Rattle.kf_live_tests.specs.Chains.{NoneFrom};
 
 use kf_core::{Key, Node};
-use kf_looks::{Found, Looker, Looks, ShortName, Sight, Writer, links_tell};
+use kf_looks::{Found, FoundAt, Looker, LookupTable, ShortName, Writer, links_tell};
 use std::alloc::Global;
 use std::process::Abort;
 
@@ -28,12 +28,12 @@ pub(crate) fn key(slot: u32) -> Key
 }
 
 /// Words for that many slots, with no name.
-pub(crate) fn made<R: Abort>(rt: &R, alloc: Global, slots: u32) -> (Looks, Writer)
+pub(crate) fn made<R: Abort>(rt: &R, alloc: Global, slots: u32) -> (LookupTable, Writer)
     ensures table { result.1.seat.table_id ≡ result.0.table.shared.table_id }
     ensures empty { links_of result.1.seat ≡ [] }
 {
     assert!(rt; slots <= 1048576);
-    match Looks::new(alloc, slots) {
+    match LookupTable::new(alloc, slots) {
         Ok((looks, writer)) => (looks, writer),
         Err(_) => panic!(rt; "no memory"),
     }
@@ -49,7 +49,7 @@ pub(crate) fn named<R: Abort>(rt: &R, bytes: &[u8]) -> ShortName {
 /// Each slot below `count` is the directory of the next, which has this name there and is this node.
 pub(crate) fn chain<R: Abort>(
     rt: &R,
-    looks: &Looks,
+    looks: &LookupTable,
     first: Writer,
     count: u32,
     name: &ShortName,
@@ -76,7 +76,12 @@ pub(crate) fn chain<R: Abort>(
 }
 
 /// What a look-up finds.
-pub(crate) fn found<R: Abort>(rt: &R, looks: &Looks, looker: &mut Looker, path: &[u8]) -> Sight
+pub(crate) fn found<R: Abort>(
+    rt: &R,
+    looks: &LookupTable,
+    looker: &mut Looker,
+    path: &[u8],
+) -> FoundAt
     requires table { looker.old.seat.table_id ≡ looks.now.table.shared.table_id }
     ensures table { looker.new.seat.table_id ≡ looker.old.seat.table_id }
 {

@@ -6,30 +6,30 @@ use mathlib.Core.Logic.{dite}
 use mathlib.Core.Option.{some, none, some-injective, some-ne-none}
 use native.Mathlib.Decide.{ℕ_discrete}
 use lib.ListN.{get_elem?}
-use Rattle.atomic_table.specs.Table.{step, stepped, Allows, Splits, Joins, Enters, keeps, opening}
+use Rattle.atomic_table.specs.Table.{step, stepped, Allows, Splits, Enters, keeps, opening}
 use Rattle.atomic_table.proofs.Lists.{at_set, at_snoc, set_again}
 use Rattle.kf_looks.specs.declared.found.Found.{Found}
 use Rattle.kf_looks.specs.declared.view.Link.{Link}
 use Rattle.kf_looks.specs.declared.view.Plan.{Plan}
 use Rattle.kf_looks.specs.declared.view.Role.{Role}
 use Rattle.kf_looks.specs.declared.view.Role.TheVariants.{Idle, Reading, Writing}
-use Rattle.kf_looks.specs.declared.view.View.{View}
+use Rattle.kf_looks.specs.declared.view.LookView.{LookView}
 use Rattle.kf_looks.specs.Links.{IsLater}
 use Rattle.kf_looks.specs.Lines.{lines_at, SaysTrue, words_for, link_at, word_at}
 use Rattle.kf_looks.specs.Rule.{Table, Knows, IsPlan, Kept, opened, plan_of, AllIn}
-use Rattle.kf_looks.specs.Steps.{Seated, view, grown, MakesSeat, MakesBegin, MakesPeek, MakesCheck, MakesRecall, MakesMove, MakesPut, MakesEntry, moved, put, entered, told, like, heard, given_up, MakesCompare}
+use Rattle.kf_looks.specs.Steps.{Seated, view, grown, MakesSeat, MakesBegin, MakesPeek, MakesCheck, MakesRecall, MakesMove, MakesPut, MakesEntry, moved, put, entered, told, like}
 use Rattle.kf_looks.specs.Writing.{IsWriter}
 
 -- what is kept of each seat
-abbrev Fits : ℕ → ℕ → List ℕ → List Link → ℕ → View → Type 0
+abbrev Fits : ℕ → ℕ → List ℕ → List Link → ℕ → LookView → Type 0
 Fits slots version draft links seat v = (v.slots ≤ slots) × Knows version draft links seat v.role × IsLater links v.seen
 
 -- what holds of a seat's new view and of all others holds of all views after its step
-seats_after : (K : ℕ → View → Type 0) (views : List View) (me : ℕ) (w : View) → K me w
-    → ((j : ℕ) (v : View) → j ≢ me → get_elem? views j ≡ some v → K j v)
-    → (j : ℕ) (v : View) → get_elem? (set views me w) j ≡ some v → K j v
+seats_after : (K : ℕ → LookView → Type 0) (views : List LookView) (me : ℕ) (w : LookView) → K me w
+    → ((j : ℕ) (v : LookView) → j ≢ me → get_elem? views j ≡ some v → K j v)
+    → (j : ℕ) (v : LookView) → get_elem? (set views me w) j ≡ some v → K j v
 seats_after K views me w mine others j v e =
-    ⊎_elim (λ (t : (j ≡ me) × (w ≡ v)). subst (λ (x : ℕ × View). K x.0 x.1) (λ i. (sym t.0 i, t.1 i)) mine)
+    ⊎_elim (λ (t : (j ≡ me) × (w ≡ v)). subst (λ (x : ℕ × LookView). K x.0 x.1) (λ i. (sym t.0 i, t.1 i)) mine)
     (λ (t : (j ≢ me) × (get_elem? views j ≡ some v)). others j v t.0 t.1) (at_set views me j w v e)
 
 pub later_again : (a b c : List Link) → IsLater a b → IsLater b c → IsLater a c
@@ -48,7 +48,7 @@ others_know v v' d d' l l' j more same other (Reading at reads) k = let a : at �
 others_know v v' d d' l l' j more same other (Writing plan) k = absurd (other k.1)
 
 -- a step that changes no word
-unmoved : (slots : ℕ) (t : Table) (r : Kept slots t) (i me : ℕ) (carried : List (ℕ × Unit {0})) (w : View)
+unmoved : (slots : ℕ) (t : Table) (r : Kept slots t) (i me : ℕ) (carried : List (ℕ × Unit {0})) (w : LookView)
     → Fits slots r.version r.draft r.links me w
     → Kept slots (stepped t i (get_or t.words i 0) me carried w keeps)
 unmoved slots t r i me carried w mine =
@@ -70,7 +70,7 @@ says_fewer : (few slots : ℕ) (draft : List ℕ) (links : List Link) → few �
 says_fewer few slots draft links le says line inside = says line (omega arith)
 
 -- a new seat
-seated : (slots : ℕ) (t : Table) (r : Kept slots t) (w : View) → w.slots ≤ slots → w.role ≡ Idle → IsLater r.links w.seen
+seated : (slots : ℕ) (t : Table) (r : Kept slots t) (w : LookView) → w.slots ≤ slots → w.role ≡ Idle → IsLater r.links w.seen
     → Kept slots (record { words = t.words; homes = t.homes; views = t.views ++ w ∷ [] })
 seated slots t r w here idle later = record {
   version = r.version;
@@ -82,23 +82,23 @@ seated slots t r w here idle later = record {
   draft_is = r.draft_is;
   says = r.says;
   seats = λ j v e. ⊎_elim (r.seats j v)
-      (λ (same : w ≡ v). subst (λ (x : View). Fits slots r.version r.draft r.links j x) same
+      (λ (same : w ≡ v). subst (λ (x : LookView). Fits slots r.version r.draft r.links j x) same
       (here, subst (λ (x : Role). Knows r.version r.draft r.links j x) (sym idle) tt, later))
       (at_snoc t.views w v j e);
 }
 
 -- ---- readers
 
-pub sit_allowed : (slots count word : ℕ) (first : View) → first.slots ≡ slots → Enters (Kept slots) count word (λ n w. MakesSeat (step count word 0 0 none) (first, []) n (w, []))
-sit_allowed slots count word first here t r _ _ = let w : View = view first.slots Idle [] in
+pub sit_allowed : (slots count word : ℕ) (first : LookView) → first.slots ≡ slots → Enters (Kept slots) count word (λ n w. MakesSeat (step count word 0 0 none) (first, []) n (w, []))
+sit_allowed slots count word first here t r _ _ = let w : LookView = view first.slots Idle [] in
     (w, seated slots t r w (omega (arith, here)) refl (r.links, sym (append-nil r.links)), refl)
 
 pub begin_allowed : (slots count id : ℕ) (me : Seated) → Allows (Kept slots) count id me 0 (λ n. n) (MakesBegin (step count 0 0 0 none) me)
 begin_allowed slots count id me t r _ at _ = let x : ℕ = get_or t.words 0 0 in let mine = r.seats id me.0 at in let now : x ≡ r.version = r.version_is in
     dite (ℕ_discrete (x % 2) 0)
-    (λ even. let w : View = view me.0.slots (Reading x []) me.0.seen in
+    (λ even. let w : LookView = view me.0.slots (Reading x []) me.0.seen in
     (w, keeps, tt, unmoved slots t r 0 id me.1 w (mine.0, (even, (omega arith), λ _. tt), mine.2), ((refl, refl, λ _. refl), refl)))
-    (λ odd. let w : View = view me.0.slots Idle me.0.seen in (w, keeps, tt, unmoved slots t r 0 id me.1 w (mine.0, tt, mine.2), ((refl, refl, λ even. absurd (odd even)), refl)))
+    (λ odd. let w : LookView = view me.0.slots Idle me.0.seen in (w, keeps, tt, unmoved slots t r 0 id me.1 w (mine.0, tt, mine.2), ((refl, refl, λ even. absurd (odd even)), refl)))
 
 -- what a seat knows after one read more
 grown_knows : (slots : ℕ) (t : Table) (r : Kept slots t) (id i : ℕ) → i < words_for slots → (role : Role) → Knows r.version r.draft r.links id role
@@ -109,7 +109,7 @@ grown_knows slots t r id i inside (Writing plan) k = k
 
 pub peek_allowed : (slots count id : ℕ) (me : Seated) (i : ℕ) → i < words_for slots → Allows (Kept slots) count id me (i + lines_at) (λ n. n) (MakesPeek (step count (i + lines_at) 0 0 none) me)
 peek_allowed slots count id me i inside t r _ at _ = let x : ℕ = get_or t.words (i + lines_at) 0 in let mine = r.seats id me.0 at in
-    let w : View = view me.0.slots (grown i x me.0.role) me.0.seen in let back : i ≡ (i + lines_at) - lines_at = omega arith in (
+    let w : LookView = view me.0.slots (grown i x me.0.role) me.0.seen in let back : i ≡ (i + lines_at) - lines_at = omega arith in (
       w,
       keeps,
       tt,
@@ -118,7 +118,7 @@ peek_allowed slots count id me i inside t r _ at _ = let x : ℕ = get_or t.word
     )
 
 pub check_allowed : (slots count id : ℕ) (me : Seated) → Allows (Kept slots) count id me 0 (λ n. n) (MakesCheck (step count 0 0 0 none) me)
-check_allowed slots count id me t r _ at _ = let mine = r.seats id me.0 at in let w : View = view me.0.slots me.0.role r.links in (
+check_allowed slots count id me t r _ at _ = let mine = r.seats id me.0 at in let w : LookView = view me.0.slots me.0.role r.links in (
   w,
   keeps,
   tt,
@@ -159,7 +159,7 @@ pub move_allowed : (slots count id : ℕ) (me : Seated) (v : ℕ) → IsWriter m
 move_allowed slots count id me v writes next says t r _ at _ =
     let mine = r.seats id me.0 at in let k = plan_kept r.version r.draft r.links id me.0.role writes mine.1 in let p = k.0 in
     let plan : Plan = plan_of me.0.role in let now : plan.version ≡ r.version = p.version_is in
-    let w : View = view me.0.slots (Writing (moved plan)) me.0.seen in let wide = r.wide in let first : id ≡ 0 = k.1 in (
+    let w : LookView = view me.0.slots (Writing (moved plan)) me.0.seen in let wide = r.wide in let first : id ≡ 0 = k.1 in (
       w,
       keeps,
       tt,
@@ -190,7 +190,7 @@ word_changed : (slots count id : ℕ) (me : Seated) (i x : ℕ) (newer : List Li
 word_changed slots count id me i x newer next inside writes odd is t r _ at _ =
     let mine = r.seats id me.0 at in let k = plan_kept r.version r.draft r.links id me.0.role writes mine.1 in let p = k.0 in
     let plan : Plan = plan_of me.0.role in let now : plan.version ≡ r.version = p.version_is in let wide = r.wide in let long = r.long in
-    let w : View = view me.0.slots (Writing next) me.0.seen in let first : id ≡ 0 = k.1 in
+    let w : LookView = view me.0.slots (Writing next) me.0.seen in let first : id ≡ 0 = k.1 in
     let links : List Link = newer ++ r.links in (
       w,
       keeps,
@@ -241,50 +241,21 @@ enter_allowed slots count id me i x inside writes odd =
     word_changed slots count id me i x (link_at (set plan.draft i x) (i / 8) ∷ []) (entered ((i + lines_at) - lines_at) x plan) inside writes odd (ap (λ (z : ℕ). entered z x plan) back)
 
 -- a new reader that has seen what the writer knows keeps the rule
-pub tell_allowed : (slots id : ℕ) (v : View) → IsWriter v → Splits (Kept slots) id v v (told v)
+pub tell_allowed : (slots id : ℕ) (v : LookView) → IsWriter v → Splits (Kept slots) id v v (told v)
 tell_allowed slots id v writes t r at = let mine = r.seats id v at in let k = plan_kept r.version r.draft r.links id v.role writes mine.1 in
     let all : r.links ≡ (plan_of v.role).links = sym k.0.links_are in
-    subst (λ (l : List View). Kept slots (record { words = t.words; homes = t.homes; views = l ++ told v ∷ [] })) (sym (set_again t.views id v at))
+    subst (λ (l : List LookView). Kept slots (record { words = t.words; homes = t.homes; views = l ++ told v ∷ [] })) (sym (set_again t.views id v at))
     (seated slots t r (told v) mine.0 refl ([], all))
 
 -- so does one that has seen what another reader has
-pub copy_allowed : (slots id : ℕ) (v : View) → Splits (Kept slots) id v v (like v)
+pub copy_allowed : (slots id : ℕ) (v : LookView) → Splits (Kept slots) id v v (like v)
 copy_allowed slots id v t r at = let mine = r.seats id v at in
-    subst (λ (l : List View). Kept slots (record { words = t.words; homes = t.homes; views = l ++ like v ∷ [] })) (sym (set_again t.views id v at))
+    subst (λ (l : List LookView). Kept slots (record { words = t.words; homes = t.homes; views = l ++ like v ∷ [] })) (sym (set_again t.views id v at))
     (seated slots t r (like v) mine.0 refl mine.2)
-
--- the writer has seen what a seat has that is given up
-pub hear_allowed : (slots id other : ℕ) (v w : View) → Joins (Kept slots) id v other w (heard v w) given_up
-hear_allowed slots id other v w t r at apart there = (let mine = r.seats id v at in
-    let K : ℕ → View → Type 0 = λ j x. Fits slots r.version r.draft r.links j x in
-    let his : IsLater r.links w.seen = ⊎_elim (λ (e : (other ≡ id) × (heard v w ≡ w)). absurd (apart e.0))
-    (λ (e : (other ≢ id) × (get_elem? t.views other ≡ some w)). (r.seats other w e.1).2) (at_set t.views id other (heard v w) w there) in
-    record {
-      version = r.version;
-      draft = r.draft;
-      links = r.links;
-      wide = r.wide;
-      long = r.long;
-      version_is = r.version_is;
-      draft_is = r.draft_is;
-      says = r.says;
-      seats = seats_after K (set t.views id (heard v w)) other given_up (omega arith, tt, (r.links, sym (append-nil r.links)))
-          (λ j x _ e. seats_after K t.views id (heard v w) (mine.0, mine.1, his) (λ j x _. r.seats j x) j x e);
-    })
-
--- and its links begin with that
-pub compare_allowed : (slots count id : ℕ) (me : Seated) → IsWriter me.0 → Allows (Kept slots) count id me 0 (λ n. n) (MakesCompare (step count 0 0 0 none) me)
-compare_allowed slots count id me writes t r _ at _ = let mine = r.seats id me.0 at in let k = plan_kept r.version r.draft r.links id me.0.role writes mine.1 in (
-  me.0,
-  keeps,
-  tt,
-  unmoved slots t r 0 id me.1 me.0 mine,
-  (refl, subst (λ (l : List Link). IsLater l me.0.seen) (sym k.0.links_are) mine.2),
-)
 
 -- ---- the opening
 
-first_only : (v s : View) (j : ℕ) → get_elem? (v ∷ []) j ≡ some s → (j ≡ 0) × (v ≡ s)
+first_only : (v s : LookView) (j : ℕ) → get_elem? (v ∷ []) j ≡ some s → (j ≡ 0) × (v ≡ s)
 first_only v s zero e = (refl, some-injective v s e)
 first_only v s (suc j) e = absurd (some-ne-none s (sym e))
 
@@ -316,6 +287,6 @@ opening_kept slots version = let n : ℕ = words_for slots in let z : ℕ = 0 in
       draft_is = λ i inside. get_or-set_other all 0 (i + lines_at) version z (λ e. omega arith) ∙ (get_or-replicate (n + lines_at) (i + lines_at) z z (omega arith) ∙ sym (get_or-replicate n i z z inside));
       says = λ even. zeros_say slots n [];
       seats = λ j v e. let f = first_only (opened slots version) v j e in
-          subst (λ (x : ℕ × View). Fits slots version none [] x.0 x.1) (λ i. (sym f.0 i, f.1 i))
+          subst (λ (x : ℕ × LookView). Fits slots version none [] x.0 x.1) (λ i. (sym f.0 i, f.1 i))
           (omega arith, (record { version_is = refl; draft_is = refl; links_are = refl }, refl), ([], refl));
     }

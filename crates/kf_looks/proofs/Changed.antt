@@ -5,7 +5,7 @@ use Rattle.kf_core.specs.declared.key.Key.{Key}
 use Rattle.kf_looks.specs.declared.found.Found.{Found}
 use Rattle.kf_looks.specs.declared.view.Link.{Link}
 use Rattle.kf_looks.specs.declared.view.Role.{Role}
-use Rattle.kf_looks.specs.declared.view.View.{View}
+use Rattle.kf_looks.specs.declared.view.LookView.{LookView}
 use Rattle.kf_looks.specs.Links.{link, IsOfSlot}
 use Rattle.kf_looks.specs.Lines.{SaysTrue, IsPlaced, link_at, words_for}
 use Rattle.kf_looks.specs.Packed.{key_of, child_by}
@@ -22,7 +22,7 @@ pub record IsLineOf (slots slot line : ℕ) : Type 0 where
   pub only : line < slots → slot ≡ line
 
 -- the seat filled a line, entered its last word, and noted a hint
-pub record Changed (slots slot line : ℕ) (a b m d : Seat (Unit {0}) View) (w0 w1 w2 w3 w4 w5 w6 w7 : ℕ) : Type 0 where
+pub record Changed (slots slot line : ℕ) (a b m d : Seat (Unit {0}) LookView) (w0 w1 w2 w3 w4 w5 w6 w7 : ℕ) : Type 0 where
   pub here : a.me.0.slots ≡ slots
   pub line_is : IsLineOf slots slot line
   pub filling : Keeps a b
@@ -37,7 +37,7 @@ pub record AreWordsOf (dir : Key) (name : List ℕ) (child : Option Found) (w0 w
   pub name_is : bytes_of w1 w2 w3 w4 ≡ name
   pub child_is : child_by w5 w6 w7 ≡ child
 
-module _ (slots slot line version : ℕ) (a b m d : Seat (Unit {0}) View) (w0 w1 w2 w3 w4 w5 w6 w7 : ℕ) (dir : Key) (name : List ℕ) (child : Option Found)
+module _ (slots slot line version : ℕ) (a b m d : Seat (Unit {0}) LookView) (w0 w1 w2 w3 w4 w5 w6 w7 : ℕ) (dir : Key) (name : List ℕ) (child : Option Found)
     (knows : WritesTrue a.me.0 version) (r : Changed slots slot line a b m d w0 w1 w2 w3 w4 w5 w6 w7) (words : AreWordsOf dir name child w0 w1 w2 w3 w4 w5 w6 w7) where
   abbrev old : List ℕ
   old = (plan a).draft

@@ -3,7 +3,7 @@ use denote.Builtin.{unit}
 use denote.Param.Send.{IsSend, IsSync, owning_send, part_keyless, sendable}
 use Rattle.atomic_table.specs.contracts.shared.Seat as seat
 use Rattle.atomic_table.proofs.shared.Seat.TheSendSync.{the_send}
-use Rattle.kf_looks.specs.contracts.view.View as view
+use Rattle.kf_looks.specs.contracts.view.LookView as view
 use Rattle.kf_looks.specs.contracts.writer_token.WriterToken.TheInside.{the_row, the_type}
 
 seat_send : IsSend (seat.the_row unit view.the_row)

@@ -6,14 +6,14 @@ use Rattle.atomic_table.specs.declared.shared.Seat.{Seat}
 use Rattle.kf_looks.specs.declared.view.Plan.{Plan}
 use Rattle.kf_looks.specs.declared.view.Role.{Role}
 use Rattle.kf_looks.specs.declared.view.Role.TheVariants.{Writing}
-use Rattle.kf_looks.specs.declared.view.View.{View}
+use Rattle.kf_looks.specs.declared.view.LookView.{LookView}
 use Rattle.kf_looks.specs.Lines.{SaysTrue, IsPlaced, words_for}
 use Rattle.kf_looks.specs.Reading.{IsSameSeat}
 use Rattle.kf_looks.specs.Rule.{plan_of}
 use Rattle.kf_looks.specs.Steps.{grown, put, moved}
 use Rattle.kf_looks.specs.Writing.{plan, links_of, IsWriter, WritesTrue, Plans, Keeps, IsFilled, SameLines}
 
-pub same_again : (a b c : Seat (Unit {0}) View) → IsSameSeat a b → IsSameSeat b c → IsSameSeat a c
+pub same_again : (a b c : Seat (Unit {0}) LookView) → IsSameSeat a b → IsSameSeat b c → IsSameSeat a c
 same_again a b c ab bc = record { table = bc.table ∙ ab.table; slots = bc.slots ∙ ab.slots; seen = bc.seen ∙ ab.seen; carried = bc.carried ∙ ab.carried }
 
 -- ---- the writer's loads
@@ -22,7 +22,7 @@ unread : (i x : ℕ) (p : Plan) (role : Role) → role ≡ Writing p → grown i
 unread i x p role is = subst (λ (r : Role). grown i x r ≡ r) (sym is) refl
 
 -- a load by the writer changes nothing of what it knows
-pub load_keeps : (a b : Seat (Unit {0}) View) (i x : ℕ) → IsWriter a.me.0 → IsSameSeat a b → b.me.0.role ≡ grown i x a.me.0.role
+pub load_keeps : (a b : Seat (Unit {0}) LookView) (i x : ℕ) → IsWriter a.me.0 → IsSameSeat a b → b.me.0.role ≡ grown i x a.me.0.role
     → Keeps a b × ((plan b).draft ≡ (plan a).draft)
 load_keeps a b i x writes same read =
     let role : b.me.0.role ≡ a.me.0.role = read ∙ unread i x (plan_of a.me.0.role) a.me.0.role writes in (
@@ -38,13 +38,13 @@ load_keeps a b i x writes same read =
 
 -- ---- the writer's stores
 
-pub is_writer : (v : View) (p : Plan) → v.role ≡ Writing p → IsWriter v
+pub is_writer : (v : LookView) (p : Plan) → v.role ≡ Writing p → IsWriter v
 is_writer v p is = is ∙ sym (ap (λ (r : Role). Writing (plan_of r)) is)
 
-pub keeps_own : (a : Seat (Unit {0}) View) → IsWriter a.me.0 → Keeps a a
+pub keeps_own : (a : Seat (Unit {0}) LookView) → IsWriter a.me.0 → Keeps a a
 keeps_own a writes = record { table = refl; slots = refl; writes = writes; version_is = refl; links_are = refl }
 
-pub keeps_again : (a b c : Seat (Unit {0}) View) → Keeps a b → Keeps b c → Keeps a c
+pub keeps_again : (a b c : Seat (Unit {0}) LookView) → Keeps a b → Keeps b c → Keeps a c
 keeps_again a b c ab bc = record {
   table = bc.table ∙ ab.table;
   slots = bc.slots ∙ ab.slots;
@@ -54,7 +54,7 @@ keeps_again a b c ab bc = record {
 }
 
 -- a word put
-pub put_keeps : (a b : Seat (Unit {0}) View) (i x : ℕ) → Plans a b (put i x (plan a)) → Keeps a b × ((plan b).draft ≡ set (plan a).draft i x)
+pub put_keeps : (a b : Seat (Unit {0}) LookView) (i x : ℕ) → Plans a b (put i x (plan a)) → Keeps a b × ((plan b).draft ≡ set (plan a).draft i x)
 put_keeps a b i x made = (
   record {
     table = made.table;
@@ -93,7 +93,7 @@ hint_put slots at x old new is behind = record {
 }
 
 -- a version made
-pub moved_true : (a b : Seat (Unit {0}) View) (version : ℕ) → WritesTrue a.me.0 version → Plans a b (moved (plan a)) → WritesTrue b.me.0 (version + 1)
+pub moved_true : (a b : Seat (Unit {0}) LookView) (version : ℕ) → WritesTrue a.me.0 version → Plans a b (moved (plan a)) → WritesTrue b.me.0 (version + 1)
 moved_true a b version old made =
     let draft : (plan b).draft ≡ (plan a).draft = ap (λ (r : Role). (plan_of r).draft) made.role_is in
     let links : links_of b ≡ links_of a = ap (λ (r : Role). (plan_of r).links) made.role_is in

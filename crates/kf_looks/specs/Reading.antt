@@ -5,12 +5,12 @@ use Rattle.kf_looks.specs.declared.view.Link.{Link}
 use Rattle.kf_looks.specs.declared.view.Read.{Read}
 use Rattle.kf_looks.specs.declared.view.Role.{Role}
 use Rattle.kf_looks.specs.declared.view.Role.TheVariants.{Reading}
-use Rattle.kf_looks.specs.declared.view.View.{View}
+use Rattle.kf_looks.specs.declared.view.LookView.{LookView}
 use Rattle.kf_looks.specs.Lines.{SaysTrue}
 use Rattle.kf_looks.specs.Rule.{AllIn}
 
 -- the seat is still that of the same table, of as many slots, and has seen the same links
-pub record IsSameSeat (old new : Seat (Unit {0}) View) : Type 0 where
+pub record IsSameSeat (old new : Seat (Unit {0}) LookView) : Type 0 where
   pub table : new.table_id ≡ old.table_id
   pub slots : new.me.0.slots ≡ old.me.0.slots
   pub seen : new.me.0.seen ≡ old.me.0.seen
@@ -27,6 +27,6 @@ abbrev pub Tells : ℕ → (List Link → Type 0) → List ℕ → Type 0
 Tells slots Fact content = (links : List Link) → SaysTrue slots content links → Fact links
 
 -- the seat has read at this version what shows the fact of all links of which the words are true
-abbrev pub Stands : View → ℕ → (List Link → Type 0) → Type 0
+abbrev pub Stands : LookView → ℕ → (List Link → Type 0) → Type 0
 Stands v version Fact = (reads : List Read) × (v.role ≡ Reading version reads)
     × ((content : List ℕ) → AllIn content reads → Tells v.slots Fact content)

@@ -8,12 +8,12 @@ use Rattle.kf_looks.specs.declared.view.Read.{Read}
 use Rattle.kf_looks.specs.declared.view.Plan.{Plan}
 use Rattle.kf_looks.specs.declared.view.Role.{Role}
 use Rattle.kf_looks.specs.declared.view.Role.TheVariants.{Idle, Reading, Writing}
-use Rattle.kf_looks.specs.declared.view.View.{View}
+use Rattle.kf_looks.specs.declared.view.LookView.{LookView}
 use Rattle.kf_looks.specs.Links.{IsLater}
 use Rattle.kf_looks.specs.Lines.{SaysTrue, lines_at, words_for}
 
 abbrev pub Table : Type 0
-Table = State (Unit {0}) View
+Table = State (Unit {0}) LookView
 
 abbrev pub no_plan : Plan
 no_plan = record { version = 0; draft = []; links = [] }
@@ -54,7 +54,7 @@ pub record Kept (slots : ℕ) (t : Table) : Type 0 where
   pub version_is : slice_index t.words 0 ≡ version
   pub draft_is : (i : ℕ) → i < words_for slots → slice_index t.words (i + lines_at) ≡ slice_index draft i
   pub says : version % 2 ≡ 0 → SaysTrue slots draft links
-  pub seats : (seat : ℕ) (v : View) → get_elem? t.views seat ≡ some v
+  pub seats : (seat : ℕ) (v : LookView) → get_elem? t.views seat ≡ some v
       → (v.slots ≤ slots) × Knows version draft links seat v.role × IsLater links v.seen
 
 -- the plan of the first seat, the writer's
@@ -63,5 +63,5 @@ first_plan slots version =
     record { version = version; draft = replicate (words_for slots) 0; links = [] }
 
 -- the view of the first seat
-abbrev pub opened : ℕ → ℕ → View
+abbrev pub opened : ℕ → ℕ → LookView
 opened slots version = record { slots = slots; role = Writing (first_plan slots version); seen = [] }

@@ -6,16 +6,16 @@ use Rattle.kf_looks.specs.declared.view.Read.{Read}
 use Rattle.kf_looks.specs.declared.view.Plan.{Plan}
 use Rattle.kf_looks.specs.declared.view.Role.{Role}
 use Rattle.kf_looks.specs.declared.view.Role.TheVariants.{Idle, Reading, Writing}
-use Rattle.kf_looks.specs.declared.view.View.{View}
+use Rattle.kf_looks.specs.declared.view.LookView.{LookView}
 use Rattle.kf_looks.specs.Links.{IsLater}
 use Rattle.kf_looks.specs.Lines.{SaysTrue, lines_at, link_at}
 use Rattle.kf_looks.specs.Rule.{AllIn, plan_of}
 
 -- the view of a seat, and the slots that it holds, of which there are none
 abbrev pub Seated : Type 0
-Seated = Me (Unit {0}) View
+Seated = Me (Unit {0}) LookView
 
-abbrev pub view : ℕ → Role → List Link → View
+abbrev pub view : ℕ → Role → List Link → LookView
 view slots role seen = record { slots = slots; role = role; seen = seen }
 
 abbrev pub read : ℕ → ℕ → Read
@@ -33,7 +33,7 @@ abbrev pub MakesSeat : Step (Unit {0}) → Seated → ℕ → Seated → Type 0
 MakesSeat st me found me' = me' ≡ (view me.0.slots Idle [], [])
 
 -- an even version is the one that the seat reads
-abbrev pub Begun : ℕ → View → View → Type 0
+abbrev pub Begun : ℕ → LookView → LookView → Type 0
 Begun found old new = (new.slots ≡ old.slots) × (new.seen ≡ old.seen)
     × (found % 2 ≡ 0 → new.role ≡ Reading found [])
 
@@ -46,7 +46,7 @@ MakesPeek st me found me' =
 
 -- the links that are seen now are all that were seen, and maybe later ones. If the version is the one that
 -- was found first, all reads stand in one content, which is true of these links
-pub record Passed (found : ℕ) (old new : View) : Type 0 where
+pub record Passed (found : ℕ) (old new : LookView) : Type 0 where
   pub slots_are : new.slots ≡ old.slots
   pub role_is : new.role ≡ old.role
   pub later : IsLater new.seen old.seen
@@ -90,20 +90,9 @@ abbrev pub MakesEntry : Step (Unit {0}) → Seated → ℕ → Seated → Type 0
 MakesEntry st me found me' = Becomes (entered (st.word - lines_at) st.first (plan_of me.0.role)) me me'
 
 -- a new reader has seen all links that the writer has made
-abbrev pub told : View → View
+abbrev pub told : LookView → LookView
 told v = view v.slots Idle (plan_of v.role).links
 
 -- a new reader has seen what another has
-abbrev pub like : View → View
+abbrev pub like : LookView → LookView
 like v = view v.slots Idle v.seen
-
--- the writer has seen what another seat has, which is given up
-abbrev pub heard : View → View → View
-heard writer other = view writer.slots writer.role other.seen
-
-abbrev pub given_up : View
-given_up = view 0 Idle []
-
--- the writer's links begin with all that it has seen
-abbrev pub MakesCompare : Step (Unit {0}) → Seated → ℕ → Seated → Type 0
-MakesCompare st me found me' = (me' ≡ me) × IsLater (plan_of me.0.role).links me.0.seen

@@ -4,25 +4,25 @@ use Rattle.atomic_table.specs.declared.shared.Seat.{Seat}
 use Rattle.kf_looks.specs.declared.view.Link.{Link}
 use Rattle.kf_looks.specs.declared.view.Plan.{Plan}
 use Rattle.kf_looks.specs.declared.view.Role.TheVariants.{Writing}
-use Rattle.kf_looks.specs.declared.view.View.{View}
+use Rattle.kf_looks.specs.declared.view.LookView.{LookView}
 use Rattle.kf_looks.specs.Lines.{SaysTrue, IsPlaced, words_for}
 use Rattle.kf_looks.specs.Rule.{plan_of}
 
 -- what the seat plans
-abbrev pub plan : Seat (Unit {0}) View → Plan
+abbrev pub plan : Seat (Unit {0}) LookView → Plan
 plan seat = plan_of seat.me.0.role
 
 -- all links, as the writer knows them
-abbrev pub links_of : Seat (Unit {0}) View → List Link
+abbrev pub links_of : Seat (Unit {0}) LookView → List Link
 links_of seat = (plan seat).links
 
 -- the view is the writer's
-abbrev pub IsWriter : View → Type 0
+abbrev pub IsWriter : LookView → Type 0
 IsWriter v = v.role ≡ Writing (plan_of v.role)
 
 -- the view is the writer's, at this version. What the words say is true of all links, and each child stands
 -- in the line of its slot
-pub record WritesTrue (v : View) (version : ℕ) : Type 0 where
+pub record WritesTrue (v : LookView) (version : ℕ) : Type 0 where
   pub writes : IsWriter v
   pub version_is : (plan_of v.role).version ≡ version
   pub long : length (plan_of v.role).draft ≡ words_for v.slots
@@ -30,19 +30,19 @@ pub record WritesTrue (v : View) (version : ℕ) : Type 0 where
   pub placed : IsPlaced v.slots (plan_of v.role).draft
 
 -- the seat is still that of the same table, of as many slots, and plans this
-pub record Plans (old new : Seat (Unit {0}) View) (next : Plan) : Type 0 where
+pub record Plans (old new : Seat (Unit {0}) LookView) (next : Plan) : Type 0 where
   pub table : new.table_id ≡ old.table_id
   pub slots : new.me.0.slots ≡ old.me.0.slots
   pub role_is : new.me.0.role ≡ Writing next
 
 -- the seat is still that of the same table, and knows the same
-pub record IsSameWriter (old new : Seat (Unit {0}) View) : Type 0 where
+pub record IsSameWriter (old new : Seat (Unit {0}) LookView) : Type 0 where
   pub table : new.table_id ≡ old.table_id
   pub me : new.me ≡ old.me
 
 -- the seat is still the writer's of the same table, of as many slots, at the same version and with the same
 -- links
-pub record Keeps (old new : Seat (Unit {0}) View) : Type 0 where
+pub record Keeps (old new : Seat (Unit {0}) LookView) : Type 0 where
   pub table : new.table_id ≡ old.table_id
   pub slots : new.me.0.slots ≡ old.me.0.slots
   pub writes : IsWriter new.me.0

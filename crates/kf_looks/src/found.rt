@@ -11,7 +11,7 @@ pub struct Found {
 
 /// What was found, and at which version of the words it stands.
 #[derive(Clone, Copy, Debug)]
-pub struct Sight {
+pub struct FoundAt {
     pub found: Found,
     pub(crate) version: u64,
 }

@@ -3,7 +3,7 @@ ghost use Rattle.std.specs.Prelude.{◌≡◌, ◌+◌, ◌*◌, ◌<◌, ◌≤
 ghost use Rattle.kf_looks.specs.Lines.{words_for};
 ghost use Rattle.kf_looks.specs.Reading.{IsSameSeat, Follows};
 
-use crate::looks::Looks;
+use crate::lookup_table::LookupTable;
 use crate::short_name::ShortName;
 use crate::table::LookSeat;
 
@@ -35,7 +35,7 @@ fn name_hash(name: &ShortName) -> u64 {
     all ^ (all / HALF)
 }
 
-impl Looks {
+impl LookupTable {
     /// The place of a name's hints, by the slot of its directory. A walk passes the line that the hint of the
     /// directory named: so the processor loads the next hint before that line has come.
     #[inline(always)]

@@ -4,7 +4,7 @@ ghost use Rattle.kf_looks.specs.Lines.{lines_at, words_for};
 ghost use Rattle.kf_looks.specs.Reading.{IsSameSeat};
 ghost use Rattle.kf_looks.specs.Steps.{Begun, Passed, grown};
 
-use crate::looks::Looks;
+use crate::lookup_table::LookupTable;
 use crate::plays::{Begins, Checks, Peeks};
 use crate::table::{LINES_AT, LookSeat};
 
@@ -16,7 +16,7 @@ pub struct Looker {
     ghost bare: { seat.me.1 ≡ [] },
 }
 
-impl Looks {
+impl LookupTable {
     /// Loads the version first.
     #[inline(always)]
     pub(crate) fn begin(&self, seat: &mut LookSeat) -> u64

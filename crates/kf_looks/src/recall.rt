@@ -5,7 +5,7 @@ ghost use Rattle.kf_looks.specs.Links.{child_of};
 ghost use Rattle.kf_looks.specs.Writing.{plan, links_of, IsWriter, IsSameWriter};
 
 use crate::found::Found;
-use crate::looks::Looks;
+use crate::lookup_table::LookupTable;
 use crate::packed::key_word;
 use crate::plays::Recalls;
 use crate::short_name::ShortName;
@@ -14,7 +14,7 @@ use crate::walk::child_there;
 use crate::writer::Section;
 use kf_core::Key;
 
-impl Looks {
+impl LookupTable {
     /// A word behind the version, which is the one that the writer planned.
     fn recall(&self, seat: &mut LookSeat, index: usize) -> u64
         requires table { seat.old.table_id ≡ self.now.table.shared.table_id }

@@ -33,7 +33,7 @@ pub enum Role {
 
 /// What a seat knows: how many slots the table has lines for, what it does, and the links that it has seen,
 /// the last first.
-pub struct View {
+pub struct LookView {
     pub slots: u64,
     pub role: Role,
     pub seen: [Link; 0],

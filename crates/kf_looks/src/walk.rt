@@ -9,8 +9,8 @@ ghost use Rattle.kf_core.specs.Paths.{is_slash, is_empty};
 ghost use Rattle.kf_looks.specs.Paths.{led};
 ghost use Rattle.kf_looks.specs.Reading.{IsSameSeat, Follows, Tells, Stands};
 
-use crate::found::{Found, Sight};
-use crate::looks::Looks;
+use crate::found::{Found, FoundAt};
+use crate::lookup_table::LookupTable;
 use crate::packed::{DIR, child_in, key_in, key_word, node_in};
 use crate::path::first_part;
 use crate::reader::Looker;
@@ -72,7 +72,7 @@ pub(crate) fn child_there(line: &[u64; 8], dir: u64, name: &ShortName) -> Option
     child_in(line[5], line[6], line[7])
 }
 
-impl Looks {
+impl LookupTable {
     /// What a line says of its child, if it says that the child has this name in this directory.
     #[inline(always)]
     fn child_at(&self, seat: &mut LookSeat, line: usize, dir: u64, name: &ShortName) -> Option<Here>
@@ -85,34 +85,29 @@ impl Looks {
             (Some (found_of child.key child.more child.shape)))) }
     {
         let at = 8 * line;
-        let its_dir = self.word(seat, at);
-        if its_dir != dir {
+        if self.word(seat, at) != dir {
             return None;
         }
-        let count = self.word(seat, at + 1);
-        if count != name.count {
+        if self.word(seat, at + 1) != name.count {
             return None;
         }
-        let first = self.word(seat, at + 2);
-        if first != name.first {
+        if self.word(seat, at + 2) != name.first {
             return None;
         }
-        let second = self.word(seat, at + 3);
-        if second != name.second {
+        if self.word(seat, at + 3) != name.second {
             return None;
         }
-        let third = self.word(seat, at + 4);
-        if third != name.third {
+        if self.word(seat, at + 4) != name.third {
             return None;
         }
-        let key = self.word(seat, at + 5);
-        let more = self.word(seat, at + 6);
+        let (key, more) = (self.word(seat, at + 5), self.word(seat, at + 6));
         let shape = self.word(seat, at + 7);
         if shape == 0 {
             return None;
         }
+        let line = line as u64;
         Some(Here {
-            line: line as u64,
+            line,
             key,
             more,
             shape,
@@ -186,9 +181,9 @@ impl Looks {
         Some(last)
     }
 
-    /// One try of [`Looks::look`].
+    /// One try of [`LookupTable::look`].
     #[inline(always)]
-    fn look_once(&self, looker: &mut Looker, root: Key, path: &[u8]) -> Result<Sight, Miss>
+    fn look_once(&self, looker: &mut Looker, root: Key, path: &[u8]) -> Result<FoundAt, Miss>
         requires table { looker.old.seat.table_id ≡ self.now.table.shared.table_id }
         ensures table { looker.new.seat.table_id ≡ looker.old.seat.table_id }
         ensures later { IsLater (seen looker.new) (seen looker.old) }
@@ -206,7 +201,7 @@ impl Looks {
             return Err(Miss::Changed);
         }
         match found {
-            Some(found) => Ok(Sight { found, version }),
+            Some(found) => Ok(FoundAt { found, version }),
             None => Err(Miss::NotThere),
         }
     }
@@ -218,7 +213,7 @@ impl Looks {
     ///
     /// None is no refusal: ask under the lock. A name is longer than 24 bytes, is not there or has no line;
     /// or the path has another form; or a change came during each try.
-    pub fn look(&self, looker: &mut Looker, root: Key, path: &[u8]) -> Option<Sight>
+    pub fn look(&self, looker: &mut Looker, root: Key, path: &[u8]) -> Option<FoundAt>
         requires table { looker.old.seat.table_id ≡ self.now.table.shared.table_id }
         ensures table { looker.new.seat.table_id ≡ looker.old.seat.table_id }
         ensures later { IsLater (seen looker.new) (seen looker.old) }
@@ -242,7 +237,7 @@ impl Looks {
     /// seen: all that had been seen, and maybe later ones.
     ///
     /// Condition: it is the last sight of this reader's `look`, maybe after calls of `again`.
-    pub fn again(&self, looker: &mut Looker, sight: &Sight, root: Key, path: &[u8]) -> bool
+    pub fn again(&self, looker: &mut Looker, sight: &FoundAt, root: Key, path: &[u8]) -> bool
         requires table { looker.old.seat.table_id ≡ self.now.table.shared.table_id }
         requires stands { Stands looker.old.seat.me.0 sight.now.version
             (λ links. led links root path.now ≡ Some sight.now.found) }

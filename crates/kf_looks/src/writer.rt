@@ -7,7 +7,7 @@ ghost use Rattle.kf_looks.specs.Writing.{plan, links_of, IsWriter, WritesTrue, P
 
 use crate::found::Found;
 use crate::hint::{Place, WAYS};
-use crate::looks::Looks;
+use crate::lookup_table::LookupTable;
 use crate::packed::{child_words, key_word};
 use crate::plays::{Enters, Moves, Puts};
 use crate::short_name::ShortName;
@@ -37,7 +37,7 @@ pub struct Section {
     ghost odd: { version % 2 ≡ 1 },
 }
 
-impl Looks {
+impl LookupTable {
     /// Makes the next version.
     fn advance(&self, seat: &mut LookSeat, version: u64)
         requires table { seat.old.table_id ≡ self.now.table.shared.table_id }
@@ -164,7 +164,7 @@ impl Looks {
         ensures knows { WritesTrue seat.new.me.0 version }
         ensures linked { links_of seat.new ≡ link dir (bytes_in name.now) child ∷ links_of seat.old }
     {
-        let _ = version; // the contract alone names it
+        let _ = version; // only the contract names it
         let dir_word = key_word(dir);
         let (key, more, shape) = child_words(child);
         let line = if (slot as u64) < self.slots {
@@ -172,15 +172,8 @@ impl Looks {
         } else {
             self.slots as usize
         };
-        let words = [
-            dir_word,
-            name.count,
-            name.first,
-            name.second,
-            name.third,
-            key,
-            more,
-        ];
+        let (count, first, second, third) = (name.count, name.first, name.second, name.third);
+        let words = [dir_word, count, first, second, third, key, more];
         self.fill(seat, 8 * line, &words);
         self.enter(seat, 8 * line + 7, shape);
         let given = shape != 0 && (slot as u64) < self.slots;

@@ -2,22 +2,22 @@
 //! look at what lies beside a writer, as threads do that only read the tree.
 ghost use Rattle.std.specs.Prelude.{◌≡◌};
 
-use crate::view::View;
+use crate::view::LookView;
 use atomic_table::Seat;
 use std::marker::Model;
 
 /// The writer's seat at the table, which is reached only through a `&mut`. To a contract it is that seat.
 #[derive(Drop)]
 pub struct WriterToken {
-    pub(crate) seat: Seat<(), View>,
+    pub(crate) seat: Seat<(), LookView>,
 }
 
 impl Model for WriterToken {
     ghost use Rattle.std.specs.Borrow.{ftrue};
     ghost use Rattle.atomic_table.specs.declared.shared.Seat.{Seat};
-    ghost use Rattle.kf_looks.specs.declared.view.View.{View};
+    ghost use Rattle.kf_looks.specs.declared.view.LookView.{LookView};
 
-    ghost Value = { Seat (Unit {0}) View };
+    ghost Value = { Seat (Unit {0}) LookView };
 
     ghost view = { λ token. token.seat };
 
@@ -33,7 +33,7 @@ unsafe impl Sync for WriterToken {}
 
 impl WriterToken {
     /// The token of this seat.
-    pub(crate) fn new(seat: Seat<(), View>) -> WriterToken
+    pub(crate) fn new(seat: Seat<(), LookView>) -> WriterToken
         ensures same { result ≡ seat }
     {
         WriterToken { seat }

@@ -8,13 +8,13 @@ use native.Mathlib.Decide.{ℕ_discrete}
 use lib.ListN.{get_elem?}
 use Rattle.atomic_table.specs.Table.{stepped, keeps, opening}
 use Rattle.atomic_table.proofs.Lists.{at_set, at_snoc, set_again}
-use Rattle.kf_notify.specs.declared.view.View.{View}
+use Rattle.kf_notify.specs.declared.view.NumberView.{NumberView}
 use Rattle.kf_notify.specs.Rule.{Table, NumbersShown, KnowsNext, IsSeated, number_at, opened}
 use Rattle.kf_notify.specs.Steps.{loaded, raised, doubled}
 
 -- what holds of a seat's new view and of all others holds of all views after its step
-each_after : (views : List View) (seat : ℕ) (w : View) (P : View → Type 0) → P w → ((j : ℕ) (s : View) → get_elem? views j ≡ some s → P s)
-    → (j : ℕ) (s : View) → get_elem? (set views seat w) j ≡ some s → P s
+each_after : (views : List NumberView) (seat : ℕ) (w : NumberView) (P : NumberView → Type 0) → P w → ((j : ℕ) (s : NumberView) → get_elem? views j ≡ some s → P s)
+    → (j : ℕ) (s : NumberView) → get_elem? (set views seat w) j ≡ some s → P s
 each_after views seat w P own others j s e = ⊎_elim (λ x. subst P x.1 own) (λ x. others j s x.1) (at_set views seat j w s e)
 
 -- a seat's place is among the views
@@ -24,11 +24,11 @@ seat_within (x ∷ xs) zero v e = omega arith
 seat_within (x ∷ xs) (suc seat) v e = let r = seat_within xs seat v e in omega arith
 
 -- a load keeps it
-pub load_keeps : (slots start : ℕ) (t : Table) (seat : ℕ) (v : View) (slot : ℕ) → NumbersShown slots start t → IsSeated t seat v → slot < slots
+pub load_keeps : (slots start : ℕ) (t : Table) (seat : ℕ) (v : NumberView) (slot : ℕ) → NumbersShown slots start t → IsSeated t seat v → slot < slots
     → NumbersShown slots start (stepped t slot (number_at t slot) seat [] (loaded slot (number_at t slot) v) keeps)
 load_keeps slots start t seat v slot h at near =
     let n : ℕ = get_or t.words slot 0 in
-    let w : View = loaded slot n v in
+    let w : NumberView = loaded slot n v in
     let same : set t.words slot n ≡ t.words = set-get_or t.words slot 0 in
     let kept : NumbersShown slots start (record { words = t.words; homes = t.homes; views = set t.views seat w }) = record {
       wide = h.wide;
@@ -46,12 +46,12 @@ grown words i number k near = dite (ℕ_discrete k i)
     (λ other. let w = get_or-set_other words i k (max (get_or words i 0) number) 0 other in omega arith)
 
 -- a number raised keeps it
-pub raise_keeps : (slots start : ℕ) (t : Table) (seat : ℕ) (v : View) (number : ℕ) → NumbersShown slots start t → IsSeated t seat v → v.slot < slots → number ≡ v.found + 1
+pub raise_keeps : (slots start : ℕ) (t : Table) (seat : ℕ) (v : NumberView) (number : ℕ) → NumbersShown slots start t → IsSeated t seat v → v.slot < slots → number ≡ v.found + 1
     → NumbersShown slots start (stepped t v.slot (max (number_at t v.slot) number) seat [] (raised number v) keeps)
 raise_keeps slots start t seat v number h at near next =
     let i : ℕ = v.slot in
     let n : ℕ = get_or t.words i 0 in
-    let w : View = raised number v in
+    let w : NumberView = raised number v in
     let words : List ℕ = set t.words i (max n number) in
     let wide = h.wide in
     let within : i < length t.words = omega arith in
@@ -67,7 +67,7 @@ raise_keeps slots start t seat v number h at near next =
     }
 
 -- a seat doubled keeps it
-pub double_keeps : (slots start seat : ℕ) (v : View) (t : Table) → NumbersShown slots start t → IsSeated t seat v
+pub double_keeps : (slots start seat : ℕ) (v : NumberView) (t : Table) → NumbersShown slots start t → IsSeated t seat v
     → NumbersShown slots start (record { words = t.words; homes = t.homes; views = set t.views seat v ++ doubled v ∷ [] })
 double_keeps slots start seat v t h at =
     let same : set t.views seat v ≡ t.views = set_again t.views seat v at in
@@ -76,15 +76,15 @@ double_keeps slots start seat v t h at =
     let old_next = old.next in
     let kept : NumbersShown slots start (record { words = t.words; homes = t.homes; views = t.views ++ doubled v ∷ [] }) = record {
       wide = h.wide;
-      first = λ j s e. ⊎_elim (λ x. h.first j s x) (λ x. subst (λ (y : View). y.start ≡ start) x (h.first seat v at)) (at_snoc t.views (doubled v) s j e);
-      knows = λ j s e. ⊎_elim (λ x. h.knows j s x) (λ x. subst (λ (y : View). KnowsNext y) x (record { found = old_found; next = old_next })) (at_snoc t.views (doubled v) s j e);
-      known = λ j s e. ⊎_elim (λ x. h.known j s x) (λ x. subst (λ (y : View). y.known ≤ get_or t.words y.slot 0) x (h.known seat v at)) (at_snoc t.views (doubled v) s j e);
+      first = λ j s e. ⊎_elim (λ x. h.first j s x) (λ x. subst (λ (y : NumberView). y.start ≡ start) x (h.first seat v at)) (at_snoc t.views (doubled v) s j e);
+      knows = λ j s e. ⊎_elim (λ x. h.knows j s x) (λ x. subst (λ (y : NumberView). KnowsNext y) x (record { found = old_found; next = old_next })) (at_snoc t.views (doubled v) s j e);
+      known = λ j s e. ⊎_elim (λ x. h.known j s x) (λ x. subst (λ (y : NumberView). y.known ≤ get_or t.words y.slot 0) x (h.known seat v at)) (at_snoc t.views (doubled v) s j e);
       least = h.least;
     } in
-    subst (λ (l : List View). NumbersShown slots start (record { words = t.words; homes = t.homes; views = l ++ doubled v ∷ [] })) (sym same) kept
+    subst (λ (l : List NumberView). NumbersShown slots start (record { words = t.words; homes = t.homes; views = l ++ doubled v ∷ [] })) (sym same) kept
 
 -- the only seat at the opening
-first_only : (v s : View) (j : ℕ) → get_elem? (v ∷ []) j ≡ some s → v ≡ s
+first_only : (v s : NumberView) (j : ℕ) → get_elem? (v ∷ []) j ≡ some s → v ≡ s
 first_only v s zero e = some-injective v s e
 first_only v s (suc j) e = absurd (some-ne-none s (sym e))
 
@@ -101,8 +101,8 @@ length-replicate (suc n) x = ap suc (length-replicate n x)
 pub opening_shown : (slots words start : ℕ) → slots ≤ words → NumbersShown slots start (opening (replicate words start) [] (opened start))
 opening_shown slots words start enough = record {
   wide = let long = length-replicate words start in omega arith;
-  first = λ j s e. subst (λ (y : View). y.start ≡ start) (first_only (opened start) s j e) refl;
-  knows = λ j s e. subst (λ (y : View). KnowsNext y) (first_only (opened start) s j e) (record { found = omega arith; next = omega arith });
-  known = λ j s e. subst (λ (y : View). y.known ≤ get_or (replicate words start) y.slot 0) (first_only (opened start) s j e) (omega arith);
+  first = λ j s e. subst (λ (y : NumberView). y.start ≡ start) (first_only (opened start) s j e) refl;
+  knows = λ j s e. subst (λ (y : NumberView). KnowsNext y) (first_only (opened start) s j e) (record { found = omega arith; next = omega arith });
+  known = λ j s e. subst (λ (y : NumberView). y.known ≤ get_or (replicate words start) y.slot 0) (first_only (opened start) s j e) (omega arith);
   least = λ k below. let a = replicated words k start (omega arith) in omega arith;
 }

@@ -6,9 +6,9 @@ use mathlib.Core.Option.{some, some-injective, some-ne-none}
 use mathlib.Core.List.{IsPrefix}
 use native.Mathlib.Decide.{dec_le}
 use lib.ListN.{get_elem?}
-use Rattle.kf_notify.specs.declared.sight.Sight.{Sight}
+use Rattle.kf_notify.specs.declared.sight.NumberSight.{NumberSight}
 use Rattle.kf_notify.specs.Rule.{Table, NumbersShown, number_at}
-use Rattle.kf_notify.specs.TableSteps.{StepKind, raises, NumberRun}
+use Rattle.kf_notify.specs.TableSteps.{NumberStepKind, raises, NumberRun}
 use Rattle.kf_notify.specs.History.{erased, opened_as, IsBeginning, first_sight, OpensKept, EndsARun, SeenLeadsHere, RaisedEverAfter, FirstOrRaised, OneRunIsSeen}
 use Rattle.kf_notify.proofs.Allowed.{replicated}
 use Rattle.kf_notify.proofs.Runs.{opens_well, rule_kept, step_keeps, never_goes_back, none_skipped}
@@ -24,8 +24,8 @@ opens_kept o = record {
   shown = opens_well o.slots o.start;
 }
   where
-    first : (place : ℕ) (s : Sight) → get_elem? (first_sight o ∷ []) place ≡ some s → IsBeginning o s.seen []
-    first zero s e = subst (λ (x : Sight). IsBeginning o x.seen []) (some-injective (first_sight o) s e) (refl, ([], refl))
+    first : (place : ℕ) (s : NumberSight) → get_elem? (first_sight o ∷ []) place ≡ some s → IsBeginning o s.seen []
+    first zero s e = subst (λ (x : NumberSight). IsBeginning o x.seen []) (some-injective (first_sight o) s e) (refl, ([], refl))
     first (suc place) s e = absurd (some-ne-none s (sym e))
 
 pub ends_a_run : EndsARun
@@ -34,17 +34,17 @@ ends_a_run o t kept = (kept.run, kept.shown)
 pub seen_leads_here : SeenLeadsHere
 seen_leads_here o t kept place s at =
     let b = kept.seen place s at in
-    let later : List StepKind = b.1.0 in
-    let p = run_parts o.slots s.seen.steps later (opened_as o) (erased t) (subst (λ (l : List StepKind). NumberRun o.slots (opened_as o) l (erased t)) (sym b.1.1) kept.run) in
+    let later : List NumberStepKind = b.1.0 in
+    let p = run_parts o.slots s.seen.steps later (opened_as o) (erased t) (subst (λ (l : List NumberStepKind). NumberRun o.slots (opened_as o) l (erased t)) (sym b.1.1) kept.run) in
     let met : NumbersShown o.slots o.start p.0 = rule_kept o.slots o.start (opened_as o) s.seen.steps p.0 (opens_well o.slots o.start) p.1 in
     (b.0, later, p.0, b.1.1, met, p.1, p.2, never_goes_back o.slots o.start p.0 later (erased t) met p.2)
 
 -- after a raise in a run, a slot's number is no less than what it was raised to
-raised_in : (slots start : ℕ) (t : Table) (kinds : List StepKind) (t' : Table) (seat slot number : ℕ) → NumbersShown slots start t → NumberRun slots t kinds t' → Contains kinds (raises seat slot number)
+raised_in : (slots start : ℕ) (t : Table) (kinds : List NumberStepKind) (t' : Table) (seat slot number : ℕ) → NumbersShown slots start t → NumberRun slots t kinds t' → Contains kinds (raises seat slot number)
     → number ≤ number_at t' slot
 raised_in slots start t [] t' seat slot number h run at = let near = at.1 in absurd (omega arith)
 raised_in slots start t (kind ∷ kinds) t' seat slot number h run (zero, near, is) =
-    stays_raised slots start t seat slot number kinds t' h (subst (λ (k : StepKind). NumberRun slots t (k ∷ kinds) t') is run)
+    stays_raised slots start t seat slot number kinds t' h (subst (λ (k : NumberStepKind). NumberRun slots t (k ∷ kinds) t') is run)
 raised_in slots start t (kind ∷ kinds) t' seat slot number h run (suc i, near, is) =
     raised_in slots start run.0 kinds t' seat slot number (step_keeps slots start t kind run.0 h run.1) run.2 (i, omega arith, is)
 

@@ -7,7 +7,7 @@ use native.Mathlib.Decide.{ℕ_discrete, dec_le}
 use Rattle.atomic_table.specs.Table.{stepped, keeps}
 use Rattle.kf_notify.specs.Rule.{Table, NumbersShown, number_at}
 use Rattle.kf_notify.specs.Steps.{raised}
-use Rattle.kf_notify.specs.TableSteps.{StepKind, loads, raises, doubles, NumberStep}
+use Rattle.kf_notify.specs.TableSteps.{NumberStepKind, loads, raises, doubles, NumberStep}
 use Rattle.kf_notify.specs.Laws.{NeverBelow, NeverBelowTheFirst, OpensWell, RuleKept, NeverGoesBack, NoneSkipped}
 use Rattle.kf_notify.proofs.Allowed.{load_keeps, raise_keeps, double_keeps, opening_shown}
 
@@ -20,7 +20,7 @@ never_below_the_first slots start t shown = shown.least
 pub opens_well : OpensWell
 opens_well slots start = opening_shown slots (max slots 1) start (omega arith)
 
-pub step_keeps : (slots start : ℕ) (t : Table) (kind : StepKind) (t' : Table) → NumbersShown slots start t → NumberStep slots t kind t' → NumbersShown slots start t'
+pub step_keeps : (slots start : ℕ) (t : Table) (kind : NumberStepKind) (t' : Table) → NumbersShown slots start t → NumberStep slots t kind t' → NumbersShown slots start t'
 step_keeps slots start t (loads seat slot) t' h s = subst (λ (u : Table). NumbersShown slots start u) (sym s.3) (load_keeps slots start t seat s.0 slot h s.1 s.2)
 step_keeps slots start t (raises seat slot number) t' h s =
     let kept : NumbersShown slots start (stepped t s.0.slot (max (number_at t s.0.slot) number) seat [] (raised number s.0) keeps) =
@@ -34,7 +34,7 @@ rule_kept slots start t [] t' h run = subst (λ (u : Table). NumbersShown slots 
 rule_kept slots start t (kind ∷ kinds) t' h run = rule_kept slots start run.0 kinds t' (step_keeps slots start t kind run.0 h run.1) run.2
 
 -- a step leaves a slot's number, or it is the raise that made the next
-abbrev StaysOrRises : Table → StepKind → Table → ℕ → Type 0
+abbrev StaysOrRises : Table → NumberStepKind → Table → ℕ → Type 0
 StaysOrRises t kind t' slot = (number_at t' slot ≡ number_at t slot)
     ⊎ ((number_at t' slot ≡ number_at t slot + 1) × (seat : ℕ) × (kind ≡ raises seat slot (number_at t slot + 1)))
 
@@ -60,7 +60,7 @@ raise_stays_or_rises slots start t seat slot number t' h s k =
     inr (omega arith, seat, ap (λ (i : ℕ). raises seat i number) (sym same) ∙ ap (λ (i : ℕ). raises seat k i) one)))
     (λ other. inl (moved ∙ get_or-set_other t.words slot k (max n number) 0 other))
 
-stays_or_rises : (slots start : ℕ) (t : Table) (kind : StepKind) (t' : Table) → NumbersShown slots start t → NumberStep slots t kind t' → (k : ℕ) → StaysOrRises t kind t' k
+stays_or_rises : (slots start : ℕ) (t : Table) (kind : NumberStepKind) (t' : Table) → NumbersShown slots start t → NumberStep slots t kind t' → (k : ℕ) → StaysOrRises t kind t' k
 stays_or_rises slots start t (loads seat slot) t' h s k = inl (ap (λ (u : Table). number_at u k) s.3 ∙ ap (λ (l : List ℕ). get_or l k 0) (set-get_or t.words slot 0))
 stays_or_rises slots start t (raises seat slot number) t' h s k = raise_stays_or_rises slots start t seat slot number t' h s k
 stays_or_rises slots start t (doubles seat) t' h s k = inl (ap (λ (u : Table). number_at u k) s.2)
@@ -73,7 +73,7 @@ never_goes_back slots start t (kind ∷ kinds) t' h run k =
     omega arith
 
 -- what a later step did, a step of the whole run did
-later_too : (kind : StepKind) (kinds : List StepKind) (slot number : ℕ) → (seat : ℕ) × Contains kinds (raises seat slot number) → (seat : ℕ) × Contains (kind ∷ kinds) (raises seat slot number)
+later_too : (kind : NumberStepKind) (kinds : List NumberStepKind) (slot number : ℕ) → (seat : ℕ) × Contains kinds (raises seat slot number) → (seat : ℕ) × Contains (kind ∷ kinds) (raises seat slot number)
 later_too kind kinds slot number r = let at = r.1 in let near = at.1 in (r.0, (suc at.0, omega arith, at.2))
 
 pub none_skipped : NoneSkipped

@@ -4,52 +4,52 @@ use mathlib.Core.Option.{some}
 use mathlib.Core.List.{IsPrefix}
 use lib.ListN.{get_elem?}
 use Rattle.atomic_table.specs.Table.{State, opening}
-use Rattle.kf_notify.specs.declared.sight.Opening.{Opening}
-use Rattle.kf_notify.specs.declared.sight.Seen.{Seen}
-use Rattle.kf_notify.specs.declared.sight.Sight.{Sight}
+use Rattle.kf_notify.specs.declared.sight.NumberOpening.{NumberOpening}
+use Rattle.kf_notify.specs.declared.sight.NumbersSeen.{NumbersSeen}
+use Rattle.kf_notify.specs.declared.sight.NumberSight.{NumberSight}
 use Rattle.kf_notify.specs.Rule.{Table, NumbersShown, number_at, opened}
 use Rattle.kf_notify.specs.Steps.{doubled}
-use Rattle.kf_notify.specs.TableSteps.{StepKind, raises, NumberRun, opened_table}
+use Rattle.kf_notify.specs.TableSteps.{NumberStepKind, raises, NumberRun, opened_table}
 
 -- the words, and what each seat knows
 abbrev pub SeenTable : Type 0
-SeenTable = State (Unit {0}) Sight
+SeenTable = State (Unit {0}) NumberSight
 
 -- the table without what its seats have seen
 abbrev pub erased : SeenTable → Table
-erased t = record { words = t.words; homes = t.homes; views = map (λ (s : Sight). s.view) t.views }
+erased t = record { words = t.words; homes = t.homes; views = map (λ (s : NumberSight). s.view) t.views }
 
 -- the table that opens so
-abbrev pub opened_as : Opening → Table
+abbrev pub opened_as : NumberOpening → Table
 opened_as o = opened_table o.slots o.start
 
 -- what the first seat knows at the opening: nothing has been done
-abbrev pub first_sight : Opening → Sight
+abbrev pub first_sight : NumberOpening → NumberSight
 first_sight o = record { view = opened o.start; seen = record { opening = o; steps = [] } }
 
 -- what a new seat knows: as much of the run as the seat that it was made of, and no step of its own
-abbrev pub given : Sight → Sight
+abbrev pub given : NumberSight → NumberSight
 given s = record { view = doubled s.view; seen = s.seen }
 
 -- a beginning of the run of these steps, from this opening
-abbrev pub IsBeginning : Opening → Seen → List StepKind → Type 0
+abbrev pub IsBeginning : NumberOpening → NumbersSeen → List NumberStepKind → Type 0
 IsBeginning o seen log = (seen.opening ≡ o) × IsPrefix seen.steps log
 
 -- one run leads here from the opening, each seat has seen a beginning of it, and the words show the views of
 -- all seats
-pub record Kept (o : Opening) (t : SeenTable) : Type 0 where
-  pub log : List StepKind
+pub record Kept (o : NumberOpening) (t : SeenTable) : Type 0 where
+  pub log : List NumberStepKind
   pub run : NumberRun o.slots (opened_as o) log (erased t)
-  pub seen : (place : ℕ) (s : Sight) → get_elem? t.views place ≡ some s → IsBeginning o s.seen log
+  pub seen : (place : ℕ) (s : NumberSight) → get_elem? t.views place ≡ some s → IsBeginning o s.seen log
   pub shown : NumbersShown o.slots o.start (erased t)
 
 -- in each table that meets the rule
-abbrev pub OfEachKept : ((o : Opening) (t : SeenTable) → List StepKind → Type 0) → Type 0
-OfEachKept Law = (o : Opening) (t : SeenTable) (kept : Kept o t) → Law o t kept.log
+abbrev pub OfEachKept : ((o : NumberOpening) (t : SeenTable) → List NumberStepKind → Type 0) → Type 0
+OfEachKept Law = (o : NumberOpening) (t : SeenTable) (kept : Kept o t) → Law o t kept.log
 
 -- the rule holds at each opening
 abbrev pub OpensKept : Type 0
-OpensKept = (o : Opening) → Kept o (opening (replicate (max o.slots 1) o.start) [] (first_sight o))
+OpensKept = (o : NumberOpening) → Kept o (opening (replicate (max o.slots 1) o.start) [] (first_sight o))
 
 -- its words and views are at the end of a run from the opening
 abbrev pub EndsARun : Type 0
@@ -60,8 +60,8 @@ EndsARun = OfEachKept (λ o t log. NumberRun o.slots (opened_as o) log (erased t
 -- the table as it is, in which no number has gone back since
 abbrev pub SeenLeadsHere : Type 0
 SeenLeadsHere = OfEachKept
-    (λ o t log. (place : ℕ) (s : Sight) → get_elem? t.views place ≡ some s → (s.seen.opening ≡ o)
-    × (later : List StepKind) × (mid : Table) × (s.seen.steps ++ later ≡ log)
+    (λ o t log. (place : ℕ) (s : NumberSight) → get_elem? t.views place ≡ some s → (s.seen.opening ≡ o)
+    × (later : List NumberStepKind) × (mid : Table) × (s.seen.steps ++ later ≡ log)
     × NumbersShown o.slots o.start mid × NumberRun o.slots (opened_as o) s.seen.steps mid
     × NumberRun o.slots mid later (erased t)
     × ((slot : ℕ) → number_at mid slot ≤ number_at (erased t) slot))
@@ -79,10 +79,10 @@ FirstOrRaised = OfEachKept (λ o t log. (slot : ℕ) → slot < o.slots → (num
 -- of two seats, one has seen as much of the one run as the other, or more
 abbrev pub OneRunIsSeen : Type 0
 OneRunIsSeen = OfEachKept
-    (λ o t log. (i j : ℕ) (a b : Sight) → get_elem? t.views i ≡ some a → get_elem? t.views j ≡ some b
+    (λ o t log. (i j : ℕ) (a b : NumberSight) → get_elem? t.views i ≡ some a → get_elem? t.views j ≡ some b
     → IsPrefix a.seen.steps b.seen.steps ⊎ IsPrefix b.seen.steps a.seen.steps)
 
 -- a run of the same steps from the same table ends at the same table
 abbrev pub OneEnd : Type 0
-OneEnd = (slots : ℕ) (t u v : Table) (kinds : List StepKind) → NumberRun slots t kinds u
+OneEnd = (slots : ℕ) (t u v : Table) (kinds : List NumberStepKind) → NumberRun slots t kinds u
     → NumberRun slots t kinds v → u ≡ v

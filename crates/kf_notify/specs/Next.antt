@@ -1,27 +1,27 @@
 -- What a step of a seat says: that it was the next of the one run, and what that had come to.
 use Rattle.std.specs.Prelude.{◌≡◌, ℕ, zero, suc, ◌+◌, List, [], ◌∷◌, ◌++◌}
 use Rattle.atomic_table.specs.Table.{Step}
-use Rattle.kf_notify.specs.declared.sight.Seen.{Seen}
-use Rattle.kf_notify.specs.declared.sight.Sight.{Sight}
+use Rattle.kf_notify.specs.declared.sight.NumbersSeen.{NumbersSeen}
+use Rattle.kf_notify.specs.declared.sight.NumberSight.{NumberSight}
 use Rattle.kf_notify.specs.Rule.{Table, NumbersShown, IsSeated, number_at}
 use Rattle.kf_notify.specs.Steps.{Sighted, plain, Loads, Raises}
-use Rattle.kf_notify.specs.TableSteps.{StepKind, loads, raises, NumberStep, NumberRun}
+use Rattle.kf_notify.specs.TableSteps.{NumberStepKind, loads, raises, NumberStep, NumberRun}
 use Rattle.kf_notify.specs.History.{opened_as}
 
 -- the run that was seen before went on by the steps between, then by this one, and so far it is seen after
-abbrev pub SawNext : Seen → List StepKind → StepKind → Seen → Type 0
+abbrev pub SawNext : NumbersSeen → List NumberStepKind → NumberStepKind → NumbersSeen → Type 0
 SawNext before between kind after =
     after ≡ record { opening = before.opening; steps = (before.steps ++ between) ++ kind ∷ [] }
 
 -- the run that was seen, and then these steps, lead to this table
-abbrev pub LeadsTo : Seen → List StepKind → Table → Type 0
+abbrev pub LeadsTo : NumbersSeen → List NumberStepKind → Table → Type 0
 LeadsTo seen between t =
     NumberRun seen.opening.slots (opened_as seen.opening) (seen.steps ++ between) t
 
 -- the seat's step was the next of the one run, which had gone on from all that the seat had seen before to
 -- the table that it found. That met the rule, and had the seat's view before it
-pub record WasMade (kind : ℕ → StepKind) (before after : Sight) : Type 0 where
-  pub between : List StepKind
+pub record WasMade (kind : ℕ → NumberStepKind) (before after : NumberSight) : Type 0 where
+  pub between : List NumberStepKind
   pub found : Table
   pub left : Table
   pub seat : ℕ
@@ -34,34 +34,34 @@ pub record WasMade (kind : ℕ → StepKind) (before after : Sight) : Type 0 whe
 
 -- as WasMade: this seat loaded the number of this slot between these two sights of it, and found this number
 -- there
-abbrev pub WasLoad : ℕ → ℕ → Sight → Sight → Type 0
+abbrev pub WasLoad : ℕ → ℕ → NumberSight → NumberSight → Type 0
 WasLoad slot number before after = (made : WasMade (λ seat. loads seat slot) before after)
     × (number_at made.found slot ≡ number)
 
 -- as WasMade: this seat raised the number of this slot to this one between these two sights of it
-abbrev pub WasRaise : ℕ → ℕ → Sight → Sight → Type 0
+abbrev pub WasRaise : ℕ → ℕ → NumberSight → NumberSight → Type 0
 WasRaise slot number = WasMade (λ seat. raises seat slot number)
 
 -- this seat loaded the number of this slot, and then raised that to the next of what it found, which is this
-pub record WasNotify (slot number : ℕ) (before after : Sight) : Type 0 where
+pub record WasNotify (slot number : ℕ) (before after : NumberSight) : Type 0 where
   pub found : ℕ
-  pub loaded : Sight
+  pub loaded : NumberSight
   pub load : WasLoad slot found before loaded
   pub one_more : number ≡ found + 1
   pub raise : WasRaise slot number loaded after
 
 -- this many loads of this slot, one after another and no other step of this seat between them, each of which
 -- found this number
-abbrev pub WereLoads : ℕ → ℕ → ℕ → Sight → Sight → Type 0
+abbrev pub WereLoads : ℕ → ℕ → ℕ → NumberSight → NumberSight → Type 0
 WereLoads slot number zero before after = after ≡ before
 WereLoads slot number (suc count) before after =
-    (between : Sight) × WereLoads slot number count before between × WasLoad slot number between after
+    (between : NumberSight) × WereLoads slot number count before between × WasLoad slot number between after
 
 -- all that a wait past the number `seen` does: loads of this slot that found that, if any, and a last one,
 -- which found this number
-pub record OnlyLoads (slot seen number : ℕ) (before after : Sight) : Type 0 where
+pub record OnlyLoads (slot seen number : ℕ) (before after : NumberSight) : Type 0 where
   pub count : ℕ
-  pub last : Sight
+  pub last : NumberSight
   pub others : WereLoads slot seen count before last
   pub load : WasLoad slot number last after
 

@@ -2,8 +2,8 @@
 use Rattle.std.specs.Prelude.{◌≡◌, ℕ, ◌+◌, ◌≤◌, ◌<◌}
 pub use Rattle.atomic_table.specs.Seated.{TableId}
 use Rattle.kf_notify.specs.declared.seat.PostSeat.{PostSeat}
-use Rattle.kf_notify.specs.declared.sight.Seen.{Seen}
-use Rattle.kf_notify.specs.declared.sight.Sight.{Sight}
+use Rattle.kf_notify.specs.declared.sight.NumbersSeen.{NumbersSeen}
+use Rattle.kf_notify.specs.declared.sight.NumberSight.{NumberSight}
 use Rattle.kf_notify.specs.Rule.{KnowsNext}
 use Rattle.kf_notify.specs.Next.{WasLoad, WasNotify, OnlyLoads}
 
@@ -18,7 +18,7 @@ pub record Numbers : Type 0 where
   pub table : TableId
   pub slots : ℕ
   pub start : ℕ
-  pub seen : Seen  -- the beginning of the one run of all steps at the table that it has seen
+  pub seen : NumbersSeen  -- the beginning of the one run of all steps at the table that it has seen
 
 -- what a contract sees of a post
 pub record PostState : Type 0 where
@@ -28,7 +28,7 @@ pub record PostState : Type 0 where
   pub found : ℕ  -- what its last load found
   pub made : ℕ  -- the last number that it has made; 0: none
   pub steps : ℕ  -- how many steps it has made on its slot's word
-  pub seen : Seen  -- the beginning of the one run of all steps at the table that it has seen
+  pub seen : NumbersSeen  -- the beginning of the one run of all steps at the table that it has seen
 
 -- which numbers a handle is of
 abbrev pub id_of : Numbers → NumbersId
@@ -56,7 +56,7 @@ post_of s = record {
 }
 
 -- what the seat knows
-abbrev pub seat_view : PostState → Sight
+abbrev pub seat_view : PostState → NumberSight
 seat_view p = record {
   view = record {
     slot = p.slot;
@@ -70,7 +70,7 @@ seat_view p = record {
 }
 
 -- the run that was seen is one of these numbers, from their opening on
-abbrev pub HasItsRun : NumbersId → Seen → Type 0
+abbrev pub HasItsRun : NumbersId → NumbersSeen → Type 0
 HasItsRun numbers seen = seen.opening ≡ record { slots = numbers.slots; start = numbers.start }
 
 -- a post of this slot, which has a number. The greatest that it knows is not below the first nor below the
@@ -90,9 +90,9 @@ pub record IsSamePost (old new : PostState) : Type 0 where
 
 -- a load of this slot, which found this number, was the next step of the one run after all that a seat had
 -- seen that knew as much as this handle
-abbrev pub WasFirstLoad : Numbers → ℕ → ℕ → Sight → Type 0
+abbrev pub WasFirstLoad : Numbers → ℕ → ℕ → NumberSight → Type 0
 WasFirstLoad numbers slot number after =
-    (before : Sight) × (before.seen ≡ numbers.seen) × WasLoad slot number before after
+    (before : NumberSight) × (before.seen ≡ numbers.seen) × WasLoad slot number before after
 
 -- a post of this slot, which has made no number, and whose one load found a number not below the first. It
 -- had seen before what its handle has
@@ -143,16 +143,16 @@ pub record Took (old : PostState) (number : ℕ) (new : PostState) : Type 0 wher
 -- the handle's next two steps of the one run were a load of this slot, and a raise of its number to this,
 -- which is the next of what the load found
 pub record HandleRaised (old : Numbers) (slot number : ℕ) (new : Numbers) : Type 0 where
-  pub before : Sight
-  pub after : Sight
+  pub before : NumberSight
+  pub after : NumberSight
   pub had : before.seen ≡ old.seen
   pub raised : WasNotify slot number before after
   pub has : after.seen ≡ new.seen
 
 -- the handle's next step of the one run was a load of this slot, which found this number
 pub record HandleFound (old : Numbers) (slot number : ℕ) (new : Numbers) : Type 0 where
-  pub before : Sight
-  pub after : Sight
+  pub before : NumberSight
+  pub after : NumberSight
   pub had : before.seen ≡ old.seen
   pub load : WasLoad slot number before after
   pub has : after.seen ≡ new.seen

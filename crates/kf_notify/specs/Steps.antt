@@ -1,36 +1,36 @@
 -- What each step makes of the view of its own seat.
 use Rattle.std.specs.Prelude.{◌≡◌, ℕ, ◌+◌, ◌≤◌}
 use Rattle.atomic_table.specs.Table.{Me, Step}
-use Rattle.kf_notify.specs.declared.sight.Sight.{Sight}
-use Rattle.kf_notify.specs.declared.view.View.{View}
+use Rattle.kf_notify.specs.declared.sight.NumberSight.{NumberSight}
+use Rattle.kf_notify.specs.declared.view.NumberView.{NumberView}
 
 -- a seat at the table of numbers: its view, and the homes that it has taken, of which this table has none
 abbrev pub Seated : Type 0
-Seated = Me (Unit {0}) View
+Seated = Me (Unit {0}) NumberView
 
 -- a seat that has seen something of the run of all steps
 abbrev pub Sighted : Type 0
-Sighted = Me (Unit {0}) Sight
+Sighted = Me (Unit {0}) NumberSight
 
 -- the seat without what it has seen
 abbrev pub plain : Sighted → Seated
 plain me = (me.0.view, me.1)
 
 -- a load found this number of the slot
-abbrev pub loaded : ℕ → ℕ → View → View
+abbrev pub loaded : ℕ → ℕ → NumberView → NumberView
 loaded slot found v =
     record { slot = slot; known = found; start = v.start; found = found; made = v.made; steps = v.steps + 1 }
 
 -- the number of its slot was raised to this one
-abbrev pub raised : ℕ → View → View
+abbrev pub raised : ℕ → NumberView → NumberView
 raised number v = record v { known = number; made = number; steps = v.steps + 1 }
 
 -- the seat raised the number of this slot, and has loaded no number since
-abbrev pub HasRaised : ℕ → View → Type 0
+abbrev pub HasRaised : ℕ → NumberView → Type 0
 HasRaised slot v = (v.slot ≡ slot) × (v.known ≡ v.found + 1)
 
 -- a new seat, which has made no number and no step
-abbrev pub doubled : View → View
+abbrev pub doubled : NumberView → NumberView
 doubled v = record v { made = 0; steps = 0 }
 
 -- what a load says of the view after it: it found no less than what the seat knows of that slot

@@ -7,7 +7,7 @@ ghost use Rattle.kf_notify.specs.History.{given};
 ghost use Rattle.kf_notify.specs.Next.{WasLoad, WasRaise};
 
 use crate::plays::{Doubles, Loads, Raises};
-use crate::sight::Sight;
+use crate::sight::NumberSight;
 use crate::table::SlotTable;
 use atomic_table::Seat;
 use kf_core::Refusal;
@@ -17,7 +17,7 @@ use std::sync::Arc;
 #[derive(Drop)]
 pub struct PostSeat {
     pub(crate) table: Arc<SlotTable>,
-    pub(crate) token: Seat<(), Sight>,
+    pub(crate) token: Seat<(), NumberSight>,
     pub(crate) slots: u32,
     ghost of_table: { token.table_id ≡ (arc_value table).numbers.shared.table_id },
     ghost bare: { token.me ≡ (token.me.0, []) },

@@ -2,7 +2,7 @@
 ghost use Rattle.std.specs.Prelude.{◌≡◌, IfOk, IfErr, vec_len};
 ghost use Rattle.kf_core.specs.declared.refusal.Refusal.TheVariants.{NoMemory};
 
-use crate::sight::{Opening, Sight};
+use crate::sight::{NumberOpening, NumberSight};
 use atomic_table::{Table, TableRule};
 use kf_core::Refusal;
 use std::alloc::Global;
@@ -11,9 +11,9 @@ use std::sync::atomic::AtomicU64;
 /// The rule of the table, between any two steps: a run of the steps of its seats leads here from the opening,
 /// each seat has seen a beginning of it, and no slot's number is below one that a seat has seen or made
 /// there.
-pub struct Rule;
+pub struct NumberRule;
 
-impl TableRule<(), Sight, Opening> for Rule {
+impl TableRule<(), NumberSight, NumberOpening> for NumberRule {
     ghost use Rattle.kf_notify.specs.History.{Kept, first_sight};
 
     ghost holds = { Kept };
@@ -21,7 +21,7 @@ impl TableRule<(), Sight, Opening> for Rule {
     ghost first = { first_sight };
 }
 
-pub(crate) type NumberTable = Table<(), Sight, Opening, Rule, Global>;
+pub(crate) type NumberTable = Table<(), NumberSight, NumberOpening, NumberRule, Global>;
 
 /// The numbers of all slots, and beside them for each how many threads sleep on it. No clause speaks of these
 /// counts: who sleeps and who wakes read them, and nobody else.

@@ -2,7 +2,7 @@
 //! of the code, but no value of it is ever made.
 
 /// What a seat knows.
-pub struct View {
+pub struct NumberView {
     /// The slot of its last step.
     pub slot: u32,
     /// The greatest number that it has seen or made there.

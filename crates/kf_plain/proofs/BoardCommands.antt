@@ -12,8 +12,9 @@ use Rattle.kf_tree.specs.TreeLogs.{TreeLog}
 use Rattle.kf_table.specs.Children.{is_there_already}
 use Rattle.kf_plain.specs.declared.nodes.visits.BoardFile.{BoardFile}
 use Rattle.kf_plain.specs.declared.nodes.hiding.BoardToken.{BoardToken}
-use Rattle.kf_plain.specs.Nodes.{Nodes, IsNext, hold_count, listed, logged}
-use Rattle.kf_plain.specs.Plain.{Plain, IsNextKey, with_commands, with_list}
+use Rattle.kf_world.specs.Bounded.{hold_count}
+use Rattle.kf_plain.specs.Nodes.{Nodes, IsFreeKeyOf, listed, logged}
+use Rattle.kf_plain.specs.Plain.{Plain, IsFreeKey, with_commands, with_list}
 use Rattle.kf_plain.specs.PlainInside.{plain_of, IsWholeBoard, IsTaggedNode}
 use Rattle.kf_plain.specs.PlainTree.{Spot, new_spot, new_link_spot, activated_key, moved_key, with_born, with_node, moved_nodes, with_move}
 use Rattle.kf_core.specs.declared.refusal.Refusal.TheVariants.{NoMemory}
@@ -28,11 +29,11 @@ module _ (b b' : Plain) (n n' : Nodes) (events : List ℕ) (texts : List (List �
   whole_created path node is_live next (Ok key) x made refused = born_whole b n events texts files tokens is whole n' key made.0 node is_live x made.2
   whole_created path node is_live next (Err refusal) x made refused = same_whole b n events texts files tokens is whole n' refused.1
 
-  pub shown_created : (path : List ℕ) (node : Node) (is_live : Bool) (next : Option Key) (result : Result Key Refusal) → IsNext n.log.tree n.last (hold_count n.callers) next → IfOk result (λ key. next ≡ Some key) →
+  pub shown_created : (path : List ℕ) (node : Node) (is_live : Bool) (next : Option Key) (result : Result Key Refusal) → IsFreeKeyOf n.log.tree n.last (hold_count n.callers) next → IfOk result (λ key. next ≡ Some key) →
       IfOk result (λ key. (s : Spot) × (new_spot n.log path node next ≡ Ok s) × (n' ≡ with_born n key s node is_live)) →
-      IfOk result (λ key. IsNextKey b (Some key) × ((s : Spot) × (new_spot b.log path node (Some key) ≡ Ok s) × (b' ≡ with_node b key s node is_live)))
+      IfOk result (λ key. IsFreeKey b (Some key) × ((s : Spot) × (new_spot b.log path node (Some key) ≡ Ok s) × (b' ≡ with_node b key s node is_live)))
   shown_created path node is_live next (Ok key) found given made = (
-    subst (IsNextKey b) given (next_shown b n events texts files tokens is whole next found),
+    subst (IsFreeKey b) given (next_shown b n events texts files tokens is whole next found),
     (
       made.0,
       subst (λ (l : TreeLog). new_spot l path node (Some key) ≡ Ok made.0) (log_shown b n events texts files tokens is whole) (subst (λ o. new_spot n.log path node o ≡ Ok made.0) given made.1),
@@ -47,8 +48,8 @@ module _ (b b' : Plain) (n n' : Nodes) (events : List ℕ) (texts : List (List �
   shown_why leads (Err refusal) refused = (subst (λ (l : TreeLog). IsWhy (leads l) refusal) (log_shown b n events texts files tokens is whole) refused.0, sym is' ∙ same_shown b n events texts files tokens is whole n' refused.1)
 
   -- the same, if it was asked under the next key
-  pub shown_why_next : {X : Type 0} (leads : TreeLog → Option Key → Result X Refusal) {T : Type 0} (next : Option Key) (result : Result T Refusal) → IsNext n.log.tree n.last (hold_count n.callers) next → IfErr result (λ refusal. IsWhy (leads n.log next) refusal × (n' ≡ n)) →
-      IfErr result (λ refusal. (o : Option Key) × IsNextKey b o × IsRefusedBy (leads b.log o) b refusal b')
+  pub shown_why_next : {X : Type 0} (leads : TreeLog → Option Key → Result X Refusal) {T : Type 0} (next : Option Key) (result : Result T Refusal) → IsFreeKeyOf n.log.tree n.last (hold_count n.callers) next → IfErr result (λ refusal. IsWhy (leads n.log next) refusal × (n' ≡ n)) →
+      IfErr result (λ refusal. (o : Option Key) × IsFreeKey b o × IsRefusedBy (leads b.log o) b refusal b')
   shown_why_next leads next (Ok x) found refused = tt
   shown_why_next leads next (Err refusal) found refused = (
     next,
@@ -61,11 +62,11 @@ module _ (b b' : Plain) (n n' : Nodes) (events : List ℕ) (texts : List (List �
   whole_linked path target next (Ok key) made refused = born_whole b n events texts files tokens is whole n' key made.0.1 (Link made.0.0) true tt made.2
   whole_linked path target next (Err refusal) made refused = same_whole b n events texts files tokens is whole n' refused.1
 
-  pub shown_linked : (path target : List ℕ) (next : Option Key) (result : Result Key Refusal) → IsNext n.log.tree n.last (hold_count n.callers) next → IfOk result (λ key. next ≡ Some key) →
+  pub shown_linked : (path target : List ℕ) (next : Option Key) (result : Result Key Refusal) → IsFreeKeyOf n.log.tree n.last (hold_count n.callers) next → IfOk result (λ key. next ≡ Some key) →
       IfOk result (λ key. (l : Key × Spot) × (new_link_spot n.log path target next ≡ Ok l) × (n' ≡ with_born n key l.1 (Link l.0) true)) →
-      IfOk result (λ key. IsNextKey b (Some key) × ((l : Key × Spot) × (new_link_spot b.log path target (Some key) ≡ Ok l) × (b' ≡ with_node b key l.1 (Link l.0) true)))
+      IfOk result (λ key. IsFreeKey b (Some key) × ((l : Key × Spot) × (new_link_spot b.log path target (Some key) ≡ Ok l) × (b' ≡ with_node b key l.1 (Link l.0) true)))
   shown_linked path target next (Ok key) found given made = (
-    subst (IsNextKey b) given (next_shown b n events texts files tokens is whole next found),
+    subst (IsFreeKey b) given (next_shown b n events texts files tokens is whole next found),
     (
       made.0,
       subst (λ (l : TreeLog). new_link_spot l path target (Some key) ≡ Ok made.0) (log_shown b n events texts files tokens is whole) (subst (λ o. new_link_spot n.log path target o ≡ Ok made.0) given made.1),

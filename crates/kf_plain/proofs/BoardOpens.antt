@@ -8,7 +8,8 @@ use Rattle.kf_core.specs.declared.caller.Phase.{Phase}
 use Rattle.kf_core.specs.declared.refusal.Refusal.{Refusal}
 use Rattle.kf_plain.specs.declared.nodes.visits.BoardFile.{BoardFile}
 use Rattle.kf_plain.specs.declared.nodes.hiding.BoardToken.{BoardToken}
-use Rattle.kf_plain.specs.Nodes.{Nodes, Waits, hold_count, with_spent}
+use Rattle.kf_world.specs.Bounded.{hold_count}
+use Rattle.kf_plain.specs.Nodes.{Nodes, Waits, with_spent}
 use Rattle.kf_plain.specs.Plain.{Plain, OpenPlainFile, file_at, holder_count, with_file}
 use Rattle.kf_plain.specs.PlainInside.{plain_of, plain_file, plain_files, plain_tokens, IsWholeBoard, IsTaggedNode, IsOpened, IsShort}
 use Rattle.kf_core.specs.Phases.{is_waiting}

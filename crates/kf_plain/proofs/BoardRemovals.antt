@@ -7,7 +7,8 @@ use Rattle.kf_core.specs.declared.command.Command.TheVariants.{Doom, Unlink}
 use Rattle.kf_tree.specs.TreeLogs.{TreeLog}
 use Rattle.kf_plain.specs.declared.nodes.visits.BoardFile.{BoardFile}
 use Rattle.kf_plain.specs.declared.nodes.hiding.BoardToken.{BoardToken}
-use Rattle.kf_plain.specs.Nodes.{Nodes, hold_count, logged, with_spent}
+use Rattle.kf_world.specs.Bounded.{hold_count}
+use Rattle.kf_plain.specs.Nodes.{Nodes, logged, with_spent}
 use Rattle.kf_plain.specs.Plain.{Plain, holder_count}
 use Rattle.kf_plain.specs.PlainInside.{plain_of, IsWholeBoard}
 use Rattle.kf_core.specs.PostOrder.{IsPostOrder}

@@ -9,8 +9,9 @@ use Rattle.kf_core.specs.declared.command.Command.TheVariants.{Create}
 use Rattle.kf_tree.specs.TreeLogs.{TreeLog}
 use Rattle.kf_plain.specs.declared.nodes.visits.BoardFile.{BoardFile}
 use Rattle.kf_plain.specs.declared.nodes.hiding.BoardToken.{BoardToken}
-use Rattle.kf_plain.specs.Nodes.{Nodes, IsNext, hold_count, with_spent}
-use Rattle.kf_plain.specs.Plain.{Plain, IsNextKey, holder_count}
+use Rattle.kf_world.specs.Bounded.{hold_count}
+use Rattle.kf_plain.specs.Nodes.{Nodes, IsFreeKeyOf, with_spent}
+use Rattle.kf_plain.specs.Plain.{Plain, IsFreeKey, holder_count}
 use Rattle.kf_plain.specs.PlainInside.{plain_of, IsWholeBoard, IsTaggedNode}
 use Rattle.kf_plain.specs.PlainTree.{Spot, with_born, with_node}
 use Rattle.kf_plain.specs.Settled.{Leads, IsWhyFrom}
@@ -18,8 +19,8 @@ use Rattle.kf_plain.proofs.Holding.{held_spent}
 use Rattle.kf_plain.proofs.Wholes.{whole_after, counts_same, held_part, whole_held}
 
 module _ (b : Plain) (n : Nodes) (events : List ℕ) (texts : List (List ℕ)) (files : List (Option BoardFile)) (tokens : List (Option BoardToken)) (is : plain_of n events texts files tokens ≡ b) (whole : IsWholeBoard n events texts files tokens) where
-  pub next_shown : (next : Option Key) → IsNext n.log.tree n.last (hold_count n.callers) next → IsNextKey b next
-  next_shown next h = subst (λ (x : Plain). IsNextKey x next) is (subst (λ count. IsNext n.log.tree n.last count next) (counts_same n events texts files tokens whole) h)
+  pub next_shown : (next : Option Key) → IsFreeKeyOf n.log.tree n.last (hold_count n.callers) next → IsFreeKey b next
+  next_shown next h = subst (λ (x : Plain). IsFreeKey x next) is (subst (λ count. IsFreeKeyOf n.log.tree n.last count next) (counts_same n events texts files tokens whole) h)
 
   pub log_shown : n.log ≡ b.log
   log_shown = ap (λ (x : Plain). x.log) is

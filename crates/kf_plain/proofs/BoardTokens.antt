@@ -15,7 +15,8 @@ use Rattle.kf_tree.specs.TreeLogs.{TreeLog}
 use Rattle.kf_tree.proofs.Opening.{length_after}
 use Rattle.kf_plain.specs.declared.nodes.visits.BoardFile.{BoardFile}
 use Rattle.kf_plain.specs.declared.nodes.hiding.BoardToken.{BoardToken}
-use Rattle.kf_plain.specs.Nodes.{Nodes, NoneHides, hidden_on, hold_count, logged, spent_on}
+use Rattle.kf_world.specs.Bounded.{hold_count}
+use Rattle.kf_plain.specs.Nodes.{Nodes, NoneHides, hidden_on, logged, spent_on}
 use Rattle.kf_plain.specs.Plain.{Plain, holder_count, with_commands, with_token, token_at}
 use Rattle.kf_plain.specs.PlainInside.{plain_of, plain_files, plain_token, IsWholeBoard}
 use Rattle.kf_core.specs.Refusals.{unless, first_cause}

@@ -18,7 +18,7 @@ use Rattle.kf_core.specs.Phases.{is_waiting}
 use Rattle.kf_core.specs.Agrees.{AgreesHidden}
 use Rattle.kf_core.specs.Bare.{BareWorld, IsCaller, is_hidden, is_live as is_live_there}
 use Rattle.kf_core.specs.Steps.{with_phase, with_caller}
-use Rattle.kf_world.specs.Bounded.{BoundedWorld, bounded, Happens, May, holds}
+use Rattle.kf_world.specs.Bounded.{BoundedWorld, Happens, May, bounded, hold_count, holds}
 use Rattle.kf_core.specs.Calls.{Visit, unvisited, tried}
 use Rattle.kf_world.specs.WorldGuard.{VisitsAlone}
 use Rattle.kf_core.proofs.Lists.{slice_get-set_same}
@@ -32,7 +32,7 @@ use Rattle.kf_files.specs.declared.contents.Want.{Want}
 use Rattle.kf_files.specs.declared.ops.Fault.{Fault}
 use Rattle.kf_files.specs.declared.ops.FileError.{FileError}
 use Rattle.kf_files.specs.Files.{FileState, ShowResult, Reads, Writes, Opens}
-use Rattle.kf_plain.specs.Nodes.{Nodes, nodes_of, last_of, AreTied, Waits, StillWaits, hold_count, spent_on, with_spent}
+use Rattle.kf_plain.specs.Nodes.{Nodes, nodes_of, last_of, AreTied, Waits, StillWaits, spent_on, with_spent}
 use Rattle.kf_plain.specs.Removals.{PinsRefused, still_on, with_callers}
 use Rattle.kf_plain.specs.Visits.{VisitsLive, file_cause}
 use Rattle.kf_plain.proofs.Callers.{waits_inside, waiting_releases}

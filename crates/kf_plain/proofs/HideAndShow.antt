@@ -20,7 +20,7 @@ use Rattle.kf_core.specs.declared.command.Command.TheVariants.{Hide, Show}
 use Rattle.kf_core.specs.declared.event.Event.TheVariants.{Pin, Release, LookHidden, Hide as HideStep, Show as ShowStep}
 use Rattle.kf_core.specs.Agrees.{AgreesHidden}
 use Rattle.kf_core.specs.Bare.{BareWorld, IsCaller, IsLast, marks, marks_in, any_hides, is_hidden}
-use Rattle.kf_world.specs.Bounded.{BoundedWorld, Happens, May}
+use Rattle.kf_world.specs.Bounded.{BoundedWorld, Happens, May, hold_count}
 use Rattle.kf_core.specs.Commands.{after}
 use Rattle.kf_core.specs.Keys.{same_key}
 use Rattle.kf_core.specs.Phases.{is_hiding, has_reference, is_waiting}
@@ -37,7 +37,7 @@ use Rattle.kf_tree.specs.Causes.{Refuses, hide_cause, hidden_in, is_directory, i
 use Rattle.kf_tree.specs.TreeLogs.{TreeLog, IsAccepted, IsReadied}
 use Rattle.kf_tree.proofs.SameMarks.{same_hidden}
 use Rattle.kf_tree.specs.SlotMarks.{SameMarks}
-use Rattle.kf_plain.specs.Nodes.{Nodes, nodes_of, last_of, AreTied, AllIdle, NoneHides, hidden_on, hold_count, spent_on, logged}
+use Rattle.kf_plain.specs.Nodes.{Nodes, nodes_of, last_of, AreTied, AllIdle, NoneHides, hidden_on, spent_on, logged}
 use Rattle.kf_plain.proofs.BoardVisits.{Visited, last_there, last_set}
 use Rattle.kf_plain.proofs.CallerSteps.{has_released}
 use Rattle.kf_plain.proofs.Ties.{Logs, log_after, tied_after}

@@ -11,7 +11,8 @@ use Rattle.kf_core.specs.Phases.{has_reference, is_spent}
 use Rattle.kf_core.proofs.Lists.{slice_get-set_same, slice_get-set_other, after_set, after_push}
 use Rattle.kf_plain.specs.declared.nodes.visits.BoardFile.{BoardFile}
 use Rattle.kf_plain.specs.declared.nodes.hiding.BoardToken.{BoardToken}
-use Rattle.kf_plain.specs.Nodes.{NoneHides, hidden_on, hold_count, spent_on}
+use Rattle.kf_world.specs.Bounded.{hold_count}
+use Rattle.kf_plain.specs.Nodes.{NoneHides, hidden_on, spent_on}
 use Rattle.kf_plain.specs.Plain.{is_on, token_count}
 use Rattle.kf_plain.specs.PlainInside.{plain_files, plain_token, plain_tokens, IsHeldToken}
 use Rattle.kf_plain.proofs.BoardVisits.{last_there}

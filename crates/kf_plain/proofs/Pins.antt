@@ -13,10 +13,10 @@ use Rattle.kf_core.specs.declared.refusal.Refusal.TheVariants.{NoEntry, NoMemory
 use Rattle.kf_core.specs.declared.event.Event.TheVariants.{Pin}
 use Rattle.kf_core.specs.Phases.{may_release}
 use Rattle.kf_core.specs.Bare.{BareWorld, marks, is_linked}
-use Rattle.kf_world.specs.Bounded.{BoundedWorld, bounded, Happens, PinRefused, holds}
+use Rattle.kf_world.specs.Bounded.{BoundedWorld, Happens, PinRefused, bounded, hold_count, holds}
 use Rattle.kf_core.specs.Steps.{with_caller}
 use Rattle.kf_tree.proofs.SlotWrites.{alone_linked}
-use Rattle.kf_plain.specs.Nodes.{hold_count, holds_slot, spent_on}
+use Rattle.kf_plain.specs.Nodes.{holds_slot, spent_on}
 use Rattle.kf_plain.specs.Removals.{PinsRefused, released, still_on, with_callers}
 use Rattle.kf_plain.proofs.Counts.{none_counted}
 

@@ -20,7 +20,7 @@ use Rattle.kf_core.specs.Phases.{has_reference}
 use Rattle.kf_core.specs.PostOrder.{IsPostOrder}
 use Rattle.kf_core.specs.Refusals.{unless, first_cause}
 use Rattle.kf_core.specs.Bare.{marks}
-use Rattle.kf_world.specs.Bounded.{BoundedWorld}
+use Rattle.kf_world.specs.Bounded.{BoundedWorld, hold_count}
 use Rattle.kf_core.specs.Tree.{Tree, record_at, is_linked, in_subtree, IsIn}
 use Rattle.kf_core.specs.Commands.{after, replay}
 use Rattle.kf_tree.specs.Causes.{Refuses, linked_cause, doom_cause}
@@ -30,7 +30,7 @@ use Rattle.kf_tree.specs.SlotMarks.{SameMarks, Changed, contains_key, doomed_if}
 use Rattle.kf_tree.proofs.Opening.{length_after, length_replay}
 use Rattle.kf_tree.proofs.SameMarks.{same_doomed, is_listed}
 use Rattle.kf_plain.proofs.HiddenMarks.{told_spent, told_unlinked, told_doomed}
-use Rattle.kf_plain.specs.Nodes.{Nodes, nodes_of, AreTied, OnlyMarks, AllIdle, hold_count, is_full_in, is_full_below, last_of, logged, with_spent, spent_on}
+use Rattle.kf_plain.specs.Nodes.{Nodes, nodes_of, AreTied, OnlyMarks, AllIdle, is_full_in, has_full_below, last_of, logged, with_spent, spent_on}
 use Rattle.kf_plain.specs.Removals.{AreChildrenFirst, Cleared, IsMarkedDoomed, IsMarkedUndoomed, PinsRefused, released, still_on, with_callers}
 use Rattle.kf_plain.proofs.ChildrenFirst.{children_first_doomed}
 use Rattle.kf_core.proofs.Different.{different}
@@ -43,7 +43,7 @@ use Rattle.kf_plain.proofs.Ties.{Logs, log_after}
 -- a refusal of a removal
 abbrev pub WhyRefused : Nodes → Key → Refusal → Type 0
 WhyRefused n key refusal = (doom_cause n.log.tree n.log.root key ≡ Some refusal)
-    ⊎ ((doom_cause n.log.tree n.log.root key ≡ None) × (refusal ≡ TooManyHolds) × (is_full_below n key ≡ true))
+    ⊎ ((doom_cause n.log.tree n.log.root key ≡ None) × (refusal ≡ TooManyHolds) × (has_full_below n key ≡ true))
     ⊎ ((doom_cause n.log.tree n.log.root key ≡ None) × (refusal ≡ NoMemory))
 
 -- and what it leaves: the callers that came have released their keys
@@ -60,18 +60,18 @@ no_doom_cause t root key linked other =
     ∙ ap (λ b. first_cause (unless (not b) Invalid ∷ [])) other
 
 module _ (s : TreeLog) (w : BoundedWorld) (key : Key) (keys : List Key) (tied : AreTied s w.world) (p : IsPostOrder s.tree key keys) where
-  seen_full : (k : Key) → Contains keys k → w.limit ≤ hold_count w.world.callers k.slot → is_full_below (nodes_of s w) key ≡ true
+  seen_full : (k : Key) → Contains keys k → w.limit ≤ hold_count w.world.callers k.slot → has_full_below (nodes_of s w) key ≡ true
   seen_full k among most =
       (let both = (p.members k).0 among in
       let r = linked_here s.tree k both.0 in
       let below : in_subtree s.tree key r.0.key ≡ true = ap (in_subtree s.tree key) r.2 ∙ both.1 in
       let full : nat_lt (hold_count w.world.callers r.0.key.slot) w.limit ≡ false = ap (λ (x : Key). nat_lt (hold_count w.world.callers x.slot) w.limit) r.2 ∙ le-ltb (hold_count w.world.callers k.slot) w.limit most in
-      let here : is_full_in (nodes_of s w) key (Some r.0) ≡ true = ap (λ b. b && not (nat_lt (hold_count w.world.callers r.0.key.slot) w.limit)) below ∙ ap (λ b. not b) full in
-      list_any_at (is_full_in (nodes_of s w) key) s.tree r.0.key.slot None (slice_get_within s.tree r.0.key.slot (Some r.0) r.1)
-      (ap (is_full_in (nodes_of s w) key) (get_or_from_slice_get s.tree r.0.key.slot (Some r.0) None r.1) ∙ here))
+      let here : is_full_in s.tree (hold_count w.world.callers) w.limit key (Some r.0) ≡ true = ap (λ b. b && not (nat_lt (hold_count w.world.callers r.0.key.slot) w.limit)) below ∙ ap (λ b. not b) full in
+      list_any_at (is_full_in s.tree (hold_count w.world.callers) w.limit key) s.tree r.0.key.slot None (slice_get_within s.tree r.0.key.slot (Some r.0) r.1)
+      (ap (is_full_in s.tree (hold_count w.world.callers) w.limit key) (get_or_from_slice_get s.tree r.0.key.slot (Some r.0) None r.1) ∙ here))
 
-  pub seen_room : All (λ k. hold_count w.world.callers k.slot < w.limit) keys → is_full_below (nodes_of s w) key ≡ false
-  seen_room room = list_any_none (is_full_in (nodes_of s w) key) s.tree (λ i d l. at (slice_index_or s.tree i d) i (slice_get-get_or s.tree i d l))
+  pub seen_room : All (λ k. hold_count w.world.callers k.slot < w.limit) keys → has_full_below (nodes_of s w) key ≡ false
+  seen_room room = list_any_none (is_full_in s.tree (hold_count w.world.callers) w.limit key) s.tree (λ i d l. at (slice_index_or s.tree i d) i (slice_get-get_or s.tree i d l))
     where
       not_full : (r : Record) → IsIn s.tree r → in_subtree s.tree key r.key ≡ true → not (nat_lt (hold_count w.world.callers r.key.slot) w.limit) ≡ false
       not_full r h below =
@@ -83,7 +83,7 @@ module _ (s : TreeLog) (w : BoundedWorld) (key : Key) (keys : List Key) (tied : 
       go true c h = h refl
       go false c h = refl
 
-      at : (o : Option Record) (i : ℕ) → slice_get s.tree i ≡ Some o → is_full_in (nodes_of s w) key o ≡ false
+      at : (o : Option Record) (i : ℕ) → slice_get s.tree i ≡ Some o → is_full_in s.tree (hold_count w.world.callers) w.limit key o ≡ false
       at None i h = refl
       at (Some r) i h = go (in_subtree s.tree key r.key) (not (nat_lt (hold_count w.world.callers r.key.slot) w.limit))
           (not_full r (ap (slice_get s.tree) (tied.kept.lawful.in_place i r h) ∙ h))

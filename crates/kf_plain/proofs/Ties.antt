@@ -22,7 +22,7 @@ use Rattle.kf_core.specs.Marks.{fresh_marks, live_marks}
 use Rattle.kf_core.specs.Phases.{is_spent}
 use Rattle.kf_core.specs.Bare.{BareWorld, marks, marks_in}
 use Rattle.kf_core.specs.Steps.{with_marks, MayBeBorn, OnlySpent}
-use Rattle.kf_world.specs.Bounded.{BoundedWorld, IsFree, IsNextKey}
+use Rattle.kf_world.specs.Bounded.{BoundedWorld, IsFree, IsNextKey, hold_count}
 use Rattle.kf_core.specs.Tree.{Tree, with_key, marks_of}
 use Rattle.kf_core.specs.Commands.{after}
 use Rattle.kf_tree.specs.SlotMarks.{SameMarks}
@@ -31,7 +31,7 @@ use Rattle.kf_table.specs.Children.{is_there_already}
 use Rattle.kf_tree.proofs.Opening.{length_after}
 use Rattle.kf_tree.proofs.SameMarks.{vacant_in_tree, same_born, same_born_live, same_renamed}
 use Rattle.kf_tree.proofs.SlotWrites.{IsEmpty, IsAlone, length_written, marks_written, alone_vacant, alone_linked}
-use Rattle.kf_plain.specs.Nodes.{Nodes, nodes_of, AreTied, IsNext, is_free, is_vacant, hold_count, last_of, logged}
+use Rattle.kf_plain.specs.Nodes.{Nodes, nodes_of, AreTied, IsFreeKeyOf, is_free, is_vacant, last_of, logged}
 use Rattle.kf_core.proofs.Climbs.{same_key_self}
 use Rattle.kf_plain.proofs.Counts.{none_passes, none_counted}
 
@@ -152,7 +152,7 @@ not_free log w slot tied h = elim (is_free log.tree (last_of w.slots) (hold_coun
 ] refl
 
 -- the search of the world finds the next key
-pub next_found : (log : TreeLog) (w : BareWorld) (next : Option Key) → AreTied log w → IfSome next (λ key. IsNextKey w key) → IfNone next ((slot : ℕ) → 1 ≤ slot → ¬ IsFree w slot) → IsNext log.tree (last_of w.slots) (hold_count w.callers) next
+pub next_found : (log : TreeLog) (w : BareWorld) (next : Option Key) → AreTied log w → IfSome next (λ key. IsNextKey w key) → IfNone next ((slot : ℕ) → 1 ≤ slot → ¬ IsFree w slot) → IsFreeKeyOf log.tree (last_of w.slots) (hold_count w.callers) next
 next_found log w None tied found none = λ slot h. not_free log w slot tied (none slot h)
 next_found log w (Some key) tied found none = (
   found.from_one,
@@ -161,17 +161,17 @@ next_found log w (Some key) tied found none = (
   λ slot low high. not_free log w slot tied (found.lowest slot low high),
 )
 
-pub may_be_born : (log : TreeLog) (w : BareWorld) (key : Key) → AreTied log w → IsNext log.tree (last_of w.slots) (hold_count w.callers) (Some key) → MayBeBorn w key
+pub may_be_born : (log : TreeLog) (w : BareWorld) (key : Key) → AreTied log w → IsFreeKeyOf log.tree (last_of w.slots) (hold_count w.callers) (Some key) → MayBeBorn w key
 may_be_born log w key tied next =
     let free = free_in_world log w key.slot tied next.1 in
     record { last = free.last; unlinked = free.unlinked; next = next.2 ∙ ap (λ n. n + 1) (last_is w key.slot free.last None free.unlinked); unheld = free.unheld }
 
-pub next_vacant : (tree : Tree) (last : List ℕ) (count : ℕ → ℕ) (next : Option Key) → IsNext tree last count next → IfSome next (λ key. slice_get tree key.slot ≡ Some None)
+pub next_vacant : (tree : Tree) (last : List ℕ) (count : ℕ → ℕ) (next : Option Key) → IsFreeKeyOf tree last count next → IfSome next (λ key. slice_get tree key.slot ≡ Some None)
 next_vacant tree last count None h = tt
 next_vacant tree last count (Some key) h = (free_tells tree last count key.slot h.1).0
 
-pub next_is : (tree : Tree) (last : List ℕ) (count : ℕ → ℕ) (next : Option Key) (key : Key) → IsNext tree last count next → next ≡ Some key → IsNext tree last count (Some key)
-next_is tree last count next key h e = subst (IsNext tree last count) e h
+pub next_is : (tree : Tree) (last : List ℕ) (count : ℕ → ℕ) (next : Option Key) (key : Key) → IsFreeKeyOf tree last count next → next ≡ Some key → IsFreeKeyOf tree last count (Some key)
+next_is tree last count next key h e = subst (IsFreeKeyOf tree last count) e h
 
 -- ---- commands
 
@@ -255,8 +255,8 @@ tied_renamed log log' w key dir name tied a = tied_after log log' w w (Rename ke
 
 -- ---- the same, of the value that contracts see
 
-pub seen_next : (n : Nodes) (log : TreeLog) (w : BoundedWorld) (next : Option Key) (key : Key) → nodes_of log w ≡ n → IsNext n.log.tree n.last (hold_count n.callers) next → next ≡ Some key → AreTied log w.world → MayBeBorn w.world key
-seen_next n log w next key is h e tied = may_be_born log w.world key tied (next_is log.tree (last_of w.world.slots) (hold_count w.world.callers) next key (subst (λ (m : Nodes). IsNext m.log.tree m.last (hold_count m.callers) next) (sym is) h) e)
+pub seen_next : (n : Nodes) (log : TreeLog) (w : BoundedWorld) (next : Option Key) (key : Key) → nodes_of log w ≡ n → IsFreeKeyOf n.log.tree n.last (hold_count n.callers) next → next ≡ Some key → AreTied log w.world → MayBeBorn w.world key
+seen_next n log w next key is h e tied = may_be_born log w.world key tied (next_is log.tree (last_of w.world.slots) (hold_count w.world.callers) next key (subst (λ (m : Nodes). IsFreeKeyOf m.log.tree m.last (hold_count m.callers) next) (sym is) h) e)
 
 -- the value after a command, if the world has these last generations, and the limit and the callers that it
 -- had

@@ -8,7 +8,8 @@ use Rattle.kf_tree.specs.TreeLogs.{TreeLog}
 use Rattle.kf_tree.proofs.Opening.{length_replay}
 use Rattle.kf_plain.specs.declared.nodes.visits.BoardFile.{BoardFile}
 use Rattle.kf_plain.specs.declared.nodes.hiding.BoardToken.{BoardToken}
-use Rattle.kf_plain.specs.Nodes.{Nodes, AllIdle, hold_count, listed, logged}
+use Rattle.kf_world.specs.Bounded.{hold_count}
+use Rattle.kf_plain.specs.Nodes.{Nodes, AllIdle, listed, logged}
 use Rattle.kf_plain.specs.Plain.{holder_count}
 use Rattle.kf_plain.specs.PlainInside.{plain_of, IsWholeBoard, IsHeldFile, IsHeldToken}
 use Rattle.kf_plain.proofs.Holding.{AreHeld}

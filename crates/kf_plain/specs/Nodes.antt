@@ -1,5 +1,5 @@
 -- The tree beside the callers of its nodes.
-use Rattle.std.specs.Prelude.{◌≡◌, ◌≢◌, ◌⊎◌, ℕ, ◌+◌, ◌-◌, ◌^◌, ◌<◌, ◌≤◌, Bool, true, false, not, ◌&&◌, ◌==◌, nat_lt, List, [], ◌++◌, length, map, replicate, count_by, slice_get, slice_set, slice_index, Option, Some, None, IsTrue, IsFalse}
+use Rattle.std.specs.Prelude.{◌≡◌, ◌≢◌, ◌⊎◌, ℕ, ◌+◌, ◌-◌, ◌^◌, ◌<◌, ◌≤◌, Bool, true, false, not, ◌&&◌, ◌==◌, nat_lt, List, [], ◌++◌, length, map, replicate, slice_get, slice_set, slice_index, Option, Some, None, IsTrue, IsFalse}
 use Rattle.std.specs.List.{list_any}
 use Rattle.kf_core.specs.declared.key.Key.{Key}
 use Rattle.kf_core.specs.declared.slot.SlotState.{SlotState}
@@ -11,7 +11,7 @@ use Rattle.kf_core.specs.declared.records.Record.{Record}
 use Rattle.kf_core.specs.declared.command.Command.{Command}
 use Rattle.kf_core.specs.Phases.{is_waiting, has_reference, is_hiding, is_spent}
 use Rattle.kf_core.specs.Bare.{BareWorld, marks}
-use Rattle.kf_world.specs.Bounded.{BoundedWorld}
+use Rattle.kf_world.specs.Bounded.{BoundedWorld, hold_count}
 use Rattle.kf_core.specs.Tree.{Tree, in_subtree}
 use Rattle.kf_core.specs.declared.refusal.Refusal.{Refusal}
 use Rattle.kf_core.specs.declared.refusal.Refusal.TheVariants.{TooManyHolds, NoMemory}
@@ -85,10 +85,6 @@ pub record Waits (callers : List Caller) (id : ℕ) (key : Key) : Type 0 where
 abbrev pub holds_slot : ℕ → Caller → Bool
 holds_slot slot c = (c.key.slot == slot) && not (is_spent c.phase)
 
--- how many callers hold the slot
-abbrev pub hold_count : List Caller → ℕ → ℕ
-hold_count callers slot = count_by (λ c. (c.key.slot == slot) && not (is_spent c.phase)) callers
-
 -- nobody has a reference
 abbrev pub AllIdle : List Caller → Type 0
 AllIdle callers = (id : ℕ) (key : Key) (phase : Phase)
@@ -100,11 +96,11 @@ StillWaits callers id key callers' = (callers' ≡ callers)
     ⊎ ((phase : Phase) × IsTrue (is_waiting phase)
     × (callers' ≡ slice_set callers id (record { key = key; phase = phase })))
 
--- a hold of a linked node is refused: its slot has as many as there may be; or there was no memory
-abbrev pub PinRefused : Nodes → Key → Refusal → Type 0
-PinRefused n key TooManyHolds = n.limit ≤ hold_count n.callers key.slot
-PinRefused n key NoMemory = hold_count n.callers key.slot < n.limit
-PinRefused n key _ = ⊥
+-- when a hold of a linked node is refused: its slot has as many as there may be; or there was no memory
+abbrev pub NodePinRefused : Nodes → Key → Refusal → Type 0
+NodePinRefused n key TooManyHolds = n.limit ≤ hold_count n.callers key.slot
+NodePinRefused n key NoMemory = hold_count n.callers key.slot < n.limit
+NodePinRefused n key _ = ⊥
 
 -- a caller that has released the key
 abbrev pub spent_on : Key → Caller
@@ -137,10 +133,10 @@ abbrev pub is_free : Tree → List ℕ → (ℕ → ℕ) → ℕ → Bool
 is_free tree last count slot =
     is_vacant (slice_get tree slot) && count slot == 0 && nat_lt (slice_index last slot) (2 ^ 32 - 1)
 
--- the next key of the lowest free slot, the root's left out; none if no slot is free
-abbrev pub IsNext : Tree → List ℕ → (ℕ → ℕ) → Option Key → Type 0
-IsNext tree last count None = (slot : ℕ) → 1 ≤ slot → IsFalse (is_free tree last count slot)
-IsNext tree last count (Some key) =
+-- the next key of the lowest free slot, except the root's; none if no slot is free
+abbrev pub IsFreeKeyOf : Tree → List ℕ → (ℕ → ℕ) → Option Key → Type 0
+IsFreeKeyOf tree last count None = (slot : ℕ) → 1 ≤ slot → IsFalse (is_free tree last count slot)
+IsFreeKeyOf tree last count (Some key) =
     (1 ≤ key.slot) × IsTrue (is_free tree last count key.slot)
     × (key.generation ≡ slice_index last key.slot + 1)
     × ((slot : ℕ) → 1 ≤ slot → slot < key.slot → IsFalse (is_free tree last count slot))
@@ -148,11 +144,15 @@ IsNext tree last count (Some key) =
 -- ---- removals
 
 -- the slot has a node of the subtree that has as many holds as there may be
-abbrev pub is_full_in : Nodes → Key → Option Record → Bool
-is_full_in n top None = false
-is_full_in n top (Some r) =
-    in_subtree n.log.tree top r.key && not (nat_lt (hold_count n.callers r.key.slot) n.limit)
+abbrev pub is_full_in : Tree → (ℕ → ℕ) → ℕ → Key → Option Record → Bool
+is_full_in tree count limit top None = false
+is_full_in tree count limit top (Some r) =
+    in_subtree tree top r.key && not (nat_lt (count r.key.slot) limit)
 
--- some node of the subtree has as many holds as it may have
-abbrev pub is_full_below : Nodes → Key → Bool
-is_full_below n top = list_any (is_full_in n top) n.log.tree
+-- some node of the subtree has as many holds as there may be, so a removal cannot hold it
+abbrev pub is_full_below : Tree → (ℕ → ℕ) → ℕ → Key → Bool
+is_full_below tree count limit top = list_any (is_full_in tree count limit top) tree
+
+-- the same of these nodes
+abbrev pub has_full_below : Nodes → Key → Bool
+has_full_below n top = is_full_below n.log.tree (hold_count n.callers) n.limit top

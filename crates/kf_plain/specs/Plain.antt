@@ -6,7 +6,7 @@ use Rattle.kf_core.specs.declared.command.Command.{Command}
 use Rattle.kf_core.specs.Commands.{root_alone}
 use Rattle.kf_tree.specs.TreeLogs.{TreeLog}
 use Rattle.kf_files.specs.Files.{FileState}
-use Rattle.kf_plain.specs.Nodes.{IsNext, listed, logged, root_key}
+use Rattle.kf_plain.specs.Nodes.{IsFreeKeyOf, listed, logged, root_key}
 
 -- an open file: the key of its node, and what it keeps
 pub record OpenPlainFile : Type 0 where
@@ -73,8 +73,8 @@ has_room b slot = nat_lt (holder_count b slot) b.limit
 
 -- the next key of the lowest slot that has no linked node, no holder, and a generation left; the root's slot
 -- is left out
-abbrev pub IsNextKey : Plain → Option Key → Type 0
-IsNextKey b next = IsNext b.log.tree b.last (holder_count b) next
+abbrev pub IsFreeKey : Plain → Option Key → Type 0
+IsFreeKey b next = IsFreeKeyOf b.log.tree b.last (holder_count b) next
 
 -- ---- changes
 

@@ -13,7 +13,8 @@ use Rattle.kf_core.specs.Tree.{record_at}
 use Rattle.kf_files.specs.declared.contents.Want.{Want}
 use Rattle.kf_files.specs.Files.{tag_of, new_file}
 use Rattle.kf_plain.specs.PlainFiles.{opened_node}
-use Rattle.kf_plain.specs.Nodes.{Nodes, Waits, AllIdle, hidden_on, hold_count}
+use Rattle.kf_world.specs.Bounded.{hold_count}
+use Rattle.kf_plain.specs.Nodes.{Nodes, Waits, AllIdle, hidden_on}
 use Rattle.kf_plain.specs.Plain.{Plain, OpenPlainFile, count_on}
 
 -- an open file, without the number of its caller

@@ -1,30 +1,22 @@
 -- What a removal does.
-use Rattle.std.specs.Prelude.{ℕ, Bool, false, not, ◌&&◌, nat_lt, List, [], ◌∷◌, map, Option, Some, None, Result}
-use Rattle.std.specs.List.{list_any}
+use Rattle.std.specs.Prelude.{ℕ, not, List, [], ◌∷◌, map, Option, Result}
 use Rattle.kf_core.specs.declared.key.Key.{Key}
-use Rattle.kf_core.specs.declared.records.Record.{Record}
 use Rattle.kf_core.specs.declared.command.Command.TheVariants.{Doom, Unlink}
 use Rattle.kf_core.specs.declared.refusal.Refusal.{Refusal}
 use Rattle.kf_core.specs.declared.refusal.Refusal.TheVariants.{TooManyHolds}
 use Rattle.kf_core.specs.Refusals.{unless, first_cause}
-use Rattle.kf_core.specs.Tree.{Tree, in_subtree}
 use Rattle.kf_tree.specs.TreeLogs.{TreeLog}
 use Rattle.kf_tree.specs.Paths.{and_then, walked}
 use Rattle.kf_tree.specs.Causes.{doom_cause}
+use Rattle.kf_plain.specs.Nodes.{is_full_below}
 use Rattle.kf_plain.specs.Plain.{Plain, with_commands}
 use Rattle.kf_plain.specs.Settled.{ok_unless}
-
--- the slot has a node of the subtree that has as many holds as there may be, so none is left for its removal
-abbrev pub is_full_below : Tree → (ℕ → ℕ) → ℕ → Key → Option Record → Bool
-is_full_below tree holds limit top None = false
-is_full_below tree holds limit top (Some r) =
-    in_subtree tree top r.key && not (nat_lt (holds r.key.slot) limit)
 
 -- why a removal is refused: the node is the root, or one of the subtree has no room
 abbrev pub remove_cause : TreeLog → (ℕ → ℕ) → ℕ → Key → Option Refusal
 remove_cause log holds limit key = first_cause (
     doom_cause log.tree log.root key
-    ∷ unless (not (list_any (is_full_below log.tree holds limit key) log.tree)) TooManyHolds
+    ∷ unless (not (is_full_below log.tree holds limit key)) TooManyHolds
     ∷ [])
 
 -- the key that a removal by path is about, or why it is refused

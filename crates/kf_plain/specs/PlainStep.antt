@@ -15,7 +15,7 @@ use Rattle.kf_script.specs.Lines.{has_bytes}
 use Rattle.kf_script.specs.Requests.{RequestWords, make_directory, make_file, make_link, activate, list_names, stat, read_link, move, remove, open_file, read_file, write_file, poll_file, notify, close_file, hide, show, count_commands, compact, plug, unplug, wait}
 use Rattle.kf_script.specs.ReplyText.{done_text, key_text, names_text, poll_text, refusal_text}
 use Rattle.kf_plain.specs.Starved.{starved_text}
-use Rattle.kf_plain.specs.Plain.{Plain, IsNextKey, holder_count, with_commands, with_list, with_text, with_file}
+use Rattle.kf_plain.specs.Plain.{Plain, IsFreeKey, holder_count, with_commands, with_list, with_text, with_file}
 use Rattle.kf_plain.specs.Settled.{Leads, Settled}
 use Rattle.kf_plain.specs.PlainTree.{new_spot, new_link_spot, file_node, with_node, activated_key, moved_key, with_move}
 use Rattle.kf_plain.specs.PlainLooks.{told_stat, listed_dir, name_limit, read_link_key}
@@ -27,15 +27,15 @@ use Rattle.kf_replies.specs.ReplyParts.{told_text, bytes_text, count_text}
 -- what a request does if memory is there
 abbrev pub Outcome : Plain → RequestWords → List ℕ → Plain → Type 0
 Outcome b (make_directory path is_live) reply now =
-    (next : Option Key) × IsNextKey b next × Settled (new_spot b.log path Dir next) (λ spot.
+    (next : Option Key) × IsFreeKey b next × Settled (new_spot b.log path Dir next) (λ spot.
     (key : Key) × (next ≡ Some key) × (reply ≡ key_text key)
     × (now ≡ with_node b key spot Dir is_live)) b reply now
 Outcome b (make_file path mode text) reply now =
-    (next : Option Key) × IsNextKey b next × Settled (new_spot b.log path (file_node mode next) next) (λ spot.
+    (next : Option Key) × IsFreeKey b next × Settled (new_spot b.log path (file_node mode next) next) (λ spot.
     (key : Key) × (next ≡ Some key) × (reply ≡ key_text key)
     × (now ≡ with_text (with_node b key spot (file_node mode next) true) key.slot text)) b reply now
 Outcome b (make_link path target) reply now =
-    (next : Option Key) × IsNextKey b next × Settled (new_link_spot b.log path target next) (λ link.
+    (next : Option Key) × IsFreeKey b next × Settled (new_link_spot b.log path target next) (λ link.
     (key : Key) × (next ≡ Some key) × (reply ≡ key_text key)
     × (now ≡ with_node b key link.1 (Link link.0) true)) b reply now
 Outcome b (activate path) reply now = Settled (activated_key b.log path)
@@ -89,11 +89,11 @@ Outcome b wait reply now = (reply ≡ done_text) × (now ≡ b)
 -- nothing up to the hold that they take
 abbrev pub MayStarve : Plain → RequestWords → Type 0
 MayStarve b (make_directory path is_live) =
-    (next : Option Key) × IsNextKey b next × Leads (new_spot b.log path Dir next)
+    (next : Option Key) × IsFreeKey b next × Leads (new_spot b.log path Dir next)
 MayStarve b (make_file path mode text) =
-    (next : Option Key) × IsNextKey b next × Leads (new_spot b.log path (file_node mode next) next)
+    (next : Option Key) × IsFreeKey b next × Leads (new_spot b.log path (file_node mode next) next)
 MayStarve b (make_link path target) =
-    (next : Option Key) × IsNextKey b next × Leads (new_link_spot b.log path target next)
+    (next : Option Key) × IsFreeKey b next × Leads (new_link_spot b.log path target next)
 MayStarve b (activate path) = Leads (activated_key b.log path)
 MayStarve b (list_names path) = Leads (listed_dir b path)
 MayStarve b (read_link path) = Leads (read_link_key b path)

@@ -8,11 +8,11 @@ use Rattle.kf_core.specs.declared.records.Record.{Record}
 use Rattle.kf_core.specs.declared.refusal.Refusal.{Refusal}
 use Rattle.kf_core.specs.declared.refusal.Refusal.TheVariants.{NoMemory, TooManyHolds}
 use Rattle.kf_core.specs.Bare.{BareWorld, marks}
-use Rattle.kf_world.specs.Bounded.{BoundedWorld, bounded}
+use Rattle.kf_world.specs.Bounded.{BoundedWorld, bounded, hold_count}
 use Rattle.kf_core.specs.Steps.{with_marks}
 use Rattle.kf_core.specs.Tree.{Tree, IsIn}
 use Rattle.kf_tree.specs.SlotMarks.{contains_key}
-use Rattle.kf_plain.specs.Nodes.{hold_count, spent_on}
+use Rattle.kf_plain.specs.Nodes.{spent_on}
 
 -- a caller that holds the key, and did nothing else yet
 abbrev pub still_on : Key → Caller

@@ -6,7 +6,8 @@ ghost use Rattle.kf_core.specs.declared.caller.Phase.TheVariants.{Still, Spent};
 ghost use Rattle.kf_core.specs.declared.refusal.Refusal.TheVariants.{NoMemory, NoEntry, TooManyHolds};
 ghost use Rattle.std.specs.Prelude.{true};
 ghost use Rattle.kf_core.specs.Tree.{is_linked};
-ghost use Rattle.kf_plain.specs.Nodes.{IsNext, PinRefused, Waits, hold_count, new_nodes};
+ghost use Rattle.kf_world.specs.Bounded.{hold_count};
+ghost use Rattle.kf_plain.specs.Nodes.{IsFreeKeyOf, NodePinRefused, Waits, new_nodes};
 
 use kf_core::{Key, Limits, Refusal};
 use kf_files::Page;
@@ -75,7 +76,7 @@ impl Nodes {
 
     /// The next key of the lowest free slot, the root's left out.
     pub fn next_key(&self) -> Option<Key>
-        ensures next { IsNext self.now.log.tree self.now.last (hold_count self.now.callers) result }
+        ensures next { IsFreeKeyOf self.now.log.tree self.now.last (hold_count self.now.callers) result }
     {
         self.world.free_key()
     }
@@ -91,7 +92,8 @@ impl Nodes {
                   ++ record { key = key; phase = Still } ∷ [];
             }) }
         ensures room { IfOk result (λ _. hold_count self.old.callers key.slot < self.old.limit) }
-        ensures refused { IfErr result (λ refusal. PinRefused self.old key refusal × (self.new ≡ self.old)) }
+        ensures refused { IfErr result (λ refusal.
+            NodePinRefused self.old key refusal × (self.new ≡ self.old)) }
     {
         self.world.pin(key)
     }

@@ -1,6 +1,6 @@
 //! What a file's read or write returned.
 
-ghost use Rattle.std.specs.Prelude.{◌≡◌, ◌≤◌, length, take, MatchResult, IfOk};
+ghost use Rattle.std.specs.Prelude.{◌≡◌};
 ghost use Rattle.kf_replies.specs.ReplyParts.{count_text, error_text};
 
 use kf_files::FileError;
@@ -13,19 +13,6 @@ pub fn tell_error(reply: &mut Reply, error: FileError)
     match error {
         FileError::Refused(refusal) => reply.set_refusal(refusal),
         FileError::Callback(fault) => reply.set_fault(fault.number),
-    }
-}
-
-/// Writes the bytes that were read to the front of a buffer, or why there are none.
-pub fn tell_bytes(reply: &mut Reply, told: Result<usize, FileError>, out: &[u8])
-    requires fits { IfOk told (λ count. count ≤ length out.now) }
-    requires page { length out.now ≤ 4096 }
-    ensures told { MatchResult told (λ count. reply.new ≡ take count out.now)
-        (λ error. reply.new ≡ error_text error) }
-{
-    match told {
-        Ok(count) => reply.set_bytes(&out[..count]),
-        Err(error) => tell_error(reply, error),
     }
 }
 

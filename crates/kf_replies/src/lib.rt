@@ -6,5 +6,5 @@ mod files;
 mod nodes;
 mod part;
 
-pub use files::{tell_bytes, tell_count, tell_error};
+pub use files::{tell_count, tell_error};
 pub use nodes::{tell_names, tell_stat};

@@ -6,7 +6,7 @@ ghost use Rattle.kf_rounds.specs.Turns.{Puts, PutOut};
 ghost use Rattle.kf_rounds.specs.Seats.{boards, untakens};
 
 use crate::kind::LineKind;
-use crate::seat::Seat;
+use crate::runner::Runner;
 use kf_script::Board;
 use std::alloc::{AllocError, Global};
 use std::marker::Model;
@@ -93,7 +93,7 @@ impl Replies {
 }
 
 /// How many bytes the replies of all seats are at most, with a newline each.
-fn size_of_all<B: Board>(seats: &[Seat<B>]) -> usize {
+fn size_of_all<B: Board>(seats: &[Runner<B>]) -> usize {
     let mut size = 0usize;
     for seat in seats {
         size = size.saturating_add(seat.reply_size());
@@ -113,7 +113,7 @@ fn put_line(out: &mut Vec<u8>, text: &[u8]) -> Result<(), AllocError>
 /// Puts the reply to one line out, and a newline.
 fn put_reply<B: Board>(
     out: &mut Vec<u8>,
-    seats: &mut [Seat<B>],
+    seats: &mut [Runner<B>],
     kind: &LineKind<'_>,
 ) -> Result<(), AllocError>
     ensures put { OnOk result (Puts (kind_view kind.now) (untakens seats.old) (untakens seats.new)
@@ -137,7 +137,7 @@ fn put_reply<B: Board>(
 /// none for one of its lines, or if there is no memory.
 pub fn put_replies<B: Board>(
     out: &mut Vec<u8>,
-    seats: &mut [Seat<B>],
+    seats: &mut [Runner<B>],
     kinds: &[LineKind<'_>],
 ) -> Result<(), AllocError>
     ensures put { OnOk result (PutOut (map kind_view kinds.now) (untakens seats.old) (untakens seats.new)

@@ -7,7 +7,7 @@ ghost use Rattle.kf_rounds.specs.Turns.{EachTells, Tells};
 ghost use Rattle.kf_rounds.specs.Seats.{board_of, boards, untaken, untakens};
 
 use crate::kind::LineKind;
-use crate::seat::Seat;
+use crate::runner::Runner;
 use kf_script::Board;
 use std::thread;
 use std::thread::Threads;
@@ -70,7 +70,7 @@ fn is_for_one(kinds: &[LineKind<'_>]) -> bool {
 /// made.
 fn run_each<B: Board + Send, R: Threads + Sync>(
     rt: &R,
-    seats: &mut [Seat<B>],
+    seats: &mut [Runner<B>],
     threads: usize,
     kinds: &[LineKind<'_>],
 )
@@ -87,7 +87,7 @@ fn run_each<B: Board + Send, R: Threads + Sync>(
 /// If at most one of them has lines, the calling thread runs them.
 pub fn run_round<B: Board + Send, R: Threads + Sync>(
     rt: &R,
-    seats: &mut [Seat<B>],
+    seats: &mut [Runner<B>],
     kinds: &[LineKind<'_>],
 )
     requires seats { 0 < length seats.old }

@@ -9,7 +9,7 @@ ghost use Rattle.kf_rounds.specs.Turns.{Replied};
 use crate::cut::kinds_in;
 use crate::replies::put_replies;
 use crate::round::{round_at, run_round};
-use crate::seat::Seat;
+use crate::runner::Runner;
 use kf_script::Board;
 use std::alloc::{AllocError, Global};
 use std::thread::Threads;
@@ -30,7 +30,7 @@ use std::thread::Threads;
 pub fn run_rounds<B: Board + Send, R: Threads + Sync>(
     rt: &R,
     alloc: Global,
-    seats: &mut [Seat<B>],
+    seats: &mut [Runner<B>],
     workers: usize,
     script: &[u8],
 ) -> Result<Vec<u8>, AllocError>

@@ -12,10 +12,10 @@ use super::rows::{
     wait, write,
 };
 use super::spelling::spells;
-use super::words::Words;
+use super::words::LineWords;
 
 /// What a command makes of the words behind it: the rows of the grammar, in the order of the definition.
-fn request<'a, B>(command: &[u8], words: Words<'a>) -> Option<Request<'a>>
+fn request<'a, B>(command: &[u8], words: LineWords<'a>) -> Option<Request<'a>>
     ensures value { option_map request_words result ≡ reads_of command.now words.entry }
     ensures range { IfSome result (λ request. IsInRange (request_words request)) }
 {
@@ -31,7 +31,7 @@ fn request<'a, B>(command: &[u8], words: Words<'a>) -> Option<Request<'a>>
 
 /// The same, from the row of `stat` on. (Rows stand in groups: the proof of a match grows with their square.)
 #[inline(always)]
-fn request_of_a_node<'a, B>(command: &[u8], words: Words<'a>) -> Option<Request<'a>>
+fn request_of_a_node<'a, B>(command: &[u8], words: LineWords<'a>) -> Option<Request<'a>>
     ensures value { option_map request_words result ≡ row_of (drop 5 rows) command.now words.entry }
     ensures range { IfSome result (λ request. IsInRange (request_words request)) }
 {
@@ -46,7 +46,7 @@ fn request_of_a_node<'a, B>(command: &[u8], words: Words<'a>) -> Option<Request<
 
 /// The same, from the row of `open` on.
 #[inline(always)]
-fn request_of_a_file<'a, B>(command: &[u8], words: Words<'a>) -> Option<Request<'a>>
+fn request_of_a_file<'a, B>(command: &[u8], words: LineWords<'a>) -> Option<Request<'a>>
     ensures value { option_map request_words result ≡ row_of (drop 9 rows) command.now words.entry }
     ensures range { IfSome result (λ request. IsInRange (request_words request)) }
 {
@@ -63,7 +63,7 @@ fn request_of_a_file<'a, B>(command: &[u8], words: Words<'a>) -> Option<Request<
 
 /// The same, from the row of `hide` on.
 #[inline(always)]
-fn request_of_the_rest<'a, B>(command: &[u8], words: Words<'a>) -> Option<Request<'a>>
+fn request_of_the_rest<'a, B>(command: &[u8], words: LineWords<'a>) -> Option<Request<'a>>
     ensures value { option_map request_words result ≡ row_of (drop 15 rows) command.now words.entry }
     ensures range { IfSome result (λ request. IsInRange (request_words request)) }
 {
@@ -89,7 +89,7 @@ pub(crate) fn parse_into<'a, B>(line: &'a [u8], asked: &mut Option<Request<'a>>)
     ensures value { option_map request_words asked.new ≡ request_of line.now }
     ensures range { IfSome asked.new (λ request. IsInRange (request_words request)) }
 {
-    let mut words = Words::new(line);
+    let mut words = LineWords::new(line);
     *asked = match words.next() {
         Some(command) => request::<B>(command, words),
         None => None,

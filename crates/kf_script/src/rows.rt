@@ -6,11 +6,11 @@ ghost use Rattle.std.specs.Option.{option_map};
 ghost use Rattle.kf_script.specs.Requests.{request_words, IsInRange, reads_of};
 
 use super::request::Request;
-use super::words::Words;
+use super::words::LineWords;
 
 /// `mkdir PATH` or `mkdir PATH off`.
 #[inline(always)]
-pub fn make_directory(mut words: Words<'_>) -> Option<Request<'_>>
+pub fn make_directory(mut words: LineWords<'_>) -> Option<Request<'_>>
     ensures value { option_map request_words result ≡ reads_of (codes "mkdir") words.entry }
     ensures range { IfSome result (λ request. IsInRange (request_words request)) }
 {
@@ -24,7 +24,7 @@ pub fn make_directory(mut words: Words<'_>) -> Option<Request<'_>>
 
 /// `file PATH MODE TEXT`.
 #[inline(always)]
-pub fn make_file(mut words: Words<'_>) -> Option<Request<'_>>
+pub fn make_file(mut words: LineWords<'_>) -> Option<Request<'_>>
     ensures value { option_map request_words result ≡ reads_of (codes "file") words.entry }
     ensures range { IfSome result (λ request. IsInRange (request_words request)) }
 {
@@ -36,7 +36,7 @@ pub fn make_file(mut words: Words<'_>) -> Option<Request<'_>>
 
 /// `link PATH TARGET`.
 #[inline(always)]
-pub fn make_link(mut words: Words<'_>) -> Option<Request<'_>>
+pub fn make_link(mut words: LineWords<'_>) -> Option<Request<'_>>
     ensures value { option_map request_words result ≡ reads_of (codes "link") words.entry }
     ensures range { IfSome result (λ request. IsInRange (request_words request)) }
 {
@@ -48,7 +48,7 @@ pub fn make_link(mut words: Words<'_>) -> Option<Request<'_>>
 
 /// `activate PATH`.
 #[inline(always)]
-pub fn activate(mut words: Words<'_>) -> Option<Request<'_>>
+pub fn activate(mut words: LineWords<'_>) -> Option<Request<'_>>
     ensures value { option_map request_words result ≡ reads_of (codes "activate") words.entry }
     ensures range { IfSome result (λ request. IsInRange (request_words request)) }
 {
@@ -59,7 +59,7 @@ pub fn activate(mut words: Words<'_>) -> Option<Request<'_>>
 
 /// `ls PATH`.
 #[inline(always)]
-pub fn list_names(mut words: Words<'_>) -> Option<Request<'_>>
+pub fn list_names(mut words: LineWords<'_>) -> Option<Request<'_>>
     ensures value { option_map request_words result ≡ reads_of (codes "ls") words.entry }
     ensures range { IfSome result (λ request. IsInRange (request_words request)) }
 {
@@ -70,7 +70,7 @@ pub fn list_names(mut words: Words<'_>) -> Option<Request<'_>>
 
 /// `stat PATH`.
 #[inline(always)]
-pub fn stat(mut words: Words<'_>) -> Option<Request<'_>>
+pub fn stat(mut words: LineWords<'_>) -> Option<Request<'_>>
     ensures value { option_map request_words result ≡ reads_of (codes "stat") words.entry }
     ensures range { IfSome result (λ request. IsInRange (request_words request)) }
 {
@@ -81,7 +81,7 @@ pub fn stat(mut words: Words<'_>) -> Option<Request<'_>>
 
 /// `readlink PATH`.
 #[inline(always)]
-pub fn read_link(mut words: Words<'_>) -> Option<Request<'_>>
+pub fn read_link(mut words: LineWords<'_>) -> Option<Request<'_>>
     ensures value { option_map request_words result ≡ reads_of (codes "readlink") words.entry }
     ensures range { IfSome result (λ request. IsInRange (request_words request)) }
 {
@@ -92,7 +92,7 @@ pub fn read_link(mut words: Words<'_>) -> Option<Request<'_>>
 
 /// `mv PATH DIR NAME`.
 #[inline(always)]
-pub fn move_node(mut words: Words<'_>) -> Option<Request<'_>>
+pub fn move_node(mut words: LineWords<'_>) -> Option<Request<'_>>
     ensures value { option_map request_words result ≡ reads_of (codes "mv") words.entry }
     ensures range { IfSome result (λ request. IsInRange (request_words request)) }
 {
@@ -105,7 +105,7 @@ pub fn move_node(mut words: Words<'_>) -> Option<Request<'_>>
 
 /// `rm PATH`.
 #[inline(always)]
-pub fn remove(mut words: Words<'_>) -> Option<Request<'_>>
+pub fn remove(mut words: LineWords<'_>) -> Option<Request<'_>>
     ensures value { option_map request_words result ≡ reads_of (codes "rm") words.entry }
     ensures range { IfSome result (λ request. IsInRange (request_words request)) }
 {
@@ -116,7 +116,7 @@ pub fn remove(mut words: Words<'_>) -> Option<Request<'_>>
 
 /// `open H PATH r`, `w` or `rw`.
 #[inline(always)]
-pub fn open(mut words: Words<'_>) -> Option<Request<'_>>
+pub fn open(mut words: LineWords<'_>) -> Option<Request<'_>>
     ensures value { option_map request_words result ≡ reads_of (codes "open") words.entry }
     ensures range { IfSome result (λ request. IsInRange (request_words request)) }
 {
@@ -134,7 +134,7 @@ pub fn open(mut words: Words<'_>) -> Option<Request<'_>>
 
 /// `read H OFF LEN`.
 #[inline(always)]
-pub fn read(mut words: Words<'_>) -> Option<Request<'_>>
+pub fn read(mut words: LineWords<'_>) -> Option<Request<'_>>
     ensures value { option_map request_words result ≡ reads_of (codes "read") words.entry }
     ensures range { IfSome result (λ request. IsInRange (request_words request)) }
 {
@@ -147,7 +147,7 @@ pub fn read(mut words: Words<'_>) -> Option<Request<'_>>
 
 /// `write H TEXT`.
 #[inline(always)]
-pub fn write(mut words: Words<'_>) -> Option<Request<'_>>
+pub fn write(mut words: LineWords<'_>) -> Option<Request<'_>>
     ensures value { option_map request_words result ≡ reads_of (codes "write") words.entry }
     ensures range { IfSome result (λ request. IsInRange (request_words request)) }
 {
@@ -158,7 +158,7 @@ pub fn write(mut words: Words<'_>) -> Option<Request<'_>>
 
 /// `poll H`.
 #[inline(always)]
-pub fn poll(mut words: Words<'_>) -> Option<Request<'_>>
+pub fn poll(mut words: LineWords<'_>) -> Option<Request<'_>>
     ensures value { option_map request_words result ≡ reads_of (codes "poll") words.entry }
     ensures range { IfSome result (λ request. IsInRange (request_words request)) }
 {
@@ -169,7 +169,7 @@ pub fn poll(mut words: Words<'_>) -> Option<Request<'_>>
 
 /// `notify PATH`.
 #[inline(always)]
-pub fn notify(mut words: Words<'_>) -> Option<Request<'_>>
+pub fn notify(mut words: LineWords<'_>) -> Option<Request<'_>>
     ensures value { option_map request_words result ≡ reads_of (codes "notify") words.entry }
     ensures range { IfSome result (λ request. IsInRange (request_words request)) }
 {
@@ -180,7 +180,7 @@ pub fn notify(mut words: Words<'_>) -> Option<Request<'_>>
 
 /// `close H`.
 #[inline(always)]
-pub fn close(mut words: Words<'_>) -> Option<Request<'_>>
+pub fn close(mut words: LineWords<'_>) -> Option<Request<'_>>
     ensures value { option_map request_words result ≡ reads_of (codes "close") words.entry }
     ensures range { IfSome result (λ request. IsInRange (request_words request)) }
 {
@@ -191,7 +191,7 @@ pub fn close(mut words: Words<'_>) -> Option<Request<'_>>
 
 /// `hide PATH`.
 #[inline(always)]
-pub fn hide(mut words: Words<'_>) -> Option<Request<'_>>
+pub fn hide(mut words: LineWords<'_>) -> Option<Request<'_>>
     ensures value { option_map request_words result ≡ reads_of (codes "hide") words.entry }
     ensures range { IfSome result (λ request. IsInRange (request_words request)) }
 {
@@ -202,7 +202,7 @@ pub fn hide(mut words: Words<'_>) -> Option<Request<'_>>
 
 /// `show PATH`.
 #[inline(always)]
-pub fn show(mut words: Words<'_>) -> Option<Request<'_>>
+pub fn show(mut words: LineWords<'_>) -> Option<Request<'_>>
     ensures value { option_map request_words result ≡ reads_of (codes "show") words.entry }
     ensures range { IfSome result (λ request. IsInRange (request_words request)) }
 {
@@ -213,7 +213,7 @@ pub fn show(mut words: Words<'_>) -> Option<Request<'_>>
 
 /// `commands`.
 #[inline(always)]
-pub fn count_commands(words: Words<'_>) -> Option<Request<'_>>
+pub fn count_commands(words: LineWords<'_>) -> Option<Request<'_>>
     ensures value { option_map request_words result ≡ reads_of (codes "commands") words.entry }
     ensures range { IfSome result (λ request. IsInRange (request_words request)) }
 {
@@ -223,7 +223,7 @@ pub fn count_commands(words: Words<'_>) -> Option<Request<'_>>
 
 /// `compact`.
 #[inline(always)]
-pub fn compact(words: Words<'_>) -> Option<Request<'_>>
+pub fn compact(words: LineWords<'_>) -> Option<Request<'_>>
     ensures value { option_map request_words result ≡ reads_of (codes "compact") words.entry }
     ensures range { IfSome result (λ request. IsInRange (request_words request)) }
 {
@@ -233,7 +233,7 @@ pub fn compact(words: Words<'_>) -> Option<Request<'_>>
 
 /// `plug NAME TEXT`.
 #[inline(always)]
-pub fn plug(mut words: Words<'_>) -> Option<Request<'_>>
+pub fn plug(mut words: LineWords<'_>) -> Option<Request<'_>>
     ensures value { option_map request_words result ≡ reads_of (codes "plug") words.entry }
     ensures range { IfSome result (λ request. IsInRange (request_words request)) }
 {
@@ -244,7 +244,7 @@ pub fn plug(mut words: Words<'_>) -> Option<Request<'_>>
 
 /// `unplug NAME`.
 #[inline(always)]
-pub fn unplug(mut words: Words<'_>) -> Option<Request<'_>>
+pub fn unplug(mut words: LineWords<'_>) -> Option<Request<'_>>
     ensures value { option_map request_words result ≡ reads_of (codes "unplug") words.entry }
     ensures range { IfSome result (λ request. IsInRange (request_words request)) }
 {
@@ -255,7 +255,7 @@ pub fn unplug(mut words: Words<'_>) -> Option<Request<'_>>
 
 /// `wait`.
 #[inline(always)]
-pub fn wait(words: Words<'_>) -> Option<Request<'_>>
+pub fn wait(words: LineWords<'_>) -> Option<Request<'_>>
     ensures value { option_map request_words result ≡ reads_of (codes "wait") words.entry }
     ensures range { IfSome result (λ request. IsInRange (request_words request)) }
 {

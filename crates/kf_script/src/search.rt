@@ -125,7 +125,7 @@ fn place_in_many(byte: u8, bytes: &[u8]) -> Option<usize>
     memchr(byte, bytes)
 }
 
-/// Where the byte is first. Words and lines are short: so 4, 8 or 16 bytes are looked at together, where
+/// Where the byte is first. LineWords and lines are short: so 4, 8 or 16 bytes are looked at together, where
 /// `memchr` looks at fewer than 32 one by one.
 #[inline(always)]
 fn place_of(byte: u8, bytes: &[u8]) -> Option<usize>

@@ -11,23 +11,23 @@ use std::marker::Model;
 
 /// What stands behind a word of a line: nothing, or what follows its space.
 #[derive(Drop)]
-pub struct Words<'a> {
+pub struct LineWords<'a> {
     later: Option<&'a [u8]>,
 }
 
-impl<'a> Model for Words<'a> {
+impl<'a> Model for LineWords<'a> {
     ghost Value = { Option (List ℕ) };
 
     ghost view = { λ words. option_map (λ later. later.now) words.later };
 }
 
-impl<'a> Words<'a> {
+impl<'a> LineWords<'a> {
     /// A line, of which no word was taken yet.
     #[inline(always)]
-    pub fn new(line: &'a [u8]) -> Words<'a>
+    pub fn new(line: &'a [u8]) -> LineWords<'a>
         ensures { result ≡ Some line.now }
     {
-        Words { later: Some(line) }
+        LineWords { later: Some(line) }
     }
 
     /// Takes the first word of all that comes, if its first space is known.

@@ -176,10 +176,7 @@ pub(crate) fn check_rename(
     if key == root {
         return Err(Refusal::Invalid);
     }
-    let Some(mover) = table.record(key) else {
-        return Err(Refusal::NoEntry);
-    };
-    let Some(target) = table.record(dir) else {
+    let (Some(mover), Some(target)) = (table.record(key), table.record(dir)) else {
         return Err(Refusal::NoEntry);
     };
     if let Some(fault) = name_fault(name) {

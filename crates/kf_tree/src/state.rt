@@ -119,7 +119,7 @@ impl State {
             refusal) }
     {
         let key = check_create(&self.table, self.root, parent, name, &node, next)?;
-        self.create_at(key, parent, name, node, live)?;
+        self.create_under(key, parent, name, node, live)?;
         Ok(key)
     }
 
@@ -127,7 +127,7 @@ impl State {
     /// only refusal is `NoMemory`; after it nothing is changed.
     ///
     /// Condition: nothing is wrong with the new record, as `create_fault` says. The key is as `create` asks.
-    pub fn create_at(
+    pub fn create_under(
         &mut self,
         key: Key,
         parent: Key,
@@ -157,16 +157,14 @@ impl State {
             name: own_name,
         })?;
         self.ready = None;
-        store(
-            &mut self.commands,
-            Command::Create {
-                key,
-                parent,
-                name: stored_name,
-                node,
-                live,
-            },
-        );
+        let command = Command::Create {
+            key,
+            parent,
+            name: stored_name,
+            node,
+            live,
+        };
+        store(&mut self.commands, command);
         Ok(())
     }
 

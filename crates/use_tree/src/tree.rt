@@ -11,8 +11,8 @@ const ROOT: Key = Key {
     generation: 1,
 };
 
-/// A fan comes, which has come `times` times before. Its attribute is live at once. `create` needs a key whose
-/// slot is vacant.
+/// A fan comes, which has come `times` times before. Its attribute is live at once. `create` needs a key
+/// whose slot is vacant.
 fn come(state: &mut State, name: &[u8], fan: u32, times: u32) -> Result<Key, Refusal> {
     let slot = 1 + fan % 8;
     if !state.is_vacant(slot) {

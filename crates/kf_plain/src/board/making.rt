@@ -7,7 +7,7 @@ ghost use Rattle.kf_core.specs.declared.command.Command.{Command};
 ghost use Rattle.kf_core.specs.declared.command.Command.TheVariants.{Activate};
 ghost use Rattle.kf_core.specs.declared.refusal.Refusal.TheVariants.{NoMemory};
 ghost use Rattle.kf_tree.specs.Canonical.{IsCanonical};
-ghost use Rattle.kf_plain.specs.Plain.{IsNextKey, with_commands, with_list, with_text};
+ghost use Rattle.kf_plain.specs.Plain.{IsFreeKey, with_commands, with_list, with_text};
 ghost use Rattle.kf_plain.specs.PlainTree.{Spot, new_spot, new_link_spot, file_node, with_node, activated_key, moved_key, with_move};
 ghost use Rattle.kf_plain.specs.Settled.{IsRefusedBy, IsWhy};
 
@@ -17,11 +17,11 @@ use kf_core::{Key, Node, Refusal};
 impl PlainBoard {
     /// A directory at a path, activated if it is to be live.
     pub(super) fn make_directory(&mut self, path: &[u8], is_live: bool) -> Result<Key, Refusal>
-        ensures made { IfOk result (λ key. IsNextKey self.old (Some key)
+        ensures made { IfOk result (λ key. IsFreeKey self.old (Some key)
             × ((spot : Spot) × (new_spot self.old.log path.now Dir (Some key) ≡ Ok spot)
             × (self.new ≡ with_node self.old key spot Dir is_live))) }
         ensures refused { IfErr result
-            (λ refusal. (next : Option Key) × IsNextKey self.old next
+            (λ refusal. (next : Option Key) × IsFreeKey self.old next
             × IsRefusedBy (new_spot self.old.log path.now Dir next) self.old refusal self.new) }
     {
         let next = self.nodes.next_key();
@@ -30,13 +30,13 @@ impl PlainBoard {
 
     /// A live file of this mode and text at a path.
     pub(super) fn make_file(&mut self, path: &[u8], mode: u16, text: &[u8]) -> Result<Key, Refusal>
-        ensures made { IfOk result (λ key. IsNextKey self.old (Some key)
+        ensures made { IfOk result (λ key. IsFreeKey self.old (Some key)
             × ((spot : Spot) × (new_spot self.old.log path.now (file_node mode (Some key)) (Some key)
             ≡ Ok spot)
             × (self.new ≡ with_text
             (with_node self.old key spot (file_node mode (Some key)) true) key.slot text.now))) }
         ensures refused { IfErr result
-            (λ refusal. (next : Option Key) × IsNextKey self.old next × IsRefusedBy
+            (λ refusal. (next : Option Key) × IsFreeKey self.old next × IsRefusedBy
             (new_spot self.old.log path.now (file_node mode next) next) self.old refusal self.new) }
     {
         let next = self.nodes.next_key();
@@ -71,11 +71,11 @@ impl PlainBoard {
 
     /// A live link at a path to the node at another one.
     pub(super) fn make_link(&mut self, path: &[u8], target: &[u8]) -> Result<Key, Refusal>
-        ensures made { IfOk result (λ key. IsNextKey self.old (Some key)
+        ensures made { IfOk result (λ key. IsFreeKey self.old (Some key)
             × ((link : Key × Spot) × (new_link_spot self.old.log path.now target.now (Some key) ≡ Ok link)
             × (self.new ≡ with_node self.old key link.1 (Link link.0) true))) }
         ensures refused { IfErr result
-            (λ refusal. (next : Option Key) × IsNextKey self.old next
+            (λ refusal. (next : Option Key) × IsFreeKey self.old next
             × IsRefusedBy (new_link_spot self.old.log path.now target.now next) self.old refusal self.new) }
     {
         let next = self.nodes.next_key();

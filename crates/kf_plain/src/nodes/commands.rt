@@ -7,7 +7,8 @@ ghost use Rattle.kf_core.specs.declared.refusal.Refusal.TheVariants.{NoMemory};
 ghost use Rattle.kf_tree.specs.Canonical.{IsCanonical};
 ghost use Rattle.kf_tree.specs.Causes.{Refuses, create_cause, rename_cause};
 ghost use Rattle.kf_table.specs.Children.{is_there_already};
-ghost use Rattle.kf_plain.specs.Nodes.{IsNext, hold_count, listed, logged};
+ghost use Rattle.kf_world.specs.Bounded.{hold_count};
+ghost use Rattle.kf_plain.specs.Nodes.{IsFreeKeyOf, listed, logged};
 
 use super::Nodes;
 use kf_core::{Key, Node, Refusal};
@@ -23,7 +24,7 @@ impl Nodes {
         is_live: bool,
         next: Option<Key>,
     ) -> Result<Key, Refusal>
-        requires next { IsNext self.old.log.tree self.old.last (hold_count self.old.callers) next }
+        requires next { IsFreeKeyOf self.old.log.tree self.old.last (hold_count self.old.callers) next }
         ensures given { IfOk result (λ key. next ≡ Some key) }
         ensures no_cause { IfOk result
             (λ _. create_cause self.old.log.tree self.old.log.root parent name.now node next ≡ None) }

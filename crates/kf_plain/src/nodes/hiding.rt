@@ -6,7 +6,8 @@ ghost use Rattle.kf_core.specs.declared.command.Command.TheVariants.{Hide, Show}
 ghost use Rattle.kf_core.specs.declared.refusal.Refusal.TheVariants.{NoMemory, TooManyHolds};
 ghost use Rattle.kf_core.specs.Tree.{is_linked};
 ghost use Rattle.kf_tree.specs.Causes.{hide_cause};
-ghost use Rattle.kf_plain.specs.Nodes.{AllIdle, NoneHides, hidden_on, hold_count, logged, spent_on, with_spent};
+ghost use Rattle.kf_world.specs.Bounded.{hold_count};
+ghost use Rattle.kf_plain.specs.Nodes.{AllIdle, NoneHides, hidden_on, logged, spent_on, with_spent};
 ghost use Rattle.kf_plain.specs.PlainHide.{hide_held, hidden_key};
 ghost use Rattle.kf_plain.specs.Settled.{IsWhyFrom};
 

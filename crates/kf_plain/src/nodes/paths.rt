@@ -11,7 +11,8 @@ ghost use Rattle.kf_tree.specs.Paths.{seen};
 ghost use Rattle.kf_plain.specs.PlainRemove.{remove_held, removed_key};
 ghost use Rattle.kf_plain.specs.PlainFiles.{opened_node};
 ghost use Rattle.kf_plain.specs.PlainInside.{IsOpened};
-ghost use Rattle.kf_plain.specs.Nodes.{AllIdle, IsNext, hold_count, logged, with_spent};
+ghost use Rattle.kf_world.specs.Bounded.{hold_count};
+ghost use Rattle.kf_plain.specs.Nodes.{AllIdle, IsFreeKeyOf, logged, with_spent};
 ghost use Rattle.kf_plain.specs.PlainTree.{Spot, activated_key, moved_key, new_link_spot, new_spot, moved_nodes, with_born};
 ghost use Rattle.kf_plain.specs.Settled.{IsWhy, IsWhyFrom, Leads};
 
@@ -28,7 +29,7 @@ impl Nodes {
         is_live: bool,
         next: Option<Key>,
     ) -> Result<Key, Refusal>
-        requires next { IsNext self.old.log.tree self.old.last (hold_count self.old.callers) next }
+        requires next { IsFreeKeyOf self.old.log.tree self.old.last (hold_count self.old.callers) next }
         ensures given { IfOk result (λ key. next ≡ Some key) }
         ensures made { IfOk result
             (λ key. (spot : Spot) × (new_spot self.old.log path.now node next ≡ Ok spot)
@@ -52,7 +53,7 @@ impl Nodes {
 
     /// Links a new live link at a path to the node at another one, under the next key.
     pub fn link_at(&mut self, path: &[u8], target: &[u8], next: Option<Key>) -> Result<Key, Refusal>
-        requires next { IsNext self.old.log.tree self.old.last (hold_count self.old.callers) next }
+        requires next { IsFreeKeyOf self.old.log.tree self.old.last (hold_count self.old.callers) next }
         ensures given { IfOk result (λ key. next ≡ Some key) }
         ensures made { IfOk result
             (λ key. (link : Key × Spot) × (new_link_spot self.old.log path.now target.now next ≡ Ok link)

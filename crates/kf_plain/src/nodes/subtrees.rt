@@ -15,7 +15,8 @@ ghost use Rattle.kf_tree.specs.Causes.{Refuses, doom_cause, linked_cause, unlink
 ghost use Rattle.kf_tree.specs.TreeLogs.{IsAccepted, IsKept};
 ghost use Rattle.kf_tree.specs.SlotMarks.{Changed, SameMarks, doomed_if, risen_if};
 ghost use Rattle.kf_plain.specs.Fresh.{is_fresh_key};
-ghost use Rattle.kf_plain.specs.Nodes.{AllIdle, OnlyMarks, hold_count, is_full_below, last_of, logged, spent_on, with_spent};
+ghost use Rattle.kf_world.specs.Bounded.{hold_count};
+ghost use Rattle.kf_plain.specs.Nodes.{AllIdle, OnlyMarks, has_full_below, last_of, logged, spent_on, with_spent};
 ghost use Rattle.kf_plain.specs.Removals.{AreChildrenFirst, Cleared, IsMarkedDoomed, IsMarkedUndoomed, PinsRefused, released, still_on, taken_out, with_callers};
 
 use super::Nodes;
@@ -172,14 +173,14 @@ impl Nodes {
     pub fn remove(&mut self, key: Key) -> Result<(), Refusal>
         requires idle { AllIdle self.old.callers }
         ensures no_cause { IfOk result (λ _. doom_cause self.old.log.tree self.old.log.root key ≡ None) }
-        ensures room { IfOk result (λ _. is_full_below self.old key ≡ false) }
+        ensures room { IfOk result (λ _. has_full_below self.old key ≡ false) }
         ensures removed { IfOk result (λ _. (keys : List Key) × IsPostOrder self.old.log.tree key keys
             × (self.new ≡ with_spent
             (record self.old { log = logged self.old.log (Doom key ∷ map Unlink keys) }) keys)) }
         ensures refused { IfErr result (λ refusal.
             ((doom_cause self.old.log.tree self.old.log.root key ≡ Some refusal)
             ⊎ ((doom_cause self.old.log.tree self.old.log.root key ≡ None) × (refusal ≡ TooManyHolds)
-            × (is_full_below self.old key ≡ true))
+            × (has_full_below self.old key ≡ true))
             ⊎ ((doom_cause self.old.log.tree self.old.log.root key ≡ None) × (refusal ≡ NoMemory)))
             × ((spent : List Key) × (self.new ≡ with_spent self.old spent))) }
     {

@@ -9,7 +9,8 @@ ghost use Rattle.kf_core.specs.Phases.{is_waiting};
 ghost use Rattle.kf_core.specs.Tree.{is_linked};
 ghost use Rattle.kf_table.specs.Live.{live_in};
 ghost use Rattle.kf_files.specs.Files.{Polls, Reads, Stored, Writes, new_file, tag_of, text_told};
-ghost use Rattle.kf_plain.specs.Nodes.{StillWaits, Waits, hold_count, with_spent};
+ghost use Rattle.kf_world.specs.Bounded.{hold_count};
+ghost use Rattle.kf_plain.specs.Nodes.{StillWaits, Waits, with_spent};
 ghost use Rattle.kf_plain.specs.TextTable.{ShowsOf, StoresIn};
 ghost use Rattle.kf_plain.specs.Visits.{VisitsLive, file_cause};
 

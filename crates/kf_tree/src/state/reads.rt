@@ -1,12 +1,13 @@
 //! What a state says: its commands, paths, listings, and what is reported of a node. No call changes
 //! anything.
 
-ghost use Rattle.std.specs.Prelude.{◌≡◌, ◌↔◌, IfOk, IfErr, IsTrue, slice_get, MatchResult, None, Some, Ok, Err, true, false, length, IfSome, List, ◌+◌};
+ghost use Rattle.std.specs.Prelude.{◌≡◌, ◌↔◌, IfOk, IfErr, IsTrue, slice_get, MatchResult, None, Some, Ok, Err, true, false, not, length, IfSome, List, ◌+◌};
 ghost use Rattle.std.specs.Option.{option_copied, option_map, ok_or};
 ghost use Rattle.kf_core.specs.declared.command.Command.{Command};
 ghost use Rattle.kf_core.specs.Tree.{record_at, is_linked, in_subtree};
 ghost use Rattle.kf_core.specs.PostOrder.{IsPostOrder};
-ghost use Rattle.kf_tree.specs.Causes.{Refuses, create_fault, create_cause, linked_cause, doom_cause, unlink_cause, list_cause, text_cause};
+ghost use Rattle.kf_table.specs.Children.{is_there_already};
+ghost use Rattle.kf_tree.specs.Causes.{Refuses, create_fault, create_cause, linked_cause, doom_cause, unlink_cause, list_cause, rename_cause, text_cause};
 ghost use Rattle.kf_tree.specs.Canonical.{IsCanonical, doomed_inside_count};
 ghost use Rattle.kf_tree.specs.Ends.{EndsWith};
 ghost use Rattle.kf_tree.specs.Links.{HasLinkText};
@@ -19,7 +20,8 @@ ghost use Rattle.kf_tree.specs.Ways.{IsPathOf};
 
 use super::State;
 use crate::causes::{
-    check_create, check_doom, check_linked, check_list, check_text, check_unlink, create_fault,
+    check_create, check_doom, check_linked, check_list, check_rename, check_text, check_unlink,
+    create_fault,
 };
 use crate::find::find_in;
 use crate::links::{link_text, path_of};
@@ -120,7 +122,7 @@ impl State {
 
     /// Why [`State::create`] would refuse this new record now whichever key is next, or None: the first of
     /// its refusals but `NoSpace` and `NoMemory`. So a caller asks it before it searches for a key, and then
-    /// makes the record by [`State::create_at`]. It takes no memory.
+    /// makes the record by [`State::create_under`]. It takes no memory.
     pub fn create_fault(&self, parent: Key, name: &[u8], node: Node) -> Option<Refusal>
         ensures first { result ≡ create_fault self.now.tree self.now.root parent name.now node }
     {
@@ -136,6 +138,17 @@ impl State {
         ensures kept { IsKept self.now }
     {
         check_doom(&self.table, self.root, key)
+    }
+
+    /// Whether [`State::rename`] would move the node now, or why it would refuse, lack of memory aside. It is
+    /// false if the node is in that directory under that name already. It takes no memory.
+    pub fn may_rename(&self, key: Key, dir: Key, name: &[u8]) -> Result<bool, Refusal>
+        ensures checked { MatchResult result
+            (λ moves. (rename_cause self.now.tree self.now.root key dir name.now ≡ None)
+            × (moves ≡ not (is_there_already self.now.tree key dir name.now)))
+            (λ refusal. rename_cause self.now.tree self.now.root key dir name.now ≡ Some refusal) }
+    {
+        check_rename(&self.table, self.root, key, dir, name)
     }
 
     /// What [`State::unlink`] would return now, without doing it.

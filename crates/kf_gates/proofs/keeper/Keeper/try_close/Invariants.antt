@@ -1,6 +1,6 @@
 use Rattle.std.proofs.Common.{◌≡◌, ◌≤◌, ◌-◌, true, false}
 use Rattle.std.specs.Arc.{arc_value}
-use Rattle.kf_gates.specs.declared.view.View.TheVariants.{Keeps}
+use Rattle.kf_gates.specs.declared.view.GateView.TheVariants.{Keeps}
 use Rattle.kf_gates.specs.Board.{IsSameSeat}
 use Rattle.kf_gates.proofs.keeper.Keeper.try_close.Given as goal
 

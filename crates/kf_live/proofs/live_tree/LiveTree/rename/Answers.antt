@@ -1,6 +1,6 @@
 use Rattle.std.proofs.Common.{◌<◌, List, sym, ◌∙◌, subst}
 use Rattle.std.specs.Arc.{arc_value}
-use Rattle.kf_looks.specs.declared.looks.Looks.{Looks}
+use Rattle.kf_looks.specs.declared.lookup_table.LookupTable.{LookupTable}
 use Rattle.kf_looks.specs.declared.view.Link.{Link}
 use Rattle.kf_live.specs.Live.{Say, IsMove}
 use Rattle.kf_live.proofs.Single.{moved_or_stays, moved_or_stays_doomed}
@@ -16,7 +16,7 @@ publish_move-requires c = record {
         root = c.self.inside.state.root;
         lawful = c.root.ensures.kept.lawful;
         says = says;
-        stood = c.place_before-was.ensures.stood (subst (λ (l : Looks). 0 < l.slots) (c.deref-2.ensures ∙ sym c.deref.ensures) some);
+        stood = c.place_before-was.ensures.stood (subst (λ (l : LookupTable). 0 < l.slots) (c.deref-2.ensures ∙ sym c.deref.ensures) some);
         same = moved_or_stays c.self.inside.state c.rename.new.self c.args.key c.args.dir c.args.name.now _ _ c.in_ok-rename.ensures.stays c.in_ok-rename.ensures.accepted;
         stays_doomed = moved_or_stays_doomed c.self.inside.state c.rename.new.self c.args.key c.args.dir c.args.name.now _ _ c.in_ok-rename.ensures.stays c.in_ok-rename.ensures.accepted;
       }) some;

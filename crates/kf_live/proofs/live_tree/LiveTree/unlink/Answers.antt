@@ -1,7 +1,7 @@
 use Rattle.std.proofs.Common.{◌<◌, List, sym, ◌∙◌, subst}
 use Rattle.std.specs.Prelude.{IfSome}
 use Rattle.std.specs.Arc.{arc_value}
-use Rattle.kf_looks.specs.declared.looks.Looks.{Looks}
+use Rattle.kf_looks.specs.declared.lookup_table.LookupTable.{LookupTable}
 use Rattle.kf_looks.specs.declared.view.Link.{Link}
 use Rattle.kf_looks.specs.Lines.{bytes_in}
 use Rattle.kf_looks.specs.Links.{IsOfSlot}
@@ -16,14 +16,14 @@ publish_gone-requires c = record {
       (λ (links : List Link). IfSome c.place_left-left.result (λ spot. IsOfSlot links spot.dir (bytes_in spot.name) c.args.key.slot))
       c.self.inside.writer c.take.result c.take.ensures.value c.deref-then-unlinked.ensures c.self.invariant
       (λ links says. left_slot c.self.inside.state.tree c.self.inside.state.root c.args.key c.root.ensures.kept.lawful links says c.place_left-left.result
-      (c.place_left-left.ensures.left (subst (λ (l : Looks). 0 < l.slots) (c.deref-then-unlinked.ensures ∙ sym c.deref.ensures) some))) some;
+      (c.place_left-left.ensures.left (subst (λ (l : LookupTable). 0 < l.slots) (c.deref-then-unlinked.ensures ∙ sym c.deref.ensures) some))) some;
 }
 
 pub invariant_of-self-then-unlinked-2 : goal.invariant_of-self-then-unlinked-2
 invariant_of-self-then-unlinked-2 c some =
-    let there : 0 < c.deref-then-unlinked.result.now.slots = subst (λ (l : Looks). 0 < l.slots) (sym c.deref-then-unlinked.ensures) some in
+    let there : 0 < c.deref-then-unlinked.result.now.slots = subst (λ (l : LookupTable). 0 < l.slots) (sym c.deref-then-unlinked.ensures) some in
     let accepted = was_accepted c.self.inside.state c.unlink.new.self c.args.key c.in_ok-unlinked.unlinked c.if-unlinked.true c.in_ok-unlinked.ensures.accepted in
-    subst (λ (l : Looks). Writes l (λ (links : List Link). Say links c.unlink.new.self.tree) c.publish_gone.result) c.deref-then-unlinked.ensures
+    subst (λ (l : LookupTable). Writes l (λ (links : List Link). Say links c.unlink.new.self.tree) c.publish_gone.result) c.deref-then-unlinked.ensures
     (c.publish_gone.ensures.gone c.unlink.new.self.tree
     (writes_on (arc_value c.self.inside.looks) c.deref-then-unlinked.result.now (λ (links : List Link). Say links c.self.inside.state.tree)
     (λ (links : List Link). Say (without c.place_left-left.result links) c.unlink.new.self.tree)
@@ -31,4 +31,4 @@ invariant_of-self-then-unlinked-2 c some =
     (λ links says. subst (Say (without c.place_left-left.result links)) (sym accepted.changed)
     (said_gone c.self.inside.state.tree c.self.inside.state.root c.args.key c.root.ensures.kept.lawful links says
     (c.in_ok-unlinked.ensures.linked ∙ c.if-unlinked.true) accepted.no_cause c.place_left-left.result
-    (c.place_left-left.ensures.left (subst (λ (l : Looks). 0 < l.slots) (sym c.deref.ensures) some)))))) some
+    (c.place_left-left.ensures.left (subst (λ (l : LookupTable). 0 < l.slots) (sym c.deref.ensures) some)))))) some

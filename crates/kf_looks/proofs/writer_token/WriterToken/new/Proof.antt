@@ -17,7 +17,7 @@ use denote.Triple.Entry.{alive}
 use denote.Triple.Walked.{Stays, walk_of, says, stay_dropped, Goes-dropped, ends_at}
 use Rattle.atomic_table.proofs.Fields.{token_val, token_told}
 use Rattle.atomic_table.specs.contracts.shared.Seat as seat
-use Rattle.kf_looks.specs.contracts.view.View as view
+use Rattle.kf_looks.specs.contracts.view.LookView as view
 use Rattle.kf_looks.specs.contracts.writer_token.WriterToken as token
 use Rattle.kf_looks.specs.contracts.writer_token.WriterToken.new as f
 use Rattle.kf_looks.proofs.writer_token.WriterToken.new.Statement.{statement}

@@ -6,12 +6,12 @@ use Rattle.kf_core.specs.declared.command.Command.TheVariants.{Doom, Unlink}
 use Rattle.kf_core.specs.Keys.{same_key}
 use Rattle.kf_core.specs.PostOrder.{IsPostOrder}
 use Rattle.kf_tree.specs.SlotMarks.{Changed, doomed_if}
-use Rattle.kf_plain.specs.Nodes.{Nodes, AllIdle, hold_count, is_full_below, logged, with_spent, nodes_of}
+use Rattle.kf_world.specs.Bounded.{BoundedWorld, hold_count}
+use Rattle.kf_plain.specs.Nodes.{Nodes, AllIdle, has_full_below, logged, with_spent, nodes_of}
 use Rattle.kf_plain.specs.Removals.{Cleared, PinsRefused, still_on, with_callers}
 use Rattle.kf_plain.proofs.Pins.{given_back, may_all_release}
 use Rattle.kf_plain.proofs.Removed.{RefusedSo, no_doom_cause, pins_refused, doom_refused, seen_room, all_different, all_undoomed, same_after, all_doomed, all_children_first, all_idle, tied_removed, told_removed, seen_removed}
 use Rattle.kf_core.specs.Agrees.{AgreesHidden}
-use Rattle.kf_world.specs.Bounded.{BoundedWorld}
 use Rattle.kf_tree.specs.TreeLogs.{TreeLog}
 use Rattle.kf_plain.specs.Nodes.{AreTied}
 use Rattle.kf_plain.proofs.BoardVisits.{tied_slots, held_stays}
@@ -122,7 +122,7 @@ invariant_of-self-2 c =
 
 pub returns-clause-room : goal.returns-clause-room
 returns-clause-room c =
-    subst (λ n. is_full_below n c.args.key ≡ false) c.self.view_is
+    subst (λ n. has_full_below n c.args.key ≡ false) c.self.view_is
     (seen_room c.self.inside.state c.self.inside.world c.args.key c.in_ok-keys.keys.items c.self.invariant.0 c.in_ok-keys.ensures.ordered
     (subst (λ ks. All (λ (k : Key). hold_count c.self.inside.world.world.callers k.slot < c.self.inside.world.limit) ks) c.as_slice.ensures.value c.in_ok-first.ensures.room))
 

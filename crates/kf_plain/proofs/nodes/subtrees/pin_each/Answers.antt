@@ -4,8 +4,7 @@ use Rattle.std.specs.Prelude.{All}
 use Rattle.std.proofs.lemmas.List.{length-drop, get_or-drop, take_all}
 use Rattle.kf_core.specs.declared.key.Key.{Key}
 use Rattle.kf_core.specs.declared.event.Event.TheVariants.{Pin}
-use Rattle.kf_world.specs.Bounded.{Happens, PinRefused, holds}
-use Rattle.kf_plain.specs.Nodes.{hold_count}
+use Rattle.kf_world.specs.Bounded.{Happens, PinRefused, hold_count, holds}
 use Rattle.kf_plain.proofs.Pins.{pin_refused, one_pinned, given_back}
 use Rattle.kf_plain.proofs.nodes.subtrees.pin_each.Goals as goal
 

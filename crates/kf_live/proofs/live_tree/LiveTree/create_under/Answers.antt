@@ -1,0 +1,26 @@
+use Rattle.std.proofs.Common.{sym, subst, List, [], ◌∷◌}
+use Rattle.std.specs.Arc.{arc_value}
+use Rattle.kf_looks.specs.declared.view.Link.{Link}
+use Rattle.kf_live.specs.Live.{SayBut, Say}
+use Rattle.kf_live.proofs.Writers.{writes_on}
+use Rattle.std.proofs.Common.{◌≡◌}
+use Rattle.std.specs.Prelude.{slice_get, Some, None}
+use Rattle.kf_tree.specs.TreeLogs.{TreeLog}
+use Rattle.kf_live.proofs.Writers.{writes_then}
+use Rattle.kf_live.proofs.Single.{said_born, said_unborn}
+use Rattle.kf_live.proofs.live_tree.LiveTree.create_under.Goals as goal
+
+pub publish_one-requires : goal.publish_one-requires
+publish_one-requires c = record {
+  says = writes_on (arc_value c.self.inside.looks) c.deref.result.now (λ (links : List Link). Say links c.self.inside.state.tree) (λ (links : List Link). SayBut (c.args.key ∷ []) links c.create_under.new.self.tree)
+      c.self.inside.writer c.take.result c.take.ensures.value c.deref.ensures c.self.invariant
+      (λ links says. subst (SayBut (c.args.key ∷ []) links) (sym c.in_ok-create_under.ensures.accepted.changed)
+      (said_born c.self.inside.state.tree c.self.inside.state.root c.args.key c.args.parent c.args.name.now c.args.node links c.root.ensures.kept.lawful
+      (subst (λ (s : TreeLog). slice_get s.tree c.args.key.slot ≡ Some None) (sym c.self.view_is) c.requires.vacant) c.args.live says));
+}
+
+pub invariant_of-self-else-live : goal.invariant_of-self-else-live
+invariant_of-self-else-live c = writes_then (arc_value c.self.inside.looks) (λ (links : List Link). Say links c.self.inside.state.tree) (λ (links : List Link). Say links c.create_under.new.self.tree) c.self.inside.writer c.self.invariant
+    (λ links says. subst (Say links) (sym c.in_ok-create_under.ensures.accepted.changed)
+    (said_unborn c.self.inside.state.tree c.self.inside.state.root c.args.key c.args.parent c.args.name.now c.args.node links c.root.ensures.kept.lawful
+    (subst (λ (s : TreeLog). slice_get s.tree c.args.key.slot ≡ Some None) (sym c.self.view_is) c.requires.vacant) c.args.live c.if-live.false says))

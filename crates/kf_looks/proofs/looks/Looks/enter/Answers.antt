@@ -1,6 +1,0 @@
-use Rattle.std.proofs.Common.{rules}
-use Rattle.kf_looks.proofs.Allowed.{enter_allowed}
-use Rattle.kf_looks.proofs.looks.Looks.enter.Goals as goal
-
-pub store-requires : goal.store-requires
-store-requires c = (search rules, search rules, enter_allowed _ _ _ _ _ _ (search rules) c.requires.writes c.requires.odd)

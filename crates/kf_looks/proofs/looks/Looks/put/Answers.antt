@@ -1,6 +1,0 @@
-use Rattle.std.proofs.Common.{rules}
-use Rattle.kf_looks.proofs.Allowed.{put_allowed}
-use Rattle.kf_looks.proofs.looks.Looks.put.Goals as goal
-
-pub store-requires : goal.store-requires
-store-requires c = (search rules, search rules, put_allowed _ _ _ _ _ _ (search rules) c.requires.writes c.requires.odd)
