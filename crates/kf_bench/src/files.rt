@@ -3,13 +3,12 @@
 
 ghost use Rattle.std.specs.Prelude.{◌≡◌, IfOk};
 
-use crate::grown::{hold_of, maker, path_of};
+use crate::grown::{hold_of, path_of};
 use kf_core::Refusal;
 use kf_files::{BoxedFile, Fault, Page, PageApart, WaitOps, WaitingFile, Want};
-use kf_live::Looker;
 use kf_notify::{Post, Posts};
-use kf_shared::{Naming, SharedTree, hold_path};
-use kf_words::{Call, Hold, Holds};
+use kf_shared::{Naming, PathHolder, SharedTree};
+use kf_words::{Call, Hold};
 use std::alloc::Global;
 use std::sync::Wait;
 
@@ -140,23 +139,16 @@ fn hold_locked<N: Naming, R: Wait>(
 pub(crate) fn visit_once<N: Naming, R: Wait>(
     rt: &R,
     tree: &SharedTree<N>,
-    looker: &mut Looker,
-    holds: &mut Holds,
+    holder: &mut PathHolder<N>,
     locked: bool,
     slot: u32,
     kept: Kept,
 ) -> Result<(Kept, bool), Refusal>
-    requires table { holds.old.by.table ≡ N.table }
     requires slot { kept.post.slot ≡ slot }
-    ensures table { holds.new.by.table ≡ N.table }
     ensures slot { IfOk result (λ r. r.0.post.slot ≡ slot) }
 {
     let path = path_of(slot);
-    let found = if locked {
-        None
-    } else {
-        hold_path(looker, holds, path)
-    };
+    let found = if locked { None } else { holder.try_hold(path) };
     let takes_lock = found.is_none();
     let hold = match found {
         Some(hold) => hold,
@@ -165,7 +157,7 @@ pub(crate) fn visit_once<N: Naming, R: Wait>(
     let mut file = open::<N>(hold, slot, kept)?;
     read_once(rt, tree, &mut file)?;
     let (hold, post, page) = file.into_parts();
-    holds.release(hold);
+    holder.release(hold);
     Ok((Kept { post, page }, takes_lock))
 }
 
@@ -174,17 +166,14 @@ fn visit_by<N: Naming, R: Wait>(
     rt: &R,
     alloc: Global,
     tree: &SharedTree<N>,
-    holds: &mut Holds,
+    holder: &mut PathHolder<N>,
     locked: bool,
     slot: u32,
     turns: u32,
-) -> Result<(), Refusal>
-    requires table { holds.old.by.table ≡ N.table }
-{
-    let mut looker = tree.edit(rt).looker()?;
+) -> Result<(), Refusal> {
     let mut kept = keep(alloc, slot)?;
     for _ in 0..turns {
-        let (next, _) = visit_once(rt, tree, &mut looker, holds, locked, slot, kept)?;
+        let (next, _) = visit_once(rt, tree, holder, locked, slot, kept)?;
         kept = next;
     }
     Ok(())
@@ -199,8 +188,8 @@ pub(crate) fn visit<N: Naming, R: Wait>(
     slot: u32,
     turns: u32,
 ) -> Result<(), Refusal> {
-    let mut holds = maker(rt, alloc, tree)?;
-    let told = visit_by(rt, alloc, tree, &mut holds, locked, slot, turns);
-    holds.end().release();
+    let mut holder = PathHolder::new(alloc, &mut tree.edit(rt))?;
+    let told = visit_by(rt, alloc, tree, &mut holder, locked, slot, turns);
+    holder.end().release();
     told
 }

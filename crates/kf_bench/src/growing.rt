@@ -52,8 +52,8 @@ fn fill<N: Naming>(
     Ok(())
 }
 
-/// Makes a live subtree of this many nodes, ten at a time, under one lock; removes it 20 ms later, and returns
-/// when that began.
+/// Makes a live subtree of this many nodes, ten at a time, under one lock; removes it 20 ms later, and
+/// returns when that began.
 pub(crate) fn grow_and_remove<N: Naming, R: Wait + Clock>(
     rt: &R,
     alloc: Global,

@@ -1,16 +1,14 @@
 //! How long single calls take, undisturbed and beside a thread that changes the tree: the median, and the
 //! slowest of 100, of 1,000 and of all.
 
-ghost use Rattle.std.specs.Prelude.{◌≡◌};
-
 use crate::clock::{now, since};
 use crate::files::{keep, visit_once};
 use crate::growing::grow_and_remove;
-use crate::grown::{ASIDE, Bench, hold_of, key_in, maker, path_of};
+use crate::grown::{ASIDE, Bench, hold_of, key_in, path_of};
 use crate::hist::Histogram;
 use kf_core::{Node, Refusal};
-use kf_shared::{Naming, hold_path, release_all};
-use kf_words::{Hold, Holds};
+use kf_shared::{Naming, PathHolder, release_all};
+use kf_words::Hold;
 use std::alloc::Global;
 use std::sync::Wait;
 use std::sync::atomic::{AtomicU64, Ordering};
@@ -204,19 +202,16 @@ fn look<N: Naming, R: Wait + Clock>(
 fn open_by<N: Naming, R: Wait + Clock>(
     rt: &R,
     bench: &Bench<N>,
-    holds: &mut Holds,
+    holder: &mut PathHolder<N>,
     worker: &mut Worker,
-) -> Result<(), Refusal>
-    requires table { holds.old.by.table ≡ N.table }
-{
-    let mut looker = bench.tree.edit(rt).looker()?;
+) -> Result<(), Refusal> {
     let mut kept = keep(bench.alloc, FILE)?;
     for _ in 0..worker.task.turns() {
         if is_over(bench) {
             break;
         }
         let begun = now(rt)?;
-        let (next, locked) = visit_once(rt, &bench.tree, &mut looker, holds, false, FILE, kept)?;
+        let (next, locked) = visit_once(rt, &bench.tree, holder, false, FILE, kept)?;
         kept = next;
         worker.locked = worker.locked.saturating_add(locked as u64);
         worker.count(rt, begun)?;
@@ -229,9 +224,9 @@ fn open<N: Naming, R: Wait + Clock>(
     bench: &Bench<N>,
     worker: &mut Worker,
 ) -> Result<(), Refusal> {
-    let mut holds = maker(rt, bench.alloc, &bench.tree)?;
-    let result = open_by(rt, bench, &mut holds, worker);
-    holds.end().release();
+    let mut holder = PathHolder::new(bench.alloc, &mut bench.tree.edit(rt))?;
+    let result = open_by(rt, bench, &mut holder, worker);
+    holder.end().release();
     result
 }
 
@@ -254,18 +249,17 @@ fn use_each<N: Naming, R: Wait + Clock>(
     bench: &Bench<N>,
     worker: &Worker,
 ) -> Result<(), Refusal> {
-    let mut looker = bench.tree.edit(rt).looker()?;
-    let mut holds = maker(rt, bench.alloc, &bench.tree)?;
+    let mut holder = PathHolder::new(bench.alloc, &mut bench.tree.edit(rt))?;
     for _ in 0..worker.task.turns() {
         if is_over(bench) {
             break;
         }
-        match hold_path(&mut looker, &mut holds, BUSY_PATH) {
+        match holder.try_hold(BUSY_PATH) {
             Some(hold) => use_up(hold),
             None => thread::sleep(rt, Duration::from_micros(20)),
         }
     }
-    holds.end().release();
+    holder.end().release();
     Ok(())
 }
 

@@ -5,6 +5,7 @@
 //!   attributes. Its callbacks are yours: a type with `WaitOps` (`WaitBinaryOps`), which is lent the tree and
 //!   the runtime, and returns bytes or a `Fault`.
 //! - `OpenFile` is the same over any `Guard`, for one owner, and `HeldFile` both without its event numbers.
+//! - `Contents` is what a file keeps, for a program that makes each show in two halves.
 //! - A `Page` is 4,096 bytes; a program that opens many files lends its own pages (`PageHolder`).
 //! - `remove_and_tell`, `hide_and_tell` remove or hide, and raise the numbers of what they marked, so that
 //!   sleepers end.
@@ -28,7 +29,7 @@ mod wait_ops;
 mod waiting_file;
 
 pub use binary_ops::{BinaryOps, WaitBinaryOps};
-pub use contents::Want;
+pub use contents::{Contents, Want};
 pub use event_numbers::EventNumbers;
 pub use held_file::HeldFile;
 pub use open_file::OpenFile;

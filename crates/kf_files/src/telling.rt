@@ -1,21 +1,25 @@
 //! Removals and hidings that wake the threads that wait for a file to change.
 //!
 //! A thread that waits has tried, found no change, and sleeps on its slot's event number. A removal marks its
-//! nodes, and then raises the number of each, which wakes the sleepers. A bare wake would not do: a thread that
-//! had tried and was not yet asleep would miss it. Nor would a raise before the mark: a thread that it wakes
-//! may try before the mark, and sleep again. The same holds for a hiding.
+//! nodes, and then raises the number of each, which wakes the sleepers. A bare wake would not do: a thread
+//! that had tried and was not yet asleep would miss it. Nor would a raise before the mark: a thread that it
+//! wakes may try before the mark, and sleep again. The same holds for a hiding.
 //!
 //! Each raise is a step of the one run of the event numbers, after all that the handle had seen: so clauses
 //! say which numbers were raised. No clause says that they were raised after the marks.
-ghost use Rattle.std.specs.Prelude.{◌≡◌, true, None, IfErr, IfOk, OnErr, OnOk};
+ghost use Rattle.std.specs.Prelude.{◌≡◌, [], ◌∷◌, true, None, IfErr, IfOk, OnErr, OnOk};
 ghost use Rattle.kf_core.specs.declared.caller.Phase.TheVariants as phase_of;
+ghost use Rattle.kf_core.specs.declared.command.Command.TheVariants.{Hide};
 ghost use Rattle.kf_files.specs.Telling.{WasTold, WereTold};
 ghost use Rattle.kf_notify.specs.PostStates.{id_of};
 ghost use Rattle.kf_words.specs.Callers.{IsSameSeat, seat_view};
 ghost use Rattle.kf_words.specs.Layout.{is_unused};
-ghost use Rattle.kf_shared.specs.Hiding.{HidAndLooked, HideRefused, hold_cause};
+ghost use Rattle.kf_words.specs.declared.note.Note.TheVariants.{Did};
+ghost use Rattle.kf_shared.specs.Hiding.{HideRefused, hold_cause};
+ghost use Rattle.kf_shared.specs.Locked.{history};
 ghost use Rattle.kf_shared.specs.Receipts.{AreOf, IsRemovalOf, KeyRefused};
 ghost use Rattle.kf_shared.specs.Removal.{keys_of};
+ghost use Rattle.kf_shared.specs.Sections.{HidToldAndLooked, Last, SawItsRemoval, WasAddedLate};
 
 use kf_core::{Key, Refusal};
 use kf_notify::Posts;
@@ -42,9 +46,9 @@ fn tell_each(posts: &mut Posts, holds: &[Hold])
     }
 }
 
-/// Raises the event number of each slot whose node the removal has marked, and so wakes who waits for a file
-/// there to change: each finds its node gone. Call it between the begin of a removal and its end, whoever's
-/// call began it (`begin_removal`, `begin_removal_of`, `begin_self_removal`). It takes no memory.
+/// Raises the event number of each slot whose node the removal has marked, and so wakes the threads that wait
+/// for a file there to change: each finds its node gone. Call it after `begin_removal`, `begin_removal_of` or
+/// `begin_self_removal`, and before [`Editor::end_removal`] or [`Removing::finish`]. It takes no memory.
 pub fn tell_removed<N: Naming>(posts: &mut Posts, removing: &Removing<N>)
     ensures told { WereTold posts.old (keys_of removing.now) posts.new }
     ensures posts { id_of posts.new ≡ id_of posts.old }
@@ -52,8 +56,8 @@ pub fn tell_removed<N: Naming>(posts: &mut Posts, removing: &Removing<N>)
     tell_each(posts, removing.holds());
 }
 
-/// Raises the event number of the file that is being hidden, and so wakes who waits for it to change: each
-/// finds that it is not live. It takes no memory.
+/// Raises the event number of the file that is being hidden, and so wakes the threads that wait for it to
+/// change: each finds that it is not live. It takes no memory.
 pub fn tell_hidden(posts: &mut Posts, hiding: &Hiding)
     ensures told { WasTold posts.old hiding.now.key.slot posts.new }
     ensures posts { id_of posts.new ≡ id_of posts.old }
@@ -61,20 +65,23 @@ pub fn tell_hidden(posts: &mut Posts, hiding: &Hiding)
     tell(posts, hiding.key().slot);
 }
 
-/// Removes the node of a key with all below it, as [`Editor::remove_key`] does, and wakes who waits for a
-/// change of a file there: once all are marked, and before it waits for their callers. The receipts are in
-/// post-order, the node's own last.
+/// Removes the node of a key with all below it, as [`Editor::remove_key`] does, and wakes the threads that
+/// wait for a change of a file there: once all are marked, and before the tree is unlocked. The receipts are
+/// in post-order, the node's own last. That has seen that the doom, and the unlinks of the first of the nodes
+/// in their order, are all that came before the next border.
 ///
-/// Refusals: those of [`Editor::begin_removal_of`]. After a refusal nothing is marked, and the lock is let
-/// go.
+/// Refusals: those of [`Editor::begin_removal_of`]. After a refusal nothing is marked, and the tree is
+/// unlocked.
 ///
-/// Context: sleeps, once it has unlocked, and locks for each unlink.
+/// Context: as [`Editor::remove_key`].
 pub fn remove_and_tell<N: Naming, R: Wait>(
     editor: Editor<'_, N>,
     rt: &R,
     posts: &mut Posts,
     key: Key,
 ) -> Result<Vec<Parted>, Refusal>
+    ensures alone { IfOk result (λ receipts. Last (SawItsRemoval (history editor.entry) key
+        (keys_of receipts.items)) receipts.items) }
     ensures tables { IfOk result (λ receipts. AreOf N.table receipts.items) }
     ensures listed { IfOk result (λ receipts. IsRemovalOf editor.entry.state key (keys_of receipts.items)) }
     ensures refused { IfErr result (λ refusal. KeyRefused editor.entry.state key refusal) }
@@ -83,15 +90,15 @@ pub fn remove_and_tell<N: Naming, R: Wait>(
     ensures posts { id_of posts.new ≡ id_of posts.old }
 {
     let mut editor = editor;
-    let begun = editor.begin_removal_of(key);
-    let tree = editor.let_go();
-    let removing = begun?;
+    let removing = editor.begin_removal_of(key)?;
     tell_removed(posts, &removing);
-    Ok(removing.finish(rt, tree))
+    let draining = editor.end_removal(removing);
+    Ok(draining.finish(rt))
 }
 
-/// Hides a file, as [`Editor::hide_and_wait`] does, and wakes who waits for it to change: once it is hidden,
-/// and before it waits for its callers.
+/// Hides a file, as [`Editor::hide_and_wait`] does, and wakes the threads that wait for it to change: once it
+/// is hidden and the tree is unlocked, and before it waits for its callers. The token has seen that the
+/// hiding is all that came before the next border.
 ///
 /// Condition: the hold is of this table.
 ///
@@ -108,7 +115,9 @@ pub fn hide_and_tell<N: Naming, R: Wait>(
     ensures same { IfOk result (λ hidden. IsSameSeat hold hidden) }
     ensures hidden { IfOk result (λ hidden. hidden.phase ≡ phase_of.Hidden) }
     ensures unused { IfOk result (λ hidden. is_unused hidden.found ≡ true) }
-    ensures looked { IfOk result (λ hidden. HidAndLooked (seat_view hold) (seat_view hidden)) }
+    ensures looked { IfOk result (λ hidden. HidToldAndLooked (seat_view hold) (seat_view hidden)) }
+    ensures alone { IfOk result (λ hidden. WasAddedLate hold.seen hidden.seen (history editor.entry)
+        (Did (Hide hold.key) ∷ [])) }
     ensures no_cause { OnOk result (hold_cause editor.entry.state.tree hold ≡ None) }
     ensures refused { IfErr result (λ r. HideRefused editor.entry.state.tree hold r.0 r.1) }
     ensures told { OnOk result (WasTold posts.old hold.key.slot posts.new) }
@@ -116,9 +125,8 @@ pub fn hide_and_tell<N: Naming, R: Wait>(
     ensures posts { id_of posts.new ≡ id_of posts.old }
 {
     let mut editor = editor;
-    let started = editor.hide(hold);
-    drop(editor);
-    let hiding = started?;
+    let mut hiding = editor.hide(hold)?;
+    let _ = editor.end_hiding(&mut hiding);
     tell_hidden(posts, &hiding);
     Ok(wait_hidden(rt, hiding))
 }

@@ -20,8 +20,8 @@ use Rattle.kf_tree.proofs.Storing.{none, none_same, one, join}
 use Rattle.kf_words.specs.Callers.{Handle}
 use Rattle.kf_shared.specs.Locked.{Locked, Unchanged, UnlinkDone, UnlinkRefused}
 use Rattle.kf_shared.specs.Removal.{keys_of}
-use Rattle.kf_handles.specs.declared.questions.Reply.{Reply}
-use Rattle.kf_handles.specs.declared.questions.Reply.TheVariants as told
+use Rattle.kf_handles.specs.declared.questions.TreeReply.{TreeReply}
+use Rattle.kf_handles.specs.declared.questions.TreeReply.TheVariants as told
 use Rattle.kf_handles.specs.Answers.{DoneOr}
 use Rattle.kf_handles.specs.Hiding.{IsUnhidden, IsHiddenStill, UnhidingRefused}
 use Rattle.kf_handles.specs.Removing.{IsEndOf, Ends, Removes}
@@ -139,7 +139,7 @@ shown_at : (old new : Locked) (key : Key) (hidden : Bool)
 shown_at old new key true accepted claims = one_end (key ∷ []) old new None (Show key) (alone key) accepted claims
 shown_at old new key false same claims = no_end (key ∷ []) old new same claims
 
-pub shown_or_not : (old new : Locked) (tokens tokens' : List (Option Handle)) (key : Key) (reply : Reply)
+pub shown_or_not : (old new : Locked) (tokens tokens' : List (Option Handle)) (key : Key) (reply : TreeReply)
     → DoneOr (IsUnhidden old tokens new tokens' key) (IsHiddenStill old tokens new tokens' key)
     (λ why. UnhidingRefused old tokens key why × (new ≡ old) × (tokens' ≡ tokens)) reply
     → Ends (key ∷ []) old new

@@ -19,7 +19,7 @@ use Rattle.kf_handles.specs.Removing.{MarkRefused}
 use Rattle.kf_handles.specs.Tasks.{SteppedBehind, StepToldWhy}
 use Rattle.kf_handles.specs.declared.object.Object.{Object}
 use Rattle.kf_handles.specs.declared.object.Object.TheVariants as behind
-use Rattle.kf_handles.specs.declared.questions.Reply.TheVariants as told
+use Rattle.kf_handles.specs.declared.questions.TreeReply.TheVariants as told
 use Rattle.kf_handles.specs.declared.questions.Task.{Task}
 
 -- the load that was made last

@@ -3,7 +3,7 @@ use Rattle.std.specs.Prelude.{◌≡◌, ℤ, negsuc}
 use Rattle.kf_core.specs.declared.refusal.Refusal.{Refusal}
 use Rattle.kf_words.specs.Another.{AnotherRefused, IsAnother, Missed, StaysAs, WasCountedFor}
 use Rattle.kf_words.specs.Callers.{Handle, IsSameSeat, seat_view}
-use Rattle.kf_words.specs.declared.sight.StepKind.TheVariants.{Misses as misses}
+use Rattle.kf_words.specs.declared.sight.StepKind.TheVariants.{SeesHolds as sees_holds}
 use Rattle.kf_handles.specs.declared.object.Seat.{Seat}
 use Rattle.kf_handles.specs.declared.object.Seat.TheVariants as seat
 use Rattle.kf_handles.specs.LookUps.{error_in_c}
@@ -22,7 +22,7 @@ GaveAnother old new other = ⊥
 -- a second hold was refused, and the first stays as it is, except for what it saw; what is no hold stays
 abbrev pub GaveNoOther : Seat → Seat → Type 0
 GaveNoOther (seat.Hold held) (seat.Hold after) = IsSameSeat held.hold after.hold
-    × StaysAs held.hold after.hold × Missed misses 1 64 (seat_view held.hold) (seat_view after.hold)
+    × StaysAs held.hold after.hold × Missed sees_holds 1 64 (seat_view held.hold) (seat_view after.hold)
 GaveNoOther old new = new ≡ old
 
 -- why: of a hold what its last step found; -EINVAL of what is none

@@ -15,32 +15,32 @@ use Rattle.kf_handles.specs.declared.object.Object.{Object}
 use Rattle.kf_handles.specs.declared.object.Object.TheVariants as behind
 use Rattle.kf_handles.specs.declared.questions.Question.{Question}
 use Rattle.kf_handles.specs.declared.questions.Question.TheVariants as asks
-use Rattle.kf_handles.specs.declared.questions.Reply.{Reply}
-use Rattle.kf_handles.specs.declared.questions.Reply.TheVariants as told
+use Rattle.kf_handles.specs.declared.questions.TreeReply.{TreeReply}
+use Rattle.kf_handles.specs.declared.questions.TreeReply.TheVariants as told
 
 -- ---- what a reply is: of the kind that is meant, or a refusal
 
 -- it names a key of which this holds
-abbrev pub NamedOr : (Key → Type 0) → (Refusal → Type 0) → Reply → Type 0
+abbrev pub NamedOr : (Key → Type 0) → (Refusal → Type 0) → TreeReply → Type 0
 NamedOr Such Why (told.Named key) = Such key
 NamedOr Such Why (told.Refused refusal) = Why refusal
 NamedOr Such Why other = ⊥
 
 -- it has a hold of which this holds
-abbrev pub HeldOr : (Handle → Type 0) → (Refusal → Type 0) → Reply → Type 0
+abbrev pub HeldOr : (Handle → Type 0) → (Refusal → Type 0) → TreeReply → Type 0
 HeldOr Such Why (told.Held held) = Such held.hold
 HeldOr Such Why (told.Refused refusal) = Why refusal
 HeldOr Such Why other = ⊥
 
 -- it says that something is done, or not
-abbrev pub DoneOr : Type 0 → Type 0 → (Refusal → Type 0) → Reply → Type 0
+abbrev pub DoneOr : Type 0 → Type 0 → (Refusal → Type 0) → TreeReply → Type 0
 DoneOr Done Not Why told.Done = Done
 DoneOr Done Not Why told.Not = Not
 DoneOr Done Not Why (told.Refused refusal) = Why refusal
 DoneOr Done Not Why other = ⊥
 
 -- it says of a removal that the node is out by this step, or was before, or is there still
-abbrev pub OutOr : Type 0 → Type 0 → Type 0 → (Refusal → Type 0) → Reply → Type 0
+abbrev pub OutOr : Type 0 → Type 0 → Type 0 → (Refusal → Type 0) → TreeReply → Type 0
 OutOr Out Before Not Why told.Done = Out
 OutOr Out Before Not Why told.Gone = Before
 OutOr Out Before Not Why told.Not = Not
@@ -60,7 +60,7 @@ abbrev pub ClaimedTo : Locked → Locked → Key → Type 0
 ClaimedTo old new key = new.claims ≡ slice_set old.claims key.slot key.generation
 
 -- what becomes of a tree, of this table, that returns this
-abbrev pub TreeAnswered : TableId → Question → Locked → Locked → Reply → Type 0
+abbrev pub TreeAnswered : TableId → Question → Locked → Locked → TreeReply → Type 0
 TreeAnswered table (asks.Create parent name node live) old new reply =
     NamedOr (λ key. Created old new parent name.now node live key)
     (λ why. CreateRefused old new parent name.now node why × Unchanged old new) reply
@@ -108,7 +108,7 @@ IsAsBefore (behind.Tree old) (behind.Tree new) =
 IsAsBefore old new = new ≡ old
 
 -- the question is settled by the tree behind the handle, or there is none there
-abbrev pub AnsweredBehind : Question → Object → Object → Reply → Type 0
+abbrev pub AnsweredBehind : Question → Object → Object → TreeReply → Type 0
 AnsweredBehind question (behind.Tree old) (behind.Tree new) reply =
     TreeAnswered old.value.nodes.master.table question old.value.nodes new.value.nodes reply
     × (new.value.posts ≡ old.value.posts) × (new.value.hidden ≡ old.value.hidden)

@@ -20,7 +20,7 @@ use Rattle.kf_handles.specs.declared.object.Seat.{Seat}
 use Rattle.kf_handles.specs.declared.object.Seat.TheVariants as seat
 use Rattle.kf_handles.specs.declared.replies.KtKey.{KtKey}
 use Rattle.kf_handles.specs.declared.questions.Question.TheVariants as asks
-use Rattle.kf_handles.specs.declared.questions.Reply.TheVariants as told
+use Rattle.kf_handles.specs.declared.questions.TreeReply.TheVariants as told
 use Rattle.kf_handles.specs.Answers.{AnsweredBehind}
 use Rattle.kf_handles.specs.Calls.{HoldsNode, key_in}
 use Rattle.kf_handles.specs.LookUps.{stat_behind}

@@ -8,8 +8,8 @@ use Rattle.kf_handles.specs.declared.object.Object.{Object}
 use Rattle.kf_handles.specs.declared.object.Object.TheVariants as behind
 use Rattle.kf_handles.specs.declared.questions.Task.{Task}
 use Rattle.kf_handles.specs.declared.questions.Task.TheVariants as task
-use Rattle.kf_handles.specs.declared.questions.Reply.{Reply}
-use Rattle.kf_handles.specs.declared.questions.Reply.TheVariants as told
+use Rattle.kf_handles.specs.declared.questions.TreeReply.{TreeReply}
+use Rattle.kf_handles.specs.declared.questions.TreeReply.TheVariants as told
 use Rattle.kf_handles.specs.declared.replies.KtKey.{KtKey}
 use Rattle.kf_handles.specs.Answers.{DoneOr, OutOr}
 use Rattle.kf_handles.specs.Calls.{key_in}
@@ -18,7 +18,7 @@ use Rattle.kf_handles.specs.Hiding.{SawNobody, SawSomebody, HasHiding, HasNoHidi
 
 -- what becomes of a tree, of this table, and of its tokens, if it returns this
 abbrev pub Stepped : TableId → Task → Locked → List (Option Handle) → Locked → List (Option Handle)
-    → Reply → Type 0
+    → TreeReply → Type 0
 Stepped table (task.Remove key) old tokens new tokens' reply =
     OutOr (IsRemoving old new key false) (WasGone old new key × (tokens' ≡ tokens))
     (IsRemoving old new key true)
@@ -40,7 +40,7 @@ OfSteps Such (behind.Tree old) (behind.Tree new) =
 OfSteps Such old new = ⊥
 
 -- the step is made by the tree behind the handle, or there is none there
-abbrev pub SteppedBehind : Task → Object → Object → Reply → Type 0
+abbrev pub SteppedBehind : Task → Object → Object → TreeReply → Type 0
 SteppedBehind what (behind.Tree old) (behind.Tree new) reply =
     Stepped old.value.nodes.master.table what old.value.nodes old.value.hidden new.value.nodes
     new.value.hidden reply × (new.value.posts ≡ old.value.posts)

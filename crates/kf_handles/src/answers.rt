@@ -3,14 +3,14 @@ ghost use Rattle.kf_handles.specs.Answers.{TreeAnswered, AnsweredBehind};
 
 use crate::holds::Held;
 use crate::object::Object;
-use crate::questions::{Question, Reply};
+use crate::questions::{Question, TreeReply};
 use crate::removal::claim;
 use crate::tree::ask;
 use core::mem::replace_with;
 use kf_shared::{Locked, Naming};
 
 /// What the tree returns.
-pub fn answer<N: Naming>(locked: &mut Locked<N>, question: Question<'_>) -> Reply
+pub fn answer<N: Naming>(locked: &mut Locked<N>, question: Question<'_>) -> TreeReply
     ensures { TreeAnswered N.table question.entry locked.old locked.new result }
 {
     match question {
@@ -20,31 +20,31 @@ pub fn answer<N: Naming>(locked: &mut Locked<N>, question: Question<'_>) -> Repl
             node,
             live,
         } => match locked.create(parent, name, node, live) {
-            Ok(key) => Reply::Named(key),
-            Err(refusal) => Reply::Refused(refusal),
+            Ok(key) => TreeReply::Named(key),
+            Err(refusal) => TreeReply::Refused(refusal),
         },
         Question::Hold(key) => match locked.hold(key) {
-            Ok(hold) => Reply::Held(Held::new(hold)),
-            Err(refusal) => Reply::Refused(refusal),
+            Ok(hold) => TreeReply::Held(Held::new(hold)),
+            Err(refusal) => TreeReply::Refused(refusal),
         },
         Question::Activate(key) => match locked.activate(key) {
-            Ok(()) => Reply::Done,
-            Err(refusal) => Reply::Refused(refusal),
+            Ok(()) => TreeReply::Done,
+            Err(refusal) => TreeReply::Refused(refusal),
         },
         Question::Rename { key, dir, name } => match locked.rename(key, dir, name) {
-            Ok(()) => Reply::Done,
-            Err(refusal) => Reply::Refused(refusal),
+            Ok(()) => TreeReply::Done,
+            Err(refusal) => TreeReply::Refused(refusal),
         },
         Question::Compact => match locked.compact() {
-            Ok(()) => Reply::Done,
-            Err(refusal) => Reply::Refused(refusal),
+            Ok(()) => TreeReply::Done,
+            Err(refusal) => TreeReply::Refused(refusal),
         },
         Question::Claim(key) => claim(locked, key),
     }
 }
 
 /// What lies there after it was asked, and what it returns.
-pub fn ask_object(object: Object, question: Question<'_>) -> (Object, Reply)
+pub fn ask_object(object: Object, question: Question<'_>) -> (Object, TreeReply)
     ensures { AnsweredBehind question.entry object result.0 result.1 }
 {
     match object {
@@ -52,6 +52,6 @@ pub fn ask_object(object: Object, question: Question<'_>) -> (Object, Reply)
             let reply = replace_with(tree.as_mut(), question, ask);
             (Object::Tree(tree), reply)
         }
-        other => (other, Reply::Wrong),
+        other => (other, TreeReply::Wrong),
     }
 }

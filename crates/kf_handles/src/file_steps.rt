@@ -12,7 +12,7 @@ use crate::file::File;
 use crate::handle::KtHandle;
 use crate::numbers::post_of_handle;
 use crate::object::{Object, Place, Seat};
-use crate::questions::{Question, Reply};
+use crate::questions::{Question, TreeReply};
 use crate::replies::{KtKey, ask_handle, key_of, put_handle};
 use crate::steps;
 use crate::telling::{is_nothing, stat_of};
@@ -72,8 +72,8 @@ pub fn open(alloc: Global, handle: &mut KtHandle, key: KtKey, want: Want, out: &
         return error_of(refusal);
     }
     let held = match replace_with(handle, Question::Hold(key), ask_handle) {
-        Reply::Held(held) => held,
-        Reply::Refused(refusal) => return error_of(refusal),
+        TreeReply::Held(held) => held,
+        TreeReply::Refused(refusal) => return error_of(refusal),
         _ => return INVALID,
     };
     let post = match replace_with(handle, key, post_of_handle) {
@@ -98,10 +98,10 @@ fn begin_read_at(place: &mut Place, offset: u64) -> i32
 {
     match &mut place.object {
         Object::File(file) => {
-            if !file.want().read {
+            if !file.contents.want().read {
                 return ACCESS;
             }
-            if file.serves(offset) {
+            if file.contents.serves(offset) {
                 return 0;
             }
             let answer = replace_with(&mut place.seat, (), steps::enter_to_show);
@@ -150,7 +150,7 @@ fn shown_at(place: &mut Place, shown: &[u8]) -> i32
     match &mut place.object {
         Object::File(file) => match &place.seat {
             Seat::Show(_) => {
-                file.as_mut().end_show(shown);
+                file.as_mut().contents.end_show(shown);
                 0
             }
             _ => INVALID,
@@ -187,8 +187,8 @@ fn text_in(object: &Object, offset: u64, most: usize) -> Result<&[u8], Refusal>
 {
     match object {
         Object::File(file) => {
-            if file.has_text() {
-                Ok(file.text_from(offset, most))
+            if file.contents.has_text() {
+                Ok(file.contents.text_from(offset, most))
             } else {
                 Err(Refusal::Invalid)
             }
@@ -250,7 +250,7 @@ fn begin_write_at(place: &mut Place) -> i32
 {
     match &place.object {
         Object::File(file) => {
-            if !file.want().write {
+            if !file.contents.want().write {
                 return ACCESS;
             }
             replace_with(&mut place.seat, (), steps::enter)

@@ -9,7 +9,7 @@ ghost use Rattle.kf_handles.specs.Answers.{DoneOr};
 ghost use Rattle.kf_handles.specs.Kept.{AreTokensOf};
 ghost use Rattle.kf_handles.specs.Hiding.{SawNobody, SawSomebody, BeginRefused, HasHidden, HidingRefused, IsHidden, IsHiddenStill, IsUnhidden, UnhidingRefused, hide_fault};
 
-use crate::questions::Reply;
+use crate::questions::TreeReply;
 use crate::token::Token;
 use crate::tokens::{look_at, put, take};
 use kf_core::{Key, Node, Refusal};
@@ -63,7 +63,11 @@ fn begin<N: Naming>(locked: &mut Locked<N>, key: Key) -> Result<Hiding, Refusal>
 
 /// Hides a file, if it is not hidden yet, and looks whether nobody is inside: Done if it saw so, and
 /// Not if it saw somebody.
-pub fn hide<N: Naming>(locked: &mut Locked<N>, tokens: &mut Vec<Option<Token>>, key: Key) -> Reply
+pub fn hide<N: Naming>(
+    locked: &mut Locked<N>,
+    tokens: &mut Vec<Option<Token>>,
+    key: Key,
+) -> TreeReply
     requires { AreTokensOf N.table tokens.old.items }
     ensures tokens { AreTokensOf N.table tokens.new.items }
     ensures told { DoneOr
@@ -73,29 +77,33 @@ pub fn hide<N: Naming>(locked: &mut Locked<N>, tokens: &mut Vec<Option<Token>>, 
         × Unchanged locked.old locked.new × (tokens.new.items ≡ tokens.old.items)) result }
 {
     if key.slot as usize >= tokens.len() {
-        return Reply::Refused(Refusal::NoEntry);
+        return TreeReply::Refused(Refusal::NoEntry);
     }
     if let Some(token) = take(tokens, key) {
         return if look_at(tokens, token) {
-            Reply::Done
+            TreeReply::Done
         } else {
-            Reply::Not
+            TreeReply::Not
         };
     }
     match begin(locked, key) {
         Ok(hiding) => {
             if look_at(tokens, Token::new(hiding)) {
-                Reply::Done
+                TreeReply::Done
             } else {
-                Reply::Not
+                TreeReply::Not
             }
         }
-        Err(refusal) => Reply::Refused(refusal),
+        Err(refusal) => TreeReply::Refused(refusal),
     }
 }
 
 /// Shows a hidden file again: Done, or Not where somebody is inside still.
-pub fn unhide<N: Naming>(locked: &mut Locked<N>, tokens: &mut Vec<Option<Token>>, key: Key) -> Reply
+pub fn unhide<N: Naming>(
+    locked: &mut Locked<N>,
+    tokens: &mut Vec<Option<Token>>,
+    key: Key,
+) -> TreeReply
     requires { AreTokensOf N.table tokens.old.items }
     ensures tokens { AreTokensOf N.table tokens.new.items }
     ensures told { DoneOr
@@ -105,7 +113,7 @@ pub fn unhide<N: Naming>(locked: &mut Locked<N>, tokens: &mut Vec<Option<Token>>
         × (locked.new ≡ locked.old) × (tokens.new.items ≡ tokens.old.items)) result }
 {
     let Some(token) = take(tokens, key) else {
-        return Reply::Refused(match locked.state().stat(key) {
+        return TreeReply::Refused(match locked.state().stat(key) {
             Ok(_) => Refusal::Invalid,
             Err(refusal) => refusal,
         });
@@ -113,11 +121,11 @@ pub fn unhide<N: Naming>(locked: &mut Locked<N>, tokens: &mut Vec<Option<Token>>
     match token.into_hidden() {
         Ok(hidden) => {
             locked.show(hidden).release();
-            Reply::Done
+            TreeReply::Done
         }
         Err(token) => {
             put(tokens, token);
-            Reply::Not
+            TreeReply::Not
         }
     }
 }

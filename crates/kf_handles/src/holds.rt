@@ -74,7 +74,7 @@ impl Inside {
         }
         let (hold, due) = call.leave_quiet();
         hold.release();
-        match due.told() {
+        match due.must_wake() {
             Wake::Wanted => true,
             Wake::Unwanted => false,
         }

@@ -41,7 +41,7 @@ pub enum Task {
 
 /// What a tree returns.
 #[derive(Drop)]
-pub enum Reply {
+pub enum TreeReply {
     /// This key.
     Named(Key),
     Held(Held),

@@ -11,7 +11,7 @@ ghost use Rattle.kf_handles.specs.Removing.{ClaimRefused, Ends, IsMarked, IsRemo
 
 use crate::hiding::unhide;
 use crate::marking::{is_marked, mark, mark_once};
-use crate::questions::Reply;
+use crate::questions::TreeReply;
 use crate::token::Token;
 use kf_core::{Key, Refusal};
 use kf_shared::{Locked, Naming};
@@ -30,7 +30,7 @@ fn unhide_first<N: Naming>(
 {
     let reply = unhide(locked, tokens, key);
     match reply {
-        Reply::Not => false,
+        TreeReply::Not => false,
         _ => true,
     }
 }
@@ -101,7 +101,7 @@ fn take_all<N: Naming>(locked: &mut Locked<N>, tokens: &mut Vec<Option<Token>>, 
 
 /// Marks a node and all below it, if it is not marked yet, and claims its removal: Done the first time,
 /// and else Not.
-pub fn claim<N: Naming>(locked: &mut Locked<N>, key: Key) -> Reply
+pub fn claim<N: Naming>(locked: &mut Locked<N>, key: Key) -> TreeReply
     ensures { DoneOr ((is_claimed locked.old.claims key ≡ false) × ClaimedTo locked.old locked.new key
         × IsMarked locked.old locked.new key)
         ((is_claimed locked.old.claims key ≡ true) × ClaimedTo locked.old locked.new key
@@ -109,15 +109,15 @@ pub fn claim<N: Naming>(locked: &mut Locked<N>, key: Key) -> Reply
         (λ why. ClaimRefused locked.old locked.new key why × Unchanged locked.old locked.new) result }
 {
     let Some(marked) = is_marked(locked, key) else {
-        return Reply::Refused(Refusal::NoEntry);
+        return TreeReply::Refused(Refusal::NoEntry);
     };
     if let Err(refusal) = mark_once(locked, key, marked) {
-        return Reply::Refused(refusal);
+        return TreeReply::Refused(refusal);
     }
     if locked.claim(key) {
-        Reply::Done
+        TreeReply::Done
     } else {
-        Reply::Not
+        TreeReply::Not
     }
 }
 
@@ -157,7 +157,11 @@ fn is_linked<N: Naming>(locked: &Locked<N>, key: Key) -> bool
 /// Done if this took it out of the tree, Gone if it was out before, and Not if it is still there. A
 /// refusal comes before anything is marked or taken out: NoEntry if the key was never given in the tree,
 /// Invalid of the root, TooManyHolds, NoMemory.
-pub fn remove<N: Naming>(locked: &mut Locked<N>, tokens: &mut Vec<Option<Token>>, key: Key) -> Reply
+pub fn remove<N: Naming>(
+    locked: &mut Locked<N>,
+    tokens: &mut Vec<Option<Token>>,
+    key: Key,
+) -> TreeReply
     requires { AreTokensOf N.table tokens.old.items }
     ensures tokens { AreTokensOf N.table tokens.new.items }
     ensures told { OutOr
@@ -169,17 +173,17 @@ pub fn remove<N: Naming>(locked: &mut Locked<N>, tokens: &mut Vec<Option<Token>>
 {
     let Some(marked) = is_marked(locked, key) else {
         return if locked.was_given(key) {
-            Reply::Gone
+            TreeReply::Gone
         } else {
-            Reply::Refused(Refusal::NoEntry)
+            TreeReply::Refused(Refusal::NoEntry)
         };
     };
     if let Err(refusal) = take_up(locked, tokens, key, marked) {
-        return Reply::Refused(refusal);
+        return TreeReply::Refused(refusal);
     }
     if is_linked(locked, key) {
-        Reply::Not
+        TreeReply::Not
     } else {
-        Reply::Done
+        TreeReply::Done
     }
 }

@@ -7,13 +7,13 @@ ghost use Rattle.kf_handles.specs.Steps.{WakeOwed};
 ghost use Rattle.kf_handles.specs.declared.questions.Question.TheVariants as asks;
 ghost use Rattle.kf_core.specs.declared.key.Node.TheVariants as kind;
 ghost use Rattle.kf_handles.specs.declared.object.Object.TheVariants as behind;
-ghost use Rattle.kf_handles.specs.declared.questions.Reply.TheVariants as told;
+ghost use Rattle.kf_handles.specs.declared.questions.TreeReply.TheVariants as told;
 
 use crate::answers::ask_object;
 use crate::errors::{BUSY, INVALID, NO_MEMORY, error_of};
 use crate::handle::{KtGiven, KtHandle};
 use crate::object::{Object, Place, Seat};
-use crate::questions::{Question, Reply};
+use crate::questions::{Question, TreeReply};
 use crate::telling::is_nothing;
 use crate::tree::Tree;
 use core::mem::{replace, replace_with};
@@ -79,7 +79,7 @@ pub fn told_key(key: Key) -> KtKey
 }
 
 /// Asks what lies behind a handle.
-pub fn ask_handle(handle: KtHandle, question: Question<'_>) -> (KtHandle, Reply)
+pub fn ask_handle(handle: KtHandle, question: Question<'_>) -> (KtHandle, TreeReply)
     ensures told { AnsweredBehind question.entry handle.place.object result.0.place.object result.1 }
     ensures beside { result.0.place.seat ≡ handle.place.seat }
 {
@@ -101,11 +101,11 @@ fn named(handle: &mut KtHandle, question: Question<'_>, out: &mut KtKey) -> i32
         ToldWhy question.entry handle.old.place.object handle.new.place.object result }
 {
     match replace_with(handle, question, ask_handle) {
-        Reply::Named(key) => {
+        TreeReply::Named(key) => {
             *out = told_key(key);
             0
         }
-        Reply::Refused(refusal) => error_of(refusal),
+        TreeReply::Refused(refusal) => error_of(refusal),
         _ => INVALID,
     }
 }
@@ -178,8 +178,8 @@ pub fn change(handle: &mut KtHandle, question: Question<'_>) -> i32
         → ToldWhy question.entry handle.old.place.object handle.new.place.object result }
 {
     match replace_with(handle, question, ask_handle) {
-        Reply::Done => 0,
-        Reply::Refused(refusal) => error_of(refusal),
+        TreeReply::Done => 0,
+        TreeReply::Refused(refusal) => error_of(refusal),
         _ => INVALID,
     }
 }
@@ -223,9 +223,9 @@ pub fn claim(handle: &mut KtHandle, key: KtKey) -> i32
 {
     let question = Question::Claim(key_of(key));
     match replace_with(handle, question, ask_handle) {
-        Reply::Done => 0,
-        Reply::Not => 1,
-        Reply::Refused(refusal) => error_of(refusal),
+        TreeReply::Done => 0,
+        TreeReply::Not => 1,
+        TreeReply::Refused(refusal) => error_of(refusal),
         _ => INVALID,
     }
 }
@@ -273,11 +273,11 @@ pub fn hold(handle: &mut KtHandle, key: KtKey, out: &mut KtHandle) -> i32
     }
     let key = key_of(key);
     match replace_with(handle, Question::Hold(key), ask_handle) {
-        Reply::Held(held) => {
+        TreeReply::Held(held) => {
             let place = Place::of(Seat::Hold(held), Object::Empty);
             replace_with(out, place, put_handle)
         }
-        Reply::Refused(refusal) => error_of(refusal),
+        TreeReply::Refused(refusal) => error_of(refusal),
         _ => INVALID,
     }
 }

@@ -11,7 +11,7 @@ use kf_core::Phase;
 use kf_words::Wake;
 
 /// 1 if a sleeper may wait for the step that was made.
-fn told(wake: Wake) -> i32
+fn wake_status(wake: Wake) -> i32
     ensures value { result ≡ pos (if is_wanted wake then 1 else 0) }
     ensures range { (result ≡ pos 0) ⊎ (result ≡ pos 1) }
 {
@@ -41,7 +41,7 @@ pub fn enter(seat: Seat, _nothing: ()) -> (Seat, i32)
     match seat {
         Seat::Hold(held) => match held.into_hold().enter_quiet() {
             Ok(call) => (Seat::Call(Inside::new(call)), 0),
-            Err((hold, due)) => (Seat::Hold(Held::new(hold)), no_device(due.told())),
+            Err((hold, due)) => (Seat::Hold(Held::new(hold)), no_device(due.must_wake())),
         },
         other => (other, INVALID),
     }
@@ -58,7 +58,7 @@ pub fn enter_to_show(seat: Seat, _nothing: ()) -> (Seat, i32)
     match seat {
         Seat::Hold(held) => match held.into_hold().enter_quiet() {
             Ok(call) => (Seat::Show(Inside::new(call)), 0),
-            Err((back, due)) => (Seat::Hold(Held::new(back)), no_device(due.told())),
+            Err((back, due)) => (Seat::Hold(Held::new(back)), no_device(due.must_wake())),
         },
         other => (other, INVALID),
     }
@@ -79,7 +79,7 @@ pub fn leave(seat: Seat, _nothing: ()) -> (Seat, i32)
                 return (Seat::Call(Inside::new(call)), INVALID);
             }
             let (hold, due) = call.leave_quiet();
-            (Seat::Hold(Held::new(hold)), told(due.told()))
+            (Seat::Hold(Held::new(hold)), wake_status(due.must_wake()))
         }
         Seat::Show(inside) => {
             let call = inside.into_call();
@@ -87,7 +87,7 @@ pub fn leave(seat: Seat, _nothing: ()) -> (Seat, i32)
                 return (Seat::Show(Inside::new(call)), INVALID);
             }
             let (back, due) = call.leave_quiet();
-            (Seat::Hold(Held::new(back)), told(due.told()))
+            (Seat::Hold(Held::new(back)), wake_status(due.must_wake()))
         }
         other => (other, INVALID),
     }
@@ -105,7 +105,7 @@ fn break_inside(inside: &mut Inside) -> i32
     if !inside.is_running() {
         return INVALID;
     }
-    told(inside.call.break_quiet().told())
+    wake_status(inside.call.break_quiet().must_wake())
 }
 
 /// Gives the reference up inside the callback, if the call has the one that it entered with.

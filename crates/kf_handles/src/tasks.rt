@@ -10,13 +10,13 @@ ghost use Rattle.kf_handles.specs.Hiding.{SawNobody, SawSomebody};
 use crate::errors::{AGAIN, INVALID, error_of};
 use crate::handle::KtHandle;
 use crate::object::Object;
-use crate::questions::{Reply, Task};
+use crate::questions::{Task, TreeReply};
 use crate::replies::{KtKey, key_of};
 use crate::tree::step;
 use core::mem::replace_with;
 
 /// What lies there after a step, and what it returns.
-fn step_object(object: Object, task: Task) -> (Object, Reply)
+fn step_object(object: Object, task: Task) -> (Object, TreeReply)
     ensures { SteppedBehind task object result.0 result.1 }
 {
     match object {
@@ -24,11 +24,11 @@ fn step_object(object: Object, task: Task) -> (Object, Reply)
             let reply = replace_with(tree.as_mut(), task, step);
             (Object::Tree(tree), reply)
         }
-        other => (other, Reply::Wrong),
+        other => (other, TreeReply::Wrong),
     }
 }
 
-fn step_handle(handle: KtHandle, task: Task) -> (KtHandle, Reply)
+fn step_handle(handle: KtHandle, task: Task) -> (KtHandle, TreeReply)
     ensures told { SteppedBehind task handle.place.object result.0.place.object result.1 }
     ensures beside { result.0.place.seat ≡ handle.place.seat }
 {
@@ -53,10 +53,10 @@ pub fn remove(handle: &mut KtHandle, key: KtKey) -> i32
 {
     let task = Task::Remove(key_of(key));
     match replace_with(handle, task, step_handle) {
-        Reply::Done => 1,
-        Reply::Gone => 0,
-        Reply::Not => AGAIN,
-        Reply::Refused(refusal) => error_of(refusal),
+        TreeReply::Done => 1,
+        TreeReply::Gone => 0,
+        TreeReply::Not => AGAIN,
+        TreeReply::Refused(refusal) => error_of(refusal),
         _ => INVALID,
     }
 }
@@ -75,9 +75,9 @@ pub fn hide(handle: &mut KtHandle, key: KtKey) -> i32
 {
     let task = Task::Hide(key_of(key));
     match replace_with(handle, task, step_handle) {
-        Reply::Done => 0,
-        Reply::Not => AGAIN,
-        Reply::Refused(refusal) => error_of(refusal),
+        TreeReply::Done => 0,
+        TreeReply::Not => AGAIN,
+        TreeReply::Refused(refusal) => error_of(refusal),
         _ => INVALID,
     }
 }
@@ -96,9 +96,9 @@ pub fn unhide(handle: &mut KtHandle, key: KtKey) -> i32
 {
     let task = Task::Unhide(key_of(key));
     match replace_with(handle, task, step_handle) {
-        Reply::Done => 0,
-        Reply::Not => AGAIN,
-        Reply::Refused(refusal) => error_of(refusal),
+        TreeReply::Done => 0,
+        TreeReply::Not => AGAIN,
+        TreeReply::Refused(refusal) => error_of(refusal),
         _ => INVALID,
     }
 }

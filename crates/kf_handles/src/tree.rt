@@ -11,7 +11,7 @@ ghost use Rattle.kf_handles.specs.Kept.{AreTokensOf};
 
 use crate::answers::answer;
 use crate::hiding::{hide, unhide};
-use crate::questions::{Question, Reply, Task};
+use crate::questions::{Question, Task, TreeReply};
 use crate::removal::remove;
 use crate::token::Token;
 use crate::tokens::{has_hiding, no_tokens};
@@ -90,7 +90,7 @@ impl Tree {
 }
 
 /// The nodes after they were asked under this name, and what they return.
-fn ask_named<N: Naming>(nodes: NewTree, question: Question<'_>) -> (NewTree, Reply)
+fn ask_named<N: Naming>(nodes: NewTree, question: Question<'_>) -> (NewTree, TreeReply)
     requires { nodes.master.table ≡ N.table }
     ensures told { TreeAnswered nodes.master.table question.entry nodes result.0 result.1 }
     ensures table { result.0.master.table ≡ nodes.master.table }
@@ -101,7 +101,7 @@ fn ask_named<N: Naming>(nodes: NewTree, question: Question<'_>) -> (NewTree, Rep
 }
 
 /// The tree after it was asked, and what it returns.
-pub fn ask(tree: Tree, question: Question<'_>) -> (Tree, Reply)
+pub fn ask(tree: Tree, question: Question<'_>) -> (Tree, TreeReply)
     ensures told { TreeAnswered tree.nodes.master.table question.entry tree.nodes result.0.nodes result.1 }
     ensures posts { result.0.posts ≡ tree.posts }
     ensures hidden { result.0.hidden ≡ tree.hidden }
@@ -127,7 +127,7 @@ fn step_locked<N: Naming>(
     locked: &mut Locked<N>,
     tokens: &mut Vec<Option<Token>>,
     task: Task,
-) -> Reply
+) -> TreeReply
     requires { AreTokensOf N.table tokens.old.items }
     ensures told { Stepped N.table task locked.old tokens.old.items locked.new tokens.new.items result }
     ensures tokens { AreTokensOf N.table tokens.new.items }
@@ -144,7 +144,7 @@ fn step_named<N: Naming>(
     nodes: NewTree,
     mut hidden: Vec<Option<Token>>,
     task: Task,
-) -> (NewTree, Vec<Option<Token>>, Reply)
+) -> (NewTree, Vec<Option<Token>>, TreeReply)
     requires table { nodes.master.table ≡ N.table }
     requires tokens { AreTokensOf nodes.master.table hidden.items }
     ensures told { Stepped nodes.master.table task nodes hidden.items result.0 result.1.items result.2 }
@@ -157,7 +157,7 @@ fn step_named<N: Naming>(
 }
 
 /// The tree after a step of what may have to be asked again, and what it returns.
-pub fn step(tree: Tree, task: Task) -> (Tree, Reply)
+pub fn step(tree: Tree, task: Task) -> (Tree, TreeReply)
     ensures told { Stepped tree.nodes.master.table task tree.nodes tree.hidden result.0.nodes result.0.hidden
         result.1 }
     ensures posts { result.0.posts ≡ tree.posts }

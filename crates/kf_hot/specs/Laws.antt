@@ -6,17 +6,17 @@ use Rattle.kf_core.specs.declared.caller.Phase.TheVariants.{Running}
 use Rattle.kf_core.specs.Phases.{saw_unused}
 use Rattle.kf_core.specs.Bare.{BareWorld, IsCaller}
 use Rattle.kf_core.specs.Safe.{Safe}
-use Rattle.kf_gates.specs.declared.view.Plan.{Plan}
-use Rattle.kf_gates.specs.declared.view.View.TheVariants.{Keeps, Inside}
+use Rattle.kf_gates.specs.declared.view.GatePlan.{GatePlan}
+use Rattle.kf_gates.specs.declared.view.GateView.TheVariants.{Keeps, Inside}
 use Rattle.kf_gates.specs.Rule.{Table, Kept}
 use Rattle.kf_gates.specs.Laws.{Has, IsOver}
 
 -- the keeper saw every lane empty since it shut the gate
 abbrev pub IsClosed : ℕ → Table → Type 0
-IsClosed lanes t = (p : Plan) × Has t 0 (Keeps p) × IsOver lanes p
+IsClosed lanes t = (p : GatePlan) × Has t 0 (Keeps p) × IsOver lanes p
 
--- until the gate is closed, the call that it keeps is running on the key. A `Keeper` owns that call, and only the
--- calls that see the gate closed give it back
+-- until the gate is closed, the call that it keeps is running on the key. A `Keeper` owns that call, and
+-- only the calls that see the gate closed give it back
 abbrev pub KeepsCall : ℕ → Table → BareWorld → ℕ → Key → Type 0
 KeepsCall lanes t w c key = IsClosed lanes t ⊎ IsCaller w c key Running
 

@@ -2,7 +2,7 @@
 use Rattle.std.specs.Prelude.{◌≡◌, ℕ}
 use Rattle.kf_core.specs.declared.key.Key.{Key}
 use Rattle.kf_core.specs.declared.caller.Phase.TheVariants.{Running}
-use Rattle.kf_gates.specs.declared.view.View.TheVariants.{Inside}
+use Rattle.kf_gates.specs.declared.view.GateView.TheVariants.{Inside}
 use Rattle.kf_gates.specs.States.{PassState, CallState, IsSameCall, WasRefused}
 use Rattle.kf_gates.specs.Steps.{stepped_off}
 

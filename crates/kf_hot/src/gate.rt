@@ -10,8 +10,8 @@ use kf_gates::{Closed, Keeper};
 use kf_words::{Call, Hold};
 use std::sync::Wait;
 
-/// Opens a gate for the hold's node: the gate keeps a call of it. Both come back if the node is not live or its
-/// key is hidden, or if the gate has had 2^32 openings.
+/// Opens a gate for the hold's node: the gate keeps a call of it. Both come back if the node is not live or
+/// its key is hidden, or if the gate has had 2^32 openings.
 pub fn open_gate(closed: Closed, hold: Hold) -> Result<Keeper<Call>, (Closed, Hold)>
     ensures kept { IfOk result (λ keeper. IsSameSeat hold keeper.kept) }
     ensures running { IfOk result (λ keeper. keeper.kept.phase ≡ phase_of.Running) }

@@ -5,8 +5,8 @@
 //! - `open_gate` makes a node hot by a hold, and `close_gate` returns the hold.
 //! - A `HotPass` is a pass with the node's key, and `HotPasses` the guard of such passes: with it
 //!   `kf_files::OpenFile` opens and reads a hot attribute.
-//! - `remove_gated` removes hot nodes. A removal that does not know of a gate waits until its owner closes it,
-//!   and no clause says that the owner ever does.
+//! - `remove_gated` removes hot nodes. A removal that does not know of a gate waits until its owner closes
+//!   it, and no clause says that the owner ever does.
 //!
 //! `hot_tells` is the law.
 #![tactic(auto)]

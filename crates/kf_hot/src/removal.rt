@@ -1,7 +1,9 @@
 //! Removal of nodes that many threads call through gates.
 ghost use Rattle.std.specs.Prelude.{◌≡◌, ◌+◌, ◌≤◌, [], IfErr, IfOk, OnOk, vec_capacity, vec_len};
+ghost use Rattle.kf_shared.specs.Locked.{history};
 ghost use Rattle.kf_shared.specs.Removal.{keys_of};
 ghost use Rattle.kf_shared.specs.Receipts.{AllDifferent, AreOf, EndsAt, IsDoomList, MayBeDoomed, RemovalRefused};
+ghost use Rattle.kf_shared.specs.Sections.{Last, WasRemovedIn};
 ghost use Rattle.kf_hot.specs.Gated.{AreShut, HaveReference, kept_by, last_openings, openings};
 
 use kf_core::{Key, Refusal};
@@ -64,19 +66,18 @@ pub fn close_gates<R: Wait>(rt: &R, gates: Vec<Keeper<Call>>)
 }
 
 /// As [`Editor::remove`], of nodes that are called through these gates (`percpu_ref_kill` and
-/// `percpu_ref_exit`). In one critical section it marks the nodes and shuts the gates. Once it has released the
-/// lock, it waits until nobody is inside a gate, and ends the gates' calls; then it waits for all other callers as
-/// `remove` does. The gates come back closed, in their order. A caller that tries a gate between the mark and the
-/// shutting is let in, and the removal waits for it.
+/// `percpu_ref_exit`). In one critical section it marks the nodes and shuts the gates. Once it has released
+/// the lock, it waits until nobody is inside a gate, and ends the gates' calls; then it waits for all other
+/// callers as `remove` does. The gates come back closed, in their order. A caller that tries a gate between
+/// the mark and the shutting is let in, and the removal waits for it.
 ///
-/// Like `remove` it may never return. A callback that runs inside one of the gates breaks its protection before
-/// it calls this, or waits for itself. No clause says that the doom is all that was done under the lock, as
-/// `remove` says by `alone`.
+/// Like `remove` it may never return. A callback that runs inside one of the gates breaks its protection
+/// before it calls this, or waits for itself.
 ///
 /// Conditions: the hold is of this table, and each gate's call is Running or Restored.
 ///
-/// Refusals: those of `doom`; NoMemory also if the list of the closed gates has no room. After a refusal nothing
-/// is marked, the gates are as they were, the lock is released, and all comes back.
+/// Refusals: those of `doom`; NoMemory also if the list of the closed gates has no room. After a refusal
+/// nothing is marked, the gates are as they were, the lock is released, and all comes back.
 ///
 /// Context: sleeps, once it has released the lock.
 pub fn remove_gated<N: Naming, R: Wait>(
@@ -88,6 +89,8 @@ pub fn remove_gated<N: Naming, R: Wait>(
 ) -> Result<(Vec<Parted>, Vec<Closed>), (Hold, Vec<Keeper<Call>>, Refusal)>
     requires table { hold.table ≡ N.table }
     requires inside { HaveReference (kept_by gates.items) }
+    ensures alone { IfOk result (λ r. Last (WasRemovedIn (history editor.entry)
+        editor.entry.state.tree hold (keys_of r.0.items)) r.0.items) }
     ensures tables { IfOk result (λ r. AreOf N.table r.0.items) }
     ensures last { IfOk result (λ r. EndsAt r.0.items hold) }
     ensures different { IfOk result (λ r. AllDifferent (keys_of r.0.items)) }
@@ -108,9 +111,9 @@ pub fn remove_gated<N: Naming, R: Wait>(
         Ok(removing) => {
             let mut gates = gates;
             shut_each(gates.as_mut_slice());
-            let tree = editor.let_go();
+            let draining = editor.end_removal(removing);
             let closed = close_each(rt, gates, closed);
-            Ok((removing.finish(rt, tree), closed))
+            Ok((draining.finish(rt), closed))
         }
     }
 }

@@ -98,7 +98,8 @@ pub(crate) fn lanes<R: Abort>(rt: &R, alloc: Global) {
     closed_with(rt, keeper, 3);
 }
 
-/// Two are inside by two lanes, and the gate is closed once both have left. Then it opens under the next number.
+/// Two are inside by two lanes, and the gate is closed once both have left. Then it opens under the next
+/// number.
 pub(crate) fn openings<R: Abort>(rt: &R, alloc: Global) {
     let (closed, mut first) = gate(rt, alloc, 2);
     let second = another(rt, &mut first, 7);

@@ -46,8 +46,8 @@ fn broken_and_restored<R: Abort>(rt: &R, call: &mut HotCall)
     assert!(rt; call.phase() == Phase::Restored);
 }
 
-/// A pass goes in and out, and is refused once its gate was closed, also when the gate is open for another node.
-/// Then it is made into a pass of that node.
+/// A pass goes in and out, and is refused once its gate was closed, also when the gate is open for another
+/// node. Then it is made into a pass of that node.
 pub(crate) fn guarded<N: Naming, R: Abort + Wait>(rt: &R, alloc: Global, new: NewTree)
     requires { new.master.table ≡ N.table }
 {

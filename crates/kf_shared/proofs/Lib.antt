@@ -11,6 +11,7 @@ pub mod Pins
 pub mod Pinned
 pub mod Receipts
 pub mod Removed
+pub mod Turns
 pub mod Finishing
 pub mod Alone
 pub mod Refusals
@@ -19,3 +20,4 @@ pub mod Hidings
 pub mod Opening
 pub mod Gone
 pub mod Running
+pub mod Finding

@@ -21,7 +21,7 @@ pub owners_more : (xs ys : List Handle) → owners_of (xs ++ ys) ≡ owners_of x
 owners_more [] ys = refl
 owners_more (x ∷ xs) ys = ap (λ os. owner x ∷ os) (owners_more xs ys)
 
-keys_more : (xs ys : List Handle) → keys_of (xs ++ ys) ≡ keys_of xs ++ keys_of ys
+pub keys_more : (xs ys : List Handle) → keys_of (xs ++ ys) ≡ keys_of xs ++ keys_of ys
 keys_more [] ys = refl
 keys_more (x ∷ xs) ys = ap (λ ks. x.key ∷ ks) (keys_more xs ys)
 
@@ -29,7 +29,7 @@ owner_keys : (xs : List Handle) → keys_of xs ≡ map (λ (o : Owner). o.key) (
 owner_keys [] = refl
 owner_keys (x ∷ xs) = ap (λ ks. x.key ∷ ks) (owner_keys xs)
 
-same_owner : (a b : Handle) → IsSameSeat a b → owner b ≡ owner a
+pub same_owner : (a b : Handle) → IsSameSeat a b → owner b ≡ owner a
 same_owner a b h =
     ap (λ t. record { key = b.key; seat = record { table = t; seat = b.seat; node = b.node } }) h.table
     ∙ ap (λ s. record { key = b.key; seat = record { table = a.table; seat = s; node = b.node } }) h.seat
@@ -44,7 +44,7 @@ its_owner a b e = record {
   node = ap (λ (o : Owner). o.seat.node) e;
 }
 
-of_more : (table : TableId) (xs : List Handle) (x : Handle) → AreOf table xs → x.table ≡ table → AreOf table (xs ++ x ∷ [])
+pub of_more : (table : TableId) (xs : List Handle) (x : Handle) → AreOf table xs → x.table ≡ table → AreOf table (xs ++ x ∷ [])
 of_more table [] x a e zero d l = e
 of_more table [] x a e (suc i) d l = absurd (omega (arith, l))
 of_more table (y ∷ ys) x a e zero d l = a 0 d (omega arith)
@@ -53,11 +53,14 @@ of_more table (y ∷ ys) x a e (suc i) d l = of_more table ys x (λ j f m. a (su
 pub first_of : (table : TableId) (items rest : List Handle) (hold : Handle) → items ≡ hold ∷ rest → AreOf table items → hold.table ≡ table
 first_of table items rest hold e a = subst (AreOf table) e a 0 hold (omega arith)
 
+pub of_rest : (table : TableId) (items rest : List Handle) (hold : Handle) → items ≡ hold ∷ rest → AreOf table items → AreOf table rest
+of_rest table items rest hold e a i d l = subst (AreOf table) e a (suc i) d (omega (arith, l))
+
 -- one hold more is finished
 pub next_finished : (table : TableId) (items rest receipts new : List Handle) (hold parted : Handle) (all : List Owner) → items ≡ hold ∷ rest → new ≡ receipts ++ parted ∷ [] → IsSameSeat hold parted →
     AreOf table items → AreOf table receipts → owners_of receipts ++ owners_of items ≡ all → AreOf table rest × AreOf table new × (owners_of new ++ owners_of rest ≡ all)
 next_finished table items rest receipts new hold parted all e n same a b h = (
-  (λ i d l. subst (AreOf table) e a (suc i) d (omega (arith, l))),
+  of_rest table items rest hold e a,
   subst (AreOf table) (sym n) (of_more table receipts parted b (same.table ∙ first_of table items rest hold e a)),
   ap (λ xs. owners_of xs ++ owners_of rest) n ∙ ap (λ xs. xs ++ owners_of rest) (owners_more receipts (parted ∷ [])) ∙ append_assoc (owners_of receipts) (owner parted ∷ []) (owners_of rest)
       ∙ ap (λ x. owners_of receipts ++ x ∷ owners_of rest) (same_owner hold parted same) ∙ sym (ap (λ xs. owners_of receipts ++ owners_of xs) e) ∙ h,

@@ -1,5 +1,5 @@
 -- What the receipts of a removal have seen of its doom, and of the unlinks.
-use Rattle.std.proofs.Common.{◌≡◌, Bool, true, false, List, [], ◌∷◌, ◌++◌, refl, sym, ap, ◌∙◌, subst}
+use Rattle.std.proofs.Common.{◌≡◌, Bool, true, false, inl, inr, List, [], ◌∷◌, ◌++◌, refl, sym, ap, ◌∙◌, subst}
 use Rattle.std.specs.Prelude.{MatchBool, Result, Ok, Err, IfOk}
 use Rattle.std.proofs.lemmas.List.{append-nil, append_assoc, same_from_push}
 use mathlib.Core.List.{IsPrefix}
@@ -14,12 +14,12 @@ use Rattle.kf_words.specs.Nodes.{MasterState}
 use Rattle.kf_words.specs.Notes.{history_of}
 use Rattle.kf_shared.specs.Locked.{Locked, Adds, IsWhole, history}
 use Rattle.kf_shared.specs.Noted.{tree_in}
-use Rattle.kf_shared.specs.Removal.{keys_of, HasHeard, AreHolds, DoomHolds, DoomNoted, CameAfter}
-use Rattle.kf_shared.specs.Receipts.{IsDoomList, owner, owners_of}
-use Rattle.kf_shared.specs.Sections.{IsTaken, SawMore, WasAdded, WasClosed, IsClosedAt, WasDone, WasFinished, WasRemoved, AllFinished, AreFinished, Last, doom_note, unlink_note, note_where}
+use Rattle.kf_shared.specs.Removal.{keys_of, AreHolds, DoomHolds, DoomNoted, CameAfter}
+use Rattle.kf_shared.specs.Receipts.{EndsAt, IsDoomList, owners_of}
+use Rattle.kf_shared.specs.Sections.{IsTaken, SawItsRemoval, SawMore, WasAdded, WasDone, WasEnded, WasFinished, WasRemoved, WasRemovedIn, AllEnded, AllFinished, AreFinished, Last, doom_note, unlink_note, unlinks_of, note_where}
 use Rattle.kf_shared.proofs.Notes.{tree_told}
-use Rattle.kf_shared.proofs.Receipts.{owners_more, same_owner_keys}
-use Rattle.kf_shared.proofs.Hearing.{prefix_trans, more_told}
+use Rattle.kf_shared.proofs.Receipts.{receipts_end, receipts_listed, same_owner_keys}
+use Rattle.kf_shared.proofs.Hearing.{prefix_self, prefix_trans, more_told}
 
 -- seen by another who had seen as much before, and has seen as much since
 pub added_on : (before mid after last : Handle) (found added : List Note) → SawMore before.seen mid.seen → SawMore after.seen last.seen → WasAdded mid.seen after.seen found added → WasAdded before.seen last.seen found added
@@ -43,35 +43,35 @@ one_finished [] (r ∷ receipts) hold receipt all more one = absurd all
 one_finished (h ∷ holds) [] hold receipt all more one = absurd all
 one_finished (h ∷ holds) (r ∷ receipts) hold receipt all more one = (all.0, one_finished holds receipts hold receipt all.1 more one)
 
--- the last receipt is of the last hold
-pub last_finished : (front receipts : List Handle) (hold : Handle) → AllFinished (front ++ hold ∷ []) receipts → Last (λ receipt. SawMore hold.seen receipt.seen × WasFinished hold receipt) receipts
-last_finished [] [] hold all = absurd all
-last_finished [] (r ∷ []) hold all = ([], r, refl, all.0)
-last_finished [] (r ∷ s ∷ receipts) hold all = absurd all.1
-last_finished (h ∷ front) [] hold all = absurd all
-last_finished (h ∷ front) (r ∷ receipts) hold all =
-    (let rest = last_finished front receipts hold all.1 in (r ∷ rest.0, rest.1, ap (λ l. r ∷ l) rest.2, rest.3))
+-- the last receipt is of the last hold, and has seen what that had
+pub last_ended : (front receipts : List Handle) (hold : Handle) → AllEnded (front ++ hold ∷ []) receipts → Last (λ receipt. SawMore hold.seen receipt.seen) receipts
+last_ended [] [] hold all = absurd all
+last_ended [] (r ∷ []) hold all = ([], r, refl, elim all.0 [ inl same ↦ subst (λ (h : Handle). SawMore hold.seen h.seen) (sym same) (prefix_self hold.seen.steps) | inr more ↦ more.0 ])
+last_ended [] (r ∷ s ∷ receipts) hold all = absurd all.1
+last_ended (h ∷ front) [] hold all = absurd all
+last_ended (h ∷ front) (r ∷ receipts) hold all =
+    (let rest = last_ended front receipts hold all.1 in (r ∷ rest.0, rest.1, ap (λ l. r ∷ l) rest.2, rest.3))
 
--- a removal that was passed on before the unlock has the holds that it had
-pub owners_closed : {Such : Handle → Type 0} (new : Locked) (removing closed : List Handle) → Last Such removing → IsClosedAt new removing closed → owners_of closed ≡ owners_of removing
-owners_closed new removing closed l closes =
-    let its = closes l.0 l.1 l.2 in
-    ap owners_of its.1 ∙ owners_more l.0 (its.0 ∷ []) ∙ ap (λ o. owners_of l.0 ++ o ∷ []) (ap owner its.2.heard) ∙ sym (owners_more l.0 (l.1 ∷ [])) ∙ sym (ap owners_of l.2)
-
-pub keys_closed : {Such : Handle → Type 0} (new : Locked) (removing closed : List Handle) → Last Such removing → IsClosedAt new removing closed → keys_of closed ≡ keys_of removing
-keys_closed new removing closed l closes = same_owner_keys closed removing (owners_closed new removing closed l closes)
+pub keys_ended : (old : Locked) (before after : List Handle) → WasEnded old before after → keys_of after ≡ keys_of before
+keys_ended old before after e = same_owner_keys after before e.owners
 
 -- what was added before the unlock the last receipt has seen
-pub last_closed : {Such : Handle → Type 0} (old new : Locked) (note : Note) (removing closed receipts : List Handle) → Adds old new note → Last Such removing → IsClosedAt new removing closed → AllFinished closed receipts
-    → Last (λ receipt. IsPrefix ((history old ++ note ∷ []) ++ Border ∷ []) (history_of receipt.seen)) receipts
-last_closed old new note removing closed receipts noted l closes finished =
-    let its = closes l.0 l.1 l.2 in
-    let r = last_finished l.0 receipts its.0 (subst (λ c. AllFinished c receipts) its.1 finished) in
-    (r.0, r.1, r.2, subst (λ n. IsPrefix n (history_of r.1.seen)) (its.2.seen ∙ ap (λ n. n ++ Border ∷ []) (append-nil (history new) ∙ noted)) (more_told its.0.seen r.1.seen r.3.0))
-
--- the holds of a doom have a last
-pub last_hold : (m : MasterState) (hold : Handle) (holds : List Handle) → AreHolds m hold holds → Last (λ last. HasHeard hold last) holds
-last_hold m hold holds h = (h.0, h.1, h.2, h.3)
+pub saw_removal : {Such : Handle → Type 0} (old new : Locked) (key : Key) (removing ended receipts : List Handle) → Adds old new (Did (Doom key)) → Last Such removing → WasEnded new removing ended → AllEnded ended receipts
+    → owners_of receipts ≡ owners_of ended → Last (SawItsRemoval (history old) key (keys_of receipts)) receipts
+saw_removal old new key removing ended receipts noted l e finished owners =
+    let its = e.seen l.0 l.1 l.2 in
+    let r = last_ended its.0 receipts its.1 (subst (λ c. AllEnded c receipts) its.2 finished) in (
+      r.0,
+      r.1,
+      r.2,
+      (
+        e.gone,
+        subst (IsPrefix e.gone) (sym (same_owner_keys receipts removing (owners ∙ e.owners))) e.first,
+        subst (λ n. IsPrefix n (history_of r.1.seen))
+            (its.3 ∙ ap (λ n. n ++ Border ∷ []) (ap (λ h. h ++ unlinks_of e.gone) noted ∙ append_assoc (history old) (Did (Doom key) ∷ []) (unlinks_of e.gone)))
+            (more_told its.1.seen r.1.seen r.3),
+      ),
+    )
 
 -- what a doom added to the history
 pub doom_added : (old new : Locked) (key : Key) → DoomNoted old new key → history new ≡ history old ++ doom_note old.state.tree key
@@ -82,16 +82,10 @@ doom_added old new key noted = go (is_linked old.state.tree key) noted
     go false e = e ∙ sym (append-nil (history old))
 
 -- a doom, the unlock, and the waits
-module _ (old new : Locked) (hold : Handle) (removing closed receipts : List Handle) (m : MasterState) (holds : AreHolds m hold removing) (order : DoomHolds old.state.tree hold removing) (after : CameAfter old hold)
-    (noted : DoomNoted old new hold.key) (closes : IsClosedAt new removing closed) (finished : AllFinished closed receipts) where
-  abbrev its : (last : Handle) × (closed ≡ holds.0 ++ last ∷ []) × WasClosed new [] holds.1 last
-  its = closes holds.0 holds.1 holds.2
-
-  abbrev last : Handle
-  last = its.0
-
-  shut : WasClosed new [] holds.1 last
-  shut = its.2
+module _ (old new : Locked) (hold : Handle) (removing ended receipts : List Handle) (m : MasterState) (holds : AreHolds m hold removing) (order : DoomHolds old.state.tree hold removing) (after : CameAfter old hold)
+    (noted : DoomNoted old new hold.key) (e : WasEnded new removing ended) (finished : AllEnded ended receipts) (owners : owners_of receipts ≡ owners_of ended) where
+  abbrev its : Last (λ last. history_of last.seen ≡ (history new ++ unlinks_of e.gone) ++ Border ∷ []) ended
+  its = e.seen holds.0 holds.1 holds.2
 
   -- if the node is not linked the given hold is the last
   came : IsPrefix (history_of hold.seen) (history old)
@@ -101,25 +95,39 @@ module _ (old new : Locked) (hold : Handle) (removing closed receipts : List Han
           → MatchBool b (Adds old new (Did (Doom hold.key))) (history new ≡ history old) → IsPrefix (history_of hold.seen) (history old)
       go true o a n = a refl
       go false o a n = subst (IsPrefix (history_of hold.seen)) n
-          (subst (λ (h : Handle). IsPrefix (history_of h.seen) (history new)) (same_from_push holds.0 [] holds.1 hold (sym holds.2 ∙ o ∙ (let r : hold ∷ [] ≡ [] ++ hold ∷ [] = refl in r))).1 shut.came)
+          (subst (λ (h : Handle). IsPrefix (history_of h.seen) (history new)) (same_from_push holds.0 [] holds.1 hold (sym holds.2 ∙ o ∙ (let r : hold ∷ [] ≡ [] ++ hold ∷ [] = refl in r))).1 (e.came holds.0 holds.1 holds.2))
 
-  pub was_added : Last (λ receipt. WasAdded hold.seen receipt.seen (history old) (doom_note old.state.tree hold.key)) receipts
-  was_added =
-      let l = last_finished holds.0 receipts last (subst (λ c. AllFinished c receipts) its.1 finished) in (
+  same_owners : owners_of receipts ≡ owners_of removing
+  same_owners = owners ∙ e.owners
+
+  pub was_removed_in : Last (WasRemovedIn (history old) old.state.tree hold (keys_of receipts)) receipts
+  was_removed_in =
+      let l = last_ended its.0 receipts its.1 (subst (λ c. AllEnded c receipts) its.2 finished) in (
         l.0,
         l.1,
         l.2,
-        record {
-          came = came;
-          next = subst (λ n. IsPrefix n (history_of l.1.seen))
-              (shut.seen ∙ ap (λ n. n ++ Border ∷ []) (append-nil (history new) ∙ doom_added old new hold.key noted))
-              (more_told last.seen l.1.seen l.3.0);
-        },
+        (
+          e.gone,
+          subst (IsPrefix e.gone) (sym (same_owner_keys receipts removing same_owners)) e.first,
+          record {
+            came = came;
+            next = subst (λ n. IsPrefix n (history_of l.1.seen))
+                (its.3 ∙ ap (λ n. n ++ Border ∷ []) (ap (λ h. h ++ unlinks_of e.gone) (doom_added old new hold.key noted) ∙ append_assoc (history old) (doom_note old.state.tree hold.key) (unlinks_of e.gone)))
+                (more_told its.1.seen l.1.seen l.3);
+          },
+        ),
       )
+
+  -- the receipts are those of its holds
+  pub receipts_at_end : EndsAt receipts hold
+  receipts_at_end = receipts_end hold removing [] [] receipts refl refl same_owners m holds
+
+  pub receipts_of_doom : IsDoomList old.state.tree hold.key (keys_of receipts)
+  receipts_of_doom = receipts_listed hold removing [] [] receipts refl refl same_owners old.state.tree order
 
 -- the same as the history says it, if the lock was just taken
 pub was_removed : (table : TableId) (old : Locked) (hold : Handle) (receipts : List Handle) → IsWhole table old → IsTaken (history old)
-    → Last (λ receipt. WasAdded hold.seen receipt.seen (history old) (doom_note old.state.tree hold.key)) receipts → IsDoomList old.state.tree hold.key (keys_of receipts) → Last (WasRemoved hold (keys_of receipts)) receipts
+    → Last (WasRemovedIn (history old) old.state.tree hold (keys_of receipts)) receipts → IsDoomList old.state.tree hold.key (keys_of receipts) → Last (WasRemoved hold (keys_of receipts)) receipts
 was_removed table old hold receipts whole taken l listed =
     let tree : old.state.tree ≡ tree_in (history old) = tree_told old.state old.claims (history old) whole.told in (
       l.0,
@@ -127,10 +135,8 @@ was_removed table old hold receipts whole taken l listed =
       l.2,
       (
         history old,
-        record {
-          taken = taken;
-          section = subst (λ t. WasAdded hold.seen l.1.seen (history old) (doom_note t hold.key)) tree l.3;
-        },
+        taken,
+        subst (λ t. WasRemovedIn (history old) t hold (keys_of receipts) l.1) tree l.3,
         subst (λ t. IsDoomList t hold.key (keys_of receipts)) tree listed,
       ),
     )
@@ -149,7 +155,7 @@ pub all_made : (before holds receipts : List Handle) → before ≡ [] → AreFi
 all_made before holds receipts none f = subst (AllFinished holds) (sym (f.1 ∙ ap (λ l. l ++ f.0) none ∙ (let r : [] ++ f.0 ≡ f.0 = refl in r))) f.2
 
 pub removed_in : {X E : Type 0} (table : TableId) (old : Locked) (hold : Handle) (items : X → List Handle) (r : Result X E) → IsWhole table old → IsTaken (history old)
-    → IfOk r (λ x. Last (λ receipt. WasAdded hold.seen receipt.seen (history old) (doom_note old.state.tree hold.key)) (items x)) → IfOk r (λ x. IsDoomList old.state.tree hold.key (keys_of (items x)))
+    → IfOk r (λ x. Last (WasRemovedIn (history old) old.state.tree hold (keys_of (items x))) (items x)) → IfOk r (λ x. IsDoomList old.state.tree hold.key (keys_of (items x)))
     → IfOk r (λ x. Last (WasRemoved hold (keys_of (items x))) (items x))
 removed_in table old hold items (Ok x) whole taken l listed = was_removed table old hold (items x) whole taken l listed
 removed_in table old hold items (Err e) whole taken l listed = tt

@@ -9,7 +9,6 @@ use Rattle.kf_core.specs.declared.refusal.Refusal.{Refusal}
 use Rattle.kf_core.proofs.Lists.{length_set}
 use Rattle.kf_tree.specs.TreeLogs.{TreeLog, IsAccepted, IsCompacted}
 use Rattle.kf_tree.specs.SlotMarks.{SameMarks}
-use Rattle.kf_words.specs.declared.note.Note.{Note}
 use Rattle.kf_words.specs.declared.note.Note.TheVariants.{Did, Claimed, Compacted}
 use Rattle.kf_words.specs.declared.view.MasterView.{MasterView}
 use Rattle.kf_words.specs.Callers.{TableId}

@@ -10,9 +10,8 @@ use Rattle.kf_core.specs.Refusals.{first_cause}
 use Rattle.kf_core.specs.Tree.{Tree}
 use Rattle.kf_tree.specs.Causes.{Refuses, hide_cause, hidden_in}
 use Rattle.kf_tree.specs.TreeLogs.{IsAccepted}
-use Rattle.kf_words.specs.Callers.{CallerSight}
 use Rattle.kf_words.specs.Callers.{Handle, IsSameSeat, FoundHidden, seat_view}
-use Rattle.kf_words.specs.Runs.{WasAHide, WaitedForHidden}
+use Rattle.kf_words.specs.Runs.{WasAHide}
 use Rattle.kf_words.specs.declared.note.Note.TheVariants.{Did}
 use Rattle.kf_shared.specs.Locked.{Locked, Adds, history}
 
@@ -43,10 +42,6 @@ ShowDone old new key = MatchBool (hidden_in old.state.tree key)
 abbrev pub ShowNoted : Locked → Locked → Key → Type 0
 ShowNoted old new key = MatchBool (hidden_in old.state.tree key)
     (Adds old new (Did (Show key))) (history new ≡ history old)
-
--- one step hid the key, and then it waited until nobody used the node
-abbrev pub HidAndLooked : CallerSight → CallerSight → Type 0
-HidAndLooked before after = (hid : CallerSight) × WasAHide before hid × WaitedForHidden hid after
 
 -- what the tree may say against the hiding of a file, and the lack of memory
 abbrev pub IsHideRefusal : Refusal → Type 0

@@ -6,3 +6,4 @@ pub mod Receipts
 pub mod Hiding
 pub mod Sections
 pub mod Running
+pub mod Finding

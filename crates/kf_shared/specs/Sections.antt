@@ -1,5 +1,6 @@
--- What was done while the lock was held once, as the history says it to those that saw it.
-use Rattle.std.specs.Prelude.{◌≡◌, ◌⊎◌, ℕ, zero, suc, Bool, true, false, not, None, ⊤, List, [], ◌∷◌, ◌++◌}
+-- What was done between two borders of the history, as it says it to those that saw it. A border is noted
+-- when the lock was taken, and again before it is unlocked.
+use Rattle.std.specs.Prelude.{◌≡◌, ◌⊎◌, ℕ, zero, suc, Bool, true, false, not, None, ⊤, List, [], ◌∷◌, ◌++◌, length, map}
 use mathlib.Core.List.{IsPrefix}
 use Rattle.kf_core.specs.declared.key.Key.{Key}
 use Rattle.kf_core.specs.declared.command.Command.TheVariants.{Doom, Unlink, Hide, Show}
@@ -10,14 +11,14 @@ use Rattle.kf_words.specs.declared.sight.Seen.{Seen}
 use Rattle.kf_words.specs.declared.sight.StepKind.{StepKind}
 use Rattle.kf_words.specs.declared.sight.StepKind.TheVariants.{Parts as parts}
 use Rattle.kf_words.specs.Notes.{history_of}
-use Rattle.kf_words.specs.Callers.{Handle, CallerSight}
+use Rattle.kf_words.specs.Callers.{Handle, CallerSight, having_seen}
 use Rattle.kf_tree.specs.Causes.{hidden_in}
 use Rattle.kf_words.specs.Made.{Rested, WasMade, WasAHide, WasARestore, WaitedForDrain, WaitedForHidden}
 use Rattle.kf_shared.specs.Hiding.{hold_cause}
 use Rattle.kf_shared.specs.Locked.{Locked, history, is_claimed}
 use Rattle.kf_shared.specs.Noted.{tree_in, claims_in}
-use Rattle.kf_shared.specs.Removal.{HasHeard}
-use Rattle.kf_shared.specs.Receipts.{IsDoomList}
+use Rattle.kf_shared.specs.Removal.{HasHeard, keys_of}
+use Rattle.kf_shared.specs.Receipts.{IsDoomList, owners_of}
 
 -- the last note is that the lock was taken
 abbrev pub IsTaken : List Note → Type 0
@@ -39,22 +40,25 @@ WereMadeTold kind zero before after = WasTold before after
 WereMadeTold kind (suc count) before after = (told : CallerSight) × (made : CallerSight)
     × WereMadeTold kind count before told × WasMade kind told made × WasTold made after
 
--- this many times it learned what was done under the lock. Each time it then rested, or looked whether the
--- node had left the tree
+-- this many times it learned what was done since it had learned that before. Each time it then rested, or
+-- looked whether the node had left the tree
 abbrev pub RestedOrLooked : ℕ → CallerSight → CallerSight → Type 0
 RestedOrLooked zero before after = after ≡ before
 RestedOrLooked (suc count) before after = (between : CallerSight) × (told : CallerSight)
     × RestedOrLooked count before between × WasTold between told
     × (((counted : Bool) × Rested counted told after) ⊎ WasMade parts told after)
 
--- all the steps of a hold while its node is finished: it waits for the drain, then rests or looks, any
--- number of times, and looks for the last time after it learned what was done under the lock
-abbrev pub OnlyWaited : CallerSight → CallerSight → Type 0
-OnlyWaited before after = (saw : CallerSight) × (between : CallerSight) × (told : CallerSight)
-    × WaitedForDrain before saw × ((count : ℕ) × RestedOrLooked count saw between)
-    × WasTold between told × WasMade parts told after
+-- all the steps of a caller that saw its node drained, while that is finished: it rests or looks, any number
+-- of times, and looks for the last time after it learned what was done up to a border
+abbrev pub OnlyRested : CallerSight → CallerSight → Type 0
+OnlyRested before after = (between : CallerSight) × (told : CallerSight)
+    × ((count : ℕ) × RestedOrLooked count before between) × WasTold between told × WasMade parts told after
 
--- one step hid the key, then the token learned what was done under the lock, and then it waited until nobody
+-- all the steps of a hold while its node is finished: it waits for the drain, and then as above
+abbrev pub OnlyWaited : CallerSight → CallerSight → Type 0
+OnlyWaited before after = (saw : CallerSight) × WaitedForDrain before saw × OnlyRested saw after
+
+-- one step hid the key, then the token learned what was done up to a border, and then it waited until nobody
 -- used the node
 abbrev pub HidToldAndLooked : CallerSight → CallerSight → Type 0
 HidToldAndLooked before after = (hid : CallerSight) × (told : CallerSight) × WasAHide before hid
@@ -68,6 +72,10 @@ note_where false note = []
 -- what the doom of a key adds to the history of this tree: nothing, if its node is not linked
 abbrev pub doom_note : Tree → Key → List Note
 doom_note t key = note_where (is_linked t key) (Did (Doom key))
+
+-- the unlinks of these keys, in their order
+abbrev pub unlinks_of : List Key → List Note
+unlinks_of keys = map (λ key. Did (Unlink key)) keys
 
 -- what its unlink adds
 abbrev pub unlink_note : Tree → Key → List Note
@@ -89,18 +97,21 @@ pub record WasClosed (old : Locked) (added : List Note) (before after : Handle) 
   pub came : IsPrefix (history_of before.seen) (history old)
   pub seen : history_of after.seen ≡ (history old ++ added) ++ Border ∷ []
 
--- the same of the last of these holds
-abbrev pub IsClosedAt : Locked → List Handle → List Handle → Type 0
-IsClosedAt old holds holds' = (front : List Handle) (last : Handle) → holds ≡ front ++ last ∷ []
-    → (after : Handle) × (holds' ≡ front ++ after ∷ []) × WasClosed old [] last after
+-- the last of these, if there is one, had seen a beginning of the history. Now it has seen this, and nothing
+-- else changed
+abbrev pub HasMet : List Note → Seen → List Handle → List Handle → Type 0
+HasMet found seen before after =
+    ((length before ≡ 0) × (after ≡ before))
+    ⊎ ((front : List Handle) × (last : Handle) × (before ≡ front ++ last ∷ [])
+    × (after ≡ front ++ having_seen seen last ∷ []) × IsPrefix (history_of last.seen) found)
 
 -- this was the history, which begins with all that was seen before. These notes came next, and no other
--- before the unlock, and that was seen
+-- before the next border, and that was seen
 pub record WasAdded (before after : Seen) (found added : List Note) : Type 0 where
   pub came : IsPrefix (history_of before) found
   pub next : IsPrefix ((found ++ added) ++ Border ∷ []) (history_of after)
 
--- this was the history when the lock was taken, and these notes are all that came while it was held
+-- this was the history when the lock was taken, and these notes are all that came before the next border
 pub record WasDone (before after : Seen) (found added : List Note) : Type 0 where
   pub taken : IsTaken found
   pub section : WasAdded before after found added
@@ -109,15 +120,38 @@ pub record WasDone (before after : Seen) (found added : List Note) : Type 0 wher
 abbrev pub Last : (Handle → Type 0) → List Handle → Type 0
 Last Such handles = (front : List Handle) × (last : Handle) × (handles ≡ front ++ last ∷ []) × Such last
 
--- in the tree that was found when the lock was taken, these are the keys of the node's subtree; its doom is
--- all that was done while the lock was held, and this receipt has seen that
+-- before the unlock: a removal has the nodes that it had. What the last of its holds had seen came before;
+-- the first of the nodes, which nobody used, were unlinked in their order, and no other note was added before
+-- the next border; and that the last has seen
+pub record WasEnded (old : Locked) (before after : List Handle) : Type 0 where
+  pub owners : owners_of after ≡ owners_of before
+  pub gone : List Key
+  pub first : IsPrefix gone (keys_of before)
+  pub came : (front : List Handle) (last : Handle) → before ≡ front ++ last ∷ []
+      → IsPrefix (history_of last.seen) (history old)
+  pub seen : (front : List Handle) (last : Handle) → before ≡ front ++ last ∷ []
+      → Last (λ end. history_of end.seen ≡ (history old ++ unlinks_of gone) ++ Border ∷ []) after
+
+-- this was the history, and this its tree. The doom of the hold's node came next, and the unlinks of the
+-- first of these keys in their order, and no other note before the next border, and that the receipt has seen
+abbrev pub WasRemovedIn : List Note → Tree → Handle → List Key → Handle → Type 0
+WasRemovedIn found t hold keys receipt = (gone : List Key) × IsPrefix gone keys
+    × WasAdded hold.seen receipt.seen found (doom_note t hold.key ++ unlinks_of gone)
+
+-- the same of the removal of a key's node that is linked, whose hold the removal took itself
+abbrev pub SawItsRemoval : List Note → Key → List Key → Handle → Type 0
+SawItsRemoval found key keys receipt = (gone : List Key) × IsPrefix gone keys
+    × IsPrefix ((found ++ Did (Doom key) ∷ unlinks_of gone) ++ Border ∷ []) (history_of receipt.seen)
+
+-- in the tree that was found when the lock was taken, these are the keys of the node's subtree; its doom, and
+-- the unlinks of the first of these, are all that came before the next border, and this receipt has seen that
 abbrev pub WasRemoved : Handle → List Key → Handle → Type 0
-WasRemoved hold keys receipt = (found : List Note)
-    × WasDone hold.seen receipt.seen found (doom_note (tree_in found) hold.key)
+WasRemoved hold keys receipt = (found : List Note) × IsTaken found
+    × WasRemovedIn found (tree_in found) hold keys receipt
     × IsDoomList (tree_in found) hold.key keys
 
--- the node's unlink, if it was linked when the lock was taken, is all that was done while the lock was
--- held, and the receipt has seen that
+-- the node's unlink, if it was linked when the lock was taken, is all that came before the next border, and
+-- the receipt has seen that
 abbrev pub WasFinished : Handle → Handle → Type 0
 WasFinished hold receipt = (found : List Note)
     × WasDone hold.seen receipt.seen found (unlink_note (tree_in found) hold.key)
@@ -130,19 +164,28 @@ AllFinished (hold ∷ holds) [] = ⊥
 AllFinished (hold ∷ holds) (receipt ∷ receipts) =
     (SawMore hold.seen receipt.seen × WasFinished hold receipt) × AllFinished holds receipts
 
+-- one receipt for each node of a removal, in their order: it was there before, or it has seen what the hold
+-- had seen, and the unlink
+abbrev pub AllEnded : List Handle → List Handle → Type 0
+AllEnded [] [] = ⊤
+AllEnded [] (receipt ∷ receipts) = ⊥
+AllEnded (hold ∷ holds) [] = ⊥
+AllEnded (hold ∷ holds) (receipt ∷ receipts) =
+    ((receipt ≡ hold) ⊎ (SawMore hold.seen receipt.seen × WasFinished hold receipt)) × AllEnded holds receipts
+
 -- to these receipts came one for each hold, in their order
 abbrev pub AreFinished : List Handle → List Handle → List Handle → Type 0
 AreFinished before holds receipts =
     (made : List Handle) × (receipts ≡ before ++ made) × AllFinished holds made
 
--- that the file is shown, if it was linked and hidden when the lock was taken, is all that was done while
--- the lock was held, and the hold has seen that
+-- that the file is shown, if it was linked and hidden when the lock was taken, is all that came before the
+-- next border, and the hold has seen that
 abbrev pub WasShownAlone : Handle → Handle → Type 0
 WasShownAlone hidden hold = (found : List Note)
     × WasDone hidden.seen hold.seen found (show_note (tree_in found) hidden.key)
 
 -- this was the history. What was seen before is a beginning of that with these notes, which came next, and no
--- other before the unlock, and that was seen
+-- other before the next border, and that was seen
 pub record WasAddedLate (before after : Seen) (found added : List Note) : Type 0 where
   pub came : IsPrefix (history_of before) (found ++ added)
   pub next : IsPrefix ((found ++ added) ++ Border ∷ []) (history_of after)
@@ -152,16 +195,16 @@ pub record WasDoneLate (before after : Seen) (found added : List Note) : Type 0 
   pub taken : IsTaken found
   pub section : WasAddedLate before after found added
 
--- nothing was against the hiding in the tree that was found when the lock was taken; it is all that was done
--- while the lock was held, and the token has seen that
+-- nothing was against the hiding in the tree that was found when the lock was taken; it is all that came
+-- before the next border, and the token has seen that
 abbrev pub WasHiddenAlone : Handle → Handle → Type 0
 WasHiddenAlone hold token = (found : List Note)
     × WasDoneLate hold.seen token.seen found (Did (Hide hold.key) ∷ [])
     × (hold_cause (tree_in found) hold ≡ None)
 
 -- in the tree that was found when the lock was taken, these are the keys of the subtree; the node was the
--- first to be claimed exactly if the claims did not have it; its doom and its claim are all that was done
--- while the lock was held, and the call has seen that
+-- first to be claimed exactly if the claims did not have it; its doom and its claim are all that came before
+-- the next border, and the call has seen that
 pub record WasSelfRemoved (before after : Handle) (first : Bool) (keys : List Key) : Type 0 where
   pub found : List Note
   pub done : WasDoneLate before.seen after.seen found (self_notes (tree_in found) before.key)

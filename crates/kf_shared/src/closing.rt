@@ -1,5 +1,6 @@
-//! The lock is taken, and unlocked: what stands in the history between was done while it was held once. A
-//! caller that learns of that before the unlock has seen it ever after.
+//! A border of the history is noted when the lock was taken, and before it is unlocked: so what stands
+//! between two borders was done while it was held once. A caller that learns of that before the unlock has
+//! seen it ever after.
 ghost use Rattle.std.specs.Prelude.{◌≡◌, [], ◌∷◌, ◌++◌, IfOk};
 ghost use mathlib.Core.List.{IsPrefix};
 ghost use Rattle.kf_core.specs.declared.caller.Phase.TheVariants as phase_of;
@@ -29,17 +30,8 @@ impl<N: Naming> Locked<N> {
         note_border(&mut self.master);
     }
 
-    /// Passes on to a hold all that was done while the lock was held, which is about to be unlocked.
-    pub(crate) fn close(&mut self, hold: &mut Hold)
-        requires table { hold.old.table ≡ N.table }
-        ensures hold { WasClosed self.old [] hold.old hold.new }
-    {
-        self.master.meet(hold);
-        note_border(&mut self.master);
-        self.master.meet(hold);
-    }
-
-    /// As `close`, of the token of a file that is about to be hidden.
+    /// Passes on to the token of a file that is about to be hidden all that was done up to the border which
+    /// ends it: the tree is about to be unlocked.
     pub(crate) fn close_hiding(&mut self, hiding: &mut Hiding)
         requires table { hiding.old.table ≡ N.table }
         ensures hiding { WasClosed self.old [] hiding.old hiding.new }
@@ -49,7 +41,7 @@ impl<N: Naming> Locked<N> {
         self.master.meet_hiding(hiding);
     }
 
-    /// As `close`, of a call.
+    /// As `close_hiding`, of a call.
     pub(crate) fn close_call(&mut self, call: &mut Call)
         requires table { call.old.table ≡ N.table }
         ensures call { WasClosed self.old [] call.old call.new }
@@ -60,7 +52,7 @@ impl<N: Naming> Locked<N> {
     }
 
     /// Takes a drained node out of the tree, as `unlink` does, and passes on to its receipt that this is all
-    /// that was done while the lock was held, which is about to be unlocked.
+    /// that was done up to the border which ends it: the tree is about to be unlocked.
     pub(crate) fn unlink_alone(&mut self, drained: &mut Drained) -> Result<bool, Refusal>
         requires table { drained.old.table ≡ N.table }
         ensures same { HasHeard drained.old drained.new }
@@ -76,7 +68,7 @@ impl<N: Naming> Locked<N> {
     }
 
     /// Shows a hidden file again, as `show` does, and passes on to its hold that this is all that was done
-    /// while the lock was held, which is about to be unlocked.
+    /// up to the border which ends it: the tree is about to be unlocked.
     pub(crate) fn show_alone(&mut self, hidden: Hidden) -> Hold
         requires table { hidden.table ≡ N.table }
         ensures hold { IsSameSeat hidden result × WasShown hidden result }

@@ -28,7 +28,7 @@ use crate::naming::Naming;
 use crate::removing::Removing;
 use crate::tree::SharedTree;
 use kf_core::{Key, Node, Refusal};
-use kf_live::Looker;
+use kf_live::Lookup;
 use kf_tree::State;
 use kf_words::{Call, Drained, Hidden, Hiding, Hold};
 use std::marker::Model;
@@ -64,7 +64,7 @@ impl<'a, N: Naming> Editor<'a, N> {
     /// look-ups goes back behind that.
     ///
     /// Refusal: NoMemory, if the words of look-ups can have no further owner.
-    pub fn looker(&mut self) -> Result<Looker, Refusal>
+    pub fn looker(&mut self) -> Result<Lookup, Refusal>
         ensures told { IfOk result
             (λ looker. 0 < looker.slots → Say (links_seen looker) self.old.state.tree) }
         ensures root { IfOk result (λ looker. looker.root ≡ self.old.state.root) }
@@ -284,11 +284,14 @@ impl<'a, N: Naming> Editor<'a, N> {
         self.guard.compact()
     }
 
-    /// Unlocks, and gives the tree back, on which a removal that was begun is then finished. What
-    /// the lock keeps is others' from then on, so no clause speaks of it.
+    /// Unlocks, and returns the tree, on which a removal that was begun is then finished. A border ends what
+    /// was done since the lock was taken. What the lock keeps is others' from then on, so no clause speaks of
+    /// it.
     pub fn let_go(self) -> &'a SharedTree<N> {
-        let tree = self.tree;
-        drop(self);
+        let mut editor = self;
+        let tree = editor.tree;
+        editor.guard.border();
+        drop(editor);
         tree
     }
 

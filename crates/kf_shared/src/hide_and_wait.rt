@@ -7,22 +7,22 @@ ghost use Rattle.kf_words.specs.Layout.{is_unused};
 ghost use Rattle.kf_words.specs.declared.note.Note.TheVariants.{Did};
 ghost use Rattle.kf_words.specs.declared.sight.StepKind.TheVariants.{Shows as shows};
 ghost use Rattle.kf_shared.specs.Locked.{history};
-ghost use Rattle.kf_shared.specs.Sections.{HidToldAndLooked, WasAddedLate, WasHiddenAlone, WasShownAlone, WereMadeTold};
+ghost use Rattle.kf_shared.specs.Sections.{HidToldAndLooked, WasAddedLate, WasClosed, WasHiddenAlone, WasShownAlone, WereMadeTold};
 ghost use Rattle.kf_shared.specs.Hiding.{HideRefused, HidingRefused, hold_cause, kind_cause};
 
 use crate::editor::Editor;
 use crate::naming::Naming;
 use crate::tree::SharedTree;
 use kf_core::Refusal;
-use kf_words::{Hidden, Hold, wait_hidden};
+use kf_words::{Hidden, Hiding, Hold, wait_hidden};
 use std::sync::Wait;
 
 impl<N: Naming> SharedTree<N> {
     /// Hides a file, and waits, while the tree is unlocked, until nobody has a reference to it: then no
-    /// callback runs there, save one that broke its own protection, and none starts until the file is shown.
-    /// Nothing else is done while the lock is held, and the token has seen that. It may never return: it
-    /// waits for every callback that runs on the file, its caller's own among them, and for the lock, which
-    /// its caller must not have.
+    /// callback runs there, except one that broke its own protection, and none starts until the file is
+    /// shown. The hiding is all that comes between two borders of the history, and the token has seen that.
+    /// It may never return: it waits for every callback that runs on the file, its caller's own among them,
+    /// and for the lock, which its caller must not have.
     ///
     /// Condition: the hold is of this tree's table.
     ///
@@ -45,8 +45,9 @@ impl<N: Naming> SharedTree<N> {
         self.edit(rt).hide_and_wait(rt, hold)
     }
 
-    /// Shows a hidden file again, under the lock, which its caller must not have. Nothing else is done while
-    /// the lock is held, and the hold has seen that. It refuses nothing and takes no memory.
+    /// Shows a hidden file again, under the lock, which its caller must not have. That is all that comes
+    /// between two borders of the history, and the hold has seen that. It refuses nothing and takes no
+    /// memory.
     ///
     /// Condition: the token is of this tree's table.
     ///
@@ -62,7 +63,22 @@ impl<N: Naming> SharedTree<N> {
     }
 }
 
-impl<N: Naming> Editor<'_, N> {
+impl<'a, N: Naming> Editor<'a, N> {
+    /// Unlocks after `hide`, and passes on to its token all that was done up to then. [`wait_hidden`] then
+    /// waits.
+    ///
+    /// Condition: the token is of this table.
+    pub fn end_hiding(self, hiding: &mut Hiding) -> &'a SharedTree<N>
+        requires table { hiding.old.table ≡ N.table }
+        ensures closed { WasClosed self.entry [] hiding.old hiding.new }
+    {
+        let mut editor = self;
+        let tree = editor.tree;
+        editor.guard.close_hiding(hiding);
+        drop(editor);
+        tree
+    }
+
     /// As `hide`, and then it unlocks and waits until nobody has a reference to the file, as
     /// [`SharedTree::hide`] does.
     ///
@@ -84,8 +100,7 @@ impl<N: Naming> Editor<'_, N> {
     {
         let mut editor = self;
         let mut hiding = editor.hide(hold)?;
-        editor.guard.close_hiding(&mut hiding);
-        drop(editor);
+        let _ = editor.end_hiding(&mut hiding);
         Ok(wait_hidden(rt, hiding))
     }
 }

@@ -3,12 +3,12 @@
 //! - `SharedTree::new` gives a `NewTree`, and `named` its name `N: Naming`, by which the checker knows which
 //!   tree a hold belongs to. `edit` locks it for one `Editor`, `read` shares it among `Reader`s.
 //! - `Editor` has the commands of `kf_tree`, `hold` for a node's holds, and removals: `remove`,
-//!   `remove_key`, `remove_path` mark, unlock, wait and unlink, and return a receipt (`Parted`) for each
-//!   node; `begin_removal` leaves the waiting to `Removing::finish`. A callback removes its own node by
-//!   `remove_self`.
+//!   `remove_key`, `remove_path` mark, unlink what nobody uses, unlock, wait and unlink the rest. They return
+//!   a receipt (`Parted`) for each node. After `begin_removal`, `end_removal` unlocks and `Draining::finish`
+//!   waits. A callback removes its own node by `remove_self`.
 //! - `Locked` is the same tree for a program that has a lock of another kind.
-//! - `SharedTree::with_looks` keeps words for look-ups too: an `Editor` gives a `Looker`, by which a thread
-//!   finds names without the lock (`kf_live`), and takes holds of them (`hold_path`). Other trees store none.
+//! - `SharedTree::with_looks` keeps words for look-ups too: an `Editor` gives a `Lookup`, by which a thread
+//!   finds names without the lock (`kf_live`). A `PathHolder` takes holds of them. Other trees store none.
 //!
 //! A caller shows that what it hands in is of this tree (`table`: kept by the types if one name `N` is
 //! used), and that a call that removes itself runs. `running_tree` is the law of words, tree and lock
@@ -18,6 +18,7 @@
 mod by_path;
 mod closing;
 mod doom;
+mod draining;
 mod editor;
 mod hide;
 mod hide_and_wait;
@@ -33,7 +34,8 @@ mod remove_by_key;
 mod removing;
 mod tree;
 
-pub use by_path::hold_path;
+pub use by_path::PathHolder;
+pub use draining::Draining;
 pub use editor::Editor;
 pub use laws::running_tree;
 pub use locked::Locked;

@@ -19,7 +19,7 @@ use crate::naming::Naming;
 use crate::noting::{note_claim, note_last};
 use crate::tree::NewTree;
 use kf_core::{Key, Node, Refusal};
-use kf_live::{LiveTree, Looker};
+use kf_live::{LiveTree, Lookup};
 use kf_tree::State;
 use kf_words::{Drained, Hold, Master};
 use std::alloc::Global;
@@ -112,7 +112,7 @@ impl<N: Naming> Locked<N> {
     /// look-ups goes back behind that.
     ///
     /// Refusal: NoMemory, if the words of look-ups can have no further owner.
-    pub fn looker(&mut self) -> Result<Looker, Refusal>
+    pub fn looker(&mut self) -> Result<Lookup, Refusal>
         ensures told { IfOk result
             (λ looker. 0 < looker.slots → Say (links_seen looker) self.old.state.tree) }
         ensures root { IfOk result (λ looker. looker.root ≡ self.old.state.root) }
@@ -149,7 +149,7 @@ impl<N: Naming> Locked<N> {
         let Some(key) = next else {
             return Err(Refusal::NoSpace);
         };
-        self.state.create_at(key, parent, name, node, live)?;
+        self.state.create_under(key, parent, name, node, live)?;
         note_last(&mut self.master, &self.state);
         self.master.born(key, node);
         if live {
@@ -223,6 +223,8 @@ impl<N: Naming> Locked<N> {
     }
 
     /// Takes a drained node out of the tree. False if it is no longer linked.
+    ///
+    /// Condition: it is of this tree.
     pub fn unlink(&mut self, drained: &Drained) -> Result<bool, Refusal>
         requires table { drained.now.table ≡ N.table }
         ensures linked { IfOk result (λ unlinked. is_linked self.old.state.tree drained.now.key ≡ unlinked) }

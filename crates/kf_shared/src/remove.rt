@@ -7,7 +7,7 @@ ghost use Rattle.kf_words.specs.Callers.{IsSameSeat, seat_view};
 ghost use Rattle.kf_shared.specs.Locked.{is_claimed, history};
 ghost use Rattle.kf_shared.specs.Removal.{HasHeard, keys_of};
 ghost use Rattle.kf_shared.specs.Receipts.{AllDifferent, AreOf, EndsAt, IsDoomList, MayBeDoomed, RemovalRefusal, RemovalRefused, SelfRefused, SelfRemovalRefusal, owners_of};
-ghost use Rattle.kf_shared.specs.Sections.{AreFinished, Last, OnlyWaited, SawMore, WasAdded, WasAddedLate, WasFinished, WasRemoved, WasRestoredAlone, WasSelfRemoved, doom_note, self_notes};
+ghost use Rattle.kf_shared.specs.Sections.{AreFinished, Last, OnlyRested, OnlyWaited, SawMore, WasAddedLate, WasFinished, WasRemoved, WasRemovedIn, WasRestoredAlone, WasSelfRemoved, self_notes};
 
 use crate::editor::Editor;
 use crate::naming::Naming;
@@ -19,8 +19,8 @@ use std::sync::Wait;
 impl<N: Naming> SharedTree<N> {
     /// Waits until the hold's node is drained, takes it out of the tree under the lock, waiting on while
     /// that is refused, and parts (`kernfs_drain`, then `kernfs_unlink_sibling`). The holds of one doom are
-    /// finished in their order: another order may wait for itself. Nothing else is done while the lock is
-    /// held for the unlink, and the receipt has seen that. It takes no memory, and may never return: it
+    /// finished in their order: another order may wait for itself. The unlink is all that comes between two
+    /// borders of the history, and the receipt has seen that. It takes no memory, and may never return: it
     /// waits, while the tree is unlocked, for every callback that runs on the node, its caller's own among
     /// them, and for the lock, which its caller must not have.
     ///
@@ -35,7 +35,20 @@ impl<N: Naming> SharedTree<N> {
         ensures later { SawMore hold.seen result.seen }
         ensures finished { WasFinished hold result }
     {
-        let mut drained = wait_drained(rt, hold);
+        let drained = wait_drained(rt, hold);
+        self.finish_drained(rt, drained)
+    }
+
+    /// As `finish`, of a node that was seen drained.
+    pub(crate) fn finish_drained<R: Wait>(&self, rt: &R, drained: Drained) -> Parted
+        requires table { drained.table ≡ N.table }
+        ensures same { IsSameSeat drained result }
+        ensures parted { result.phase ≡ phase_of.Parted }
+        ensures rested { OnlyRested (seat_view drained) (seat_view result) }
+        ensures later { SawMore drained.seen result.seen }
+        ensures finished { WasFinished drained result }
+    {
+        let mut drained = drained;
         for _ in rt.forever() {
             let unlinked = self.unlink_alone(rt, &mut drained);
             if unlinked.is_err() {
@@ -50,7 +63,7 @@ impl<N: Naming> SharedTree<N> {
         unreachable!()
     }
 
-    /// Takes a drained node out of the tree, and does nothing else while it holds the lock. What it did the
+    /// Takes a drained node out of the tree, and does nothing else before the next border. What it did the
     /// receipt has seen.
     ///
     /// Refusals: those of `Editor::unlink`.
@@ -90,14 +103,14 @@ impl<N: Naming> SharedTree<N> {
         receipts
     }
 
-    /// Dooms the subtree of the hold's node, and waits until each of its nodes is drained and out of the
-    /// tree (`kernfs_remove`). The receipts stand in the order of the doom: each node after all that is
-    /// below it, siblings in byte order of names, the given hold's last. If the node is no longer linked,
-    /// the receipt is only for it. Which tree that was the history says: it had come after all that the hold
-    /// had seen, the doom is all that was done while the lock was held, and the last receipt has seen that.
-    /// It may never return: it waits, while the tree is unlocked, for every callback that runs in the
-    /// subtree, its caller's own among them, and for the lock, which its caller must not have. A callback
-    /// that removes its own node calls `remove_self`.
+    /// Dooms the subtree of the hold's node, and waits until each of its nodes is drained and out of the tree
+    /// (`kernfs_remove`). The receipts stand in the order of the doom: each node after all that is below it,
+    /// siblings in byte order of names, the given hold's last. If the node is no longer linked, the receipt
+    /// is only for it. Which tree that was the history says: it had come after all that the hold had seen.
+    /// The doom, and the unlinks of the first of the nodes in their order, are all that came before the next
+    /// border, and the last receipt has seen that. It may never return: it waits, while the tree is unlocked,
+    /// for every callback that runs in the subtree, its caller's own among them, and for the lock, which its
+    /// caller must not have. A callback that removes its own node calls `remove_self`.
     ///
     /// Condition: the hold is of this tree's table.
     ///
@@ -125,7 +138,7 @@ impl<N: Naming> SharedTree<N> {
     /// takes new holds of the subtree's nodes, dooms them, claims the node, and breaks the call's
     /// protection. It waits as `remove` does; then, under the lock, it restores the call. True for the first
     /// self-removal of the node in the whole history, also if a plain removal is under way; every other
-    /// returns false, after its own waiting. Nothing else is done while the lock is held. The last receipt is
+    /// returns false, after its own waiting. Nothing else comes before the next border. The last receipt is
     /// for the call's node, and if the node has left the tree already it is the only one. It may never
     /// return: it waits for every other callback that runs in the subtree, and for the lock, which its caller
     /// must not have. A callback that runs on two nodes, one above the other, waits for itself if it
@@ -162,10 +175,10 @@ impl<N: Naming> SharedTree<N> {
 }
 
 impl<N: Naming> Editor<'_, N> {
-    /// Dooms the subtree of the hold's node, unlocks, and waits until each of its nodes is drained
-    /// and out of the tree (`kernfs_remove`). What was looked up under this lock is what is removed: the
-    /// receipts are of the subtree as this tree has it, in post-order, the given hold's last. If the node
-    /// is no longer linked, the receipt is only for it. The call takes the `Editor` and unlocks
+    /// Dooms the subtree of the hold's node, unlocks as [`Editor::end_removal`] does, and waits until each of
+    /// its nodes is drained and out of the tree (`kernfs_remove`). What was looked up under this lock is what
+    /// is removed: the receipts are of the subtree as this tree has it, in post-order, the given hold's last.
+    /// If the node is no longer linked, the receipt is only for it. The call takes the `Editor` and unlocks
     /// itself. Like [`SharedTree::remove`] it may never return.
     ///
     /// Condition: the hold is of this table.
@@ -173,11 +186,11 @@ impl<N: Naming> Editor<'_, N> {
     /// Refusals: those of `doom`. After a refusal nothing is marked, the tree is unlocked, and the hold comes
     /// back as it was.
     ///
-    /// Context: sleeps, once it has unlocked.
+    /// Context: sleeps, once it has unlocked, and locks again for each node that had not left the tree then.
     pub fn remove<R: Wait>(self, rt: &R, hold: Hold) -> Result<Vec<Parted>, (Hold, Refusal)>
         requires table { hold.table ≡ N.table }
-        ensures alone { IfOk result (λ receipts. Last (λ receipt. WasAdded hold.seen receipt.seen
-            (history self.entry) (doom_note self.entry.state.tree hold.key)) receipts.items) }
+        ensures alone { IfOk result (λ receipts. Last (WasRemovedIn (history self.entry)
+            self.entry.state.tree hold (keys_of receipts.items)) receipts.items) }
         ensures tables { IfOk result (λ receipts. AreOf N.table receipts.items) }
         ensures last { IfOk result (λ receipts. EndsAt receipts.items hold) }
         ensures different { IfOk result (λ receipts. AllDifferent (keys_of receipts.items)) }
@@ -189,11 +202,9 @@ impl<N: Naming> Editor<'_, N> {
             (λ r. RemovalRefused self.entry.state.tree self.entry.state.root hold.key r.1) }
     {
         let mut editor = self;
-        let tree = editor.tree;
-        let mut removing = editor.begin_removal(hold)?;
-        editor.guard.close_removal(&mut removing);
-        drop(editor);
-        Ok(removing.finish(rt, tree))
+        let removing = editor.begin_removal(hold)?;
+        let draining = editor.end_removal(removing);
+        Ok(draining.finish(rt))
     }
 
     /// Removes the node of a call from within its own callback (`kernfs_remove_self`), as

@@ -1,16 +1,14 @@
 //! Removal of a node by its key, its name or its path, as the guard's tree has it.
-ghost use Rattle.std.specs.Prelude.{◌≡◌, [], ◌∷◌, ◌++◌, Ok, IfErr, IfOk, OnErr, OnOk};
-ghost use mathlib.Core.List.{IsPrefix};
+ghost use Rattle.std.specs.Prelude.{◌≡◌, Ok, IfErr, IfOk, OnErr, OnOk};
 ghost use Rattle.kf_core.specs.declared.command.Command.TheVariants.{Doom};
 ghost use Rattle.kf_core.specs.declared.key.Key.{Key};
 ghost use Rattle.kf_core.specs.PostOrder.{IsPostOrder};
 ghost use Rattle.kf_tree.specs.Causes.{doom_cause};
 ghost use Rattle.kf_tree.specs.Paths.{found, walked};
 ghost use Rattle.kf_tree.specs.TreeLogs.{IsAccepted};
-ghost use Rattle.kf_words.specs.declared.note.Note.TheVariants.{Did, Border};
-ghost use Rattle.kf_words.specs.Notes.{history_of};
+ghost use Rattle.kf_words.specs.declared.note.Note.TheVariants.{Did};
 ghost use Rattle.kf_shared.specs.Locked.{Adds, IsWhole, Unchanged, history};
-ghost use Rattle.kf_shared.specs.Sections.{Last};
+ghost use Rattle.kf_shared.specs.Sections.{Last, SawItsRemoval};
 ghost use Rattle.kf_shared.specs.Removal.{keys_of};
 ghost use Rattle.kf_shared.specs.Receipts.{AreOf, IsRemovalOf, KeyRefused, NamedRefused};
 
@@ -50,25 +48,23 @@ impl<N: Naming> Editor<'_, N> {
     }
 
     /// Removes the node of a key with all below it, as `remove` does. The receipts are in post-order, the
-    /// node's own last, which has seen that nothing came between the doom and the end of the lock.
+    /// node's own last. That has seen that the doom, and the unlinks of the first of the nodes in their
+    /// order, are all that came before the next border.
     ///
     /// Refusals: those of `begin_removal_of`. After a refusal nothing is marked, and the tree is unlocked.
     ///
-    /// Context: sleeps, once it has unlocked, and locks for each unlink.
+    /// Context: as `remove`.
     pub fn remove_key<R: Wait>(self, rt: &R, key: Key) -> Result<Vec<Parted>, Refusal>
-        ensures alone { IfOk result (λ receipts. Last (λ receipt. IsPrefix
-            ((history self.entry ++ Did (Doom key) ∷ []) ++ Border ∷ []) (history_of receipt.seen))
-            receipts.items) }
+        ensures alone { IfOk result (λ receipts. Last (SawItsRemoval (history self.entry) key
+            (keys_of receipts.items)) receipts.items) }
         ensures tables { IfOk result (λ receipts. AreOf N.table receipts.items) }
         ensures listed { IfOk result (λ receipts. IsRemovalOf self.entry.state key (keys_of receipts.items)) }
         ensures refused { IfErr result (λ refusal. KeyRefused self.entry.state key refusal) }
     {
         let mut editor = self;
-        let tree = editor.tree;
-        let mut removing = editor.begin_removal_of(key)?;
-        editor.guard.close_removal(&mut removing);
-        drop(editor);
-        Ok(removing.finish(rt, tree))
+        let removing = editor.begin_removal_of(key)?;
+        let draining = editor.end_removal(removing);
+        Ok(draining.finish(rt))
     }
 
     /// Removes the node of this name in a directory, live or not.

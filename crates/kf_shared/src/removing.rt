@@ -2,9 +2,8 @@
 ghost use Rattle.std.specs.Prelude.{◌≡◌, ◌+◌, ◌≤◌, [], vec_capacity, vec_len};
 ghost use Rattle.kf_shared.specs.Receipts.{AreOf, owners_of};
 ghost use Rattle.kf_shared.specs.Removal.{keys_of};
-ghost use Rattle.kf_shared.specs.Sections.{AllFinished, IsClosedAt};
+ghost use Rattle.kf_shared.specs.Sections.{AllFinished};
 
-use crate::locked::Locked;
 use crate::naming::Naming;
 use crate::tree::SharedTree;
 use kf_words::{Hold, Parted};
@@ -12,8 +11,9 @@ use std::marker::{Model, PhantomData};
 use std::sync::Wait;
 
 /// The holds of nodes that a removal of this tree has marked, each after all that is below it, and room for
-/// their receipts. To a contract it is the list of the holds. It must be spent, by [`Removing::finish`], while
-/// the tree is unlocked.
+/// their receipts. To a contract it is the list of the holds. It must be spent, by
+/// [`Editor::end_removal`](crate::Editor::end_removal), or by [`Removing::finish`] while the tree is
+/// unlocked.
 pub struct Removing<N: Naming> {
     holds: Vec<Hold>,
     receipts: Vec<Parted>,
@@ -50,6 +50,21 @@ impl<N: Naming> Removing<N> {
         }
     }
 
+    /// Its holds, and the empty list with room for their receipts.
+    pub(crate) fn into_parts(self) -> (Vec<Hold>, Vec<Parted>)
+        ensures holds { result.0.items ≡ self }
+        ensures tables { AreOf N.table result.0.items }
+        ensures none { result.1.items ≡ [] }
+        ensures room { vec_len result.1 + vec_len result.0 ≤ vec_capacity result.1 }
+    {
+        let Removing {
+            holds,
+            receipts,
+            name: _,
+        } = self;
+        (holds, receipts)
+    }
+
     /// The holds of the nodes that it has marked, each after all that is below it: a caller that reports to
     /// others of the removal reads their keys here.
     pub fn holds(&self) -> &[Hold]
@@ -59,10 +74,10 @@ impl<N: Naming> Removing<N> {
     }
 
     /// Waits, while the tree is unlocked, until each node is drained, and takes it out of the tree. The
-    /// receipts stand in the order of the holds, each of its hold's own seat, and each has seen the unlink:
-    /// nothing else was done while the lock was held for it. It takes no memory, and may never return: it
-    /// waits for every callback that runs on the nodes, its caller's own among them, and for the lock, which
-    /// its caller must not have.
+    /// receipts stand in the order of the holds, each of its hold's own seat, and each has seen the unlink,
+    /// which is all that came between two borders of the history. It takes no memory, and may never return:
+    /// it waits for every callback that runs on the nodes, its caller's own among them, and for the lock,
+    /// which its caller must not have.
     ///
     /// Context: sleeps; takes the tree's lock, which its caller must not have.
     pub fn finish<R: Wait>(self, rt: &R, tree: &SharedTree<N>) -> Vec<Parted>
@@ -71,25 +86,8 @@ impl<N: Naming> Removing<N> {
         ensures owners { owners_of result.items ≡ owners_of self }
         ensures keys { keys_of result.items ≡ keys_of self }
     {
-        let Removing {
-            holds,
-            receipts,
-            name: _,
-        } = self;
+        let (holds, receipts) = self.into_parts();
         tree.finish_each(rt, holds, receipts)
-    }
-}
-
-impl<N: Naming> Locked<N> {
-    /// Passes on to the last of a removal's holds all that was done while the lock was held, which is about to be
-    /// unlocked.
-    pub(crate) fn close_removal(&mut self, removing: &mut Removing<N>)
-        ensures last { IsClosedAt self.old removing.old removing.new }
-    {
-        if let Some(mut last) = removing.holds.pop() {
-            self.close(&mut last);
-            removing.holds.push_reserved(last);
-        }
     }
 }
 

@@ -155,7 +155,8 @@ impl SharedTree<Brand> {
     }
 
     /// The same, with words for the look-ups of this many slots, which take 88 bytes each: nodes of higher
-    /// slots are found only under the lock.
+    /// slots are found only under the lock. It is a function of `SharedTree::<Brand>` only; `named` gives the
+    /// tree its name afterwards.
     ///
     /// Conditions: `start` is at most 4294967294; `looks` is at most [`kf_core::MOST_SLOTS`].
     ///

@@ -18,4 +18,6 @@ mod roles;
 #[cfg(test)]
 mod tests;
 #[cfg(test)]
+mod unused;
+#[cfg(test)]
 mod waits;

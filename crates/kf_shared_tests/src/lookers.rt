@@ -2,42 +2,37 @@
 
 use crate::fixtures::{FILE, add, enter, hold, removed};
 use kf_core::{Key, Node};
-use kf_live::Looker;
-use kf_shared::{Naming, SharedTree, hold_path};
-use kf_words::Holds;
+use kf_live::Lookup;
+use kf_shared::{Naming, PathHolder, SharedTree};
 use std::alloc::Global;
 use std::process::Abort;
 use std::sync::Wait;
 
-pub(crate) fn looker_of<N: Naming, R: Abort + Wait>(rt: &R, tree: &SharedTree<N>) -> Looker {
+pub(crate) fn looker_of<N: Naming, R: Abort + Wait>(rt: &R, tree: &SharedTree<N>) -> Lookup {
     match tree.edit(rt).looker() {
         Ok(looker) => looker,
         Err(_) => panic!(rt; "no looker"),
     }
 }
 
-/// A maker of the tree's holds, by a hold of its root.
-pub(crate) fn maker<N: Naming, R: Abort + Wait>(
+/// What makes holds of paths in the tree.
+pub(crate) fn holder_of<N: Naming, R: Abort + Wait>(
     rt: &R,
     alloc: Global,
     tree: &SharedTree<N>,
-) -> Holds {
-    let root = tree.read(rt).state().root();
-    match Holds::new(alloc, hold(rt, tree, root)) {
-        Ok(holds) => holds,
-        Err((back, _)) => {
-            back.release();
-            panic!(rt; "no memory")
-        }
+) -> PathHolder<N> {
+    match PathHolder::new(alloc, &mut tree.edit(rt)) {
+        Ok(holder) => holder,
+        Err(_) => panic!(rt; "no holder"),
     }
 }
 
 // ---- after each command
 
 /// The path gives a hold of the live file, each time.
-fn holds<R: Abort>(rt: &R, looker: &mut Looker, by: &mut Holds, path: &[u8], key: Key) {
+fn holds<N: Naming, R: Abort>(rt: &R, by: &mut PathHolder<N>, path: &[u8], key: Key) {
     for _ in 0..3 {
-        match hold_path(looker, by, path) {
+        match by.try_hold(path) {
             Some(held) => {
                 assert!(rt; held.key() == key);
                 enter(rt, held).leave().release();
@@ -48,9 +43,9 @@ fn holds<R: Abort>(rt: &R, looker: &mut Looker, by: &mut Holds, path: &[u8], key
 }
 
 /// A caller that asks is sent to the lock, each time.
-fn is_sent<R: Abort>(rt: &R, looker: &mut Looker, by: &mut Holds, path: &[u8]) {
+fn is_sent<N: Naming, R: Abort>(rt: &R, by: &mut PathHolder<N>, path: &[u8]) {
     for _ in 0..3 {
-        if let Some(held) = hold_path(looker, by, path) {
+        if let Some(held) = by.try_hold(path) {
             by.release(held);
             panic!(rt; "a hold of what is not there")
         }
@@ -61,13 +56,12 @@ fn is_sent<R: Abort>(rt: &R, looker: &mut Looker, by: &mut Holds, path: &[u8]) {
 fn not_held_while_hidden<N: Naming, R: Abort + Wait>(
     rt: &R,
     tree: &SharedTree<N>,
-    looker: &mut Looker,
-    by: &mut Holds,
+    by: &mut PathHolder<N>,
     file: Key,
 ) {
     match tree.hide(rt, hold(rt, tree, file)) {
         Ok(token) => {
-            is_sent(rt, looker, by, b"/t/g");
+            is_sent(rt, by, b"/t/g");
             tree.show(rt, token).release();
         }
         Err((back, _)) => {
@@ -90,22 +84,21 @@ fn renamed<N: Naming, R: Abort + Wait>(rt: &R, tree: &SharedTree<N>, file: Key, 
 pub(crate) fn held_as_it_changes<N: Naming, R: Abort + Wait>(
     rt: &R,
     tree: &SharedTree<N>,
-    looker: &mut Looker,
-    by: &mut Holds,
+    by: &mut PathHolder<N>,
 ) {
     let dir = add(rt, tree, b"/t", Node::Dir, true);
     let file = add(rt, tree, b"/t/f", FILE, false);
-    is_sent(rt, looker, by, b"/t/f");
+    is_sent(rt, by, b"/t/f");
     activated(rt, tree, dir);
-    holds(rt, looker, by, b"/t/f", file);
+    holds(rt, by, b"/t/f", file);
     renamed(rt, tree, file, dir);
-    is_sent(rt, looker, by, b"/t/f");
-    not_held_while_hidden(rt, tree, looker, by, file);
-    holds(rt, looker, by, b"/t/g", file);
+    is_sent(rt, by, b"/t/f");
+    not_held_while_hidden(rt, tree, by, file);
+    holds(rt, by, b"/t/g", file);
     removed(rt, tree, b"/t/g", 1);
-    is_sent(rt, looker, by, b"/t/g");
+    is_sent(rt, by, b"/t/g");
     let next = add(rt, tree, b"/t/g", FILE, true);
-    holds(rt, looker, by, b"/t/g", next);
+    holds(rt, by, b"/t/g", next);
     removed(rt, tree, b"/t", 2);
 }
 
@@ -138,19 +131,23 @@ fn tag_of(node: Node) -> u64 {
 }
 
 /// The tag of the file that is found there, or held, if one is.
-fn tag_there(looker: &mut Looker, by: &mut Holds, opens: bool) -> Option<u64> {
+fn tag_there<N: Naming>(looker: &mut Lookup, by: &mut PathHolder<N>, opens: bool) -> Option<u64> {
     if !opens {
         let sight = looker.look(b"/t/f")?;
         return Some(tag_of(sight.found.node));
     }
-    let held = hold_path(looker, by, b"/t/f")?;
+    let held = by.try_hold(b"/t/f")?;
     let node = held.node();
     by.release(held);
     Some(tag_of(node))
 }
 
 /// Looks, or opens, until it has the file of the last tag, and says whether none went back behind another.
-pub(crate) fn keep_looking(looker: &mut Looker, by: &mut Holds, opens: bool) -> bool {
+pub(crate) fn keep_looking<N: Naming>(
+    looker: &mut Lookup,
+    by: &mut PathHolder<N>,
+    opens: bool,
+) -> bool {
     let mut before = 1;
     'looks: for _ in 0..4_000_000_000u64 {
         if let Some(tag) = tag_there(looker, by, opens) {

@@ -9,9 +9,9 @@ use crate::waits::{
     end_call, finish, meet_reading, restore_and_end, same_under_the_lock, wait_for,
 };
 use kf_core::Key;
-use kf_live::Looker;
-use kf_shared::{Naming, SharedTree, release_all};
-use kf_words::{Call, Hold, Holds, Parted};
+use kf_live::Lookup;
+use kf_shared::{Naming, PathHolder, SharedTree, release_all};
+use kf_words::{Call, Hold, Parted};
 use std::marker::PhantomData;
 use std::process::Abort;
 use std::sync::Wait;
@@ -87,8 +87,8 @@ pub(crate) enum Role<N: Naming> {
     RestoreAndEnd(Key, Call),
     LookUnderLock(Hold, Hold),
     Read,
-    SeeEachChange(Looker, Holds),
-    Look(Looker, Holds, bool),
+    SeeEachChange(PathHolder<N>),
+    Look(Lookup, PathHolder<N>, bool),
     Change,
 }
 
@@ -185,8 +185,8 @@ pub(crate) fn act<N: Naming, R: Abort + Wait + Clock>(
         Role::RestoreAndEnd(key, call) => restore_and_end(rt, tree, key, call, counts),
         Role::LookUnderLock(one, other) => same_under_the_lock(rt, tree, one, other),
         Role::Read => meet_reading(rt, tree, counts),
-        Role::SeeEachChange(mut looker, mut by) => {
-            held_as_it_changes(rt, tree, &mut looker, &mut by);
+        Role::SeeEachChange(mut by) => {
+            held_as_it_changes(rt, tree, &mut by);
             by.end().release();
             true
         }

@@ -4,9 +4,10 @@ ghost use Rattle.std.specs.Prelude.{◌≡◌};
 
 use crate::crowd::every_slot_is_free;
 use crate::fixtures::{FILE, add, commands, hold, is_bare, made, made_late};
-use crate::lookers::{looker_of, maker};
+use crate::lookers::{holder_of, looker_of};
 use crate::refused::refused_below;
 use crate::roles::{Counts, Inside, Role, act, act_in, call_of, held_by, hold_of};
+use crate::unused::{made_wide, unused_nodes};
 use kf_core::{Key, Node};
 use kf_shared::{Naming, NewTree, SharedTree, release_all};
 use kf_words::{Call, Hold};
@@ -163,7 +164,7 @@ fn add_looker<N: Naming, R: Abort + Wait + Clock>(
     roles: &mut Vec<Option<Role<N>>>,
     opens: bool,
 ) {
-    let role = Role::Look(looker_of(rt, tree), maker(rt, alloc, tree), opens);
+    let role = Role::Look(looker_of(rt, tree), holder_of(rt, alloc, tree), opens);
     add_role(rt, tree, roles, role);
 }
 
@@ -184,7 +185,7 @@ fn gathered<N: Naming, R: Abort + Wait + Clock>(
             add_role(rt, tree, &mut roles, Role::Change);
         }
         Course::EachChange => {
-            let role = Role::SeeEachChange(looker_of(rt, tree), maker(rt, alloc, tree));
+            let role = Role::SeeEachChange(holder_of(rt, alloc, tree));
             add_role(rt, tree, &mut roles, role);
         }
         _ => add_two(rt, tree, &mut roles, course),
@@ -308,4 +309,9 @@ fn run_alone<N: Naming, R: Abort + Wait>(rt: &R, new: NewTree)
 #[test]
 fn removals_that_are_refused(rt: HostRuntime) {
     run_alone::<Brand, _>(&rt, made_late(&rt, rt.alloc(), 2));
+}
+
+#[test]
+fn removals_of_unused_nodes(rt: HostRuntime) {
+    unused_nodes::<Brand, _>(&rt, made_wide(&rt, rt.alloc()));
 }

@@ -1,6 +1,6 @@
 -- Whose tags a seat has.
 use Rattle.std.specs.Prelude.{ℕ, List, [], ◌∷◌, ◌++◌, ◌≡◌, ◌+◌}
-use Rattle.kf_rounds.specs.declared.seat.Seat.{Seat}
+use Rattle.kf_rounds.specs.declared.runner.Runner.{Runner}
 use Rattle.kf_rounds.specs.Seats.{board_of}
 use Rattle.kf_workers.specs.declared.tags.Tags.{Tags}
 use Rattle.kf_workers.specs.TagRanges.{first_tag}
@@ -10,6 +10,6 @@ abbrev pub AreAllOf : ℕ → Tags → Type 0
 AreAllOf seat tags = (tags.next ≡ first_tag seat) × (tags.end ≡ first_tag (seat + 1))
 
 -- a seat of this number came last, with all its tags
-abbrev pub AddsOwn : {B : Type 0} → List (Seat B) → List (Seat B) → ℕ → (B → Tags) → Type 0
+abbrev pub AddsOwn : {B : Type 0} → List (Runner B) → List (Runner B) → ℕ → (B → Tags) → Type 0
 AddsOwn {B} old new number tags_of =
-    (seat : Seat B) × (new ≡ old ++ seat ∷ []) × AreAllOf number (tags_of (board_of seat))
+    (seat : Runner B) × (new ≡ old ++ seat ∷ []) × AreAllOf number (tags_of (board_of seat))

@@ -3,14 +3,13 @@
 ghost use Rattle.std.specs.Prelude.{◌≡◌, vec_len, IfOk};
 
 use crate::common::Common;
-use crate::finder::Finder;
+use crate::hidden_file::HiddenFile;
 use crate::script_ops::ScriptOps;
 use crate::tags::Tags;
-use crate::token::Token;
 use kf_core::{Limits, Refusal};
 use kf_files::{BoxedFile, PageApart};
 use kf_notify::Posts;
-use kf_shared::Naming;
+use kf_shared::{Naming, PathHolder};
 use std::alloc::Global;
 use std::sync::Wait;
 
@@ -40,10 +39,10 @@ pub struct WorkerBoard<'x, W: ScriptOps, N: Naming, R: Wait> {
     common: &'x Common<'x, W, N>,
     posts: Posts,
     tags: Tags,
-    finder: Option<Finder<N>>,
+    holder: Option<PathHolder<N>>,
     files: Vec<Option<BoxedFile<N>>>,
     pages: Vec<Box<PageApart>>,
-    tokens: Vec<Option<Token<N>>>,
+    tokens: Vec<Option<HiddenFile<N>>>,
     page: Vec<u8>,
     ghost letters: { vec_len files ≡ 26 },
     ghost whole_page: { vec_len page ≡ 4096 },
@@ -61,17 +60,17 @@ fn no_files<N: Naming>(alloc: Global) -> Result<Vec<Option<BoxedFile<N>>>, Refus
     Ok(files)
 }
 
-/// What finds nodes without the lock. None if a node may have few holds, or there was no memory.
-fn new_finder<W: ScriptOps, N: Naming, R: Wait>(
+/// What holds nodes without the lock. None if a node may have few holds, or there was no memory.
+fn new_holder<W: ScriptOps, N: Naming, R: Wait>(
     rt: &R,
     alloc: Global,
     common: &Common<'_, W, N>,
     limits: Limits,
-) -> Option<Finder<N>> {
+) -> Option<PathHolder<N>> {
     if limits.holds() < MANY_HOLDS {
         return None;
     }
-    Finder::new(rt, alloc, &common.tree).ok()
+    PathHolder::new(alloc, &mut common.tree.edit(rt)).ok()
 }
 
 impl<'x, W: ScriptOps, N: Naming, R: Wait> WorkerBoard<'x, W, N, R> {
@@ -94,7 +93,7 @@ impl<'x, W: ScriptOps, N: Naming, R: Wait> WorkerBoard<'x, W, N, R> {
                 common,
                 posts,
                 tags,
-                finder: new_finder(rt, alloc, common, limits),
+                holder: new_holder(rt, alloc, common, limits),
                 files,
                 pages: Vec::new(alloc),
                 tokens,

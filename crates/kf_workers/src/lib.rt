@@ -6,7 +6,7 @@
 
 mod board;
 mod common;
-mod finder;
+mod hidden_file;
 mod reading;
 mod run;
 mod script_ops;
@@ -14,7 +14,6 @@ mod serving;
 mod tags;
 mod tell;
 mod texts;
-mod token;
 mod whole;
 
 pub use reading::read_script;

@@ -11,7 +11,7 @@ use crate::script_ops::ScriptOps;
 use crate::tags::Tags;
 use kf_core::{Limits, Refusal};
 use kf_notify::Posts;
-use kf_rounds::{Seat, run_rounds};
+use kf_rounds::{Runner, run_rounds};
 use kf_script::{Reply, RunFault};
 use kf_shared::{Naming, NewTree, SharedTree};
 use std::alloc::Global;
@@ -25,7 +25,7 @@ const MOST_LOOKS: u32 = 65_536;
 
 /// Adds a seat with a new board, which has the tags of its number.
 fn add_seat<'x, W: ScriptOps, N: Naming, R: Wait>(
-    seats: &mut Vec<Seat<WorkerBoard<'x, W, N, R>>>,
+    seats: &mut Vec<Runner<WorkerBoard<'x, W, N, R>>>,
     rt: &'x R,
     alloc: Global,
     common: &'x Common<'x, W, N>,
@@ -40,7 +40,7 @@ fn add_seat<'x, W: ScriptOps, N: Naming, R: Wait>(
     let reply = Reply::new(alloc)?;
     let tags = Tags::of_seat(seats.len() as u64);
     let board = WorkerBoard::new(rt, alloc, common, posts.another()?, tags, limits)?;
-    match seats.push(Seat::new(alloc, board, reply)) {
+    match seats.push(Runner::new(alloc, board, reply)) {
         Ok(()) => Ok(()),
         Err(refused) => {
             refused.value.into_board().end();
@@ -51,7 +51,7 @@ fn add_seat<'x, W: ScriptOps, N: Naming, R: Wait>(
 
 /// Adds the owner's seat and one for each worker.
 fn add_seats<'x, W: ScriptOps, N: Naming, R: Wait>(
-    seats: &mut Vec<Seat<WorkerBoard<'x, W, N, R>>>,
+    seats: &mut Vec<Runner<WorkerBoard<'x, W, N, R>>>,
     rt: &'x R,
     alloc: Global,
     common: &'x Common<'x, W, N>,
@@ -71,7 +71,7 @@ fn add_seats<'x, W: ScriptOps, N: Naming, R: Wait>(
 }
 
 /// Ends each seat: its files are closed, and what it hid is shown.
-fn end_all<W: ScriptOps, N: Naming, R: Wait>(mut seats: Vec<Seat<WorkerBoard<'_, W, N, R>>>) {
+fn end_all<W: ScriptOps, N: Naming, R: Wait>(mut seats: Vec<Runner<WorkerBoard<'_, W, N, R>>>) {
     while let Some(seat) = seats.pop() {
         seat.into_board().end();
     }
@@ -80,7 +80,7 @@ fn end_all<W: ScriptOps, N: Naming, R: Wait>(mut seats: Vec<Seat<WorkerBoard<'_,
 
 /// Runs a script on new seats, which are left for the caller to end.
 fn run_seats<'x, W: ScriptOps + Sync, N: Naming + Send + Sync, R: Threads + Wait + Sync>(
-    seats: &mut Vec<Seat<WorkerBoard<'x, W, N, R>>>,
+    seats: &mut Vec<Runner<WorkerBoard<'x, W, N, R>>>,
     rt: &'x R,
     alloc: Global,
     common: &'x Common<'x, W, N>,

@@ -1,5 +1,5 @@
-//! A hot node: threads go in and out through its gate, each by its own lane, while the node is removed. When the
-//! removal returns, nobody is inside, and nobody comes in any longer.
+//! A hot node: threads go in and out through its gate, each by its own lane, while the node is removed.
+//! When the removal returns, nobody is inside, and nobody comes in any longer.
 
 ghost use Rattle.std.specs.Prelude.{◌≡◌, IfOk};
 ghost use Rattle.kf_core.specs.declared.caller.Phase.TheVariants as phase_of;

@@ -1,5 +1,5 @@
-//! An object that many threads call, in two ways: by a gate in front of one node, and by twins, a node for each
-//! thread.
+//! An object that many threads call, in two ways: by a gate in front of one node, and by twins, a node for
+//! each thread.
 #![tactic(auto)]
 
 mod hot;

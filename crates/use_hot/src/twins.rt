@@ -1,6 +1,7 @@
-//! Twins: an object is a directory that is not activated, with a live file for each thread. Each thread goes in
-//! and out by its own file, so no thread writes what another reads; one removal of the directory removes and
-//! drains them all. The files are entered by holds, and no listing and no path of readers leads to them.
+//! Twins: an object is a directory that is not activated, with a live file for each thread. Each thread
+//! goes in and out by its own file, so no thread writes what another reads; one removal of the directory
+//! removes and drains them all. The files are entered by holds, and no listing and no path of readers leads
+//! to them.
 
 ghost use Rattle.std.specs.Prelude.{◌≡◌};
 

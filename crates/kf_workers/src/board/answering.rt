@@ -1,15 +1,28 @@
 //! The board's reply to each request.
 
 ghost use Rattle.std.specs.Prelude.{◌<◌};
-ghost use Rattle.kf_workers.specs.Replies.{AreBytes, AreNames, IsCount, IsLinkReply};
+ghost use Rattle.kf_workers.specs.Replies.{AreBytes, AreNames, IsCount, IsKey, IsLinkReply};
 
 use super::WorkerBoard;
 use crate::script_ops::ScriptOps;
 use crate::tell::{tell_changed, tell_done, tell_key, tell_seen};
+use kf_core::{Key, Refusal};
 use kf_files::{FileError, Want};
 use kf_script::{Board, Reply, Request};
 use kf_shared::Naming;
 use std::sync::Wait;
+
+/// `mkdir`, `link`, `plug`: the key of the new node.
+fn answer_made(made: Result<Key, Refusal>, reply: &mut Reply)
+    ensures { IsKey reply.new }
+{
+    tell_key(reply, made.map_err(FileError::Refused));
+}
+
+/// What an open file is for.
+fn wanted(read: bool, write: bool) -> Want {
+    Want { read, write }
+}
 
 impl<W: ScriptOps, N: Naming, R: Wait> WorkerBoard<'_, W, N, R> {
     /// `ls`: the names.
@@ -58,18 +71,13 @@ impl<W: ScriptOps, N: Naming, R: Wait> Board for WorkerBoard<'_, W, N, R> {
 
     fn answer(&mut self, request: &Request<'_>, reply: &mut Reply) {
         match *request {
-            Request::MakeDirectory { path, is_live } => tell_key(
-                reply,
-                self.make_directory(path, is_live)
-                    .map_err(FileError::Refused),
-            ),
+            Request::MakeDirectory { path, is_live } => {
+                answer_made(self.make_directory(path, is_live), reply);
+            }
             Request::MakeFile { path, mode, text } => {
                 tell_key(reply, self.make_file(path, mode, text));
             }
-            Request::MakeLink { path, target } => tell_key(
-                reply,
-                self.make_link(path, target).map_err(FileError::Refused),
-            ),
+            Request::MakeLink { path, target } => answer_made(self.make_link(path, target), reply),
             Request::Activate { path } => tell_done(reply, self.activate(path)),
             Request::ListNames { path } => self.answer_list(path, reply),
             Request::Stat { path } => tell_seen(reply, self.stat(path)),
@@ -81,13 +89,7 @@ impl<W: ScriptOps, N: Naming, R: Wait> Board for WorkerBoard<'_, W, N, R> {
                 path,
                 reads,
                 writes,
-            } => {
-                let want = Want {
-                    read: reads,
-                    write: writes,
-                };
-                tell_done(reply, self.open(file, path, want));
-            }
+            } => tell_done(reply, self.open(file, path, wanted(reads, writes))),
             Request::ReadFile { file, offset, most } => self.answer_read(file, offset, most, reply),
             Request::WriteFile { file, text } => self.answer_write(file, text, reply),
             Request::PollFile { file } => tell_changed(reply, self.poll(file)),
@@ -97,9 +99,7 @@ impl<W: ScriptOps, N: Naming, R: Wait> Board for WorkerBoard<'_, W, N, R> {
             Request::Show { path } => tell_done(reply, self.show(path)),
             Request::CountCommands => reply.set_number(self.count_commands()),
             Request::Compact => tell_done(reply, self.compact()),
-            Request::Plug { name, text } => {
-                tell_key(reply, self.plug(name, text).map_err(FileError::Refused));
-            }
+            Request::Plug { name, text } => answer_made(self.plug(name, text), reply),
             Request::Unplug { name } => tell_done(reply, self.unplug(name)),
             Request::Wait => reply.set_done(),
         }

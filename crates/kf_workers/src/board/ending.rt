@@ -2,10 +2,9 @@
 
 use super::WorkerBoard;
 use super::files::close_file;
-use crate::finder::Finder;
 use crate::script_ops::ScriptOps;
 use kf_files::BoxedFile;
-use kf_shared::Naming;
+use kf_shared::{Naming, PathHolder};
 use std::sync::Wait;
 
 /// Closes each file that is open: nothing is left of them that a clause could speak of.
@@ -18,10 +17,10 @@ pub fn close_all<N: Naming>(mut files: Vec<Option<BoxedFile<N>>>) {
     files.destroy_empty();
 }
 
-/// Ends what finds nodes without the lock.
-pub fn end_finder<N: Naming>(finder: Option<Finder<N>>) {
-    if let Some(finder) = finder {
-        finder.end();
+/// Ends what holds nodes without the lock, and gives its own hold back.
+pub fn end_holder<N: Naming>(holder: Option<PathHolder<N>>) {
+    if let Some(holder) = holder {
+        holder.end().release();
     }
 }
 
@@ -34,14 +33,14 @@ impl<W: ScriptOps, N: Naming, R: Wait> WorkerBoard<'_, W, N, R> {
             common,
             posts: _,
             tags: _,
-            finder,
+            holder,
             files,
             pages: _,
             mut tokens,
             page: _,
         } = self;
         close_all(files);
-        end_finder(finder);
+        end_holder(holder);
         while let Some(place) = tokens.pop() {
             if let Some(token) = place {
                 let mut editor = common.tree.edit(rt);

@@ -1,11 +1,10 @@
 //! The requests on open files, and notify.
 
-ghost use Rattle.std.specs.Prelude.{◌≡◌, ◌<◌, IfOk, IfSome, OnOk, length};
+ghost use Rattle.std.specs.Prelude.{◌≡◌, ◌<◌, IfOk, OnOk, length};
 ghost use Rattle.kf_workers.specs.Replies.{AreBytes, IsCount};
 
 use super::WorkerBoard;
 use crate::common::Common;
-use crate::finder::Finder;
 use crate::script_ops::ScriptOps;
 use crate::tell::tell_read;
 use kf_core::{Key, Node, Refusal};
@@ -56,30 +55,20 @@ impl<W: ScriptOps, N: Naming, R: Wait> WorkerBoard<'_, W, N, R> {
     fn hold_live(&mut self, path: &[u8]) -> Result<Hold, Refusal>
         ensures table { IfOk result (λ hold. hold.table ≡ N.table) }
     {
-        if let Some(hold) = Self::found(&mut self.finder, path) {
-            return Ok(hold);
+        if let Some(holder) = &mut self.holder {
+            return holder.hold(self.rt, &self.common.tree, path);
         }
         let mut editor = self.common.tree.edit(self.rt);
         let key = editor.state().lookup(path)?;
         editor.hold(key)
     }
 
-    /// A hold of the live node at a path, if it is found without the tree lock.
-    fn found(finder: &mut Option<Finder<N>>, path: &[u8]) -> Option<Hold>
-        ensures table { IfSome result (λ hold. hold.table ≡ N.table) }
-    {
-        match finder {
-            Some(finder) => finder.find(path),
-            None => None,
-        }
-    }
-
     /// Gives a hold back, to make the next one of.
     fn give_back(&mut self, hold: Hold)
         requires table { hold.table ≡ N.table }
     {
-        match &mut self.finder {
-            Some(finder) => finder.give_back(hold),
+        match &mut self.holder {
+            Some(holder) => holder.release(hold),
             None => hold.release(),
         }
     }

@@ -3,27 +3,27 @@
 ghost use Rattle.std.specs.Prelude.{◌≡◌, IfSome};
 
 use super::WorkerBoard;
+use crate::hidden_file::HiddenFile;
 use crate::script_ops::ScriptOps;
-use crate::token::Token;
 use kf_core::{Key, Refusal};
 use kf_shared::{Editor, Naming};
 use std::sync::Wait;
 
 /// Shows the file of a token again, and gives its hold back.
-fn show_token<N: Naming>(editor: &mut Editor<'_, N>, token: Token<N>) {
+fn show_token<N: Naming>(editor: &mut Editor<'_, N>, token: HiddenFile<N>) {
     editor.show(token.into_hidden()).release();
 }
 
 impl<W: ScriptOps, N: Naming, R: Wait> WorkerBoard<'_, W, N, R> {
     /// Shows the file of a token again. One turn of the tree lock.
-    pub(super) fn spend(&self, token: Token<N>) {
+    pub(super) fn spend(&self, token: HiddenFile<N>) {
         let mut editor = self.common.tree.edit(self.rt);
         show_token(&mut editor, token);
     }
 
     /// Keeps a token in its slot. While it is kept the slot is not given again, so it is the slot's only one:
     /// where another lay there, or there is no such slot, the file is shown again.
-    fn keep(&mut self, token: Token<N>) {
+    fn keep(&mut self, token: HiddenFile<N>) {
         let slot = token.key().slot as usize;
         while self.tokens.len() <= slot && self.tokens.len() < self.tokens.capacity() {
             self.tokens.push_reserved(None);
@@ -45,7 +45,7 @@ impl<W: ScriptOps, N: Naming, R: Wait> WorkerBoard<'_, W, N, R> {
         let hold = editor.hold(key)?;
         match editor.hide_and_wait(self.rt, hold) {
             Ok(hidden) => {
-                self.keep(Token::new(hidden));
+                self.keep(HiddenFile::new(hidden));
                 Ok(())
             }
             Err((hold, refusal)) => {
@@ -56,7 +56,7 @@ impl<W: ScriptOps, N: Naming, R: Wait> WorkerBoard<'_, W, N, R> {
     }
 
     /// Takes this board's token of a node out, if it has one.
-    fn take_token(tokens: &mut Vec<Option<Token<N>>>, key: Key) -> Option<Token<N>>
+    fn take_token(tokens: &mut Vec<Option<HiddenFile<N>>>, key: Key) -> Option<HiddenFile<N>>
         ensures own { IfSome result (λ token. token.key ≡ key) }
     {
         let place = tokens.get_mut(key.slot as usize)?;

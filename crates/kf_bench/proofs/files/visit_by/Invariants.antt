@@ -2,4 +2,4 @@ use Rattle.std.specs.Prelude.{◌≡◌}
 use Rattle.kf_bench.proofs.files.visit_by.Given as goal
 
 abbrev pub invariant-loop : goal.invariant-loop
-invariant-loop g l = (l.holds.by.table ≡ g.N.Naming.table) × (l.kept.post.slot ≡ l.slot)
+invariant-loop g l = l.kept.post.slot ≡ l.slot

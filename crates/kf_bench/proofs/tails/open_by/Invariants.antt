@@ -2,4 +2,4 @@ use Rattle.std.specs.Prelude.{◌≡◌}
 use Rattle.kf_bench.proofs.tails.open_by.Given as goal
 
 abbrev pub invariant-loop : goal.invariant-loop
-invariant-loop g l = (l.holds.by.table ≡ g.N.Naming.table) × (l.kept.post.slot ≡ 65)
+invariant-loop g l = l.kept.post.slot ≡ 65

@@ -1,7 +1,7 @@
 use Rattle.std.proofs.Common.{rules}
 use Rattle.kf_handles.specs.Calls.{key_in}
 use Rattle.kf_handles.specs.Tasks.{SteppedBehind}
-use Rattle.kf_handles.specs.declared.questions.Reply.TheVariants as told
+use Rattle.kf_handles.specs.declared.questions.TreeReply.TheVariants as told
 use Rattle.kf_handles.specs.declared.questions.Task.TheVariants as asks
 use Rattle.kf_handles.proofs.Refusals.{step_told}
 use Rattle.kf_handles.proofs.tasks.hide.Goals as goal

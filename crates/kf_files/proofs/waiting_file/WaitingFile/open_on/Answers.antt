@@ -1,4 +1,3 @@
-use Rattle.std.proofs.Common.{rules}
 use Rattle.kf_files.proofs.Waits.{visits_told, opens_told}
 use Rattle.kf_files.proofs.waiting_file.WaitingFile.open_on.Goals as goal
 

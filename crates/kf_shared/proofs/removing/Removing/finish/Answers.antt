@@ -1,4 +1,5 @@
-use Rattle.std.proofs.Common.{rules, subst}
+use Rattle.std.proofs.Common.{rules, List, subst}
+use Rattle.kf_words.specs.Callers.{Handle}
 use Rattle.kf_shared.specs.Sections.{AllFinished}
 use Rattle.kf_shared.proofs.Receipts.{same_owner_keys}
 use Rattle.kf_shared.proofs.Removed.{all_made}
@@ -9,5 +10,5 @@ returns-clause-keys g c = same_owner_keys _ _ (search rules)
 
 pub returns-clause-finished : goal.returns-clause-finished
 returns-clause-finished g c =
-    subst (λ holds. AllFinished holds c.finish_each.result.items) c.self.view_is
-    (all_made c.self.inside.receipts.items c.self.inside.holds.items c.finish_each.result.items c.self.invariant.1 c.finish_each.ensures.finished)
+    subst (λ (holds : List Handle). AllFinished holds c.finish_each.result.items) c.into_parts-holds.ensures.holds
+    (all_made c.into_parts-holds.result.1.items c.into_parts-holds.result.0.items c.finish_each.result.items c.into_parts-holds.ensures.none c.finish_each.ensures.finished)

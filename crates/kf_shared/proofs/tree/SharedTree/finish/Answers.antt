@@ -1,36 +1,21 @@
-use Rattle.std.proofs.Common.{sym, ◌∙◌}
 use Rattle.kf_words.specs.Callers.{seat_view}
-use Rattle.kf_shared.proofs.Hearing.{made_more, prefix_trans}
-use Rattle.kf_shared.proofs.Finishing.{told_more, waits_first, waits_rested, waits_on, waited_all, was_ok}
+use Rattle.kf_shared.proofs.Finishing.{seat_on}
+use Rattle.kf_shared.proofs.Hearing.{prefix_self, prefix_trans, waited_more}
 use Rattle.kf_shared.proofs.Removed.{finished_on}
 use Rattle.kf_shared.proofs.tree.SharedTree.finish.Goals as goal
 
-pub loop-init : goal.loop-init
-loop-init g c = waits_first c.args.hold c.wait_drained-drained.result c.wait_drained-drained.ensures.same c.wait_drained-drained.ensures.waited
+pub returns-clause-same : goal.returns-clause-same
+returns-clause-same g c = seat_on c.args.hold c.wait_drained-drained.result c.finish_drained.result c.wait_drained-drained.ensures.same c.finish_drained.ensures.same
 
-pub loop-preserved-then-is_err : goal.loop-preserved-then-is_err
-loop-preserved-then-is_err g c =
-    let u = c.unlink_alone-unlinked in
-    waits_rested c.args.hold c.loop.drained u.new.drained c.loop.invariant u.ensures.same u.ensures.later c.rest.new.self c.rest.ensures.as_before c.rest.ensures.rested
+pub returns-clause-waited : goal.returns-clause-waited
+returns-clause-waited g c = (seat_view c.wait_drained-drained.result, c.wait_drained-drained.ensures.waited, c.finish_drained.ensures.rested)
 
-pub loop-preserved : goal.loop-preserved
-loop-preserved g c =
-    let u = c.unlink_alone-unlinked in
-    waits_on c.args.hold c.loop.drained u.new.drained c.loop.invariant u.ensures.same u.ensures.later c.in-Err.back c.in-Err.ensures.same c.in-Err.ensures.made
+pub returns-clause-later : goal.returns-clause-later
+returns-clause-later g c =
+    prefix_trans c.args.hold.seen.steps c.wait_drained-drained.result.seen.steps c.finish_drained.result.seen.steps
+    (waited_more _ _ (seat_view c.args.hold) (seat_view c.wait_drained-drained.result) c.wait_drained-drained.ensures.waited) c.finish_drained.ensures.later
 
-pub returns-in-Ok-clause-waited : goal.returns-in-Ok-clause-waited
-returns-in-Ok-clause-waited g c =
-    let u = c.unlink_alone-unlinked in
-    waited_all c.args.hold c.loop.drained u.new.drained c.loop.invariant u.ensures.same u.ensures.later c.in-Ok.parted c.in-Ok.ensures.made
-
-pub returns-in-Ok-clause-later : goal.returns-in-Ok-clause-later
-returns-in-Ok-clause-later g c =
-    let u = c.unlink_alone-unlinked in
-    prefix_trans c.args.hold.seen.steps u.new.drained.seen.steps c.in-Ok.parted.seen.steps
-    (told_more c.args.hold c.loop.drained u.new.drained c.loop.invariant u.ensures.same u.ensures.later) (made_more _ (seat_view u.new.drained) (seat_view c.in-Ok.parted) c.in-Ok.ensures.made)
-
-pub returns-in-Ok-clause-finished : goal.returns-in-Ok-clause-finished
-returns-in-Ok-clause-finished g c =
-    let u = c.unlink_alone-unlinked in
-    finished_on c.args.hold c.loop.drained u.new.drained c.in-Ok.parted c.loop.invariant.same.key c.loop.invariant.later
-    (made_more _ (seat_view u.new.drained) (seat_view c.in-Ok.parted) c.in-Ok.ensures.made) (was_ok u.result (sym c.is_err.ensures.value ∙ c.if-is_err.false) u.ensures.done)
+pub returns-clause-finished : goal.returns-clause-finished
+returns-clause-finished g c =
+    finished_on c.args.hold c.wait_drained-drained.result c.finish_drained.result c.finish_drained.result c.wait_drained-drained.ensures.same.key
+    (waited_more _ _ (seat_view c.args.hold) (seat_view c.wait_drained-drained.result) c.wait_drained-drained.ensures.waited) (prefix_self c.finish_drained.result.seen.steps) c.finish_drained.ensures.finished

@@ -7,13 +7,13 @@ use kf_shared::Naming;
 use kf_words::Hidden;
 use std::marker::{Model, PhantomData};
 
-/// What can show a hidden file of this tree again. It must be spent, by [`Token::into_hidden`].
-pub struct Token<N: Naming> {
+/// What can show a hidden file of this tree again. It must be spent, by [`HiddenFile::into_hidden`].
+pub struct HiddenFile<N: Naming> {
     hidden: Hidden,
     name: PhantomData<N>,
 }
 
-impl<N: Naming> Model for Token<N> {
+impl<N: Naming> Model for HiddenFile<N> {
     ghost use Rattle.std.specs.Prelude.{◌≡◌};
     ghost use Rattle.kf_words.specs.Callers.{Handle};
 
@@ -24,15 +24,15 @@ impl<N: Naming> Model for Token<N> {
     ghost invariant = { λ t. t.hidden.table ≡ N.table };
 }
 
-impl<N: Naming> Token<N> {
+impl<N: Naming> HiddenFile<N> {
     /// The token of a hidden file of this tree.
     ///
     /// Condition: it is of the table of the name.
-    pub fn new(hidden: Hidden) -> Token<N>
+    pub fn new(hidden: Hidden) -> HiddenFile<N>
         requires { hidden.table ≡ N.table }
         ensures { result ≡ hidden }
     {
-        Token {
+        HiddenFile {
             hidden,
             name: PhantomData,
         }
@@ -50,7 +50,7 @@ impl<N: Naming> Token<N> {
         ensures same { result ≡ self }
         ensures table { result.table ≡ N.table }
     {
-        let Token { hidden, name: _ } = self;
+        let HiddenFile { hidden, name: _ } = self;
         hidden
     }
 }

@@ -2,7 +2,7 @@ use Rattle.std.proofs.Common.{◌≤◌, ◌+◌, length, take, arith, refl, ◌
 use Rattle.std.specs.Prelude.{Result, Ok, Err, IsOk, OnOk}
 use Rattle.std.proofs.lemmas.List.{take_min, length-take}
 use Rattle.std.proofs.Math.Nat.{min_comm}
-use Rattle.kf_handles.proofs.file.put.Goals as goal
+use Rattle.kf_files.proofs.contents.put.Goals as goal
 
 on_ok : {A E : Type 0} (r : Result A E) (P : Type 0) → IsOk r → OnOk r P → P
 on_ok (Ok a) P i p = p

@@ -1,0 +1,144 @@
+-- The last turn of a removal under the lock: the first of its nodes are unlinked, and its last hold learns of that.
+use Rattle.std.proofs.Common.{◌≡◌, zero, suc, ◌<◌, inl, inr, List, [], ◌∷◌, ◌++◌, length, drop, get_or, refl, sym, ap, ◌∙◌, subst, arith}
+use Rattle.std.proofs.lemmas.List.{append_assoc, length-append, same_from_push}
+use mathlib.Core.List.{IsPrefix}
+use Rattle.kf_core.specs.declared.command.Command.TheVariants.{Unlink}
+use Rattle.kf_core.specs.declared.key.Key.{Key}
+use Rattle.kf_words.specs.declared.note.Note.{Note}
+use Rattle.kf_words.specs.declared.note.Note.TheVariants.{Did, Border}
+use Rattle.kf_words.specs.declared.sight.Seen.{Seen}
+use Rattle.kf_words.specs.Callers.{TableId, Handle, having_seen}
+use Rattle.kf_words.specs.Notes.{history_of}
+use Rattle.kf_shared.specs.Locked.{Locked, Adds, history}
+use Rattle.kf_shared.specs.Receipts.{AreOf, Owner, owner, owners_of}
+use Rattle.kf_shared.specs.Removal.{keys_of}
+use Rattle.kf_shared.specs.Sections.{AllEnded, AllFinished, AreFinished, HasMet, SawMore, WasEnded, WasFinished, unlinks_of}
+use Rattle.kf_shared.proofs.Receipts.{keys_more, owners_more, same_owner_keys}
+
+-- what has the same owners is of the same table
+pub same_owner_tables : (table : TableId) (xs ys : List Handle) → owners_of ys ≡ owners_of xs → AreOf table xs → AreOf table ys
+same_owner_tables table [] [] e a i d l = a i d l
+same_owner_tables table [] (y ∷ ys) e a i d l = absurd (let n = ap length e in omega (arith, n))
+same_owner_tables table (x ∷ xs) [] e a i d l = absurd (omega (arith, l))
+same_owner_tables table (x ∷ xs) (y ∷ ys) e a zero d l = ap (λ (os : List Owner). (get_or os 0 (owner x)).seat.table) e ∙ a 0 x (omega arith)
+same_owner_tables table (x ∷ xs) (y ∷ ys) e a (suc i) d l = same_owner_tables table xs ys (ap (λ (os : List Owner). drop 1 os) e) (λ j f m. a (suc j) f (omega (arith, m))) i d (omega (arith, l))
+
+-- so is the last of a list
+pub last_of : (table : TableId) (items front : List Handle) (last : Handle) → items ≡ front ++ last ∷ [] → AreOf table items → last.table ≡ table
+last_of table items front last e a = go front (subst (AreOf table) e a)
+  where
+    go : (front : List Handle) → AreOf table (front ++ last ∷ []) → last.table ≡ table
+    go [] h = h 0 last (omega arith)
+    go (x ∷ xs) h = go xs (λ i d l. h (suc i) d (omega (arith, l)))
+
+-- a list of which the last has met has the nodes that it had
+pub met_owners : (found : List Note) (seen : Seen) (before after : List Handle) → HasMet found seen before after → owners_of after ≡ owners_of before
+met_owners found seen before after h = elim h [
+  | inl none ↦ ap owners_of none.1
+  | inr m ↦ ap owners_of m.3 ∙ owners_more m.0 (having_seen seen m.1 ∷ []) ∙ sym (owners_more m.0 (m.1 ∷ [])) ∙ sym (ap owners_of m.2)
+]
+
+pub met_pushed : (front before after : List Handle) (last met : Handle) (seen : Seen) → before ≡ front ++ last ∷ [] → met ≡ having_seen seen last → after ≡ front ++ met ∷ [] → owners_of after ≡ owners_of before
+met_pushed front before after last met seen was is push =
+    ap owners_of push ∙ ap (λ h. owners_of (front ++ h ∷ [])) is ∙ owners_more front (having_seen seen last ∷ []) ∙ sym (owners_more front (last ∷ [])) ∙ sym (ap owners_of was)
+
+-- the last of a list is the last of it behind others
+pub met_behind : (found : List Note) (seen : Seen) (others before after : List Handle) (last : Handle) (front : List Handle) → before ≡ front ++ last ∷ [] → after ≡ front ++ having_seen seen last ∷ [] → IsPrefix (history_of last.seen) found
+    → HasMet found seen (others ++ before) (others ++ after)
+met_behind found seen others before after last front was is came = inr (
+  others ++ front,
+  last,
+  ap (λ l. others ++ l) was ∙ sym (append_assoc others front (last ∷ [])),
+  ap (λ l. others ++ l) is ∙ sym (append_assoc others front (having_seen seen last ∷ [])),
+  came,
+)
+
+-- so it is behind more of them, if the list is not empty
+pub met_far : (found : List Note) (seen : Seen) (others more before after : List Handle) → 0 < length before → HasMet found seen before after → HasMet found seen (others ++ (more ++ before)) (others ++ (more ++ after))
+met_far found seen others more before after some h = elim h [
+  | inl none ↦ absurd (omega (arith, none.0, some))
+  | inr m ↦ met_behind found seen others (more ++ before) (more ++ after) m.1 (more ++ m.0)
+      (ap (λ l. more ++ l) m.2 ∙ sym (append_assoc more m.0 (m.1 ∷ []))) (ap (λ l. more ++ l) m.3 ∙ sym (append_assoc more m.0 (having_seen seen m.1 ∷ []))) m.4
+]
+
+unlinks_more : (keys : List Key) (key : Key) → unlinks_of (keys ++ key ∷ []) ≡ unlinks_of keys ++ Did (Unlink key) ∷ []
+unlinks_more [] key = refl
+unlinks_more (k ∷ keys) key = ap (λ notes. Did (Unlink k) ∷ notes) (unlinks_more keys key)
+
+-- one unlink more was noted
+pub next_gone : (first before after : List Note) (gone : List Key) (key : Key) → before ≡ first ++ unlinks_of gone → after ≡ before ++ Did (Unlink key) ∷ [] → after ≡ first ++ unlinks_of (gone ++ key ∷ [])
+next_gone first before after gone key so noted =
+    noted ∙ ap (λ l. l ++ Did (Unlink key) ∷ []) so ∙ append_assoc first (unlinks_of gone) (Did (Unlink key) ∷ []) ∙ ap (λ l. first ++ l) (sym (unlinks_more gone key))
+
+pub next_unlinked : (first before after : List Note) (receipts new : List Handle) (hold parted : Handle) → before ≡ first ++ unlinks_of (keys_of receipts) → after ≡ before ++ Did (Unlink hold.key) ∷ [] → parted.key ≡ hold.key
+    → new ≡ receipts ++ parted ∷ [] → after ≡ first ++ unlinks_of (keys_of new)
+next_unlinked first before after receipts new hold parted so noted key push =
+    next_gone first before after (keys_of receipts) hold.key so noted
+    ∙ ap (λ ks. first ++ unlinks_of ks) (ap (λ k. keys_of receipts ++ k ∷ []) (sym key) ∙ sym (keys_more receipts (parted ∷ [])) ∙ sym (ap keys_of push))
+
+-- the keys of those that are receipts are the first, and so they are with the next
+pub first_keys : (receipts rest holds : List Handle) → owners_of receipts ++ owners_of rest ≡ owners_of holds → IsPrefix (keys_of receipts) (keys_of holds)
+first_keys receipts rest holds e = (keys_of rest, sym (keys_more receipts rest) ∙ same_owner_keys (receipts ++ rest) holds (owners_more receipts rest ∙ e))
+
+pub first_keys_next : (receipts rest holds : List Handle) (next : Handle) → owners_of receipts ++ owner next ∷ owners_of rest ≡ owners_of holds → IsPrefix (keys_of receipts ++ next.key ∷ []) (keys_of holds)
+first_keys_next receipts rest holds next e = (
+  keys_of rest,
+  append_assoc (keys_of receipts) (next.key ∷ []) (keys_of rest) ∙ sym (keys_more receipts (next ∷ rest)) ∙ same_owner_keys (receipts ++ next ∷ rest) holds (owners_more receipts (next ∷ rest) ∙ e),
+)
+
+owners_long : (xs : List Handle) → length (owners_of xs) ≡ length xs
+owners_long [] = refl
+owners_long (x ∷ xs) = (let n = owners_long xs in omega (arith, n))
+
+-- the last was met, the first were unlinked, a border was noted, and the last was met again
+pub ended_turn : (old mid cut shut : Locked) (seen last_seen : Seen) (removing holds rest ended : List Handle) (gone : List Key) → HasMet (history old) seen removing holds → history mid ≡ history old
+    → owners_of rest ≡ owners_of holds → IsPrefix gone (keys_of holds) → history cut ≡ history mid ++ unlinks_of gone → Adds cut shut Border → HasMet (history shut) last_seen rest ended → history_of last_seen ≡ history shut
+    → WasEnded old removing ended
+ended_turn old mid cut shut seen last_seen removing holds rest ended gone first same owners prefix noted border again still = record {
+  owners = met_owners (history shut) last_seen rest ended again ∙ as_before;
+  gone = gone;
+  first = subst (IsPrefix gone) (same_owner_keys holds removing (met_owners (history old) seen removing holds first)) prefix;
+  came = λ front last e. (elim first [
+    | inl none ↦ absurd (let n = sym none.0 ∙ ap length e ∙ length-append front (last ∷ []) in omega (arith, n))
+    | inr m ↦ subst (λ (h : Handle). IsPrefix (history_of h.seen) (history old)) (same_from_push m.0 front m.1 last (sym m.2 ∙ e)).1 m.4
+  ]);
+  seen = λ front last e. (elim again [
+    | inl none ↦ absurd (let n = sym none.0 ∙ sym (owners_long rest) ∙ ap length (as_before ∙ ap owners_of e ∙ owners_more front (last ∷ [])) ∙ length-append (owners_of front) (owner last ∷ []) in omega (arith, n))
+    | inr m ↦ (
+      m.0,
+      having_seen last_seen m.1,
+      m.3,
+      still ∙ border ∙ ap (λ l. l ++ Border ∷ []) (noted ∙ ap (λ l. l ++ unlinks_of gone) same),
+    )
+  ]);
+}
+  where
+    as_before : owners_of rest ≡ owners_of removing
+    as_before = owners ∙ met_owners (history old) seen removing holds first
+
+-- each that is finished has ended, and so have receipts that were there
+all_ended : (holds receipts : List Handle) → AllFinished holds receipts → AllEnded holds receipts
+all_ended [] [] all = tt
+all_ended [] (r ∷ receipts) all = absurd all
+all_ended (h ∷ holds) [] all = absurd all
+all_ended (h ∷ holds) (r ∷ receipts) all = (inr all.0, all_ended holds receipts all.1)
+
+ended_behind : (before holds receipts : List Handle) → AllEnded holds receipts → AllEnded (before ++ holds) (before ++ receipts)
+ended_behind [] holds receipts all = all
+ended_behind (b ∷ before) holds receipts all = (inl refl, ended_behind before holds receipts all)
+
+pub ended_rest : (before holds receipts : List Handle) → AreFinished before holds receipts → AllEnded (before ++ holds) receipts
+ended_rest before holds receipts f = subst (AllEnded (before ++ holds)) (sym f.1) (ended_behind before holds f.0 (all_ended holds f.0 f.2))
+
+-- one was seen drained before
+pub ended_drained : (before new holds receipts : List Handle) (drained receipt : Handle) → new ≡ before ++ receipt ∷ [] → SawMore drained.seen receipt.seen → WasFinished drained receipt → AreFinished new holds receipts
+    → AllEnded (before ++ drained ∷ holds) receipts
+ended_drained before new holds receipts drained receipt push more finished f =
+    subst (AllEnded (before ++ drained ∷ holds)) (sym (f.1 ∙ ap (λ l. l ++ f.0) push ∙ append_assoc before (receipt ∷ []) f.0))
+    (ended_behind before (drained ∷ holds) (receipt ∷ f.0) (inr (more, finished), all_ended holds f.0 f.2))
+
+pub owners_drained : (before new holds receipts : List Handle) (drained receipt : Handle) → new ≡ before ++ receipt ∷ [] → owner receipt ≡ owner drained → owners_of receipts ≡ owners_of new ++ owners_of holds
+    → owners_of receipts ≡ owners_of (before ++ drained ∷ holds)
+owners_drained before new holds receipts drained receipt push same e =
+    e ∙ ap (λ l. owners_of l ++ owners_of holds) push ∙ ap (λ l. l ++ owners_of holds) (owners_more before (receipt ∷ [])) ∙ append_assoc (owners_of before) (owner receipt ∷ []) (owners_of holds)
+    ∙ ap (λ o. owners_of before ++ o ∷ owners_of holds) same ∙ sym (owners_more before (drained ∷ holds))
