@@ -1,3 +1,5 @@
+pub mod Makings
 pub mod Openings
 pub mod Places
 pub mod Told
+pub mod Locked

@@ -11,12 +11,14 @@ use Rattle.kf_tree.specs.Paths.{and_then, seen}
 use Rattle.kf_words.specs.Callers.{Handle}
 use Rattle.kf_words.specs.Nodes.{WasFull}
 use Rattle.kf_words.specs.declared.view.MasterView.{MasterView}
-use Rattle.kf_shared.specs.Locked.{Locked}
+use Rattle.kf_shared.specs.Finding.{HasSeenTaken}
+use Rattle.kf_shared.specs.Locked.{Locked, history}
+use Rattle.kf_shared.specs.Noted.{tree_in}
+use Rattle.kf_words.specs.declared.note.Note.{Note}
 use Rattle.kf_notify.specs.PostStates.{PostState, Numbers, id_of, IsNewPost}
 use Rattle.kf_files.specs.declared.contents.Want.{Want}
 use Rattle.kf_files.specs.Files.{new_file, allows}
 use Rattle.kf_files.specs.Opened.{Opened}
-use Rattle.kf_looks.specs.Paths.{led}
 use Rattle.kf_looks.specs.Links.{IsLater}
 use Rattle.kf_live.specs.Lookers.{Onlooker, links_seen}
 use Rattle.kf_words.specs.Makers.{Maker}
@@ -73,10 +75,6 @@ pub record IsSameOpener (old new : OpenerState) : Type 0 where
   pub later : IsLater (links_seen new.looker) (links_seen old.looker)
   pub posts : new.posts ≡ old.posts
 
--- in what the looker has seen, the path leads to this key
-abbrev pub LedTo : Onlooker → List ℕ → Key → Type 0
-LedTo looker path key = option_map (λ found. found.key) (led (links_seen looker) looker.root path) ≡ Some key
-
 -- the post is new, of these numbers and of the slot of the file at the place
 abbrev pub IsPostAt : Tree → Result Key Refusal → Numbers → PostState → Type 0
 IsPostAt t place numbers post =
@@ -108,6 +106,25 @@ FileRefused s m' slots want place refusal = MatchResult place
 abbrev pub OpenRefused : Locked → MasterView → ℕ → List ℕ → Want → Refusal → Type 0
 OpenRefused s m' slots path want refusal = FileRefused s m' slots want
     (file_at s.state.tree (seen s.state.tree s.state.root path)) refusal
+
+-- the file was opened under the lock: it is of what the path named in the tree when the lock was taken, and
+-- this hold has seen that
+pub record OpenedLocked (by : Handle) (numbers : Numbers) (path : List ℕ) (want : Want)
+    (file : Opened Handle) : Type 0 where
+  pub found : List Note
+  pub root : Key
+  pub at : HasSeenTaken by root found
+  pub opened : OpenedAt (tree_in found) root numbers path want file
+
+-- no file was opened under the lock, and this is why, by what the lock kept when it was taken; and this hold
+-- has seen that
+pub record RefusedLocked (by : Handle) (slots : ℕ) (path : List ℕ) (want : Want)
+    (why : Refusal) : Type 0 where
+  pub kept : Locked
+  pub after : MasterView
+  pub at : HasSeenTaken by kept.state.root (history kept)
+  pub tree : kept.state.tree ≡ tree_in (history kept)
+  pub refused : OpenRefused kept after slots path want why
 
 -- the post is of these numbers and of the slot of the file at the place, and what its last load found is not
 -- below the number that each slot had at first

@@ -1,15 +1,17 @@
 //! Binary attributes with their callbacks, one row for each.
-ghost use Rattle.std.specs.Prelude.{◌≡◌, ◌==◌, ◌<◌, ◌≤◌, ℕ, Bool, true, false, List, length, Ok, Err, Result, IfOk, MatchBool};
+ghost use Rattle.std.specs.Prelude.{◌≡◌, ◌==◌, ◌-◌, ◌<◌, ◌≤◌, ℕ, Bool, true, false, List, ◌∷◌, length, Ok, Err, Result, IfOk, MatchBool};
 ghost use Rattle.kf_files.specs.declared.ops.Fault.{Fault};
 ghost use Rattle.kf_files.specs.Binary.{front_of};
 ghost use Rattle.kf_files.specs.Files.{is_writable, slice};
 ghost use Rattle.kf_driver.specs.Buffers.{GivesWithin, TakesWithin};
-ghost use Rattle.kf_driver.specs.Tables.{unknown};
+ghost use Rattle.kf_driver.specs.Tables.{no_callback, unknown, visible_if};
 
-use crate::buffers::read_from_buffer;
-use crate::table::DriverTable;
+use crate::buffers::{read_from_buffer, write_to_buffer};
+use crate::table::{DriverTable, Rows, visible_if};
+use arrayvec::ArrayVec;
 use kf_files::{Fault, Page};
 use kf_groups::Attribute;
+use std::sync::{Mutex, Wait};
 
 /// What a binary attribute reads and writes, bytes at an offset with no page (`read` and `write` of `struct
 /// bin_attribute`). Any number of threads may call both at once.
@@ -39,30 +41,31 @@ pub trait BinaryCallbacks {
         ensures written { takes self.now offset bytes.now result };
 }
 
-/// A binary attribute of this many bytes with its callbacks, and the rows after it. Of two rows of one tag
-/// the first counts.
+/// A binary attribute of this many bytes with its callbacks, and the rows after it.
+/// [`rows!`](crate::rows) writes it in a list.
 #[derive(Drop)]
-pub struct BinaryRow<A, B> {
-    tag: u64,
+pub struct BinaryRow<'a, A, B> {
+    attribute: Attribute<'a>,
     size: u64,
     callbacks: A,
     others: B,
 }
 
-impl<A: BinaryCallbacks, B> BinaryRow<A, B> {
-    /// The row of this attribute, before the others. Its callbacks see no byte beyond the size: a read past
-    /// it gives none, a write past it is Fault 6 (`ENXIO`). If there is no such end, it is `u64::MAX`.
+impl<'a, A: BinaryCallbacks, B> BinaryRow<'a, A, B> {
+    /// The row of this attribute, before the others. Its tag does not count: the table has its own.
+    /// Its callbacks see no byte beyond the size: a read past it gives none, a write past it is Fault 6
+    /// (`ENXIO`). If there is no such end, it is `u64::MAX`.
     ///
     /// Condition: its mode lets somebody write exactly if the callbacks take writes.
-    pub fn new(attribute: Attribute, size: u64, callbacks: A, others: B) -> BinaryRow<A, B>
-        requires mode { is_writable attribute.mode ≡ A.writes callbacks }
-        ensures tag { result.tag ≡ attribute.entry.tag }
+    pub fn new(attribute: Attribute<'a>, size: u64, callbacks: A, others: B) -> BinaryRow<'a, A, B>
+        requires writable { is_writable attribute.mode ≡ A.writes callbacks }
+        ensures attribute { result.attribute ≡ attribute.entry }
         ensures size { result.size ≡ size }
         ensures callbacks { result.callbacks ≡ callbacks }
         ensures others { result.others ≡ others }
     {
         BinaryRow {
-            tag: attribute.tag,
+            attribute,
             size,
             callbacks,
             others,
@@ -70,38 +73,74 @@ impl<A: BinaryCallbacks, B> BinaryRow<A, B> {
     }
 }
 
-impl<A: BinaryCallbacks, B: DriverTable> DriverTable for BinaryRow<A, B> {
-    ghost may_show = { λ row tag filled. MatchBool (tag == row.tag)
-        (filled ≡ Err unknown) (B.may_show row.others tag filled) };
+impl<'a, A, B> BinaryRow<'a, A, B> {
+    /// The row, without a file if it is not visible on this device (`is_bin_visible`). The rows after it keep
+    /// their tags.
+    pub fn visible(self, is_visible: bool) -> BinaryRow<'a, A, B>
+        ensures attribute { result.attribute ≡ visible_if is_visible self.entry.attribute }
+        ensures size { result.size ≡ self.entry.size }
+        ensures callbacks { result.callbacks ≡ self.entry.callbacks }
+        ensures others { result.others ≡ self.entry.others }
+    {
+        let BinaryRow {
+            attribute,
+            size,
+            callbacks,
+            others,
+        } = self;
+        BinaryRow {
+            attribute: visible_if(is_visible, attribute),
+            size,
+            callbacks,
+            others,
+        }
+    }
+}
 
-    ghost may_store = { λ row tag bytes answer. MatchBool (tag == row.tag)
-        (answer ≡ Err unknown) (B.may_store row.others tag bytes answer) };
+impl<A: BinaryCallbacks, B: Rows> Rows for BinaryRow<'_, A, B> {
+    ghost attributes = { λ row. row.attribute ∷ B.attributes row.others };
 
-    ghost may_read_at = { λ row tag offset room answer. MatchBool (tag == row.tag)
+    fn push_attributes<'t>(&'t self, first: u64, list: &mut ArrayVec<Attribute<'t>, 64>) {
+        list.push(Attribute {
+            tag: first,
+            ..self.attribute
+        });
+        self.others.push_attributes(first + 1, list);
+    }
+}
+
+impl<A: BinaryCallbacks, B: DriverTable> DriverTable for BinaryRow<'_, A, B> {
+    ghost may_show = { λ row tag filled. MatchBool (tag == 0)
+        (filled ≡ Err unknown) (B.may_show row.others (tag - 1) filled) };
+
+    ghost may_store = { λ row tag bytes answer. MatchBool (tag == 0)
+        (answer ≡ Err unknown) (B.may_store row.others (tag - 1) bytes answer) };
+
+    ghost may_read_at = { λ row tag offset room answer. MatchBool (tag == 0)
         (GivesWithin (A.gives row.callbacks offset) row.size offset room answer)
-        (B.may_read_at row.others tag offset room answer) };
+        (B.may_read_at row.others (tag - 1) offset room answer) };
 
-    ghost may_write_at = { λ row tag offset bytes answer. MatchBool (tag == row.tag)
+    ghost may_write_at = { λ row tag offset bytes answer. MatchBool (tag == 0)
         (TakesWithin (A.takes row.callbacks offset) row.size offset bytes answer)
-        (B.may_write_at row.others tag offset bytes answer) };
+        (B.may_write_at row.others (tag - 1) offset bytes answer) };
 
     fn show(&self, tag: u64, page: &mut Page) -> Result<(), Fault> {
-        if tag == self.tag {
+        if tag == 0 {
             return Err(Fault { number: 22 });
         }
-        self.others.show(tag, page)
+        self.others.show(tag - 1, page)
     }
 
     fn store(&self, tag: u64, bytes: &[u8]) -> Result<usize, Fault> {
-        if tag == self.tag {
+        if tag == 0 {
             return Err(Fault { number: 22 });
         }
-        self.others.store(tag, bytes)
+        self.others.store(tag - 1, bytes)
     }
 
     fn read_at(&self, tag: u64, offset: u64, out: &mut [u8]) -> Result<usize, Fault> {
-        if tag != self.tag {
-            return self.others.read_at(tag, offset, out);
+        if tag != 0 {
+            return self.others.read_at(tag - 1, offset, out);
         }
         if offset >= self.size {
             return Ok(0);
@@ -111,8 +150,8 @@ impl<A: BinaryCallbacks, B: DriverTable> DriverTable for BinaryRow<A, B> {
     }
 
     fn write_at(&self, tag: u64, offset: u64, bytes: &[u8]) -> Result<usize, Fault> {
-        if tag != self.tag {
-            return self.others.write_at(tag, offset, bytes);
+        if tag != 0 {
+            return self.others.write_at(tag - 1, offset, bytes);
         }
         if offset >= self.size {
             return Err(Fault { number: 6 });
@@ -122,14 +161,14 @@ impl<A: BinaryCallbacks, B: DriverTable> DriverTable for BinaryRow<A, B> {
     }
 }
 
-/// Bytes that are only read (`BIN_ATTR_SIMPLE_RO`).
+/// Bytes that are only read (`BIN_ATTR_SIMPLE_RO`). A write is Fault 5 (`EIO`), and changes nothing.
 #[derive(Clone, Copy)]
 pub struct Bytes<'a>(pub &'a [u8]);
 
 impl BinaryCallbacks for Bytes<'_> {
     ghost gives = { λ bytes offset room answer. answer ≡ Ok (slice bytes.0.now offset room) };
 
-    ghost takes = { λ _ _ _ answer. answer ≡ Err unknown };
+    ghost takes = { λ _ _ _ answer. answer ≡ Err no_callback };
 
     ghost writes = { λ _. false };
 
@@ -138,6 +177,36 @@ impl BinaryCallbacks for Bytes<'_> {
     }
 
     fn write_at(&self, _offset: u64, _bytes: &[u8]) -> Result<usize, Fault> {
-        Err(Fault { number: 22 })
+        Err(Fault { number: 5 })
+    }
+}
+
+/// Bytes in memory that are read and written, which a lock keeps whole. Any thread may write them meanwhile,
+/// so no clause gives them. The lock is a leaf: a thread that has it takes no other and waits for nobody.
+#[derive(Drop)]
+pub struct Buffer<'a, R> {
+    rt: &'a R,
+    bytes: Mutex<Vec<u8>>,
+}
+
+impl<'a, R> Buffer<'a, R> {
+    /// The attribute of these bytes. Their number stays.
+    pub fn new(rt: &'a R, bytes: Vec<u8>) -> Buffer<'a, R> {
+        Buffer {
+            rt,
+            bytes: Mutex::new(bytes),
+        }
+    }
+}
+
+impl<R: Wait> BinaryCallbacks for Buffer<'_, R> {
+    fn read_at(&self, offset: u64, out: &mut [u8]) -> Result<usize, Fault> {
+        let bytes = self.bytes.lock(self.rt);
+        Ok(read_from_buffer(bytes.as_slice(), offset, out))
+    }
+
+    fn write_at(&self, offset: u64, bytes: &[u8]) -> Result<usize, Fault> {
+        let mut buffer = self.bytes.lock(self.rt);
+        Ok(write_to_buffer(buffer.as_mut_slice(), offset, bytes))
     }
 }

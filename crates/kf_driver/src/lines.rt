@@ -1,47 +1,59 @@
 //! The rows of many lines that are alike.
-ghost use Rattle.std.specs.Prelude.{◌≡◌, ◌+◌, ◌*◌, ◌<◌, MatchOption, Some, None};
+ghost use Rattle.std.specs.Prelude.{◌≡◌, ◌+◌, ◌-◌, ◌*◌, ◌^◌, ◌<◌, ◌≤◌, ℕ, length, IfErr, IfOk, MatchOption, Some, None};
+ghost use Rattle.kf_groups.specs.declared.attribute.Group.{Group};
+ghost use Rattle.kf_groups.specs.Keeps.{Keeps};
+ghost use Rattle.kf_groups.specs.Making.{GroupMade};
+ghost use Rattle.kf_groups.specs.TakenBack.{GroupRefused};
 ghost use Rattle.kf_driver.specs.Places.{place_of, row_of};
+ghost use Rattle.kf_driver.specs.Tables.{IsGroup, numbered};
 
 use crate::line_tags::LineTags;
-use crate::table::DriverTable;
+use crate::publishing::create_from;
+use crate::table::{DriverTable, Rows};
+use kf_core::{Key, Refusal};
 use kf_files::{Fault, Page};
-use kf_groups::Attribute;
+use kf_shared::{Editor, Naming};
 
 impl LineTags {
-    /// The tag of a file of a line, both counted from 0. No other file of any line has it.
-    ///
-    /// Condition: a line has this many files.
-    pub fn of(&self, line: u32, file: u32) -> u64
-        requires within { file < self.now.files }
-        ensures tag { result ≡ line * self.now.files + file + self.now.first }
-        ensures placed { place_of self.now result ≡ Some (line, file) }
+    // The first tag of a line.
+    fn first_of(&self, line: u32) -> u64
+        ensures first { result ≡ line * self.now.files + self.now.first }
+        ensures room { result + self.now.files ≤ 2 ^ 64 - 1 }
+        ensures placed { (file : ℕ) → file < self.now.files
+            → place_of self.now (line * self.now.files + self.now.first + file) ≡ Some (line, file) }
     {
-        self.tag_of(line, u64::from(file))
+        u64::from(line) * u64::from(self.files) + u64::from(self.first)
     }
 
-    /// The attribute of a line: that of this name and mode whose tag among those of one line is its own.
+    /// Makes the files of one line in a directory, or in one made for them, as [`create_rows`] does: the
+    /// attribute at place `i` of the rows, counted from 0, gets the tag of this line's file `i`, which no
+    /// other file of any line has.
     ///
-    /// Condition: a line has a file of that tag.
-    pub fn attribute<'a>(&self, line: u32, attribute: Attribute<'a>) -> Attribute<'a>
-        requires within { attribute.tag < self.now.files }
-        ensures name { result.name.now ≡ attribute.entry.name.now }
-        ensures mode { result.mode ≡ attribute.entry.mode }
-        ensures placed { place_of self.now result.tag ≡ Some (line, attribute.entry.tag) }
+    /// Conditions: there are at most 64 rows, and at most as many as a line has files.
+    ///
+    /// Refusals, in order: those of [`kf_groups::create_group`], which leave what it says.
+    pub fn create_rows<N: Naming, T: Rows>(
+        &self,
+        editor: &mut Editor<'_, N>,
+        dir: Key,
+        name: Option<&[u8]>,
+        line: u32,
+        rows: &T,
+    ) -> Result<Key, Refusal>
+        requires few { length (T.attributes rows.now) ≤ 64 }
+        requires within { length (T.attributes rows.now) ≤ self.now.files }
+        ensures made { IfOk result (λ key. (group : Group) × IsGroup name.entry
+            (numbered (line * self.now.files + self.now.first) (T.attributes rows.now)) group
+            × GroupMade editor.old.state editor.new.state dir group key) }
+        ensures placed { (file : ℕ) → file < self.now.files
+            → place_of self.now (line * self.now.files + self.now.first + file) ≡ Some (line, file) }
+        ensures refused { IfErr result (λ refusal. (group : Group) × IsGroup name.entry
+            (numbered (line * self.now.files + self.now.first) (T.attributes rows.now)) group
+            × GroupRefused editor.old editor.new dir group refusal) }
+        ensures others { Keeps editor.old.state.tree editor.new.state.tree }
+        ensures claims { editor.new.claims ≡ editor.old.claims }
     {
-        Attribute {
-            name: attribute.name,
-            mode: attribute.mode,
-            tag: self.tag_of(line, attribute.tag),
-        }
-    }
-
-    // The tag of a file of a line.
-    fn tag_of(&self, line: u32, file: u64) -> u64
-        requires within { file < self.now.files }
-        ensures tag { result ≡ line * self.now.files + file + self.now.first }
-        ensures placed { place_of self.now result ≡ Some (line, file) }
-    {
-        u64::from(line) * u64::from(self.files) + file + u64::from(self.first)
+        create_from(editor, dir, name, self.first_of(line), rows)
     }
 
     // Which file of which line has the tag. None if it is below all of them.

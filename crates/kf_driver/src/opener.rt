@@ -1,45 +1,44 @@
 //! Opening files by their paths without the tree's lock.
-ghost use Rattle.std.specs.Prelude.{◌≡◌, ◌<◌, IfOk, IfSome};
+ghost use Rattle.std.specs.Prelude.{◌≡◌, ◌<◌, ◌⊎◌, IfErr, IfOk, IfSome};
+ghost use Rattle.kf_core.specs.declared.refusal.Refusal.TheVariants as refusal_of;
 ghost use Rattle.kf_live.specs.Live.{Say};
 ghost use Rattle.kf_live.specs.Lookers.{links_seen};
-ghost use Rattle.kf_driver.specs.Opening.{IsOpened, IsSameOpener, LedTo};
+ghost use Rattle.kf_shared.specs.Finding.{LedTo};
+ghost use Rattle.kf_shared.specs.Locked.{IsWhole, history};
+ghost use Rattle.kf_shared.specs.Sections.{IsTaken};
+ghost use Rattle.kf_driver.specs.Opening.{IsOpened, IsSameOpener, OpenedLocked, RefusedLocked};
 
 use crate::files::{open_held, open_path_on};
 use kf_core::{Node, Refusal};
 use kf_files::{BoxedFile, PageApart, Want};
-use kf_live::Looker;
 use kf_notify::Posts;
-use kf_shared::{Editor, Naming, SharedTree, hold_path};
-use kf_words::Holds;
+use kf_shared::{Editor, Naming, PathHolder, SharedTree};
 use std::alloc::Global;
-use std::marker::{Model, PhantomData};
+use std::marker::Model;
 use std::sync::Wait;
 
 /// How many pages are kept.
 const MOST_PAGES: usize = 16;
 
-/// What one thread opens files of a tree by, without the tree's lock: a looker, a maker of holds with a hold
-/// of the root, a handle of the event numbers, and the pages of files that were closed, up to 16. Each thread
-/// has its own.
+/// What one thread opens files of a tree by, without the tree's lock: a maker of holds of paths, a handle of
+/// the event numbers, and the pages of files that were closed, up to 16. Each thread has its own.
 ///
 /// In a tree that was not made `with_looks` each open takes the lock.
 pub struct Opener<N: Naming> {
-    looker: Looker,
-    holds: Holds,
+    holder: PathHolder<N>,
     posts: Posts,
     pages: Vec<Box<PageApart>>,
-    name: PhantomData<N>,
 }
 
 impl<N: Naming> Model for Opener<N> {
-    ghost use Rattle.std.specs.Prelude.{◌≡◌, ◌≤◌, vec_capacity};
+    ghost use Rattle.std.specs.Prelude.{◌≤◌, vec_capacity};
     ghost use Rattle.kf_driver.specs.Opening.{OpenerState};
 
     ghost Value = { OpenerState };
 
-    ghost view = { λ o. record { looker = o.looker; holds = o.holds; posts = o.posts } };
+    ghost view = { λ o. record { looker = o.holder.looker; holds = o.holder.holds; posts = o.posts } };
 
-    ghost invariant = { λ o. (o.holds.by.table ≡ N.table) × (16 ≤ vec_capacity o.pages) };
+    ghost invariant = { λ o. 16 ≤ vec_capacity o.pages };
 }
 
 impl<N: Naming> Opener<N> {
@@ -59,26 +58,17 @@ impl<N: Naming> Opener<N> {
         ensures claims { editor.new.claims ≡ editor.old.claims }
     {
         let pages = Vec::with_capacity(alloc, MOST_PAGES)?;
-        let looker = editor.looker()?;
-        let root = editor.state().root();
-        let by = editor.hold(root)?;
-        match Holds::new(alloc, by) {
-            Ok(holds) => Ok(Opener {
-                looker,
-                holds,
-                posts,
-                pages,
-                name: PhantomData,
-            }),
-            Err((by, refusal)) => {
-                by.release();
-                Err(refusal)
-            }
-        }
+        let holder = PathHolder::new(alloc, editor)?;
+        Ok(Opener {
+            holder,
+            posts,
+            pages,
+        })
     }
 
     // A page of a file that was closed, or else a new one.
     fn page(&mut self) -> Result<Box<PageApart>, Refusal>
+        ensures refused { IfErr result (λ why. why ≡ refusal_of.NoMemory) }
         ensures same { self.new ≡ self.old }
     {
         match self.pages.pop() {
@@ -97,13 +87,13 @@ impl<N: Naming> Opener<N> {
         ensures opened { IfSome result (λ file. IsOpened self.old.posts want file) }
         ensures same { IsSameOpener self.old self.new }
     {
-        let hold = hold_path(&mut self.looker, &mut self.holds, path)?;
+        let hold = self.holder.try_hold(path)?;
         let Node::File { .. } = hold.node() else {
-            self.holds.release(hold);
+            self.holder.release(hold);
             return None;
         };
         let Ok(page) = self.page() else {
-            self.holds.release(hold);
+            self.holder.release(hold);
             return None;
         };
         match open_held(hold, &mut self.posts, want, page) {
@@ -112,13 +102,35 @@ impl<N: Naming> Opener<N> {
         }
     }
 
+    /// Opens the file that a path names, under a lock that was just taken, on a page.
+    fn open_locked(
+        &mut self,
+        editor: &mut Editor<'_, N>,
+        path: &[u8],
+        want: Want,
+        page: Box<PageApart>,
+    ) -> Result<BoxedFile<N>, Refusal>
+        requires whole { IsWhole N.table editor.old }
+        requires taken { IsTaken (history editor.old) }
+        ensures found { IfOk result
+            (λ file. OpenedLocked self.new.holds.by self.old.posts path.now want file) }
+        ensures refused { IfErr result
+            (λ why. RefusedLocked self.new.holds.by self.old.posts.slots path.now want why) }
+        ensures looker { self.new.looker ≡ self.old.looker }
+        ensures posts { self.new.posts ≡ self.old.posts }
+    {
+        self.holder.learn(editor);
+        open_path_on(editor, &mut self.posts, path, want, page)
+    }
+
     /// Opens the file that a path names: without the lock of this tree if that can be, and else under it.
+    /// What it opened, or refused, under the lock was so in the tree of the history when the lock was taken,
+    /// and the opener's own hold has seen that history.
     ///
     /// Refusals: NoMemory (of a page); those of [`open_path`](crate::open_path), which are found under the
     /// lock, in their order.
     ///
-    /// Context: takes the tree's lock where [`Opener::try_open`] finds nothing; its caller must not have it.
-    #[tactic(auto, using(crate::proofs::Openings::of_its_hold))]
+    /// Context: takes the tree's lock if [`Opener::try_open`] finds nothing; its caller must not have it.
     pub fn open<R: Wait>(
         &mut self,
         rt: &R,
@@ -126,14 +138,18 @@ impl<N: Naming> Opener<N> {
         path: &[u8],
         want: Want,
     ) -> Result<BoxedFile<N>, Refusal>
+        ensures found { IfOk result (λ file. LedTo self.new.looker path.now file.hold.key
+            ⊎ OpenedLocked self.new.holds.by self.old.posts path.now want file) }
         ensures opened { IfOk result (λ file. IsOpened self.old.posts want file) }
+        ensures refused { IfErr result (λ why. (why ≡ refusal_of.NoMemory)
+            ⊎ RefusedLocked self.new.holds.by self.old.posts.slots path.now want why) }
         ensures same { IsSameOpener self.old self.new }
     {
         if let Some(file) = self.try_open(path, want) {
             return Ok(file);
         }
         let page = self.page()?;
-        open_path_on(&mut tree.edit(rt), &mut self.posts, path, want, page)
+        self.open_locked(&mut tree.edit(rt), path, want, page)
     }
 
     /// Closes a file. What it had of memory goes to the next ones: these write no count of owners that other
@@ -144,7 +160,7 @@ impl<N: Naming> Opener<N> {
         ensures posts { self.new.posts ≡ self.old.posts }
     {
         let (hold, _post, page) = file.into_parts();
-        self.holds.release(hold);
+        self.holder.release(hold);
         if self.pages.len() < MOST_PAGES {
             self.pages.push_reserved(page);
         }
@@ -155,12 +171,10 @@ impl<N: Naming> Drop for Opener<N> {
     /// Gives its hold of the root back.
     fn drop(self) {
         let Opener {
-            looker: _,
-            holds,
+            holder,
             posts: _,
             pages: _,
-            name: _,
         } = self;
-        holds.end().release();
+        holder.end().release();
     }
 }

@@ -1,11 +1,10 @@
-//! Attributes that are ready to use: a number, a signed number, a switch, a text, and what is only read.
-ghost use Rattle.std.specs.Prelude.{◌≡◌, [], Ok, Err, false};
+//! Attributes that are ready to use: a number, a signed number, a switch and a text.
+ghost use Rattle.std.specs.Prelude.{◌≡◌, [], Ok};
 ghost use Rattle.kf_driver.specs.Ready.{ShowsLine, TakesFlag, TakesNumber, TakesSigned, shown_line};
-ghost use Rattle.kf_driver.specs.Tables.{unknown};
 ghost use Rattle.kf_text.specs.declared.part.Part.TheVariants as part;
 
+use crate::callbacks::{Show, Store};
 use crate::fault::fault_of;
-use crate::table::Callbacks;
 use kf_files::{Fault, Page};
 use kf_text::{Part, emit, read_flag, read_signed, read_unsigned};
 use std::sync::atomic::{AtomicBool, AtomicI64, AtomicU64, Ordering};
@@ -50,15 +49,17 @@ impl Number {
     }
 }
 
-impl Callbacks for Number {
+impl Show for Number {
     ghost shows = { λ _ filled. ShowsLine part.Number filled };
-
-    ghost takes = { λ number bytes answer. TakesNumber number.most bytes answer };
 
     fn show(&self, page: &mut Page) -> Result<(), Fault> {
         emit_line(page, Part::Number(self.get()));
         Ok(())
     }
+}
+
+impl Store for Number {
+    ghost takes = { λ number bytes answer. TakesNumber number.most bytes answer };
 
     fn store(&self, bytes: &[u8]) -> Result<(), Fault> {
         match read_unsigned(bytes, self.most) {
@@ -104,15 +105,17 @@ impl Signed {
     }
 }
 
-impl Callbacks for Signed {
+impl Show for Signed {
     ghost shows = { λ _ filled. ShowsLine part.Signed filled };
-
-    ghost takes = { λ number bytes answer. TakesSigned number.least number.most bytes answer };
 
     fn show(&self, page: &mut Page) -> Result<(), Fault> {
         emit_line(page, Part::Signed(self.get()));
         Ok(())
     }
+}
+
+impl Store for Signed {
+    ghost takes = { λ number bytes answer. TakesSigned number.least number.most bytes answer };
 
     fn store(&self, bytes: &[u8]) -> Result<(), Fault> {
         match read_signed(bytes, self.least, self.most) {
@@ -151,15 +154,17 @@ impl Switch {
     }
 }
 
-impl Callbacks for Switch {
+impl Show for Switch {
     ghost shows = { λ _ filled. ShowsLine part.Flag filled };
-
-    ghost takes = { λ _ bytes answer. TakesFlag bytes answer };
 
     fn show(&self, page: &mut Page) -> Result<(), Fault> {
         emit_line(page, Part::Flag(self.get()));
         Ok(())
     }
+}
+
+impl Store for Switch {
+    ghost takes = { λ _ bytes answer. TakesFlag bytes answer };
 
     fn store(&self, bytes: &[u8]) -> Result<(), Fault> {
         match read_flag(bytes) {
@@ -172,59 +177,15 @@ impl Callbacks for Switch {
     }
 }
 
-/// A text that is only read, with a newline behind it (`DEVICE_STRING_ATTR_RO`).
+/// A text that is shown with a newline behind it; in its row it is a `ReadOnly` (`DEVICE_STRING_ATTR_RO`).
 #[derive(Clone, Copy)]
 pub struct Text<'a>(pub &'a [u8]);
 
-impl Callbacks for Text<'_> {
+impl Show for Text<'_> {
     ghost shows = { λ text filled. filled ≡ Ok (shown_line (part.Text text.0)) };
-
-    ghost takes = { λ _ _ answer. answer ≡ Err unknown };
-
-    ghost stores = { λ _. false };
 
     fn show(&self, page: &mut Page) -> Result<(), Fault> {
         emit_line(page, Part::Text(self.0));
         Ok(())
-    }
-
-    fn store(&self, _bytes: &[u8]) -> Result<(), Fault> {
-        Err(Fault { number: 22 })
-    }
-}
-
-/// An attribute that is only read: each store is Fault 22.
-#[derive(Drop)]
-pub struct ReadOnly<A>(pub A);
-
-impl<A: Callbacks> Callbacks for ReadOnly<A> {
-    ghost shows = { λ only filled. A.shows only.0 filled };
-
-    ghost takes = { λ _ _ answer. answer ≡ Err unknown };
-
-    ghost stores = { λ _. false };
-
-    fn show(&self, page: &mut Page) -> Result<(), Fault> {
-        self.0.show(page)
-    }
-
-    fn store(&self, _bytes: &[u8]) -> Result<(), Fault> {
-        Err(Fault { number: 22 })
-    }
-}
-
-impl<A: Callbacks> Callbacks for &A {
-    ghost shows = { λ lent filled. A.shows lent.now filled };
-
-    ghost takes = { λ lent bytes answer. A.takes lent.now bytes answer };
-
-    ghost stores = { λ lent. A.stores lent.now };
-
-    fn show(&self, page: &mut Page) -> Result<(), Fault> {
-        (**self).show(page)
-    }
-
-    fn store(&self, bytes: &[u8]) -> Result<(), Fault> {
-        (**self).store(bytes)
     }
 }

@@ -1,40 +1,15 @@
 //! Attributes with their callbacks, one row for each.
-ghost use Rattle.std.specs.Prelude.{◌≡◌, ◌==◌, ◌<◌, ◌≤◌, ℕ, Bool, true, List, [], length, Result, Err, IfOk, MatchBool};
+ghost use Rattle.std.specs.Prelude.{◌≡◌, ◌==◌, ◌+◌, ◌-◌, ◌^◌, ◌<◌, ◌≤◌, ◌++◌, ℕ, List, [], ◌∷◌, length, Result, Err, IfOk, MatchBool};
 ghost use Rattle.kf_files.specs.declared.ops.Fault.{Fault};
 ghost use Rattle.kf_files.specs.Binary.{front_of};
-ghost use Rattle.kf_files.specs.Files.{filled_by, is_writable};
-ghost use Rattle.kf_driver.specs.Tables.{TakesAll, unknown};
+ghost use Rattle.kf_files.specs.Files.{filled_by, is_readable, is_writable};
+ghost use Rattle.kf_groups.specs.declared.attribute.Attribute.{Attribute};
+ghost use Rattle.kf_driver.specs.Tables.{TakesAll, numbered, unknown, visible_if};
 
+use crate::callbacks::{Show, Store};
+use arrayvec::ArrayVec;
 use kf_files::{Fault, Page};
 use kf_groups::Attribute;
-
-/// What an attribute shows and stores (`show` and `store` of `struct device_attribute`). Any number of
-/// threads may call both at once. What takes a lock keeps the runtime in its struct: `Label<'a, R>` with
-/// `rt: &'a R` beside its `Mutex`, and `impl<R: Wait> Callbacks for Label<'_, R>`.
-pub trait Callbacks {
-    /// A show may fill a page with these bytes, or give this fault. If a driver does not say, any.
-    ghost shows: { Self → Result (List ℕ) Fault → Type 0 } = { λ _ _. Unit {0} };
-
-    /// A store of these bytes may return this. If a driver does not say what, anything.
-    ghost takes: { Self → List ℕ → Result (Unit {0}) Fault → Type 0 } = { λ _ _ _. Unit {0} };
-
-    /// Whether it takes stores at all.
-    ghost stores: { Self → Bool } = { λ _. true };
-
-    /// Fills the empty page, or gives a fault, as 5 if the device does not respond (`EIO`). What it filled
-    /// before a fault is not shown.
-    fn show(&self, page: &mut Page) -> Result<(), Fault>
-        requires empty { page.old.items ≡ [] }
-        ensures shown { shows self.now (filled_by result page.new.items) };
-
-    /// Takes all of the bytes, 1 to 4,096 of them, or gives a fault, as 5 if the device does not respond
-    /// (`EIO`), or that of what they do not say ([`crate::fault_of`]). For a file that nobody may write it is
-    /// never called.
-    fn store(&self, bytes: &[u8]) -> Result<(), Fault>
-        requires some { 0 < length bytes.now }
-        requires fits { length bytes.now ≤ 4096 }
-        ensures taken { takes self.now bytes.now result };
-}
 
 /// Attributes by their tags.
 pub trait DriverTable {
@@ -76,10 +51,26 @@ pub trait DriverTable {
         ensures written { may_write_at self.now tag offset bytes.now result };
 }
 
-/// An attribute with its callbacks, and the rows after it. Of two rows of one tag the first counts.
+/// A table of rows: the list of a device's attributes, each with its callbacks, down to [`End`]. The row at
+/// place `i`, counted from 0, serves the file of tag `i`, and no other row does.
+/// [`create_rows`](crate::create_rows) makes these files, so nobody writes a tag.
+pub trait Rows: DriverTable {
+    /// The attributes of the rows, in their order.
+    ghost attributes: { Self → List Attribute };
+
+    /// Pushes the attributes of the rows to the list, in their order, with tags from `first` on.
+    ///
+    /// Conditions: the list has room for them, and their tags fit into 64 bits.
+    fn push_attributes<'t>(&'t self, first: u64, list: &mut ArrayVec<Attribute<'t>, 64>)
+        requires room { length list.old.items + length (attributes self.now) ≤ 64 }
+        requires tags { first + length (attributes self.now) ≤ 2 ^ 64 - 1 }
+        ensures pushed { list.new.items ≡ list.old.items ++ numbered first (attributes self.now) };
+}
+
+/// An attribute with its callbacks, and the rows after it. [`rows!`](crate::rows) writes them as a list.
 #[derive(Drop)]
-pub struct Row<A, B> {
-    tag: u64,
+pub struct Row<'a, A, B> {
+    attribute: Attribute<'a>,
     callbacks: A,
     others: B,
 }
@@ -88,65 +79,123 @@ pub struct Row<A, B> {
 #[derive(Clone, Copy)]
 pub struct End;
 
-impl<A: Callbacks, B> Row<A, B> {
-    /// The row of this attribute, before the others.
+/// The attribute, with mode 0 if it is not visible.
+pub(crate) fn visible_if(is_visible: bool, attribute: Attribute) -> Attribute
+    ensures mode { result ≡ visible_if is_visible attribute.entry }
+{
+    let mode = if is_visible { attribute.mode } else { 0 };
+    Attribute { mode, ..attribute }
+}
+
+impl<'a, A: Show + Store, B> Row<'a, A, B> {
+    /// The row of this attribute, before the others. Its tag does not count: the table has its own.
     ///
-    /// Condition: its mode lets somebody write exactly if the callbacks take stores. What is only read is
-    /// a [`crate::ReadOnly`], or says so by the ghost `stores`.
-    pub fn new(attribute: Attribute, callbacks: A, others: B) -> Row<A, B>
-        requires mode { is_writable attribute.mode ≡ A.stores callbacks }
-        ensures tag { result.tag ≡ attribute.entry.tag }
+    /// Conditions: its mode lets somebody read exactly if the callbacks show, and lets somebody write exactly
+    /// if they take stores. What is only read is a [`crate::ReadOnly`], what is only written a
+    /// [`crate::WriteOnly`].
+    pub fn new(attribute: Attribute<'a>, callbacks: A, others: B) -> Row<'a, A, B>
+        requires readable { is_readable attribute.mode ≡ A.can_show callbacks }
+        requires writable { is_writable attribute.mode ≡ A.can_store callbacks }
+        ensures attribute { result.attribute ≡ attribute.entry }
         ensures callbacks { result.callbacks ≡ callbacks }
         ensures others { result.others ≡ others }
     {
         Row {
-            tag: attribute.tag,
+            attribute,
             callbacks,
             others,
         }
     }
 }
 
-impl<A: Callbacks, B: DriverTable> DriverTable for Row<A, B> {
-    ghost may_show = { λ row tag filled. MatchBool (tag == row.tag)
-        (A.shows row.callbacks filled) (B.may_show row.others tag filled) };
+impl<'a, A, B> Row<'a, A, B> {
+    /// The row, without a file if it is not visible on this device (`is_visible`). The rows after it keep
+    /// their tags.
+    pub fn visible(self, is_visible: bool) -> Row<'a, A, B>
+        ensures attribute { result.attribute ≡ visible_if is_visible self.entry.attribute }
+        ensures callbacks { result.callbacks ≡ self.entry.callbacks }
+        ensures others { result.others ≡ self.entry.others }
+    {
+        let Row {
+            attribute,
+            callbacks,
+            others,
+        } = self;
+        Row {
+            attribute: visible_if(is_visible, attribute),
+            callbacks,
+            others,
+        }
+    }
 
-    ghost may_store = { λ row tag bytes answer. MatchBool (tag == row.tag)
-        (TakesAll (A.takes row.callbacks bytes) bytes answer) (B.may_store row.others tag bytes answer) };
+    /// The callbacks of the row, as to give a [`crate::Notifier`] its post.
+    pub fn callbacks(&self) -> &A
+        ensures callbacks { result.now ≡ self.now.callbacks }
+    {
+        &self.callbacks
+    }
 
-    ghost may_read_at = { λ row tag offset room answer. MatchBool (tag == row.tag)
-        (answer ≡ Err unknown) (B.may_read_at row.others tag offset room answer) };
+    /// The rows after it.
+    pub fn others(&self) -> &B
+        ensures others { result.now ≡ self.now.others }
+    {
+        &self.others
+    }
+}
 
-    ghost may_write_at = { λ row tag offset bytes answer. MatchBool (tag == row.tag)
-        (answer ≡ Err unknown) (B.may_write_at row.others tag offset bytes answer) };
+impl<A: Show + Store, B: Rows> Rows for Row<'_, A, B> {
+    ghost attributes = { λ row. row.attribute ∷ B.attributes row.others };
+
+    fn push_attributes<'t>(&'t self, first: u64, list: &mut ArrayVec<Attribute<'t>, 64>) {
+        list.push(Attribute {
+            tag: first,
+            ..self.attribute
+        });
+        self.others.push_attributes(first + 1, list);
+    }
+}
+
+impl<A: Show + Store, B: DriverTable> DriverTable for Row<'_, A, B> {
+    ghost may_show = { λ row tag filled. MatchBool (tag == 0)
+        (A.shows row.callbacks filled) (B.may_show row.others (tag - 1) filled) };
+
+    ghost may_store = { λ row tag bytes answer. MatchBool (tag == 0)
+        (TakesAll (A.takes row.callbacks bytes) bytes answer)
+        (B.may_store row.others (tag - 1) bytes answer) };
+
+    ghost may_read_at = { λ row tag offset room answer. MatchBool (tag == 0)
+        (answer ≡ Err unknown) (B.may_read_at row.others (tag - 1) offset room answer) };
+
+    ghost may_write_at = { λ row tag offset bytes answer. MatchBool (tag == 0)
+        (answer ≡ Err unknown) (B.may_write_at row.others (tag - 1) offset bytes answer) };
 
     fn show(&self, tag: u64, page: &mut Page) -> Result<(), Fault> {
-        if tag == self.tag {
+        if tag == 0 {
             return self.callbacks.show(page);
         }
-        self.others.show(tag, page)
+        self.others.show(tag - 1, page)
     }
 
     fn store(&self, tag: u64, bytes: &[u8]) -> Result<usize, Fault> {
-        if tag == self.tag {
+        if tag == 0 {
             self.callbacks.store(bytes)?;
             return Ok(bytes.len());
         }
-        self.others.store(tag, bytes)
+        self.others.store(tag - 1, bytes)
     }
 
     fn read_at(&self, tag: u64, offset: u64, out: &mut [u8]) -> Result<usize, Fault> {
-        if tag == self.tag {
+        if tag == 0 {
             return Err(Fault { number: 22 });
         }
-        self.others.read_at(tag, offset, out)
+        self.others.read_at(tag - 1, offset, out)
     }
 
     fn write_at(&self, tag: u64, offset: u64, bytes: &[u8]) -> Result<usize, Fault> {
-        if tag == self.tag {
+        if tag == 0 {
             return Err(Fault { number: 22 });
         }
-        self.others.write_at(tag, offset, bytes)
+        self.others.write_at(tag - 1, offset, bytes)
     }
 }
 
@@ -174,4 +223,27 @@ impl DriverTable for End {
     fn write_at(&self, _tag: u64, _offset: u64, _bytes: &[u8]) -> Result<usize, Fault> {
         Err(Fault { number: 22 })
     }
+}
+
+impl Rows for End {
+    ghost attributes = { λ _. [] };
+
+    fn push_attributes<'t>(&'t self, _first: u64, _list: &mut ArrayVec<Attribute<'t>, 64>) {}
+}
+
+/// The rows of a table as a list, in order, down to [`End`]. So `rows! { Row(MAX, max) if has_max,
+/// BinaryRow(DUMP, 64, dump) }` is
+/// `Row::new(MAX, max, BinaryRow::new(DUMP, 64, dump, End)).visible(has_max)`.
+/// A row with `if` has a file only if its condition is true ([`Row::visible`]).
+#[macro_export]
+macro_rules! rows {
+    () => {
+        $crate::End
+    };
+    ($row:ident($($part:expr),* $(,)?) if $visible:expr $(, $($rest:tt)*)?) => {
+        $crate::$row::new($($part,)* $crate::rows!($($($rest)*)?)).visible($visible)
+    };
+    ($row:ident($($part:expr),* $(,)?) $(, $($rest:tt)*)?) => {
+        $crate::$row::new($($part,)* $crate::rows!($($($rest)*)?))
+    };
 }

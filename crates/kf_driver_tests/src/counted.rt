@@ -1,6 +1,6 @@
 //! Callbacks that show how often they were called.
 
-use kf_driver::{Callbacks, fault_of};
+use kf_driver::{Show, Store, fault_of};
 use kf_files::{Fault, Page};
 use kf_text::{Base, Part, emit, emit_at, read_unsigned_in, read_word};
 use std::sync::atomic::{AtomicU64, Ordering};
@@ -13,7 +13,7 @@ pub(crate) struct Counted {
     pub(crate) calls: AtomicU64,
 }
 
-impl Callbacks for Counted {
+impl Show for Counted {
     fn show(&self, page: &mut Page) -> Result<(), Fault> {
         let number = self.calls.fetch_add(1, Ordering::SeqCst);
         emit(page, &[Part::Hex(number), Part::Newline]);
@@ -23,7 +23,9 @@ impl Callbacks for Counted {
         }
         Ok(())
     }
+}
 
+impl Store for Counted {
     fn store(&self, bytes: &[u8]) -> Result<(), Fault> {
         self.calls.fetch_add(0x100, Ordering::SeqCst);
         if read_word(&[b"off", b"on"], bytes).is_ok() {

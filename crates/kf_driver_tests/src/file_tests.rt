@@ -7,11 +7,11 @@ use crate::fixtures::made_with;
 use crate::steps::{Step, walk};
 use kf_core::Refusal;
 use kf_driver::{
-    Driver, End, Notifier, Notifying, Number, Opener, ReadOnly, Row, Signed, Switch, post_of,
+    Driver, Notifying, Number, Opener, ReadOnly, Signed, Switch, create_rows, post_of, rows,
 };
 use kf_files::{Fault, FileError, Want};
-use kf_groups::{Attribute, Group, create_group};
-use kf_notify::{Post, Posts};
+use kf_groups::{Attribute, Group, attribute, create_group};
+use kf_notify::Posts;
 use kf_shared::{Naming, NewTree, SharedTree};
 use std::alloc::Global;
 use std::marker::Brand;
@@ -25,7 +25,7 @@ const INVALID: FileError = FileError::Callback(Fault { number: 22 });
 
 const RANGE: FileError = FileError::Callback(Fault { number: 34 });
 
-static STEPS: [(&[u8], Step); 72] = [
+static STEPS: [(&[u8], Step<'static>); 72] = [
     // Files in slots that have words for look-ups open without the lock, and others do not.
     (b"/c", Step::Opens(Want::BOTH, true, None)),
     (b"/g/r", Step::Opens(Want::READ, true, None)),
@@ -125,7 +125,7 @@ static STEPS: [(&[u8], Step); 72] = [
 ];
 
 /// What opens in a tree that has no words for look-ups.
-static WITHOUT_LOOKS: [(&[u8], Step); 5] = [
+static WITHOUT_LOOKS: [(&[u8], Step<'static>); 5] = [
     (b"/c", Step::Opens(Want::BOTH, false, None)),
     (
         b"/none",
@@ -145,139 +145,76 @@ static WITHOUT_LOOKS: [(&[u8], Step); 5] = [
 /// Its slots are 1 and 2.
 const GROUP: Group<'static> = Group {
     name: Some(b"g"),
-    attributes: &[Attribute {
-        name: b"r",
-        mode: 0o444,
-        tag: 0,
-    }],
+    attributes: &[attribute!(b"r", 0o444, 10)],
 };
 
-/// Their slots are 3 to 8.
-const FILES: Group<'static> = Group {
-    name: None,
-    attributes: &[
-        Attribute {
-            name: b"v",
-            mode: 0o644,
-            tag: 1,
-        },
-        Attribute {
-            name: b"w",
-            mode: 0o644,
-            tag: 2,
-        },
-        Attribute {
-            name: b"s",
-            mode: 0o644,
-            tag: 3,
-        },
-        Attribute {
-            name: b"n",
-            mode: 0o644,
-            tag: 4,
-        },
-        Attribute {
-            name: b"c",
-            mode: 0o644,
-            tag: 5,
-        },
-        Attribute {
-            name: b"unknown",
-            mode: 0o644,
-            tag: 6,
-        },
-    ],
-};
-
-/// Makes the files, and the post of the switch, whose stores raise its event number.
-fn plant<N: Naming, R: Wait>(
-    rt: &R,
-    tree: &SharedTree<N>,
-    posts: &mut Posts,
-) -> Result<Post, Refusal> {
+/// Makes a directory with a file.
+fn plant_group<N: Naming, R: Wait>(rt: &R, tree: &SharedTree<N>) -> Result<(), Refusal> {
     let mut editor = tree.edit(rt);
     let root = editor.state().root();
     create_group(&mut editor, root, &GROUP)?;
-    create_group(&mut editor, root, &FILES)?;
+    Ok(())
+}
+
+/// Makes files without rows. Their slots are 10 to 12.
+fn plant_others<N: Naming, R: Wait>(rt: &R, tree: &SharedTree<N>) -> Result<(), Refusal> {
     let others = [
-        Attribute::read_only(b"all_read", 7),
-        Attribute::write_only(b"owner_writes", 8),
-        Attribute::read_only(b"temperature_of_the_first_core", 9),
-        Attribute::read_only(b"temperature_of_the_first_coil", 10),
+        Attribute::read_write(b"unknown", 7),
+        Attribute::read_only(b"all_read", 8),
+        Attribute::write_only(b"owner_writes", 9),
     ];
+    let mut editor = tree.edit(rt);
+    let root = editor.state().root();
     create_group(&mut editor, root, &Group::new(None, &others))?;
-    post_of(editor.state(), posts, root, b"v")
+    Ok(())
 }
 
-/// The rows of two numbers that are only read.
-type Temperatures = Row<ReadOnly<Number>, Row<ReadOnly<Number>, End>>;
-
-fn temperatures() -> Temperatures {
-    let core = Attribute::read_only(b"temperature_of_the_first_core", 9);
-    let coil = Attribute::read_only(b"temperature_of_the_first_coil", 10);
-    let rows = Row::new(coil, ReadOnly(Number::new(2, 9)), End);
-    Row::new(core, ReadOnly(Number::new(1, 9)), rows)
-}
-
-/// The rows of a switch, two numbers, callbacks that count themselves, and the temperatures.
-type Others = Row<Switch, Row<Signed, Row<Number, Row<Counted, Temperatures>>>>;
-
-fn others() -> Others {
-    let calls = AtomicU64::new(0);
-    let rows = Row::new(
-        Attribute::read_write(b"c", 5),
-        Counted { calls },
-        temperatures(),
-    );
-    let rows = Row::new(
-        Attribute::read_write(b"n", 4),
-        Number::new(5, u64::MAX),
-        rows,
-    );
-    let rows = Row::new(
-        Attribute::read_write(b"s", 3),
-        Signed::new(-1, i64::MIN, 9),
-        rows,
-    );
-    Row::new(Attribute::read_write(b"w", 2), Switch::new(false), rows)
-}
-
-/// The rows of all files, by a post of the first.
-fn table<R: Wait>(rt: &R, post: Post) -> Row<Notifying<'_, Switch, R>, Others> {
-    let switch = Notifying::new(Switch::new(false), Notifier::new(rt, post));
-    Row::new(Attribute::read_write(b"v", 1), switch, others())
-}
-
+/// Makes the files, those of the table in the slots 3 to 9, and walks the steps. The stores of the switch `v`
+/// raise its event number.
 fn answer<N: Naming, R: Abort + Wait>(
     rt: &R,
     tree: &SharedTree<N>,
     opener: &mut Opener<N>,
     posts: &mut Posts,
-    post: Post,
-    steps: &[(&[u8], Step)],
-) {
-    let driver = Driver::new(table(rt, post));
-    walk(rt, tree, &driver, opener, posts, steps);
+    steps: &[(&[u8], Step<'_>)],
+) -> Result<(), Refusal> {
+    let rows = rows! {
+        Row(attribute!(b"w", 0o644), Switch::new(false)),
+        Row(attribute!(b"v", 0o644), Notifying::new(rt, Switch::new(false))),
+        Row(attribute!(b"s", 0o644), Signed::new(-1, i64::MIN, 9)),
+        Row(attribute!(b"n", 0o644), Number::new(5, u64::MAX)),
+        Row(attribute!(b"c", 0o644), Counted { calls: AtomicU64::new(0) }),
+        Row(attribute!(b"temperature_of_the_first_core", 0o444), ReadOnly(Number::new(1, 9))),
+        Row(attribute!(b"temperature_of_the_first_coil", 0o444), ReadOnly(Number::new(2, 9))),
+    };
+    plant_group(rt, tree)?;
+    let mut editor = tree.edit(rt);
+    let root = editor.state().root();
+    create_rows(&mut editor, root, None, &rows)?;
+    let post = post_of(editor.state(), posts, root, b"v")?;
+    drop(editor);
+    plant_others(rt, tree)?;
+    rows.others().callbacks().notifier.set(post);
+    walk(rt, tree, &Driver::new(rows), opener, posts, steps);
+    Ok(())
 }
 
 fn opened<N: Naming, R: Abort + Wait>(
     rt: &R,
     alloc: Global,
     tree: &SharedTree<N>,
-    steps: &[(&[u8], Step)],
+    steps: &[(&[u8], Step<'_>)],
 ) -> Result<(), Refusal> {
     let mut posts = Posts::new(alloc, 13)?;
     let mut opener = Opener::new(alloc, &mut tree.edit(rt), posts.another()?)?;
-    let post = plant(rt, tree, &mut posts)?;
-    answer(rt, tree, &mut opener, &mut posts, post, steps);
-    Ok(())
+    answer(rt, tree, &mut opener, &mut posts, steps)
 }
 
 fn files<N: Naming, R: Abort + Wait>(
     rt: &R,
     alloc: Global,
     new: NewTree,
-    steps: &[(&[u8], Step)],
+    steps: &[(&[u8], Step<'_>)],
 ) -> Result<(), Refusal>
     requires { new.master.table ≡ N.table }
 {

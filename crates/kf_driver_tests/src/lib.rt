@@ -11,6 +11,8 @@ mod fixtures;
 #[cfg(test)]
 mod groups;
 #[cfg(test)]
+mod row_tests;
+#[cfg(test)]
 mod steps;
 #[cfg(test)]
 mod uevents;

@@ -10,21 +10,21 @@ use std::process::Abort;
 use std::sync::Wait;
 
 #[derive(Clone, Copy)]
-pub(crate) enum Step {
+pub(crate) enum Step<'a> {
     /// Whether the file opens for this use without the lock, and why it does not open at all.
     Opens(Want, bool, Option<Refusal>),
     /// The file that the opener opens shows this text.
-    OpensAndShows(&'static [u8]),
+    OpensAndShows(&'a [u8]),
     /// What a read returns.
-    Shows(Result<&'static [u8], FileError>),
+    Shows(Result<&'a [u8], FileError>),
     /// What a write of this text returns.
-    Stores(&'static [u8], Result<usize, FileError>),
+    Stores(&'a [u8], Result<usize, FileError>),
     /// A write of this text is seen by a poll of the file, and not by a poll of the file at the other path.
-    Tells(&'static [u8], &'static [u8]),
+    Tells(&'a [u8], &'a [u8]),
     /// A write of this text is refused, and no poll of either file sees it.
-    Refuses(&'static [u8], &'static [u8]),
+    Refuses(&'a [u8], &'a [u8]),
     /// The same of three notifies by this name in the root's directory.
-    Notifies(&'static [u8], &'static [u8]),
+    Notifies(&'a [u8], &'a [u8]),
 }
 
 /// Opens the file without the lock and closes it, and does both again, with the lock if need be.
@@ -79,7 +79,7 @@ fn shows<N: Naming, T: DriverTable, R: Wait>(
     tree: &SharedTree<N>,
     driver: &Driver<T>,
     file: &mut WaitingFile<N>,
-    told: Result<&'static [u8], FileError>,
+    told: Result<&[u8], FileError>,
 ) -> bool {
     let mut out = [0u8; 32];
     match (file.read(rt, tree, driver, 0, &mut out), told) {
@@ -117,7 +117,7 @@ fn is_polled<N: Naming, T: DriverTable, R: Wait>(
     driver: &Driver<T>,
     posts: &mut Posts,
     (file, other): (&mut WaitingFile<N>, &mut WaitingFile<N>),
-    step: Step,
+    step: Step<'_>,
 ) -> bool {
     let mut out = [0u8; 4];
     let are_shown = file.read(rt, tree, driver, 0, &mut out).is_ok()
@@ -138,7 +138,7 @@ fn is_right<N: Naming, T: DriverTable, R: Wait>(
     driver: &Driver<T>,
     posts: &mut Posts,
     path: &[u8],
-    step: Step,
+    step: Step<'_>,
 ) -> Result<bool, Refusal> {
     let mut file = open_path(&mut tree.edit(rt), posts, path, Want::BOTH)?;
     match step {
@@ -159,7 +159,7 @@ pub(crate) fn walk<N: Naming, T: DriverTable, R: Abort + Wait>(
     driver: &Driver<T>,
     opener: &mut Opener<N>,
     posts: &mut Posts,
-    steps: &[(&[u8], Step)],
+    steps: &[(&[u8], Step<'_>)],
 ) {
     let mut place = 0usize;
     for (path, step) in steps {

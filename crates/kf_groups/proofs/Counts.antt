@@ -64,7 +64,7 @@ same_first None (Some s) keeps few = absurd (omega (arith, few))
 same_first (Some r) y keeps few = keeps r refl
 
 -- a tree of as many slots and at most as many nodes, which keeps the records of another, is that
-kept_all : (old new : Tree) → length new ≡ length old → Keeps old new → node_count new ≤ node_count old → new ≡ old
+pub kept_all : (old new : Tree) → length new ≡ length old → Keeps old new → node_count new ≤ node_count old → new ≡ old
 kept_all [] [] l keeps few = refl
 kept_all [] (y ∷ ys) l keeps few = absurd (omega (arith, l))
 kept_all (x ∷ xs) [] l keeps few = absurd (omega (arith, l))

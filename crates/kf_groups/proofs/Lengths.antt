@@ -14,7 +14,7 @@ use Rattle.kf_tree.specs.Paths.{found}
 use Rattle.kf_tree.specs.TreeLogs.{TreeLog, Stores}
 use Rattle.kf_groups.specs.declared.attribute.Attribute.{Attribute}
 use Rattle.kf_groups.specs.declared.attribute.Group.{Group}
-use Rattle.kf_groups.specs.Attributes.{file_of, shown}
+use Rattle.kf_groups.specs.Attributes.{file_of, own_name, shown}
 use Rattle.kf_groups.specs.Groups.{GroupTakenBack, GroupsTakenBack}
 use Rattle.kf_groups.specs.Making.{MadeByName}
 use Rattle.kf_groups.specs.TakenBack.{EachTookBack, FilesTakenBack, LiveTakenBack, NameTookBack, TakenBackByName, TookBack}
@@ -27,7 +27,7 @@ made : (old new : TreeLog) (dir key : Key) (attributes : List Attribute) (own : 
 made old new dir key attributes None m = stored old new _ m.1.2
 made old new dir key attributes (Some own) m = stored old new _ m.1.2
 
-created : (old new : Locked) (parent key : Key) (name : List ℕ) (node : Node) → Created old new parent name node false key
+pub created : (old new : Locked) (parent key : Key) (name : List ℕ) (node : Node) → Created old new parent name node false key
     → length new.state.tree ≡ length old.state.tree
 created old new parent key name node m = ap length m.changed ∙ length_after old.state.tree (Create key parent name node false)
 
@@ -39,7 +39,7 @@ refused : (old new : Locked) (parent : Key) (name : List ℕ) (node : Node) (why
 refused old new parent name node why (inl c) = same old new c.1
 refused old new parent name node why (inr r) = ap (λ (s : TreeLog). length s.tree) r.1.2.unchanged
 
-took : (old new : Locked) (key : Key) → TookBack old new key → length new.state.tree ≡ length old.state.tree
+pub took : (old new : Locked) (key : Key) → TookBack old new key → length new.state.tree ≡ length old.state.tree
 took old new key (inl r) = ap length r.0.tree
 took old new key (inr t) = stored old.state new.state _ t.4
 
@@ -90,8 +90,8 @@ undone old new dir key attributes (Some own) t = took t.0 new key t.2 ∙ each o
 pub groups_length : (old new : Locked) (dir : Key) (groups : List Group) (why : Refusal) → GroupsTakenBack old new dir groups why
     → length new.state.tree ≡ length old.state.tree
 groups_length old new dir [] why t = absurd t
-groups_length old new dir (group ∷ groups) why (inl t) = group_length old new dir (shown group.attributes.now) group.name why t
+groups_length old new dir (group ∷ groups) why (inl t) = group_length old new dir (shown group.attributes.now) (own_name group) why t
 groups_length old new dir (group ∷ groups) why (inr t) =
-    undone t.1 new dir t.2 (shown group.attributes.now) group.name t.5
+    undone t.1 new dir t.2 (shown group.attributes.now) (own_name group) t.5
     ∙ groups_length t.0 t.1 dir groups why t.4
-    ∙ made old.state t.0.state dir t.2 (shown group.attributes.now) group.name t.3.made
+    ∙ made old.state t.0.state dir t.2 (shown group.attributes.now) (own_name group) t.3.made

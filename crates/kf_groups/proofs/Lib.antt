@@ -12,8 +12,10 @@ pub mod Lacks
 pub mod Makings
 pub mod Lengths
 pub mod Turns
+pub mod Invisible
 pub mod Refusals
 pub mod Fresh
 pub mod Several
+pub mod Directories
 pub mod Removing
 pub mod Leavings

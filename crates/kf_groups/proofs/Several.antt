@@ -24,7 +24,7 @@ use Rattle.kf_tree.specs.TreeLogs.{TreeLog, Stores}
 use Rattle.kf_tree.proofs.Allowed.{linked_record, no_first, not_passed, passed}
 use Rattle.kf_groups.specs.declared.attribute.Attribute.{Attribute}
 use Rattle.kf_groups.specs.declared.attribute.Group.{Group}
-use Rattle.kf_groups.specs.Attributes.{HasNone, cause_by_name, file_fault, file_of, files_cause, group_cause, group_size, has_name, shown}
+use Rattle.kf_groups.specs.Attributes.{HasNone, cause_by_name, file_fault, file_of, files_cause, group_cause, group_size, has_name, own_name, shown}
 use Rattle.kf_groups.specs.Groups.{GroupTakenBack, GroupsMade, GroupsRefused, GroupsTakenBack, IsWithout, clashes, groups_cause, groups_size, makes, shares, shares_by_name}
 use Rattle.kf_groups.specs.Making.{GroupMade, MadeByName}
 use Rattle.kf_groups.specs.Keeps.{Keeps, node_count}
@@ -137,7 +137,7 @@ module _ (old new : TreeLog) (dir key : Key) (group : Group) (l : Lawful old.tre
       → create_fault old.tree root dir name node ≡ None → create_fault new.tree root dir name node ≡ None
   apart name node untargeted other free =
       still_right old.tree new.tree root dir keeps node untargeted name free
-      (no_other old new dir key (shown group.attributes.now) l (either_linked old.tree root dir name node free) group.name made.made name other
+      (no_other old new dir key (shown group.attributes.now) l (either_linked old.tree root dir name node free) (own_name group) made.made name other
       (no_entry old.tree new.tree root dir keeps node untargeted name free))
 
   files_apart : (attributes : List Attribute) → list_any (λ a. own a.name.now) attributes ≡ false
@@ -176,7 +176,7 @@ module _ (old new : TreeLog) (dir key : Key) (group : Group) (l : Lawful old.tre
       let taken = unless (not (clashes others h)) Exists in
       let c = parted (group_cause old.tree root dir h) taken (groups_cause old.tree root dir others) free in
       joined (group_cause new.tree root dir h) taken (groups_cause new.tree root dir others)
-      (by_name h.attributes.now h.name o.0 c.0) c.1 (groups_apart others o.1 c.2)
+      (by_name h.attributes.now (own_name h) o.0 c.0) c.1 (groups_apart others o.1 c.2)
 
 made_stores : (old new : TreeLog) (dir key : Key) (attributes : List Attribute) (own : Option (Bor (List ℕ))) → MadeByName old new dir attributes own key
     → (commands : List Command) × Stores old new commands
@@ -210,7 +210,7 @@ module _ (groups : List Group) (d : Group) (some : 1 ≤ length groups) where
       → groups_cause old.tree old.root dir groups ≡ None → groups_cause new.tree new.root dir rest ≡ None
   others_free old new dir key l keeps made free =
       let c = apart_free old.tree old.root dir free in
-      let stores = (made_stores old new dir key (shown first.attributes.now) first.name made.made).1 in
+      let stores = (made_stores old new dir key (shown first.attributes.now) (own_name first) made.made).1 in
       subst (λ r. groups_cause new.tree r dir rest ≡ None) (sym stores.same_root)
       (groups_apart old new dir key first l keeps made old.root rest c.1 c.2)
 
@@ -237,14 +237,14 @@ module _ (groups : List Group) (d : Group) (some : 1 ≤ length groups) where
       lacking old new why refusal (inr memory) = inr memory
 
   pub later_refused : (old made stopped new : Locked) (dir key : Key) (why : Refusal) → GroupMade old.state made.state dir first key → GroupsTakenBack made stopped dir rest why
-      → GroupTakenBack stopped new dir key (shown first.attributes.now) first.name → GroupsTakenBack old new dir groups why
+      → GroupTakenBack stopped new dir key (shown first.attributes.now) (own_name first) → GroupsTakenBack old new dir groups why
   later_refused old made stopped new dir key why first_made others back =
       subst (λ gs. GroupsTakenBack old new dir gs why) (sym parts) (inr (made, stopped, key, first_made, others, back))
 
 -- nothing of a group was there before it was made
 pub without_before : (old new : TreeLog) (dir key : Key) (group : Group) → GroupMade old new dir group key
-    → IsWithout old.tree dir key (shown group.attributes.now) group.name
-without_before old new dir key group made = go group.name made.no_cause made.made
+    → IsWithout old.tree dir key (shown group.attributes.now) (own_name group)
+without_before old new dir key group made = go (own_name group) made.no_cause made.made
   where
     go : (own : Option (Bor (List ℕ))) → cause_by_name old.tree old.root dir group.attributes.now own ≡ None
         → MadeByName old new dir (shown group.attributes.now) own key → IsWithout old.tree dir key (shown group.attributes.now) own

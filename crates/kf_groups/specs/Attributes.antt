@@ -58,6 +58,14 @@ abbrev pub file_fault : Tree → Key → Option Key → Attribute → Option Ref
 file_fault t root None attribute = name_fault attribute.name.now
 file_fault t root (Some dir) attribute = create_fault t root dir attribute.name.now (file_of attribute)
 
+-- whether there is a file of one of the attributes
+abbrev pub has_files : List Attribute → Bool
+has_files attributes = list_any is_shown attributes
+
+-- the name of the directory that a group makes for its files: none, if the group has no name or no file
+abbrev pub own_name : Group → Option (Bor (List ℕ))
+own_name group = if has_files group.attributes.now then group.name else None
+
 -- what is wrong with the group's own directory or, if it has none, with the one that its files are to stand
 -- in; and with its files
 abbrev pub cause_by_name : Tree → Key → Key → List Attribute → Option (Bor (List ℕ)) → Option Refusal
@@ -72,12 +80,12 @@ cause_by_name t root dir attributes (Some name) = first_cause (
 
 -- why a group is refused, lack of slots and memory aside
 abbrev pub group_cause : Tree → Key → Key → Group → Option Refusal
-group_cause t root dir group = cause_by_name t root dir group.attributes.now group.name
+group_cause t root dir group = cause_by_name t root dir group.attributes.now (own_name group)
 
--- how many nodes the group is: its files, and its directory, if it has one
+-- how many nodes the group is: its files, and its directory, if it makes one
 abbrev pub size_by_name : ℕ → Option (Bor (List ℕ)) → ℕ
 size_by_name files None = files
 size_by_name files (Some name) = suc files
 
 abbrev pub group_size : Group → ℕ
-group_size group = size_by_name (length (shown group.attributes.now)) group.name
+group_size group = size_by_name (length (shown group.attributes.now)) (own_name group)

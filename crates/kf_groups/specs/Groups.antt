@@ -12,7 +12,7 @@ use Rattle.kf_shared.specs.Locked.{Locked}
 use Rattle.kf_tree.specs.TreeLogs.{TreeLog}
 use Rattle.kf_groups.specs.declared.attribute.Attribute.{Attribute}
 use Rattle.kf_groups.specs.declared.attribute.Group.{Group}
-use Rattle.kf_groups.specs.Attributes.{HasNone, group_cause, group_size, has_name, shown}
+use Rattle.kf_groups.specs.Attributes.{HasNone, group_cause, group_size, has_name, own_name, shown}
 use Rattle.kf_groups.specs.Making.{GroupMade}
 use Rattle.kf_groups.specs.TakenBack.{EachTookBack, RoomRefused, TakenBackByName, TookBack}
 
@@ -22,7 +22,7 @@ makes_by_name attributes None name = has_name attributes name
 makes_by_name attributes (Some own) name = bytes_eq own.now name
 
 abbrev pub makes : List ℕ → Group → Bool
-makes name group = makes_by_name (shown group.attributes.now) group.name name
+makes name group = makes_by_name (shown group.attributes.now) (own_name group) name
 
 -- whether it makes an entry that this group makes too
 abbrev pub shares_by_name : Group → List Attribute → Option (Bor (List ℕ)) → Bool
@@ -30,7 +30,7 @@ shares_by_name group attributes None = list_any (λ attribute. makes attribute.n
 shares_by_name group attributes (Some own) = makes own.now group
 
 abbrev pub shares : Group → Group → Bool
-shares group other = shares_by_name group (shown other.attributes.now) other.name
+shares group other = shares_by_name group (shown other.attributes.now) (own_name other)
 
 -- whether one of the others does
 abbrev pub clashes : List Group → Group → Bool
@@ -73,10 +73,10 @@ GroupTakenBack old new dir key attributes (Some own) =
 abbrev pub GroupsTakenBack : Locked → Locked → Key → List Group → Refusal → Type 0
 GroupsTakenBack old new dir [] why = ⊥
 GroupsTakenBack old new dir (group ∷ groups) why =
-    TakenBackByName old new dir (shown group.attributes.now) group.name why
+    TakenBackByName old new dir (shown group.attributes.now) (own_name group) why
     ⊎ ((made stopped : Locked) × (key : Key) × GroupMade old.state made.state dir group key
     × GroupsTakenBack made stopped dir groups why
-    × GroupTakenBack stopped new dir key (shown group.attributes.now) group.name)
+    × GroupTakenBack stopped new dir key (shown group.attributes.now) (own_name group))
 
 -- there was this against the groups, and nothing changed; or there was not, and for lack of a slot or of
 -- memory what was made of them was taken back, all but nodes whose removal was refused

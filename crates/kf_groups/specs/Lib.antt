@@ -4,5 +4,6 @@ pub mod Attributes
 pub mod Making
 pub mod TakenBack
 pub mod Groups
+pub mod Directories
 pub mod Removals
 pub mod Leavings

@@ -9,7 +9,7 @@ use Rattle.kf_core.specs.Tree.{is_linked}
 use Rattle.kf_tree.specs.TreeLogs.{TreeLog, Stores}
 use Rattle.kf_groups.specs.declared.attribute.Attribute.{Attribute}
 use Rattle.kf_groups.specs.declared.attribute.Group.{Group}
-use Rattle.kf_groups.specs.Attributes.{shown, file_of, group_cause}
+use Rattle.kf_groups.specs.Attributes.{shown, file_of, group_cause, own_name}
 
 -- a file is made in the directory, under this key, not live
 abbrev pub creation : Key → Attribute → Key → Command
@@ -42,4 +42,4 @@ MadeByName old new dir attributes (Some name) key = (is_linked old.tree key ≡ 
 -- there was nothing against the group, and it was made; the key is that of the directory with its files
 pub record GroupMade (old new : TreeLog) (dir : Key) (group : Group) (key : Key) : Type 0 where
   pub no_cause : group_cause old.tree old.root dir group ≡ None
-  pub made : MadeByName old new dir (shown group.attributes.now) group.name key
+  pub made : MadeByName old new dir (shown group.attributes.now) (own_name group) key

@@ -15,7 +15,7 @@ use Rattle.kf_shared.specs.Removal.{DoomRefused}
 use Rattle.kf_words.specs.Nodes.{WasPinned}
 use Rattle.kf_groups.specs.declared.attribute.Attribute.{Attribute}
 use Rattle.kf_groups.specs.declared.attribute.Group.{Group}
-use Rattle.kf_groups.specs.Attributes.{file_of, group_cause, shown}
+use Rattle.kf_groups.specs.Attributes.{file_of, group_cause, own_name, shown}
 use Rattle.kf_groups.specs.Making.{creations, live_creations}
 use Rattle.kf_groups.specs.Keeps.{node_count}
 
@@ -111,4 +111,4 @@ GroupRefused old new dir group refusal =
     ((group_cause old.state.tree old.state.root dir group ≡ Some refusal) × (new ≡ old))
     ⊎ ((group_cause old.state.tree old.state.root dir group ≡ None) × (why : Refusal)
     × RoomRefused old.state.tree new.state.tree why refusal
-    × TakenBackByName old new dir (shown group.attributes.now) group.name why)
+    × TakenBackByName old new dir (shown group.attributes.now) (own_name group) why)

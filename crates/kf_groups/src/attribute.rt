@@ -2,8 +2,27 @@
 ghost use Rattle.std.specs.Prelude.{◌≡◌};
 ghost use Rattle.kf_groups.specs.Modes.{IsMode};
 
-/// An attribute (`struct attribute`).
-#[derive(Clone, Copy)]
+/// The attribute of this name and mode, and of this tag or else 0, as a value of a constant (`__ATTR`):
+/// `attribute!(b"temp", 0o444)`, `attribute!(b"temp", 0o444, TEMP)`. A `const` may call no function, but it
+/// may use this macro, and the checker knows the constant's mode.
+///
+/// A mode that has a bit outside 0o666 gets no proof, as in [`Attribute::new`].
+#[macro_export]
+macro_rules! attribute {
+    ($name:expr, $mode:expr) => {
+        $crate::attribute!($name, $mode, 0)
+    };
+    ($name:expr, $mode:expr, $tag:expr) => {
+        $crate::Attribute {
+            name: $name,
+            mode: $mode / (($mode & 0o666 == $mode) as u16), // no other bit, or a division by 0
+            tag: $tag,
+        }
+    };
+}
+
+/// An attribute (`struct attribute`). The default has no file.
+#[derive(Clone, Copy, Default)]
 pub struct Attribute<'a> {
     /// The name of its file.
     pub name: &'a [u8],
@@ -58,7 +77,8 @@ impl<'a> Attribute<'a> {
 /// A group of attributes (`struct attribute_group`).
 #[derive(Clone, Copy)]
 pub struct Group<'a> {
-    /// The name of the group's directory. None: its files stand right in the directory that it is made in.
+    /// The name of the group's directory, which is made if an attribute has a file. None: its files stand
+    /// right in the directory that it is made in.
     pub name: Option<&'a [u8]>,
     /// Its attributes.
     pub attributes: &'a [Attribute<'a>],

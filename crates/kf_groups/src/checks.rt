@@ -3,7 +3,7 @@ ghost use Rattle.std.specs.Prelude.{◌≡◌, ◌&&◌, Option, None, Some};
 ghost use Rattle.std.specs.List.{list_any};
 ghost use Rattle.std.specs.Str.{bytes_eq};
 ghost use Rattle.kf_tree.specs.Causes.{list_cause};
-ghost use Rattle.kf_groups.specs.Attributes.{file_fault, file_of, files_cause, group_cause, has_name, is_shown, shown, shown_cause};
+ghost use Rattle.kf_groups.specs.Attributes.{file_fault, file_of, files_cause, group_cause, has_files, has_name, is_shown, own_name, shown, shown_cause};
 ghost use Rattle.kf_groups.specs.Groups.{clashes, groups_cause, makes, shares};
 
 use crate::attribute::{Attribute, Group};
@@ -18,6 +18,31 @@ pub(crate) fn file_of(attribute: &Attribute) -> Node
     Node::File {
         mode: attribute.mode,
         tag: attribute.tag,
+    }
+}
+
+// Whether there is a file of the attribute.
+fn is_shown(attribute: &Attribute) -> bool
+    ensures known { result ≡ is_shown attribute.now }
+{
+    attribute.mode != 0
+}
+
+// Whether there is a file of one of the attributes.
+fn has_files(attributes: &[Attribute]) -> bool
+    ensures known { result ≡ has_files attributes.now }
+{
+    attributes.iter().any(|attribute| is_shown(attribute))
+}
+
+/// The name of the directory that the group makes for its files: None if the group has no name, or no file.
+pub(crate) fn own_name<'a>(group: &Group<'a>) -> Option<&'a [u8]>
+    ensures known { result ≡ own_name group.now }
+{
+    if has_files(group.attributes) {
+        group.name
+    } else {
+        None
     }
 }
 
@@ -103,7 +128,7 @@ fn dir_fault(state: &State, dir: Key) -> Option<Refusal>
 pub(crate) fn group_cause(state: &State, dir: Key, group: &Group) -> Option<Refusal>
     ensures first { result ≡ group_cause state.now.tree state.now.root dir group.now }
 {
-    let Some(name) = group.name else {
+    let Some(name) = own_name(group) else {
         if let Some(fault) = dir_fault(state, dir) {
             return Some(fault);
         }
@@ -119,7 +144,7 @@ pub(crate) fn group_cause(state: &State, dir: Key, group: &Group) -> Option<Refu
 fn makes(group: &Group, name: &[u8]) -> bool
     ensures known { result ≡ makes name.now group.now }
 {
-    match group.name {
+    match own_name(group) {
         Some(own) => own == name,
         None => has_name(group.attributes, name),
     }
@@ -146,7 +171,7 @@ fn makes_any(group: &Group, attributes: &[Attribute]) -> bool
 fn shares(group: &Group, other: &Group) -> bool
     ensures known { result ≡ shares group.now other.now }
 {
-    match other.name {
+    match own_name(other) {
         Some(own) => makes(group, own),
         None => makes_any(group, other.attributes),
     }

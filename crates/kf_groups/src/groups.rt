@@ -4,14 +4,14 @@ ghost use Rattle.kf_core.specs.declared.refusal.Refusal.{Refusal};
 ghost use Rattle.kf_core.specs.declared.key.Key.{Key};
 ghost use Rattle.kf_core.specs.Lawful.{Lawful};
 ghost use Rattle.kf_core.specs.Tree.{Tree};
-ghost use Rattle.kf_groups.specs.Attributes.{group_size, shown};
+ghost use Rattle.kf_groups.specs.Attributes.{group_size, own_name, shown};
 ghost use Rattle.kf_groups.specs.Groups.{groups_cause, groups_size, GroupTakenBack, GroupsMade, GroupsRefused, GroupsTakenBack, IsWithout};
 ghost use Rattle.kf_groups.specs.Keeps.{Keeps, KeepsOlder, node_count};
 ghost use Rattle.kf_groups.specs.TakenBack.{EachTookBack, GaveUp, LacksRoom, TookBack};
 ghost use Rattle.kf_shared.specs.Locked.{Locked};
 
 use crate::attribute::{Attribute, Group};
-use crate::checks::groups_cause;
+use crate::checks::{groups_cause, own_name};
 use crate::making::create_group;
 use crate::taking_back::{take_back, take_back_files};
 use kf_core::{Key, Refusal};
@@ -38,15 +38,15 @@ fn take_back_directory<N: Naming>(
 // Takes a group back that was made in this turn of the lock. Whether all nodes were taken out of the tree.
 fn take_back_group<N: Naming>(editor: &mut Editor<'_, N>, dir: Key, group: &Group, key: Key) -> bool
     ensures took { GroupTakenBack editor.old editor.new dir key (shown group.now.attributes.now)
-        group.now.name }
+        (own_name group.now) }
     ensures older { (base : Tree) (root : Key) → Lawful base root
-        → IsWithout base dir key (shown group.now.attributes.now) group.now.name
+        → IsWithout base dir key (shown group.now.attributes.now) (own_name group.now)
         → Keeps base editor.old.state.tree → Keeps base editor.new.state.tree }
     ensures counted { result ≡ true →
         node_count editor.new.state.tree + group_size group.now ≡ node_count editor.old.state.tree }
     ensures claims { editor.new.claims ≡ editor.old.claims }
 {
-    match group.name {
+    match own_name(group) {
         Some(_) => take_back_directory(editor, key, group.attributes),
         None => take_back_files(editor, dir, group.attributes),
     }
@@ -61,9 +61,9 @@ fn give_up_group<N: Naming>(
     refusal: Refusal,
 ) -> Refusal
     ensures took { GroupTakenBack editor.old editor.new dir key (shown group.now.attributes.now)
-        group.now.name }
+        (own_name group.now) }
     ensures older { (base : Tree) (root : Key) → Lawful base root
-        → IsWithout base dir key (shown group.now.attributes.now) group.now.name
+        → IsWithout base dir key (shown group.now.attributes.now) (own_name group.now)
         → Keeps base editor.old.state.tree → Keeps base editor.new.state.tree }
     ensures counted { GaveUp (group_size group.now) editor.old.state.tree editor.new.state.tree refusal
         result }

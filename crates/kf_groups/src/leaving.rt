@@ -13,8 +13,8 @@ use kf_shared::{Editor, Naming, Removing, SharedTree, release_all};
 use std::alloc::Global;
 use std::sync::Wait;
 
-/// What the removal of a group has begun. It must be spent, by [`Leaving::finish`], unlocked.
-pub struct Leaving<N: Naming> {
+/// What the removal of a group has begun. It must be spent, by [`GroupRemoval::finish`], unlocked.
+pub struct GroupRemoval<N: Naming> {
     /// The removal of the group's own directory, if it has a name.
     pub directory: Option<Removing<N>>,
     /// Those of the files of a group without a name, in the order of its attributes.
@@ -69,14 +69,15 @@ fn begin_files<N: Naming>(
 /// with all in it, or of each of its files that is there. All of that is marked at once, and nothing else.
 ///
 /// Refusals, in order: of a group with a name NoEntry (`dir` is not linked), NotDir, NoEntry (its directory
-/// is not there), then TooManyHolds or NoMemory, whichever is met first; of one without a name NoMemory. Then
-/// nothing has changed. Why a file is refused is in the result, beside what was begun before it.
+/// is not there, as if no attribute had a file), then TooManyHolds or NoMemory, whichever is met first; of
+/// one without a name NoMemory. Then nothing has changed. Why a file is refused is in the result, beside what
+/// was begun before it.
 pub fn remove_group_in<N: Naming>(
     editor: &mut Editor<'_, N>,
     alloc: Global,
     dir: Key,
     group: &Group,
-) -> Result<Leaving<N>, Refusal>
+) -> Result<GroupRemoval<N>, Refusal>
     ensures begun { IfOk result (λ leaving. GroupBegun editor.old editor.new dir group.now
         leaving.directory leaving.files.items leaving.refused) }
     ensures why { IfOk result (λ leaving.
@@ -87,7 +88,7 @@ pub fn remove_group_in<N: Naming>(
     match group.name {
         Some(name) => {
             let directory = begin_name(editor, dir, name)?;
-            Ok(Leaving {
+            Ok(GroupRemoval {
                 directory: Some(directory),
                 files: Vec::new(alloc),
                 refused: None,
@@ -100,7 +101,7 @@ pub fn remove_group_in<N: Naming>(
                 return Err(Refusal::NoMemory);
             }
             let refused = begin_files(editor, dir, group.attributes, &mut files).err();
-            Ok(Leaving {
+            Ok(GroupRemoval {
                 directory: None,
                 files,
                 refused,
@@ -109,7 +110,7 @@ pub fn remove_group_in<N: Naming>(
     }
 }
 
-impl<N: Naming> Leaving<N> {
+impl<N: Naming> GroupRemoval<N> {
     /// Waits until no callback runs on what was begun, and takes it out of the tree.
     ///
     /// Refusal: why a file's removal was not begun.
@@ -118,7 +119,7 @@ impl<N: Naming> Leaving<N> {
     pub fn finish<R: Wait>(self, rt: &R, tree: &SharedTree<N>) -> Result<(), Refusal>
         ensures told { result ≡ ended self.refused }
     {
-        let Leaving {
+        let GroupRemoval {
             directory,
             files,
             refused,

@@ -6,13 +6,13 @@ ghost use Rattle.kf_core.specs.declared.refusal.Refusal.{Refusal};
 ghost use Rattle.kf_core.specs.Tree.{is_linked};
 ghost use Rattle.kf_tree.specs.Causes.{create_fault};
 ghost use Rattle.kf_tree.specs.TreeLogs.{Stores};
-ghost use Rattle.kf_groups.specs.Attributes.{file_fault, files_cause, group_size, shown};
+ghost use Rattle.kf_groups.specs.Attributes.{file_fault, files_cause, group_size, has_files, shown};
 ghost use Rattle.kf_groups.specs.Making.{creations, live_creations, named_creations, GroupMade};
 ghost use Rattle.kf_groups.specs.Keeps.{Keeps, node_count};
 ghost use Rattle.kf_groups.specs.TakenBack.{DirectoryTakenBack, FilesTakenBack, GroupRefused, LacksRoom};
 
 use crate::attribute::{Attribute, Group};
-use crate::checks::{file_of, group_cause};
+use crate::checks::{file_of, group_cause, own_name};
 use crate::taking_back::{give_up, take_back, take_back_files};
 use kf_core::{Key, Node, Refusal};
 use kf_shared::{Editor, Naming};
@@ -123,10 +123,11 @@ fn make_directory<N: Naming>(
 }
 
 /// Makes a group of attributes in a directory, all or nothing, in this turn of the lock
-/// (`sysfs_create_group`): nothing of it is live until all is there. Gives the key of the directory that its
-/// files stand in.
+/// (`sysfs_create_group`): nothing of it is live until all is there. Returns the key of the directory that
+/// has its files. A group of which no attribute has a file makes nothing, and no directory either
+/// (`SYSFS_GROUP_INVISIBLE`): then the key is that of `dir`.
 ///
-/// Refusals, in order: those of [`Editor::create`] for the group's own directory, if it has a name, and
+/// Refusals, in order: those of [`Editor::create`] for the group's own directory, if it makes one, and
 /// else NoEntry (`dir` is not linked) and NotDir; then of one attribute after another what is wrong with its
 /// file, and Exists if a later one has its name. After these nothing has changed. Then NoSpace (a search
 /// found no free slot): what was made is taken back under the same lock, so the tree is as it was, with more
@@ -140,6 +141,8 @@ pub fn create_group<N: Naming>(
     group: &Group,
 ) -> Result<Key, Refusal>
     ensures made { IfOk result (λ key. GroupMade editor.old.state editor.new.state dir group.now key) }
+    ensures invisible { IfOk result (λ key. has_files group.now.attributes.now ≡ false →
+        (key ≡ dir) × (editor.new.state.tree ≡ editor.old.state.tree)) }
     ensures refused { IfErr result
         (λ refusal. GroupRefused editor.old editor.new dir group.now refusal) }
     ensures others { Keeps editor.old.state.tree editor.new.state.tree }
@@ -150,7 +153,7 @@ pub fn create_group<N: Naming>(
     if let Some(refusal) = group_cause(editor.state(), dir, group) {
         return Err(refusal);
     }
-    match group.name {
+    match own_name(group) {
         Some(name) => make_directory(editor, dir, name, group.attributes),
         None => match make_files(editor, dir, group.attributes) {
             Ok(()) => Ok(dir),

@@ -26,8 +26,9 @@ fn or_away(removed: Result<(), Refusal>) -> Result<(), Refusal>
 /// waits until no callback runs there.
 ///
 /// Refusals, in order: NoEntry (`dir` is not linked; only of a group with a name), NotDir, NoEntry (the
-/// group's own directory is not there), then TooManyHolds or NoMemory, whichever is met first. A file that is
-/// not there is passed over. The first refusal ends it: the files before it are removed, and the others stay.
+/// group's own directory is not there, as if no attribute had a file), then TooManyHolds or NoMemory,
+/// whichever is met first. A file that is not there is passed over. The first refusal ends it: the files
+/// before it are removed, and the others stay.
 ///
 /// Context: sleeps; takes the tree's lock, which its caller must not have.
 pub fn remove_group<N: Naming, R: Wait>(

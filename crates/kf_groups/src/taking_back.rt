@@ -90,9 +90,9 @@ fn unlink_each<N: Naming>(editor: &mut Editor<'_, N>, holds: Vec<Hold>) -> bool
 }
 
 /// Takes a node back that was made in this turn of the lock, with all below it. Nobody was ever let in there,
-/// so it does not wait. If there is no memory for that, it stays. Whether one node was taken out of the
-/// tree, and that was all of it.
-pub(crate) fn take_back<N: Naming>(editor: &mut Editor<'_, N>, key: Key) -> bool
+/// so it does not wait. If there is no memory for that, it stays, and so does each node that somebody has a
+/// reference to. Returns whether one node was taken out of the tree, and that was all of it.
+pub fn take_back<N: Naming>(editor: &mut Editor<'_, N>, key: Key) -> bool
     ensures took { TookBack editor.old editor.new key }
     ensures older { KeepsOlder key editor.old.state.tree editor.new.state.tree }
     ensures counted { result ≡ true →

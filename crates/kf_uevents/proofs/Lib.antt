@@ -1,2 +1,4 @@
 pub mod Logs
 pub mod Moves
+pub mod Reported
+pub mod Once

@@ -2,3 +2,4 @@ pub mod Logs
 pub mod News
 pub mod Moves
 pub mod Removals
+pub mod Devices

@@ -12,7 +12,6 @@ ghost use Rattle.kf_uevents.specs.Moves.{IsToMove, MoveTold, path_in};
 ghost use Rattle.kf_uevents.specs.News.{TellRefused};
 
 use crate::log::UeventLog;
-use crate::renames::may_rename;
 use crate::uevent::{Action, Uevent};
 use kf_core::{Key, Refusal};
 use kf_shared::{Editor, Naming};
@@ -79,7 +78,7 @@ pub fn rename_and_tell<N: Naming>(
     ensures words { KeepsWords editor.old.master editor.new.master }
 {
     let state = editor.state();
-    if !may_rename(state, key, dir, name)? {
+    if !state.may_rename(key, dir, name)? {
         return Ok(());
     }
     log.check_numbers()?;

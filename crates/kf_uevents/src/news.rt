@@ -35,8 +35,8 @@ fn tells(action: Action, marks: NodeFlags) -> bool
     }
 }
 
-// Whether the tree has the key, and its node is reported.
-fn is_told(state: &State, action: Action, key: Key) -> bool
+/// Whether the tree has the key, and its node is reported.
+pub(crate) fn is_told(state: &State, action: Action, key: Key) -> bool
     ensures known { result ≡ is_told state.now.tree action key }
 {
     match marks_of(state, key) {

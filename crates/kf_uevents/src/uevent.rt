@@ -1,6 +1,7 @@
 //! What a uevent says.
 
 use kf_core::Key;
+use std::fmt;
 
 /// What became of a node (`enum kobject_action`).
 #[derive(Clone, Copy, Debug, PartialEq, Eq)]
@@ -13,6 +14,19 @@ pub enum Action {
     Change,
     /// It was moved, or got another name (`KOBJ_MOVE`).
     Move,
+}
+
+/// The word of the kernel (`ACTION`).
+impl fmt::Display for Action {
+    fn fmt<W: fmt::Write>(&self, f: &mut fmt::Formatter<W>) -> fmt::Result {
+        let text = match self {
+            Action::Add => "add",
+            Action::Remove => "remove",
+            Action::Change => "change",
+            Action::Move => "move",
+        };
+        f.write_str(text)
+    }
 }
 
 /// One event: what became of a node, which node it was, and its path as that was at the event (`DEVPATH`).

@@ -5,69 +5,28 @@
 ghost use Rattle.std.specs.Prelude.{◌≡◌};
 
 use anyhow::Context;
-use arrayvec::ArrayVec;
 use kf_core::{Limits, Node, Refusal};
 use kf_driver::{
-    Callbacks, Driver, DriverTable, End, Opener, ReadOnly, Row, Signed, emit_line, fault_of, notify,
+    Driver, DriverTable, Opener, ReadOnly, Show, Signed, Switch, create_rows, emit_line, notify,
+    rows,
 };
 use kf_files::{BoxedFile, Fault, FileError, Page, Want};
-use kf_groups::{Attribute, Group, create_groups};
+use kf_groups::attribute;
 use kf_notify::Posts;
 use kf_shared::{Naming, NewTree, SharedTree, release_all};
-use kf_text::{NotRead, Part, line_of, read_signed};
+use kf_text::{Part, read_signed};
 use std::alloc::Global;
 use std::marker::Brand;
-use std::sync::{Mutex, Wait};
+use std::sync::Wait;
 use std::thread::{Threads, join};
 
-const INPUT: Attribute<'static> = Attribute {
-    name: b"temp1_input",
-    mode: 0o444,
-    tag: 1,
-};
+/// A sensor with its register, in eighths of a degree.
+#[derive(Clone, Copy)]
+struct Sensor(u16);
 
-const MAX: Attribute<'static> = Attribute {
-    name: b"temp1_max",
-    mode: 0o644,
-    tag: 2,
-};
-
-const LABEL: Attribute<'static> = Attribute {
-    name: b"label",
-    mode: 0o644,
-    tag: 3,
-};
-
-const GROUPS: [Group<'static>; 2] = [
-    Group {
-        name: None,
-        attributes: &[INPUT, MAX],
-    },
-    Group {
-        name: Some(b"power"),
-        attributes: &[LABEL],
-    },
-];
-
-/// A text of at most 16 bytes, which a lock keeps whole.
-#[derive(Drop)]
-struct Label<'a, R> {
-    rt: &'a R,
-    text: Mutex<ArrayVec<u8, 16>>,
-}
-
-impl<R: Wait> Callbacks for Label<'_, R> {
+impl Show for Sensor {
     fn show(&self, page: &mut Page) -> Result<(), Fault> {
-        let text = self.text.lock(self.rt);
-        emit_line(page, Part::Text(text.as_slice()));
-        Ok(())
-    }
-
-    fn store(&self, bytes: &[u8]) -> Result<(), Fault> {
-        let mut text = ArrayVec::new();
-        text.try_extend_from_slice(line_of(bytes))
-            .or(Err(fault_of(NotRead::Invalid)))?;
-        *self.text.lock(self.rt) = text;
+        emit_line(page, Part::Number(u64::from(self.0) * 125));
         Ok(())
     }
 }
@@ -123,23 +82,7 @@ fn use_limit<N: Naming + Send + Sync, T: DriverTable + Sync, R: Threads + Wait +
     Ok((wrong, taken?))
 }
 
-/// Makes the device's files, live all at once, and what opens them; and raises the event number of one.
-fn publish<N: Naming, R: Wait>(
-    rt: &R,
-    alloc: Global,
-    tree: &SharedTree<N>,
-) -> Result<(Opener<N>, Option<u64>), Refusal> {
-    let mut posts = Posts::new(alloc, 8)?;
-    let mut editor = tree.edit(rt);
-    let root = editor.state().root();
-    let device = editor.create(root, b"hwmon0", Node::Dir, false)?;
-    create_groups(&mut editor, device, &GROUPS)?;
-    editor.activate(device)?; // now all of it is live
-    let opener = Opener::new(alloc, &mut editor, posts.another()?)?;
-    let (raised, _) = notify(editor.state(), &mut posts, device, b"temp1_max")?;
-    Ok((opener, raised.ok()))
-}
-
+/// Makes the device's files, live all at once, raises the event number of one, and uses that file.
 fn run<N: Naming + Send + Sync, R: Threads + Wait + Print + Sync>(
     rt: &R,
     alloc: Global,
@@ -148,13 +91,24 @@ fn run<N: Naming + Send + Sync, R: Threads + Wait + Print + Sync>(
     requires { new.master.table ≡ N.table }
 {
     let tree = new.named::<N>();
-    let text = Mutex::new(ArrayVec::new());
-    let rows = Row::new(LABEL, Label { rt, text }, End);
-    let rows = Row::new(MAX, Signed::new(90_000, -50_000, 150_000), rows);
-    let table = Row::new(INPUT, ReadOnly(Signed::new(41_000, -50_000, 150_000)), rows);
-    let (mut opener, raised) = publish(rt, alloc, &tree)?;
-    let event = raised.context("the number before was not the last one")?;
-    let (wrong, taken) = use_limit(rt, &tree, &Driver { table }, &mut opener)?;
+    let limits = rows! {
+        Row(attribute!(b"temp1_input", 0o444), ReadOnly(Sensor(328))),
+        Row(attribute!(b"temp1_max", 0o644), Signed::new(90_000, -50_000, 150_000)),
+    };
+    let power = rows! { Row(attribute!(b"async", 0o644), Switch::new(true)) };
+    let mut posts = Posts::new(alloc, 8)?;
+    let mut editor = tree.edit(rt);
+    let root = editor.state().root();
+    let device = editor.create(root, b"hwmon0", Node::Dir, false)?;
+    create_rows(&mut editor, device, None, &limits)?;
+    create_rows(&mut editor, device, Some(b"power"), &power)?;
+    editor.activate(device)?; // now all of it is live
+    let numbers = posts.another()?;
+    let mut opener = Opener::new(alloc, &mut editor, numbers)?;
+    let (raised, _) = notify(editor.state(), &mut posts, device, b"temp1_max")?;
+    drop(editor);
+    let event = raised.ok().context("no event number is left")?;
+    let (wrong, taken) = use_limit(rt, &tree, &Driver::new(limits), &mut opener)?;
     Ok(println!(rt; "event {event}, wrong texts: {wrong}, all taken until gone: {taken}")?)
 }
 

@@ -8,59 +8,19 @@ ghost use Rattle.std.specs.Prelude.{◌≡◌};
 use anyhow::Context;
 use kf_core::{Limits, Node, Refusal};
 use kf_driver::{
-    BinaryCallbacks, BinaryRow, Driver, DriverTable, End, LineTags, Lines, Notifier, Notifying,
-    Number, Opener, Row, Switch, Text, post_of, read_from_buffer, write_to_buffer,
+    Buffer, Driver, DriverTable, End, LineTags, Lines, Notifying, Number, Opener, ReadOnly, Switch,
+    Text, post_of, rows,
 };
-use kf_files::{BoxedFile, Fault, FileError, Want, remove_and_tell};
-use kf_groups::{Attribute, Group, create_group};
+use kf_files::{BoxedFile, FileError, Want, remove_and_tell};
+use kf_groups::attribute;
 use kf_notify::Posts;
 use kf_shared::{Naming, NewTree, SharedTree, release_all};
 use std::alloc::Global;
 use std::marker::Brand;
-use std::sync::{Mutex, Wait};
+use std::sync::Wait;
 use std::thread::{Threads, join};
 
-const VALUE: Attribute<'static> = Attribute {
-    name: b"value",
-    mode: 0o644,
-    tag: 0,
-};
-
-const DEBOUNCE: Attribute<'static> = Attribute {
-    name: b"debounce",
-    mode: 0o644,
-    tag: 1,
-};
-
-const LABEL: Attribute<'static> = Attribute {
-    name: b"label",
-    mode: 0o444,
-    tag: 2,
-};
-
-const CONFIG: Attribute<'static> = Attribute {
-    name: b"config",
-    mode: 0o644,
-    tag: 3,
-};
-
 const NAMES: [&[u8]; 8] = [b"l0", b"l1", b"l2", b"l3", b"l4", b"l5", b"l6", b"l7"];
-
-/// The 64 registers of a line, which a lock keeps whole, and the runtime, which takes locks.
-#[derive(Drop)]
-struct Config<'a, R>(&'a R, Mutex<[u8; 64]>);
-
-impl<R: Wait> BinaryCallbacks for Config<'_, R> {
-    fn read_at(&self, offset: u64, out: &mut [u8]) -> Result<usize, Fault> {
-        let registers = self.1.lock(self.0);
-        Ok(read_from_buffer(registers.as_slice(), offset, out))
-    }
-
-    fn write_at(&self, offset: u64, bytes: &[u8]) -> Result<usize, Fault> {
-        let mut registers = self.1.lock(self.0);
-        Ok(write_to_buffer(&mut *registers, offset, bytes))
-    }
-}
 
 /// Waits for changes until the chip is gone, and returns whether each text was a level.
 fn waits<N: Naming, T: DriverTable, R: Wait>(
@@ -82,7 +42,7 @@ fn waits<N: Naming, T: DriverTable, R: Wait>(
     right
 }
 
-/// Stores a thousand levels and some registers, and removes the chip, which wakes who waits.
+/// Stores a thousand levels and some registers, and removes the chip, which wakes the thread that waits.
 fn stores<N: Naming, T: DriverTable, R: Wait>(
     rt: &R,
     tree: &SharedTree<N>,
@@ -107,57 +67,25 @@ fn stores<N: Naming, T: DriverTable, R: Wait>(
     Ok(right && value.write(rt, tree, driver, b"1\n").is_err())
 }
 
-/// Uses the fourth line by threads until the chip is gone. Answers whether each text was a level, and whether
-/// all was stored.
+/// Uses the fourth line by threads until the chip is gone, and returns whether each text was a level, and
+/// whether all was stored.
 fn uses<N: Naming + Send + Sync, T: DriverTable + Sync, R: Threads + Wait + Sync>(
     rt: &R,
     tree: &SharedTree<N>,
     driver: &Driver<T>,
-    mut opener: Opener<N>,
-    mut posts: Posts,
+    opener: &mut Opener<N>,
+    posts: &mut Posts,
 ) -> Result<(bool, bool), Refusal> {
     let mut watched = opener.open(rt, tree, b"/gpio0/l3/value", Want::BOTH)?;
     let (levels, stored) = join(
         rt,
         || waits(rt, tree, driver, &mut watched),
-        || stores(rt, tree, driver, &mut opener, &mut posts),
+        || stores(rt, tree, driver, opener, posts),
     );
     Ok((levels, stored?))
 }
 
-/// Makes the chip's files and the rows of its lines, live all at once, and uses them.
-fn use_chip<N: Naming + Send + Sync, R: Threads + Wait + Sync>(
-    rt: &R,
-    alloc: Global,
-    tree: &SharedTree<N>,
-) -> Result<(bool, bool), Refusal> {
-    let mut posts = Posts::new(alloc, 64)?;
-    let tags = LineTags::new(0, 4);
-    let mut lines = Vec::new(alloc);
-    let mut editor = tree.edit(rt);
-    let root = editor.state().root();
-    let chip = editor.create(root, b"gpio0", Node::Dir, false)?;
-    for (line, name) in (0..8u32).zip(NAMES) {
-        let files = [
-            tags.attribute(line, VALUE),
-            tags.attribute(line, DEBOUNCE),
-            tags.attribute(line, LABEL),
-            tags.attribute(line, CONFIG),
-        ];
-        let dir = create_group(&mut editor, chip, &Group::new(Some(name), &files))?;
-        let notifier = Notifier::new(rt, post_of(editor.state(), &mut posts, dir, b"value")?);
-        let rows = BinaryRow::new(CONFIG, 64, Config(rt, Mutex::new([0u8; 64])), End);
-        let rows = Row::new(LABEL, Text(name), rows);
-        let rows = Row::new(DEBOUNCE, Number::new(5, 1000), rows);
-        lines.push(Row::new(VALUE, Notifying::new(Switch::new(false), notifier), rows))?;
-    }
-    editor.activate(chip)?; // now all of it is live
-    let opener = Opener::new(alloc, &mut editor, posts.another()?)?;
-    drop(editor);
-    let driver = Driver::new(Lines::new(tags, lines.as_slice(), End));
-    uses(rt, tree, &driver, opener, posts)
-}
-
+/// Makes the chip's files, live all at once, and uses them until the chip is gone.
 fn run<N: Naming + Send + Sync, R: Threads + Wait + Print + Sync>(
     rt: &R,
     alloc: Global,
@@ -165,7 +93,32 @@ fn run<N: Naming + Send + Sync, R: Threads + Wait + Print + Sync>(
 ) -> anyhow::Result<()>
     requires { new.master.table ≡ N.table }
 {
-    let (levels, stored) = use_chip(rt, alloc, &new.named::<N>())?;
+    let tree = new.named::<N>();
+    let mut posts = Posts::new(alloc, 64)?;
+    let tags = LineTags::new(0, 4);
+    let mut lines = Vec::new(alloc);
+    let mut editor = tree.edit(rt);
+    let root = editor.state().root();
+    let chip = editor.create(root, b"gpio0", Node::Dir, false)?;
+    for (line, name) in (0..8u32).zip(NAMES) {
+        let registers = vec![in alloc; 0; 64]?;
+        let rows = rows! {
+            Row(attribute!(b"value", 0o644), Notifying::new(rt, Switch::new(false))),
+            Row(attribute!(b"debounce", 0o644), Number::new(5, 1000)),
+            Row(attribute!(b"label", 0o444), ReadOnly(Text(name))),
+            BinaryRow(attribute!(b"config", 0o644), 64, Buffer::new(rt, registers)),
+        };
+        let dir = tags.create_rows(&mut editor, chip, Some(name), line, &rows)?;
+        let value = post_of(editor.state(), &mut posts, dir, b"value")?;
+        rows.callbacks().notifier.set(value);
+        lines.push(rows)?;
+    }
+    editor.activate(chip)?; // now all of it is live
+    let numbers = posts.another()?;
+    let mut opener = Opener::new(alloc, &mut editor, numbers)?;
+    drop(editor);
+    let driver = Driver::new(Lines::new(tags, lines.as_slice(), End));
+    let (levels, stored) = uses(rt, &tree, &driver, &mut opener, &mut posts)?;
     Ok(println!(rt; "levels alone: {levels}, all stored until gone: {stored}")?)
 }
 

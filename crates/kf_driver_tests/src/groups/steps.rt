@@ -1,6 +1,6 @@
 //! Steps with groups: a call each, and what it must return.
 
-use kf_core::{Key, Refusal};
+use kf_core::{Key, Node, Refusal};
 use kf_groups::{Group, create_group, create_groups, remove_group, remove_groups};
 use kf_shared::{Naming, SharedTree};
 use std::alloc::Global;
@@ -9,6 +9,8 @@ use std::sync::Wait;
 
 #[derive(Clone, Copy)]
 pub(crate) enum Step {
+    /// A live directory of this name is made in the directory.
+    Directory(Key, &'static [u8]),
     /// Why a group is not made in the directory, if it is not.
     Make(Key, Group<'static>, Option<Refusal>),
     MakeAll(Key, &'static [Group<'static>], Option<Refusal>),
@@ -45,6 +47,7 @@ fn is_refused<N: Naming, R: Wait>(
 
 fn is_right<N: Naming, R: Wait>(rt: &R, alloc: Global, tree: &SharedTree<N>, step: Step) -> bool {
     match step {
+        Step::Directory(dir, name) => tree.edit(rt).create(dir, name, Node::Dir, true).is_ok(),
         Step::Make(dir, group, why) => {
             create_group(&mut tree.edit(rt), dir, &group).err() == why
         }

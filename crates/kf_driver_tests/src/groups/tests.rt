@@ -47,7 +47,7 @@ const C: Attribute<'static> = Attribute {
     tag: 3,
 };
 
-/// The group whose own directory is `/d`, without files.
+/// The group that has the name of `/d`, and would make no directory.
 const OF_D: Group<'static> = Group {
     name: Some(b"d"),
     attributes: &[],
@@ -69,17 +69,28 @@ const ABSENT: Group<'static> = Group {
     attributes: &[A, B],
 };
 
+/// A group of the same name, of which no attribute has a file.
+const HIDDEN: Group<'static> = Group {
+    name: Some(b"h"),
+    attributes: &[Attribute {
+        name: b"a",
+        mode: 0,
+        tag: 1,
+    }],
+};
+
 /// What needs one slot more than there are.
 const THREE: Group<'static> = Group {
     name: None,
     attributes: &[A, B, C],
 };
 
-/// The root's directory has a group of each kind. If slots lack, nothing stays of what was made, however often
-/// it is tried, so both groups have room in `/d`. The removal of a group ends at a file that may not be held.
-/// It passes over what is not there, except the directory of a single group.
-static STEPS: [Step; 38] = [
-    Step::Make(ROOT, OF_D, None),
+/// The root's directory has a group of each kind. If slots lack, nothing stays of what was made, however
+/// often it is tried, so both groups have room in `/d`. The removal of a group ends at a file that may not
+/// be held. It passes over what is not there, except the directory of a single group. A group without a
+/// file makes no directory, so a group of its name has room beside it, and its removal finds nothing.
+static STEPS: [Step; 46] = [
+    Step::Directory(ROOT, b"d"),
     Step::Make(ROOT, OWN, None),
     Step::Make(ROOT, BARE, None),
     Step::MakeAll(D, &[OWN, THREE], Some(Refusal::NoSpace)),
@@ -110,6 +121,14 @@ static STEPS: [Step; 38] = [
     Step::RemoveAll(D, &[ABSENT, BARE, OWN], None),
     Step::Free(b"/d/a"),
     Step::Free(b"/d/g"),
+    Step::Make(D, HIDDEN, None),
+    Step::Free(b"/d/h"),
+    Step::Remove(D, HIDDEN, Some(Refusal::NoEntry)),
+    Step::RemoveAll(D, &[HIDDEN], None),
+    Step::Make(FILE, HIDDEN, Some(Refusal::NotDir)),
+    Step::MakeAll(D, &[HIDDEN, ABSENT], None),
+    Step::At(b"/d/h/a", 8),
+    Step::RemoveAll(D, &[ABSENT], None),
     Step::Remove(FILE, OWN, Some(Refusal::NotDir)),
     Step::RemoveAll(FILE, &[ABSENT, BARE], Some(Refusal::NotDir)),
     Step::At(b"/b", 6),

@@ -1,10 +1,12 @@
 //! Steps with a tree whose changes are events, and with a listener that reads them.
 
 use kf_core::{Key, Node, Refusal};
+use kf_groups::Group;
+use kf_notify::Posts;
 use kf_shared::{Naming, SharedTree, release_all};
 use kf_uevents::{
-    Action, Listener, Reading, Uevent, UeventLog, activate_and_tell, begin_removal_and_tell,
-    rename_and_tell, tell_change,
+    Action, Listener, Reading, Uevent, UeventLog, activate_and_tell, activate_device, add_device,
+    begin_removal_and_tell, remove_device, rename_and_tell, tell_change,
 };
 use std::process::Abort;
 use std::sync::{RwLock, Wait};
@@ -19,6 +21,12 @@ pub(crate) enum Step {
     /// It is moved into the directory, under this name.
     Moves(Key, Key, &'static [u8]),
     Removes(Key),
+    /// A device of this name is added in the directory, with these groups, or it is refused.
+    Adds(Key, &'static [u8], &'static [Group<'static>], Option<Refusal>),
+    /// The device of this directory is activated.
+    ActivatesDevice(Key),
+    /// A device is removed, or that is refused.
+    Unplugs(Key, Option<Refusal>),
     /// The listener sleeps until there is something to read.
     Waits,
     /// What the listener reads: an event of this action, with this path, and of a move the path before.
@@ -31,27 +39,52 @@ pub(crate) enum Step {
 fn removes<N: Naming, R: Wait>(
     rt: &R,
     tree: &SharedTree<N>,
-    log: &mut UeventLog,
+    log: &RwLock<UeventLog>,
     key: Key,
 ) -> Result<(), Refusal> {
-    let begun = begin_removal_and_tell(&mut tree.edit(rt), log, key)?;
-    release_all(begun.finish(rt, tree));
+    let mut editor = tree.edit(rt);
+    let begun = begin_removal_and_tell(&mut editor, &mut *log.write(rt), key);
+    drop(editor);
+    release_all(begun?.finish(rt, tree));
     Ok(())
 }
 
-/// Takes a step of those that the tree takes under one lock.
+/// Removes a device. Why it is not removed, if it is not.
+fn unplugs<N: Naming, R: Wait>(
+    rt: &R,
+    tree: &SharedTree<N>,
+    log: &RwLock<UeventLog>,
+    posts: &mut Posts,
+    key: Key,
+) -> Option<Refusal> {
+    match remove_device(tree.edit(rt), rt, log, posts, key) {
+        Ok(receipts) => {
+            release_all(receipts);
+            None
+        }
+        Err(refusal) => Some(refusal),
+    }
+}
+
+/// Takes a step of those that the tree takes under one lock. The list is locked under it.
 fn makes<N: Naming, R: Wait>(
     rt: &R,
     tree: &SharedTree<N>,
-    log: &mut UeventLog,
+    log: &RwLock<UeventLog>,
     step: Step,
 ) -> Result<(), Refusal> {
     let mut editor = tree.edit(rt);
+    let mut guard = log.write(rt);
+    let log = &mut *guard;
     match step {
         Step::Makes(dir, name, node) => {
             editor.create(dir, name, node, false)?;
         }
         Step::Activates(key) => activate_and_tell(&mut editor, log, key)?,
+        Step::ActivatesDevice(key) => activate_device(&mut editor, log, key)?,
+        Step::Adds(dir, name, groups, _) => {
+            add_device(&mut editor, log, dir, name, groups)?;
+        }
         Step::Changes(key, times) => {
             for _ in 0..times {
                 tell_change(&editor, log, key)?;
@@ -88,7 +121,7 @@ fn is_right<N: Naming, R: Wait>(
     rt: &R,
     tree: &SharedTree<N>,
     log: &RwLock<UeventLog>,
-    listener: &mut Listener,
+    (listener, posts): (&mut Listener, &mut Posts),
     step: Step,
 ) -> bool {
     match step {
@@ -96,9 +129,11 @@ fn is_right<N: Naming, R: Wait>(
             listener.wait(rt, log);
             true
         }
-        Step::Removes(key) => removes(rt, tree, &mut *log.write(rt), key).is_ok(),
+        Step::Removes(key) => removes(rt, tree, log, key).is_ok(),
+        Step::Unplugs(key, why) => unplugs(rt, tree, log, posts, key) == why,
+        Step::Adds(_, _, _, why) => makes(rt, tree, log, step).err() == why,
         Step::Event(..) | Step::Loss(_) | Step::Nothing => reads(listener, &*log.read(rt), step),
-        _ => makes(rt, tree, &mut *log.write(rt), step).is_ok(),
+        _ => makes(rt, tree, log, step).is_ok(),
     }
 }
 
@@ -108,11 +143,12 @@ pub(crate) fn walk<N: Naming, R: Abort + Wait>(
     tree: &SharedTree<N>,
     log: &RwLock<UeventLog>,
     listener: &mut Listener,
+    posts: &mut Posts,
     steps: &[Step],
 ) {
     let mut place = 0usize;
     for step in steps {
-        if !is_right(rt, tree, log, listener, *step) {
+        if !is_right(rt, tree, log, (&mut *listener, &mut *posts), *step) {
             panic!(rt; "step {place}");
         }
         place = place.saturating_add(1);

@@ -5,8 +5,9 @@ ghost use Rattle.std.specs.Prelude.{◌≡◌};
 use super::steps::{Step, walk};
 use crate::fixtures::made;
 use kf_core::{Key, Node, Refusal};
-use kf_notify::{Post, Posts};
-use kf_shared::{Naming, NewTree, SharedTree};
+use kf_groups::{Attribute, Group};
+use kf_notify::Posts;
+use kf_shared::{Naming, NewTree};
 use kf_uevents::{Action, Listener, UeventLog};
 use std::alloc::Global;
 use std::marker::Brand;
@@ -27,6 +28,18 @@ const D: Key = Key {
 const A: Key = Key {
     slot: 2,
     generation: 1,
+};
+
+/// The second directory in the slot of `D`.
+const LATER_D: Key = Key {
+    slot: 1,
+    generation: 2,
+};
+
+/// The third.
+const LAST_D: Key = Key {
+    slot: 1,
+    generation: 3,
 };
 
 const FILE: Node = Node::File {
@@ -72,21 +85,93 @@ static STEPS: [Step; 34] = [
     Step::Event(Action::Change, b"/", None),
 ];
 
-fn tell<N: Naming, R: Abort + Wait>(rt: &R, tree: &SharedTree<N>, log: UeventLog, post: Post) {
-    let log = RwLock::new(log);
-    walk(rt, tree, &log, &mut Listener::new(post, 0), &STEPS);
-}
+const TEMP: Attribute<'static> = Attribute {
+    name: b"temp",
+    mode: 0o444,
+    tag: 1,
+};
 
-fn events<N: Naming, R: Abort + Wait>(rt: &R, alloc: Global, new: NewTree) -> Result<(), Refusal>
+const FAN: Attribute<'static> = Attribute {
+    name: b"fan",
+    mode: 0,
+    tag: 2,
+};
+
+/// Five nodes with the directory of their device; the group `fans` has no file, and so no directory.
+const GROUPS: [Group<'static>; 3] = [
+    Group {
+        name: None,
+        attributes: &[TEMP, FAN],
+    },
+    Group {
+        name: Some(b"fans"),
+        attributes: &[FAN, FAN],
+    },
+    Group {
+        name: Some(b"power"),
+        attributes: &[TEMP],
+    },
+];
+
+/// A device is reported once, and so is its removal, however often either is asked for. One that is refused,
+/// for a name that is there or for lack of slots, is not reported, and leaves nothing. There are eight slots.
+static DEVICES: [Step; 24] = [
+    Step::Adds(ROOT, b"d", &GROUPS, None),
+    Step::Waits,
+    Step::Event(Action::Add, b"/d", None),
+    Step::Nothing,
+    Step::Adds(ROOT, b"d", &GROUPS, Some(Refusal::Exists)),
+    Step::Adds(ROOT, b"e", &GROUPS, Some(Refusal::NoSpace)),
+    Step::Adds(D, b"power", &[], Some(Refusal::Exists)),
+    Step::ActivatesDevice(D),
+    Step::Nothing,
+    Step::Moves(D, ROOT, b"f"),
+    Step::Event(Action::Move, b"/f", Some(b"/d")),
+    Step::Unplugs(ROOT, Some(Refusal::Invalid)),
+    Step::Unplugs(D, None),
+    Step::Waits,
+    Step::Event(Action::Remove, b"/f", None),
+    Step::Nothing,
+    Step::Unplugs(D, Some(Refusal::NoEntry)),
+    Step::Adds(ROOT, b"f", &GROUPS, None),
+    Step::Event(Action::Add, b"/f", None),
+    Step::Unplugs(LATER_D, None),
+    Step::Event(Action::Remove, b"/f", None),
+    // A directory that was not active is not reported when it is removed.
+    Step::Makes(ROOT, b"idle", Node::Dir),
+    Step::Unplugs(LAST_D, None),
+    Step::Nothing,
+];
+
+/// Takes these steps with a new tree, and a list that keeps 16 events.
+fn events<N: Naming, R: Abort + Wait>(
+    rt: &R,
+    alloc: Global,
+    new: NewTree,
+    steps: &[Step],
+) -> Result<(), Refusal>
     requires { new.master.table ≡ N.table }
 {
-    let log = UeventLog::new(alloc, 16)?;
-    let post = Posts::new(alloc, 1)?.post(0)?;
-    tell(rt, &new.named::<N>(), log, post);
+    let log = RwLock::new(UeventLog::new(alloc, 16)?);
+    let mut posts = Posts::new(alloc, 1)?;
+    let mut listener = Listener::new(posts.post(0)?, 0);
+    walk(
+        rt,
+        &new.named::<N>(),
+        &log,
+        &mut listener,
+        &mut posts,
+        steps,
+    );
     Ok(())
 }
 
 #[test]
 fn events_are_read_in_order(rt: HostRuntime) -> Result<(), Refusal> {
-    events::<Brand, _>(&rt, rt.alloc(), made(&rt, rt.alloc(), 12, 9))
+    events::<Brand, _>(&rt, rt.alloc(), made(&rt, rt.alloc(), 12, 9), &STEPS)
+}
+
+#[test]
+fn a_device_is_one_event(rt: HostRuntime) -> Result<(), Refusal> {
+    events::<Brand, _>(&rt, rt.alloc(), made(&rt, rt.alloc(), 8, 9), &DEVICES)
 }
