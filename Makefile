@@ -6,6 +6,7 @@
 #     make uninstall DESTDIR=.. PREFIX=..   takes that away
 #     make version                          writes the version that the file VERSION has wherever else it stands
 #     make dist                             makes the tarballs of a release in out/dist, and their checksums
+#     make dist-proved                      adds the tarball of the proved libraries, which are proved first
 
 PREFIX ?= /usr/local
 BIN := $(DESTDIR)$(PREFIX)/bin
@@ -37,4 +38,9 @@ dist:
 	cp c/out/kernfs_tree-$(VERSION).tar.gz out/dist
 	cd out/dist && sha256sum *-$(VERSION).tar.gz > SHA256SUMS
 
-.PHONY: all install uninstall version dist
+dist-proved:
+	.ci/prove --library
+	tools/dist_proved
+	cd out/dist && sha256sum *-$(VERSION).tar.* > SHA256SUMS
+
+.PHONY: all install uninstall version dist dist-proved
