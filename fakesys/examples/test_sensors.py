@@ -10,7 +10,7 @@ import sys
 import pytest
 
 HERE = pathlib.Path(__file__).parent
-sys.path.append(str(HERE.parent))  # where fakesys.py is; a suite has it beside its tests
+sys.path += [str(HERE.parent / "python"), str(HERE.parent)]  # where fakesys.py is; a suite has it beside its tests
 from fakesys import FakeSys  # noqa: E402
 
 CHIP = "/class/hwmon/hwmon0"

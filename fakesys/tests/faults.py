@@ -37,6 +37,7 @@ static inline int64_t silent(struct kt_handle *file, struct kt_lock *owner, uint
     }
     return begun < 0 ? begun : kt_copy(file, offset, out, room);
 }
-#define kt_read silent"""),
+#define kt_read silent
+#define kt_clear_wake(handle, owner) kt_clear(handle)"""),
     "a poll that nobody wakes": (polled, "#define fuse_lowlevel_notify_poll(poller) (void)(poller)"),
 }

@@ -1,10 +1,16 @@
 # SPDX-License-Identifier: MIT OR Apache-2.0
-"""The lines that scripts of the proved program do not have: texts, faults, delays, unplugs, storms; and how
-lines are written."""
-import contextlib, errno, os, random, select, subprocess, threading, time
+"""The lines that scripts of the proved program do not have: texts, faults, delays, unplugs, names with blanks."""
+import errno, os, select, subprocess, time
 from pathlib import Path
 
 from mounted import EVENTS, Beside, error_of, eventually, must, read_path
+
+TEXTS = (
+    (r"91000", b"91000\n"), (r"a\nb\\c", b"a\nb\\c\n"), (r"\x00\x7f\xff\x0A1", b"\0\x7f\xff\n1\n"),
+    (r"x\c", b"x"), (r"x\cy", b"x"), ("", b""), (r"\c", b""), (r"\0101\101\t\q\ ", b"AA\t\\q\\ \n"),
+    (r"\xg \x4", b"\\xg \x04\n"), ("two  blanks ", b"two  blanks \n"), ("\\", b"\\\n"),
+    (r"\xe9" + "\xe9", b"\xe9\xe9\n"), (r"\0", b"\0\n"),
+)
 
 
 def texts(mount):
@@ -13,21 +19,7 @@ def texts(mount):
     path = "/devices/fan0/speed"
     with mount.opened(path) as file:
         must(os.pread(file, 99, 0) == b"1200\n", "before")
-        for text, wanted in (
-            (r"91000", b"91000\n"),
-            (r"a\nb\\c", b"a\nb\\c\n"),
-            (r"\x00\x7f\xff\x0A1", b"\0\x7f\xff\n1\n"),
-            (r"x\c", b"x"),
-            (r"x\cy", b"x"),
-            ("", b""),
-            (r"\c", b""),
-            (r"\0101\101\t\q\ ", b"AA\t\\q\\ \n"),
-            (r"\xg \x4", b"\\xg \x04\n"),
-            ("two  blanks ", b"two  blanks \n"),
-            ("\\", b"\\\n"),
-            (r"\xe9" + "\xe9", b"\xe9\xe9\n"),
-            (r"\0", b"\0\n"),
-        ):
+        for text, wanted in TEXTS:
             mount.done(f"set {path} {text}")
             must(
                 os.pread(file, 99, 0) == wanted == read_path(mount.path(path)),
@@ -39,13 +31,18 @@ def texts(mount):
                 check=True,
             ).stdout
             must(spoken in (wanted, wanted[:-1]), f"{text!r}: printf prints {spoken!r}")
+
+
+def bounds_of_texts(mount):
+    """A text has at most 4,095 bytes of any value; a write to a file uevent asks for an event, and the text stays."""
+    path = "/devices/fan0/speed"
+    with mount.opened(path) as file:
         bytes_of_all = "".join(f"\\x{byte:02x}" for byte in range(256)) * 15 + r"\x41" * 255
         mount.done(f"set {path} {bytes_of_all}\\c")
         must(os.pread(file, 9999, 0) == bytes(range(256)) * 15 + b"A" * 255, "4,095 bytes of any value")
         must(mount.ask(f"set {path} {bytes_of_all}A") == ["err File too large"], "one more is refused")
         must(
-            os.pread(file, 9999, 0)[-1:] == b"A" and len(os.pread(file, 9999, 0)) == 4095,
-            "and changes nothing",
+            os.pread(file, 9999, 0)[-1:] == b"A" and len(os.pread(file, 9999, 0)) == 4095, "and changes nothing",
         )
     must(
         mount.ask("set /devices x", "set /class/cooling x", "set /no x", "set")
@@ -103,8 +100,7 @@ def faults(mount):
         for word, number in (("5", 5), ("EAGAIN", errno.EAGAIN), ("ENODATA", errno.ENODATA), ("133", 133)):
             mount.done(f"fail /devices/fan0/limit {word}")
             must(
-                error_of(os.pread, file, 9, 0) == number and error_of(read_path, path) == number,
-                f"reads: {word}",
+                error_of(os.pread, file, 9, 0) == number and error_of(read_path, path) == number, f"reads: {word}",
             )
             must(error_of(os.pwrite, file, b"1", 0) == number, f"writes: {word}")
         mount.done("fail /devices/fan0/limit 0")
@@ -115,8 +111,7 @@ def faults(mount):
         mount.done("fail /devices/fan0/limit EIO", "slow /devices/fan0/limit 400")
         begun = time.monotonic()
         must(
-            error_of(read_path, path) == errno.EIO and time.monotonic() - begun > 0.35,
-            "slow, and then the fault",
+            error_of(read_path, path) == errno.EIO and time.monotonic() - begun > 0.35, "slow, and then the fault",
         )
         mount.done("unplug /devices/fan0")
         must(error_of(os.pread, file, 9, 0) == errno.ENODEV, "it is gone")
@@ -151,8 +146,7 @@ def late(mount):
         must(os.read(file, 2) == b"te" and time.monotonic() - begun > 0.9, "it is late")
         begun = time.monotonic()
         must(
-            os.read(file, 9) == b"xt\n" and time.monotonic() - begun < 0.9,
-            "what was shown is not shown again",
+            os.read(file, 9) == b"xt\n" and time.monotonic() - begun < 0.9, "what was shown is not shown again",
         )
     begun = time.monotonic()
     mount.done("late / 60000", "late / 0")
@@ -197,8 +191,7 @@ def hidden(mount):
         )
         mount.done(f"slow {path} 0", f"show {path}")
         must(
-            os.pread(file, 9, 0) == b"1200\n" and read_path(mount.path(path)) == b"1200\n",
-            "it is shown again",
+            os.pread(file, 9, 0) == b"1200\n" and read_path(mount.path(path)) == b"1200\n", "it is shown again",
         )
     mount.done(f"hide {path}", "rm /devices/fan0")
 
@@ -206,13 +199,8 @@ def hidden(mount):
 def unplugged(mount):
     """An unplug removes a device and the links that lead into it, and no other links; a removal keeps the links."""
     mount.done(
-        "mkdir /bus",
-        "mkdir /devices/fan1",
-        "link /bus/fan0 /devices/fan0",
-        "link /bus/speed /devices/fan0/speed",
-        "link /bus/fan1 /devices/fan1",
-        "link /devices/fan0/bus /bus",
-        "link /devices/fan1/other /devices/fan0",
+        "mkdir /bus", "mkdir /devices/fan1", "link /bus/fan0 /devices/fan0", "link /bus/speed /devices/fan0/speed",
+        "link /bus/fan1 /devices/fan1", "link /devices/fan0/bus /bus", "link /devices/fan1/other /devices/fan0",
         "link /bus/again /bus/fan0",
     )
     must(
@@ -241,13 +229,8 @@ def unplugged(mount):
 def blanks(mount):
     """A name may have a blank, a tab, a newline and a backslash, as escapes, but no slash and no zero byte."""
     mount.done(
-        r"mkdir /a\040b",
-        r"file /a\040b/\011\012\134 644 x",
-        r"link /l /a\040b",
-        r"mv /a\040b /devices \040",
-        r"set /devices/\040/\011\012\134 y",
-        r"mkdir /a\08",
-        r"mkdir /\134040",
+        r"mkdir /a\040b", r"file /a\040b/\011\012\134 644 x", r"link /l /a\040b", r"mv /a\040b /devices \040",
+        r"set /devices/\040/\011\012\134 y", r"mkdir /a\08", r"mkdir /\134040",
     )
     must(
         read_path(mount.path("/l/\t\n\\")) == b"y\n" and os.readlink(mount.path("/l")) == "devices/ ",
@@ -259,338 +242,12 @@ def blanks(mount):
     )
     must(
         mount.ask(
-            r"mkdir /\000a",
-            r"mv /l /devices a\057b",
-            r"mkdir /.control",
-            "mv /l / .control",
+            r"mkdir /\000a", r"mv /l /devices a\057b", r"mkdir /.control", "mv /l / .control",
             "mkdir /devices/.control",
         )
         == ["err Invalid 22", "err Invalid 22", "err Exists 17", "err Exists 17", "ok"],
         "names that are not allowed",
     )
-
-
-def controlled(mount):
-    """The control file: a write fails as its line does, and the file shows the reason; it is not listed."""
-    must(read_path(mount.path("/.control")) == b"", "nothing was refused")
-    replies = mount.ask(
-        "mkdir /a",
-        "frob",
-        "mkdir /a",
-        "mkdir b",
-        "rm /no",
-        "slow /a 1",
-        "rm /",
-        "mkdir /a/" + "n" * 256,
-        "mkdir  /a",
-        "mkdir /a ",
-    )
-    must(
-        replies
-        == [
-            "ok",
-            "err Line 22",
-            "err Exists 17",
-            "err Invalid 22",
-            "err NoEntry 2",
-            "err IsDir 21",
-            "err Invalid 22",
-            "err NameTooLong 36",
-            "err Line 22",
-            "err Line 22",
-        ],
-        replies,
-    )
-    must(
-        read_path(mount.path("/.control")) == b"line 1: usage: mkdir PATH [off]: mkdir /a \n",
-        read_path(mount.path("/.control")),
-    )
-    must(
-        "fakesysfs: .control, line 1: no such command: frob\n" in mount.log.read_text(),
-        "it is printed in the foreground too",
-    )
-    Path(mount.path("/.control")).write_text("mkdir /c")
-    must(
-        sorted(os.listdir(mount.path("/"))) == ["a", "c", "class", "devices"],
-        "the last line needs no newline",
-    )
-    must(
-        error_of(Path(mount.path("/.control")).write_text, "mkdir /c") == errno.EEXIST,
-        "close(2) returns the error",
-    )
-    of = os.stat(mount.path("/.control"))
-    must((of.st_mode, of.st_size) == (0o100600, 4096) and of.st_ino < 2**32, of)
-
-
-def many_lines(mount):
-    """Many lines in one write, and lines that are cut anywhere; the first wrong line ends it, and its number is
-    shown."""
-    control = mount.path("/.control")
-    script = Path(f"{mount.at}.more")
-    script.write_text(
-        "".join(f"mkdir /m{number}\nfile /m{number}/a 444 {'x' * (15 * number)}\n" for number in range(200))
-    )
-    must(script.stat().st_size > 150_000, "more than one write(2)")
-    subprocess.run(f"cat {script} > {control}", shell=True, check=True)
-    must(
-        all(
-            read_path(mount.path(f"/m{number}/a")) == b"x" * (15 * number) + b"\n" * (number > 0)
-            for number in range(200)
-        ),
-        "cat",
-    )
-    lot, text = random.Random(1), "".join(f"rm /m{number}\n" for number in range(200))
-    with contextlib.closing(os.fdopen(os.open(control, os.O_WRONLY), "w")) as file:
-        while text:
-            size = lot.randrange(1, 40)
-            os.write(file.fileno(), text[:size].encode())
-            text = text[size:]
-    must(sorted(os.listdir(mount.path("/"))) == ["class", "devices"], "lines that are cut")
-    script.write_text("mkdir /a\n\n# a remark\nmkdir /b\nmkdir /no/c\nmkdir /d\n")
-    ran = subprocess.run(f"cat {script} > {control}", shell=True, check=False, capture_output=True, text=True)
-    must(ran.returncode == 1 and "No such file" in ran.stderr, f"cat: {ran}")
-    must(
-        sorted(os.listdir(mount.path("/"))) == ["a", "b", "class", "devices"],
-        "the lines before it are run, and none after it",
-    )
-    must(read_path(control) == b"line 5: No such file or directory: mkdir /no/c\n", read_path(control))
-    file = os.open(control, os.O_WRONLY)
-    must(os.write(file, b"rm /a\nrm /no\nrm /b\n") == 6, "what was taken")
-    must(
-        error_of(os.write, file, b"rm /no\n") == errno.ENOENT
-        and os.write(file, b"rm /") == 4
-        and os.write(file, b"b\n") == 2,
-        "and on",
-    )
-    must(error_of(os.write, file, b"x" * 70_000) == errno.EFBIG, "a line that is too long")
-    os.close(file)
-    must(sorted(os.listdir(mount.path("/"))) == ["class", "devices"], "all nodes are gone")
-
-
-def wrong_lines(mount):
-    """No line that is refused changes anything."""
-
-    def state():
-        return [
-            (path, names, files, [os.lstat(f"{path}/{it}").st_mode for it in files])
-            for path, names, files in sorted(os.walk(mount.at))
-        ]
-
-    mount.done("mkdir /off off", "file /off/a 644 1", "hide /devices/fan0/limit")
-    before, text = state(), read_path(mount.path("/devices/fan0/speed"))
-    commands = "mkdir file link activate mv rm unplug hide show notify set fail late slow storm frob".split()
-    wrong = [
-        f"{command}{words}"
-        for command in commands
-        for words in (
-            "",
-            " ",
-            " /no/a",
-            " devices",
-            " /devices/",
-            " /devices//fan0",
-            " /no /no",
-            " /no 1",
-            " /no 1 x",
-            " /no 644 x",
-            " /devices/fan0 999999",
-            " / 1",
-            " /devices/fan0/speed x y z w",
-            "  /devices/fan0",
-            " /class/cooling/speed 5",
-            " /no/a /devices b",
-            r" /\000 644",
-        )
-    ]
-    fitting = ("file /no 644 x", "late / 1", "late /devices/fan0/speed 5", "storm /devices/fan0 999999")
-    wrong = [line for line in wrong if line not in fitting and not line.startswith("set /devices/fan0/speed")]
-    replies = mount.ask(*wrong)
-    must(
-        all(reply.startswith("err ") for reply in replies),
-        [pair for pair in zip(wrong, replies) if pair[1] == "ok"],
-    )
-    must(state() == before and read_path(mount.path("/devices/fan0/speed")) == text, "something changed")
-    return f"{len(wrong)} lines"
-
-
-def noise(mount):
-    """Random lines, almost right and of any bytes, while others read: it goes on, and lists its tree."""
-    lot = random.Random(3)
-    names = [
-        "a",
-        "b",
-        "c",
-        ".",
-        "..",
-        r"\040",
-        r"\000",
-        "n" * 255,
-        "n" * 256,
-        ".control",
-        "devices",
-        "fan0",
-        "speed",
-        "\xe9",
-        "",
-    ]
-    commands = "mkdir file link activate mv rm unplug hide show notify set fail late slow".split() + [
-        "storm",
-        "frob",
-        "",
-    ]
-    words = [
-        "off",
-        "644",
-        "000",
-        "999",
-        "0",
-        "1",
-        "3",
-        "EIO",
-        "7" * 30,
-        "x" * 5000,
-        r"a\nb\x00\c",
-        "\\",
-        "\xff\x01",
-        "#",
-    ]
-    stop = threading.Event()
-
-    def look():
-        while not stop.is_set():
-            for folder, _, files in os.walk(mount.at):
-                for name in files:
-                    with contextlib.suppress(OSError):
-                        read_path(f"{folder}/{name}")
-
-    lookers = [Beside(look) for _ in range(3)]
-    mount.done(
-        "mkdir /class/w",
-        "link /class/w/x /devices/fan0",
-        "late /class 1",
-        "late /devices/fan0/speed 1",
-        "slow /devices/fan0/limit 1",
-    )
-    replies = []
-    for _ in range(1500):
-        path = lambda: "".join("/" + lot.choice(names) for _ in range(lot.randrange(4)))
-        near = "".join("/" + lot.choice(names[:3]) for _ in range(lot.randrange(1, 3)))
-        line = lot.choice(
-            (
-                f"mkdir {near}",
-                f"file {near} 644 x",
-                f"link {near} /devices/fan0",
-                f"link {near} /a",
-                f"set {near} y",
-                f"late {near} 1",
-                f"hide {near}",
-                f"show {near}",
-                f"fail {near} EIO",
-                f"unplug {near}",
-                f"rm {near}",
-                f"mv {near} / a",
-                f"storm {near} 4",
-            )
-        )
-        if lot.random() < 0.3:
-            line = " ".join(
-                [
-                    lot.choice(commands),
-                    *(path() if lot.random() < 0.6 else lot.choice(words) for _ in range(lot.randrange(4))),
-                ]
-            )
-        elif lot.random() < 0.1:
-            line = "".join(chr(lot.randrange(256)) for _ in range(lot.randrange(60)))
-        replies.append(mount.tell(line))
-    stop.set()
-    for it in lookers:
-        it.given()
-    must(mount.process.poll() is None and os.listdir(mount.at) is not None, "it goes on")
-    return f"{replies.count('ok')} done, {len(replies) - replies.count('ok')} refused"
-
-
-def is_unplugged(mount, path):
-    """Whether a device could be unplugged: a storm may have it away just then."""
-    reply = mount.tell(f"unplug {path}")
-    must(reply in ("ok", "err NoEntry 2"), reply)
-    return reply == "ok"
-
-
-def storms(mount):
-    """A storm removes a device and creates it again, with its links, texts and faults, until the storm is ended;
-    then the device exists."""
-    mount.done(
-        "set /devices/fan0/limit a\\nb",
-        "fail /devices/fan0/speed EIO",
-        "link /devices/fan0/class /class",
-        "mkdir /devices/fan0/in",
-        "hide /devices/fan0/limit",
-        "show /devices/fan0/limit",
-        "mkdir /devices/fan1",
-    )
-    must(
-        mount.ask(
-            "storm /devices/fan0",
-            "storm /devices/fan0 x",
-            "storm /no 1",
-            "storm / 1",
-            "storm /class/cooling 1",
-            "storm /devices/fan0 0",
-        )
-        == [
-            "err Line 22",
-            "err Line 22",
-            "err NoEntry 2",
-            "err Invalid 22",
-            "err Invalid 22",
-            "err NoEntry 2",
-        ],
-        "refusals",
-    )
-    mount.done("storm /devices/fan0 18446744073709551615", "storm /devices/fan1 7")
-    must(
-        mount.ask("storm /devices/fan0 2", "storm /devices/fan0 18446744073709551616")
-        == ["err Busy 16", "err Line 22"],
-        "one is enough",
-    )
-    seen, refused = {"there": 0, "gone": 0}, 0
-    until = time.monotonic() + 3
-    while time.monotonic() < until:
-        seen["there" if os.path.isdir(mount.path("/devices/fan0")) else "gone"] += 1
-        try:
-            with mount.opened("/devices/fan0/limit") as file:
-                while time.monotonic() < until:
-                    must(os.pread(file, 9, 0) == b"a\nb\n", "the text comes again")
-        except OSError as error:
-            must(error.errno in (errno.ENOENT, errno.ENODEV), f"{error}")
-            refused += error.errno == errno.ENODEV
-    must(min(seen.values()) > 2 and refused > 2, f"it comes and goes: {seen}, {refused}")
-    mount.done("storm /devices/fan0 0", "storm /devices/fan1 0")
-    must(sorted(os.listdir(mount.path("/devices/fan0"))) == ["class", "in", "limit", "speed"], "all is there")
-    must(
-        os.readlink(mount.path("/class/cooling")) == "../devices/fan0"
-        and os.path.isdir(mount.path("/devices/fan1")),
-        "and what leads there",
-    )
-    must(error_of(read_path, mount.path("/class/cooling/speed")) == errno.EIO, "with its faults")
-    time.sleep(0.2)
-    must(os.path.isdir(mount.path("/devices/fan0")), "it stays")
-    mount.done("storm /devices/fan0 3")
-    must(eventually(lambda: is_unplugged(mount, "/devices/fan0")), "who unplugs finds it there at some time")
-    must(eventually(lambda: os.path.isdir(mount.path("/devices/fan0"))), "it comes again by itself")
-    mount.done(
-        "storm /devices/fan0 0",
-        "unplug /devices/fan0",
-        "unplug /devices/fan1",
-        "file /alone 644 1",
-        "storm /alone 5",
-    )
-    must(
-        eventually(lambda: not os.path.exists(mount.path("/alone")))
-        and eventually(lambda: os.path.exists(mount.path("/alone"))),
-        "a file alone",
-    )
-    return f"{refused} times met"  # and one storm goes on when it is unmounted
 
 
 def stores(mount):

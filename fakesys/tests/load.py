@@ -85,8 +85,8 @@ def taken(process):
     return len(os.listdir(f"/proc/{process.pid}/fd")), int(re.search(r"VmRSS:\s+(\d+)", status)[1])
 
 
-def many_removals(program, folder, count, most_grown=8192):
-    """No read, write or open that began after an rm had returned succeeds; descriptors and memory are as before."""
+def many_removals(program, folder, count, keeping="names", most_grown=8192):
+    """No stat, open, read or write that began after an rm had returned succeeds; descriptors and memory are as before."""
     made = subprocess.run(
         [
             "cc",
@@ -105,7 +105,7 @@ def many_removals(program, folder, count, most_grown=8192):
         check=False,
     )
     must(made.returncode == 0, made.stderr[-2000:])
-    with Mount(program, folder, FAN) as mount:
+    with Mount(program, folder, FAN, options=["-o", f"keep={keeping}"]) as mount:
         for turn in (max(count // 10, 1), count):
             before = taken(mount.process)
             ran = subprocess.run(

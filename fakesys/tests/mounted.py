@@ -24,7 +24,7 @@ NAMES = {
     errno.EBADMSG: "Line 22",
     errno.EBUSY: "Busy 16",
 }
-FAN = (HERE / "fan.kf").read_text().splitlines()
+FAN = (HERE / "tests/fan.kf").read_text().splitlines()
 
 
 class Wrong(Exception):
@@ -51,15 +51,16 @@ def error_of(call, *words):
 class Mount:
     """A tree that is mounted inside a `with`."""
 
-    def __init__(self, program, folder, script=(), slots=1024):
+    def __init__(self, program, folder, script=(), slots=1024, options=()):
         self.program, self.slots, self.script = program, slots, "".join(f"{line}\n" for line in script)
+        self.options = options
         self.at = Path(tempfile.mkdtemp(prefix="mount-", dir=folder))
         self.log = Path(f"{self.at}.log")
 
     def __enter__(self):
         Path(f"{self.at}.kf").write_text(self.script, encoding="latin-1")
         slots = ["--slots", str(self.slots)] if self.slots else []
-        command = [self.program, *slots, f"{self.at}.kf", self.at, "-f"]
+        command = [self.program, *slots, *self.options, f"{self.at}.kf", self.at, "-f"]
         self.process = subprocess.Popen(command, stderr=self.log.open("w"), stdin=subprocess.DEVNULL)
         until = time.monotonic() + PATIENCE
         while not os.path.ismount(self.at):

@@ -2,75 +2,17 @@
 """The system calls that are compared between kernfs and fakesysfs, on an attribute file: `questions(attribute,
 remove)` yields the name of each and the call, in the order in which they must run. The file is a writable
 file of a device."""
-import ctypes, fcntl, mmap, os, select, signal, stat, struct, time
+import ctypes, fcntl, mmap, os, select, stat, struct, time
 
-LIBC = ctypes.CDLL(None, use_errno=True)
-GETDENTS64 = {"x86_64": 217}.get(os.uname().machine, 61)
-
-
-def call(name, *words):
-    """Calls a function of the C library."""
-    result = getattr(LIBC, name)(*words)
-    if result < 0:
-        raise OSError(ctypes.get_errno(), "")
-    return result
-
-
-def opened(path, flags, do):
-    file = os.open(path, flags)
-    try:
-        return do(file)
-    finally:
-        os.close(file)
-
-
-def getdents(path, size=32768):
-    """The names and kinds of a directory, read with buffers of a size."""
-
-    def read(file):
-        entries = []
-        while True:
-            room = ctypes.create_string_buffer(size)
-            length = call("syscall", GETDENTS64, file, room, ctypes.c_size_t(size))
-            if length == 0:
-                return entries
-            at = 0
-            while at < length:
-                _, _, step, kind = struct.unpack_from("<QqHB", room.raw, at)
-                entries.append((room.raw[at + 19 : at + step].split(b"\0")[0].decode(), kind))
-                at += step
-
-    return opened(path, os.O_RDONLY | os.O_DIRECTORY, read)
-
-
-class File:
-    """The attribute file, and short ways to ask of it."""
-
-    def __init__(self, path):
-        self.path, self.top = path, os.path.dirname(path)
-
-    def open(self, flags, do):
-        return opened(self.path, flags, do)
-
-    def write(self, text, flags=os.O_WRONLY):
-        return self.open(flags, lambda file: os.write(file, text))
-
-    def value(self):
-        return self.open(os.O_RDONLY, lambda file: os.read(file, 4096))
-
-    def in_top(self, do):
-        return opened(self.top, os.O_RDONLY | os.O_DIRECTORY, do)
+from questions_base import GETDENTS64, File, call, getdents, opened
+from questions_removal import about_removal, about_watches
 
 
 def about_stat(it):
     of, top = os.stat(it.path), os.stat(it.top)
     yield "write, read", lambda: (it.write(b"hello\n"), it.value())
     yield "mode, size, links, block size", lambda: (
-        oct(of.st_mode),
-        of.st_size,
-        of.st_nlink,
-        of.st_blksize,
-        of.st_blocks,
+        oct(of.st_mode), of.st_size, of.st_nlink, of.st_blksize, of.st_blocks,
     )
     yield "of a directory", lambda: (oct(top.st_mode), top.st_size, top.st_blksize)
     yield "links of a directory", lambda: top.st_nlink - 2 == sum(
@@ -110,43 +52,46 @@ def about_listings(it):
     yield "write-only open of a directory", lambda: opened(it.top, os.O_WRONLY, lambda file: 1)
 
 
+def changed_between(it, file):
+    first = os.read(file, 99)
+    it.write(b"other\n")
+    second = os.read(file, 99)
+    os.lseek(file, 0, os.SEEK_SET)
+    third = os.read(file, 99)
+    it.write(b"hello\n")
+    return first, second, third
+
+
+def parts(it, file):
+    first = os.pread(file, 2, 0)
+    it.write(b"other\n")
+    second = os.pread(file, 99, 2)
+    it.write(b"hello\n")
+    return first, second
+
+
+def vector(file):
+    one, two = bytearray(3), bytearray(9)
+    return os.preadv(file, [one, two], 0), bytes(one), bytes(two)
+
+
+def read_whole(it, file):
+    first = os.read(file, 99), os.read(file, 99)
+    it.write(b"longer\n")
+    second = os.read(file, 99), os.pread(file, 99, 2)
+    it.write(b"hello\n")
+    return first, second
+
+
 def about_reads(it):
     for size, at in ((99, 2), (99, 6), (99, 5000), (99, 1 << 40), (1 << 20, 0), (0, 0)):
         yield f"pread of {size} at {at}", lambda size=size, at=at: it.open(
             os.O_RDONLY, lambda file: os.pread(file, size, at)
         )
     yield "reads of one byte", lambda: it.open(os.O_RDONLY, lambda file: [os.read(file, 1) for _ in range(8)])
-
-    def changed_between(file):
-        first = os.read(file, 99)
-        it.write(b"other\n")
-        second = os.read(file, 99)
-        os.lseek(file, 0, os.SEEK_SET)
-        third = os.read(file, 99)
-        it.write(b"hello\n")
-        return first, second, third
-
-    def parts(file):
-        first = os.pread(file, 2, 0)
-        it.write(b"other\n")
-        second = os.pread(file, 99, 2)
-        it.write(b"hello\n")
-        return first, second
-
-    def vector(file):
-        one, two = bytearray(3), bytearray(9)
-        return os.preadv(file, [one, two], 0), bytes(one), bytes(two)
-
-    def read_whole(file):
-        first = os.read(file, 99), os.read(file, 99)
-        it.write(b"longer\n")
-        second = os.read(file, 99), os.pread(file, 99, 2)
-        it.write(b"hello\n")
-        return first, second
-
-    yield "read whole, a change, read on, pread at 2", lambda: it.open(os.O_RDONLY, read_whole)
-    yield "read, a change, read, lseek to 0, read", lambda: it.open(os.O_RDONLY, changed_between)
-    yield "pread of 2, a change, pread at 2", lambda: it.open(os.O_RDONLY, parts)
+    yield "read whole, a change, read on, pread at 2", lambda: it.open(os.O_RDONLY, lambda file: read_whole(it, file))
+    yield "read, a change, read, lseek to 0, read", lambda: it.open(os.O_RDONLY, lambda file: changed_between(it, file))
+    yield "pread of 2, a change, pread at 2", lambda: it.open(os.O_RDONLY, lambda file: parts(it, file))
     yield "preadv", lambda: it.open(os.O_RDONLY, vector)
     yield "read of a file open for writing", lambda: it.open(os.O_WRONLY, lambda file: os.read(file, 9))
     for name, way in (("end", os.SEEK_END), ("data", os.SEEK_DATA), ("hole", os.SEEK_HOLE)):
@@ -194,40 +139,45 @@ def about_opens(it):
     yield "open by O_SYNC, write", lambda: it.write(b"s\n", os.O_WRONLY | os.O_SYNC)
 
 
+def locked(file):
+    fcntl.flock(file, fcntl.LOCK_EX)
+    fcntl.lockf(file, fcntl.LOCK_EX)
+    return True
+
+
+def sent(file):
+    receiver = os.memfd_create("results")
+    try:
+        return os.sendfile(receiver, file, 0, 4096), os.pread(receiver, 4096, 0)
+    finally:
+        os.close(receiver)
+
+
+def copied(file):
+    receiver = os.memfd_create("results")
+    try:
+        return os.copy_file_range(file, receiver, 4096), os.pread(receiver, 4096, 0)
+    finally:
+        os.close(receiver)
+
+
+def spliced(file):
+    out, into = os.pipe()
+    try:
+        length = call("splice", file, None, into, None, ctypes.c_size_t(4096), 0)
+        return length, os.read(out, 4096)
+    finally:
+        os.close(out)
+        os.close(into)
+
+
+def waiting(file):
+    room = ctypes.create_string_buffer(4)
+    call("ioctl", file, ctypes.c_ulong(0x541B), room)
+    return struct.unpack("i", room.raw)
+
+
 def about_descriptors(it):
-    def locked(file):
-        fcntl.flock(file, fcntl.LOCK_EX)
-        fcntl.lockf(file, fcntl.LOCK_EX)
-        return True
-
-    def sent(file):
-        receiver = os.memfd_create("answers")
-        try:
-            return os.sendfile(receiver, file, 0, 4096), os.pread(receiver, 4096, 0)
-        finally:
-            os.close(receiver)
-
-    def copied(file):
-        receiver = os.memfd_create("answers")
-        try:
-            return os.copy_file_range(file, receiver, 4096), os.pread(receiver, 4096, 0)
-        finally:
-            os.close(receiver)
-
-    def spliced(file):
-        out, into = os.pipe()
-        try:
-            length = call("splice", file, None, into, None, ctypes.c_size_t(4096), 0)
-            return length, os.read(out, 4096)
-        finally:
-            os.close(out)
-            os.close(into)
-
-    def waiting(file):
-        room = ctypes.create_string_buffer(4)
-        call("ioctl", file, ctypes.c_ulong(0x541B), room)
-        return struct.unpack("i", room.raw)
-
     yield "flock, lockf", lambda: it.open(os.O_RDWR, locked)
     yield "lease", lambda: it.open(
         os.O_RDONLY, lambda file: fcntl.fcntl(file, fcntl.F_SETLEASE, fcntl.F_RDLCK)
@@ -295,22 +245,15 @@ def about_attributes(it):
     yield "write by root of mode 444", lambda: (os.chmod(it.path, 0o444), it.write(b"1\n"))
     yield "chmod back", lambda: os.chmod(it.path, mode)
     yield "chmod of a directory", lambda: (
-        os.chmod(it.top, 0o700),
-        oct(os.stat(it.top).st_mode),
-        os.chmod(it.top, 0o755),
+        os.chmod(it.top, 0o700), oct(os.stat(it.top).st_mode), os.chmod(it.top, 0o755),
     )
     yield "chown", lambda: (
-        os.chown(it.path, 1, 2),
-        os.stat(it.path).st_uid,
-        os.stat(it.path).st_gid,
-        os.chown(it.path, 0, 0),
+        os.chown(it.path, 1, 2), os.stat(it.path).st_uid, os.stat(it.path).st_gid, os.chown(it.path, 0, 0),
     )
     yield "utime", lambda: (os.utime(it.path, (1, 2)), os.stat(it.path).st_atime, os.stat(it.path).st_mtime)
     yield "a write changes the time", lambda: (it.write(b"x\n"), os.stat(it.path).st_mtime == 2)[1]
     yield "an open by O_TRUNC changes the time", lambda: (
-        os.utime(it.path, (1, 2)),
-        it.open(os.O_WRONLY | os.O_TRUNC, lambda file: 0),
-        os.stat(it.path).st_mtime == 2,
+        os.utime(it.path, (1, 2)), it.open(os.O_WRONLY | os.O_TRUNC, lambda file: 0), os.stat(it.path).st_mtime == 2,
     )[2]
     yield "utime of the same", lambda: (os.utime(it.path, (1, 2)), os.stat(it.path).st_mtime)
     yield "a truncation changes the time", lambda: (os.truncate(it.path, 0), os.stat(it.path).st_mtime == 2)[
@@ -354,146 +297,11 @@ def about_names(it):
     yield "statfs: sizes", of_statvfs
 
 
-def watched(path, do):
-    """What inotify(7) reports about a file meanwhile."""
-    watcher = call("inotify_init1", os.O_NONBLOCK)
-    try:
-        call("inotify_add_watch", watcher, path.encode(), 0xFFF)
-        do()
-        time.sleep(0.1)
-        try:
-            told = os.read(watcher, 4096)
-        except BlockingIOError:
-            return []
-        events = []
-        while told:
-            _, mask, _, length = struct.unpack_from("iIII", told)
-            events.append(hex(mask))
-            told = told[16 + length :]
-        return events
-    finally:
-        os.close(watcher)
-
-
-def about_watches(it):
-    yield "inotify of a read", lambda: watched(it.path, it.value)
-    yield "inotify of a write", lambda: watched(it.path, lambda: it.write(b"x\n"))
-
-
-class Held:
-    """What is open when the device is removed."""
-
-    def __init__(self, it, remove):
-        it.write(b"last\n")
-        self.read, self.poller, self.fresh, self.sender = (
-            os.open(it.path, how) for how in (os.O_RDWR, os.O_RDONLY, os.O_RDONLY, os.O_RDONLY)
-        )
-        self.path, self.top = os.open(it.path, os.O_PATH), os.open(it.top, os.O_RDONLY | os.O_DIRECTORY)
-        self.part, self.whole = os.open(it.path, os.O_RDONLY), os.open(it.path, os.O_RDONLY)
-        os.pread(self.read, 2, 0)
-        os.read(self.part, 2)
-        os.read(self.whole, 99)
-        os.pread(self.poller, 99, 0)
-        try:
-            self.map = it.open(
-                os.O_RDONLY, lambda file: mmap.mmap(file, 4096, mmap.MAP_PRIVATE, mmap.PROT_READ)
-            )
-            self.map[:4]
-        except OSError:
-            self.map = None
-        self.polled = select.poll()
-        self.polled.register(self.poller, select.POLLPRI)
-        os.chdir(it.top)
-        self.events = watched(it.path, remove)
-
-    def mapped(self):
-        """What the mapping shows, to a child, since it may die of it."""
-        if not self.map:
-            return None
-        out, into = os.pipe()
-        child = os.fork()
-        if not child:
-            os.write(into, self.map[:4])
-            os._exit(0)
-        os.close(into)
-        text = os.read(out, 4)
-        os.close(out)
-        status = os.waitstatus_to_exitcode(os.waitpid(child, 0)[1])
-        return text if not status else signal.Signals(-status).name
-
-
-def about_removal(it, remove):
-    held = Held(it, remove)
-    again = lambda file: opened(f"/proc/self/fd/{file}", os.O_RDONLY, lambda new: os.read(new, 99))
-    yield "inotify of the removal", lambda: held.events
-    yield "read on of what was read in part, after", lambda: os.read(held.part, 99)
-    yield "read at the end of what was read whole, after", lambda: os.read(held.whole, 99)
-    yield "pread at another place of it, after", lambda: os.pread(held.whole, 99, 2)
-    yield "what a private mmap shows, after", held.mapped
-    yield "pread at 0, after", lambda: os.pread(held.read, 99, 0)
-    yield "pread at 2 of what was read, after", lambda: os.pread(held.read, 99, 2)
-    yield "pread at 0 of what was not read, after", lambda: os.pread(held.fresh, 99, 0)
-    yield "pread at 2 of what was not read, after", lambda: os.pread(held.fresh, 99, 2)
-    yield "read of no bytes, after", lambda: os.pread(held.read, 0, 0)
-    yield "write, after", lambda: os.pwrite(held.read, b"1", 0)
-    yield "write of no bytes, after", lambda: os.pwrite(held.read, b"", 0)
-    yield "sendfile, after", lambda: os.sendfile(os.memfd_create("answers"), held.sender, 0, 4096)
-    yield "poll, after", lambda: [events for _, events in held.polled.poll(0)]
-    yield "fstat, after", lambda: (
-        oct(os.fstat(held.read).st_mode),
-        os.fstat(held.read).st_size,
-        os.fstat(held.read).st_nlink,
-    )
-    yield "fstat of a directory, after", lambda: (
-        oct(os.fstat(held.top).st_mode),
-        os.fstat(held.top).st_nlink,
-    )
-    yield "fstat by O_PATH, after", lambda: os.fstat(held.path).st_nlink
-    yield "fchmod, after", lambda: os.fchmod(held.read, 0o600)
-    yield "listing of a directory, after", lambda: os.listdir(held.top)
-    yield "listing of where one is, after", lambda: os.listdir(".")
-    yield "stat of where one is, after", lambda: os.stat(".").st_nlink
-    yield "getcwd, after", lambda: os.getcwd().replace(it.top, "TOP")
-    yield "stat of the path, after", lambda: os.stat(it.path)
-    yield "stat of the name where one is, after", lambda: os.stat(os.path.basename(it.path))
-    yield "open by /proc/self/fd, after", lambda: again(held.read)
-    yield "open by /proc/self/fd of O_PATH, after", lambda: again(held.path)
-    yield "the link /proc/self/fd, after", lambda: os.readlink(f"/proc/self/fd/{held.read}").replace(
-        it.top, "TOP"
-    )
-    yield "openat, after", lambda: os.open(os.path.basename(it.path), os.O_RDONLY, dir_fd=held.top)
-    yield "fsync, after", lambda: os.fsync(held.read)
-    for name, way in ("start", os.SEEK_SET), ("end", os.SEEK_END), ("next byte", os.SEEK_DATA):
-        yield f"lseek to the {name}, after", lambda way=way: os.lseek(held.read, 0, way)
-    yield "close, after", lambda: [
-        os.close(file)
-        for file in (
-            held.read,
-            held.poller,
-            held.fresh,
-            held.sender,
-            held.part,
-            held.whole,
-            held.path,
-            held.top,
-        )
-    ]
-
-
 def questions(path, remove):
     it = File(path)
     for group in (
-        about_stat,
-        about_listings,
-        about_reads,
-        about_writes,
-        about_opens,
-        about_descriptors,
-        about_polls,
-        about_attributes,
-        about_changes,
-        about_names,
-        about_watches,
+        about_stat, about_listings, about_reads, about_writes, about_opens, about_descriptors, about_polls,
+        about_attributes, about_changes, about_names, about_watches,
     ):
         yield from group(it)
     yield from about_removal(it, remove)

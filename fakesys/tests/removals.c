@@ -1,8 +1,8 @@
 /* SPDX-License-Identifier: MIT OR Apache-2.0 */
 /* removals MOUNT COUNT: devices come and go COUNT times while threads read, write, open and poll their file.
  *
- * It counts each read at offset 0, write and open that began after the rm of its device had returned, and that
- * succeeded: there must be none. A text is the number of its device's life, and inode numbers grow, so each
+ * It counts each stat, open, write and read at offset 0 that began after the rm of its device had returned, and
+ * that succeeded: there must be none. A text is the number of its device's life, and inode numbers grow, so each
  * reader knows which rm it came after. */
 #include <errno.h>
 #include <fcntl.h>
@@ -20,8 +20,8 @@
 #define DEVICES 4
 
 static char control[300];
-static atomic_long left, lives, reads, writes, opens, polls, refused;
-static atomic_long late_reads, late_writes, late_opens, torn, unknown;
+static atomic_long left, lives, reads, writes, opens, stats, polls, refused;
+static atomic_long late_reads, late_writes, late_opens, late_stats, torn, unknown;
 static atomic_bool is_over;
 static struct device {
     atomic_long gone, gone_inode; /* the last life whose rm has returned, and its file's inode number */
@@ -56,6 +56,18 @@ static long read_life(int file)
         torn++;
     reads++;
     return life;
+}
+
+static void look_at(struct device *it)
+{
+    struct stat stat;
+    long gone_inode = it->gone_inode;
+    if (lstat(it->path, &stat)) {
+        count_error();
+        return;
+    }
+    stats++;
+    late_stats += (long)stat.st_ino <= gone_inode;
 }
 
 static int open_device(struct device *it, int how)
@@ -113,6 +125,7 @@ static void *use(void *data)
     unsigned number = (unsigned)(uintptr_t)data, lot = number + 1;
     while (!is_over) {
         struct device *it = &devices[next_number(&lot) % DEVICES];
+        look_at(it);
         int file = open_device(it, number % 4 == 2 ? O_RDWR : O_RDONLY);
         if (file < 0)
             continue;
@@ -182,8 +195,9 @@ int main(int count, char **words)
     is_over = true;
     for (size_t at = 0; at < sizeof users / sizeof *users; at++)
         pthread_join(users[at], NULL);
-    printf("%ld removals, %ld reads, %ld opens, %ld writes, %ld polls, %ld refused; "
-           "late: %ld reads, %ld opens, %ld writes; torn %ld, unknown errors %ld\n",
-           lives, reads, opens, writes, polls, refused, late_reads, late_opens, late_writes, torn, unknown);
-    return late_reads || late_opens || late_writes || torn || unknown;
+    printf("%ld removals, %ld reads, %ld opens, %ld stats, %ld writes, %ld polls, %ld refused; "
+           "late: %ld reads, %ld opens, %ld stats, %ld writes; torn %ld, unknown errors %ld\n",
+           lives, reads, opens, stats, writes, polls, refused, late_reads, late_opens, late_stats, late_writes,
+           torn, unknown);
+    return late_reads || late_opens || late_stats || late_writes || torn || unknown;
 }

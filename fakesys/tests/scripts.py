@@ -1,6 +1,6 @@
 # SPDX-License-Identifier: MIT OR Apache-2.0
 """Runs scripts of the proved program line by line, and compares the replies."""
-import contextlib, errno, os, random, re, select, stat, subprocess, sys
+import contextlib, os, random, re, select, stat, subprocess, sys
 
 from mounted import EVENTS, NAMES, TOP, Mount, eventually, must
 

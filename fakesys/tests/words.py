@@ -3,7 +3,7 @@
 import errno, os, re, subprocess
 from pathlib import Path
 
-from mounted import FAN, PATIENCE, TOP, Mount, error_of, must, read_path
+from mounted import FAN, PATIENCE, TOP, Mount, Wrong, error_of, must, read_path
 
 
 def run(program, *words, given=None):
@@ -19,39 +19,23 @@ def asked(program, folder):
     at.mkdir()
     most = "1048576"
     for words in (
-        [],
-        [script],
-        [at],
-        ["--slots", "0", script, at],
-        ["--slots", "5x", script, at],
-        ["--slots", "", script, at],
-        ["--slots=-1", script, at],
-        ["--slots", "1048577", script, at],
-        ["--slots"],
-        ["--frob", script, at],
-        [script, at, "-x"],
-        [script, at, "-o", "frob"],
-        [script, at, at],
-        [script, folder / "nowhere"],
-        ["--check", script, at],
-        ["--check"],
-        ["-o", "max_threads=0", script, at],
+        [], [script], [at], ["--slots", "0", script, at], ["--slots", "5x", script, at], ["--slots", "", script, at],
+        ["--slots=-1", script, at], ["--slots", "1048577", script, at], ["--slots"], ["--frob", script, at],
+        [script, at, "-x"], [script, at, "-o", "frob"], [script, at, at], [script, folder / "nowhere"],
+        ["--check", script, at], ["--check"], ["-o", "max_threads=0", script, at], ["--order", "-1", script, at],
+        ["--order", "x", script, at], ["--order"],
     ):
         ran = run(program, *words)
         must(ran.returncode == 2 and ran.stderr, f"{words}: {ran}")
         must(not os.path.ismount(at), f"{words}: it is mounted")
     for words, said in (
-        (["--help"], "usage: fakesysfs "),
-        (["-h"], "--slots N "),
-        (["--version"], f"fakesysfs {(TOP / 'VERSION').read_text().strip()}, libfuse 3."),
-        (["-V"], "libfuse 3."),
+        (["--help"], "usage: fakesysfs "), (["-h"], "--slots N "),
+        (["--version"], f"fakesysfs {(TOP / 'VERSION').read_text().strip()}, libfuse 3."), (["-V"], "libfuse 3."),
     ):
         ran = run(program, *words)
         must(ran.returncode == 0 and said in ran.stdout and not ran.stderr, f"{words}: {ran}")
     for words in (
-        ["--slots", most, "--check", script],
-        ["--check", f"--slots={most}", script],
-        ["--check", "-"],
+        ["--slots", most, "--check", script], ["--check", f"--slots={most}", script], ["--check", "-"],
         ["-o", "slots=2", "--check", script],
     ):
         ran = run(program, *words, given="mkdir /a\n")
@@ -72,8 +56,7 @@ def loaded(program, folder):
     must(
         lines
         == [
-            "4: no such command: frob",
-            "5: File exists: mkdir /a",
+            "4: no such command: frob", "5: File exists: mkdir /a",
             "6: usage: slow PATH MILLISECONDS (at most 99999): slow /a x",
             "7: the line has a zero byte (write it as \\0 in a text): set /a \\000",
             "8: No such file or directory: rm /no",
@@ -114,8 +97,7 @@ def started(program, folder):
     with Mount(program, folder, script.read_text().splitlines(), slots=None) as mount:
         more = [mount.tell(f"mkdir /m{number}") for number in range(900)]
         must(
-            more == ["ok"] * 801 + ["err NoSpace 28"] * 99,
-            "slots for as many again: %d" % more.count("ok"),
+            more == ["ok"] * 801 + ["err NoSpace 28"] * 99, "slots for as many again: %d" % more.count("ok"),
         )
 
 
@@ -126,13 +108,8 @@ def refused(program, folder):
         "".join(
             f"{line}\n"
             for line in [
-                *FAN,
-                "set /devices/fan0/speed a\\nb",
-                "storm /devices/fan0 1",
-                "mv /devices/fan0 / f",
-                "hide /f/speed",
-                "notify /f/limit",
-                "unplug /f",
+                *FAN, "set /devices/fan0/speed a\\nb", "storm /devices/fan0 1", "mv /devices/fan0 / f",
+                "hide /f/speed", "notify /f/limit", "unplug /f",
             ]
         )
     )
@@ -171,8 +148,7 @@ def tidy(program, folder):
     script = folder / "tidy.kf"
     limited = ["sh", "-c", 'ulimit -v 32768; exec "$@"', "sh", program, "--slots", "16", "--check", script]
     for lines in (
-        "file /a 444 text\nrm /a\n" * 100_000,
-        "mkdir /a\nmkdir /b\n" + "mv /a /b a\nmv /b/a / a\n" * 200_000,
+        "file /a 444 text\nrm /a\n" * 100_000, "mkdir /a\nmkdir /b\n" + "mv /a /b a\nmv /b/a / a\n" * 200_000,
         "file /f 444 text\n" + "hide /f\nshow /f\nactivate /f\n" * 100_000,
     ):
         script.write_text(lines)

@@ -1,0 +1,233 @@
+# SPDX-License-Identifier: MIT OR Apache-2.0
+"""fakesys shrink [OPTION ..] LINES DESCRIPTION -- COMMAND ..
+
+Makes the lines of a storm few that COMMAND failed in (`fakesys storm -o LINES`). It replays parts of them, and keeps a part
+in which COMMAND fails as before. The unplug of a device and its plug go together. Then it explores the devices that are
+left, so that what the storm found ends as one line `at ..` that repeats it. The lines that are left are printed, or
+written to a file that `fakesys storm --replay` and `fakesys -t` read. The status is 0 if COMMAND fails again; 1 if it
+does not; 2 for a usage error; 125 if nothing can be mounted."""
+import argparse
+import os
+import re
+import subprocess
+import sys
+import tempfile
+import time
+
+import fakesys
+import fakesys_library
+import fakesys_run
+from fakesys_points import shape_of
+
+FEWEST = 8  # lines that are tried first: the last ones
+LONG = 3  # the first tries take this much longer, so that a rare fault comes again
+HALF = 0.5  # of the time is for the exploration
+RUNS = 400  # points that it tries
+CALM = 0.3  # seconds without a storm before each try
+FOUND, NOT_AGAIN = 1, 1
+
+
+def groups_of(lines):
+    """Lines that stay or go together: an unplug and the plug of that device after it, a fault and its end."""
+    groups, begun = [], {}
+    for at, line in lines:
+        word, _, rest = line.partition(" ")
+        path, _, value = rest.partition(" ")
+        key = ("plug" if word in ("plug", "unplug") else word, path)
+        begins = word == "unplug" or word in ("fail", "late", "slow") and value != "0"
+        if not begins and key in begun:
+            begun.pop(key).append((at, line))
+            continue
+        groups.append([(at, line)])
+        if begins:
+            begun[key] = groups[-1]
+    return groups
+
+
+def together(groups):
+    return sorted((line for group in groups for line in group), key=lambda it: it[0])
+
+
+def reduced(groups, fails, is_time):
+    """Fewer groups that still fail: halves first, then smaller and smaller parts, and what is left without them (delta
+    debugging)."""
+    parts = 2
+    while len(groups) > 1 and is_time():
+        size = -(-len(groups) // parts)
+        pieces = [groups[at : at + size] for at in range(0, len(groups), size)]
+        rests = [[it for other in pieces if other is not piece for it in other] for piece in pieces]
+        tried = pieces + (rests if len(pieces) > 2 else [])
+        kept = next((it for it in tried if is_time() and fails(it)), None)
+        if kept is not None:
+            groups, parts = kept, 2 if kept in pieces else max(len(pieces) - 1, 2)
+        elif parts >= len(groups):
+            break
+        else:
+            parts = min(2 * parts, len(groups))
+    return groups
+
+
+class Shrinker:
+    """Replays parts of a storm's lines."""
+
+    def __init__(self, options, words):
+        self.options, self.words, self.tries, self.what = options, words, 0, None
+        self.until = time.monotonic() + options.time * HALF
+        self.folder = tempfile.TemporaryDirectory(prefix="fakesys-shrink-")
+        self.part = os.path.join(self.folder.name, "part.tl")
+
+    def is_time(self):
+        return time.monotonic() < self.until
+
+    def end_of(self, lines, seconds):
+        """How the command ends while these lines are replayed, in words; None if nothing happens."""
+        self.tries += 1
+        write(lines, self.part)
+        words = ["storm", "--replay", self.part, "--time", str(seconds), "--calm", str(CALM), *self.words]
+        ran = fakesys_again([*words, self.options.description, "--", *self.options.command])
+        if ran.returncode not in (0, FOUND):
+            raise fakesys_run.Refused(f"the storm cannot be replayed: {ran.stderr.strip()[-500:] or ran.stdout[-500:]}")
+        found = re.search(r"FOUND after [\d.]+ s: (?:it )?(.*)", ran.stdout)
+        return found[1] if found else None
+
+    def fails(self, lines):
+        """Whether the command fails in the same way under these lines."""
+        return bool(lines) and self.what == alike(self.end_of(lines, self.options.seconds))
+
+    def shrink(self, lines):
+        """Fewer lines under which the command fails, or None if it does not fail again."""
+        count = FEWEST
+        while True:
+            found = self.end_of(lines[-count:], LONG * self.options.seconds)
+            if found or count >= len(lines) or not self.is_time():
+                break
+            count *= 2
+        if not found:
+            return None
+        self.what, lines = alike(found), lines[-count:]
+        print(f"fakesys shrink: it {found} under the last {len(lines)} lines", flush=True)
+        groups = reduced(groups_of(lines), lambda some: self.fails(together(some)), self.is_time)
+        lines = together(groups)
+        for line in list(lines) if len(lines) > 1 else ():
+            rest = [it for it in lines if it != line]
+            if self.is_time() and self.fails(rest):
+                lines = rest
+        return lines
+
+
+def alike(end):
+    """How a command ended, without what differs from run to run."""
+    return end and shape_of(end)
+
+
+def write(lines, name):
+    first = lines[0][0] if lines else 0
+    with open(name, "w", encoding="utf-8", errors="surrogateescape") as file:
+        file.writelines(f"{at - first:.3f} {line}\n" for at, line in lines)
+
+
+def fakesys_again(words):
+    """Runs this program with other words."""
+    program = os.path.realpath(sys.argv[0])
+    return subprocess.run(
+        [sys.executable, program, *words], stdin=subprocess.DEVNULL, capture_output=True, text=True, errors="replace", check=False
+    )
+
+
+def devices_in(lines, description):
+    """The devices that these lines change, or in which they change a file."""
+    devices, found = set(description.devices()), []
+    for _, line in lines:
+        path = line.split(" ")[1] if " " in line else ""
+        while len(path) > 1 and path not in devices and not line.startswith(("plug", "unplug")):
+            path = os.path.dirname(path)
+        if path in description.directories() and path not in found:
+            found.append(path)
+    return found
+
+
+def explored(options, words, lines, seconds):
+    """What an exploration of the devices in these lines, or of all if there are none, prints about its finds."""
+    devices = devices_in(lines, fakesys.Description(options.text))
+    if seconds <= 0:
+        return None
+    limits = ["--seconds", f"{seconds:.0f}", "--runs", str(RUNS)]
+    named = [word for device in devices for word in ("--device", device)]
+    ran = fakesys_again(["explore", *limits, *named, *words, options.description, "--", *options.command])
+    return ran.stdout[: ran.stdout.rfind("\n", 0, -1) + 1] if ran.returncode == FOUND else None
+
+
+def shrink_and_explore(options, lines, words):
+    """Shrinks lines, explores what is left, and prints both. Returns the lines that are left, or None."""
+    started = time.monotonic()
+    shrinker = Shrinker(options, words)
+    left = shrinker.shrink(lines)
+    if not left:
+        print(f"fakesys shrink: it does not fail again in {shrinker.tries} tries")
+        return None
+    print(f"fakesys shrink: {len(left)} of {len(lines)} lines are left after {shrinker.tries} tries", flush=True)
+    shown = explored(options, words, left, options.time - (time.monotonic() - started))
+    print(shown or "fakesys shrink: no single step repeats it", end="" if shown else "\n")
+    return left
+
+
+def words_of(options):
+    """The options that a storm and an exploration share."""
+    words = ["-a"] * options.all + ["-n"] * options.network
+    for name in "slots", "poke", "hang":
+        if getattr(options, name) is not None:
+            words += [f"--{name}", str(getattr(options, name))]
+    return [*words, "--ok", ",".join(map(str, options.ok))]
+
+
+def shrink(options, parser):
+    """`fakesys shrink`: its exit status."""
+    if not options.command:
+        parser.error("COMMAND is missing")
+    if not options.seconds > 0 or not options.time > 0:
+        parser.error("a number is out of range")
+    if options.description == "-":
+        parser.error("the description is read again and again, so it must be a file")
+    options.text = fakesys_run.read_text(options.description)
+    lines = [it for it in fakesys_run.read_timeline(options.lines) if not it[1].startswith("#")]
+    if not lines:
+        raise fakesys_run.Refused(f"{options.lines}: no lines")
+    if options.output:
+        check_output(options.output)
+    left = shrink_and_explore(options, lines, words_of(options))
+    if left:
+        write(left, options.output or "/dev/stdout")
+    return 0 if left else NOT_AGAIN
+
+
+def check_output(name):
+    try:
+        with open(name, "a", encoding="utf-8"):
+            pass
+    except OSError as error:
+        raise fakesys_run.Refused(f"{name}: {error.strerror}") from None
+
+
+def after_storm(options, lines):
+    """What `fakesys storm` does with the lines in which it found something."""
+    if options.description != "-" and lines:
+        print(f"fakesys storm: shrinking {len(lines)} lines for up to {options.shrink:g} s", flush=True)
+        given = argparse.Namespace(**{**vars(options), "time": options.shrink, "seconds": 2})
+        left = shrink_and_explore(given, lines, words_of(options))
+        if left:
+            print("".join(f"    {at - left[0][0]:.3f} {line}\n" for at, line in left), end="")
+
+
+def add_words(words):
+    words.usage = "fakesys shrink [OPTION ..] LINES DESCRIPTION -- COMMAND .."
+    add = words.add_argument
+    add("--seconds", type=float, default=3, help="how long a part is replayed (default 3)")
+    add("--time", type=float, default=180, help="seconds in all, half of them for the exploration (default 180)")
+    add("--poke", metavar="LINE", help="as for the storm")
+    add("--hang", type=float, help="as for the storm")
+    add("--ok", type=lambda text: [int(it) for it in text.split(",")], default=[0], metavar="N,..", help="as for the storm")
+    add("-o", "--output", metavar="FILE", help="write the lines that are left to FILE")
+    add("lines", metavar="LINES", help="a file of lines, as `fakesys storm -o` writes it")
+    add("description", metavar="DESCRIPTION", type=fakesys_library.file_of)
+    add("command", metavar="COMMAND", nargs="...")
+    return words

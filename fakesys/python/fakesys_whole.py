@@ -1,0 +1,74 @@
+# SPDX-License-Identifier: MIT OR Apache-2.0
+"""Makes a tree whole again: as its description has it, whatever a test or a program has done to it."""
+import errno
+import os
+
+from fakesys import escaped_path, unescaped_path, write_lines
+
+NODES = ("mkdir", "file", "link")
+FAULTS = ("fail", "late", "slow")
+
+
+def make_whole(tree):
+    """What is missing comes, what is new goes, texts and faults are as at first. Devices come as `plug` plugs them."""
+    words = tree.description.words
+    made = {unescaped_path(path): word for word, path, _ in words if word in NODES}
+    there = nodes_of(tree)
+    remove_new(tree, there, made)
+    if plug(tree, made.keys() - there):
+        there = nodes_of(tree)
+    missing = {path for path in made if path not in there}
+    is_missing = lambda path: unescaped_path(path) in missing
+    hidden = sorted(path for path in missing if made[path] == "file" and os.path.dirname(path) not in missing)
+    write_all(tree, [f"show {escaped_path(path)}" for path in hidden])
+    missing -= {path for path in hidden if os.path.lexists(tree.at + path)}
+    write_all(tree, [" ".join(filter(None, it)) for it in words if it[0] in NODES and is_missing(it[1])])
+    write_all(tree, [f"{fault} {path} 0" for word, path, _ in words if word == "file" for fault in FAULTS])
+    write_all(tree, [first_text(path, rest) for word, path, rest in words if word == "file"])
+    write_all(tree, [" ".join(it) for it in words if it[0] not in NODES])
+
+
+def first_text(path, rest):
+    """The line that sets the text of a `file` line again. There no byte of it is an escape, here some are."""
+    return f"set {path} " + rest[4:].replace("\\", r"\\")
+
+
+def nodes_of(tree):
+    """The paths of all nodes in a tree. No directory is late any more, since that would delay this."""
+    found, folders = set(), [""]
+    while folders:
+        write_all(tree, [f"late {escaped_path(folder) or '/'} 0" for folder in folders])
+        entries = [(f"{folder}/{entry.name}", entry) for folder in folders for entry in scan(tree.at + folder)]
+        folders = [path for path, entry in entries if entry.is_dir(follow_symlinks=False)]
+        found |= {path for path, _ in entries}
+    return found
+
+
+def scan(folder):
+    """The entries of a directory. A listing does not have the control file."""
+    with os.scandir(folder + "/") as entries:
+        return list(entries)
+
+
+def remove_new(tree, there, made):
+    new = {path for path in there if path not in made}
+    write_all(tree, [f"rm {escaped_path(path)}" for path in sorted(new) if os.path.dirname(path) not in new])
+
+
+def plug(tree, missing):
+    """Plugs the devices that are missing, each with all below it. Returns whether there was one."""
+    tops = [unescaped_path(path) for path in tree.description.devices()]
+    tops = [path for path in tops if path in missing and os.path.dirname(path) not in missing]
+    for path in tops:
+        tree.give(f"plug {escaped_path(path)}")
+    return bool(tops)
+
+
+def write_all(tree, lines):
+    """Writes lines, and skips those of nodes that are missing or need nothing."""
+    left = list(lines)
+    while left:
+        left, error = write_lines(tree.control, left)
+        if error and error.errno not in (errno.ENOENT, errno.EEXIST, errno.EINVAL):
+            raise OSError(error.errno, f"{error.strerror}: {left[0]}")
+        left = left[1:]

@@ -1,0 +1,159 @@
+# SPDX-License-Identifier: MIT OR Apache-2.0
+"""Tests of `fakesys explore` and `fakesys shrink`, which test_tools runs."""
+import json, re, signal, sys, xml.etree.ElementTree
+
+from mounted import must
+
+CHIP = "/devices/platform/coretemp.0/hwmon/hwmon0"
+# A reader that lists the chips and then trusts that they stay.
+TRUSTING = "for chip in $(ls /sys/class/hwmon); do read name < /sys/class/hwmon/$chip/name || kill -SEGV $$; done"
+ONCE = """
+import os
+for name in os.listdir("/sys/class/hwmon"):
+    open(f"/sys/class/hwmon/{name}/name").read()
+"""
+SHORT = ["--actions", "unplug,EIO"]
+PATIENCE = 400  # seconds for an exploration, on a busy machine
+
+
+def explore(tools, *words, script):
+    return tools.run("explore", *words, tools.chip, "--", "sh", "-c", script, timeout=PATIENCE)
+
+
+def found_in(ran):
+    """The finds that were printed: how the program ended, and the line that repeats it."""
+    return re.findall(r"^FOUND: (.*)\n {4}(at .*)$", ran.stdout, re.M)
+
+
+def last_line(ran):
+    return ran.stdout.rstrip().split("\n")[-1]
+
+
+def explored(tools):
+    """An exploration finds a reader that trusts a listing, the same in a second run and side by side; its line repeats it"""
+    first = explore(tools, *SHORT, script=TRUSTING)
+    finds = found_in(first)
+    must(first.returncode == 1 and finds, first)
+    must(all(what == "killed by SIGSEGV" for what, _ in finds), finds)
+    points, runs, count = map(int, re.fullmatch(r"(\d+) points, (\d+) runs, (\d+) finds", last_line(first)).groups())
+    must(points == runs > 10 and count == len(finds), first.stdout)
+    must("repeated 3 of 3 times" in first.stdout and "repeated 0" not in first.stdout, first.stdout)
+    for again in explore(tools, *SHORT, script=TRUSTING), explore(tools, *SHORT, "-j", "2", script=TRUSTING):
+        must((again.returncode, again.stdout) == (1, first.stdout), f"it differs: {again} {first}")
+    for _, line in finds:
+        ran = tools.run(tools.chip, "sh", "-c", f'echo "$1" > $FAKESYS; {TRUSTING}', "sh", line)
+        must(ran.returncode == 128 + signal.SIGSEGV, f"{line}: {ran}")
+    tried = explore(tools, "--at", finds[0][1], "--times", "4", script=TRUSTING)
+    must((tried.returncode, tried.stdout) == (1, "4 of 4: killed by SIGSEGV\n"), tried)
+    other = explore(tools, "--at", f"at read {CHIP}/temp1_input 1 unplug {CHIP}", "--times", "2", script=TRUSTING)
+    must(other.returncode == 0 and other.stdout == "2 of 2: no fault, but the step was not made\n", other)
+    return f"{points} points, {count} finds"
+
+
+def reported(tools):
+    """Its reports are JSON and JUnit's XML; a known find is reported and does not count; a budget is kept"""
+    files = {kind: tools.folder / f"report.{kind}" for kind in ("json", "junit", "known")}
+    words = ["--actions", "unplug", "--json", files["json"], "--junit", files["junit"]]
+    files["json"].write_text("x" * 100000)
+    ran = explore(tools, *words, script=TRUSTING)
+    report = json.loads(files["json"].read_text())
+    must([(it["what"], it["line"]) for it in report["finds"]] == found_in(ran) != [], report)
+    must(f"{report['points']} points, {report['runs']} runs, {len(report['finds'])} finds" == last_line(ran), report)
+    suite = xml.etree.ElementTree.parse(files["junit"]).getroot()
+    must(int(suite.get("tests")) == report["runs"] == len(suite.findall("testcase")), "a test case for each run")
+    failed = [case.get("name") for case in suite.iter("testcase") if case.find("failure") is not None]
+    must(len(failed) == int(suite.get("failures")) == sum(it["points"] for it in report["finds"]), failed)
+    must(report["finds"][0]["line"] in failed, failed)
+    files["known"].write_text("notes\n" + "".join(f"  {it['line']}\n" for it in report["finds"]))
+    known = explore(tools, *words, "--known", files["known"], script=TRUSTING)
+    must(known.returncode == 0 and "KNOWN: killed by SIGSEGV" in known.stdout and " 0 finds" in last_line(known), known)
+    few = explore(tools, "--runs", "7", script=TRUSTING)
+    must(re.search(r"\d+ points, 7 runs", last_line(few)) and "points were not tried" in few.stdout, few)
+    none = explore(tools, "--seconds", "0.01", script=TRUSTING)
+    must(none.returncode == 0 and " 0 runs, 0 finds" in last_line(none), none)
+
+
+def judged(tools):
+    """A status of a calm run is no find, nor is a wait that ends once the device is back; any other status and a hang are"""
+    sound = f"cat /sys{CHIP}/name 2> /dev/null || exit 3"
+    ran = explore(tools, script=sound)
+    must(ran.returncode == 0 and " 0 finds" in last_line(ran), f"a deliberate status: {ran}")
+    must(int(last_line(ran).split()[0]) > 20, f"points: {ran}")
+    strange = "for chip in $(ls /sys/class/hwmon); do [ -e /sys/class/hwmon/$chip/name ] || exit 4; done"
+    ran = explore(tools, "--actions", "unplug", script=strange)
+    must(ran.returncode == 1 and found_in(ran)[0][0] == "status 4", f"a status that no calm run had: {ran}")
+    ran = explore(tools, "--actions", "unplug", "--ok", "0,4", script=strange)
+    must(ran.returncode == 0, f"an accepted status: {ran}")
+    waits = f"until read name < /sys{CHIP}/name; do :; done 2> /dev/null"
+    ran = explore(tools, "--actions", "unplug", "--hang", "0.5", "--runs", "4", script=waits)
+    must(ran.returncode == 0 and " 4 runs" in last_line(ran), f"it waits for its device: {ran}")
+    hangs = f"read name < /sys{CHIP}/name || sleep 986"
+    ran = explore(tools, "--actions", "unplug", "--hang", "0.5", "--runs", "3", script=hangs)
+    must(ran.returncode == 1 and found_in(ran)[0][0] == "hangs", f"it hangs: {ran}")
+    reader = tools.file("once.py", ONCE)
+    ran = tools.run("explore", "--actions", "unplug", "--runs", "8", tools.chip, "--", sys.executable, reader, timeout=PATIENCE)
+    must(ran.returncode == 1 and found_in(ran)[0][0].startswith("traceback: FileNotFoundError"), f"a traceback: {ran}")
+    stored = f"read t < /sys{CHIP}/temp1_max || exit 0; [ $t = 80000 ] || kill -SEGV $$; echo 1 > /sys{CHIP}/temp1_max"
+    ran = explore(tools, "--actions", "unplug", "--runs", "6", script=stored)
+    must(ran.returncode == 0, f"what a run writes is undone after it: {ran}")
+
+
+def daemons(tools):
+    """An exploration queries a daemon, which goes on from run to run, and finds the query that it dies of"""
+    pid = "/dev/shm/daemon.pid"  # with -n each tree has its own
+    daemon = f"echo $$ > {pid}; exec sleep 987"
+    poke = f"read name < /sys{CHIP}/name || {{ kill -ABRT $(cat {pid}); exit 1; }}"
+    words = ["-n", "--actions", "unplug", "--runs", "9", "--poke", poke]
+    ran = explore(tools, *words, script=daemon)
+    must(ran.returncode == 1 and found_in(ran)[0][0] == "killed by SIGABRT", ran)
+    again = explore(tools, *words, "-j", "2", script=daemon)
+    must(again.stdout == ran.stdout, f"side by side: {again} {ran}")
+    silent = explore(tools, *words[:-1], "false", "--calm", "0.5", script=daemon)
+    must(silent.returncode == 2 and "--poke" in silent.stderr, silent)
+
+
+def wrong_words(tools):
+    """An exploration that cannot be is refused in one line, before anything runs"""
+    for words, script, part in (
+        (["--json", "/no/such/report"], TRUSTING, "/no/such/report: No such file or directory"),
+        (["--junit", tools.folder], TRUSTING, "Is a directory"),
+        (["--device", "/devices/none"], TRUSTING, "no directory /devices/none"),
+        (["--actions", "unplug,frob"], TRUSTING, "not an action: frob"),
+        (["--runs", "-1"], TRUSTING, "out of range"),
+        (["--seconds", "0"], TRUSTING, "out of range"),
+        (["-j", "0"], TRUSTING, "out of range"),
+        (["--known", "no-such-file"], TRUSTING, "no-such-file: No such file"),
+        (["--at", f"unplug {CHIP}"], TRUSTING, "must begin with `at `"),
+        (["--at", f"at peek {CHIP}/name 1 unplug {CHIP}"], TRUSTING, "--at: "),
+        (["--at", f"at read {CHIP}/nothing 1 unplug {CHIP}"], TRUSTING, "--at: No such file or directory"),
+        (["--at", f"at read {CHIP}/name 0 unplug {CHIP}"], TRUSTING, "--at: "),
+        ([], "true", "no step that depends on a device"),
+        ([], f"cat /sys{CHIP}/name; kill -SEGV $$", "killed by SIGSEGV"),
+        (["--hang", "0.5"], "exec sleep 988", "a daemon needs --poke"),
+    ):
+        ran = explore(tools, *words, script=script)
+        must(ran.returncode == 2 and part in ran.stderr, f"{words}: {ran}")
+        must("points" not in ran.stdout and "Traceback" not in ran.stderr, f"{words}: {ran}")
+    ran = tools.run("explore", tools.chip, "--", "no-such-command")
+    must(ran.returncode == 2 and "no-such-command" in ran.stderr, ran)
+
+
+def shrunk(tools):
+    """The lines of a storm are made few, and the exploration of what is left ends with the line that repeats the find"""
+    kept, few = tools.folder / "kept.tl", tools.folder / "few.tl"
+    reader = f"while :; do {TRUSTING}; done 2> /dev/null"
+    storm = tools.run("storm", "--seed", "7", "--time", "30", "-o", kept, tools.chip, "--", "sh", "-c", reader, timeout=PATIENCE)
+    must(storm.returncode == 1, storm)
+    before = kept.read_text().count("\n") - 1
+    ran = tools.run("shrink", "--time", "300", "-o", few, kept, tools.chip, "--", "sh", "-c", TRUSTING, timeout=PATIENCE)
+    must(ran.returncode == 0 and found_in(ran) and found_in(ran)[0][0] == "killed by SIGSEGV", ran)
+    left = few.read_text().split("\n")[:-1]
+    # (between two turns of a replay all devices go and come, so any one line may be enough)
+    must(0 < len(left) <= before, f"{before} lines: {left}")
+    for words in (["no-such.tl", tools.chip, "--", "true"], ["-o", "/no/such", kept, tools.chip, "--", "true"]):
+        ran = tools.run("shrink", *words)
+        must(ran.returncode == 2 and "No such file" in ran.stderr, f"{words}: {ran}")
+    return f"{before} lines to {len(left)}"
+
+
+CASES = (explored, reported, judged, daemons, wrong_words, shrunk)

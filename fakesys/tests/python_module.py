@@ -1,0 +1,114 @@
+# SPDX-License-Identifier: MIT OR Apache-2.0
+"""Tests of the Python module and of its examples."""
+import contextlib, os, subprocess, sys, tempfile
+
+from programs import CHIP, Wrong, eventually, leftovers, must
+
+ATTACHED = """
+import sys
+from fakesys import FakeSys
+with FakeSys() as tree:
+    tree.set(sys.argv[1] + "/name", "x")
+    print(open(f"/sys{sys.argv[1]}/name").read(), end="")
+    tree.unplug("/class/hwmon/hwmon0")
+    tree.plug(sys.argv[1])
+    print(open("/sys/class/hwmon/hwmon0/name").read(), end="")
+"""
+
+
+def module(tools):
+    """The Python module: set, run, unplug, plug, and refusals"""
+    sys.path.insert(0, str(tools.modules))
+    from fakesys import FakeSys
+
+    with FakeSys(tools.chip) as tree:
+        for text, read in (
+            ("7", b"7\n"),
+            (b"\x00\\\xffa\n\n", b"\x00\\\xffa\n\n"),
+            ("a\nb", b"a\nb\n"),
+            (b"", b""),
+        ):
+            tree.set("/class/hwmon/hwmon0/temp1_input", text)
+            must(tree.read(f"{CHIP}/temp1_input") == read, f"{text}: {tree.read(f'{CHIP}/temp1_input')}")
+        said = tree.run(["sh", "-c", "cat /sys/class/hwmon/hwmon0/temp1_max; exit 3"], stdout=subprocess.PIPE)
+        must((said.returncode, said.stdout) == (3, b"80000\n"), said)
+        must(
+            tree.run(["no-such-command"], stderr=subprocess.DEVNULL).returncode == 127,
+            "a command that does not exist",
+        )
+        tree.unplug("/class/hwmon/hwmon0")
+        must(os.listdir(tree.path("/class/hwmon")) == [], "unplugged")
+        tree.plug(CHIP)
+        must(tree.read("/class/hwmon/hwmon0/temp1_input") == b"42000\n", "plugged again")
+        tree.unplug(CHIP)
+        tree.plug("/class/hwmon/hwmon0")
+        must(tree.read(f"{CHIP}/temp1_input") == b"42000\n", "plugged again, by a link")
+        tree.hide("/class/hwmon/hwmon0/name")
+        must(not os.path.exists(tree.path(f"{CHIP}/name")), "hidden, by a link")
+        tree.show("/class/hwmon/hwmon0/name")
+        must(tree.read(f"{CHIP}/name") == b"coretemp\n", "shown again, by a link")
+        with contextlib.suppress(OSError):
+            tree.set("/nothing", 1)
+            raise Wrong("a file that does not exist")
+        ran = tree.run([tools.bin / "fakesys", "tell", f"set {CHIP}/name y"], env={**os.environ, "FAKESYS_DESCRIPTION": "no-such"})
+        must(ran.returncode == 0 and tree.read(f"{CHIP}/name") == b"y\n", f"fakesys tell inside: {ran}")
+    must(not leftovers(), leftovers())
+
+
+def module_ends(tools):
+    """The Python module: wrong descriptions, a daemon or a test that is killed, and odd names leave nothing behind"""
+    sys.path.insert(0, str(tools.modules))
+    from fakesys import FakeSys
+
+    with contextlib.suppress(ValueError):
+        FakeSys("frob\n").__enter__()
+        raise Wrong("a wrong description")
+    with FakeSys(tools.chip) as tree:
+        tree.process.kill()
+        tree.process.wait()
+    killed = f"import os, signal\nfrom fakesys import FakeSys\nFakeSys({str(tools.chip)!r}).__enter__()\nos.kill(os.getpid(), signal.SIGKILL)"
+    env = {**os.environ, "PYTHONPATH": str(tools.modules)}
+    must(subprocess.run([sys.executable, "-c", killed], env=env, check=False).returncode == -9, "a test is killed")
+    must(eventually(lambda: not leftovers()), f"a test that was killed leaves {leftovers()}")
+    with FakeSys("mkdir /class\nfile /class/a\u00a0b 644 x\n") as tree:
+        tree.set("/class/a\u00a0b", "y")
+        must(tree.read("/class/a\u00a0b") == b"y\n", "a blank of another alphabet")
+    script = f'"$0" tell "$1"; echo $?; cat /sys{CHIP}/name'
+    ran = tools.run(tools.chip, "sh", "-c", script, tools.bin / "fakesys", f"set {CHIP}/name x\nfrob\nset {CHIP}/name z")
+    must(ran.stdout == "1\nx\n", f"lines are given until one is refused: {ran}")
+    (tools.folder / "by a link").symlink_to(tempfile.gettempdir())
+    tempfile.tempdir, kept = str(tools.folder / "by a link"), tempfile.tempdir
+    with FakeSys(tools.chip) as tree:
+        tempfile.tempdir = kept
+        tree.set("/class/hwmon/hwmon0/name", "z")
+        must(tree.read(f"{CHIP}/name") == b"z\n", "with the directory of temporary files behind a link")
+    must(not leftovers(), leftovers())
+
+
+def examples(tools):
+    """The Python module inside a run, and its examples for pytest"""
+    ran = tools.run(
+        "-n", tools.chip, sys.executable, "-c", ATTACHED, CHIP, env={**os.environ, "PYTHONPATH": str(tools.modules)}
+    )
+    must(ran.stdout == "x\ncoretemp\n", f"in a run: {ran}")
+    python = next(
+        (
+            it
+            for it in (sys.executable, "/usr/bin/python3")
+            if not subprocess.run([it, "-c", "import pytest"], stderr=subprocess.DEVNULL, check=False).returncode
+        ),
+        None,
+    )
+    if not python:
+        return "without pytest, which is not installed"
+    ran = subprocess.run(
+        [python, "-m", "pytest", "-q", "-p", "no:cacheprovider", tools.examples / "test_sensors.py"],
+        capture_output=True,
+        text=True,
+        check=False,
+    )
+    must(" passed" in ran.stdout and ran.returncode == 0, ran.stdout[-800:])
+    return ran.stdout.strip().split("\n")[-1]
+
+
+TRIED = (module, module_ends, examples)
