@@ -1,0 +1,119 @@
+-- The last receipt of a removal, and what it says of a value that came back.
+use Rattle.std.proofs.Common.{◌≡◌, ◌∙◌, true, false, refl, List, [], ◌∷◌, ◌++◌, length, sym, ap, subst}
+use Rattle.std.specs.Prelude.{ℕ, not, Ok}
+use Rattle.std.proofs.lemmas.List.{append-nil, append_assoc, map-append, same_from_push}
+use Rattle.kf_core.specs.declared.caller.Phase.TheVariants.{Parted}
+use Rattle.kf_core.specs.declared.command.Command.TheVariants.{Doom, Rename}
+use Rattle.kf_core.specs.declared.key.Key.{Key}
+use Rattle.kf_core.specs.Tree.{Tree}
+use Rattle.kf_table.specs.Children.{is_there_already}
+use Rattle.kf_tree.specs.Paths.{seen}
+use Rattle.kf_tree.specs.TreeLogs.{TreeLog}
+use Rattle.kf_words.specs.Callers.{Handle, TableId}
+use Rattle.kf_words.specs.Nodes.{MasterState}
+use Rattle.kf_words.specs.Notes.{history_of}
+use Rattle.kf_words.specs.declared.note.Note.{Note}
+use Rattle.kf_words.specs.declared.note.Note.TheVariants.{Did}
+use Rattle.kf_shared.specs.Locked.{Adds, IsWhole, Locked, history}
+use Rattle.kf_shared.specs.Noted.{tree_in}
+use Rattle.kf_shared.specs.Receipts.{owners_of}
+use Rattle.kf_shared.specs.Removal.{keys_of}
+use Rattle.kf_shared.specs.Sections.{AllEnded, IsTaken, Last, SawItsRemoval, WasEnded, note_where}
+use Rattle.kf_shared.proofs.Notes.{tree_told}
+use Rattle.kf_shared.proofs.Removed.{keys_ended, saw_removal}
+use Rattle.kf_registry.specs.Names.{name_in}
+use Rattle.kf_registry.specs.Receipts.{Exchanged, NamedLive, WasMovedAway, WasRemovedAfter, WasSwapped, WasTaken, moves_away, stands, swap_notes}
+
+pub the_last : {Such : Handle → Type 0} (handles front : List Handle) (last : Handle) → handles ≡ front ++ last ∷ [] → Last Such handles → Such last
+the_last {Such} handles front last e l = subst Such ((same_from_push l.0 front l.1 last (sym l.2 ∙ e)).1) l.3
+
+keys_push : (front : List Handle) (last : Handle) → keys_of (front ++ last ∷ []) ≡ keys_of front ++ last.key ∷ []
+keys_push front last = map-append (λ (h : Handle). h.key) front (last ∷ [])
+
+-- a removal of a key has a receipt of it last
+pub last_key : (removing receipts front : List Handle) (last : Handle) (key : Key) → keys_of receipts ≡ keys_of removing → Last (λ (h : Handle). h.key ≡ key) removing → receipts ≡ front ++ last ∷ [] → last.key ≡ key
+last_key removing receipts front last key same l e =
+    (same_from_push (keys_of front) (keys_of l.0) last.key l.1.key
+    (sym (keys_push front last) ∙ ap keys_of (sym e) ∙ same ∙ ap keys_of l.2 ∙ keys_push l.0 l.1)).1 ∙ l.3
+
+-- the keys of the receipts are those of the removal
+pub keys_back : (old : Locked) (removing ended receipts : List Handle) → WasEnded old removing ended → keys_of receipts ≡ keys_of ended → keys_of receipts ≡ keys_of removing
+keys_back old removing ended receipts e same = same ∙ keys_ended old removing ended e
+
+-- what the last receipt saw, if its doom was added last before the unlock
+pub saw_back : (mid old : Locked) (key : Key) (removing ended receipts front : List Handle) (last : Handle) → Adds mid old (Did (Doom key)) → Last (λ (h : Handle). h.key ≡ key) removing
+    → WasEnded old removing ended → AllEnded ended receipts → owners_of receipts ≡ owners_of ended → receipts ≡ front ++ last ∷ [] → last.key ≡ key → WasRemovedAfter (history mid) last
+saw_back mid old key removing ended receipts front last noted l e finished owners is same =
+    let s = the_last receipts front last is (saw_removal mid old key removing ended receipts noted l e finished owners) in
+    subst (λ (k : Key). (keys : List Key) × SawItsRemoval (history mid) k keys last) (sym same) (keys_of receipts, s)
+
+named_live : (table : TableId) (s : Locked) (path : List ℕ) (key : Key) → IsWhole table s → IsTaken (history s) → seen s.state.tree s.state.root path ≡ Ok key → NamedLive path key s.state.root (history s)
+named_live table s path key whole taken named = record {
+  slots = length s.state.tree;
+  began = whole.told.began;
+  taken = taken;
+  named = subst (λ (t : Tree). seen t s.state.root path ≡ Ok key) (tree_told s.state s.claims (history s) whole.told) named;
+}
+
+pub was_taken : (table : TableId) (s : Locked) (path : List ℕ) (key : Key) (receipt : Handle) → IsWhole table s → IsTaken (history s) → seen s.state.tree s.state.root path ≡ Ok key
+    → receipt.key ≡ key → receipt.phase ≡ Parted → WasRemovedAfter (history s) receipt → WasTaken path receipt
+was_taken table s path key receipt whole taken named same parted saw = record {
+  found = history s;
+  root = s.state.root;
+  at = subst (λ (k : Key). NamedLive path k s.state.root (history s)) (sym same) (named_live table s path key whole taken named);
+  parted = parted;
+  saw = saw;
+}
+
+pub was_swapped : (table : TableId) (old new : Locked) (path name : List ℕ) (key : Key) (receipt : Handle) → IsWhole table old → IsTaken (history old) → seen old.state.tree old.state.root path ≡ Ok key → name_in path ≡ Ok name
+    → Exchanged old new key name → receipt.key ≡ key → receipt.phase ≡ Parted → ((mid : Locked) → Adds mid new (Did (Doom key)) → WasRemovedAfter (history mid) receipt) → WasSwapped path receipt
+was_swapped table old new path name key receipt whole taken named is e same parted saw = record {
+  found = history old;
+  root = old.state.root;
+  at = subst (λ (k : Key). NamedLive path k old.state.root (history old)) (sym same) (named_live table old path key whole taken named);
+  parted = parted;
+  away = e.1.0;
+  new = e.1.1;
+  name = name;
+  name_is = is;
+  saw = subst (λ (l : List Note). WasRemovedAfter l receipt)
+      (e.1.2
+      ∙ ap (λ (t : Tree). history old ++ swap_notes t old.state.root key e.1.0 e.1.1 name) (tree_told old.state old.claims (history old) whole.told)
+      ∙ ap (λ (k : Key). history old ++ swap_notes (tree_in (history old)) old.state.root k e.1.0 e.1.1 name) (sym same))
+      (saw e.0 e.2);
+}
+
+-- under the lock, nothing was noted, and then the node was moved to another name in the root
+pub moved_away : (old mid new : Locked) (path away : List ℕ) (key : Key) → seen old.state.tree old.state.root path ≡ Ok key → mid.state ≡ old.state → history mid ≡ history old
+    → (is_there_already mid.state.tree key mid.state.root away ≡ true → new.state ≡ mid.state) → (is_there_already mid.state.tree key mid.state.root away ≡ false → new.state.root ≡ mid.state.root)
+    → (is_there_already mid.state.tree key mid.state.root away ≡ false → Adds mid new (Did (Rename key mid.state.root away))) → (is_there_already mid.state.tree key mid.state.root away ≡ true → new.master ≡ mid.master)
+    → WasMovedAway old new path key
+moved_away old mid new path away key named same known stays root noted unnoted =
+    let r : new.state.root ≡ mid.state.root = elim (is_there_already mid.state.tree key mid.state.root away) as (λ v. is_there_already mid.state.tree key mid.state.root away ≡ v → new.state.root ≡ mid.state.root) [
+      | true ↦ λ e. ap (λ (s : TreeLog). s.root) (stays e)
+      | false ↦ root
+    ] refl in
+    let h : history new ≡ history mid ++ moves_away mid.state.tree mid.state.root key away = elim (is_there_already mid.state.tree key mid.state.root away) as (λ v. is_there_already mid.state.tree key mid.state.root away ≡ v → history new ≡ history mid ++ note_where (not v) (Did (Rename key mid.state.root away))) [
+      | true ↦ λ e. ap (λ (m : MasterState). history_of m.seen) (unnoted e) ∙ sym (append-nil (history mid))
+      | false ↦ noted
+    ] refl in (
+      named,
+      (
+        away,
+        r ∙ ap (λ (s : TreeLog). s.root) same,
+        subst (λ (s : TreeLog). history new ≡ history old ++ moves_away s.tree s.root key away) same (subst (λ (l : List Note). history new ≡ l ++ moves_away mid.state.tree mid.state.root key away) known h),
+      ),
+    )
+
+-- and then a node was created under the name, and the former was doomed
+pub exchanged : (old away stood new : Locked) (path name : List ℕ) (key made : Key) → WasMovedAway old away path key → Adds away stood (stands away.state.root made name) → Adds stood new (Did (Doom key)) → Exchanged old new key name
+exchanged old away stood new path name key made m a d = (
+  stood,
+  (
+    m.1.0,
+    made,
+    a ∙ ap (λ (r : Key). history away ++ stands r made name ∷ []) m.1.1 ∙ ap (λ (l : List Note). l ++ stands old.state.root made name ∷ []) m.1.2
+        ∙ append_assoc (history old) (moves_away old.state.tree old.state.root key m.1.0) (stands old.state.root made name ∷ []),
+  ),
+  d,
+)

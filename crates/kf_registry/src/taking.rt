@@ -1,0 +1,123 @@
+//! Taking a value away.
+ghost use Rattle.std.specs.Prelude.{◌≡◌, ◌∷◌, ◌++◌, [], List, IfErr, IfOk, MatchOption, true};
+ghost use Rattle.kf_core.specs.declared.caller.Phase.TheVariants as phase_of;
+ghost use Rattle.kf_core.specs.declared.command.Command.TheVariants.{Doom};
+ghost use Rattle.kf_words.specs.Callers.{Handle};
+ghost use Rattle.kf_words.specs.declared.note.Note.TheVariants.{Did};
+ghost use Rattle.kf_shared.specs.Locked.{Adds, Locked, history};
+ghost use Rattle.kf_shared.specs.Sections.{Last};
+ghost use Rattle.kf_registry.specs.Receipts.{TakeRefused, WasRemovedAfter, WasTaken};
+
+use crate::published::Published;
+use crate::registry::Registry;
+use kf_core::{Key, Refusal};
+use kf_shared::{Editor, Naming, Removing, release_all};
+use kf_words::Parted;
+use std::sync::Wait;
+
+/// A value that came back, with the receipt of its node: nobody is inside, and nobody comes in any more. The
+/// node's slot is not used again until this is spent, by `into_value`, or dropped.
+pub struct Taken<T: Published> {
+    pub(crate) value: T,
+    pub(crate) receipt: Parted,
+}
+
+impl<T: Published> Taken<T> {
+    /// The key that the value's node had.
+    pub fn key(&self) -> Key
+        ensures { result ≡ self.now.receipt.key }
+    {
+        self.receipt.key()
+    }
+
+    /// The value. The receipt is released.
+    pub fn into_value(self) -> T
+        ensures { result ≡ self.value }
+    {
+        let Taken { value, receipt } = self;
+        receipt.release();
+        value
+    }
+}
+
+/// Releases the receipt, and drops the value.
+impl<T: Published> Drop for Taken<T> {
+    fn drop(self) {
+        let Taken { value: _, receipt } = self;
+        receipt.release();
+    }
+}
+
+/// The last of the receipts. The others are released.
+fn last_of(mut receipts: Vec<Parted>) -> Option<Parted>
+    ensures last { MatchOption result (receipts.items ≡ [])
+        (λ last. (front : List Handle) × (receipts.items ≡ front ++ last ∷ [])) }
+{
+    let last = receipts.pop();
+    release_all(receipts);
+    last
+}
+
+impl<N: Naming, T: Published> Registry<N, T> {
+    /// Takes the value of a node that has left the tree out of its place. It waits until the value is there,
+    /// which it is as soon as its node was found under the lock.
+    fn value_of<R: Wait>(&self, rt: &R, path: &[u8], receipt: &Parted) -> T
+        ensures suits { T.suits path.now result ≡ true }
+        ensures parted { receipt.now.phase ≡ phase_of.Parted }
+    {
+        let key = receipt.key();
+        for _ in rt.forever() {
+            let mut place = self.place(key).write(rt);
+            match std::mem::replace(&mut *place, None) {
+                Some(entry) if entry.is_of(key, path) => return entry.into_value(),
+                other => *place = other,
+            }
+        }
+        unreachable!()
+    }
+
+    /// Ends a removal whose last hold is of this key: unlocks, waits until nobody is inside, and takes the
+    /// value out of its place.
+    pub(crate) fn take_back<R: Wait>(
+        &self,
+        rt: &R,
+        editor: Editor<'_, N>,
+        path: &[u8],
+        key: Key,
+        removing: Removing<N>,
+    ) -> Taken<T>
+        requires last { Last (λ hold. hold.key ≡ key) removing }
+        ensures suits { T.suits path.now result.value ≡ true }
+        ensures parted { result.receipt.phase ≡ phase_of.Parted }
+        ensures key { result.receipt.key ≡ key }
+        ensures saw { (mid : Locked) → Adds mid editor.entry (Did (Doom key)) →
+            WasRemovedAfter (history mid) result.receipt }
+    {
+        let receipts = editor.end_removal(removing).finish(rt);
+        let Some(receipt) = last_of(receipts) else {
+            unreachable!()
+        };
+        let value = self.value_of(rt, path, &receipt);
+        Taken { value, receipt }
+    }
+
+    /// Takes away the value under a path, waits until nobody is inside, and gives it back. From the moment
+    /// at which it marks the node no call begins there, and the path is free again when this returns.
+    ///
+    /// Refusals, in order: those of [`kf_tree::State::lookup`] (NoEntry: nothing is published there, or it is
+    /// being taken); Invalid (the root); TooManyHolds or NoMemory, whichever is met first. After a refusal
+    /// the value stands as before.
+    ///
+    /// Context: sleeps; takes the tree's lock, which its caller must not have. It waits for all who are
+    /// inside, so a function that is inside must not call it.
+    pub fn take<R: Wait>(&self, rt: &R, path: &[u8]) -> Result<Taken<T>, Refusal>
+        ensures suits { IfOk result (λ taken. T.suits path.now taken.value ≡ true) }
+        ensures taken { IfOk result (λ taken. WasTaken path.now taken.receipt) }
+        ensures refused { IfErr result (λ why. TakeRefused path.now why) }
+    {
+        let mut editor = self.tree.edit(rt);
+        let key = editor.state().lookup(path)?;
+        let removing = editor.begin_removal_of(key)?;
+        Ok(self.take_back(rt, editor, path, key, removing))
+    }
+}
